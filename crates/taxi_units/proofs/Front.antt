@@ -1,0 +1,55 @@
+-- A text, parted where its first digits end.
+use Rattle.std.proofs.Common.{◌≡◌, ◌≢◌, ◌⊎◌, inl, inr, ℕ, ◌<◌, ◌≤◌, true, false, List, [], ◌∷◌, ◌++◌, length, refl, ap, arith, Err, eqb}
+use Rattle.std.specs.Char.{is_ascii_digit, digit_value}
+use Rattle.std.specs.Str.Parse.{AllDigits}
+use Rattle.std.proofs.Math.Seq.{take-append_seam, drop-append_seam}
+use Rattle.std.proofs.lemmas.Bool.{ne_eqb, cases_lt}
+use Rattle.std.proofs.lemmas.Bool.Decides.{nat_tests}
+use Rattle.taxi_units.specs.declared.decimal.NumberFault.TheVariants.{BadDigit}
+use Rattle.taxi_units.specs.Number.{NoDigitFirst, digits_at_front, parts_read, counted_parts_read, whole_read, decimal_read}
+
+pub record Front (text : List ℕ) : Type 0 where
+  pub digits : List ℕ
+  pub rest : List ℕ
+  pub text_is : text ≡ digits ++ rest
+  pub all : AllDigits 10 digits
+  pub stops : NoDigitFirst rest
+
+pub test_of_digit : (c : ℕ) → digit_value c < 10 → is_ascii_digit c ≡ true
+test_of_digit c h = grind (arith, nat_tests)
+
+pub test_of_other : (c : ℕ) → 10 ≤ digit_value c → is_ascii_digit c ≡ false
+test_of_other c h = grind (arith, nat_tests)
+
+front_more : (c : ℕ) (cs : List ℕ) → (digit_value c < 10) ⊎ (10 ≤ digit_value c) → Front cs → Front (c ∷ cs)
+front_more c cs (inl digit) f = record { digits = c ∷ f.digits; rest = f.rest; text_is = ap (λ (xs : List ℕ). c ∷ xs) f.text_is; all = (digit, f.all); stops = f.stops }
+front_more c cs (inr other) f = record { digits = []; rest = c ∷ cs; text_is = refl; all = tt; stops = other }
+
+pub front : (text : List ℕ) → Front text
+front [] = record { digits = []; rest = []; text_is = refl; all = tt; stops = tt }
+front (c ∷ cs) = front_more c cs (cases_lt (digit_value c) 10) (front cs)
+
+count_none : (rest : List ℕ) → NoDigitFirst rest → digits_at_front rest ≡ 0
+count_none [] h = refl
+count_none (c ∷ cs) h = rw (test_of_other c h) refl
+
+pub count_front : (digits rest : List ℕ) → AllDigits 10 digits → NoDigitFirst rest → digits_at_front (digits ++ rest) ≡ length digits
+count_front [] rest all stops = count_none rest stops
+count_front (c ∷ cs) rest all stops = rw (test_of_digit c all.0) (omega (arith, count_front cs rest all.1 stops))
+
+-- the reader, at a text that is parted so
+pub read_front : (decimals c : ℕ) (cs rest : List ℕ) → AllDigits 10 (c ∷ cs) → NoDigitFirst rest → decimal_read decimals ((c ∷ cs) ++ rest) ≡ whole_read decimals (c ∷ cs) rest
+read_front decimals c cs rest all stops =
+    let count : digits_at_front (c ∷ (cs ++ rest)) ≡ length (c ∷ cs) = count_front (c ∷ cs) rest all stops in
+    let some : eqb (length (c ∷ cs)) 0 ≡ false = ne_eqb _ _ (λ e. omega arith) in
+    rw (count, some, take-append_seam (c ∷ cs) rest, drop-append_seam (c ∷ cs) rest) refl
+
+pub read_none : (decimals c : ℕ) (cs : List ℕ) → 10 ≤ digit_value c → decimal_read decimals (c ∷ cs) ≡ Err (BadDigit 0)
+read_none decimals c cs other = rw (count_none (c ∷ cs) other) refl
+
+pub read_other : (decimals c : ℕ) (whole cs : List ℕ) → c ≢ 46 → whole_read decimals whole (c ∷ cs) ≡ Err (BadDigit (length whole))
+read_other decimals c whole cs h = rw (ne_eqb c 46 h) refl
+
+-- what stands after the point, parted so
+pub parts_front : (decimals : ℕ) (whole digits rest : List ℕ) → AllDigits 10 digits → NoDigitFirst rest → parts_read decimals whole (digits ++ rest) ≡ counted_parts_read decimals whole (digits ++ rest) (length digits)
+parts_front decimals whole digits rest all stops = ap (counted_parts_read decimals whole (digits ++ rest)) (count_front digits rest all stops)

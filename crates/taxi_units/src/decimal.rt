@@ -1,0 +1,194 @@
+//! Numbers that are read: whole texts of decimals, and numbers at the front of a text.
+ghost use Rattle.std.specs.Prelude.{◌≡◌, ◌+◌, ◌^◌, ◌<◌, ◌≤◌, length, MatchOption};
+ghost use Rattle.std.specs.Char.{is_ascii_digit};
+ghost use Rattle.std.specs.List.{prefix_len};
+ghost use Rattle.std.specs.Str.Parse.{digits_value_after};
+ghost use Rattle.taxi_units.specs.Number as spec;
+ghost use Rattle.taxi_units.specs.Number.{digits_at_front, decimal_read, whole_read, parts_read, units_read};
+ghost use Rattle.taxi_units.specs.Reading.{Gives};
+
+/// Why a text is no amount. A place is a byte's, from 0.
+#[derive(Clone, Copy, Debug, PartialEq, Eq)]
+pub enum NumberFault {
+    /// The text is empty.
+    Empty,
+    /// The first place that breaks the form; the text's length, where a digit is missing at its end.
+    BadDigit(usize),
+    /// The form is good, and at this place stands the first decimal too many.
+    TooManyDecimals(usize),
+    /// The amount passes 10^12 units.
+    TooBig,
+}
+
+/// The largest amount that is read, in units.
+const LARGEST: u64 = 1_000_000_000_000;
+
+/// Reads one or more digits, and perhaps a point and one or more digits, as an amount in units of
+/// the last of 0 to 3 decimals: with two decimals, `0.2` is 20.
+///
+/// `Empty` where the text is empty, `BadDigit` where it breaks this form, `TooManyDecimals` where the
+/// form is good and it has more decimals than that, `TooBig` where neither holds and the amount passes
+/// 10^12 units. A place is a byte's, from 0. The form and the limit are this project's own;
+/// `decimals_are_read_by_their_form` says what each answer means.
+#[tactic(auto, using(crate::proofs::Digits::digits_in_front))]
+pub fn read_decimal(text: &[u8], decimals: u8) -> Result<u64, NumberFault>
+    requires { decimals ≤ 3 }
+    ensures { result ≡ decimal_read decimals text.now }
+{
+    if text.is_empty() {
+        return Err(NumberFault::Empty);
+    }
+    let count = count_digits(text);
+    if count == 0 {
+        return Err(NumberFault::BadDigit(0));
+    }
+    let (whole, rest) = text.split_at(count);
+    read_rest(whole, rest, decimals)
+}
+
+/// A number of 1 to 12 digits at the front of the bytes, and what stands after it. All digits at the
+/// front belong to it, leading zeros too.
+///
+/// `None` where no digit, or more than 12, stand at the front. The limit is this project's own;
+/// `numbers_are_read_by_their_digits` says what each answer means.
+#[tactic(auto, unfolding(crate::specs::Number::number_at), using(crate::proofs::Digits::digits_in_front, crate::proofs::Digits::twelve_digits))]
+pub fn number_at(bytes: &[u8]) -> Option<(u64, &[u8])>
+    ensures { Gives (λ x. (x.0, x.1.now)) result (spec.number_at bytes.now) }
+{
+    let (digits, rest) = bytes.split_at(count_digits(bytes));
+    if digits.is_empty() || digits.len() > 12 {
+        return None;
+    }
+    let number = number_from(0, digits)?;
+    Some((number, rest))
+}
+
+/// How many digits stand at the front.
+fn count_digits(text: &[u8]) -> usize
+    ensures count { result ≡ digits_at_front text.now }
+    ensures within { result ≤ length text.now }
+{
+    let mut count = 0;
+    for byte in text {
+        if !byte.is_ascii_digit() {
+            return count;
+        }
+        count += 1;
+    }
+    count
+}
+
+/// What stands after the whole digits: nothing, or a point and decimals.
+fn read_rest(whole: &[u8], rest: &[u8], decimals: u8) -> Result<u64, NumberFault>
+    requires decimals { decimals ≤ 3 }
+    requires whole { digits_at_front whole.now ≡ length whole.now }
+    requires places { length whole.now + length rest.now < 2 ^ 63 }
+    ensures { result ≡ whole_read decimals whole.now rest.now }
+{
+    match rest.split_first() {
+        None => read_units(whole, rest, decimals),
+        Some((byte, parts)) => {
+            if *byte == b'.' {
+                read_parts(whole, parts, decimals)
+            } else {
+                Err(NumberFault::BadDigit(whole.len()))
+            }
+        }
+    }
+}
+
+/// What stands after the point.
+fn read_parts(whole: &[u8], parts: &[u8], decimals: u8) -> Result<u64, NumberFault>
+    requires decimals { decimals ≤ 3 }
+    requires whole { digits_at_front whole.now ≡ length whole.now }
+    requires places { length whole.now + length parts.now < 2 ^ 63 }
+    ensures { result ≡ parts_read decimals whole.now parts.now }
+{
+    let count = count_digits(parts);
+    if count < parts.len() || count == 0 {
+        return Err(NumberFault::BadDigit(whole.len() + 1 + count));
+    }
+    read_units(whole, parts, decimals)
+}
+
+/// The units of a text of good form.
+#[tactic(auto, using(crate::proofs::Digits::units_by_parts, crate::proofs::Digits::too_big_by_parts, crate::proofs::Digits::too_big_by_whole))]
+fn read_units(whole: &[u8], parts: &[u8], decimals: u8) -> Result<u64, NumberFault>
+    requires decimals { decimals ≤ 3 }
+    requires whole { digits_at_front whole.now ≡ length whole.now }
+    requires parts { digits_at_front parts.now ≡ length parts.now }
+    requires places { length whole.now + length parts.now < 2 ^ 63 }
+    ensures { result ≡ units_read decimals whole.now parts.now }
+{
+    if parts.len() > decimals as usize {
+        return Err(NumberFault::TooManyDecimals(whole.len() + 1 + decimals as usize));
+    }
+    let Some(number) = number_from(0, whole) else {
+        return Err(NumberFault::TooBig);
+    };
+    let Some(number) = number_from(number, parts) else {
+        return Err(NumberFault::TooBig);
+    };
+    let units = number * 10u64.pow((decimals as usize - parts.len()) as u32);
+    if units > LARGEST {
+        return Err(NumberFault::TooBig);
+    }
+    Ok(units)
+}
+
+/// The number that these digits make after those of a number, where it doesn't pass the largest.
+fn number_from(start: u64, digits: &[u8]) -> Option<u64>
+    requires start { start ≤ 10 ^ 12 }
+    requires digits { digits_at_front digits.now ≡ length digits.now }
+    ensures { MatchOption result (10 ^ 12 < digits_value_after 10 start digits.now) (λ n. (n ≡ digits_value_after 10 start digits.now) × (n ≤ 10 ^ 12)) }
+{
+    let mut number = start;
+    for byte in digits {
+        number = number * 10 + (*byte - b'0') as u64;
+        if number > LARGEST {
+            return None;
+        }
+    }
+    Some(number)
+}
+
+#[cfg(test)]
+mod tests {
+    use super::{NumberFault, number_at, read_decimal};
+
+    #[test]
+    fn reads_decimals(rt: HostRuntime) {
+        for (text, decimals, want) in [
+            ("", 2, Err(NumberFault::Empty)),
+            ("1.", 2, Err(NumberFault::BadDigit(2))),
+            (".5", 2, Err(NumberFault::BadDigit(0))),
+            ("1x", 2, Err(NumberFault::BadDigit(1))),
+            ("1.2x", 2, Err(NumberFault::BadDigit(3))),
+            ("1.234x", 2, Err(NumberFault::BadDigit(5))),
+            ("0.205", 2, Err(NumberFault::TooManyDecimals(4))),
+            ("1.5", 0, Err(NumberFault::TooManyDecimals(2))),
+            ("0.2", 2, Ok(20)),
+            ("007", 3, Ok(7000)),
+            ("10000000000.00", 2, Ok(1_000_000_000_000)),
+            ("10000000000.01", 2, Err(NumberFault::TooBig)),
+        ] {
+            assert!(rt; decimals <= 3);
+            assert_eq!(rt; read_decimal(text.as_bytes(), decimals), want, "{text}");
+        }
+        assert_eq!(rt; read_decimal(&[b'9'; 400], 0), Err(NumberFault::TooBig));
+    }
+
+    #[test]
+    fn reads_numbers_in_front(rt: HostRuntime) {
+        for (text, want) in [
+            ("", None),
+            ("x1", None),
+            ("0042 x", Some((42, " x"))),
+            ("999999999999.", Some((999_999_999_999, "."))),
+            ("0000000000001", None),
+        ] {
+            let want = want.map(|(value, rest)| (value, rest.as_bytes()));
+            assert_eq!(rt; number_at(text.as_bytes()), want, "{text}");
+        }
+    }
+}

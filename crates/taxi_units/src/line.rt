@@ -1,0 +1,168 @@
+//! Lines of text, and what is put into them: bytes, numbers and amounts of money.
+//!
+//! Each call appends its text whole, or leaves the line as it was.
+ghost use Rattle.std.specs.Prelude.{◌≡◌, ◌+◌, ◌≤◌, ◌++◌, ◌↔◌, length, IsOk, OnOk, OnErr};
+ghost use Rattle.std.specs.Fmt.{decimal};
+ghost use Rattle.arrayvec.specs.ArrayVec.{array_vec_len};
+ghost use Rattle.taxi_units.specs.Number.{money_text, padded_text};
+
+use arrayvec::ArrayVec;
+
+/// A line of text, of at most 512 bytes.
+pub type Line = ArrayVec<u8, 512>;
+
+/// The text doesn't fit into what is left of the line.
+#[derive(Clone, Copy, Debug, PartialEq, Eq)]
+pub struct LineFull;
+
+/// A text that is made before it is appended: the longest is 255 bytes.
+type Draft = ArrayVec<u8, 256>;
+
+/// Appends bytes.
+///
+/// `LineFull` where they don't fit; the line is then unchanged.
+pub fn put_bytes(line: &mut Line, bytes: &[u8]) -> Result<(), LineFull>
+    ensures variant { IsOk result ↔ (array_vec_len line.old + length bytes.now ≤ 512) }
+    ensures ok { OnOk result (line.new.items ≡ line.old.items ++ bytes.now) }
+    ensures err { OnErr result (line.new ≡ line.old) }
+{
+    match line.try_extend_from_slice(bytes) {
+        Ok(()) => Ok(()),
+        Err(_) => Err(LineFull),
+    }
+}
+
+/// Appends a number in decimal, without leading zeros.
+///
+/// `LineFull` where it doesn't fit; the line is then unchanged.
+#[tactic(auto, using(crate::proofs::Written::decimal_short))]
+pub fn put_number(line: &mut Line, value: u128) -> Result<(), LineFull>
+    ensures variant { IsOk result ↔ (array_vec_len line.old + length (decimal value) ≤ 512) }
+    ensures ok { OnOk result (line.new.items ≡ line.old.items ++ decimal value) }
+    ensures err { OnErr result (line.new ≡ line.old) }
+{
+    let mut draft = Draft::new();
+    push_number(&mut draft, value);
+    put_bytes(line, draft.as_slice())
+}
+
+/// Appends a number in decimal, with zeros in front up to the width. A longer number is written
+/// whole.
+///
+/// `LineFull` where it doesn't fit; the line is then unchanged.
+#[tactic(auto, using(crate::proofs::Written::padded_short))]
+pub fn put_padded(line: &mut Line, value: u64, width: u8) -> Result<(), LineFull>
+    ensures variant { IsOk result ↔ (array_vec_len line.old + length (padded_text width value) ≤ 512) }
+    ensures ok { OnOk result (line.new.items ≡ line.old.items ++ padded_text width value) }
+    ensures err { OnErr result (line.new ≡ line.old) }
+{
+    let mut draft = Draft::new();
+    push_padded(&mut draft, value, width);
+    put_bytes(line, draft.as_slice())
+}
+
+/// Appends an amount of money, counted in units of the last of its 0 to 3 decimals: one or more
+/// digits, and where it has decimals a point and so many digits. The form is this project's own.
+///
+/// `LineFull` where it doesn't fit; the line is then unchanged.
+#[tactic(auto, using(crate::proofs::Written::decimal_short, crate::proofs::Written::padded_short, crate::proofs::Written::powers_of_ten))]
+pub fn put_money(line: &mut Line, units: u128, decimals: u8) -> Result<(), LineFull>
+    requires { decimals ≤ 3 }
+    ensures variant { IsOk result ↔ (array_vec_len line.old + length (money_text decimals units) ≤ 512) }
+    ensures ok { OnOk result (line.new.items ≡ line.old.items ++ money_text decimals units) }
+    ensures err { OnErr result (line.new ≡ line.old) }
+{
+    if decimals == 0 {
+        return put_number(line, units);
+    }
+    let one = 10u128.pow(decimals as u32);
+    let mut draft = Draft::new();
+    push_number(&mut draft, units / one);
+    draft.push(b'.');
+    push_padded(&mut draft, (units % one) as u64, decimals);
+    put_bytes(line, draft.as_slice())
+}
+
+/// Appends a number in decimal.
+#[tactic(auto, using(crate::proofs::Written::decimal_of_one, crate::proofs::Written::length_of_more, crate::proofs::Written::append_of_more))]
+fn push_number(draft: &mut Draft, value: u128)
+    requires { array_vec_len draft.old + length (decimal value) ≤ 256 }
+    ensures items { draft.new.items ≡ draft.old.items ++ decimal value }
+    ensures len { array_vec_len draft.new ≡ array_vec_len draft.old + length (decimal value) }
+{
+    if value < 10 {
+        draft.push(b'0' + value as u8);
+    } else {
+        push_number(draft, value / 10);
+        draft.push(b'0' + (value % 10) as u8);
+    }
+}
+
+/// Appends a number in decimal, with zeros in front up to the width.
+#[tactic(auto, using(crate::proofs::Written::padded_of_none, crate::proofs::Written::length_padded_of_more, crate::proofs::Written::append_padded_of_more))]
+fn push_padded(draft: &mut Draft, value: u64, width: u8)
+    requires { array_vec_len draft.old + length (padded_text width value) ≤ 256 }
+    ensures items { draft.new.items ≡ draft.old.items ++ padded_text width value }
+    ensures len { array_vec_len draft.new ≡ array_vec_len draft.old + length (padded_text width value) }
+{
+    if width < 2 {
+        push_number(draft, value as u128);
+    } else {
+        push_padded(draft, value / 10, width - 1);
+        draft.push(b'0' + (value % 10) as u8);
+    }
+}
+
+#[cfg(test)]
+mod tests {
+    use super::{Line, LineFull, put_bytes, put_money, put_number, put_padded};
+
+    #[test]
+    fn writes_numbers(rt: HostRuntime) {
+        for (value, want) in [
+            (0, "0"),
+            (1080, "1080"),
+            (u128::MAX, "340282366920938463463374607431768211455"),
+        ] {
+            let mut line = Line::new();
+            assert_eq!(rt; put_number(&mut line, value), Ok(()), "{want}");
+            assert_eq!(rt; line.as_slice(), want.as_bytes(), "{want}");
+        }
+        for (value, width, want) in [
+            (7, 2, "07"),
+            (123, 2, "123"),
+            (0, 0, "0"),
+            (40, 5, "00040"),
+            (u64::MAX, 21, "018446744073709551615"),
+        ] {
+            let mut line = Line::new();
+            assert_eq!(rt; put_padded(&mut line, value, width), Ok(()), "{want}");
+            assert_eq!(rt; line.as_slice(), want.as_bytes(), "{want}");
+        }
+        for (units, decimals, want) in [
+            (0, 2, "0.00"),
+            (5, 2, "0.05"),
+            (12345, 3, "12.345"),
+            (7, 0, "7"),
+            (u128::MAX, 3, "340282366920938463463374607431768211.455"),
+        ] {
+            let mut line = Line::new();
+            assert!(rt; decimals <= 3);
+            assert_eq!(rt; put_money(&mut line, units, decimals), Ok(()), "{want}");
+            assert_eq!(rt; line.as_slice(), want.as_bytes(), "{want}");
+        }
+    }
+
+    #[test]
+    fn refuses_what_does_not_fit(rt: HostRuntime) {
+        let mut line = Line::new();
+        assert_eq!(rt; put_bytes(&mut line, &[b'x'; 500]), Ok(()));
+        assert_eq!(rt; put_bytes(&mut line, b"13 characters"), Err(LineFull));
+        assert_eq!(rt; put_number(&mut line, 1_000_000_000_000), Err(LineFull));
+        assert_eq!(rt; put_padded(&mut line, 7, 13), Err(LineFull));
+        assert_eq!(rt; put_money(&mut line, 100_000_000_000, 2), Err(LineFull));
+        assert_eq!(rt; line.as_slice(), [b'x'; 500].as_slice());
+        assert_eq!(rt; put_money(&mut line, 12_345_678_901, 2), Ok(()));
+        assert_eq!(rt; line.len(), 512);
+    }
+}
