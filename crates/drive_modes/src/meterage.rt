@@ -1,0 +1,114 @@
+//! What a trip has come to: the cover that is left, and the display steps above it. How it is counted
+//! and rounded is this project's own rule.
+ghost use Rattle.std.specs.Prelude.{◌≡◌, ℕ, ◌+◌, ◌-◌, ◌*◌, ◌/◌, ◌^◌, ◌<◌, ◌≤◌, ◌↔◌, List, sum};
+ghost use Rattle.std.specs.List.{fold};
+ghost use Rattle.drive_modes.specs.Fare.{above_cover, added, quotient, saved, shown_fare, steps_of};
+
+/// Whether the fare is shown behind what was driven or ahead of it.
+#[derive(Clone, Copy, Debug, PartialEq, Eq)]
+pub enum Rounding {
+    /// A display step is shown once it is used up.
+    Behind,
+    /// A display step is shown as soon as it is begun.
+    Ahead,
+}
+
+/// What the charges of a trip have come to, with no list of them: what the initial hire fee still
+/// covers, the full display steps above that, and what has begun the next one. `cover_left` and `rest`
+/// are in units of charge, and `rest` is less than a display step.
+#[derive(Clone, Copy, Debug, PartialEq, Eq)]
+pub struct Meterage {
+    pub cover_left: u128,
+    pub steps_full: u64,
+    pub rest: u128,
+}
+
+const LARGEST_FARE: u128 = 99_999_999;
+
+impl Meterage {
+    /// The start of a trip whose initial hire fee covers `covers` of the smallest units of money, at most
+    /// 99,999,999, where `measure` units of charge, at most 2 * 10^23, make one of them.
+    pub fn start(covers: u64, measure: u128) -> Meterage
+        requires covers { covers ≤ 99999999 }
+        requires measure { measure ≤ 2 * 10 ^ 23 }
+        ensures exact { result ≡ record { cover_left = covers * measure; steps_full = 0; rest = 0 } }
+        ensures sum { (modulus : ℕ) → 0 < modulus → result ≡ saved (covers * measure) 0 modulus 0 }
+        ensures bound { result.cover_left ≤ 2 * 10 ^ 31 }
+    {
+        Meterage {
+            cover_left: covers as u128 * measure,
+            steps_full: 0,
+            rest: 0,
+        }
+    }
+
+    /// Adds the charge of an interval, at most 202 * 10^29, where `modulus` units of charge, 1 to
+    /// 2 * 10^29, make a display step. Nothing is rounded: what doesn't fill a display step is kept as the
+    /// rest. The full display steps are to stay at most 4 * 10^17.
+    pub fn add(&mut self, charge: u128, modulus: u128)
+        requires rest { self.old.rest < modulus }
+        requires some { 1 ≤ modulus }
+        requires modulus { modulus ≤ 2 * 10 ^ 29 }
+        requires charge { charge ≤ 202 * 10 ^ 29 }
+        requires cover { self.old.cover_left ≤ 2 * 10 ^ 31 }
+        requires steps { self.old.steps_full + (self.old.rest + (charge - self.old.cover_left)) / modulus ≤ 4 * 10 ^ 17 }
+        ensures exact { self.new ≡ added modulus self.old charge }
+        ensures sum { (v r f : ℕ) → self.old ≡ saved v r modulus f → self.new ≡ saved v r modulus (f + charge) }
+        ensures rest { self.new.rest < modulus }
+        ensures cover { self.new.cover_left ≤ self.old.cover_left }
+    {
+        let above = self.rest + charge.saturating_sub(self.cover_left);
+        self.cover_left = self.cover_left.saturating_sub(charge);
+        self.steps_full += (above / modulus) as u64;
+        self.rest = above % modulus;
+    }
+
+    /// The display steps that are shown: at most 4 * 10^17 full ones, and ahead one more where there is
+    /// a rest. A cover that is used up exactly is no display step.
+    pub fn steps(&self, rounding: Rounding) -> u64
+        requires steps { self.now.steps_full ≤ 4 * 10 ^ 17 }
+        ensures exact { result ≡ steps_of rounding self.now }
+        ensures sum { (v r modulus f : ℕ) → 0 < modulus → self.now ≡ saved v r modulus f → result ≡ quotient rounding (above_cover v r f) modulus }
+    {
+        match rounding {
+            Rounding::Behind => self.steps_full,
+            Rounding::Ahead => {
+                if self.rest == 0 {
+                    self.steps_full
+                } else {
+                    self.steps_full + 1
+                }
+            }
+        }
+    }
+
+    /// The fare that is shown, in the smallest units of money: the initial hire fee `initial`, at most
+    /// 99,999,999, and `step`, at most 1,000,000, for each display step that is shown. A greater fare
+    /// than 99,999,999 is shown as that.
+    pub fn shown(&self, initial: u64, step: u64, rounding: Rounding) -> u64
+        requires steps { self.now.steps_full ≤ 4 * 10 ^ 17 }
+        requires initial { initial ≤ 99999999 }
+        requires step { step ≤ 1000000 }
+        ensures exact { result ≡ shown_fare initial step (steps_of rounding self.now) }
+        ensures sum { (v r modulus f : ℕ) → 0 < modulus → self.now ≡ saved v r modulus f → result ≡ shown_fare initial step (quotient rounding (above_cover v r f) modulus) }
+        ensures most { result ≤ 99999999 }
+    {
+        let fare = initial as u128 + step as u128 * self.steps(rounding) as u128;
+        fare.min(LARGEST_FARE) as u64
+    }
+}
+
+/// A law: a meterage that is kept from charge to charge is what their sum alone makes of it, from the
+/// start of a trip and from every state that was saved in the middle of one.
+pub fn fares_add_up()
+    ensures sum { (v r modulus : ℕ) (charges : List ℕ) → 0 < modulus → fold (added modulus) (saved v r modulus 0) charges ≡ saved v r modulus (sum charges) }
+    ensures shown { (initial step v r modulus : ℕ) (rounding : Rounding) (charges : List ℕ) → 0 < modulus → shown_fare initial step (steps_of rounding (fold (added modulus) (saved v r modulus 0) charges)) ≡ shown_fare initial step (quotient rounding (above_cover v r (sum charges)) modulus) }
+    ensures any_state { (modulus : ℕ) (m : Meterage) → m.rest < modulus → m ≡ saved m.cover_left (m.steps_full * modulus + m.rest) modulus 0 }
+{}
+
+/// A law: behind, the display steps of an amount are the most that it fills; ahead, they are the
+/// fewest that hold it.
+pub fn steps_are_whole_steps()
+    ensures behind { (n x y : ℕ) → 0 < y → (n ≤ quotient Rounding.Behind x y) ↔ (n * y ≤ x) }
+    ensures ahead { (n x y : ℕ) → 0 < y → (quotient Rounding.Ahead x y ≤ n) ↔ (x ≤ n * y) }
+{}
