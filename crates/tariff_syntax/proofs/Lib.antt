@@ -1,0 +1,5 @@
+pub mod Again
+pub mod Exact
+pub mod Measures
+pub mod Short
+pub mod Soundness

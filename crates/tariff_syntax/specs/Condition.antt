@@ -1,0 +1,36 @@
+-- The condition of a line, without where it lies in memory.
+use Rattle.std.specs.Prelude.{ℕ, Option, Some, None}
+use Rattle.tariff_syntax.specs.declared.condition.Cond.{Cond, And', Or', Not', Position, Zone, Time, Day, Date, Holiday, AfterDistance, AfterTime}
+
+-- when a line holds: minutes of a day, weekdays from 1 for Monday, months and dates, decimetres, tenths of a second
+pub data Condition : Type 0 where
+  and : (left right : Condition) → Condition
+  or : (left right : Condition) → Condition
+  not : (inner : Condition) → Condition
+  position : (number : ℕ) → Condition
+  zone : (number : ℕ) → Condition
+  time : (from to : ℕ) → Condition
+  day : (from to : ℕ) → Condition
+  date : (from_month from_date to_month to_date : ℕ) → Condition
+  holiday : Condition
+  after_distance : (decimetres : ℕ) → Condition
+  after_time : (tenths : ℕ) → Condition
+
+-- the condition that a value of the program is
+abbrev pub condition_of : Cond → Condition
+condition_of (And' p left q right) = and (condition_of left) (condition_of right)
+condition_of (Or' p left q right) = or (condition_of left) (condition_of right)
+condition_of (Not' p inner) = not (condition_of inner)
+condition_of (Position n) = position n
+condition_of (Zone n) = zone n
+condition_of (Time from to) = time from to
+condition_of (Day from to) = day from to
+condition_of (Date from to) = date from.0 from.1 to.0 to.1
+condition_of Holiday = holiday
+condition_of (AfterDistance n) = after_distance n
+condition_of (AfterTime n) = after_time n
+
+-- the condition of a line that may have none
+abbrev pub condition_if : Option Cond → Option Condition
+condition_if None = None
+condition_if (Some c) = Some (condition_of c)

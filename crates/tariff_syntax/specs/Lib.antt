@@ -1,0 +1,9 @@
+pub mod Condition
+pub mod Measure
+pub mod Printed
+pub mod PrintedCondition
+pub mod Reading
+pub mod Simple
+pub mod Sound
+pub mod Text
+pub mod Tree

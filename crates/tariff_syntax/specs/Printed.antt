@@ -1,0 +1,71 @@
+-- The printed form of a tariff. Each part is spelled in front of what follows it, its rest.
+use Rattle.std.specs.Prelude.{ℕ, List, [], ◌∷◌, ◌++◌, Option, Some, None, codes}
+use Rattle.std.specs.Fmt.{decimal}
+use Rattle.taxi_units.specs.Number.{money_text, padded_text}
+use Rattle.drive_modes.specs.declared.meterage.Rounding.{Rounding}
+use Rattle.drive_modes.specs.declared.meterage.Rounding.TheVariants.{Behind, Ahead}
+use Rattle.tariff_syntax.specs.Condition.{Condition}
+use Rattle.tariff_syntax.specs.PrintedCondition.{condition_text}
+use Rattle.tariff_syntax.specs.Tree.{Tree, Line, Entry, step, positions, zones, holiday, supplement, initial, rate}
+
+-- how the fare is rounded to the display step
+abbrev pub rounding_word : Rounding → List ℕ
+rounding_word Behind = codes "behind"
+rounding_word Ahead = codes "ahead"
+
+-- a line of a word and a number
+unfoldable pub number_line : (word : List ℕ) (number : ℕ) → List ℕ → List ℕ
+number_line word number rest = word ++ (decimal number ++ (codes "\n" ++ rest))
+
+-- the line of the display step
+unfoldable pub step_line : (decimals amount : ℕ) → Rounding → List ℕ → List ℕ
+step_line decimals amount rounding rest =
+    codes "step " ++ (money_text decimals amount ++ (codes " " ++ (rounding_word rounding ++ (codes "\n" ++ rest))))
+
+-- the line of a holiday
+unfoldable pub holiday_line : (year month date : ℕ) → List ℕ → List ℕ
+holiday_line year month date rest =
+    codes "holiday " ++ (padded_text 4 year ++ (codes "-" ++ (padded_text 2 month ++ (codes "-" ++ (padded_text 2 date ++ (codes "\n" ++ rest))))))
+
+-- the line of a supplement
+unfoldable pub supplement_line : (decimals number amount most : ℕ) → List ℕ → List ℕ
+supplement_line decimals number amount most rest =
+    codes "supplement " ++ (decimal number ++ (codes " " ++ (money_text decimals amount ++ (codes " max " ++ (decimal most ++ (codes "\n" ++ rest))))))
+
+-- the end of a line that may have a condition
+abbrev pub when_text : Option Condition → List ℕ → List ℕ
+when_text None rest = codes "\n" ++ rest
+when_text (Some when) rest = codes " when " ++ condition_text when (codes "\n" ++ rest)
+
+-- the line of an initial hire fee
+unfoldable pub initial_line : (decimals amount covers : ℕ) → Option Condition → List ℕ → List ℕ
+initial_line decimals amount covers when rest =
+    codes "initial " ++ (money_text decimals amount ++ (codes " covers " ++ (money_text decimals covers ++ when_text when rest)))
+
+-- an amount for each measure, a number of tenths
+unfoldable pub per_text : (decimals amount measure : ℕ) → List ℕ → List ℕ
+per_text decimals amount measure rest = money_text decimals amount ++ (codes " per " ++ (money_text 1 measure ++ rest))
+
+-- the line of a rate
+unfoldable pub rate_line : (decimals a b c e : ℕ) → Option Condition → List ℕ → List ℕ
+rate_line decimals a b c e when rest =
+    codes "rate " ++ per_text decimals a b (codes " m, " ++ per_text decimals c e (codes " s" ++ when_text when rest))
+
+-- the line of an entry
+abbrev pub entry_line : (decimals : ℕ) → Entry → List ℕ → List ℕ
+entry_line decimals (step amount rounding) rest = step_line decimals amount rounding rest
+entry_line decimals (positions number) rest = number_line (codes "positions ") number rest
+entry_line decimals (zones number) rest = number_line (codes "zones ") number rest
+entry_line decimals (holiday year month date) rest = holiday_line year month date rest
+entry_line decimals (supplement number amount most) rest = supplement_line decimals number amount most rest
+entry_line decimals (initial amount covers when) rest = initial_line decimals amount covers when rest
+entry_line decimals (rate a b c e when) rest = rate_line decimals a b c e when rest
+
+-- lines in their order
+abbrev pub lines_text : (decimals : ℕ) → List Line → List ℕ
+lines_text decimals [] = []
+lines_text decimals (l ∷ ls) = entry_line decimals l.entry (lines_text decimals ls)
+
+-- a tariff: the line of its decimals, then its lines in their order
+abbrev pub printed : Tree → List ℕ
+printed t = number_line (codes "decimals ") t.decimals (lines_text t.decimals t.lines)

@@ -1,0 +1,46 @@
+-- A tariff, without where it lies in memory.
+use Rattle.std.specs.Prelude.{ℕ, List, map, Option}
+use Rattle.drive_modes.specs.declared.meterage.Rounding.{Rounding}
+use Rattle.tariff_syntax.specs.Condition.{Condition, condition_if}
+use Rattle.tariff_syntax.specs.declared.tariff.Item.{Item}
+use Rattle.tariff_syntax.specs.declared.tariff.Item.TheVariants.{Step, Positions, Zones, Holiday, Supplement, Initial, Rate}
+use Rattle.tariff_syntax.specs.declared.tariff.Tariff.{Tariff}
+use Rattle.tariff_syntax.specs.declared.tariff.TariffLine.{TariffLine}
+
+-- what a line says: money in units of the last decimal, distances in decimetres, times in tenths of a second
+pub data Entry : Type 0 where
+  step : (amount : ℕ) (rounding : Rounding) → Entry
+  positions : (number : ℕ) → Entry
+  zones : (number : ℕ) → Entry
+  holiday : (year month date : ℕ) → Entry
+  supplement : (number amount most : ℕ) → Entry
+  initial : (amount covers : ℕ) (when : Option Condition) → Entry
+  rate : (a b c e : ℕ) (when : Option Condition) → Entry
+
+-- a line: its number in the text, from 1, and what it says
+pub record Line : Type 0 where
+  pub line : ℕ
+  pub entry : Entry
+
+-- a tariff: the decimals of its money, and its lines in their order
+pub record Tree : Type 0 where
+  pub decimals : ℕ
+  pub lines : List Line
+
+-- what a line of the program says
+abbrev pub entry_of : Item → Entry
+entry_of (Step amount rounding) = step amount rounding
+entry_of (Positions n) = positions n
+entry_of (Zones n) = zones n
+entry_of (Holiday year month date) = holiday year month date
+entry_of (Supplement number amount max) = supplement number amount max
+entry_of (Initial i) = initial i.amount i.covers (condition_if i.cond)
+entry_of (Rate r) = rate r.a r.b r.c r.e (condition_if r.cond)
+
+-- a line of the program
+abbrev pub line_of : TariffLine → Line
+line_of l = record { line = l.line; entry = entry_of l.item }
+
+-- the tariff that a value of the program is
+abbrev pub tree_of : Tariff → Tree
+tree_of t = record { decimals = t.decimals; lines = map line_of t.lines }

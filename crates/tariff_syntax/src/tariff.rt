@@ -1,0 +1,109 @@
+//! A tariff, as the tree of its lines. Money is counted in the units of the tariff's last decimal,
+//! distances in decimetres, and times in tenths of a second.
+ghost use Rattle.std.specs.Prelude.{◌≡◌, [], ◌∷◌, ◌++◌, OnOk, OnErr};
+
+use crate::condition::Cond;
+use drive_modes::Rounding;
+use std::alloc::Global;
+use std::marker::Model;
+use taxi_units::NoMemory;
+
+/// A rate: the amount `a` for each `b` decimetres, and the amount `c` for each `e` tenths of a second.
+/// Without a condition it holds always.
+#[derive(Debug, Drop)]
+pub struct RateLine {
+    pub a: u64,
+    pub b: u64,
+    pub c: u64,
+    pub e: u64,
+    pub cond: Option<Cond>,
+}
+
+/// An initial hire fee, and the amount of charges that it covers. Without a condition it holds always.
+#[derive(Debug, Drop)]
+pub struct InitialLine {
+    pub amount: u64,
+    pub covers: u64,
+    pub cond: Option<Cond>,
+}
+
+/// What a line of a tariff says.
+#[derive(Debug, Drop)]
+pub enum Item {
+    /// The display step, and how the fare is rounded to it.
+    Step { amount: u64, rounding: Rounding },
+    /// How many tariff positions there are, 1 to 9.
+    Positions(u8),
+    /// How many zones there are, 1 to 9.
+    Zones(u8),
+    /// A date that is a holiday.
+    Holiday { year: u16, month: u8, date: u8 },
+    /// A supplement, by its number from 1 to 16, and how often a hiring may have it, 1 to 99.
+    Supplement { number: u8, amount: u64, max: u8 },
+    /// An initial hire fee.
+    Initial(InitialLine),
+    /// A rate.
+    Rate(RateLine),
+}
+
+/// A line of a tariff, with its number in the text, from 1.
+#[derive(Debug, Drop)]
+pub struct TariffLine {
+    pub line: u32,
+    pub item: Item,
+}
+
+/// The lines of a tariff, in their order.
+#[derive(Debug, Drop)]
+pub struct Lines {
+    lines: Vec<TariffLine>,
+}
+
+impl Model for Lines {
+    ghost use Rattle.std.specs.Coded.{codes};
+    ghost use Rattle.std.specs.Prelude.{List};
+    ghost use Rattle.tariff_syntax.specs.contracts.condition.Cond as condition;
+    ghost use Rattle.tariff_syntax.specs.declared.tariff.TariffLine.{TariffLine};
+
+    ghost Value = { List TariffLine };
+
+    ghost coded = { Prim.hlevel (codes, condition.the_row.coded) };
+
+    ghost view = { λ kept. kept.lines.items };
+}
+
+impl Lines {
+    /// No lines.
+    pub fn new(alloc: Global) -> Lines
+        ensures { result ≡ [] }
+    {
+        Lines {
+            lines: Vec::new(alloc),
+        }
+    }
+
+    /// Puts a line behind the others. An error leaves them as they were.
+    pub fn push(&mut self, line: TariffLine) -> Result<(), NoMemory>
+        ensures ok { OnOk result (self.new ≡ self.old ++ line ∷ []) }
+        ensures err { OnErr result (self.new ≡ self.old) }
+    {
+        match self.lines.push(line) {
+            Ok(()) => Ok(()),
+            Err(_) => Err(NoMemory),
+        }
+    }
+
+    /// The lines, in their order.
+    pub fn as_slice(&self) -> &[TariffLine]
+        ensures { result.now ≡ self.now }
+    {
+        self.lines.as_slice()
+    }
+}
+
+/// A tariff: the decimals of its money, 0 to 3, and its lines.
+#[derive(Debug, Drop)]
+pub struct Tariff {
+    pub decimals: u8,
+    pub lines: Lines,
+}
