@@ -1,0 +1,147 @@
+-- The line of an event is read as that event.
+use Rattle.std.proofs.Common.{◌≡◌, ◌≢◌, ℕ, ◌+◌, ◌-◌, ◌^◌, ◌<◌, ◌≤◌, Bool, true, false, cond, List, [], ◌∷◌, ◌++◌, length, get_or, refl, ap, sym, ◌∙◌, subst, arith, eqb, append_assoc, Option, Some, None, All, codes, decimal}
+use Rattle.std.specs.Str.Lines.{strip_carriage_return}
+use Rattle.std.specs.Str.Parse.{AllDigits}
+use Rattle.std.proofs.lemmas.List.{append-nil}
+use Rattle.std.proofs.lemmas.List.Elements.{All-nil, All-cons, All-head, All-tail}
+use Rattle.std.proofs.lemmas.Bool.{ne_eqb, eqb-true}
+use Rattle.std.proofs.lemmas.Fmt.{decimal_is_IsNumeral_wide}
+use Rattle.std.proofs.lemmas.Str.Parse.{digit_from_value}
+use Rattle.taxi_units.specs.declared.event.Event.{Event}
+use Rattle.taxi_units.specs.declared.event.Event.TheVariants.{Up, Down, Pulses, Tick, Clock}
+use Rattle.taxi_units.specs.declared.event.Event.TheVariants as events
+use Rattle.taxi_units.specs.declared.event.Key.{Key}
+use Rattle.taxi_units.specs.declared.event.Key.TheVariants.{Hire, Stop, Clear, Position, Zone, Extra}
+use Rattle.drive_text.specs.Ranges.{IsInRange, IsKeyInRange}
+use Rattle.drive_text.specs.Lines.{ended_lines, unfinished_line, is_too_long}
+use Rattle.drive_text.specs.Fields.{line_events}
+use Rattle.drive_text.specs.Table.{IsNumberIn, Means}
+use Rattle.drive_text.specs.Table.Means.{up, down, clock, pulses, tick, hire, stop, clear, position, zone, extra}
+use Rattle.drive_text.specs.Drive.{or_else, first_bad_line, bad_at_end, events_of_lines, events_in}
+use Rattle.drive_text.specs.Written.{key_text, event_fields, event_text}
+use Rattle.drive_text.proofs.Splits.{ended-lf, unfinished-lf, ended-other, unfinished-other}
+use Rattle.drive_text.proofs.Positions.{first_bad_line-good, events_of_lines-good, events_of_lines-one}
+use Rattle.drive_text.proofs.Table.{line_events-table}
+use Rattle.drive_text.proofs.Decimals.{decimal_short}
+
+-- no line end and no CR
+abbrev IsPlain : List ℕ → Type 0
+IsPlain t = All (λ c. 32 ≤ c) t
+
+-- a number that is written is one
+written : (low high n : ℕ) → low ≤ n → n ≤ high → n < 10 ^ 12 → IsNumberIn low high (decimal n) n
+written low high n above below small =
+    let h = decimal_is_IsNumeral_wide n (omega arith) in
+    record { numeral = h.0; few = decimal_short n small; value = h.1; above = above; below = below }
+
+key_means : (key : Key) → IsKeyInRange key → Means (codes "K " ++ key_text key) (events.Key key ∷ [])
+unfolding key_text
+key_means Hire h = hire
+key_means Stop h = stop
+key_means Clear h = clear
+key_means (Position n) h = position n (decimal n) (written 0 99 n (omega arith) h (omega arith))
+key_means (Zone n) h = zone n (decimal n) (written 0 99 n (omega arith) h (omega arith))
+key_means (Extra n) h = extra n (decimal n) (written 0 99 n (omega arith) h (omega arith))
+
+-- the fields of an event mean that event
+fields_mean : (event : Event) → IsInRange event → Means (event_fields event) (event ∷ [])
+unfolding event_fields
+fields_mean (Up n) h = up n (decimal n) (written 946684800 7258118399 n h.0 h.1 (omega arith))
+fields_mean Down h = down
+fields_mean (Pulses n) h = pulses n (decimal n) (written 1 65535 n h.0 h.1 (omega arith))
+fields_mean Tick h = tick
+fields_mean (Clock n) h = clock n (decimal n) (written 946684800 7258118399 n h.0 h.1 (omega arith))
+fields_mean (events.Key key) h = key_means key h
+
+plain_digits : (ds : List ℕ) → AllDigits 10 ds → IsPlain ds
+plain_digits [] h = All-nil (λ c. 32 ≤ c)
+plain_digits (d ∷ ds) h =
+    let digit = digit_from_value d h.0 in
+    All-cons (λ c. 32 ≤ c) d ds (omega arith) (plain_digits ds h.1)
+
+plain_decimal : (n : ℕ) → n < 10 ^ 12 → IsPlain (decimal n)
+plain_decimal n small = plain_digits (decimal n) (decimal_is_IsNumeral_wide n (omega arith)).0.1
+
+more_plain : (c : ℕ) (t : List ℕ) → 32 ≤ c → IsPlain t → IsPlain (c ∷ t)
+more_plain c t h p = All-cons (λ x. 32 ≤ x) c t h p
+
+one_plain : (c : ℕ) → 32 ≤ c → IsPlain (c ∷ [])
+one_plain c h = more_plain c [] h (All-nil (λ x. 32 ≤ x))
+
+number_plain : (c n : ℕ) → 32 ≤ c → n < 10 ^ 12 → IsPlain (c ∷ 32 ∷ decimal n)
+number_plain c n h small = more_plain c (32 ∷ decimal n) h (more_plain 32 (decimal n) (omega arith) (plain_decimal n small))
+
+key_plain : (key : Key) → IsKeyInRange key → IsPlain (key_text key)
+unfolding key_text
+key_plain Hire h = one_plain 72 (omega arith)
+key_plain Stop h = one_plain 83 (omega arith)
+key_plain Clear h = one_plain 67 (omega arith)
+key_plain (Position n) h = number_plain 80 n (omega arith) (omega arith)
+key_plain (Zone n) h = number_plain 90 n (omega arith) (omega arith)
+key_plain (Extra n) h = number_plain 69 n (omega arith) (omega arith)
+
+fields_plain : (event : Event) → IsInRange event → IsPlain (event_fields event)
+unfolding event_fields
+fields_plain (Up n) h = number_plain 85 n (omega arith) (omega arith)
+fields_plain Down h = one_plain 68 (omega arith)
+fields_plain (Pulses n) h = number_plain 80 n (omega arith) (omega arith)
+fields_plain Tick h = one_plain 84 (omega arith)
+fields_plain (Clock n) h = number_plain 67 n (omega arith) (omega arith)
+fields_plain (events.Key key) h = more_plain 75 (32 ∷ key_text key) (omega arith) (more_plain 32 (key_text key) (omega arith) (key_plain key h))
+
+-- no CR stands at the end
+strip_plain : (t : List ℕ) → IsPlain t → strip_carriage_return t ≡ t
+strip_plain [] p = refl
+strip_plain (x ∷ xs) p =
+    let last : 32 ≤ get_or (x ∷ xs) (length (x ∷ xs) - 1) 0 = p (length (x ∷ xs) - 1) 0 (omega arith) in
+    let no_cr : eqb (get_or (x ∷ xs) (length (x ∷ xs) - 1) 0) 13 ≡ false = ne_eqb _ 13 (λ e. omega arith) in
+    rw no_cr refl
+
+line_read : (event : Event) → IsInRange event → line_events (event_fields event) ≡ Some (event ∷ [])
+line_read event h =
+    (line_events-table (event_fields event) (event ∷ [])).1
+    (subst (λ (t : List ℕ). Means t (event ∷ [])) (sym (strip_plain (event_fields event) (fields_plain event h))) (fields_mean event h))
+
+-- bytes without a line end go on with the unfinished line
+plain_taken : (b t : List ℕ) → IsPlain t → (ended_lines (b ++ t) ≡ ended_lines b) × (unfinished_line (b ++ t) ≡ unfinished_line b ++ t)
+plain_taken b [] p = (ap ended_lines (append-nil b), ap unfinished_line (append-nil b) ∙ sym (append-nil (unfinished_line b)))
+plain_taken b (x ∷ xs) p =
+    let first : 32 ≤ x = All-head (λ c. 32 ≤ c) x xs p in
+    let other : x ≢ 10 = λ e. omega arith in
+    let step = append_assoc b (x ∷ []) xs in
+    let more = plain_taken (b ++ x ∷ []) xs (All-tail (λ c. 32 ≤ c) x xs p) in (
+      sym (ap ended_lines step) ∙ (more.0 ∙ ended-other b x other),
+      sym (ap unfinished_line step) ∙ (more.1 ∙ (ap (λ (l : List ℕ). l ++ xs) (unfinished-other b x other) ∙ append_assoc (unfinished_line b) (x ∷ []) xs)),
+    )
+
+ends_by : (o : Option ℕ) (long empty : Bool) (k m : ℕ) → or_else (or_else o (cond long (Some k) None)) (cond empty None (Some m)) ≡ None → (o ≡ None) × (empty ≡ true)
+ends_by (Some n) long empty k m e = cc
+ends_by None true empty k m e = cc
+ends_by None false true k m e = (refl, refl)
+ends_by None false false k m e = cc
+
+empty_is : (t : List ℕ) → eqb (length t) 0 ≡ true → t ≡ []
+empty_is [] e = refl
+empty_is (x ∷ xs) e = let none : length (x ∷ xs) ≡ 0 = eqb-true (length (x ∷ xs)) 0 e in absurd (omega arith)
+
+-- a good line after ended good lines
+good_line : (b t : List ℕ) (es : List Event) → IsPlain t → line_events t ≡ Some es → bad_at_end b ≡ None → (events_in (b ++ (t ++ 10 ∷ [])) ≡ events_in b ++ es) × (bad_at_end (b ++ (t ++ 10 ∷ [])) ≡ None)
+good_line b t es p good whole =
+    let h = ends_by (first_bad_line (ended_lines b)) (is_too_long (unfinished_line b)) (eqb (length (unfinished_line b)) 0) (length (ended_lines b) + 1) (length (ended_lines b) + 1) whole in
+    let taken = plain_taken b t p in
+    let line : unfinished_line (b ++ t) ≡ t = taken.1 ∙ ap (λ (l : List ℕ). l ++ t) (empty_is (unfinished_line b) h.1) in
+    let step : b ++ (t ++ 10 ∷ []) ≡ (b ++ t) ++ 10 ∷ [] = sym (append_assoc b t (10 ∷ [])) in
+    let ended : ended_lines (b ++ (t ++ 10 ∷ [])) ≡ ended_lines b ++ t ∷ [] = ap ended_lines step ∙ (ended-lf (b ++ t) ∙ (ap (λ (x : List (List ℕ)). x ++ unfinished_line (b ++ t) ∷ []) taken.0 ∙ ap (λ (x : List ℕ). ended_lines b ++ x ∷ []) line)) in
+    let unfinished : unfinished_line (b ++ (t ++ 10 ∷ [])) ≡ [] = ap unfinished_line step ∙ unfinished-lf (b ++ t) in
+    let none : first_bad_line (ended_lines b ++ t ∷ []) ≡ None = first_bad_line-good (ended_lines b) t es h.0 good in (
+      ap events_of_lines ended ∙ (events_of_lines-good (ended_lines b) (t ∷ []) h.0 ∙ ap (λ (l : List Event). events_in b ++ l) (events_of_lines-one t es good)),
+      rw (ended, unfinished, none) refl,
+    )
+
+-- after ended lines of which none is bad, the line of an event adds this event alone
+pub events_in-event_text : (b : List ℕ) (event : Event) → IsInRange event → bad_at_end b ≡ None → events_in (b ++ event_text event) ≡ events_in b ++ event ∷ []
+events_in-event_text b event h whole = (good_line b (event_fields event) (event ∷ []) (fields_plain event h) (line_read event h) whole).0
+
+-- and is not bad
+pub bad_at_end-event_text : (b : List ℕ) (event : Event) → IsInRange event → bad_at_end b ≡ None → bad_at_end (b ++ event_text event) ≡ None
+bad_at_end-event_text b event h whole = (good_line b (event_fields event) (event ∷ []) (fields_plain event h) (line_read event h) whole).1

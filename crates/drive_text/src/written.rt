@@ -1,0 +1,78 @@
+//! Writes the line of one event.
+ghost use Rattle.std.specs.Prelude.{◌≡◌, ◌+◌, ◌*◌, ◌^◌, ◌<◌, ◌≤◌, ◌++◌, ◌↔◌, length, decimal, IsOk, OnOk, OnErr};
+ghost use Rattle.arrayvec.specs.ArrayVec.{array_vec_len};
+ghost use Rattle.drive_text.specs.Ranges.{IsInRange, IsKeyInRange};
+ghost use Rattle.drive_text.specs.Written.{event_text, event_fields, key_text};
+
+use taxi_units::{Event, Key, Line, LineFull, put_bytes, put_number};
+
+/// Appends the line of an event: its fields without leading zeros, parted by one blank each, and an
+/// LF. A reader reads that event from it.
+///
+/// `LineFull` where it doesn't fit; the line is then unchanged. The event's numbers are in the ranges
+/// of a drive: seconds are 946,684,800 to 7,258,118,399, pulses 1 to 65,535, keys' numbers 0 to 99.
+pub fn put_event(line: &mut Line, event: Event) -> Result<(), LineFull>
+    requires { IsInRange event }
+    ensures variant { IsOk result ↔ (array_vec_len line.old + length (event_text event) ≤ 512) }
+    ensures ok { OnOk result (line.new.items ≡ line.old.items ++ event_text event) }
+    ensures err { OnErr result (line.new ≡ line.old) }
+{
+    let mut draft = Line::new();
+    put_fields(&mut draft, event)?;
+    put_bytes(&mut draft, b"\n")?;
+    put_bytes(line, draft.as_slice())
+}
+
+/// Appends the fields of an event.
+#[tactic(auto, unfolding(crate::specs::Written::event_fields))]
+fn put_fields(draft: &mut Line, event: Event) -> Result<(), LineFull>
+    requires range { IsInRange event }
+    requires room { array_vec_len draft.old ≤ 400 }
+    ensures always { IsOk result }
+    ensures fields { draft.new.items ≡ draft.old.items ++ event_fields event }
+    ensures len { array_vec_len draft.new ≤ array_vec_len draft.old + 20 }
+{
+    match event {
+        Event::Up(second) => put_numbered(draft, b"U ", second),
+        Event::Down => put_bytes(draft, b"D"),
+        Event::Pulses(pulses) => put_numbered(draft, b"P ", pulses as u64),
+        Event::Tick => put_bytes(draft, b"T"),
+        Event::Clock(second) => put_numbered(draft, b"C ", second),
+        Event::Key(key) => {
+            put_bytes(draft, b"K ")?;
+            put_key(draft, key)
+        }
+    }
+}
+
+/// Appends the fields of a key.
+#[tactic(auto, unfolding(crate::specs::Written::key_text))]
+fn put_key(draft: &mut Line, key: Key) -> Result<(), LineFull>
+    requires range { IsKeyInRange key }
+    requires room { array_vec_len draft.old ≤ 402 }
+    ensures always { IsOk result }
+    ensures fields { draft.new.items ≡ draft.old.items ++ key_text key }
+    ensures len { array_vec_len draft.new ≤ array_vec_len draft.old + 18 }
+{
+    match key {
+        Key::Hire => put_bytes(draft, b"H"),
+        Key::Stop => put_bytes(draft, b"S"),
+        Key::Clear => put_bytes(draft, b"C"),
+        Key::Position(number) => put_numbered(draft, b"P ", number as u64),
+        Key::Zone(number) => put_numbered(draft, b"Z ", number as u64),
+        Key::Extra(number) => put_numbered(draft, b"E ", number as u64),
+    }
+}
+
+/// Appends a name and its blank, and a number.
+fn put_numbered(draft: &mut Line, name: &[u8], number: u64) -> Result<(), LineFull>
+    requires name { length name.now ≤ 2 }
+    requires number { number < 10 ^ 12 }
+    requires room { array_vec_len draft.old ≤ 402 }
+    ensures always { IsOk result }
+    ensures fields { draft.new.items ≡ draft.old.items ++ (name.now ++ decimal number) }
+    ensures len { array_vec_len draft.new ≤ array_vec_len draft.old + 14 }
+{
+    put_bytes(draft, name)?;
+    put_number(draft, number as u128)
+}
