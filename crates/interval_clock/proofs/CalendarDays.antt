@@ -1,0 +1,159 @@
+-- How the days of the calendar follow one another.
+use Rattle.std.proofs.Common.{◌≡◌, ℕ, zero, suc, ◌+◌, ◌-◌, ◌<◌, ◌≤◌, ℤ, pos, ◌+ℤ◌, refl, subst, sym, inl, inr, true, arith}
+use Rattle.std.proofs.lemmas.Bool.{cases_lt, le-ltb, lt-ltb}
+use Rattle.std.proofs.lemmas.Bool.Decides.{nat_tests}
+use Rattle.jiff.proofs.SpanFacts.{signed_arith}
+use Rattle.interval_clock.specs.Calendar.{CalendarDate, days_of_years, days_of_months, days_of_month, days_of_year, place_in_year, IsDateOf, is_leap_year, next_date, date_after}
+
+-- a year ends where the next one begins
+pub days_of_years-next : (year : ℕ) → days_of_years (year + 1) ≡ days_of_years year + days_of_year year
+unfolding days_of_years
+days_of_years-next year = let next : year + 1 ≡ suc year = omega arith in rw next refl
+
+-- and so a month
+pub days_of_months-next : (year month : ℕ) → 1 ≤ month → days_of_months year month ≡ days_of_months year (month - 1) + days_of_month year month
+unfolding days_of_months
+days_of_months-next year zero first = absurd (omega arith)
+days_of_months-next year (suc month) first = let back : suc month - 1 ≡ month = omega arith in rw back refl
+
+-- twelve months are a year
+pub days_of_months-all : (year : ℕ) → days_of_months year 12 ≡ days_of_year year
+unfolding days_of_months
+days_of_months-all year = grind (arith, nat_tests)
+
+-- a later year begins after a year
+pub days_of_years-later : (year later : ℕ) → year < later → days_of_years year + days_of_year year ≤ days_of_years later
+unfolding days_of_years
+days_of_years-later year zero after = absurd (omega arith)
+days_of_years-later year (suc later) after =
+    elim (cases_lt year later) [
+      | inl lt ↦ let rest = days_of_years-later year later lt in omega arith
+      | inr ge ↦ let same : year ≡ later = omega arith in rw same (omega arith)
+    ]
+
+-- later months go on after earlier ones
+pub days_of_months-later : (year months later : ℕ) → months < later → days_of_months year months + days_of_month year (suc months) ≤ days_of_months year later
+unfolding days_of_months
+days_of_months-later year months zero after = absurd (omega arith)
+days_of_months-later year months (suc later) after =
+    elim (cases_lt months later) [
+      | inl lt ↦ let rest = days_of_months-later year months later lt in omega arith
+      | inr ge ↦ let same : months ≡ later = omega arith in rw same (omega arith)
+    ]
+
+-- a date lies in its year
+pub place_in_year_bound : (year month date : ℕ) → 1 ≤ month → month ≤ 12 → 1 ≤ date → date ≤ days_of_month year month → place_in_year year month date < days_of_year year
+place_in_year_bound year month date first last low high =
+    let back : suc (month - 1) ≡ month = omega arith in
+    let later = rw back at (days_of_months-later year (month - 1) 12 (omega arith)) in
+    omega (arith, later, days_of_months-all year)
+
+-- the next date lies in the same month, or begins the next one, or the next year
+next_in_month : (d : CalendarDate) → d.date < days_of_month d.year d.month → next_date d ≡ record d { date = d.date + 1 }
+next_in_month d lt = rw (lt-ltb d.date (days_of_month d.year d.month) lt) refl
+
+next_month : (d : CalendarDate) → days_of_month d.year d.month ≤ d.date → d.month < 12 → next_date d ≡ record { year = d.year; month = d.month + 1; date = 1 }
+next_month d ge lt = rw (le-ltb d.date (days_of_month d.year d.month) ge, lt-ltb d.month 12 lt) refl
+
+next_year : (d : CalendarDate) → days_of_month d.year d.month ≤ d.date → 12 ≤ d.month → next_date d ≡ record { year = d.year + 1; month = 1; date = 1 }
+next_year d ge end = rw (le-ltb d.date (days_of_month d.year d.month) ge, le-ltb d.month 12 end) refl
+
+-- a month has 28 to 31 days
+days_of_month_bounds : (year month : ℕ) → (28 ≤ days_of_month year month) × (days_of_month year month ≤ 31)
+days_of_month_bounds year month = grind arith
+
+-- and its day number is one more
+in_month : (day : ℤ) (year month date : ℕ) → IsDateOf day year month date → date < days_of_month year month → IsDateOf (day +ℤ pos 1) year month (date + 1)
+in_month day year month date h lt = record {
+  month_in = h.month_in;
+  date_in = omega (arith, h.date_in);
+  count = omega (arith, signed_arith, h.count, h.date_in);
+}
+
+month_after : (day : ℤ) (year month date : ℕ) → IsDateOf day year month date → days_of_month year month ≤ date → month < 12 → IsDateOf (day +ℤ pos 1) year (month + 1) 1
+month_after day year month date h ge lt =
+    let back : month + 1 - 1 ≡ month = omega arith in
+    let place : place_in_year year (month + 1) 1 ≡ days_of_months year month = rw back (omega arith) in
+    record {
+      month_in = omega (arith, h.month_in);
+      date_in = omega (arith, days_of_month_bounds year (month + 1));
+      count = omega (arith, signed_arith, h.count, h.date_in, h.month_in, place, days_of_months-next year month h.month_in.0);
+    }
+
+year_after : (day : ℤ) (year month date : ℕ) → IsDateOf day year month date → days_of_month year month ≤ date → 12 ≤ month → IsDateOf (day +ℤ pos 1) (year + 1) 1 1
+unfolding days_of_months
+year_after day year month date h ge end =
+    let last : month ≡ 12 = omega (arith, h.month_in) in
+    let ends : days_of_months year month ≡ days_of_year year = rw last (days_of_months-all year) in
+    record {
+      month_in = omega arith;
+      date_in = omega (arith, days_of_month_bounds (year + 1) 1);
+      count = omega (arith, signed_arith, h.count, h.date_in, ends, days_of_months-next year month h.month_in.0, days_of_years-next year);
+    }
+
+-- the day after a date has the next date
+pub IsDateOf-next_date : (day : ℤ) (d : CalendarDate) → IsDateOf day d.year d.month d.date → IsDateOf (day +ℤ pos 1) (next_date d).year (next_date d).month (next_date d).date
+IsDateOf-next_date day d h =
+    let Next : CalendarDate → Type 0 = λ next. IsDateOf (day +ℤ pos 1) next.year next.month next.date in
+    elim (cases_lt d.date (days_of_month d.year d.month)) [
+      | inl lt ↦ subst Next (sym (next_in_month d lt)) (in_month day d.year d.month d.date h lt)
+      | inr ge ↦ elim (cases_lt d.month 12) [
+        | inl lt ↦ subst Next (sym (next_month d ge lt)) (month_after day d.year d.month d.date h ge lt)
+        | inr end ↦ subst Next (sym (next_year d ge end)) (year_after day d.year d.month d.date h ge end)
+      ]
+    ]
+
+pub IsDateOf-first : IsDateOf (pos 0) 1970 1 1
+unfolding days_of_months
+IsDateOf-first = record { month_in = omega arith; date_in = omega (arith, days_of_month_bounds 1970 1); count = omega (arith, signed_arith) }
+
+-- going on from 1970-01-01 gives the date of each day
+pub IsDateOf-date_after : (n : ℕ) → IsDateOf (pos n) (date_after n).year (date_after n).month (date_after n).date
+unfolding date_after
+IsDateOf-date_after zero = IsDateOf-first
+IsDateOf-date_after (suc n) =
+    let next : pos n +ℤ pos 1 ≡ pos (suc n) = omega (arith, signed_arith) in
+    rw next at (IsDateOf-next_date (pos n) (date_after n) (IsDateOf-date_after n))
+
+same_count : (day : ℤ) (year month date year₂ month₂ date₂ : ℕ) → IsDateOf day year month date → IsDateOf day year₂ month₂ date₂ → days_of_years year + place_in_year year month date ≡ days_of_years year₂ + place_in_year year₂ month₂ date₂
+same_count day year month date year₂ month₂ date₂ h k = omega (arith, signed_arith, h.count, k.count)
+
+no_later_year : (day : ℤ) (year month date year₂ month₂ date₂ : ℕ) → IsDateOf day year month date → IsDateOf day year₂ month₂ date₂ → year₂ ≤ year
+no_later_year day year month date year₂ month₂ date₂ h k =
+    elim (cases_lt year year₂) [
+      | inl lt ↦ absurd (omega (arith, same_count day year month date year₂ month₂ date₂ h k, days_of_years-later year year₂ lt, place_in_year_bound year month date h.month_in.0 h.month_in.1 h.date_in.0 h.date_in.1))
+      | inr ge ↦ ge
+    ]
+
+no_later_month : (day : ℤ) (year month date month₂ date₂ : ℕ) → IsDateOf day year month date → IsDateOf day year month₂ date₂ → month₂ ≤ month
+no_later_month day year month date month₂ date₂ h k =
+    let back : suc (month - 1) ≡ month = omega (arith, h.month_in) in
+    elim (cases_lt month month₂) [
+      | inl lt ↦ absurd (omega (arith, same_count day year month date year month₂ date₂ h k, rw back at (days_of_months-later year (month - 1) (month₂ - 1) (omega (arith, h.month_in))), h.date_in, k.date_in))
+      | inr ge ↦ ge
+    ]
+
+abbrev date_is : (year month date : ℕ) → CalendarDate
+date_is year month date = record { year = year; month = month; date = date }
+
+same_date : (year month date year₂ month₂ date₂ : ℕ) → year ≡ year₂ → month ≡ month₂ → date ≡ date₂ → date_is year month date ≡ date_is year₂ month₂ date₂
+same_date year month date year₂ month₂ date₂ a b c = cc
+
+-- a day has one date
+pub IsDateOf-only : (day : ℤ) (a b : CalendarDate) → IsDateOf day a.year a.month a.date → IsDateOf day b.year b.month b.date → a ≡ b
+IsDateOf-only day a b h k =
+    let year : b.year ≡ a.year = omega (arith, no_later_year day a.year a.month a.date b.year b.month b.date h k, no_later_year day b.year b.month b.date a.year a.month a.date k h) in
+    let k₂ = rw year at k in
+    let month : b.month ≡ a.month = omega (arith, no_later_month day a.year a.month a.date b.month b.date h k₂, no_later_month day a.year b.month b.date a.month a.date k₂ h) in
+    let k₃ = rw month at k₂ in
+    let date : b.date ≡ a.date = omega (arith, same_count day a.year a.month a.date a.year a.month b.date h k₃, h.date_in, k₃.date_in) in
+    same_date a.year a.month a.date b.year b.month b.date (sym year) (sym month) (sym date)
+
+-- all leap years have the same months
+pub days_of_months-leap : (year months : ℕ) → is_leap_year year ≡ true → days_of_months year months ≡ days_of_months 2000 months
+unfolding days_of_months
+days_of_months-leap year zero leap = refl
+days_of_months-leap year (suc months) leap =
+    let rest = days_of_months-leap year months leap in
+    let month : days_of_month year (suc months) ≡ days_of_month 2000 (suc months) = rw leap refl in
+    omega arith

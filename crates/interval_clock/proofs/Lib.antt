@@ -1,0 +1,4 @@
+pub mod CalendarDays
+pub mod Dates
+pub mod LocalTimes
+pub mod OffsetLists

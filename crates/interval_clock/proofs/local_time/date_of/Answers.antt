@@ -1,0 +1,23 @@
+use Rattle.std.proofs.Common.{arith, FitsSigned, w32, w64, ◌∙◌, ◌≡◌, pos}
+use Rattle.std.proofs.lemmas.Int.{to_z-of_z}
+use Rattle.jiff.proofs.SpanFacts.{signed_arith, date_add-days, can_add-days}
+use Rattle.jiff.specs.Words.{epoch_day}
+use Rattle.interval_clock.proofs.Dates.{epoch_day-start}
+use Rattle.interval_clock.proofs.local_time.date_of.Goals as goal
+
+pub add-requires : goal.add-requires
+add-requires c =
+    let day : FitsSigned w32 c.args.day = c.ranges.day in
+    let long : FitsSigned w64 c.args.day = omega (arith, signed_arith) in
+    let only = simp to_z-of_z at c.days.ensures in
+    let start : epoch_day c.date.result ≡ pos 0 = epoch_day-start c.date.result c.date.ensures in
+    (can_add-days c.date.result c.args.day c.days.result only).1 (omega (arith, signed_arith))
+
+pub returns : goal.returns
+returns c =
+    let day : FitsSigned w32 c.args.day = c.ranges.day in
+    let long : FitsSigned w64 c.args.day = omega (arith, signed_arith) in
+    let only = simp to_z-of_z at c.days.ensures in
+    let start : epoch_day c.date.result ≡ pos 0 = epoch_day-start c.date.result c.date.ensures in
+    let moved = c.add.ensures ∙ date_add-days c.date.result c.args.day c.days.result only in
+    omega (arith, signed_arith)

@@ -1,0 +1,48 @@
+-- Local time: the day and the time of the day of a local second.
+use Rattle.std.specs.Prelude.{ℕ, ◌/◌, ◌≤◌, ℤ, pos, ◌+ℤ◌, unsigned_abs, List}
+use Rattle.std.specs.Int.{int_div_euclid, int_rem_euclid}
+use Rattle.interval_clock.specs.Calendar.{date_after, place_in_leap_year, weekday_of}
+use Rattle.interval_clock.specs.Offsets.{offset_at}
+use Rattle.interval_clock.specs.declared.local_time.LocalTime.{LocalTime}
+
+-- the local second: a second and the offset in force at it
+abbrev pub local_second : List (ℕ × ℤ) → (second : ℕ) → ℤ
+local_second pairs second = pos second +ℤ offset_at pairs second
+
+-- the day number of a local second: whole days of 86,400 seconds from 1970-01-01
+abbrev pub day_of : (local : ℤ) → ℤ
+day_of local = int_div_euclid local (pos 86400)
+
+-- the seconds from the midnight before a local second
+abbrev pub second_of_day : (local : ℤ) → ℕ
+second_of_day local = unsigned_abs (int_rem_euclid local (pos 86400))
+
+-- the whole minutes from that midnight
+abbrev pub minute_of_day : (local : ℤ) → ℕ
+minute_of_day local = second_of_day local / 60
+
+-- the local time at a local second from 1970 on
+abbrev pub local_time_of : (local : ℤ) → LocalTime
+local_time_of local =
+    let day = day_of local in
+    let date = date_after (unsigned_abs day) in
+    record {
+      day = day;
+      year = date.year;
+      month = date.month;
+      date = date.date;
+      weekday = weekday_of day;
+      month_day = place_in_leap_year date.month date.date;
+      minute = minute_of_day local;
+      second = second_of_day local;
+    }
+
+-- each part of a local time is in its range
+pub record HasPartsInRange (time : LocalTime) : Type 0 where
+  pub year : (1999 ≤ time.year) × (time.year ≤ 2200)
+  pub month : (1 ≤ time.month) × (time.month ≤ 12)
+  pub date : (1 ≤ time.date) × (time.date ≤ 31)
+  pub weekday : (1 ≤ time.weekday) × (time.weekday ≤ 7)
+  pub month_day : time.month_day ≤ 365
+  pub minute : time.minute ≤ 1439
+  pub second : time.second ≤ 86399
