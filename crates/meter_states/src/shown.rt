@@ -1,0 +1,35 @@
+//! Whether a display is shown already.
+ghost use Rattle.std.specs.Prelude.{◌≡◌};
+ghost use Rattle.meter_states.specs.Same as spec;
+
+use taxi_units::{Display, Operating};
+
+/// The same operating position.
+fn same_operating(a: Operating, b: Operating) -> bool
+    ensures { result ≡ spec.same_operating a b }
+{
+    match (a, b) {
+        (Operating::Off, Operating::Off) => true,
+        (Operating::ForHire, Operating::ForHire) => true,
+        (Operating::Hired, Operating::Hired) => true,
+        (Operating::Stopped, Operating::Stopped) => true,
+        _ => false,
+    }
+}
+
+/// Whether the display is the one that was last shown.
+pub fn is_shown(old: &Option<Display>, new: &Display) -> bool
+    ensures { result ≡ spec.is_shown old.now new.now }
+{
+    match old {
+        None => false,
+        Some(old) => {
+            same_operating(old.operating, new.operating)
+                && old.position == new.position
+                && old.zone == new.zone
+                && old.fare == new.fare
+                && old.supplements == new.supplements
+                && old.decimals == new.decimals
+        }
+    }
+}

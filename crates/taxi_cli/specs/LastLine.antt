@@ -1,0 +1,45 @@
+-- The statuses of the program, and their last lines.
+use Rattle.std.specs.Prelude.{ℕ, List, [], ◌++◌, codes, decimal}
+use Rattle.taxi_cli.specs.declared.ending.Ended.{Ended}
+use Rattle.taxi_cli.specs.declared.ending.Ended.TheVariants.{Done, BadWords, BadTariff, BadDrive, EndlessDrive, ReadFault, BoardFault, NoMemory}
+
+abbrev pub bad_words_line : List ℕ
+bad_words_line = codes "BAD WORDS\n"
+
+abbrev pub bad_tariff_line : List ℕ
+bad_tariff_line = codes "BAD TARIFF\n"
+
+-- with the number of the first bad line
+abbrev pub bad_drive_line : ℕ → List ℕ
+bad_drive_line line = codes "BAD DRIVE " ++ (decimal line ++ codes "\n")
+
+abbrev pub endless_drive_line : List ℕ
+endless_drive_line = codes "BAD DRIVE TOO LONG\n"
+
+abbrev pub read_fault_line : List ℕ
+read_fault_line = codes "READ FAULT\n"
+
+abbrev pub no_memory_line : List ℕ
+no_memory_line = codes "NO MEMORY\n"
+
+-- the status of a call that ended so
+abbrev pub status_of : Ended → ℕ
+status_of Done = 0
+status_of BadWords = 1
+status_of BadTariff = 2
+status_of (BadDrive line) = 3
+status_of EndlessDrive = 3
+status_of ReadFault = 7
+status_of BoardFault = 8
+status_of NoMemory = 12
+
+-- its last line: none where the output is whole, and none where the board failed
+abbrev pub line_of : Ended → List ℕ
+line_of Done = []
+line_of BadWords = bad_words_line
+line_of BadTariff = bad_tariff_line
+line_of (BadDrive line) = bad_drive_line line
+line_of EndlessDrive = endless_drive_line
+line_of ReadFault = read_fault_line
+line_of BoardFault = []
+line_of NoMemory = no_memory_line

@@ -1,0 +1,186 @@
+//! Calls of the program, over files and a board in memory.
+ghost use Rattle.std.specs.Prelude.{◌≡◌, ◌<◌};
+
+use crate::top::taxi;
+use outside::{MemoryBoard, MemoryFiles};
+use std::alloc::Global;
+use std::marker::Brand;
+use std::sync::ledger::{Blank, Ledger};
+use std::test::Fail;
+use taxi_units::Steps;
+
+const A: &str =
+    "decimals 2\nstep 0.20 ahead\ninitial 3.80 covers 0.40\nrate 0.20 per 117.4 m, 0.20 per 25.2 s\n";
+
+const FIRST: &str = "U 1767225600\nK H\nI 0 1\nI 0 504\nI 0 1\n";
+
+/// A call under a new counter.
+fn counted<L: Ledger>(
+    alloc: Global,
+    blank: Blank,
+    words: &[String],
+    files: &mut MemoryFiles,
+    board: &mut MemoryBoard,
+) -> u8
+    requires name { blank.name ≡ L.name }
+    requires parts { blank.parts ≡ L.parts }
+    requires some { 0 < blank.parts }
+{
+    let mut steps: Steps<L> = Steps::open(blank);
+    taxi(alloc, words, files, board, &mut steps)
+}
+
+/// A call of these words; the file of word 1 has the tariff, and that of word 2 the drive.
+fn call(
+    alloc: Global,
+    words: &[&str],
+    tariff: &str,
+    drive: &str,
+    fail: &[u64],
+    board: &mut MemoryBoard,
+) -> Result<u8, Fail> {
+    let mut texts = Vec::new(alloc);
+    for word in words {
+        texts.push(String::from_str(alloc, word)?)?;
+    }
+    let mut files = MemoryFiles::new(alloc, fail)?;
+    files.add(b"")?;
+    files.add(tariff.as_bytes())?;
+    files.add(drive.as_bytes())?;
+    Ok(counted::<Brand>(alloc, Blank::new(1), texts.as_slice(), &mut files, board))
+}
+
+#[test]
+fn drives(rt: HostRuntime) -> Result<(), Fail> {
+    for (drive, output, status) in [
+        (
+            FIRST,
+            "FOR HIRE T1 Z1\nHIRED T1 Z1 3.80 +0.00\nHIRED T1 Z1 4.00 +0.00\n",
+            0,
+        ),
+        (
+            "U 1767225600\nK H\nI 0 1\nK H\nI 0 1\n",
+            "FOR HIRE T1 Z1\nHIRED T1 Z1 3.80 +0.00\nREFUSED NOT NOW\n",
+            0,
+        ),
+        (
+            "U 1767225600\nK H\nI 0 1\nI 20 117\nK S\nI 8 1\nK C\nI 0 1\n",
+            "FOR HIRE T1 Z1\nHIRED T1 Z1 3.80 +0.00\nSTOPPED T1 Z1 3.80 +0.00\nFOR HIRE T1 Z1\n",
+            0,
+        ),
+        (
+            "I 5 1\nU 1767225600\nU 1767225600\nI 2001 1\nP 1500\nP 600\n",
+            "REFUSED NOT NOW\nREFUSED NOT NOW\nFOR HIRE T1 Z1\nREFUSED POWERED\nREFUSED TOO FAST 1\nREFUSED TOO FAST 100\n",
+            0,
+        ),
+        (
+            "U 1767225600\nK H\nK S\nI 0 1\n",
+            "FOR HIRE T1 Z1\nREFUSED KEY WAITING\nHIRED T1 Z1 3.80 +0.00\n",
+            0,
+        ),
+        (
+            "U 1767225600\nK S\nI 0 1\n",
+            "FOR HIRE T1 Z1\nREFUSED NOT NOW\n",
+            0,
+        ),
+        ("U 1767225600\nI 20\n", "FOR HIRE T1 Z1\nBAD DRIVE 2\n", 3),
+        ("U 1767225600\nI 20 1", "FOR HIRE T1 Z1\nBAD DRIVE 2\n", 3),
+        ("", "", 0),
+    ] {
+        let mut board = MemoryBoard::new(rt.alloc(), &[0; 2048], &[])?;
+        let ended = call(
+            rt.alloc(),
+            &["fare", "t", "d", "10000"],
+            A,
+            drive,
+            &[],
+            &mut board,
+        )?;
+        assert_eq!(rt; ended, status, "{drive}");
+        assert_eq!(rt; board.printed(), output.as_bytes(), "{drive}");
+    }
+    Ok(())
+}
+
+#[test]
+fn words_and_tariffs(rt: HostRuntime) -> Result<(), Fail> {
+    for (command, constant, tariff, output, status) in [
+        ("fare", "499", A, "BAD WORDS\n", 1),
+        ("fare", "200001", A, "BAD WORDS\n", 1),
+        ("fare", "0010000", A, "BAD WORDS\n", 1),
+        ("fare", "", A, "BAD WORDS\n", 1),
+        ("fare", "1e4", A, "BAD WORDS\n", 1),
+        ("Fare", "10000", A, "BAD WORDS\n", 1),
+        ("fare", "010000", "", "BAD TARIFF\n", 2),
+        (
+            "fare",
+            "10000",
+            "step 0.20 ahead\ninitial 3.80 covers 0.40\nrate 0.20 per 117.4 m, 0.20 per 25.2 s\n",
+            "BAD TARIFF\n",
+            2,
+        ),
+    ] {
+        let mut board = MemoryBoard::new(rt.alloc(), &[0; 2048], &[])?;
+        let ended = call(
+            rt.alloc(),
+            &[command, "t", "d", constant],
+            tariff,
+            FIRST,
+            &[],
+            &mut board,
+        )?;
+        assert_eq!(rt; ended, status, "{command} {constant}");
+        assert_eq!(rt; board.printed(), output.as_bytes(), "{command} {constant}");
+    }
+    let mut board = MemoryBoard::new(rt.alloc(), &[0; 2048], &[])?;
+    assert_eq!(rt; call(rt.alloc(), &[], A, FIRST, &[], &mut board)?, 1);
+    assert_eq!(rt;
+        call(
+            rt.alloc(),
+            &["fare", "t", "d", "10000", "x"],
+            A,
+            FIRST,
+            &[],
+            &mut board
+        )?,
+        1
+    );
+    assert_eq!(rt; board.printed(), b"BAD WORDS\nBAD WORDS\n".as_slice());
+    Ok(())
+}
+
+#[test]
+fn faults_of_the_outside(rt: HostRuntime) -> Result<(), Fail> {
+    // Reads 1 and 2 are the tariff's, 3 and 4 the drive's.
+    for (reads, prints, output, status) in [
+        (1, 0, "READ FAULT\n", 7),
+        (2, 0, "READ FAULT\n", 7),
+        (3, 0, "READ FAULT\n", 7),
+        (
+            4,
+            0,
+            "FOR HIRE T1 Z1\nHIRED T1 Z1 3.80 +0.00\nHIRED T1 Z1 4.00 +0.00\nREAD FAULT\n",
+            7,
+        ),
+        (0, 1, "", 8),
+        (0, 3, "FOR HIRE T1 Z1\nHIRED T1 Z1 3.80 +0.00\n", 8),
+        (1, 1, "", 8),
+    ] {
+        let mut board = MemoryBoard::new(rt.alloc(), &[0; 2048], &[prints])?;
+        let ended = call(
+            rt.alloc(),
+            &["fare", "t", "d", "10000"],
+            A,
+            FIRST,
+            &[reads],
+            &mut board,
+        )?;
+        assert_eq!(rt; ended, status, "read {reads}, print {prints}");
+        assert_eq!(rt;
+            board.printed(),
+            output.as_bytes(),
+            "read {reads}, print {prints}"
+        );
+    }
+    Ok(())
+}

@@ -1,0 +1,80 @@
+//! The top call: words in, a status out.
+ghost use Rattle.std.specs.Prelude.{◌≡◌, ◌≢◌, ◌⊎◌, ℕ, ◌+◌, ◌≤◌, List, [], None, map, string_bytes};
+ghost use Rattle.outside.specs.Faults.{Rose};
+ghost use Rattle.taxi_cli.specs.Words.{fare_words};
+ghost use Rattle.taxi_cli.specs.Drive.{IsBoundedBy};
+ghost use Rattle.taxi_cli.specs.Command.{bad_words, command, shown_by, text_of};
+ghost use Rattle.taxi_cli.specs.Ending.{EndsAs, IsAnswered, IsCutShort};
+
+use crate::ending::{Ended, finish};
+use crate::fare::fare;
+use crate::words::fare_constant;
+use outside::{Board, Files};
+use std::alloc::Global;
+use std::sync::ledger::Ledger;
+use taxi_units::Steps;
+
+/// Carries out the words of a call.
+fn answer<F: Files, B: Board, L: Ledger>(
+    alloc: Global,
+    words: &[String],
+    files: &mut F,
+    board: &mut B,
+    steps: &mut Steps<L>,
+) -> u8
+    ensures words { fare_words (map string_bytes words.now) ≡ None → IsAnswered B.tells_text bad_words result (B.printed board.old) (B.printed board.new) ⊎ IsCutShort B.tells_text (text_of bad_words) result (B.printed board.old) (B.printed board.new) }
+    ensures ends { F.tells → EndsAs B.tells_text (command (map string_bytes words.now) (F.rest files.old)) (shown_by (map string_bytes words.now) (F.rest files.old)) (F.rest files.old 2) (F.rest files.new 2) result (B.printed board.old) (B.printed board.new) }
+    ensures read_fault { result ≡ 7 → Rose (F.faults files.old 1) (F.faults files.new 1) ⊎ Rose (F.faults files.old 2) (F.faults files.new 2) }
+    ensures board_fault { result ≡ 8 → Rose (B.faults board.old) (B.faults board.new) }
+    ensures steps { F.tells → IsBoundedBy 64 (F.rest files.old 2) (F.rest files.new 2) steps.old steps.new }
+{
+    match fare_constant(words) {
+        None => finish(Ended::BadWords, board, steps),
+        Some(constant) => {
+            let ended = fare(alloc, constant, files, board, steps);
+            finish(ended, board, steps)
+        }
+    }
+}
+
+/// Carries out the words of a call of the program, and gives its status. Word 0 is the command; word
+/// n's file is that of place n. `fare TARIFF DRIVE CONSTANT` prints the displays and refusals of the
+/// drive under the tariff, with so many pulses to a kilometre; any other words are refused.
+///
+/// | Status | Last line | Where |
+/// |---|---|---|
+/// | 0 | none | the drive was read to its end |
+/// | 1 | `BAD WORDS` | exactly: the words are no command |
+/// | 2 | `BAD TARIFF` | exactly: the tariff isn't accepted |
+/// | 3 | `BAD DRIVE n`, `BAD DRIVE TOO LONG` | exactly: line n is the first that is no line of a drive; 2^40 bytes were taken, and the end wasn't told |
+/// | 7 | `READ FAULT` | only where the count of faults of a file that the command reads rose |
+/// | 8 | none | only where the board's count of faults rose |
+/// | 12 | `NO MEMORY` | free, before the first byte of the drive is taken and before anything is printed |
+///
+/// The words, the statuses and the lines are this project's own.
+pub fn taxi<F: Files, B: Board, L: Ledger>(
+    alloc: Global,
+    words: &[String],
+    files: &mut F,
+    board: &mut B,
+    steps: &mut Steps<L>,
+) -> u8
+    // Refused words are answered so, whatever the files tell.
+    ensures words { fare_words (map string_bytes words.now) ≡ None → IsAnswered B.tells_text bad_words result (B.printed board.old) (B.printed board.new) ⊎ IsCutShort B.tells_text (text_of bad_words) result (B.printed board.old) (B.printed board.new) }
+
+    // A call ends as its words and the contents of their files say, or stops as the outside or memory makes it stop.
+    ensures ends { F.tells → EndsAs B.tells_text (command (map string_bytes words.now) (F.rest files.old)) (shown_by (map string_bytes words.now) (F.rest files.old)) (F.rest files.old 2) (F.rest files.new 2) result (B.printed board.old) (B.printed board.new) }
+
+    // Each of the faults of the outside has its cause.
+    ensures read_fault { result ≡ 7 → Rose (F.faults files.old 1) (F.faults files.new 1) ⊎ Rose (F.faults files.old 2) (F.faults files.new 2) }
+    ensures board_fault { result ≡ 8 → Rose (B.faults board.old) (B.faults board.new) }
+
+    // Where no count rose, the status is that of the answer, unless memory ran out.
+    ensures complete { F.tells → ¬ (Rose (F.faults files.old 1) (F.faults files.new 1)) → ¬ (Rose (F.faults files.old 2) (F.faults files.new 2)) → ¬ (Rose (B.faults board.old) (B.faults board.new))
+        → (result ≡ (command (map string_bytes words.now) (F.rest files.old)).status) ⊎ (result ≡ 12) }
+
+    // At most 64 steps, and 64 for each event of the bytes of the drive that were taken.
+    ensures steps { F.tells → IsBoundedBy 64 (F.rest files.old 2) (F.rest files.new 2) steps.old steps.new }
+{
+    answer(alloc, words, files, board, steps)
+}
