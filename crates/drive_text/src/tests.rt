@@ -79,6 +79,10 @@ fn lines_without_runs(rt: HostRuntime) {
         assert_eq!(rt; outcome.finished, None, "at {text}");
         assert!(rt; outcome.runs.is_empty(), "at {text}");
     }
+}
+
+#[test]
+fn bad_lines(rt: HostRuntime) {
     for text in [
         "U 946684799\n",
         "U 7258118400\n",

@@ -50,43 +50,46 @@ fn call(
     Ok(counted::<Brand>(alloc, Blank::new(1), texts.as_slice(), &mut files, board))
 }
 
+/// Drives under tariff A and a constant of 10,000, what they print, and their status.
+const DRIVES: [(&str, &str, u8); 9] = [
+    (
+        FIRST,
+        "FOR HIRE T1 Z1\nHIRED T1 Z1 3.80 +0.00\nHIRED T1 Z1 4.00 +0.00\n",
+        0,
+    ),
+    (
+        "U 1767225600\nK H\nI 0 1\nK H\nI 0 1\n",
+        "FOR HIRE T1 Z1\nHIRED T1 Z1 3.80 +0.00\nREFUSED NOT NOW\n",
+        0,
+    ),
+    (
+        "U 1767225600\nK H\nI 0 1\nI 20 117\nK S\nI 8 1\nK C\nI 0 1\n",
+        "FOR HIRE T1 Z1\nHIRED T1 Z1 3.80 +0.00\nSTOPPED T1 Z1 3.80 +0.00\nFOR HIRE T1 Z1\n",
+        0,
+    ),
+    (
+        "I 5 1\nU 1767225600\nU 1767225600\nI 2001 1\nP 1500\nP 600\n",
+        "REFUSED NOT NOW\nREFUSED NOT NOW\nFOR HIRE T1 Z1\nREFUSED POWERED\nREFUSED TOO FAST 1\nREFUSED TOO FAST 100\n",
+        0,
+    ),
+    (
+        "U 1767225600\nK H\nK S\nI 0 1\n",
+        "FOR HIRE T1 Z1\nREFUSED KEY WAITING\nHIRED T1 Z1 3.80 +0.00\n",
+        0,
+    ),
+    (
+        "U 1767225600\nK S\nI 0 1\n",
+        "FOR HIRE T1 Z1\nREFUSED NOT NOW\n",
+        0,
+    ),
+    ("U 1767225600\nI 20\n", "FOR HIRE T1 Z1\nBAD DRIVE 2\n", 3),
+    ("U 1767225600\nI 20 1", "FOR HIRE T1 Z1\nBAD DRIVE 2\n", 3),
+    ("", "", 0),
+];
+
 #[test]
 fn drives(rt: HostRuntime) -> Result<(), Fail> {
-    for (drive, output, status) in [
-        (
-            FIRST,
-            "FOR HIRE T1 Z1\nHIRED T1 Z1 3.80 +0.00\nHIRED T1 Z1 4.00 +0.00\n",
-            0,
-        ),
-        (
-            "U 1767225600\nK H\nI 0 1\nK H\nI 0 1\n",
-            "FOR HIRE T1 Z1\nHIRED T1 Z1 3.80 +0.00\nREFUSED NOT NOW\n",
-            0,
-        ),
-        (
-            "U 1767225600\nK H\nI 0 1\nI 20 117\nK S\nI 8 1\nK C\nI 0 1\n",
-            "FOR HIRE T1 Z1\nHIRED T1 Z1 3.80 +0.00\nSTOPPED T1 Z1 3.80 +0.00\nFOR HIRE T1 Z1\n",
-            0,
-        ),
-        (
-            "I 5 1\nU 1767225600\nU 1767225600\nI 2001 1\nP 1500\nP 600\n",
-            "REFUSED NOT NOW\nREFUSED NOT NOW\nFOR HIRE T1 Z1\nREFUSED POWERED\nREFUSED TOO FAST 1\nREFUSED TOO FAST 100\n",
-            0,
-        ),
-        (
-            "U 1767225600\nK H\nK S\nI 0 1\n",
-            "FOR HIRE T1 Z1\nREFUSED KEY WAITING\nHIRED T1 Z1 3.80 +0.00\n",
-            0,
-        ),
-        (
-            "U 1767225600\nK S\nI 0 1\n",
-            "FOR HIRE T1 Z1\nREFUSED NOT NOW\n",
-            0,
-        ),
-        ("U 1767225600\nI 20\n", "FOR HIRE T1 Z1\nBAD DRIVE 2\n", 3),
-        ("U 1767225600\nI 20 1", "FOR HIRE T1 Z1\nBAD DRIVE 2\n", 3),
-        ("", "", 0),
-    ] {
+    for (drive, output, status) in DRIVES {
         let mut board = MemoryBoard::new(rt.alloc(), &[0; 2048], &[])?;
         let ended = call(
             rt.alloc(),
@@ -102,24 +105,27 @@ fn drives(rt: HostRuntime) -> Result<(), Fail> {
     Ok(())
 }
 
+/// A command, a constant and a tariff, what the call prints, and its status.
+const CALLS: [(&str, &str, &str, &str, u8); 8] = [
+    ("fare", "499", A, "BAD WORDS\n", 1),
+    ("fare", "200001", A, "BAD WORDS\n", 1),
+    ("fare", "0010000", A, "BAD WORDS\n", 1),
+    ("fare", "", A, "BAD WORDS\n", 1),
+    ("fare", "1e4", A, "BAD WORDS\n", 1),
+    ("Fare", "10000", A, "BAD WORDS\n", 1),
+    ("fare", "010000", "", "BAD TARIFF\n", 2),
+    (
+        "fare",
+        "10000",
+        "step 0.20 ahead\ninitial 3.80 covers 0.40\nrate 0.20 per 117.4 m, 0.20 per 25.2 s\n",
+        "BAD TARIFF\n",
+        2,
+    ),
+];
+
 #[test]
 fn words_and_tariffs(rt: HostRuntime) -> Result<(), Fail> {
-    for (command, constant, tariff, output, status) in [
-        ("fare", "499", A, "BAD WORDS\n", 1),
-        ("fare", "200001", A, "BAD WORDS\n", 1),
-        ("fare", "0010000", A, "BAD WORDS\n", 1),
-        ("fare", "", A, "BAD WORDS\n", 1),
-        ("fare", "1e4", A, "BAD WORDS\n", 1),
-        ("Fare", "10000", A, "BAD WORDS\n", 1),
-        ("fare", "010000", "", "BAD TARIFF\n", 2),
-        (
-            "fare",
-            "10000",
-            "step 0.20 ahead\ninitial 3.80 covers 0.40\nrate 0.20 per 117.4 m, 0.20 per 25.2 s\n",
-            "BAD TARIFF\n",
-            2,
-        ),
-    ] {
+    for (command, constant, tariff, output, status) in CALLS {
         let mut board = MemoryBoard::new(rt.alloc(), &[0; 2048], &[])?;
         let ended = call(
             rt.alloc(),

@@ -47,56 +47,58 @@ fn reads_plain_tariffs(rt: HostRuntime) -> Result<(), Fail> {
     Ok(())
 }
 
+/// Texts that are no plain tariff, and what is wrong with each.
+const BAD: [(&str, &str); 12] = [
+    ("nothing", ""),
+    (
+        "no line of decimals",
+        "step 0.20 ahead\ninitial 3.80 covers 0.40\nrate 0.20 per 117.4 m, 0.20 per 25.2 s\n",
+    ),
+    (
+        "two blanks",
+        "decimals 2\nstep  0.20 ahead\ninitial 3.80 covers 0.40\nrate 0.20 per 117.4 m, 0.20 per 25.2 s\n",
+    ),
+    (
+        "one decimal of two",
+        "decimals 2\nstep 0.2 ahead\ninitial 3.80 covers 0.40\nrate 0.20 per 117.4 m, 0.20 per 25.2 s\n",
+    ),
+    (
+        "a carriage return",
+        "decimals 2\r\nstep 0.20 ahead\ninitial 3.80 covers 0.40\nrate 0.20 per 117.4 m, 0.20 per 25.2 s\n",
+    ),
+    (
+        "no last line feed",
+        "decimals 2\nstep 0.20 ahead\ninitial 3.80 covers 0.40\nrate 0.20 per 117.4 m, 0.20 per 25.2 s",
+    ),
+    (
+        "a comment",
+        "decimals 2 # cents\nstep 0.20 ahead\ninitial 3.80 covers 0.40\nrate 0.20 per 117.4 m, 0.20 per 25.2 s\n",
+    ),
+    (
+        "a measure of zero",
+        "decimals 2\nstep 0.20 ahead\ninitial 3.80 covers 0.40\nrate 0.20 per 0.0 m, 0.20 per 25.2 s\n",
+    ),
+    (
+        "a step of zero",
+        "decimals 2\nstep 0.00 ahead\ninitial 3.80 covers 0.40\nrate 0.20 per 117.4 m, 0.20 per 25.2 s\n",
+    ),
+    (
+        "a large amount",
+        "decimals 2\nstep 0.20 ahead\ninitial 3.80 covers 0.40\nrate 10000.01 per 117.4 m, 0.20 per 25.2 s\n",
+    ),
+    (
+        "no common measure",
+        "decimals 2\nstep 0.20 ahead\ninitial 3.80 covers 0.40\nrate 0.20 per 100000000.0 m, 0.20 per 100000000.1 s\n",
+    ),
+    (
+        "bytes behind the end",
+        "decimals 2\nstep 0.20 ahead\ninitial 3.80 covers 0.40\nrate 0.20 per 117.4 m, 0.20 per 25.2 s\n\n",
+    ),
+];
+
 #[test]
 fn refuses_other_texts(rt: HostRuntime) {
-    let texts = [
-        ("nothing", ""),
-        (
-            "no line of decimals",
-            "step 0.20 ahead\ninitial 3.80 covers 0.40\nrate 0.20 per 117.4 m, 0.20 per 25.2 s\n",
-        ),
-        (
-            "two blanks",
-            "decimals 2\nstep  0.20 ahead\ninitial 3.80 covers 0.40\nrate 0.20 per 117.4 m, 0.20 per 25.2 s\n",
-        ),
-        (
-            "one decimal of two",
-            "decimals 2\nstep 0.2 ahead\ninitial 3.80 covers 0.40\nrate 0.20 per 117.4 m, 0.20 per 25.2 s\n",
-        ),
-        (
-            "a carriage return",
-            "decimals 2\r\nstep 0.20 ahead\ninitial 3.80 covers 0.40\nrate 0.20 per 117.4 m, 0.20 per 25.2 s\n",
-        ),
-        (
-            "no last line feed",
-            "decimals 2\nstep 0.20 ahead\ninitial 3.80 covers 0.40\nrate 0.20 per 117.4 m, 0.20 per 25.2 s",
-        ),
-        (
-            "a comment",
-            "decimals 2 # cents\nstep 0.20 ahead\ninitial 3.80 covers 0.40\nrate 0.20 per 117.4 m, 0.20 per 25.2 s\n",
-        ),
-        (
-            "a measure of zero",
-            "decimals 2\nstep 0.20 ahead\ninitial 3.80 covers 0.40\nrate 0.20 per 0.0 m, 0.20 per 25.2 s\n",
-        ),
-        (
-            "a step of zero",
-            "decimals 2\nstep 0.00 ahead\ninitial 3.80 covers 0.40\nrate 0.20 per 117.4 m, 0.20 per 25.2 s\n",
-        ),
-        (
-            "a large amount",
-            "decimals 2\nstep 0.20 ahead\ninitial 3.80 covers 0.40\nrate 10000.01 per 117.4 m, 0.20 per 25.2 s\n",
-        ),
-        (
-            "no common measure",
-            "decimals 2\nstep 0.20 ahead\ninitial 3.80 covers 0.40\nrate 0.20 per 100000000.0 m, 0.20 per 100000000.1 s\n",
-        ),
-        (
-            "bytes behind the end",
-            "decimals 2\nstep 0.20 ahead\ninitial 3.80 covers 0.40\nrate 0.20 per 117.4 m, 0.20 per 25.2 s\n\n",
-        ),
-    ];
-    for (what, text) in texts {
+    for (what, text) in BAD {
         let read = read_tariff(rt.alloc(), text.as_bytes());
         assert!(rt; matches!(read, Err(TariffFault::Bad)), "{what}");
     }
