@@ -9,3 +9,6 @@ mod shown;
 pub use act::{Act, Acts};
 pub use machine::{Core, acts_are_showable};
 pub use rates::{Rates, charges_follow_the_speed};
+
+#[cfg(test)]
+mod tests;

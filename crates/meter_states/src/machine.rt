@@ -376,5 +376,4 @@ impl Core {
 /// A law: each act of the meter has a text. A display is never shown in Off.
 pub fn acts_are_showable()
     ensures { (r : Rates) (m : Meter) (event : Event) → r.decimals ≤ 3 → All IsShowable (acts_of r m event) }
-{
-}
+{}
