@@ -1,5 +1,14 @@
-pub mod Again
-pub mod Exact
+pub mod AtomLaws
+pub mod ConditionAgain
+pub mod ConditionLaws
+pub mod FigureForms
+pub mod FigureLaws
+pub mod GrammarSteps
+pub mod ItemLaws
+pub mod LineOrder
 pub mod Measures
-pub mod Short
+pub mod ReadsLaws
 pub mod Soundness
+pub mod TokenLaws
+pub mod TokenOrder
+pub mod Tools

@@ -1,6 +1,6 @@
 -- The test of soundness is soundness.
-use Rattle.std.proofs.Common.{◌≡◌, true, refl}
-use Rattle.std.proofs.lemmas.Bool.{and_parts, leb-true, ltb-true, le-leb, lt-ltb}
+use Rattle.std.proofs.Common.{◌≡◌, true}
+use Rattle.std.proofs.lemmas.Bool.{and_parts, leb-true, ltb-true}
 use Rattle.tariff_syntax.specs.Sound.{IsSound, sound_test}
 use Rattle.tariff_syntax.specs.declared.plain.Simple.{Simple}
 
@@ -31,7 +31,3 @@ sound_of s passed =
       time = leb-true _ _ from_time.0;
       common_measure = leb-true _ _ from_time.1;
     }
-
-pub sound_passes : (s : Simple) → IsSound s → sound_test s ≡ true
-sound_passes s sound =
-    rw (le-leb _ _ sound.decimals, lt-ltb _ _ sound.step_above_zero, le-leb _ _ sound.step, lt-ltb _ _ sound.initial, lt-ltb _ _ sound.covers, le-leb _ _ sound.distance_amount, le-leb _ _ sound.time_amount, lt-ltb _ _ sound.distance_above_zero, le-leb _ _ sound.distance, lt-ltb _ _ sound.time_above_zero, le-leb _ _ sound.time, le-leb _ _ sound.common_measure) refl

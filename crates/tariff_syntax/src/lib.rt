@@ -1,18 +1,32 @@
-//! The tariff: its tree, its printed form, and the reader of texts.
+//! The tariff language: the tree of a tariff, its texts and its printed form, and what its conditions mean.
 #![tactic(auto)]
 
+mod atoms;
 mod condition;
+mod conditions;
+mod context;
+mod figures;
+mod items;
+mod laws;
+mod meaning;
 mod measure;
 mod numbers;
+mod parsing;
 mod plain;
 mod printing;
-mod reading;
+mod spelling;
 mod tariff;
-mod text;
+mod tokens;
+mod words;
+mod writing;
 
 pub use condition::Cond;
+pub use context::Context;
+pub use laws::texts_read_as_one_tariff;
+pub use meaning::{initial_of, rate_of, sat};
 pub use measure::{common_measure, common_measures_are_least};
 pub use numbers::simple;
+pub use parsing::{ParseFault, parse};
 pub use plain::Simple;
 pub use tariff::{InitialLine, Item, Lines, RateLine, Tariff, TariffLine};
-pub use text::{TariffFault, read_tariff, tariffs_are_exact};
+pub use writing::print;

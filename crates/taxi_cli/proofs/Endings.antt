@@ -1,36 +1,30 @@
 -- How the parts of a call end together.
-use Rattle.std.proofs.Common.{◌≡◌, ◌≢◌, ℕ, zero, suc, ◌<◌, List, [], ◌++◌, length, take, Option, Some, None, Result, Ok, Err, refl, sym, ap, subst, ◌∙◌, append_assoc, inl, inr}
+use Rattle.std.proofs.Common.{◌≡◌, ◌≢◌, ℕ, zero, suc, List, [], ◌++◌, take, Option, Some, Result, Ok, Err, refl, sym, ap, subst, ◌∙◌, append_assoc, inl, inr}
 use Rattle.std.specs.Prelude.{◌⊎◌}
 use Rattle.std.proofs.lemmas.List.{append-nil}
 use Rattle.outside.specs.Printing.{Begins}
 use Rattle.outside.proofs.Beginnings.{begins_after}
 use Rattle.tariff_syntax.specs.declared.plain.Simple.{Simple}
-use Rattle.tariff_syntax.specs.Simple.{simple_of}
-use Rattle.tariff_syntax.proofs.Short.{long_text_is_none}
-use Rattle.taxi_units.specs.Reading.{◌>>=◌}
 use Rattle.meter_states.specs.Rates.{rates_of}
 use Rattle.taxi_cli.specs.declared.drive.RunFault.{RunFault}
 use Rattle.taxi_cli.specs.declared.drive.RunFault.TheVariants as faults
 use Rattle.taxi_cli.specs.declared.ending.Ended.{Ended}
 use Rattle.taxi_cli.specs.declared.ending.Ended.TheVariants.{Done, BadWords, BadTariff, BadDrive, EndlessDrive, ReadFault, BoardFault, NoMemory}
+use Rattle.taxi_cli.specs.declared.tariff.Refusal.{Refusal}
 use Rattle.taxi_cli.specs.LastLine.{status_of, line_of, read_fault_line, no_memory_line, bad_drive_line, endless_drive_line}
 use Rattle.taxi_cli.specs.Drive.{DriveEnd, Whole, BadAt, Endless, drive_end, drive_text, RunsDrive, ReachesEnd, StopsAfter}
 use Rattle.taxi_cli.specs.Command.{Answer, drive_answer, fare_answer, shown_under, simple_in, row_answer, row_shown}
 use Rattle.taxi_cli.specs.Ending.{EndsAs, IsShown, EndsBefore, ended_by}
 
--- a text above the limit is no tariff
-pub simple-long : (text : List ℕ) → 65536 < length text → simple_in text ≡ None
-simple-long text long = ap (λ o. o >>= simple_of) (long_text_is_none text long)
-
 -- ---- the drive under a tariff
 
 -- the answer where the end of the drive is known
-answer-end : (k : ℕ) (t : Simple) (drive : List ℕ) (reached : DriveEnd) → drive_end drive ≡ reached → fare_answer k (Some t) drive ≡ drive_answer (drive_text (rates_of t k) drive) reached
+answer-end : (k : ℕ) (t : Simple) (drive : List ℕ) (reached : DriveEnd) → drive_end drive ≡ reached → fare_answer k (Ok t) drive ≡ drive_answer (drive_text (rates_of t k) drive) reached
 answer-end k t drive reached e = ap (λ (x : DriveEnd). drive_answer (drive_text (rates_of t k) drive) x) e
 
 shown-end : (told : Type 0) (k : ℕ) (t : Simple) (drive : List ℕ) (reached : DriveEnd) (status : ℕ) (line before now : List ℕ) → ReachesEnd told (rates_of t k) drive reached before now
     → (drive_answer (drive_text (rates_of t k) drive) reached).status ≡ status → (drive_answer (drive_text (rates_of t k) drive) reached).line ≡ line → (drive_answer (drive_text (rates_of t k) drive) reached).shown ≡ drive_text (rates_of t k) drive
-    → IsShown told (fare_answer k (Some t) drive) status line before now
+    → IsShown told (fare_answer k (Ok t) drive) status line before now
 shown-end told k t drive reached status line before now h s l shown =
     let e = answer-end k t drive reached h.end_is in
     record {
@@ -40,18 +34,28 @@ shown-end told k t drive reached status line before now h s l shown =
     }
 
 ran_under : (told : Type 0) (k : ℕ) (t : Simple) (drive left before now : List ℕ) (ran : Result (Unit {0}) RunFault) → RunsDrive told (rates_of t k) drive left ran before now
-    → EndsBefore told (fare_answer k (Some t) drive) (shown_under k (Some t)) drive left (ended_by ran) before now
+    → EndsBefore told (fare_answer k (Ok t) drive) (shown_under k (Ok t)) drive left (ended_by ran) before now
 ran_under told k t drive left before now (Ok u) h = shown-end told k t drive Whole 0 [] before now h refl refl refl
 ran_under told k t drive left before now (Err faults.ReadFault) h = h
 ran_under told k t drive left before now (Err faults.BoardFault) h = h
 ran_under told k t drive left before now (Err (faults.BadDrive n)) h = shown-end told k t drive (BadAt n) 3 (bad_drive_line n) before now h refl refl refl
 ran_under told k t drive left before now (Err faults.TooLong) h = shown-end told k t drive Endless 3 endless_drive_line before now h refl refl refl
 
+-- without a byte nothing is shown
+shows_nothing : (k : ℕ) (o : Result Simple Refusal) → shown_under k o [] ≡ []
+shows_nothing k (Ok t) = refl
+shows_nothing k (Err why) = refl
+
+-- the end of the command where none of its drive was taken
+pub ends-untouched : (told : Type 0) (k : ℕ) (o : Result Simple Refusal) (drive left before : List ℕ) → left ≡ drive → StopsAfter drive left told (λ taken. before ≡ before ++ shown_under k o taken)
+ends-untouched told k o drive left before same =
+    record { taken = []; split = record { bytes = sym same }; printed = λ t. sym (ap (λ (x : List ℕ). before ++ x) (shows_nothing k o) ∙ append-nil before) }
+
 -- the end of the command where its drive was run under the tariff that was found
-pub ends-ran : (told : Type 0) (k : ℕ) (o : Option Simple) (t : Simple) (drive left before now : List ℕ) (ran : Result (Unit {0}) RunFault) → o ≡ Some t → RunsDrive told (rates_of t k) drive left ran before now
+pub ends-ran : (told : Type 0) (k : ℕ) (o : Result Simple Refusal) (t : Simple) (drive left before now : List ℕ) (ran : Result (Unit {0}) RunFault) → o ≡ Ok t → RunsDrive told (rates_of t k) drive left ran before now
     → EndsBefore told (fare_answer k o drive) (shown_under k o) drive left (ended_by ran) before now
 ends-ran told k o t drive left before now ran e h =
-    subst (λ (x : Option Simple). EndsBefore told (fare_answer k x drive) (shown_under k x) drive left (ended_by ran) before now) (sym e) (ran_under told k t drive left before now ran h)
+    subst (λ (x : Result Simple Refusal). EndsBefore told (fare_answer k x drive) (shown_under k x) drive left (ended_by ran) before now) (sym e) (ran_under told k t drive left before now ran h)
 
 -- where a run ended so
 pub read_fault-ran : (ran : Result (Unit {0}) RunFault) → ended_by ran ≡ ReadFault → ran ≡ Err faults.ReadFault
@@ -130,7 +134,7 @@ pub ends-with : (told : Type 0) (answer : Answer) (shown : List ℕ → List ℕ
     → EndsBefore told answer shown drive left ended before mid → Finishes told ended status mid now fault → EndsAs told answer shown drive left status before now
 ends-with told answer shown drive left Done status before mid now fault h f = shown_last told answer shown drive left Done status before mid now fault h f
 ends-with told answer shown drive left BadWords status before mid now fault h f = shown_last told answer shown drive left BadWords status before mid now fault h f
-ends-with told answer shown drive left BadTariff status before mid now fault h f = shown_last told answer shown drive left BadTariff status before mid now fault h f
+ends-with told answer shown drive left (BadTariff why) status before mid now fault h f = shown_last told answer shown drive left (BadTariff why) status before mid now fault h f
 ends-with told answer shown drive left (BadDrive n) status before mid now fault h f = shown_last told answer shown drive left (BadDrive n) status before mid now fault h f
 ends-with told answer shown drive left EndlessDrive status before mid now fault h f = shown_last told answer shown drive left EndlessDrive status before mid now fault h f
 ends-with told answer shown drive left ReadFault status before mid now fault h f = read_last told answer shown drive left status before mid now fault h f

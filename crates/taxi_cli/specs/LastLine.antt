@@ -2,12 +2,17 @@
 use Rattle.std.specs.Prelude.{ℕ, List, [], ◌++◌, codes, decimal}
 use Rattle.taxi_cli.specs.declared.ending.Ended.{Ended}
 use Rattle.taxi_cli.specs.declared.ending.Ended.TheVariants.{Done, BadWords, BadTariff, BadDrive, EndlessDrive, ReadFault, BoardFault, NoMemory}
+use Rattle.taxi_cli.specs.declared.tariff.Refusal.{Refusal}
+use Rattle.taxi_cli.specs.declared.tariff.Refusal.TheVariants.{TooLong, Syntax, NotBuilt}
 
 abbrev pub bad_words_line : List ℕ
 bad_words_line = codes "BAD WORDS\n"
 
-abbrev pub bad_tariff_line : List ℕ
-bad_tariff_line = codes "BAD TARIFF\n"
+-- with the reason, and with the number of the first bad line where there is one
+abbrev pub bad_tariff_line : Refusal → List ℕ
+bad_tariff_line TooLong = codes "BAD TARIFF TooLong\n"
+bad_tariff_line (Syntax line) = codes "BAD TARIFF Syntax " ++ (decimal line ++ codes "\n")
+bad_tariff_line NotBuilt = codes "BAD TARIFF NotBuilt\n"
 
 -- with the number of the first bad line
 abbrev pub bad_drive_line : ℕ → List ℕ
@@ -26,7 +31,7 @@ no_memory_line = codes "NO MEMORY\n"
 abbrev pub status_of : Ended → ℕ
 status_of Done = 0
 status_of BadWords = 1
-status_of BadTariff = 2
+status_of (BadTariff why) = 2
 status_of (BadDrive line) = 3
 status_of EndlessDrive = 3
 status_of ReadFault = 7
@@ -37,7 +42,7 @@ status_of NoMemory = 12
 abbrev pub line_of : Ended → List ℕ
 line_of Done = []
 line_of BadWords = bad_words_line
-line_of BadTariff = bad_tariff_line
+line_of (BadTariff why) = bad_tariff_line why
 line_of (BadDrive line) = bad_drive_line line
 line_of EndlessDrive = endless_drive_line
 line_of ReadFault = read_fault_line

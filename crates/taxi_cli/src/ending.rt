@@ -2,8 +2,9 @@
 ghost use Rattle.std.specs.Prelude.{◌≡◌, ◌⊎◌, ℕ, ◌+◌, ◌≤◌, ◌++◌, []};
 ghost use Rattle.outside.specs.Faults.{Rose};
 ghost use Rattle.outside.specs.Printing.{Begins};
-ghost use Rattle.taxi_cli.specs.LastLine.{status_of, line_of, bad_drive_line};
+ghost use Rattle.taxi_cli.specs.LastLine.{status_of, line_of, bad_tariff_line, bad_drive_line};
 
+use crate::tariff::Refusal;
 use crate::text::{push, push_number};
 use outside::Board;
 use std::sync::ledger::Ledger;
@@ -16,8 +17,8 @@ pub enum Ended {
     Done,
     /// The words are no command.
     BadWords,
-    /// The tariff isn't accepted.
-    BadTariff,
+    /// The tariff isn't accepted, and why.
+    BadTariff(Refusal),
     /// The line of this number is no line of a drive.
     BadDrive(u64),
     /// As many bytes as a drive may have were taken, and its end wasn't reached.
@@ -38,7 +39,7 @@ fn last_line(ended: Ended) -> Line
     match ended {
         Ended::Done => {}
         Ended::BadWords => push(&mut line, b"BAD WORDS\n"),
-        Ended::BadTariff => push(&mut line, b"BAD TARIFF\n"),
+        Ended::BadTariff(why) => push_bad_tariff(&mut line, why),
         Ended::BadDrive(number) => push_bad_drive(&mut line, number),
         Ended::EndlessDrive => push(&mut line, b"BAD DRIVE TOO LONG\n"),
         Ended::ReadFault => push(&mut line, b"READ FAULT\n"),
@@ -46,6 +47,22 @@ fn last_line(ended: Ended) -> Line
         Ended::NoMemory => push(&mut line, b"NO MEMORY\n"),
     }
     line
+}
+
+/// Appends the line of a tariff that isn't accepted.
+fn push_bad_tariff(line: &mut Line, why: Refusal)
+    requires { line.old.items ≡ [] }
+    ensures { line.new.items ≡ bad_tariff_line why }
+{
+    match why {
+        Refusal::TooLong => push(line, b"BAD TARIFF TooLong\n"),
+        Refusal::Syntax(number) => {
+            push(line, b"BAD TARIFF Syntax ");
+            push_number(line, number as u64);
+            push(line, b"\n");
+        }
+        Refusal::NotBuilt => push(line, b"BAD TARIFF NotBuilt\n"),
+    }
 }
 
 /// Appends the line of a bad drive.
@@ -65,7 +82,7 @@ fn status(ended: Ended) -> u8
     match ended {
         Ended::Done => 0,
         Ended::BadWords => 1,
-        Ended::BadTariff => 2,
+        Ended::BadTariff(_) => 2,
         Ended::BadDrive(_) => 3,
         Ended::EndlessDrive => 3,
         Ended::ReadFault => 7,

@@ -1,5 +1,5 @@
 //! The command `fare`.
-ghost use Rattle.std.specs.Prelude.{◌≡◌, ◌≢◌, ◌⊎◌, ℕ, ◌+◌, ◌≤◌, List, [], Some};
+ghost use Rattle.std.specs.Prelude.{◌≡◌, ◌≢◌, ◌⊎◌, ℕ, ◌+◌, ◌≤◌, List, []};
 ghost use Rattle.outside.specs.Faults.{Rose};
 ghost use Rattle.taxi_cli.specs.Drive.{IsBoundedBy};
 ghost use Rattle.taxi_cli.specs.Command.{fare_answer, shown_under, simple_in};
@@ -34,7 +34,7 @@ pub fn fare<F: Files, B: Board, L: Ledger>(
     let simple = match read_simple(alloc, files, 1) {
         Ok(simple) => simple,
         Err(TextFault::ReadFault) => return Ended::ReadFault,
-        Err(TextFault::Bad) => return Ended::BadTariff,
+        Err(TextFault::Refused(why)) => return Ended::BadTariff(why),
         Err(TextFault::NoMemory) => return Ended::NoMemory,
     };
     let rates = Rates::new(&simple, constant);

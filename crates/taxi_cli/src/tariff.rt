@@ -1,20 +1,31 @@
 //! Reads the tariff of a word.
-ghost use Rattle.std.specs.Prelude.{◌≡◌, ◌≢◌, ℕ, ◌+◌, ◌-◌, ◌<◌, ◌≤◌, ◌^◌, ◌++◌, List, [], length, IfOk, OnOk, IfErr, Some, None, Err, vec_len};
+ghost use Rattle.std.specs.Prelude.{◌≡◌, ◌≢◌, ℕ, ◌+◌, ◌-◌, ◌<◌, ◌≤◌, ◌^◌, ◌++◌, List, [], length, IfOk, OnOk, IfErr, Ok, Err, vec_len};
 ghost use Rattle.outside.specs.Faults.{Rose};
 ghost use Rattle.tariff_syntax.specs.Sound.{IsSound};
 ghost use Rattle.taxi_cli.specs.Command.{simple_in};
 
 use outside::Files;
 use std::alloc::Global;
-use tariff_syntax::{Simple, TariffFault, read_tariff, simple};
+use tariff_syntax::{ParseFault, Simple, parse, simple};
+
+/// Why a tariff isn't accepted.
+#[derive(Clone, Copy, Debug, PartialEq, Eq)]
+pub enum Refusal {
+    /// It has more than 65,536 bytes.
+    TooLong,
+    /// The line of this number is the first that is no line of a tariff.
+    Syntax(u32),
+    /// It isn't one that this program carries out yet.
+    NotBuilt,
+}
 
 /// Why a text wasn't read.
 #[derive(Clone, Copy, Debug, PartialEq, Eq)]
 pub enum TextFault {
     /// A read failed.
     ReadFault,
-    /// The text isn't accepted.
-    Bad,
+    /// The tariff isn't accepted.
+    Refused(Refusal),
     /// Memory ran out.
     NoMemory,
 }
@@ -22,10 +33,10 @@ pub enum TextFault {
 /// A tariff has at most so many bytes.
 const MOST: usize = 65_536;
 
-/// Reads what is left of a word's file, where it has at most 65,536 bytes. `Bad` where it has more.
+/// Reads what is left of a word's file, where it has at most 65,536 bytes. `Refused` where it has more.
 fn read_text<F: Files>(alloc: Global, files: &mut F, word: usize) -> Result<Vec<u8>, TextFault>
     ensures text { F.tells → IfOk result (λ text. text.items ≡ F.rest files.old word) }
-    ensures long { F.tells → result ≡ Err TextFault.Bad → 65536 < length (F.rest files.old word) }
+    ensures refused { (why : Refusal) → F.tells → result ≡ Err (TextFault.Refused why) → simple_in (F.rest files.old word) ≡ Err why }
     ensures read_fault { result ≡ Err TextFault.ReadFault → Rose (F.faults files.old word) (F.faults files.new word) }
     ensures others { (other : ℕ) → other ≢ word → F.rest files.new other ≡ F.rest files.old other }
     ensures counts { (other : ℕ) → F.faults files.old other ≤ F.faults files.new other }
@@ -42,32 +53,33 @@ fn read_text<F: Files>(alloc: Global, files: &mut F, word: usize) -> Result<Vec<
             return Err(TextFault::NoMemory);
         };
     }
-    Err(TextFault::Bad)
+    Err(TextFault::Refused(Refusal::TooLong))
 }
 
-/// The numbers of the tariff that a text is, where it is the printed form of a sound tariff of one
-/// step, one initial and one rate.
+/// The numbers of the plain tariff that a text is.
+#[tactic(auto, using(crate::proofs::Plain::syntax_of))]
 fn simple_of_text(alloc: Global, text: &[u8]) -> Result<Simple, TextFault>
-    ensures found { IfOk result (λ t. simple_in text.now ≡ Some t) }
+    ensures found { IfOk result (λ t. simple_in text.now ≡ Ok t) }
     ensures sound { IfOk result IsSound }
-    ensures bad { result ≡ Err TextFault.Bad → simple_in text.now ≡ None }
+    ensures refused { (why : Refusal) → result ≡ Err (TextFault.Refused why) → simple_in text.now ≡ Err why }
     ensures read { result ≢ Err TextFault.ReadFault }
 {
-    match read_tariff(alloc, text) {
+    match parse(alloc, text) {
         Ok(tariff) => match simple(&tariff) {
             Some(simple) => Ok(simple),
-            None => Err(TextFault::Bad),
+            None => Err(TextFault::Refused(Refusal::NotBuilt)),
         },
-        Err(TariffFault::Bad) => Err(TextFault::Bad),
-        Err(TariffFault::NoMemory) => Err(TextFault::NoMemory),
+        Err(ParseFault::TooLong) => Err(TextFault::Refused(Refusal::TooLong)),
+        Err(ParseFault::Syntax { line }) => Err(TextFault::Refused(Refusal::Syntax(line))),
+        Err(ParseFault::NoMemory) => Err(TextFault::NoMemory),
     }
 }
 
 /// Reads the tariff of a word.
 pub fn read_simple<F: Files>(alloc: Global, files: &mut F, word: usize) -> Result<Simple, TextFault>
-    ensures found { F.tells → IfOk result (λ t. simple_in (F.rest files.old word) ≡ Some t) }
+    ensures found { F.tells → IfOk result (λ t. simple_in (F.rest files.old word) ≡ Ok t) }
     ensures sound { IfOk result IsSound }
-    ensures bad { F.tells → result ≡ Err TextFault.Bad → simple_in (F.rest files.old word) ≡ None }
+    ensures refused { (why : Refusal) → F.tells → result ≡ Err (TextFault.Refused why) → simple_in (F.rest files.old word) ≡ Err why }
     ensures read_fault { result ≡ Err TextFault.ReadFault → Rose (F.faults files.old word) (F.faults files.new word) }
     ensures others { (other : ℕ) → other ≢ word → F.rest files.new other ≡ F.rest files.old other }
     ensures counts { (other : ℕ) → F.faults files.old other ≤ F.faults files.new other }

@@ -105,38 +105,119 @@ fn drives(rt: HostRuntime) -> Result<(), Fail> {
     Ok(())
 }
 
-/// A command, a constant and a tariff, what the call prints, and its status.
-const CALLS: [(&str, &str, &str, &str, u8); 8] = [
-    ("fare", "499", A, "BAD WORDS\n", 1),
-    ("fare", "200001", A, "BAD WORDS\n", 1),
-    ("fare", "0010000", A, "BAD WORDS\n", 1),
-    ("fare", "", A, "BAD WORDS\n", 1),
-    ("fare", "1e4", A, "BAD WORDS\n", 1),
-    ("Fare", "10000", A, "BAD WORDS\n", 1),
-    ("fare", "010000", "", "BAD TARIFF\n", 2),
+/// Tariffs, what the first drive prints under them and a constant of 10,000, and the status.
+const TARIFFS: [(&str, &str, u8); 12] = [
     (
-        "fare",
-        "10000",
-        "step 0.20 ahead\ninitial 3.80 covers 0.40\nrate 0.20 per 117.4 m, 0.20 per 25.2 s\n",
-        "BAD TARIFF\n",
+        "rate 0.20 per 117.4 m, 0.2 per 25.2 s\r\n\t# by day and by night\n\ninitial 3.80 covers .40\nstep 0.2 ahead",
+        "BAD TARIFF Syntax 4\n",
+        2,
+    ),
+    (
+        "rate 0.20 per 117.4 m, 0.2 per 25.2 s\r\n\t# by day and by night\n\ninitial 3.80 covers 0.4\nstep 0.2 ahead",
+        "FOR HIRE T1 Z1\nHIRED T1 Z1 3.80 +0.00\nHIRED T1 Z1 4.00 +0.00\n",
+        0,
+    ),
+    (
+        "step 0.20\ninitial 3.80 covers 0.20\nrate 0.20 per 117.4 m, 0.20 per 25.2 s\n",
+        "FOR HIRE T1 Z1\nHIRED T1 Z1 3.80 +0.00\nHIRED T1 Z1 4.00 +0.00\n",
+        0,
+    ),
+    (
+        "decimals 2\nstep 0.205 ahead\ninitial 3.80 covers 0.40\nrate 0.20 per 117.4 m, 0.20 per 25.2 s\n",
+        "BAD TARIFF Syntax 2\n",
+        2,
+    ),
+    (
+        "decimals 2\nstep 0.20\ndecimals 2\n",
+        "BAD TARIFF Syntax 3\n",
+        2,
+    ),
+    ("", "BAD TARIFF NotBuilt\n", 2),
+    ("decimals 2\nstep 0.20 ahead\n", "BAD TARIFF NotBuilt\n", 2),
+    (
+        "step 0.00\ninitial 3.80\nrate 0.20 per 117.4 m, 0.20 per 25.2 s\n",
+        "BAD TARIFF NotBuilt\n",
+        2,
+    ),
+    (
+        "step 0.20\ninitial 3.80\nrate 0.20 per 0.0 m, 0.20 per 25.2 s\n",
+        "BAD TARIFF NotBuilt\n",
+        2,
+    ),
+    (
+        "step 0.20\ninitial 3.80\nrate 0.20 per 117.4 m, 0.20 per 25.2 s when day sun\n",
+        "BAD TARIFF NotBuilt\n",
+        2,
+    ),
+    (
+        "step 0.20\nstep 0.20\nrate 0.20 per 117.4 m, 0.20 per 25.2 s\n",
+        "BAD TARIFF NotBuilt\n",
+        2,
+    ),
+    (
+        "step 0.20\ninitial 3.80\nrate 0.20 per 117.4 m, 0.20 per 25.2 s\npositions 1\n",
+        "BAD TARIFF NotBuilt\n",
         2,
     ),
 ];
 
 #[test]
-fn words_and_tariffs(rt: HostRuntime) -> Result<(), Fail> {
-    for (command, constant, tariff, output, status) in CALLS {
+fn tariffs(rt: HostRuntime) -> Result<(), Fail> {
+    for (tariff, output, status) in TARIFFS {
         let mut board = MemoryBoard::new(rt.alloc(), &[0; 2048], &[])?;
-        let ended = call(
+        let words = ["fare", "t", "d", "10000"];
+        let ended = call(rt.alloc(), &words, tariff, FIRST, &[], &mut board)?;
+        assert_eq!(rt; ended, status, "{tariff}");
+        assert_eq!(rt; board.printed(), output.as_bytes(), "{tariff}");
+    }
+    // A tariff and a comment behind it, of 65,536 bytes in all, and one byte more.
+    for (surplus, first) in [
+        (0, b"FOR HIRE T1 Z1\n".as_slice()),
+        (1, b"BAD TARIFF TooLong\n"),
+    ] {
+        let mut long = String::from_str(rt.alloc(), A)?;
+        for _ in 0..65_536 - A.len() + surplus {
+            long.push('#')?;
+        }
+        let mut board = MemoryBoard::new(rt.alloc(), &[0; 2048], &[])?;
+        call(
             rt.alloc(),
-            &[command, "t", "d", constant],
-            tariff,
-            FIRST,
+            &["fare", "t", "d", "10000"],
+            long.as_str(),
+            "U 1767225600\n",
             &[],
             &mut board,
         )?;
-        assert_eq!(rt; ended, status, "{command} {constant}");
-        assert_eq!(rt; board.printed(), output.as_bytes(), "{command} {constant}");
+        assert_eq!(rt; board.printed(), first);
+    }
+    Ok(())
+}
+
+/// Words that are no command, with a tariff and a drive that would be taken.
+const CALLS: [(&str, &str); 6] = [
+    ("fare", "499"),
+    ("fare", "200001"),
+    ("fare", "0010000"),
+    ("fare", ""),
+    ("fare", "1e4"),
+    ("Fare", "10000"),
+];
+
+#[test]
+fn words(rt: HostRuntime) -> Result<(), Fail> {
+    for (command, constant) in CALLS {
+        let mut board = MemoryBoard::new(rt.alloc(), &[0; 2048], &[])?;
+        let words = [command, "t", "d", constant];
+        assert_eq!(rt;
+            call(rt.alloc(), &words, A, FIRST, &[], &mut board)?,
+            1,
+            "{command} {constant}"
+        );
+        assert_eq!(rt;
+            board.printed(),
+            b"BAD WORDS\n".as_slice(),
+            "{command} {constant}"
+        );
     }
     let mut board = MemoryBoard::new(rt.alloc(), &[0; 2048], &[])?;
     assert_eq!(rt; call(rt.alloc(), &[], A, FIRST, &[], &mut board)?, 1);

@@ -45,7 +45,7 @@ fn answer<F: Files, B: Board, L: Ledger>(
 /// |---|---|---|
 /// | 0 | none | the drive was read to its end |
 /// | 1 | `BAD WORDS` | exactly: the words are no command |
-/// | 2 | `BAD TARIFF` | exactly: the tariff isn't accepted |
+/// | 2 | `BAD TARIFF TooLong`, `BAD TARIFF Syntax n`, `BAD TARIFF NotBuilt` | exactly: the tariff has more than 65,536 bytes; its line n is the first that is no line of a tariff; it is none that the program carries out yet |
 /// | 3 | `BAD DRIVE n`, `BAD DRIVE TOO LONG` | exactly: line n is the first that is no line of a drive; 2^40 bytes were taken, and the end wasn't told |
 /// | 7 | `READ FAULT` | only where the count of faults of a file that the command reads rose |
 /// | 8 | none | only where the board's count of faults rose |

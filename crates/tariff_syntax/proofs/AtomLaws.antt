@@ -1,0 +1,270 @@
+-- Atoms are read from their forms.
+use Rattle.std.proofs.Common.{◌≡◌, ◌⊎◌, inl, inr, ℕ, ◌≤◌, true, List, [], ◌∷◌, ◌++◌, Option, Some, None, refl, ap, sym, ◌∙◌, subst, arith, codes}
+use Rattle.std.specs.Str.{bytes_eq}
+use Rattle.std.proofs.lemmas.Bool.{cases_eq}
+use Rattle.tariff_syntax.specs.Atom.{weekday_of, weekday_first, numbered_first, time_first, until_weekday, days_first, dates_first, by_unit, after_first, atom_named}
+use Rattle.tariff_syntax.specs.Condition.{Condition, and, or, not, position, zone, time, day, date, holiday, after_distance, after_time}
+use Rattle.tariff_syntax.specs.Figure.{small_number, amount_of, minute_of, date_of, number_first, amount_first, minute_first, date_first}
+use Rattle.tariff_syntax.specs.Forms.{IsNumber, IsDate, IsMinute, IsAmount, IsWeekday, AreWeekdays, IsAtom}
+use Rattle.tariff_syntax.specs.Grammar.{Reader, factor_by, weight}
+use Rattle.tariff_syntax.specs.PrintedCondition.{day_word}
+use Rattle.tariff_syntax.specs.Token.{Token, word, figure, sign}
+use Rattle.tariff_syntax.specs.Words.{after_word, after_sign, word_first}
+use Rattle.tariff_syntax.proofs.FigureLaws.{small_is, small_again, pair_is, date_again, minute_is, minute_again, amount_is, amount_again, figure_as_is, figure_as_here}
+use Rattle.tariff_syntax.proofs.Tools.{bind_some, chosen, same_text, after_word_is, after_word_here, after_sign_is, after_sign_here, word_first_is, word_first_here, some_same}
+
+pub number_is : (least most : ℕ) (ts : List Token) (x : ℕ × List Token) → number_first least most ts ≡ Some x → (f : List ℕ) × (ts ≡ figure f ∷ x.1) × IsNumber least most f x.0
+unfolding number_first
+number_is least most ts x e = let is = figure_as_is (small_number least most) ts x e in (is.0, is.1, small_is least most is.0 x.0 is.2)
+
+pub number_here : (least most : ℕ) (f : List ℕ) (n : ℕ) (rest : List Token) → IsNumber least most f n → number_first least most (figure f ∷ rest) ≡ Some (n, rest)
+unfolding number_first
+number_here least most f n rest h = figure_as_here (small_number least most) f n rest (small_again least most f n h)
+
+pub amounts_are : (decimals : ℕ) (ts : List Token) (x : ℕ × List Token) → amount_first decimals ts ≡ Some x → (f : List ℕ) × (ts ≡ figure f ∷ x.1) × IsAmount decimals f x.0
+unfolding amount_first
+amounts_are decimals ts x e = let is = figure_as_is (amount_of decimals) ts x e in (is.0, is.1, amount_is decimals is.0 x.0 is.2)
+
+pub amount_here : (decimals : ℕ) (f : List ℕ) (n : ℕ) (rest : List Token) → IsAmount decimals f n → amount_first decimals (figure f ∷ rest) ≡ Some (n, rest)
+unfolding amount_first
+amount_here decimals f n rest h = figure_as_here (amount_of decimals) f n rest (amount_again decimals f n h)
+
+minutes_are : (ts : List Token) (x : ℕ × List Token) → minute_first ts ≡ Some x → (f : List ℕ) × (ts ≡ figure f ∷ x.1) × IsMinute f x.0
+unfolding minute_first
+minutes_are ts x e = let is = figure_as_is minute_of ts x e in (is.0, is.1, minute_is is.0 x.0 is.2)
+
+minute_here : (f : List ℕ) (n : ℕ) (rest : List Token) → IsMinute f n → minute_first (figure f ∷ rest) ≡ Some (n, rest)
+unfolding minute_first
+minute_here f n rest h = figure_as_here minute_of f n rest (minute_again f n h)
+
+dates_are : (ts : List Token) (x : (ℕ × ℕ) × List Token) → date_first ts ≡ Some x → (f : List ℕ) × (ts ≡ figure f ∷ x.1) × IsDate f x.0.0 x.0.1
+unfolding date_first
+dates_are ts x e = let is = figure_as_is date_of ts x e in (is.0, is.1, pair_is (codes "-") is.0 x.0.0 x.0.1 is.2)
+
+date_here : (f : List ℕ) (m n : ℕ) (rest : List Token) → IsDate f m n → date_first (figure f ∷ rest) ≡ Some ((m, n), rest)
+unfolding date_first
+date_here f m n rest h = figure_as_here date_of f (m, n) rest (date_again f m n h)
+
+seven : (n : ℕ) → 1 ≤ n → n ≤ 7 → (n ≡ 1) ⊎ ((n ≡ 2) ⊎ ((n ≡ 3) ⊎ ((n ≡ 4) ⊎ ((n ≡ 5) ⊎ ((n ≡ 6) ⊎ (n ≡ 7))))))
+seven n low high = elim (cases_eq n 1) [ inl e ↦ inl e | inr a ↦ inr (elim (cases_eq n 2) [ inl e ↦ inl e | inr b ↦ inr (elim (cases_eq n 3) [ inl e ↦ inl e | inr c ↦ inr (elim (cases_eq n 4) [ inl e ↦ inl e | inr d ↦ inr (elim (cases_eq n 5) [ inl e ↦ inl e | inr f ↦ inr (elim (cases_eq n 6) [ inl e ↦ inl e | inr g ↦ inr (let last : n ≡ 7 = omega arith in last) ]) ]) ]) ]) ]) ]
+
+named_day : (name text : List ℕ) (k n : ℕ) → 1 ≤ k → k ≤ 7 → text ≡ day_word k → bytes_eq name text ≡ true → Some k ≡ Some n → IsWeekday name n
+named_day name text k n low high is e same =
+    let number : k ≡ n = cc in
+    subst (IsWeekday name) number (low, high, same_text name text e ∙ is)
+
+pub weekday_is : (name : List ℕ) (n : ℕ) → weekday_of name ≡ Some n → IsWeekday name n
+weekday_is name n e = elim (chosen (bytes_eq name (codes "mon")) (Some 1) _ (Some n) e) [
+  | inl a ↦ named_day name (codes "mon") 1 n (omega arith) (omega arith) refl a.0 a.1
+  | inr a ↦ elim (chosen (bytes_eq name (codes "tue")) (Some 2) _ (Some n) a.1) [
+    | inl b ↦ named_day name (codes "tue") 2 n (omega arith) (omega arith) refl b.0 b.1
+    | inr b ↦ elim (chosen (bytes_eq name (codes "wed")) (Some 3) _ (Some n) b.1) [
+      | inl c ↦ named_day name (codes "wed") 3 n (omega arith) (omega arith) refl c.0 c.1
+      | inr c ↦ elim (chosen (bytes_eq name (codes "thu")) (Some 4) _ (Some n) c.1) [
+        | inl d ↦ named_day name (codes "thu") 4 n (omega arith) (omega arith) refl d.0 d.1
+        | inr d ↦ elim (chosen (bytes_eq name (codes "fri")) (Some 5) _ (Some n) d.1) [
+          | inl f ↦ named_day name (codes "fri") 5 n (omega arith) (omega arith) refl f.0 f.1
+          | inr f ↦ elim (chosen (bytes_eq name (codes "sat")) (Some 6) _ (Some n) f.1) [
+            | inl g ↦ named_day name (codes "sat") 6 n (omega arith) (omega arith) refl g.0 g.1
+            | inr g ↦ elim (chosen (bytes_eq name (codes "sun")) (Some 7) None (Some n) g.1) [
+              | inl h ↦ named_day name (codes "sun") 7 n (omega arith) (omega arith) refl h.0 h.1
+              | inr h ↦ absurd (let e : None ≡ Some n = h.1 in cc)
+            ]
+          ]
+        ]
+      ]
+    ]
+  ]
+]
+
+day_again : (n : ℕ) → 1 ≤ n → n ≤ 7 → weekday_of (day_word n) ≡ Some n
+day_again n low high = elim (seven n low high) [
+  | inl e ↦ rw e refl
+  | inr a ↦ elim a [
+    | inl e ↦ rw e refl
+    | inr b ↦ elim b [
+      | inl e ↦ rw e refl
+      | inr c ↦ elim c [
+        | inl e ↦ rw e refl
+        | inr d ↦ elim d [
+          | inl e ↦ rw e refl
+          | inr f ↦ elim f [ inl e ↦ rw e refl | inr e ↦ rw e refl ]
+        ]
+      ]
+    ]
+  ]
+]
+
+weekday_again : (name : List ℕ) (n : ℕ) → IsWeekday name n → weekday_of name ≡ Some n
+weekday_again name n h = ap weekday_of h.2 ∙ day_again n h.0 h.1
+
+weekdays_are : (ts : List Token) (x : ℕ × List Token) → weekday_first ts ≡ Some x → (name : List ℕ) × (ts ≡ word name ∷ x.1) × IsWeekday name x.0
+unfolding weekday_first
+weekdays_are ts x e =
+    let one = bind_some (word_first ts) _ x e in
+    let two = bind_some (weekday_of one.0.0) _ x one.2 in
+    let found = some_same (two.0, one.0.1) x two.2 in
+    let value : two.0 ≡ x.0 = ap (λ (p : ℕ × List Token). p.0) found in
+    let rest : one.0.1 ≡ x.1 = ap (λ (p : ℕ × List Token). p.1) found in
+    (one.0.0, word_first_is ts one.0 one.1 ∙ ap (λ (r : List Token). word one.0.0 ∷ r) rest, weekday_is one.0.0 x.0 (two.1 ∙ ap Some value))
+
+weekday_here : (name : List ℕ) (n : ℕ) (rest : List Token) → IsWeekday name n → weekday_first (word name ∷ rest) ≡ Some (n, rest)
+unfolding weekday_first
+weekday_here name n rest h = rw (word_first_here name rest, weekday_again name n h) refl
+
+-- an atom was read: the tokens that it used
+abbrev Used : (name : List ℕ) → List Token → Condition × List Token → Type 0
+Used name ts x = (used : List Token) × (ts ≡ used ++ x.1) × IsAtom (word name ∷ used) x.0
+
+position_is : (ts : List Token) (x : Condition × List Token) → numbered_first position ts ≡ Some x → Used (codes "position") ts x
+unfolding numbered_first
+position_is ts x e =
+    let one = bind_some (number_first 1 9 ts) _ x e in
+    let found = some_same (position one.0.0, one.0.1) x one.2 in
+    let is = number_is 1 9 ts one.0 one.1 in
+    subst (Used (codes "position") ts) found (figure is.0 ∷ [], is.1, (is.0, refl, is.2))
+
+zone_is : (ts : List Token) (x : Condition × List Token) → numbered_first zone ts ≡ Some x → Used (codes "zone") ts x
+unfolding numbered_first
+zone_is ts x e =
+    let one = bind_some (number_first 1 9 ts) _ x e in
+    let found = some_same (zone one.0.0, one.0.1) x one.2 in
+    let is = number_is 1 9 ts one.0 one.1 in
+    subst (Used (codes "zone") ts) found (figure is.0 ∷ [], is.1, (is.0, refl, is.2))
+
+time_is : (ts : List Token) (x : Condition × List Token) → time_first ts ≡ Some x → Used (codes "time") ts x
+unfolding time_first
+time_is ts x e =
+    let one = bind_some (minute_first ts) _ x e in
+    let two = bind_some (after_sign (codes "..") one.0.1) _ x one.2 in
+    let three = bind_some (minute_first two.0) _ x two.2 in
+    let found = some_same (time one.0.0 three.0.0, three.0.1) x three.2 in
+    let a = minutes_are ts one.0 one.1 in
+    let b = minutes_are two.0 three.0 three.1 in
+    let dots = after_sign_is (codes "..") one.0.1 two.0 two.1 in
+    let all : ts ≡ figure a.0 ∷ sign (codes "..") ∷ figure b.0 ∷ three.0.1 = a.1 ∙ ap (λ (r : List Token). figure a.0 ∷ r) (dots ∙ ap (λ (r : List Token). sign (codes "..") ∷ r) b.1) in
+    subst (Used (codes "time") ts) found (figure a.0 ∷ sign (codes "..") ∷ figure b.0 ∷ [], all, (a.0, b.0, refl, a.2, b.2))
+
+date_is : (ts : List Token) (x : Condition × List Token) → dates_first ts ≡ Some x → Used (codes "date") ts x
+unfolding dates_first
+date_is ts x e =
+    let one = bind_some (date_first ts) _ x e in
+    let two = bind_some (after_sign (codes "..") one.0.1) _ x one.2 in
+    let three = bind_some (date_first two.0) _ x two.2 in
+    let found = some_same (date one.0.0.0 one.0.0.1 three.0.0.0 three.0.0.1, three.0.1) x three.2 in
+    let a = dates_are ts one.0 one.1 in
+    let b = dates_are two.0 three.0 three.1 in
+    let dots = after_sign_is (codes "..") one.0.1 two.0 two.1 in
+    let all : ts ≡ figure a.0 ∷ sign (codes "..") ∷ figure b.0 ∷ three.0.1 = a.1 ∙ ap (λ (r : List Token). figure a.0 ∷ r) (dots ∙ ap (λ (r : List Token). sign (codes "..") ∷ r) b.1) in
+    subst (Used (codes "date") ts) found (figure a.0 ∷ sign (codes "..") ∷ figure b.0 ∷ [], all, (a.0, b.0, refl, a.2, b.2))
+
+until_is : (from : ℕ) (first : List ℕ) (ts : List Token) (more : Option (List Token)) (x : Condition × List Token) → IsWeekday first from → after_sign (codes "..") ts ≡ more → until_weekday from ts more ≡ Some x → Used (codes "day") (word first ∷ ts) x
+until_is from first ts None x h dots e =
+    let found = some_same (day from from, ts) x e in
+    subst (Used (codes "day") (word first ∷ ts)) found (word first ∷ [], refl, (word first ∷ [], refl, inl (first, refl, h, refl)))
+until_is from first ts (Some rest) x h dots e =
+    let one = bind_some (weekday_first rest) _ x e in
+    let found = some_same (day from one.0.0, one.0.1) x one.2 in
+    let b = weekdays_are rest one.0 one.1 in
+    let all : word first ∷ ts ≡ word first ∷ sign (codes "..") ∷ word b.0 ∷ one.0.1 = ap (λ (r : List Token). word first ∷ r) (after_sign_is (codes "..") ts rest dots ∙ ap (λ (r : List Token). sign (codes "..") ∷ r) b.1) in
+    let days = word first ∷ sign (codes "..") ∷ word b.0 ∷ [] in
+    subst (Used (codes "day") (word first ∷ ts)) found (days, all, (days, refl, inr (first, b.0, refl, h, b.2)))
+
+days_are : (ts : List Token) (x : Condition × List Token) → days_first ts ≡ Some x → Used (codes "day") ts x
+unfolding days_first
+days_are ts x e =
+    let one = bind_some (weekday_first ts) _ x e in
+    let a = weekdays_are ts one.0 one.1 in
+    let is = until_is one.0.0 a.0 one.0.1 (after_sign (codes "..") one.0.1) x a.2 refl one.2 in
+    (is.0, a.1 ∙ is.1, is.2)
+
+unit_is : (n : ℕ) (f : List ℕ) (ts : List Token) (more : Option (List Token)) (x : Condition × List Token) → IsAmount 1 f n → after_word (codes "m") ts ≡ more → by_unit n ts more ≡ Some x → Used (codes "after") (figure f ∷ ts) x
+unit_is n f ts (Some rest) x h unit e =
+    let found = some_same (after_distance n, rest) x e in
+    let all = ap (λ (r : List Token). figure f ∷ r) (after_word_is (codes "m") ts rest unit) in
+    subst (Used (codes "after") (figure f ∷ ts)) found (figure f ∷ word (codes "m") ∷ [], all, (f, refl, h))
+unit_is n f ts None x h unit e =
+    let one = bind_some (after_word (codes "s") ts) _ x e in
+    let found = some_same (after_time n, one.0) x one.2 in
+    let all = ap (λ (r : List Token). figure f ∷ r) (after_word_is (codes "s") ts one.0 one.1) in
+    subst (Used (codes "after") (figure f ∷ ts)) found (figure f ∷ word (codes "s") ∷ [], all, (f, refl, h))
+
+after_is : (ts : List Token) (x : Condition × List Token) → after_first ts ≡ Some x → Used (codes "after") ts x
+unfolding after_first
+after_is ts x e =
+    let one = bind_some (amount_first 1 ts) _ x e in
+    let a = amounts_are 1 ts one.0 one.1 in
+    let is = unit_is one.0.0 a.0 one.0.1 (after_word (codes "m") one.0.1) x a.2 refl one.2 in
+    (is.0, a.1 ∙ is.1, is.2)
+
+named : (name text : List ℕ) (ts : List Token) (x : Condition × List Token) → bytes_eq name text ≡ true → Used text ts x → Used name ts x
+named name text ts x same h = subst (λ (w : List ℕ). Used w ts x) (sym (same_text name text same)) h
+
+-- an atom that is read has the form of one
+pub atom_is : (name : List ℕ) (ts : List Token) (x : Condition × List Token) → atom_named name ts ≡ Some x → (used : List Token) × (ts ≡ used ++ x.1) × IsAtom (word name ∷ used) x.0
+unfolding atom_named
+atom_is name ts x e = elim (chosen (bytes_eq name (codes "position")) (numbered_first position ts) _ (Some x) e) [
+  | inl a ↦ named name (codes "position") ts x a.0 (position_is ts x a.1)
+  | inr a ↦ elim (chosen (bytes_eq name (codes "zone")) (numbered_first zone ts) _ (Some x) a.1) [
+    | inl b ↦ named name (codes "zone") ts x b.0 (zone_is ts x b.1)
+    | inr b ↦ elim (chosen (bytes_eq name (codes "time")) (time_first ts) _ (Some x) b.1) [
+      | inl c ↦ named name (codes "time") ts x c.0 (time_is ts x c.1)
+      | inr c ↦ elim (chosen (bytes_eq name (codes "day")) (days_first ts) _ (Some x) c.1) [
+        | inl d ↦ named name (codes "day") ts x d.0 (days_are ts x d.1)
+        | inr d ↦ elim (chosen (bytes_eq name (codes "date")) (dates_first ts) _ (Some x) d.1) [
+          | inl f ↦ named name (codes "date") ts x f.0 (date_is ts x f.1)
+          | inr f ↦ elim (chosen (bytes_eq name (codes "holiday")) (Some (holiday, ts)) _ (Some x) f.1) [
+            | inl g ↦ named name (codes "holiday") ts x g.0 (subst (Used (codes "holiday") ts) (some_same (holiday, ts) x g.1) ([], refl, refl))
+            | inr g ↦ elim (chosen (bytes_eq name (codes "after")) (after_first ts) None (Some x) g.1) [
+              | inl h ↦ named name (codes "after") ts x h.0 (after_is ts x h.1)
+              | inr h ↦ absurd (let e : None ≡ Some x = h.1 in cc)
+            ]
+          ]
+        ]
+      ]
+    ]
+  ]
+]
+
+days_again : (days : List Token) (from to : ℕ) (rest : List Token) → after_sign (codes "..") rest ≡ None → AreWeekdays days from to → days_first (days ++ rest) ≡ Some (day from to, rest)
+unfolding days_first
+days_again days from to rest stops (inl h) = rw (h.1, weekday_here h.0 from rest h.2, stops, h.3) refl
+days_again days from to rest stops (inr h) =
+    rw (h.2, weekday_here h.0 from (sign (codes "..") ∷ word h.1 ∷ rest) h.3, after_sign_here (codes "..") (word h.1 ∷ rest), weekday_here h.1 to rest h.4) refl
+
+no_seconds : (rest : List Token) → after_word (codes "m") (word (codes "s") ∷ rest) ≡ None
+unfolding after_word
+no_seconds rest = refl
+
+-- what has the form of an atom is read, where no `..` follows it
+pub atom_again : (factors conditions : Reader) (ts : List Token) (c : Condition) (rest : List Token) → after_sign (codes "..") rest ≡ None → IsAtom ts c → factor_by factors conditions (ts ++ rest) ≡ Some (c, rest)
+unfolding atom_named numbered_first time_first dates_first after_first
+atom_again factors conditions ts (position n) rest stops h = rw (h.1, number_here 1 9 h.0 n rest h.2) refl
+atom_again factors conditions ts (zone n) rest stops h = rw (h.1, number_here 1 9 h.0 n rest h.2) refl
+atom_again factors conditions ts (time from to) rest stops h =
+    rw (h.2, minute_here h.0 from (sign (codes "..") ∷ figure h.1 ∷ rest) h.3, after_sign_here (codes "..") (figure h.1 ∷ rest), minute_here h.1 to rest h.4) refl
+atom_again factors conditions ts (day from to) rest stops h = rw (h.1, days_again h.0 from to rest stops h.2) refl
+atom_again factors conditions ts (date from_month from_date to_month to_date) rest stops h =
+    rw (h.2, date_here h.0 from_month from_date (sign (codes "..") ∷ figure h.1 ∷ rest) h.3, after_sign_here (codes "..") (figure h.1 ∷ rest), date_here h.1 to_month to_date rest h.4) refl
+atom_again factors conditions ts holiday rest stops h = rw h refl
+atom_again factors conditions ts (after_distance n) rest stops h =
+    rw (h.1, amount_here 1 h.0 n (word (codes "m") ∷ rest) h.2, after_word_here (codes "m") rest) refl
+atom_again factors conditions ts (after_time n) rest stops h =
+    rw (h.1, amount_here 1 h.0 n (word (codes "s") ∷ rest) h.2, no_seconds rest, after_word_here (codes "s") rest) refl
+atom_again factors conditions ts (and left right) rest stops h = absurd h
+atom_again factors conditions ts (or left right) rest stops h = absurd h
+atom_again factors conditions ts (not inner) rest stops h = absurd h
+
+-- an atom counts
+pub atom_counts : (ts : List Token) (c : Condition) → IsAtom ts c → 1 ≤ weight ts
+atom_counts ts (position n) h = rw h.1 (omega arith)
+atom_counts ts (zone n) h = rw h.1 (omega arith)
+atom_counts ts (time from to) h = rw h.2 (omega arith)
+atom_counts ts (day from to) h = rw h.1 (omega arith)
+atom_counts ts (date from_month from_date to_month to_date) h = rw h.2 (omega arith)
+atom_counts ts holiday h = rw h (omega arith)
+atom_counts ts (after_distance n) h = rw h.1 (omega arith)
+atom_counts ts (after_time n) h = rw h.1 (omega arith)
+atom_counts ts (and left right) h = absurd h
+atom_counts ts (or left right) h = absurd h
+atom_counts ts (not inner) h = absurd h

@@ -1,0 +1,151 @@
+-- What figures say is read from their forms.
+use Rattle.std.proofs.Common.{◌≡◌, ℕ, ◌+◌, ◌*◌, ◌≤◌, List, [], ◌∷◌, ◌++◌, length, Option, Some, Result, Ok, Err, refl, ap, sym, ◌∙◌, subst, arith, codes, length-append}
+use Rattle.std.specs.Str.Parse.{IsNumeral, digits_value}
+use Rattle.std.proofs.lemmas.Bool.{and_parts, leb-true, le-leb, eqb-true, eq-eqb}
+use Rattle.taxi_units.specs.Number.{number_at, decimal_read, NoDigitFirst}
+use Rattle.taxi_units.specs.Reading.{word_at}
+use Rattle.taxi_units.specs.declared.decimal.NumberFault.{NumberFault}
+use Rattle.taxi_units.proofs.Numbers.{numbers_are_read_by_their_digits}
+use Rattle.taxi_units.proofs.Words.{words_are_read_by_their_text, word_again}
+use Rattle.tariff_syntax.specs.Figure.{where_small, small_number, where_wide, digits_at, pair_of, date_of, year_date_of, where_of_a_day, minute_of, amount_or_none, amount_of, figure_as}
+use Rattle.tariff_syntax.specs.Forms.{IsNumber, IsDigits, IsPair, IsDate, IsYearDate, IsMinute, IsAmount}
+use Rattle.tariff_syntax.specs.Token.{Token, figure}
+use Rattle.tariff_syntax.specs.Words.{figure_first}
+use Rattle.tariff_syntax.proofs.Tools.{bind_some, passed, ended_is, figure_first_is, figure_first_here, some_same, append_none}
+
+none_left : (xs : List ℕ) → length xs ≡ 0 → xs ≡ []
+none_left [] e = refl
+none_left (x ∷ xs) e = absurd (omega arith)
+
+pub small_is : (least most : ℕ) (text : List ℕ) (n : ℕ) → small_number least most text ≡ Some n → IsNumber least most text n
+unfolding small_number
+small_is least most text n e =
+    let read = bind_some (number_at text) (where_small least most text) n e in
+    let x = read.0 in
+    let test = passed _ x.0 n read.2 in
+    let from_length = and_parts _ _ test.0 in
+    let from_two = and_parts _ _ from_length.1 in
+    let from_least = and_parts _ _ from_two.1 in
+    let is = (numbers_are_read_by_their_digits text x.1 x.0).0 read.1 in
+    let digits = is.0 in
+    let whole : text ≡ digits = is.1 ∙ (ap (λ (ys : List ℕ). digits ++ ys) (none_left x.1 (eqb-true _ _ from_length.0)) ∙ append_none digits) in
+    let value : n ≡ digits_value 10 text = sym test.1 ∙ (is.4 ∙ ap (digits_value 10) (sym whole)) in
+    let least_is : least ≤ x.0 = leb-true _ _ from_least.0 in
+    let most_is : x.0 ≤ most = leb-true _ _ from_least.1 in
+    (subst (IsNumeral 10) (sym whole) is.2, leb-true _ _ from_two.0, value, omega (arith, test.1), omega (arith, test.1))
+
+pub small_again : (least most : ℕ) (text : List ℕ) (n : ℕ) → IsNumber least most text n → small_number least most text ≡ Some n
+unfolding small_number
+small_again least most text n h =
+    let read : number_at text ≡ Some (n, []) = (numbers_are_read_by_their_digits text [] n).1 (text, sym (append_none text), h.0, omega (arith, h.1), h.2, tt) in
+    rw (read, le-leb _ _ h.1, le-leb _ _ h.3, le-leb _ _ h.4) refl
+
+-- digits at the front
+abbrev IsFront : (width : ℕ) → List ℕ → ℕ → List ℕ → Type 0
+IsFront width text n rest = (x : List ℕ) × (text ≡ x ++ rest) × IsDigits width x n × NoDigitFirst rest
+
+digits_are : (width : ℕ) (text rest : List ℕ) (n : ℕ) → digits_at width text ≡ Some (n, rest) → IsFront width text n rest
+unfolding digits_at
+digits_are width text rest n e =
+    let read = bind_some (number_at text) (where_wide width text) (n, rest) e in
+    let x = read.0 in
+    let test = passed _ x (n, rest) read.2 in
+    let wide : length text ≡ width + length x.1 = eqb-true _ _ test.0 in
+    let first : x.0 ≡ n = cc in
+    let behind : x.1 ≡ rest = cc in
+    let is = (numbers_are_read_by_their_digits text x.1 x.0).0 read.1 in
+    (is.0, is.1 ∙ ap (λ (ys : List ℕ). is.0 ++ ys) behind, (is.2, omega (arith, length-append is.0 x.1, ap length is.1), sym first ∙ is.4), subst NoDigitFirst behind is.5)
+
+digits_again : (width : ℕ) (x rest : List ℕ) (n : ℕ) → width ≤ 12 → IsDigits width x n → NoDigitFirst rest → digits_at width (x ++ rest) ≡ Some (n, rest)
+unfolding digits_at
+digits_again width x rest n few h stops =
+    let read : number_at (x ++ rest) ≡ Some (n, rest) = (numbers_are_read_by_their_digits (x ++ rest) rest n).1 (x, refl, h.0, omega (arith, h.1), h.2, stops) in
+    let wide : length (x ++ rest) ≡ width + length rest = omega (arith, length-append x rest, h.1) in
+    rw (read, eq-eqb _ _ wide) refl
+
+pub pair_is : (between text : List ℕ) (first second : ℕ) → pair_of between text ≡ Some (first, second) → IsPair between text first second
+unfolding pair_of
+pair_is between text first second e =
+    let one = bind_some (digits_at 2 text) _ (first, second) e in
+    let two = bind_some (word_at between one.0.1) _ (first, second) one.2 in
+    let three = bind_some (digits_at 2 two.0) _ (first, second) two.2 in
+    let end = ended_is three.0.1 (one.0.0, three.0.0) (first, second) three.2 in
+    let a = digits_are 2 text one.0.1 one.0.0 one.1 in
+    let b = digits_are 2 two.0 three.0.1 three.0.0 three.1 in
+    let between_is : one.0.1 ≡ between ++ two.0 = (words_are_read_by_their_text between one.0.1 two.0).0 two.1 in
+    let last : two.0 ≡ b.0 = b.1 ∙ (ap (λ (ys : List ℕ). b.0 ++ ys) end.0 ∙ append_none b.0) in
+    let first_is : one.0.0 ≡ first = ap (λ (p : ℕ × ℕ). p.0) end.1 in
+    let second_is : three.0.0 ≡ second = ap (λ (p : ℕ × ℕ). p.1) end.1 in
+    (a.0, b.0, a.1 ∙ ap (λ (ys : List ℕ). a.0 ++ ys) (between_is ∙ ap (λ (ys : List ℕ). between ++ ys) last), subst (IsDigits 2 a.0) first_is a.2, subst (IsDigits 2 b.0) second_is b.2)
+
+pub pair_again : (between text : List ℕ) (first second : ℕ) → ((y : List ℕ) → NoDigitFirst (between ++ y)) → IsPair between text first second → pair_of between text ≡ Some (first, second)
+unfolding pair_of
+pair_again between text first second stops h =
+    let x = h.0 in
+    let y = h.1 in
+    let last : digits_at 2 y ≡ Some (second, []) = ap (digits_at 2) (sym (append_none y)) ∙ digits_again 2 y [] second (omega arith) h.4 tt in
+    rw (h.2, digits_again 2 x (between ++ y) first (omega arith) h.3 (stops y), word_again between y, last) refl
+
+dash_stops : (y : List ℕ) → NoDigitFirst (codes "-" ++ y)
+dash_stops y = omega arith
+
+colon_stops : (y : List ℕ) → NoDigitFirst (codes ":" ++ y)
+colon_stops y = omega arith
+
+pub date_again : (text : List ℕ) (month number : ℕ) → IsDate text month number → date_of text ≡ Some (month, number)
+date_again text month number h = pair_again (codes "-") text month number dash_stops h
+
+pub year_date_is : (text : List ℕ) (year month number : ℕ) → year_date_of text ≡ Some (year, month, number) → IsYearDate text year month number
+unfolding year_date_of
+year_date_is text year month number e =
+    let one = bind_some (digits_at 4 text) _ (year, month, number) e in
+    let two = bind_some (word_at (codes "-") one.0.1) _ (year, month, number) one.2 in
+    let three = bind_some (date_of two.0) _ (year, month, number) two.2 in
+    let a = digits_are 4 text one.0.1 one.0.0 one.1 in
+    let dash : one.0.1 ≡ codes "-" ++ two.0 = (words_are_read_by_their_text (codes "-") one.0.1 two.0).0 two.1 in
+    let found = some_same (one.0.0, three.0.0, three.0.1) (year, month, number) three.2 in
+    let year_is : one.0.0 ≡ year = ap (λ (p : ℕ × ℕ × ℕ). p.0) found in
+    let date_is : three.0 ≡ (month, number) = ap (λ (p : ℕ × ℕ × ℕ). (p.1, p.2)) found in
+    (a.0, two.0, a.1 ∙ ap (λ (ys : List ℕ). a.0 ++ ys) dash, subst (IsDigits 4 a.0) year_is a.2, pair_is (codes "-") two.0 month number (three.1 ∙ ap Some date_is))
+
+pub year_date_again : (text : List ℕ) (year month number : ℕ) → IsYearDate text year month number → year_date_of text ≡ Some (year, month, number)
+unfolding year_date_of
+year_date_again text year month number h =
+    rw (h.2, digits_again 4 h.0 (codes "-" ++ h.1) year (omega arith) h.3 (dash_stops h.1), word_again (codes "-") h.1, date_again h.1 month number h.4) refl
+
+pub minute_is : (text : List ℕ) (minute : ℕ) → minute_of text ≡ Some minute → IsMinute text minute
+unfolding minute_of
+minute_is text minute e =
+    let read = bind_some (pair_of (codes ":") text) where_of_a_day minute e in
+    let test = passed _ (60 * read.0.0 + read.0.1) minute read.2 in
+    let parts = and_parts _ _ test.0 in
+    (read.0.0, read.0.1, pair_is (codes ":") text read.0.0 read.0.1 read.1, leb-true _ _ parts.0, leb-true _ _ parts.1, sym test.1)
+
+pub minute_again : (text : List ℕ) (minute : ℕ) → IsMinute text minute → minute_of text ≡ Some minute
+unfolding minute_of
+minute_again text minute h =
+    rw (pair_again (codes ":") text h.0 h.1 colon_stops h.2, le-leb _ _ h.3, le-leb _ _ h.4) (ap Some (sym h.5))
+
+amount_by : (r : Result ℕ NumberFault) (n : ℕ) → amount_or_none r ≡ Some n → r ≡ Ok n
+amount_by (Ok m) n e = cc
+amount_by (Err fault) n e = absurd cc
+
+pub amount_is : (decimals : ℕ) (text : List ℕ) (n : ℕ) → amount_of decimals text ≡ Some n → IsAmount decimals text n
+unfolding amount_of
+amount_is decimals text n e = amount_by (decimal_read decimals text) n e
+
+pub amount_again : (decimals : ℕ) (text : List ℕ) (n : ℕ) → IsAmount decimals text n → amount_of decimals text ≡ Some n
+unfolding amount_of
+amount_again decimals text n h = rw h refl
+
+-- a figure that reads as a value stands first
+pub figure_as_is : {A : Type 0} (read : List ℕ → Option A) (ts : List Token) (x : A × List Token) → figure_as read ts ≡ Some x → (f : List ℕ) × (ts ≡ figure f ∷ x.1) × (read f ≡ Some x.0)
+figure_as_is read ts x e =
+    let one = bind_some (figure_first ts) _ x e in
+    let two = bind_some (read one.0.0) _ x one.2 in
+    let value : two.0 ≡ x.0 = cc in
+    let rest : one.0.1 ≡ x.1 = cc in
+    (one.0.0, figure_first_is ts one.0 one.1 ∙ ap (λ (r : List Token). figure one.0.0 ∷ r) rest, two.1 ∙ ap Some value)
+
+pub figure_as_here : {A : Type 0} (read : List ℕ → Option A) (f : List ℕ) (v : A) (rest : List Token) → read f ≡ Some v → figure_as read (figure f ∷ rest) ≡ Some (v, rest)
+figure_as_here read f v rest e = rw (figure_first_here f rest, e) refl

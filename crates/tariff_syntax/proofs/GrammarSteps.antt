@@ -1,0 +1,40 @@
+-- Reading a condition, a step at a time.
+use Rattle.std.proofs.Common.{◌≡◌, ℕ, zero, suc, ◌+◌, ◌<◌, List, Option, Some, None, refl, arith}
+use Rattle.taxi_units.specs.Reading.{◌>>=◌}
+use Rattle.tariff_syntax.specs.Condition.{Condition}
+use Rattle.tariff_syntax.specs.Faults.{IsFault}
+use Rattle.tariff_syntax.specs.declared.conditions.LineFault.{LineFault}
+use Rattle.tariff_syntax.specs.declared.conditions.LineFault.TheVariants.{Bad, NoMemory}
+use Rattle.tariff_syntax.specs.Grammar.{Reader, factor_by, condition_by, chain_on, factor_first}
+use Rattle.tariff_syntax.specs.Token.{Token}
+use Rattle.tariff_syntax.specs.Words.{after_word}
+
+pub none_deep : (d : ℕ) (ts : List Token) → d ≡ 0 → factor_first d ts ≡ None
+unfolding factor_first
+none_deep zero ts e = refl
+none_deep (suc d) ts e = absurd (omega arith)
+
+pub factor_step : (d e : ℕ) (ts : List Token) → d ≡ e + 1 → factor_first d ts ≡ factor_by (factor_first e) (condition_by (factor_first e)) ts
+unfolding factor_first
+factor_step zero e ts h = absurd (omega arith)
+factor_step (suc d) e ts h = let same : e ≡ d = omega arith in rw same refl
+
+pub chain_none : (joint : List ℕ) (joined : Condition → Reader) (most : ℕ) (left : Condition) (ts : List Token) → most ≡ 0 → chain_on joint joined most left ts ≡ None
+unfolding chain_on
+chain_none joint joined zero left ts e = refl
+chain_none joint joined (suc most) left ts e = absurd (omega arith)
+
+pub chain_ends : (joint : List ℕ) (joined : Condition → Reader) (most : ℕ) (left : Condition) (ts : List Token) → 0 < most → after_word joint ts ≡ None → chain_on joint joined most left ts ≡ Some (left, ts)
+unfolding chain_on
+chain_ends joint joined zero left ts h e = absurd (omega arith)
+chain_ends joint joined (suc most) left ts h e = rw (e, chain_on) refl
+
+pub chain_goes : (joint : List ℕ) (joined : Condition → Reader) (most less : ℕ) (left : Condition) (ts rest : List Token) → most ≡ less + 1 → after_word joint ts ≡ Some rest → chain_on joint joined most left ts ≡ (joined left rest >>= λ x. chain_on joint joined less x.0 x.1)
+unfolding chain_on
+chain_goes joint joined zero less left ts rest h e = absurd (omega arith)
+chain_goes joint joined (suc most) less left ts rest h e = let same : less ≡ most = omega arith in rw same (rw (e, chain_on) refl)
+
+-- what cannot be read has nothing after it
+pub fault_on : {Y Z : Type 0} (fault : LineFault) (read : Option Y) (f : Y → Option Z) → IsFault fault read → IsFault fault (read >>= f)
+fault_on Bad read f e = rw e refl
+fault_on NoMemory read f e = tt

@@ -1,0 +1,10 @@
+use Rattle.std.proofs.Common.{◌≡◌, ◌≤◌, map, drop}
+use Rattle.tariff_syntax.specs.Meaning.{first_from, initial_conditions}
+use Rattle.tariff_syntax.specs.Tree.{line_of}
+use Rattle.tariff_syntax.proofs.meaning.initial_of.Given as goal
+
+abbrev pub invariant-loop-line : goal.invariant-loop-line
+invariant-loop-line l = record {
+  within : l.initials ≤ l.line-index;
+  same : first_from l.hiring l.initials (initial_conditions (map line_of (drop l.line-index l.line-items))) ≡ first_from l.hiring 0 (initial_conditions (map line_of l.line-items));
+}

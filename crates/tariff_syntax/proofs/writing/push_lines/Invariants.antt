@@ -1,0 +1,8 @@
+use Rattle.std.proofs.Common.{◌≡◌, ◌++◌, map, drop}
+use Rattle.tariff_syntax.specs.Printed.{lines_text}
+use Rattle.tariff_syntax.specs.Tree.{line_of}
+use Rattle.tariff_syntax.proofs.writing.push_lines.Given as goal
+
+abbrev pub invariant-loop-line : goal.invariant-loop-line
+invariant-loop-line l =
+    l.text.items ++ lines_text l.decimals (map line_of (drop l.line-index l.lines)) ≡ l.initial.text.items ++ lines_text l.decimals (map line_of l.lines)

@@ -1,0 +1,87 @@
+-- The atoms of a condition, at the front of a list of tokens.
+use Rattle.std.specs.Prelude.{ℕ, List, Option, Some, None, if◌then◌else◌, codes}
+use Rattle.std.specs.Str.{bytes_eq}
+use Rattle.taxi_units.specs.Reading.{◌>>=◌}
+use Rattle.tariff_syntax.specs.Condition.{Condition, position, zone, time, day, date, holiday, after_distance, after_time}
+use Rattle.tariff_syntax.specs.Figure.{number_first, amount_first, minute_first, date_first}
+use Rattle.tariff_syntax.specs.Token.{Token}
+use Rattle.tariff_syntax.specs.Words.{after_word, after_sign, word_first}
+
+-- the weekday that a word names, from 1 for Monday
+abbrev pub weekday_of : List ℕ → Option ℕ
+weekday_of name =
+    if bytes_eq name (codes "mon") then Some 1
+    else (if bytes_eq name (codes "tue") then Some 2
+    else (if bytes_eq name (codes "wed") then Some 3
+    else (if bytes_eq name (codes "thu") then Some 4
+    else (if bytes_eq name (codes "fri") then Some 5
+    else (if bytes_eq name (codes "sat") then Some 6
+    else (if bytes_eq name (codes "sun") then Some 7
+    else None))))))
+
+-- a weekday, and what stands after it
+unfoldable pub weekday_first : List Token → Option (ℕ × List Token)
+weekday_first ts = do
+  name ← word_first ts
+  number ← weekday_of name.0
+  Some (number, name.1)
+
+-- a number from 1 to 9, which makes a condition
+unfoldable pub numbered_first : (ℕ → Condition) → List Token → Option (Condition × List Token)
+numbered_first make ts = do
+  number ← number_first 1 9 ts
+  Some (make number.0, number.1)
+
+-- a range of minutes
+unfoldable pub time_first : List Token → Option (Condition × List Token)
+time_first ts = do
+  from ← minute_first ts
+  rest ← after_sign (codes "..") from.1
+  to ← minute_first rest
+  Some (time from.0 to.0, to.1)
+
+-- the second weekday, where there is one
+abbrev pub until_weekday : ℕ → List Token → Option (List Token) → Option (Condition × List Token)
+until_weekday from ts None = Some (day from from, ts)
+until_weekday from ts (Some rest) = do
+  to ← weekday_first rest
+  Some (day from to.0, to.1)
+
+-- one weekday, or a range of them
+unfoldable pub days_first : List Token → Option (Condition × List Token)
+days_first ts = do
+  from ← weekday_first ts
+  until_weekday from.0 from.1 (after_sign (codes "..") from.1)
+
+-- a range of dates
+unfoldable pub dates_first : List Token → Option (Condition × List Token)
+dates_first ts = do
+  from ← date_first ts
+  rest ← after_sign (codes "..") from.1
+  to ← date_first rest
+  Some (date from.0.0 from.0.1 to.0.0 to.0.1, to.1)
+
+-- what a measure measures, by the unit behind it: metres, or else seconds
+abbrev pub by_unit : ℕ → List Token → Option (List Token) → Option (Condition × List Token)
+by_unit n ts (Some rest) = Some (after_distance n, rest)
+by_unit n ts None = do
+  rest ← after_word (codes "s") ts
+  Some (after_time n, rest)
+
+-- a measure and its unit
+unfoldable pub after_first : List Token → Option (Condition × List Token)
+after_first ts = do
+  measure ← amount_first 1 ts
+  by_unit measure.0 measure.1 (after_word (codes "m") measure.1)
+
+-- an atom, after its first word
+unfoldable pub atom_named : List ℕ → List Token → Option (Condition × List Token)
+atom_named name ts =
+    if bytes_eq name (codes "position") then numbered_first position ts
+    else (if bytes_eq name (codes "zone") then numbered_first zone ts
+    else (if bytes_eq name (codes "time") then time_first ts
+    else (if bytes_eq name (codes "day") then days_first ts
+    else (if bytes_eq name (codes "date") then dates_first ts
+    else (if bytes_eq name (codes "holiday") then Some (holiday, ts)
+    else (if bytes_eq name (codes "after") then after_first ts
+    else None))))))

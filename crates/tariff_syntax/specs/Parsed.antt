@@ -1,0 +1,62 @@
+-- The tariff of a text, line after line.
+use Rattle.std.specs.Prelude.{ℕ, ◌+◌, List, [], ◌∷◌, ◌++◌, Option, Some, None, Result, Ok, Err, if◌then◌else◌, ◌==◌, Bool, not}
+use Rattle.tariff_syntax.specs.Items.{item_of, decimals_of}
+use Rattle.tariff_syntax.specs.Token.{Token, tokens_of}
+use Rattle.tariff_syntax.specs.Tree.{Tree, Line, Entry}
+
+-- a byte at the front of lines: it begins the first of them
+abbrev pub in_front : ℕ → List (List ℕ) → List (List ℕ)
+in_front c [] = (c ∷ []) ∷ []
+in_front c (text ∷ texts) = (c ∷ text) ∷ texts
+
+-- the lines of a text: each line feed ends one, and the text's end may end the last
+abbrev pub lines_of : List ℕ → List (List ℕ)
+lines_of [] = []
+lines_of (c ∷ cs) = if c == 10 then [] ∷ lines_of cs else in_front c (lines_of cs)
+
+-- a byte within a line
+abbrev pub is_inner : ℕ → List ℕ → Bool
+is_inner c rest = not (c == 10)
+
+-- the entry of a line before the lines below it; a line with tokens and without an entry is bad
+abbrev pub put_entry : (number : ℕ) → List Token → Option Entry → Result (List Line) ℕ → Result (List Line) ℕ
+put_entry number [] read below = below
+put_entry number (t ∷ ts) None below = Err number
+put_entry number (t ∷ ts) (Some entry) (Ok lines) = Ok (record { line = number; entry = entry } ∷ lines)
+put_entry number (t ∷ ts) (Some entry) (Err bad) = Err bad
+
+-- the lines of a tariff, from lines that are numbered on from a number, or the first bad line
+unfoldable pub entries_of : (decimals number : ℕ) → List (List ℕ) → Result (List Line) ℕ
+entries_of decimals number [] = Ok []
+entries_of decimals number (text ∷ texts) =
+    put_entry number (tokens_of text) (item_of decimals (tokens_of text)) (entries_of decimals (number + 1) texts)
+
+-- the decimals, the number of the next line, and the lines from there on, by the first line that has tokens
+abbrev pub heading_by : (number : ℕ) (text : List ℕ) (texts : List (List ℕ)) → List Token → Option ℕ → ℕ × ℕ × List (List ℕ) → ℕ × ℕ × List (List ℕ)
+heading_by number text texts [] decimals below = below
+heading_by number text texts (t ∷ ts) (Some decimals) below = (decimals, number + 1, texts)
+heading_by number text texts (t ∷ ts) None below = (2, number, text ∷ texts)
+
+-- the same, of lines that are numbered on from a number
+unfoldable pub heading_of : (number : ℕ) → List (List ℕ) → ℕ × ℕ × List (List ℕ)
+heading_of number [] = (2, number, [])
+heading_of number (text ∷ texts) =
+    heading_by number text texts (tokens_of text) (decimals_of (tokens_of text)) (heading_of (number + 1) texts)
+
+-- a tariff of decimals and lines
+abbrev pub tree_with : (decimals : ℕ) → Result (List Line) ℕ → Result Tree ℕ
+tree_with decimals (Ok lines) = Ok (record { decimals = decimals; lines = lines })
+tree_with decimals (Err bad) = Err bad
+
+-- the tariff of a heading
+abbrev pub tree_below : ℕ × ℕ × List (List ℕ) → Result Tree ℕ
+tree_below heading = tree_with heading.0 (entries_of heading.0 heading.1 heading.2)
+
+-- the tariff of a text, or its first bad line
+unfoldable pub tree_parsed : List ℕ → Result Tree ℕ
+tree_parsed text = tree_below (heading_of 1 (lines_of text))
+
+-- lines before others
+abbrev pub before : List Line → Result (List Line) ℕ → Result (List Line) ℕ
+before lines (Ok more) = Ok (lines ++ more)
+before lines (Err bad) = Err bad

@@ -1,0 +1,73 @@
+-- What a text says, for a person to read: it is cut into lines; the first line that has tokens may say the decimals; each
+-- further one says an entry.
+use Rattle.std.specs.Prelude.{◌≡◌, ℕ, ◌+◌, ◌<◌, ◌≤◌, ◌⊎◌, List, [], ◌∷◌, length, Result, Ok, Err}
+use Rattle.tariff_syntax.specs.IsItem.{IsItem, IsDecimals}
+use Rattle.tariff_syntax.specs.Parsed.{lines_of}
+use Rattle.tariff_syntax.specs.Spelled.{IsSpelled}
+use Rattle.tariff_syntax.specs.Token.{Token}
+use Rattle.tariff_syntax.specs.Tree.{Tree, Line, Entry, tree_of}
+use Rattle.tariff_syntax.specs.declared.parsing.ParseFault.{ParseFault}
+use Rattle.tariff_syntax.specs.declared.parsing.ParseFault.TheVariants.{TooLong, Syntax, NoMemory}
+use Rattle.tariff_syntax.specs.declared.tariff.Tariff.{Tariff}
+
+-- a line has nothing but blanks and perhaps a comment
+abbrev pub IsEmpty : List ℕ → Type 0
+IsEmpty text = IsSpelled text []
+
+-- a line says the decimals
+abbrev pub SaysDecimals : List ℕ → ℕ → Type 0
+SaysDecimals text n = (ts : List Token) × IsSpelled text ts × IsDecimals ts n
+
+-- a line says an entry
+abbrev pub Says : (decimals : ℕ) → List ℕ → Entry → Type 0
+Says decimals text entry = (ts : List Token) × IsSpelled text ts × IsItem decimals ts entry
+
+-- texts, which are numbered on from a number, say these lines: an empty one is passed over
+abbrev pub SayLines : (decimals number : ℕ) → List (List ℕ) → List Line → Type 0
+SayLines decimals number [] lines = lines ≡ []
+SayLines decimals number (text ∷ texts) lines =
+    (IsEmpty text × SayLines decimals (number + 1) texts lines)
+    ⊎ ((entry : Entry) × (more : List Line) × (lines ≡ record { line = number; entry = entry } ∷ more)
+    × Says decimals text entry × SayLines decimals (number + 1) texts more)
+
+-- texts, which are numbered on from a number, say this tariff: the decimals are 2 where the first that isn't empty doesn't say them
+abbrev pub SayTariff : (number : ℕ) → List (List ℕ) → Tree → Type 0
+SayTariff number [] t = (t.decimals ≡ 2) × (t.lines ≡ [])
+SayTariff number (text ∷ texts) t =
+    (IsEmpty text × SayTariff (number + 1) texts t)
+    ⊎ ((SaysDecimals text t.decimals × SayLines t.decimals (number + 1) texts t.lines)
+    ⊎ (¬ (IsEmpty text) × (t.decimals ≡ 2) × SayLines 2 number (text ∷ texts) t.lines))
+
+-- a text reads as a tariff
+abbrev pub Reads : List ℕ → Tree → Type 0
+Reads text t = SayTariff 1 (lines_of text) t
+
+-- of texts that are numbered on from a number this is the first that is bad: it isn't empty and says no entry
+abbrev pub FirstBad : (decimals number : ℕ) → List (List ℕ) → (bad : ℕ) → Type 0
+FirstBad decimals number [] bad = ⊥
+FirstBad decimals number (text ∷ texts) bad =
+    ((bad ≡ number) × ¬ (IsEmpty text) × ((entry : Entry) → ¬ (Says decimals text entry)))
+    ⊎ ((IsEmpty text ⊎ ((entry : Entry) × Says decimals text entry)) × FirstBad decimals (number + 1) texts bad)
+
+-- the same, under the decimals that the first that isn't empty says, or else under 2
+abbrev pub FirstBadBelow : (number : ℕ) → List (List ℕ) → (bad : ℕ) → Type 0
+FirstBadBelow number [] bad = ⊥
+FirstBadBelow number (text ∷ texts) bad =
+    (IsEmpty text × FirstBadBelow (number + 1) texts bad)
+    ⊎ (((decimals : ℕ) × SaysDecimals text decimals × FirstBad decimals (number + 1) texts bad)
+    ⊎ (¬ (IsEmpty text) × ((decimals : ℕ) → ¬ (SaysDecimals text decimals)) × FirstBad 2 number (text ∷ texts) bad))
+
+-- this is the first bad line of a text
+abbrev pub IsFirstBadLine : List ℕ → (bad : ℕ) → Type 0
+IsFirstBadLine text bad = FirstBadBelow 1 (lines_of text) bad
+
+-- why a text gives no tariff: it is too long, or this is its first bad line, or memory ran out
+abbrev pub IsRefused : List ℕ → ParseFault → Type 0
+IsRefused text TooLong = 65536 < length text
+IsRefused text (Syntax line) = (length text ≤ 65536) × IsFirstBadLine text line
+IsRefused text NoMemory = length text ≤ 65536
+
+-- the answer to a text: the tariff that it reads as, or why it gives none
+abbrev pub IsParsed : List ℕ → Result Tariff ParseFault → Type 0
+IsParsed text (Ok t) = (length text ≤ 65536) × Reads text (tree_of t)
+IsParsed text (Err fault) = IsRefused text fault

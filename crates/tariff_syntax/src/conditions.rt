@@ -1,0 +1,281 @@
+//! Reads conditions.
+ghost use Rattle.std.specs.Prelude.{◌≡◌, ◌+◌, ◌≤◌, codes, length, Some, IfOk, if◌then◌else◌};
+ghost use Rattle.tariff_syntax.specs.Atom as atoms;
+ghost use Rattle.tariff_syntax.specs.Condition as tree;
+ghost use Rattle.tariff_syntax.specs.Condition.{condition_of, condition_if};
+ghost use Rattle.tariff_syntax.specs.Faults.{GivesOrFails};
+ghost use Rattle.tariff_syntax.specs.Grammar as spec;
+ghost use Rattle.tariff_syntax.specs.Grammar.{condition_by, term_by, factor_by, factor_first, chain_on, negated, closed_after, when_of, token_weight};
+ghost use Rattle.tariff_syntax.specs.Token.{tokens_of, token_of};
+
+use crate::atoms::atom_named;
+use crate::condition::Cond;
+use crate::tokens::{Token, first_token};
+use crate::words::{after_sign, after_word, is_over, is_text};
+use std::alloc::Global;
+
+/// Why a line has no item.
+#[derive(Clone, Copy, Debug, PartialEq, Eq)]
+pub enum LineFault {
+    /// It has none of the forms of a line.
+    Bad,
+    /// Memory ran out.
+    NoMemory,
+}
+
+/// A condition, and what stands after it; with fewer `not` and `(` around each atom than a number.
+#[cycle(conditions)]
+#[tactic(auto, unfolding(crate::specs::Grammar::condition_by))]
+fn condition(alloc: Global, depth: u8, line: &[u8]) -> Result<(Cond, &[u8]), LineFault>
+    ensures { GivesOrFails (λ x. (condition_of x.0, tokens_of x.1.now)) result (condition_by (factor_first depth) (tokens_of line.now)) }
+{
+    let (first, rest) = term(alloc, depth, line)?;
+    more_terms(alloc, depth, 64, first, rest)
+}
+
+/// A condition, to which further terms are joined, fewer than a number.
+#[cycle(conditions)]
+fn more_terms(
+    alloc: Global,
+    depth: u8,
+    most: u8,
+    left: Cond,
+    line: &[u8],
+) -> Result<(Cond, &[u8]), LineFault>
+    ensures { GivesOrFails (λ x. (condition_of x.0, tokens_of x.1.now)) result (chain_on (codes "or") (spec.or_joined (factor_first depth)) most (condition_of left) (tokens_of line.now)) }
+{
+    if most == 0 {
+        return Err(LineFault::Bad);
+    }
+    let Some(rest) = after_word(line, b"or") else {
+        return Ok((left, line));
+    };
+    match or_joined(alloc, depth, left, rest) {
+        Ok((either, rest)) => more_terms(alloc, depth, most - 1, either, rest),
+        Err(fault) => Err(fault),
+    }
+}
+
+/// A term, joined by `or` to what stands to the left, and what stands after it.
+#[cycle(conditions)]
+fn or_joined(alloc: Global, depth: u8, left: Cond, line: &[u8]) -> Result<(Cond, &[u8]), LineFault>
+    ensures { GivesOrFails (λ x. (condition_of x.0, tokens_of x.1.now)) result (spec.or_joined (factor_first depth) (condition_of left) (tokens_of line.now)) }
+{
+    let (right, rest) = term(alloc, depth, line)?;
+    let either = or(alloc, left, right)?;
+    Ok((either, rest))
+}
+
+/// A term, and what stands after it.
+#[cycle(conditions)]
+#[tactic(auto, unfolding(crate::specs::Grammar::term_by))]
+fn term(alloc: Global, depth: u8, line: &[u8]) -> Result<(Cond, &[u8]), LineFault>
+    ensures { GivesOrFails (λ x. (condition_of x.0, tokens_of x.1.now)) result (term_by (factor_first depth) (tokens_of line.now)) }
+{
+    let (first, rest) = factor(alloc, depth, line)?;
+    more_factors(alloc, depth, 64, first, rest)
+}
+
+/// A term, to which further factors are joined, fewer than a number.
+#[cycle(conditions)]
+fn more_factors(
+    alloc: Global,
+    depth: u8,
+    most: u8,
+    left: Cond,
+    line: &[u8],
+) -> Result<(Cond, &[u8]), LineFault>
+    ensures { GivesOrFails (λ x. (condition_of x.0, tokens_of x.1.now)) result (chain_on (codes "and") (spec.and_joined (factor_first depth)) most (condition_of left) (tokens_of line.now)) }
+{
+    if most == 0 {
+        return Err(LineFault::Bad);
+    }
+    let Some(rest) = after_word(line, b"and") else {
+        return Ok((left, line));
+    };
+    match and_joined(alloc, depth, left, rest) {
+        Ok((both, rest)) => more_factors(alloc, depth, most - 1, both, rest),
+        Err(fault) => Err(fault),
+    }
+}
+
+/// A factor, joined by `and` to what stands to the left, and what stands after it.
+#[cycle(conditions)]
+fn and_joined(alloc: Global, depth: u8, left: Cond, line: &[u8]) -> Result<(Cond, &[u8]), LineFault>
+    ensures { GivesOrFails (λ x. (condition_of x.0, tokens_of x.1.now)) result (spec.and_joined (factor_first depth) (condition_of left) (tokens_of line.now)) }
+{
+    let (right, rest) = factor(alloc, depth, line)?;
+    let both = and(alloc, left, right)?;
+    Ok((both, rest))
+}
+
+/// A factor, and what stands after it.
+#[cycle(conditions)]
+fn factor(alloc: Global, depth: u8, line: &[u8]) -> Result<(Cond, &[u8]), LineFault>
+    ensures { GivesOrFails (λ x. (condition_of x.0, tokens_of x.1.now)) result (factor_first depth (tokens_of line.now)) }
+{
+    if depth == 0 {
+        return Err(LineFault::Bad);
+    }
+    factor_above(alloc, depth - 1, line)
+}
+
+/// A factor, with one more `not` or `(` around it than a number.
+#[cycle(conditions)]
+fn factor_above(alloc: Global, depth: u8, line: &[u8]) -> Result<(Cond, &[u8]), LineFault>
+    ensures { GivesOrFails (λ x. (condition_of x.0, tokens_of x.1.now)) result (factor_by (factor_first depth) (condition_by (factor_first depth)) (tokens_of line.now)) }
+{
+    let Some((token, rest)) = first_token(line) else {
+        return Err(LineFault::Bad);
+    };
+    match token {
+        Token::Word(name) => {
+            if is_text(name, b"not") {
+                return negation(alloc, depth, rest);
+            }
+            atom(name, rest)
+        }
+        Token::Sign(text) => {
+            if is_text(text, b"(") {
+                return in_parentheses(alloc, depth, rest);
+            }
+            Err(LineFault::Bad)
+        }
+        Token::Figure(_) => Err(LineFault::Bad),
+    }
+}
+
+/// The negation of the factor that stands first.
+#[cycle(conditions)]
+fn negation(alloc: Global, depth: u8, line: &[u8]) -> Result<(Cond, &[u8]), LineFault>
+    ensures { GivesOrFails (λ x. (condition_of x.0, tokens_of x.1.now)) result (negated (factor_first depth (tokens_of line.now))) }
+{
+    let (inner, rest) = factor(alloc, depth, line)?;
+    let cond = not(alloc, inner)?;
+    Ok((cond, rest))
+}
+
+/// A condition before a closing parenthesis.
+#[cycle(conditions)]
+fn in_parentheses(alloc: Global, depth: u8, line: &[u8]) -> Result<(Cond, &[u8]), LineFault>
+    ensures { GivesOrFails (λ x. (condition_of x.0, tokens_of x.1.now)) result (closed_after (condition_by (factor_first depth) (tokens_of line.now))) }
+{
+    let (inner, rest) = condition(alloc, depth, line)?;
+    let Some(rest) = after_sign(rest, b")") else {
+        return Err(LineFault::Bad);
+    };
+    Ok((inner, rest))
+}
+
+/// An atom, after its first word, and what stands after it.
+fn atom<'a>(name: &[u8], line: &'a [u8]) -> Result<(Cond, &'a [u8]), LineFault>
+    ensures { GivesOrFails (λ x. (condition_of x.0, tokens_of x.1.now)) result (atoms.atom_named name.now (tokens_of line.now)) }
+{
+    match atom_named(name, line) {
+        Some(atom) => Ok(atom),
+        None => Err(LineFault::Bad),
+    }
+}
+
+/// That both hold.
+fn and(alloc: Global, left: Cond, right: Cond) -> Result<Cond, LineFault>
+    ensures { GivesOrFails condition_of result (Some (tree.and (condition_of left) (condition_of right))) }
+{
+    let Ok(left) = Box::new(alloc, left) else {
+        return Err(LineFault::NoMemory);
+    };
+    let Ok(right) = Box::new(alloc, right) else {
+        return Err(LineFault::NoMemory);
+    };
+    Ok(Cond::And(left, right))
+}
+
+/// That one of them holds.
+fn or(alloc: Global, left: Cond, right: Cond) -> Result<Cond, LineFault>
+    ensures { GivesOrFails condition_of result (Some (tree.or (condition_of left) (condition_of right))) }
+{
+    let Ok(left) = Box::new(alloc, left) else {
+        return Err(LineFault::NoMemory);
+    };
+    let Ok(right) = Box::new(alloc, right) else {
+        return Err(LineFault::NoMemory);
+    };
+    Ok(Cond::Or(left, right))
+}
+
+/// That it doesn't hold.
+fn not(alloc: Global, inner: Cond) -> Result<Cond, LineFault>
+    ensures { GivesOrFails condition_of result (Some (tree.not (condition_of inner))) }
+{
+    let Ok(inner) = Box::new(alloc, inner) else {
+        return Err(LineFault::NoMemory);
+    };
+    Ok(Cond::Not(inner))
+}
+
+/// The end of a line that may have a condition.
+#[tactic(auto, unfolding(crate::specs::Grammar::when_of))]
+pub fn when(alloc: Global, line: &[u8]) -> Result<Option<Cond>, LineFault>
+    ensures { GivesOrFails condition_if result (when_of (tokens_of line.now)) }
+{
+    if is_over(line) {
+        return Ok(None);
+    }
+    let Some(rest) = after_word(line, b"when") else {
+        return Err(LineFault::Bad);
+    };
+    let cond = bounded_condition(alloc, rest)?;
+    Ok(Some(cond))
+}
+
+/// A condition with at most 64 atoms, `not` and `(` together. So there are fewer
+/// `not` and `(` than that around an atom, and fewer parts joined.
+#[tactic(auto, unfolding(crate::specs::Grammar::bounded_condition))]
+fn bounded_condition(alloc: Global, line: &[u8]) -> Result<Cond, LineFault>
+    ensures { GivesOrFails condition_of result (spec.bounded_condition (tokens_of line.now)) }
+{
+    if weight(line) > 64 {
+        return Err(LineFault::Bad);
+    }
+    let (cond, rest) = condition(alloc, 64, line)?;
+    if !is_over(rest) {
+        return Err(LineFault::Bad);
+    }
+    Ok(cond)
+}
+
+/// How many atoms, `not` and `(` begin in a line.
+fn weight(line: &[u8]) -> usize
+    ensures value { result ≡ spec.weight (tokens_of line.now) }
+    ensures within { result ≤ length line.now }
+{
+    let mut rest = line;
+    let mut count = 0;
+    while let Some((token, after)) = first_token(rest) {
+        if is_counted(token) {
+            count += 1;
+        }
+        rest = after;
+    }
+    count
+}
+
+/// Whether a token begins an atom, or is a `not` or a `(`.
+fn is_counted(token: Token<'_>) -> bool
+    ensures { (if result then 1 else 0) ≡ token_weight (token_of token.entry) }
+{
+    match token {
+        Token::Word(name) => {
+            is_text(name, b"not")
+                || is_text(name, b"position")
+                || is_text(name, b"zone")
+                || is_text(name, b"time")
+                || is_text(name, b"day")
+                || is_text(name, b"date")
+                || is_text(name, b"holiday")
+                || is_text(name, b"after")
+        }
+        Token::Figure(_) => false,
+        Token::Sign(text) => is_text(text, b"("),
+    }
+}

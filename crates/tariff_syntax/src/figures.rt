@@ -1,0 +1,136 @@
+//! What figures say: numbers of one or two digits, amounts, dates and minutes.
+ghost use Rattle.std.specs.Prelude.{◌≡◌, ◌<◌, ◌≤◌, ◌^◌, IfSome};
+ghost use Rattle.taxi_units.specs.Reading.{Gives};
+ghost use Rattle.tariff_syntax.specs.Figure as spec;
+ghost use Rattle.tariff_syntax.specs.Token.{tokens_of};
+
+use crate::words::figure_first;
+use taxi_units::{number_at, read_decimal, word};
+
+/// A number of one or two digits from `least` to `most`, and what stands after it.
+#[tactic(auto, unfolding(crate::specs::Figure::number_first))]
+pub fn number_first(line: &[u8], least: u8, most: u8) -> Option<(u8, &[u8])>
+    ensures value { Gives (λ x. (x.0, tokens_of x.1.now)) result (spec.number_first least most (tokens_of line.now)) }
+    ensures within { IfSome result (λ x. x.0 ≤ most) }
+{
+    let (text, rest) = figure_first(line)?;
+    let number = small_number(text, least, most)?;
+    Some((number, rest))
+}
+
+/// An amount of so many decimals, and what stands after it.
+#[tactic(auto, unfolding(crate::specs::Figure::amount_first))]
+pub fn amount_first(line: &[u8], decimals: u8) -> Option<(u64, &[u8])>
+    requires { decimals ≤ 3 }
+    ensures { Gives (λ x. (x.0, tokens_of x.1.now)) result (spec.amount_first decimals (tokens_of line.now)) }
+{
+    let (text, rest) = figure_first(line)?;
+    let amount = amount(text, decimals)?;
+    Some((amount, rest))
+}
+
+/// A minute of the day, and what stands after it.
+#[tactic(auto, unfolding(crate::specs::Figure::minute_first))]
+pub fn minute_first(line: &[u8]) -> Option<(u16, &[u8])>
+    ensures { Gives (λ x. (x.0, tokens_of x.1.now)) result (spec.minute_first (tokens_of line.now)) }
+{
+    let (text, rest) = figure_first(line)?;
+    let minute = minute(text)?;
+    Some((minute, rest))
+}
+
+/// A date of any year, as month and date, and what stands after it.
+#[tactic(auto, unfolding(crate::specs::Figure::date_first))]
+pub fn date_first(line: &[u8]) -> Option<((u8, u8), &[u8])>
+    ensures { Gives (λ x. (x.0, tokens_of x.1.now)) result (spec.date_first (tokens_of line.now)) }
+{
+    let (text, rest) = figure_first(line)?;
+    let date = pair(text, b"-")?;
+    Some((date, rest))
+}
+
+/// A date, as year, month and date, and what stands after it.
+#[tactic(auto, unfolding(crate::specs::Figure::year_date_first))]
+pub fn year_date_first(line: &[u8]) -> Option<((u16, u8, u8), &[u8])>
+    ensures { Gives (λ x. (x.0, tokens_of x.1.now)) result (spec.year_date_first (tokens_of line.now)) }
+{
+    let (text, rest) = figure_first(line)?;
+    let date = year_date(text)?;
+    Some((date, rest))
+}
+
+/// A number of one or two digits from `least` to `most`.
+#[tactic(auto, unfolding(crate::specs::Figure::small_number))]
+fn small_number(text: &[u8], least: u8, most: u8) -> Option<u8>
+    ensures value { Gives (λ n. n) result (spec.small_number least most text.now) }
+    ensures within { IfSome result (λ n. n ≤ most) }
+{
+    let (number, rest) = number_at(text)?;
+    if rest.len() == 0 && text.len() <= 2 && least as u64 <= number && number <= most as u64 {
+        return Some(number as u8);
+    }
+    None
+}
+
+/// An amount of so many decimals.
+#[tactic(auto, unfolding(crate::specs::Figure::amount_of))]
+fn amount(text: &[u8], decimals: u8) -> Option<u64>
+    requires { decimals ≤ 3 }
+    ensures { Gives (λ n. n) result (spec.amount_of decimals text.now) }
+{
+    match read_decimal(text, decimals) {
+        Ok(amount) => Some(amount),
+        Err(_) => None,
+    }
+}
+
+/// A minute of the day, from its hours and minutes.
+#[tactic(auto, unfolding(crate::specs::Figure::minute_of))]
+fn minute(text: &[u8]) -> Option<u16>
+    ensures { Gives (λ n. n) result (spec.minute_of text.now) }
+{
+    let (hours, minutes) = pair(text, b":")?;
+    if hours <= 23 && minutes <= 59 {
+        return Some(60 * hours as u16 + minutes as u16);
+    }
+    None
+}
+
+/// A year of four digits, a month and a date of two.
+#[tactic(auto, unfolding(crate::specs::Figure::year_date_of))]
+fn year_date(text: &[u8]) -> Option<(u16, u8, u8)>
+    ensures { Gives (λ x. x) result (spec.year_date_of text.now) }
+{
+    let (year, rest) = digits(text, 4)?;
+    let rest = word(rest, b"-")?;
+    let (month, date) = pair(rest, b"-")?;
+    Some((year as u16, month, date))
+}
+
+/// Two numbers of two digits, with a byte between them.
+#[tactic(auto, unfolding(crate::specs::Figure::pair_of))]
+fn pair(text: &[u8], between: &[u8]) -> Option<(u8, u8)>
+    ensures { Gives (λ x. x) result (spec.pair_of between.now text.now) }
+{
+    let (first, rest) = digits(text, 2)?;
+    let rest = word(rest, between)?;
+    let (second, rest) = digits(rest, 2)?;
+    if rest.is_empty() {
+        return Some((first as u8, second as u8));
+    }
+    None
+}
+
+/// A number of so many digits, and what stands after it.
+#[tactic(auto, unfolding(crate::specs::Figure::digits_at))]
+fn digits(text: &[u8], width: usize) -> Option<(u64, &[u8])>
+    requires { width ≤ 12 }
+    ensures value { Gives (λ x. (x.0, x.1.now)) result (spec.digits_at width text.now) }
+    ensures small { IfSome result (λ x. x.0 < 10 ^ width) }
+{
+    let (number, rest) = number_at(text)?;
+    if text.len() == width + rest.len() {
+        return Some((number, rest));
+    }
+    None
+}

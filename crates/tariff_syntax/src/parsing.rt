@@ -1,0 +1,190 @@
+//! Reads a whole tariff.
+ghost use Rattle.std.specs.Prelude.{◌≡◌, ◌+◌, ◌<◌, ◌≤◌, ◌^◌, ◌∷◌, [], ℕ, List, Result, length, map, MatchOption, IfOk, OnOk, Err, drop};
+ghost use Rattle.tariff_syntax.specs.Items.{item_of};
+ghost use Rattle.tariff_syntax.specs.Parsed.{before, put_entry, entries_of, heading_of, lines_of, is_inner};
+ghost use Rattle.tariff_syntax.specs.Parses.{AreRead, IsAnswer};
+ghost use Rattle.tariff_syntax.specs.Reads.{IsParsed};
+ghost use Rattle.tariff_syntax.specs.Token.{run_end, tokens_of};
+ghost use Rattle.tariff_syntax.specs.Tree.{Line, line_of};
+
+use crate::conditions::LineFault;
+use crate::items::{decimals, item};
+use crate::tariff::{Lines, Tariff, TariffLine};
+use crate::words::is_over;
+use std::alloc::Global;
+use thiserror::Error;
+
+/// Why a text gives no tariff.
+#[derive(Clone, Copy, Debug, PartialEq, Eq, Drop, Error)]
+pub enum ParseFault {
+    /// It has more than 65,536 bytes.
+    #[error("the tariff is too long")]
+    TooLong,
+    /// This line, by its number from 1, is the first that has none of the forms of a line.
+    #[error("line {line} of the tariff is bad")]
+    Syntax { line: u32 },
+    /// Memory ran out.
+    #[error("memory ran out")]
+    NoMemory,
+}
+
+/// Reads a tariff, from a text of lines; each line ends with a line feed, the last one may end with the
+/// text. A `#` and all that stands behind it in a line is a comment. A line has one of these forms, with
+/// what stands in brackets left out or not, and blanks, tabs and carriage returns anywhere between its
+/// parts; an empty one is passed over:
+///
+/// ```text
+/// decimals N
+/// step MONEY [behind | ahead]
+/// positions N
+/// zones N
+/// holiday YYYY-MM-DD
+/// supplement N MONEY max N
+/// initial MONEY [covers MONEY] [when CONDITION]
+/// rate MONEY per TENTHS m , MONEY per TENTHS s [when CONDITION]
+/// ```
+///
+/// `decimals` stands in the first filled line alone, with a number from 0 to 3, and is 2 without that
+/// line. Positions and zones are 1 to 9, a supplement's number 1 to 16, and how often it may be had 1 to
+/// 99. MONEY has at most so many decimals, TENTHS at most one, and both at most 10^12 units of the last.
+/// A condition is made of `position N`, `zone N`, `time HH:MM..HH:MM`, `day mon` or `day mon..sun`,
+/// `date MM-DD..MM-DD`, `holiday`, `after TENTHS m` and `after TENTHS s`, by `not`, `and`, `or` and
+/// parentheses; `not` binds closer than `and`, and `and` closer than `or`, and both join from the left. It
+/// has at most 64 of these atoms, `not` and `(` together. This language is this project's own.
+///
+/// `TooLong` for a text of more than 65,536 bytes. `Syntax` names the first filled line that has none of
+/// these forms. `NoMemory` where memory runs out.
+pub fn parse(alloc: Global, text: &[u8]) -> Result<Tariff, ParseFault>
+    ensures answer { IsParsed text.now result }
+    ensures decimals { IfOk result (λ t. t.decimals ≤ 3) }
+{
+    parse_text(alloc, text)
+}
+
+/// The same, line after line.
+#[tactic(auto, unfolding(crate::specs::Parsed::tree_parsed))]
+fn parse_text(alloc: Global, text: &[u8]) -> Result<Tariff, ParseFault>
+    ensures answer { IsAnswer text.now result }
+    ensures decimals { IfOk result (λ t. t.decimals ≤ 3) }
+{
+    if text.len() > 65_536 {
+        return Err(ParseFault::TooLong);
+    }
+    let (decimals, number, rest) = heading(text);
+    match lines(alloc, decimals, number, rest) {
+        Ok(lines) => Ok(Tariff { decimals, lines }),
+        Err(fault) => Err(fault),
+    }
+}
+
+/// The decimals of a text, the number of the line from which its other lines are read, and the text
+/// from there on: behind a line of decimals, where it is the first that has tokens.
+#[tactic(auto, unfolding(crate::specs::Parsed::heading_of))]
+fn heading(text: &[u8]) -> (u8, u32, &[u8])
+    requires { length text.now ≤ 65536 }
+    ensures value { heading_of 1 (lines_of text.now) ≡ (result.0, result.1, lines_of result.2.now) }
+    ensures decimals { result.0 ≤ 3 }
+    ensures room { result.1 + length result.2.now ≤ 1 + length text.now }
+{
+    let mut rest = text;
+    let mut number = 1;
+    while let Some((line, below)) = first_line(rest) {
+        if !is_over(line) {
+            return match decimals(line) {
+                Some(decimals) => (decimals, number + 1, below),
+                None => (2, number, rest),
+            };
+        }
+        number += 1;
+        rest = below;
+    }
+    (2, number, rest)
+}
+
+/// The lines of a tariff, from the lines of a text, which are numbered on from a number.
+#[tactic(auto, unfolding(crate::specs::Parsed::entries_of))]
+fn lines(alloc: Global, decimals: u8, first: u32, text: &[u8]) -> Result<Lines, ParseFault>
+    requires decimals { decimals ≤ 3 }
+    requires room { first + length text.now < 2 ^ 32 }
+    ensures { AreRead (entries_of decimals first (lines_of text.now)) result }
+{
+    let mut lines = Lines::new(alloc);
+    let mut rest = text;
+    let mut number = first;
+    while let Some((line, below)) = first_line(rest) {
+        match put_line(alloc, decimals, number, line, &mut lines) {
+            Ok(()) => {}
+            Err(fault) => return Err(fault),
+        }
+        number += 1;
+        rest = below;
+    }
+    Ok(lines)
+}
+
+/// Puts what a line says behind the lines above it, where it has tokens.
+fn put_line(
+    alloc: Global,
+    decimals: u8,
+    number: u32,
+    line: &[u8],
+    lines: &mut Lines,
+) -> Result<(), ParseFault>
+    requires { decimals ≤ 3 }
+    ensures ok { OnOk result ((below : Result (List Line) ℕ) → before (map line_of lines.old) (put_entry number (tokens_of line.now) (item_of decimals (tokens_of line.now)) below) ≡ before (map line_of lines.new) below) }
+    ensures long { result ≡ Err ParseFault.TooLong → ⊥ }
+    ensures bad { (n : ℕ) → result ≡ Err (ParseFault.Syntax n) → (below : Result (List Line) ℕ) → put_entry number (tokens_of line.now) (item_of decimals (tokens_of line.now)) below ≡ Err n }
+{
+    if is_over(line) {
+        return Ok(());
+    }
+    match item(alloc, decimals, line) {
+        Ok(item) => match lines.push(TariffLine { line: number, item }) {
+            Ok(()) => Ok(()),
+            Err(_) => Err(ParseFault::NoMemory),
+        },
+        Err(LineFault::Bad) => Err(ParseFault::Syntax { line: number }),
+        Err(LineFault::NoMemory) => Err(ParseFault::NoMemory),
+    }
+}
+
+/// The first line of a text, without its line feed, and what stands after it. `None` at the end.
+fn first_line(text: &[u8]) -> Option<(&[u8], &[u8])>
+    ensures { MatchOption result (lines_of text.now ≡ []) (λ x. (lines_of text.now ≡ x.0.now ∷ lines_of x.1.now) × (length x.1.now < length text.now)) }
+{
+    if text.is_empty() {
+        return None;
+    }
+    let (line, rest) = text.split_at(count_line(text));
+    Some((line, after_feed(rest)))
+}
+
+/// What stands after the byte at the front, if there is one.
+fn after_feed(rest: &[u8]) -> &[u8]
+    ensures { result.now ≡ drop 1 rest.now }
+{
+    match rest.split_first() {
+        Some((_, below)) => below,
+        None => rest,
+    }
+}
+
+/// How many bytes stand before the first line feed.
+fn count_line(text: &[u8]) -> usize
+    ensures count { result ≡ run_end is_inner text.now }
+    ensures within { result ≤ length text.now }
+{
+    let mut rest = text;
+    let mut count = 0;
+    while let Some((first, after)) = rest.split_first() {
+        if *first == b'\n' {
+            return count;
+        }
+        count += 1;
+        rest = after;
+    }
+    count
+}
+
+#[cfg(test)]
+mod tests;

@@ -1,0 +1,164 @@
+//! Texts that are tariffs, and their first bad lines.
+use super::*;
+use std::test::Fail;
+
+/// How many lines a text has that is a tariff, or the number of its first bad line.
+fn outcome(alloc: Global, text: &[u8]) -> Result<usize, u32> {
+    match parse(alloc, text) {
+        Ok(tariff) => Ok(tariff.lines.as_slice().len()),
+        Err(ParseFault::Syntax { line }) => Err(line),
+        Err(_) => Err(0),
+    }
+}
+
+#[test]
+fn reads_each_form_of_a_line(rt: HostRuntime) {
+    let texts = [
+        ("", Ok(0)),
+        ("\n\r\n \t\n# none\n", Ok(0)),
+        ("decimals 0", Ok(0)),
+        ("decimals 3", Ok(0)),
+        ("decimals 4", Err(1)),
+        ("decimals 00", Ok(0)),
+        ("decimals 003", Err(1)),
+        ("decimals", Err(1)),
+        ("decimals 2 2", Err(1)),
+        ("# first\n\ndecimals 3\nstep 0.205", Ok(1)),
+        ("decimals 2\nstep 0.205", Err(2)),
+        ("step 0.20\ndecimals 2", Err(2)),
+        ("decimals 2\ndecimals 2", Err(2)),
+        ("step 0.2 # day\n", Ok(1)),
+        ("\tstep\r 0.2\t\r", Ok(1)),
+        ("step0.2", Ok(1)),
+        ("step 0.2behind", Ok(1)),
+        ("step 0.2 behind ahead", Err(1)),
+        ("step 0.2 up", Err(1)),
+        ("step .5", Err(1)),
+        ("step 1.", Err(1)),
+        ("step 1 .5", Err(1)),
+        ("step 1:5", Err(1)),
+        ("step 10000000000.00", Ok(1)),
+        ("step 10000000000.01", Err(1)),
+        ("Step 1", Err(1)),
+        ("steps 1", Err(1)),
+        ("step 1 ?", Err(1)),
+        ("step 1 #?\u{e9}", Ok(1)),
+        ("positions 1\npositions 9\npositions 09", Ok(3)),
+        ("positions 0", Err(1)),
+        ("positions 10", Err(1)),
+        ("zones 9\nzones 0", Err(2)),
+        ("holiday 2026-01-06", Ok(1)),
+        ("holiday 0000-00-99", Ok(1)),
+        ("holiday 26-01-06", Err(1)),
+        ("holiday 2026-1-06", Err(1)),
+        ("holiday 2026-01-06-", Err(1)),
+        ("holiday 2026 -01-06", Err(1)),
+        ("supplement 1 0 max 1\nsupplement 16 0 max 99", Ok(2)),
+        ("supplement 0 0 max 1", Err(1)),
+        ("supplement 17 0 max 1", Err(1)),
+        ("supplement 1 0 max 100", Err(1)),
+        ("supplement 1 0 max 0", Err(1)),
+        ("supplement 1 0", Err(1)),
+        (
+            "initial 4\ninitial 4 covers 0.4\ninitial 4 when holiday",
+            Ok(3),
+        ),
+        ("initial 4 covers", Err(1)),
+        ("initial 4 when holiday covers 1", Err(1)),
+        ("initial 4 when", Err(1)),
+        (
+            "rate 1 per 2.5 m, 3 per 4.5 s\nrate 1per 2.5m,3per 4.5s when holiday",
+            Ok(2),
+        ),
+        ("rate 1 per 2.55 m, 3 per 4.5 s", Err(1)),
+        ("rate 1 per 2.5 s, 3 per 4.5 m", Err(1)),
+        ("rate 1 per 2.5 m 3 per 4.5 s", Err(1)),
+        ("rate 1 per 2.5 m,, 3 per 4.5 s", Err(1)),
+        ("rate 1 per 2.5 m, 3 per 4.5 s,", Err(1)),
+    ];
+    for (text, want) in texts {
+        assert_eq!(rt; outcome(rt.alloc(), text.as_bytes()), want, "{text}");
+    }
+}
+
+#[test]
+fn reads_each_form_of_a_condition(rt: HostRuntime) -> Result<(), Fail> {
+    let conditions = [
+        ("position 1", true),
+        ("position 9", true),
+        ("position 0", false),
+        ("position 10", false),
+        ("zone 9", true),
+        ("zone", false),
+        ("time 22:00..06:00", true),
+        ("time 00:00 .. 23:59", true),
+        ("time 22:00", false),
+        ("time 24:00..06:00", false),
+        ("time 22:60..06:00", false),
+        ("time 2:00..06:00", false),
+        ("time 22:00...06:00", false),
+        ("time 22:00. .06:00", false),
+        ("day mon", true),
+        ("day sun..mon", true),
+        ("day mon.. tue", true),
+        ("day mon..", false),
+        ("day monday", false),
+        ("date 02-28..03-01", true),
+        ("date 02-28", false),
+        ("date 2-28..03-01", false),
+        ("date 2026-02-28..03-01", false),
+        ("after 9656.1 m", true),
+        ("after 10s", true),
+        ("after 10.55 s", false),
+        ("after 10", false),
+        ("holiday and", false),
+        ("or holiday", false),
+        ("not not holiday", true),
+        ("not", false),
+        ("(holiday)", true),
+        ("((holiday) and day mon or (zone 1))", true),
+        ("(holiday", false),
+        ("holiday)", false),
+        ("()", false),
+        ("holiday holiday", false),
+    ];
+    for (condition, want) in conditions {
+        let text = format!(in rt.alloc(); "initial 1 when {condition}")?;
+        assert_eq!(rt;
+            outcome(rt.alloc(), text.as_bytes()).is_ok(),
+            want,
+            "{condition}"
+        );
+    }
+    Ok(())
+}
+
+#[test]
+fn bounds_a_text_and_a_condition(rt: HostRuntime) -> Result<(), Fail> {
+    for (blanks, want) in [(65_536, true), (65_537, false)] {
+        let mut text = Vec::new(rt.alloc());
+        for _ in 0..blanks {
+            text.push(b' ')?;
+        }
+        match parse(rt.alloc(), &text) {
+            Ok(_) => assert!(rt; want, "at {blanks}"),
+            Err(fault) => assert!(rt; fault == ParseFault::TooLong && !want, "at {blanks}"),
+        }
+    }
+    let parts = [("holiday or ", ""), ("not ", ""), ("(", ")")];
+    for (front, back) in parts {
+        for (more, want) in [(63, Ok(1)), (64, Err(1))] {
+            let mut text = Vec::new(rt.alloc());
+            text.extend_from_slice(b"initial 1 when ")?;
+            for _ in 0..more {
+                text.extend_from_slice(front.as_bytes())?;
+            }
+            text.extend_from_slice(b"holiday")?;
+            for _ in 0..more {
+                text.extend_from_slice(back.as_bytes())?;
+            }
+            assert_eq!(rt; outcome(rt.alloc(), &text), want, "{more} of {front}");
+        }
+    }
+    Ok(())
+}

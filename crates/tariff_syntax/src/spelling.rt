@@ -1,0 +1,170 @@
+//! Writes the printed form of a condition.
+ghost use Rattle.std.specs.Prelude.{◌≡◌, ◌++◌, ◌/◌, ◌%◌, List, ℕ, OnOk, codes, true};
+ghost use Rattle.std.specs.Fmt.{decimal};
+ghost use Rattle.taxi_units.specs.Number.{padded_text, money_text};
+ghost use Rattle.tariff_syntax.specs.Condition.{condition_of};
+ghost use Rattle.tariff_syntax.specs.PrintedCondition.{condition_at, closed, whole, term, factor, day_word, days_text, minute_text, date_text};
+
+use crate::condition::Cond;
+use crate::printing::push_money;
+use std::alloc::AllocError;
+use taxi_units::{Line, put_padded};
+
+/// A whole condition, or one before an `or`.
+#[cycle(spelling)]
+pub fn push_condition(text: &mut Vec<u8>, cond: &Cond) -> Result<(), AllocError>
+    ensures { OnOk result ((rest : List ℕ) → text.new.items ++ rest ≡ text.old.items ++ condition_at whole (condition_of cond.now) rest) }
+{
+    match cond {
+        Cond::And(left, right) => {
+            push_term(text, left)?;
+            text.extend_from_slice(b" and ")?;
+            push_factor(text, right)
+        }
+        Cond::Or(left, right) => {
+            push_condition(text, left)?;
+            text.extend_from_slice(b" or ")?;
+            push_term(text, right)
+        }
+        Cond::Not(inner) => {
+            text.extend_from_slice(b"not ")?;
+            push_factor(text, inner)
+        }
+        Cond::Position(number) => push_named(text, b"position ", *number),
+        Cond::Zone(number) => push_named(text, b"zone ", *number),
+        Cond::Time { from, to } => push_time(text, *from, *to),
+        Cond::Day { from, to } => push_days(text, *from, *to),
+        Cond::Date { from, to } => push_dates(text, *from, *to),
+        Cond::Holiday => text.extend_from_slice(b"holiday"),
+        Cond::AfterDistance(decimetres) => push_after(text, *decimetres, b" m"),
+        Cond::AfterTime(tenths) => push_after(text, *tenths, b" s"),
+    }
+}
+
+/// A condition behind an `or` or before an `and`.
+#[cycle(spelling)]
+fn push_term(text: &mut Vec<u8>, cond: &Cond) -> Result<(), AllocError>
+    ensures { OnOk result ((rest : List ℕ) → text.new.items ++ rest ≡ text.old.items ++ condition_at term (condition_of cond.now) rest) }
+{
+    match cond {
+        Cond::Or(_, _) => push_closed(text, cond),
+        _ => push_condition(text, cond),
+    }
+}
+
+/// A condition behind an `and` or a `not`.
+#[cycle(spelling)]
+fn push_factor(text: &mut Vec<u8>, cond: &Cond) -> Result<(), AllocError>
+    ensures { OnOk result ((rest : List ℕ) → text.new.items ++ rest ≡ text.old.items ++ condition_at factor (condition_of cond.now) rest) }
+{
+    match cond {
+        Cond::And(_, _) | Cond::Or(_, _) => push_closed(text, cond),
+        _ => push_condition(text, cond),
+    }
+}
+
+/// A condition in parentheses.
+#[cycle(spelling)]
+fn push_closed(text: &mut Vec<u8>, cond: &Cond) -> Result<(), AllocError>
+    ensures { OnOk result ((rest : List ℕ) → text.new.items ++ rest ≡ text.old.items ++ closed true (condition_at whole (condition_of cond.now)) rest) }
+{
+    text.push(b'(')?;
+    push_condition(text, cond)?;
+    text.push(b')')?;
+    Ok(())
+}
+
+/// A word and a number.
+pub fn push_named(text: &mut Vec<u8>, name: &[u8], number: u8) -> Result<(), AllocError>
+    ensures { OnOk result ((rest : List ℕ) → text.new.items ++ rest ≡ text.old.items ++ (name.now ++ (decimal number ++ rest))) }
+{
+    text.extend_from_slice(name)?;
+    push_money(text, number as u64, 0)
+}
+
+/// A range of minutes.
+fn push_time(text: &mut Vec<u8>, from: u16, to: u16) -> Result<(), AllocError>
+    ensures { OnOk result ((rest : List ℕ) → text.new.items ++ rest ≡ text.old.items ++ (codes "time " ++ minute_text from (codes ".." ++ minute_text to rest))) }
+{
+    text.extend_from_slice(b"time ")?;
+    push_minute(text, from)?;
+    text.extend_from_slice(b"..")?;
+    push_minute(text, to)
+}
+
+/// A minute of the day.
+fn push_minute(text: &mut Vec<u8>, minute: u16) -> Result<(), AllocError>
+    ensures { OnOk result ((rest : List ℕ) → text.new.items ++ rest ≡ text.old.items ++ minute_text minute rest) }
+{
+    push_padded(text, (minute / 60) as u64, 2)?;
+    text.push(b':')?;
+    push_padded(text, (minute % 60) as u64, 2)
+}
+
+/// One weekday, or a range of them.
+fn push_days(text: &mut Vec<u8>, from: u8, to: u8) -> Result<(), AllocError>
+    ensures { OnOk result ((rest : List ℕ) → text.new.items ++ rest ≡ text.old.items ++ (codes "day " ++ days_text from to rest)) }
+{
+    text.extend_from_slice(b"day ")?;
+    text.extend_from_slice(weekday(from))?;
+    if from == to {
+        return Ok(());
+    }
+    text.extend_from_slice(b"..")?;
+    text.extend_from_slice(weekday(to))
+}
+
+/// The short name of a weekday, from 1 for Monday.
+fn weekday(number: u8) -> &'static [u8]
+    ensures { result.now ≡ day_word number }
+{
+    match number {
+        0 | 1 => b"mon",
+        2 => b"tue",
+        3 => b"wed",
+        4 => b"thu",
+        5 => b"fri",
+        6 => b"sat",
+        7 => b"sun",
+        _ => b"",
+    }
+}
+
+/// A range of dates.
+fn push_dates(text: &mut Vec<u8>, from: (u8, u8), to: (u8, u8)) -> Result<(), AllocError>
+    ensures { OnOk result ((rest : List ℕ) → text.new.items ++ rest ≡ text.old.items ++ (codes "date " ++ date_text from.0 from.1 (codes ".." ++ date_text to.0 to.1 rest))) }
+{
+    text.extend_from_slice(b"date ")?;
+    push_date(text, from.0, from.1)?;
+    text.extend_from_slice(b"..")?;
+    push_date(text, to.0, to.1)
+}
+
+/// A date of any year.
+pub fn push_date(text: &mut Vec<u8>, month: u8, date: u8) -> Result<(), AllocError>
+    ensures { OnOk result ((rest : List ℕ) → text.new.items ++ rest ≡ text.old.items ++ date_text month date rest) }
+{
+    push_padded(text, month as u64, 2)?;
+    text.push(b'-')?;
+    push_padded(text, date as u64, 2)
+}
+
+/// A measure and its unit.
+fn push_after(text: &mut Vec<u8>, measure: u64, unit: &[u8]) -> Result<(), AllocError>
+    ensures { OnOk result ((rest : List ℕ) → text.new.items ++ rest ≡ text.old.items ++ (codes "after " ++ (money_text 1 measure ++ (unit.now ++ rest)))) }
+{
+    text.extend_from_slice(b"after ")?;
+    push_money(text, measure, 1)?;
+    text.extend_from_slice(unit)
+}
+
+/// A number with zeros in front up to a width.
+pub fn push_padded(text: &mut Vec<u8>, number: u64, width: u8) -> Result<(), AllocError>
+    ensures { OnOk result (text.new.items ≡ text.old.items ++ padded_text width number) }
+{
+    let mut line = Line::new();
+    match put_padded(&mut line, number, width) {
+        Ok(()) => text.extend_from_slice(line.as_slice()),
+        Err(_) => Err(AllocError),
+    }
+}

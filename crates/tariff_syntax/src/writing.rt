@@ -1,0 +1,196 @@
+//! Writes the printed form of a tariff.
+ghost use Rattle.std.specs.Prelude.{◌≡◌, ◌≤◌, ◌++◌, List, ℕ, IfOk, OnOk, codes, map};
+ghost use Rattle.std.specs.Fmt.{decimal};
+ghost use Rattle.taxi_units.specs.Number.{money_text};
+ghost use Rattle.tariff_syntax.specs.Condition.{condition_of, condition_if};
+ghost use Rattle.tariff_syntax.specs.PrintedCondition.{condition_text};
+ghost use Rattle.tariff_syntax.specs.Printed.{printed, number_line, step_line, holiday_line, supplement_line, initial_line, rate_line, entry_line, lines_text, when_text};
+ghost use Rattle.tariff_syntax.specs.Tree.{tree_of, entry_of, line_of};
+
+use crate::condition::Cond;
+use crate::printing::{push_money, push_per, push_rounding};
+use crate::spelling::{push_condition, push_date, push_named, push_padded};
+use crate::tariff::{InitialLine, Item, RateLine, Tariff, TariffLine};
+use drive_modes::Rounding;
+use std::alloc::{AllocError, Global};
+use taxi_units::NoMemory;
+
+/// The printed form of a tariff: the line of its decimals, then its lines in their order, with one
+/// blank between tokens, but none before a comma, around `..`, after `(` and before `)`. Money has the
+/// tariff's decimals, 0 to 3, and measures one; rounding words and covered amounts always stand, and
+/// parentheses where they are needed. `NoMemory` where memory runs out.
+pub fn print(alloc: Global, tariff: &Tariff) -> Result<Vec<u8>, NoMemory>
+    requires { tariff.now.decimals ≤ 3 }
+    ensures { IfOk result (λ text. text.items ≡ printed (tree_of tariff.now)) }
+{
+    match write_tariff(alloc, tariff) {
+        Ok(text) => Ok(text),
+        Err(_) => Err(NoMemory),
+    }
+}
+
+/// The same; out of memory is its only error.
+fn write_tariff(alloc: Global, tariff: &Tariff) -> Result<Vec<u8>, AllocError>
+    requires { tariff.now.decimals ≤ 3 }
+    ensures { IfOk result (λ text. text.items ≡ printed (tree_of tariff.now)) }
+{
+    let mut text = Vec::new(alloc);
+    push_number(&mut text, b"decimals ", tariff.decimals)?;
+    push_lines(&mut text, tariff.decimals, tariff.lines.as_slice())?;
+    Ok(text)
+}
+
+/// Lines in their order.
+fn push_lines(text: &mut Vec<u8>, decimals: u8, lines: &[TariffLine]) -> Result<(), AllocError>
+    requires { decimals ≤ 3 }
+    ensures { OnOk result (text.new.items ≡ text.old.items ++ lines_text decimals (map line_of lines.now)) }
+{
+    for line in lines {
+        push_item(text, decimals, &line.item)?;
+    }
+    Ok(())
+}
+
+/// A line.
+fn push_item(text: &mut Vec<u8>, decimals: u8, item: &Item) -> Result<(), AllocError>
+    requires { decimals ≤ 3 }
+    ensures { OnOk result ((rest : List ℕ) → text.new.items ++ rest ≡ text.old.items ++ entry_line decimals (entry_of item.now) rest) }
+{
+    match item {
+        Item::Step { amount, rounding } => push_step(text, decimals, *amount, *rounding),
+        Item::Positions(number) => push_number(text, b"positions ", *number),
+        Item::Zones(number) => push_number(text, b"zones ", *number),
+        Item::Holiday { year, month, date } => push_holiday(text, *year, *month, *date),
+        Item::Supplement {
+            number,
+            amount,
+            max,
+        } => { push_supplement(text, decimals, *number, *amount, *max) }
+        Item::Initial(initial) => push_initial(text, decimals, initial),
+        Item::Rate(rate) => push_rate(text, decimals, rate),
+    }
+}
+
+/// A line of a word and a number.
+#[tactic(auto, unfolding(crate::specs::Printed::number_line))]
+fn push_number(text: &mut Vec<u8>, name: &[u8], number: u8) -> Result<(), AllocError>
+    ensures { OnOk result ((rest : List ℕ) → text.new.items ++ rest ≡ text.old.items ++ number_line name.now number rest) }
+{
+    text.extend_from_slice(name)?;
+    push_money(text, number as u64, 0)?;
+    text.push(b'\n')?;
+    Ok(())
+}
+
+/// The line of a display step.
+#[tactic(auto, unfolding(crate::specs::Printed::step_line))]
+fn push_step(
+    text: &mut Vec<u8>,
+    decimals: u8,
+    amount: u64,
+    rounding: Rounding,
+) -> Result<(), AllocError>
+    requires { decimals ≤ 3 }
+    ensures { OnOk result ((rest : List ℕ) → text.new.items ++ rest ≡ text.old.items ++ step_line decimals amount rounding rest) }
+{
+    text.extend_from_slice(b"step ")?;
+    push_money(text, amount, decimals)?;
+    text.push(b' ')?;
+    push_rounding(text, rounding)?;
+    text.push(b'\n')?;
+    Ok(())
+}
+
+/// The line of a holiday.
+#[tactic(auto, unfolding(crate::specs::Printed::holiday_line))]
+fn push_holiday(text: &mut Vec<u8>, year: u16, month: u8, date: u8) -> Result<(), AllocError>
+    ensures { OnOk result ((rest : List ℕ) → text.new.items ++ rest ≡ text.old.items ++ holiday_line year month date rest) }
+{
+    text.extend_from_slice(b"holiday ")?;
+    push_padded(text, year as u64, 4)?;
+    text.push(b'-')?;
+    push_date(text, month, date)?;
+    text.push(b'\n')?;
+    Ok(())
+}
+
+/// The line of a supplement.
+#[tactic(auto, unfolding(crate::specs::Printed::supplement_line))]
+fn push_supplement(
+    text: &mut Vec<u8>,
+    decimals: u8,
+    number: u8,
+    amount: u64,
+    max: u8,
+) -> Result<(), AllocError>
+    requires { decimals ≤ 3 }
+    ensures { OnOk result ((rest : List ℕ) → text.new.items ++ rest ≡ text.old.items ++ supplement_line decimals number amount max rest) }
+{
+    push_named(text, b"supplement ", number)?;
+    push_most(text, decimals, amount, max)
+}
+
+/// The amount of a supplement, and how often it may be had, at the end of its line.
+fn push_most(text: &mut Vec<u8>, decimals: u8, amount: u64, max: u8) -> Result<(), AllocError>
+    requires { decimals ≤ 3 }
+    ensures { OnOk result ((rest : List ℕ) → text.new.items ++ rest ≡ text.old.items ++ (codes " " ++ (money_text decimals amount ++ (codes " max " ++ (decimal max ++ (codes "\n" ++ rest)))))) }
+{
+    text.push(b' ')?;
+    push_money(text, amount, decimals)?;
+    text.extend_from_slice(b" max ")?;
+    push_money(text, max as u64, 0)?;
+    text.push(b'\n')?;
+    Ok(())
+}
+
+/// The line of an initial hire fee.
+#[tactic(auto, unfolding(crate::specs::Printed::initial_line))]
+fn push_initial(text: &mut Vec<u8>, decimals: u8, initial: &InitialLine) -> Result<(), AllocError>
+    requires { decimals ≤ 3 }
+    ensures { let i = initial.now in OnOk result ((rest : List ℕ) → text.new.items ++ rest ≡ text.old.items ++ initial_line decimals i.amount i.covers (condition_if i.cond) rest) }
+{
+    text.extend_from_slice(b"initial ")?;
+    push_money(text, initial.amount, decimals)?;
+    text.extend_from_slice(b" covers ")?;
+    push_money(text, initial.covers, decimals)?;
+    push_when(text, &initial.cond)
+}
+
+/// The line of a rate.
+#[tactic(auto, unfolding(crate::specs::Printed::rate_line))]
+fn push_rate(text: &mut Vec<u8>, decimals: u8, rate: &RateLine) -> Result<(), AllocError>
+    requires { decimals ≤ 3 }
+    ensures { let r = rate.now in OnOk result ((rest : List ℕ) → text.new.items ++ rest ≡ text.old.items ++ rate_line decimals r.a r.b r.c r.e (condition_if r.cond) rest) }
+{
+    text.extend_from_slice(b"rate ")?;
+    push_per(text, decimals, rate.a, rate.b, b" m, ")?;
+    push_per(text, decimals, rate.c, rate.e, b" s")?;
+    push_when(text, &rate.cond)
+}
+
+/// The end of a line that may have a condition.
+fn push_when(text: &mut Vec<u8>, cond: &Option<Cond>) -> Result<(), AllocError>
+    ensures { OnOk result ((rest : List ℕ) → text.new.items ++ rest ≡ text.old.items ++ when_text (condition_if cond.now) rest) }
+{
+    match cond {
+        None => {
+            text.push(b'\n')?;
+            Ok(())
+        }
+        Some(cond) => push_condition_line(text, cond),
+    }
+}
+
+/// A condition at the end of a line.
+#[tactic(auto, unfolding(crate::specs::PrintedCondition::condition_text))]
+fn push_condition_line(text: &mut Vec<u8>, cond: &Cond) -> Result<(), AllocError>
+    ensures { OnOk result ((rest : List ℕ) → text.new.items ++ rest ≡ text.old.items ++ (codes " when " ++ condition_text (condition_of cond.now) (codes "\n" ++ rest))) }
+{
+    text.extend_from_slice(b" when ")?;
+    push_condition(text, cond)?;
+    text.push(b'\n')?;
+    Ok(())
+}
+
+#[cfg(test)]
+mod tests;
