@@ -54,45 +54,36 @@ rate 0.10 per 100.0 m, 0.10 per 20.0 s
     Ok(())
 }
 
+/// Conditions, the arguments of a context, and whether they hold in it.
+const ASKED: [(&str, (u8, u16, bool, u16, u64), bool); 18] = [
+    ("time 22:00..06:00", (1, 0, false, 1319, 0), false),
+    ("time 22:00..06:00", (1, 0, false, 1320, 0), true),
+    ("time 22:00..06:00", (1, 0, false, 359, 0), true),
+    ("time 22:00..06:00", (1, 0, false, 360, 0), false),
+    ("time 06:00..06:00", (1, 0, false, 360, 0), false),
+    ("day sat..mon", (7, 0, false, 0, 0), true),
+    ("day sat..mon", (2, 0, false, 0, 0), false),
+    ("date 12-31..01-01", (1, 365, false, 0, 0), true),
+    ("date 12-31..01-01", (1, 1, false, 0, 0), false),
+    ("after 9656.1 m", (1, 0, false, 0, 96_560), false),
+    ("after 9656.1 m", (1, 0, false, 0, 96_561), true),
+    ("after 0.1 s", (1, 0, false, 0, 0), false),
+    ("holiday and zone 2 or zone 1", (1, 0, false, 0, 0), true),
+    ("zone 1 or holiday and holiday", (1, 0, false, 0, 0), true),
+    (
+        "(zone 1 or holiday) and holiday",
+        (1, 0, false, 0, 0),
+        false,
+    ),
+    ("not holiday and holiday", (1, 0, false, 0, 0), false),
+    ("not (holiday and holiday)", (1, 0, false, 0, 0), true),
+    ("position 2", (1, 0, false, 0, 0), false),
+];
+
 #[test]
 fn asks_conditions(rt: HostRuntime) -> Result<(), Fail> {
-    let asked = [
-        ("time 22:00..06:00", context(1, 0, false, 1319, 0), false),
-        ("time 22:00..06:00", context(1, 0, false, 1320, 0), true),
-        ("time 22:00..06:00", context(1, 0, false, 359, 0), true),
-        ("time 22:00..06:00", context(1, 0, false, 360, 0), false),
-        ("time 06:00..06:00", context(1, 0, false, 360, 0), false),
-        ("day sat..mon", context(7, 0, false, 0, 0), true),
-        ("day sat..mon", context(2, 0, false, 0, 0), false),
-        ("date 12-31..01-01", context(1, 365, false, 0, 0), true),
-        ("date 12-31..01-01", context(1, 1, false, 0, 0), false),
-        ("after 9656.1 m", context(1, 0, false, 0, 96_560), false),
-        ("after 9656.1 m", context(1, 0, false, 0, 96_561), true),
-        ("after 0.1 s", context(1, 0, false, 0, 0), false),
-        (
-            "holiday and zone 2 or zone 1",
-            context(1, 0, false, 0, 0),
-            true,
-        ),
-        (
-            "zone 1 or holiday and holiday",
-            context(1, 0, false, 0, 0),
-            true,
-        ),
-        (
-            "(zone 1 or holiday) and holiday",
-            context(1, 0, false, 0, 0),
-            false,
-        ),
-        ("not holiday and holiday", context(1, 0, false, 0, 0), false),
-        (
-            "not (holiday and holiday)",
-            context(1, 0, false, 0, 0),
-            true,
-        ),
-        ("position 2", context(1, 0, false, 0, 0), false),
-    ];
-    for (when, x, want) in asked {
+    for (when, (weekday, month_day, is_holiday, minute, pulses), want) in ASKED {
+        let x = context(weekday, month_day, is_holiday, minute, pulses);
         let text = format!(in rt.alloc(); "rate 1 per 1 m, 1 per 1 s when {when}")?;
         let tariff = parse(rt.alloc(), text.as_bytes())?;
         let place = if want { Some(0) } else { None };

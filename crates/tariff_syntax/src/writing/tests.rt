@@ -3,9 +3,8 @@ use super::*;
 use crate::parsing::parse;
 use std::test::Fail;
 
-#[test]
-fn prints_what_was_parsed(rt: HostRuntime) -> Result<(), Fail> {
-    let city = "decimals 2
+/// A tariff in its printed form.
+const CITY: &str = "decimals 2
 step 0.20 ahead
 positions 2
 zones 2
@@ -21,37 +20,42 @@ rate 0.20 per 90.0 m, 0.20 per 20.0 s when time 22:00..06:00 or day sun or holid
 rate 0.20 per 100.0 m, 0.20 per 20.0 s when after 5000.0 m
 rate 0.20 per 125.0 m, 0.20 per 25.0 s
 ";
-    let texts = [
-        (city, city),
-        ("", "decimals 2\n"),
-        ("step 0.2 # day\n", "decimals 2\nstep 0.20 behind\n"),
-        ("decimals 0\nstep 007", "decimals 0\nstep 7 behind\n"),
-        (
-            "decimals 3\ninitial 1.5",
-            "decimals 3\ninitial 1.500 covers 0.000\n",
-        ),
-        (
-            "rate 0.1 per 1 m, 0.1 per 1 s when not (day sun or zone 1)",
-            "decimals 2\nrate 0.10 per 1.0 m, 0.10 per 1.0 s when not (day sun or zone 1)\n",
-        ),
-        (
-            "initial 1 when (day sun..sun and (zone 1)) or (zone 02 and not not zone 3)",
-            "decimals 2\ninitial 1.00 covers 0.00 when day sun and zone 1 or zone 2 and not not zone 3\n",
-        ),
-        (
-            "initial 1 when zone 1 or (zone 2 or zone 3) and (zone 4 and (zone 5 and zone 6))",
-            "decimals 2\ninitial 1.00 covers 0.00 when zone 1 or (zone 2 or zone 3) and (zone 4 and (zone 5 and zone 6))\n",
-        ),
-        (
-            "initial 1 when zone 1 or (zone 2 or holiday)\ninitial 1 when (after 0.5 s or holiday) or day mon..fri",
-            "decimals 2\ninitial 1.00 covers 0.00 when zone 1 or (zone 2 or holiday)\ninitial 1.00 covers 0.00 when after 0.5 s or holiday or day mon..fri\n",
-        ),
-        (
-            "initial 1 when date 02-28 .. 03-01 and time 00:05..23:59",
-            "decimals 2\ninitial 1.00 covers 0.00 when date 02-28..03-01 and time 00:05..23:59\n",
-        ),
-    ];
-    for (text, want) in texts {
+
+/// Tariffs, and their printed forms.
+const TEXTS: [(&str, &str); 10] = [
+    (CITY, CITY),
+    ("", "decimals 2\n"),
+    ("step 0.2 # day\n", "decimals 2\nstep 0.20 behind\n"),
+    ("decimals 0\nstep 007", "decimals 0\nstep 7 behind\n"),
+    (
+        "decimals 3\ninitial 1.5",
+        "decimals 3\ninitial 1.500 covers 0.000\n",
+    ),
+    (
+        "rate 0.1 per 1 m, 0.1 per 1 s when not (day sun or zone 1)",
+        "decimals 2\nrate 0.10 per 1.0 m, 0.10 per 1.0 s when not (day sun or zone 1)\n",
+    ),
+    (
+        "initial 1 when (day sun..sun and (zone 1)) or (zone 02 and not not zone 3)",
+        "decimals 2\ninitial 1.00 covers 0.00 when day sun and zone 1 or zone 2 and not not zone 3\n",
+    ),
+    (
+        "initial 1 when zone 1 or (zone 2 or zone 3) and (zone 4 and (zone 5 and zone 6))",
+        "decimals 2\ninitial 1.00 covers 0.00 when zone 1 or (zone 2 or zone 3) and (zone 4 and (zone 5 and zone 6))\n",
+    ),
+    (
+        "initial 1 when zone 1 or (zone 2 or holiday)\ninitial 1 when (after 0.5 s or holiday) or day mon..fri",
+        "decimals 2\ninitial 1.00 covers 0.00 when zone 1 or (zone 2 or holiday)\ninitial 1.00 covers 0.00 when after 0.5 s or holiday or day mon..fri\n",
+    ),
+    (
+        "initial 1 when date 02-28 .. 03-01 and time 00:05..23:59",
+        "decimals 2\ninitial 1.00 covers 0.00 when date 02-28..03-01 and time 00:05..23:59\n",
+    ),
+];
+
+#[test]
+fn prints_what_was_parsed(rt: HostRuntime) -> Result<(), Fail> {
+    for (text, want) in TEXTS {
         let tariff = parse(rt.alloc(), text.as_bytes())?;
         let Ok(printed) = print(rt.alloc(), &tariff) else {
             return Err(Fail::from(AllocError));
