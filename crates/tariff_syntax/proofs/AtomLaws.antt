@@ -6,7 +6,8 @@ use Rattle.tariff_syntax.specs.Atom.{weekday_of, weekday_first, numbered_first, 
 use Rattle.tariff_syntax.specs.Condition.{Condition, and, or, not, position, zone, time, day, date, holiday, after_distance, after_time}
 use Rattle.tariff_syntax.specs.Figure.{small_number, amount_of, minute_of, date_of, number_first, amount_first, minute_first, date_first}
 use Rattle.tariff_syntax.specs.Forms.{IsNumber, IsDate, IsMinute, IsAmount, IsWeekday, AreWeekdays, IsAtom}
-use Rattle.tariff_syntax.specs.Grammar.{Reader, factor_by, weight}
+use Rattle.tariff_syntax.specs.Grammar.{Reader, factor_by}
+use Rattle.tariff_syntax.specs.Weight.{weight}
 use Rattle.tariff_syntax.specs.PrintedCondition.{day_word}
 use Rattle.tariff_syntax.specs.Token.{Token, word, figure, sign}
 use Rattle.tariff_syntax.specs.Words.{after_word, after_sign, word_first}
@@ -45,7 +46,7 @@ date_here : (f : List ℕ) (m n : ℕ) (rest : List Token) → IsDate f m n → 
 unfolding date_first
 date_here f m n rest h = figure_as_here date_of f (m, n) rest (date_again f m n h)
 
-seven : (n : ℕ) → 1 ≤ n → n ≤ 7 → (n ≡ 1) ⊎ ((n ≡ 2) ⊎ ((n ≡ 3) ⊎ ((n ≡ 4) ⊎ ((n ≡ 5) ⊎ ((n ≡ 6) ⊎ (n ≡ 7))))))
+pub seven : (n : ℕ) → 1 ≤ n → n ≤ 7 → (n ≡ 1) ⊎ ((n ≡ 2) ⊎ ((n ≡ 3) ⊎ ((n ≡ 4) ⊎ ((n ≡ 5) ⊎ ((n ≡ 6) ⊎ (n ≡ 7))))))
 seven n low high = elim (cases_eq n 1) [ inl e ↦ inl e | inr a ↦ inr (elim (cases_eq n 2) [ inl e ↦ inl e | inr b ↦ inr (elim (cases_eq n 3) [ inl e ↦ inl e | inr c ↦ inr (elim (cases_eq n 4) [ inl e ↦ inl e | inr d ↦ inr (elim (cases_eq n 5) [ inl e ↦ inl e | inr f ↦ inr (elim (cases_eq n 6) [ inl e ↦ inl e | inr g ↦ inr (let last : n ≡ 7 = omega arith in last) ]) ]) ]) ]) ]) ]
 
 named_day : (name text : List ℕ) (k n : ℕ) → 1 ≤ k → k ≤ 7 → text ≡ day_word k → bytes_eq name text ≡ true → Some k ≡ Some n → IsWeekday name n

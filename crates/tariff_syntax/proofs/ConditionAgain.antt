@@ -2,7 +2,8 @@
 use Rattle.std.proofs.Common.{◌≡◌, ℕ, ◌+◌, ◌-◌, ◌≤◌, List, [], ◌∷◌, ◌++◌, Some, None, refl, ap, ◌∙◌, arith, codes, append_assoc}
 use Rattle.tariff_syntax.specs.Condition as tree
 use Rattle.tariff_syntax.specs.Condition.{Condition}
-use Rattle.tariff_syntax.specs.Grammar.{chain_on, and_joined, or_joined, term_by, condition_by, factor_first, weight}
+use Rattle.tariff_syntax.specs.Grammar.{chain_on, and_joined, or_joined, term_by, condition_by, factor_first}
+use Rattle.tariff_syntax.specs.Weight.{weight}
 use Rattle.tariff_syntax.specs.IsCondition.{IsCondition, atom, negation, parentheses, one_factor, conjunction, one_term, disjunction}
 use Rattle.tariff_syntax.specs.PrintedCondition.{Place, whole, term, factor}
 use Rattle.tariff_syntax.specs.Token.{Token, word, sign}

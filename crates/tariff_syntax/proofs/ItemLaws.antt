@@ -7,7 +7,8 @@ use Rattle.drive_modes.specs.declared.meterage.Rounding.TheVariants.{Behind, Ahe
 use Rattle.tariff_syntax.specs.Condition.{Condition}
 use Rattle.tariff_syntax.specs.Figure.{number_first, amount_first, year_date_of, year_date_first}
 use Rattle.tariff_syntax.specs.Forms.{IsNumber, IsYearDate}
-use Rattle.tariff_syntax.specs.Grammar.{condition_by, factor_first, weight, condition_alone, bounded_condition, when_of}
+use Rattle.tariff_syntax.specs.Grammar.{condition_by, factor_first, condition_alone, bounded_condition, when_of}
+use Rattle.tariff_syntax.specs.Weight.{weight}
 use Rattle.tariff_syntax.specs.IsCondition.{IsCondition}
 use Rattle.tariff_syntax.specs.IsItem.{IsRounding, IsCovers, IsWhen, IsPer, IsItem, IsDecimals}
 use Rattle.tariff_syntax.specs.Items.{rounding_of, rounding_end, step_of, count_of, positions_of, zones_of, holiday_of, supplement_of, covers_after, covers_first, initial_of, per_first, rate_of, item_named, item_of, decimals_of}

@@ -8,6 +8,11 @@ pub mod ItemLaws
 pub mod LineOrder
 pub mod Measures
 pub mod ReadsLaws
+pub mod ShownConditions
+pub mod ShownFigures
+pub mod ShownGrammar
+pub mod ShownLines
+pub mod Shows
 pub mod Soundness
 pub mod TokenLaws
 pub mod TokenOrder

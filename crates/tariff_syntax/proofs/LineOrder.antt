@@ -1,7 +1,7 @@
 -- The lines of a text, one after another.
 use Rattle.std.proofs.Common.{◌≡◌, ℕ, suc, ◌+◌, ◌<◌, Bool, true, false, List, [], ◌∷◌, length, take, drop, refl, arith, ◌==◌, length-drop}
-use Rattle.tariff_syntax.specs.Parsed.{in_front, lines_of, is_inner}
-use Rattle.tariff_syntax.specs.Token.{run_end}
+use Rattle.tariff_syntax.specs.TextLines.{in_front, lines_of, is_inner}
+use Rattle.tariff_syntax.specs.TokenReading.{run_end}
 
 joined_by : (c n : ℕ) (cs : List ℕ) → lines_of cs ≡ take n cs ∷ lines_of (drop 1 (drop n cs)) → in_front c (lines_of cs) ≡ take (1 + n) (c ∷ cs) ∷ lines_of (drop 1 (drop (1 + n) (c ∷ cs)))
 joined_by c n cs h =

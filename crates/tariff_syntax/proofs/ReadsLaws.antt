@@ -2,11 +2,13 @@
 use Rattle.std.proofs.Common.{◌≡◌, ◌⊎◌, inl, inr, ℕ, ◌+◌, List, [], ◌∷◌, Option, Some, None, Result, Ok, Err, refl, ap, sym, ◌∙◌, subst, ◌↔◌}
 use Rattle.tariff_syntax.specs.IsItem.{IsItem}
 use Rattle.tariff_syntax.specs.Items.{item_of, decimals_of}
-use Rattle.tariff_syntax.specs.Parsed.{lines_of, put_entry, entries_of, heading_by, heading_of, tree_with, tree_below, tree_parsed}
+use Rattle.tariff_syntax.specs.Parsed.{put_entry, entries_of, heading_by, heading_of, tree_with, tree_below, tree_parsed}
+use Rattle.tariff_syntax.specs.TextLines.{lines_of}
 use Rattle.tariff_syntax.specs.Parses.{IsAnswer}
 use Rattle.tariff_syntax.specs.Reads.{IsEmpty, SaysDecimals, Says, SayLines, SayTariff, Reads, FirstBad, FirstBadBelow, IsFirstBadLine, IsParsed}
 use Rattle.tariff_syntax.specs.Spelled.{IsSpelled}
-use Rattle.tariff_syntax.specs.Token.{Token, tokens_of}
+use Rattle.tariff_syntax.specs.Token.{Token}
+use Rattle.tariff_syntax.specs.TokenReading.{tokens_of}
 use Rattle.tariff_syntax.specs.Tree.{Tree, Line, Entry, step, positions, zones, holiday, supplement, initial, rate, tree_of}
 use Rattle.tariff_syntax.specs.declared.parsing.ParseFault.{ParseFault}
 use Rattle.tariff_syntax.specs.declared.parsing.ParseFault.TheVariants.{TooLong, Syntax, NoMemory}

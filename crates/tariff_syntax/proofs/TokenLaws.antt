@@ -6,7 +6,8 @@ use Rattle.std.proofs.Math.Seq.{take-append_seam, drop-append_seam}
 use Rattle.std.proofs.lemmas.Bool.{eqb-true, and_parts}
 use Rattle.std.proofs.lemmas.Bool.Decides.{nat_tests}
 use Rattle.std.proofs.lemmas.List.{take-append-drop}
-use Rattle.tariff_syntax.specs.Token.{Token, word, figure, sign, is_blank, is_letter, begins_with_digit, goes_on, run_end, sign_end, cut_token, token_here, token_at, tokens_of}
+use Rattle.tariff_syntax.specs.Token.{Token, word, figure, sign, is_blank, is_letter, begins_with_digit, goes_on}
+use Rattle.tariff_syntax.specs.TokenReading.{run_end, sign_end, cut_token, token_here, token_at, tokens_of}
 use Rattle.tariff_syntax.specs.Spelled.{IsRun, NoDots, IsSign, text_of, IsToken, IsEnd, IsSpelled}
 use Rattle.tariff_syntax.proofs.TokenOrder.{tokens_of-none, tokens_of-some, token_shorter}
 

@@ -2,7 +2,8 @@
 use Rattle.std.proofs.Common.{◌≡◌, ℕ, zero, suc, ◌<◌, ◌≤◌, ◌&&◌, Bool, true, false, cond, List, [], ◌∷◌, length, drop, Option, Some, None, refl, ap, sym, arith, length-drop, ◌==◌, MatchOption}
 use Rattle.std.specs.Char.{is_ascii_digit}
 use Rattle.taxi_units.specs.Reading.{Gives}
-use Rattle.tariff_syntax.specs.Token.{Token, word, figure, sign, is_letter, goes_on, run_end, sign_end, cut_token, token_here, token_at, token_before, tokens_within, tokens_of, is_blank}
+use Rattle.tariff_syntax.specs.Token.{Token, word, figure, sign, is_letter, goes_on, is_blank}
+use Rattle.tariff_syntax.specs.TokenReading.{run_end, sign_end, cut_token, token_here, token_at, token_before, tokens_within, tokens_of}
 
 two_or_one : (b : Bool) → 0 < cond b 2 1
 two_or_one true = omega arith

@@ -1,5 +1,5 @@
 -- Conditions at the front of a list of tokens.
-use Rattle.std.specs.Prelude.{ℕ, zero, suc, ◌+◌, List, [], ◌∷◌, Option, Some, None, Bool, if◌then◌else◌, ◌||◌, nat_le, codes}
+use Rattle.std.specs.Prelude.{ℕ, zero, suc, List, [], ◌∷◌, Option, Some, None, if◌then◌else◌, nat_le, codes}
 use Rattle.std.specs.Str.{bytes_eq}
 use Rattle.taxi_units.specs.Reading.{◌>>=◌}
 use Rattle.tariff_syntax.specs.Atom.{atom_named}
@@ -7,23 +7,7 @@ use Rattle.tariff_syntax.specs.Condition as tree
 use Rattle.tariff_syntax.specs.Condition.{Condition}
 use Rattle.tariff_syntax.specs.Token.{Token, word, figure, sign}
 use Rattle.tariff_syntax.specs.Words.{after_word, after_sign, ended}
-
--- a word with which an atom or a `not` begins
-abbrev pub is_counted : List ℕ → Bool
-is_counted name =
-    bytes_eq name (codes "not") || (bytes_eq name (codes "position") || (bytes_eq name (codes "zone") || (bytes_eq name (codes "time")
-    || (bytes_eq name (codes "day") || (bytes_eq name (codes "date") || (bytes_eq name (codes "holiday") || bytes_eq name (codes "after")))))))
-
--- 1 for the beginning of an atom, a `not` or a `(`, and 0 for other tokens
-abbrev pub token_weight : Token → ℕ
-token_weight (word name) = if is_counted name then 1 else 0
-token_weight (figure text) = 0
-token_weight (sign text) = if bytes_eq text (codes "(") then 1 else 0
-
--- how many atoms, `not` and `(` begin in the tokens
-abbrev pub weight : List Token → ℕ
-weight [] = 0
-weight (t ∷ ts) = token_weight t + weight ts
+use Rattle.tariff_syntax.specs.Weight.{weight}
 
 -- reads a condition at the front of tokens
 abbrev pub Reader : Type 0

@@ -4,7 +4,7 @@ use Rattle.drive_modes.specs.declared.meterage.Rounding.{Rounding}
 use Rattle.drive_modes.specs.declared.meterage.Rounding.TheVariants.{Behind}
 use Rattle.tariff_syntax.specs.Condition.{Condition}
 use Rattle.tariff_syntax.specs.Forms.{IsNumber, IsYearDate, IsAmount}
-use Rattle.tariff_syntax.specs.Grammar.{weight}
+use Rattle.tariff_syntax.specs.Weight.{weight}
 use Rattle.tariff_syntax.specs.IsCondition.{IsCondition}
 use Rattle.tariff_syntax.specs.Printed.{rounding_word}
 use Rattle.tariff_syntax.specs.PrintedCondition.{whole}

@@ -14,9 +14,13 @@ pub mod Parses
 pub mod Printed
 pub mod PrintedCondition
 pub mod Reads
+pub mod Renumbered
 pub mod Simple
 pub mod Sound
 pub mod Spelled
+pub mod TextLines
 pub mod Token
+pub mod TokenReading
 pub mod Tree
+pub mod Weight
 pub mod Words

@@ -1,22 +1,10 @@
 -- The tariff of a text, line after line.
-use Rattle.std.specs.Prelude.{ℕ, ◌+◌, List, [], ◌∷◌, ◌++◌, Option, Some, None, Result, Ok, Err, if◌then◌else◌, ◌==◌, Bool, not}
+use Rattle.std.specs.Prelude.{ℕ, ◌+◌, List, [], ◌∷◌, ◌++◌, Option, Some, None, Result, Ok, Err}
 use Rattle.tariff_syntax.specs.Items.{item_of, decimals_of}
-use Rattle.tariff_syntax.specs.Token.{Token, tokens_of}
+use Rattle.tariff_syntax.specs.Token.{Token}
+use Rattle.tariff_syntax.specs.TokenReading.{tokens_of}
 use Rattle.tariff_syntax.specs.Tree.{Tree, Line, Entry}
-
--- a byte at the front of lines: it begins the first of them
-abbrev pub in_front : ℕ → List (List ℕ) → List (List ℕ)
-in_front c [] = (c ∷ []) ∷ []
-in_front c (text ∷ texts) = (c ∷ text) ∷ texts
-
--- the lines of a text: each line feed ends one, and the text's end may end the last
-abbrev pub lines_of : List ℕ → List (List ℕ)
-lines_of [] = []
-lines_of (c ∷ cs) = if c == 10 then [] ∷ lines_of cs else in_front c (lines_of cs)
-
--- a byte within a line
-abbrev pub is_inner : ℕ → List ℕ → Bool
-is_inner c rest = not (c == 10)
+use Rattle.tariff_syntax.specs.TextLines.{lines_of}
 
 -- the entry of a line before the lines below it; a line with tokens and without an entry is bad
 abbrev pub put_entry : (number : ℕ) → List Token → Option Entry → Result (List Line) ℕ → Result (List Line) ℕ

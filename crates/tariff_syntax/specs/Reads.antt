@@ -2,7 +2,7 @@
 -- further one says an entry.
 use Rattle.std.specs.Prelude.{◌≡◌, ℕ, ◌+◌, ◌<◌, ◌≤◌, ◌⊎◌, List, [], ◌∷◌, length, Result, Ok, Err}
 use Rattle.tariff_syntax.specs.IsItem.{IsItem, IsDecimals}
-use Rattle.tariff_syntax.specs.Parsed.{lines_of}
+use Rattle.tariff_syntax.specs.TextLines.{lines_of}
 use Rattle.tariff_syntax.specs.Spelled.{IsSpelled}
 use Rattle.tariff_syntax.specs.Token.{Token}
 use Rattle.tariff_syntax.specs.Tree.{Tree, Line, Entry, tree_of}

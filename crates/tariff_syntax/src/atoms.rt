@@ -4,7 +4,7 @@ ghost use Rattle.taxi_units.specs.Reading.{Gives};
 ghost use Rattle.tariff_syntax.specs.Atom as spec;
 ghost use Rattle.tariff_syntax.specs.Condition as tree;
 ghost use Rattle.tariff_syntax.specs.Condition.{condition_of};
-ghost use Rattle.tariff_syntax.specs.Token.{tokens_of};
+ghost use Rattle.tariff_syntax.specs.TokenReading.{tokens_of};
 
 use crate::condition::Cond;
 use crate::figures::{amount_first, date_first, minute_first, number_first};

@@ -5,8 +5,11 @@ ghost use Rattle.tariff_syntax.specs.Condition as tree;
 ghost use Rattle.tariff_syntax.specs.Condition.{condition_of, condition_if};
 ghost use Rattle.tariff_syntax.specs.Faults.{GivesOrFails};
 ghost use Rattle.tariff_syntax.specs.Grammar as spec;
-ghost use Rattle.tariff_syntax.specs.Grammar.{condition_by, term_by, factor_by, factor_first, chain_on, negated, closed_after, when_of, token_weight};
-ghost use Rattle.tariff_syntax.specs.Token.{tokens_of, token_of};
+ghost use Rattle.tariff_syntax.specs.Weight as weights;
+ghost use Rattle.tariff_syntax.specs.Grammar.{condition_by, term_by, factor_by, factor_first, chain_on, negated, closed_after, when_of};
+ghost use Rattle.tariff_syntax.specs.Weight.{token_weight};
+ghost use Rattle.tariff_syntax.specs.Token.{token_of};
+ghost use Rattle.tariff_syntax.specs.TokenReading.{tokens_of};
 
 use crate::atoms::atom_named;
 use crate::condition::Cond;
@@ -246,7 +249,7 @@ fn bounded_condition(alloc: Global, line: &[u8]) -> Result<Cond, LineFault>
 
 /// How many atoms, `not` and `(` begin in a line.
 fn weight(line: &[u8]) -> usize
-    ensures value { result ≡ spec.weight (tokens_of line.now) }
+    ensures value { result ≡ weights.weight (tokens_of line.now) }
     ensures within { result ≤ length line.now }
 {
     let mut rest = line;

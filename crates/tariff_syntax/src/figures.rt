@@ -2,7 +2,7 @@
 ghost use Rattle.std.specs.Prelude.{◌≡◌, ◌<◌, ◌≤◌, ◌^◌, IfSome};
 ghost use Rattle.taxi_units.specs.Reading.{Gives};
 ghost use Rattle.tariff_syntax.specs.Figure as spec;
-ghost use Rattle.tariff_syntax.specs.Token.{tokens_of};
+ghost use Rattle.tariff_syntax.specs.TokenReading.{tokens_of};
 
 use crate::words::figure_first;
 use taxi_units::{number_at, read_decimal, word};

@@ -4,7 +4,7 @@ ghost use Rattle.taxi_units.specs.Reading.{Gives};
 ghost use Rattle.tariff_syntax.specs.Faults.{GivesOrFails};
 ghost use Rattle.tariff_syntax.specs.Items as spec;
 ghost use Rattle.tariff_syntax.specs.Items.{step_of, count_of, positions_of, zones_of, holiday_of, supplement_of, item_of};
-ghost use Rattle.tariff_syntax.specs.Token.{tokens_of};
+ghost use Rattle.tariff_syntax.specs.TokenReading.{tokens_of};
 ghost use Rattle.tariff_syntax.specs.Tree.{entry_of};
 
 use crate::conditions::{LineFault, when};

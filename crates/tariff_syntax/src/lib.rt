@@ -22,7 +22,7 @@ mod writing;
 
 pub use condition::Cond;
 pub use context::Context;
-pub use laws::texts_read_as_one_tariff;
+pub use laws::{printed_forms_read_back, texts_read_as_one_tariff};
 pub use meaning::{initial_of, rate_of, sat};
 pub use measure::{common_measure, common_measures_are_least};
 pub use numbers::simple;

@@ -1,10 +1,11 @@
 //! Reads a whole tariff.
 ghost use Rattle.std.specs.Prelude.{◌≡◌, ◌+◌, ◌<◌, ◌≤◌, ◌^◌, ◌∷◌, [], ℕ, List, Result, length, map, MatchOption, IfOk, OnOk, Err, drop};
 ghost use Rattle.tariff_syntax.specs.Items.{item_of};
-ghost use Rattle.tariff_syntax.specs.Parsed.{before, put_entry, entries_of, heading_of, lines_of, is_inner};
+ghost use Rattle.tariff_syntax.specs.Parsed.{before, put_entry, entries_of, heading_of};
+ghost use Rattle.tariff_syntax.specs.TextLines.{lines_of, is_inner};
 ghost use Rattle.tariff_syntax.specs.Parses.{AreRead, IsAnswer};
 ghost use Rattle.tariff_syntax.specs.Reads.{IsParsed};
-ghost use Rattle.tariff_syntax.specs.Token.{run_end, tokens_of};
+ghost use Rattle.tariff_syntax.specs.TokenReading.{run_end, tokens_of};
 ghost use Rattle.tariff_syntax.specs.Tree.{Line, line_of};
 
 use crate::conditions::LineFault;

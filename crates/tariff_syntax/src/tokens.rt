@@ -2,7 +2,9 @@
 ghost use Rattle.std.specs.Prelude.{◌≡◌, ◌+◌, ◌<◌, ◌≤◌, ◌∷◌, [], length, MatchOption};
 ghost use Rattle.taxi_units.specs.Reading.{Gives};
 ghost use Rattle.tariff_syntax.specs.Token as spec;
-ghost use Rattle.tariff_syntax.specs.Token.{token_at, token_here, token_of, run_end, sign_end, is_blank, is_letter, tokens_of};
+ghost use Rattle.tariff_syntax.specs.TokenReading as reading;
+ghost use Rattle.tariff_syntax.specs.Token.{token_of, is_blank, is_letter};
+ghost use Rattle.tariff_syntax.specs.TokenReading.{token_at, token_here, run_end, sign_end, tokens_of};
 
 /// A token. A sign is `..` or any byte that no other token begins with.
 #[derive(Clone, Copy, Debug, PartialEq, Eq)]
@@ -21,7 +23,7 @@ pub fn first_token(line: &[u8]) -> Option<(Token<'_>, &[u8])>
 }
 
 /// The first token of a line.
-#[tactic(auto, unfolding(crate::specs::Token::token_at))]
+#[tactic(auto, unfolding(crate::specs::TokenReading::token_at))]
 fn token_after_blanks(line: &[u8]) -> Option<(Token<'_>, &[u8])>
     ensures { Gives (λ x. (token_of x.0, x.1.now)) result (token_at line.now) }
 {
@@ -31,7 +33,7 @@ fn token_after_blanks(line: &[u8]) -> Option<(Token<'_>, &[u8])>
 
 /// The token that a line begins with, with no blank before it.
 fn token_here(line: &[u8]) -> Option<(Token<'_>, &[u8])>
-    ensures { Gives (λ x. (token_of x.0, x.1.now)) result (spec.token_here line.now) }
+    ensures { Gives (λ x. (token_of x.0, x.1.now)) result (reading.token_here line.now) }
 {
     let (first, after) = line.split_first()?;
     if *first == b'#' {

@@ -12,7 +12,7 @@ fn outcome(alloc: Global, text: &[u8]) -> Result<usize, u32> {
 }
 
 /// Texts, and how many lines they have or which line of theirs is bad.
-const TEXTS: [(&str, Result<usize, u32>); 55] = [
+const TEXTS: [(&str, Result<usize, u32>); 58] = [
     ("", Ok(0)),
     ("\n\r\n \t\n# none\n", Ok(0)),
     ("decimals 0", Ok(0)),
@@ -35,7 +35,16 @@ const TEXTS: [(&str, Result<usize, u32>); 55] = [
     ("step .5", Err(1)),
     ("step 1.", Err(1)),
     ("step 1 .5", Err(1)),
+    ("step 1..2", Err(1)),
     ("step 1:5", Err(1)),
+    (
+        "decimals 2\nstep 0.205 ahead\ninitial 3.80 covers 0.40\nrate 0.20 per 117.4 m, 0.20 per 25.2 s\n",
+        Err(2),
+    ),
+    (
+        "decimals 2\nstep 0.20 ahead\ninitial 3.80 covers 0.40\nrate 0.20 per 117.4 m, 0.20 per 25.2 s\ndecimals 2\n",
+        Err(5),
+    ),
     ("step 10000000000.00", Ok(1)),
     ("step 10000000000.01", Err(1)),
     ("Step 1", Err(1)),

@@ -1,7 +1,7 @@
 use Rattle.std.proofs.Common.{◌≡◌, ◌-◌, Some, arith, codes}
 use Rattle.tariff_syntax.specs.Condition.{condition_of}
 use Rattle.tariff_syntax.specs.Grammar.{factor_first, or_joined, and_joined, chain_on}
-use Rattle.tariff_syntax.specs.Token.{tokens_of}
+use Rattle.tariff_syntax.specs.TokenReading.{tokens_of}
 use Rattle.tariff_syntax.proofs.GrammarSteps.{none_deep, factor_step, chain_none, chain_ends, chain_goes, fault_on}
 use Rattle.tariff_syntax.proofs.conditions.+conditions.Goals as goal
 

@@ -1,6 +1,6 @@
 use Rattle.std.proofs.Common.{◌≡◌, ◌+◌, length}
-use Rattle.tariff_syntax.specs.Parsed.{is_inner}
-use Rattle.tariff_syntax.specs.Token.{run_end}
+use Rattle.tariff_syntax.specs.TextLines.{is_inner}
+use Rattle.tariff_syntax.specs.TokenReading.{run_end}
 use Rattle.tariff_syntax.proofs.parsing.count_line.Given as goal
 
 abbrev pub invariant-loop-first : goal.invariant-loop-first

@@ -1,5 +1,6 @@
 use Rattle.std.proofs.Common.{◌≡◌, ◌+◌, ◌≤◌, length}
-use Rattle.tariff_syntax.specs.Parsed.{heading_of, lines_of}
+use Rattle.tariff_syntax.specs.Parsed.{heading_of}
+use Rattle.tariff_syntax.specs.TextLines.{lines_of}
 use Rattle.tariff_syntax.proofs.parsing.heading.Given as goal
 
 abbrev pub invariant-loop-line : goal.invariant-loop-line

@@ -1,5 +1,6 @@
 use Rattle.std.proofs.Common.{◌≡◌, ◌+◌, ◌≤◌, length, map}
-use Rattle.tariff_syntax.specs.Parsed.{before, entries_of, lines_of}
+use Rattle.tariff_syntax.specs.Parsed.{before, entries_of}
+use Rattle.tariff_syntax.specs.TextLines.{lines_of}
 use Rattle.tariff_syntax.specs.Tree.{line_of}
 use Rattle.tariff_syntax.proofs.parsing.lines.Given as goal
 

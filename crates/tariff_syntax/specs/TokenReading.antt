@@ -1,0 +1,45 @@
+-- The tokens of a line, read one after another.
+use Rattle.std.specs.Prelude.{ℕ, zero, suc, ◌+◌, List, [], ◌∷◌, length, take, drop, Option, Some, None, Bool, if◌then◌else◌, ◌&&◌, ◌==◌}
+use Rattle.std.specs.Char.{is_ascii_digit, is_ascii_lowercase}
+use Rattle.tariff_syntax.specs.Token.{Token, word, figure, sign, is_blank, is_letter, goes_on}
+
+-- how far a text goes on by a test, which asks a byte and what stands after it
+abbrev pub run_end : (ℕ → List ℕ → Bool) → List ℕ → ℕ
+run_end test [] = 0
+run_end test (c ∷ cs) = if test c cs then 1 + run_end test cs else 0
+
+-- how far a sign goes, which begins with c: `..` is one sign, any other byte is one
+abbrev pub sign_end : ℕ → List ℕ → ℕ
+sign_end c [] = 1
+sign_end c (d ∷ ds) = if c == 46 && d == 46 then 2 else 1
+
+-- a token of so many bytes, and what stands after it
+abbrev pub cut_token : (List ℕ → Token) → List ℕ → ℕ → Token × List ℕ
+cut_token kind text end = (kind (take end text), drop end text)
+
+-- the token that a text begins with, which begins with no blank, and what stands after it; none at its end and before a comment
+abbrev pub token_here : List ℕ → Option (Token × List ℕ)
+token_here [] = None
+token_here (c ∷ cs) =
+    if c == 35 then None
+    else (if is_ascii_lowercase c then Some (cut_token word (c ∷ cs) (run_end is_letter (c ∷ cs)))
+    else (if is_ascii_digit c then Some (cut_token figure (c ∷ cs) (run_end goes_on (c ∷ cs)))
+    else Some (cut_token sign (c ∷ cs) (sign_end c cs))))
+
+-- the first token of a text
+unfoldable pub token_at : List ℕ → Option (Token × List ℕ)
+token_at text = token_here (drop (run_end is_blank text) text)
+
+-- a token, and the tokens of what stands after it
+abbrev pub token_before : (List ℕ → List Token) → Option (Token × List ℕ) → List Token
+token_before more None = []
+token_before more (Some first) = first.0 ∷ more first.1
+
+-- the first tokens of a text, at most so many
+unfoldable pub tokens_within : (most : ℕ) → List ℕ → List Token
+tokens_within zero text = []
+tokens_within (suc most) text = token_before (tokens_within most) (token_at text)
+
+-- the tokens of a text, which has no more of them than bytes
+unfoldable pub tokens_of : List ℕ → List Token
+tokens_of text = tokens_within (length text) text

@@ -1,0 +1,21 @@
+-- How many atoms, `not` and `(` a condition has.
+use Rattle.std.specs.Prelude.{ℕ, ◌+◌, List, [], ◌∷◌, Bool, if◌then◌else◌, ◌||◌, codes}
+use Rattle.std.specs.Str.{bytes_eq}
+use Rattle.tariff_syntax.specs.Token.{Token, word, figure, sign}
+
+-- a word with which an atom or a `not` begins
+abbrev pub is_counted : List ℕ → Bool
+is_counted name =
+    bytes_eq name (codes "not") || (bytes_eq name (codes "position") || (bytes_eq name (codes "zone") || (bytes_eq name (codes "time")
+    || (bytes_eq name (codes "day") || (bytes_eq name (codes "date") || (bytes_eq name (codes "holiday") || bytes_eq name (codes "after")))))))
+
+-- 1 for the beginning of an atom, a `not` or a `(`, and 0 for other tokens
+abbrev pub token_weight : Token → ℕ
+token_weight (word name) = if is_counted name then 1 else 0
+token_weight (figure text) = 0
+token_weight (sign text) = if bytes_eq text (codes "(") then 1 else 0
+
+-- how many atoms, `not` and `(` begin in the tokens
+abbrev pub weight : List Token → ℕ
+weight [] = 0
+weight (t ∷ ts) = token_weight t + weight ts
