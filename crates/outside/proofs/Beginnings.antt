@@ -1,6 +1,6 @@
 -- What one print after another leaves of a text.
 use Rattle.std.proofs.Common.{◌≡◌, ℕ, ◌+◌, List, ◌++◌, length, take, ap, ◌∙◌, sym, append_assoc, arith, length-append}
-use Rattle.std.proofs.lemmas.List.{take-append-le, take_all}
+use Rattle.std.proofs.lemmas.List.{append-nil, take-append-le, take_all}
 use Rattle.std.proofs.Math.Seq.{take-append-add}
 use Rattle.outside.specs.Printing.{Begins}
 
@@ -28,3 +28,7 @@ begins_after old mid new text more whole h = record {
   printed = h.printed ∙ ap (λ (l : List ℕ). l ++ take h.count more) whole ∙ append_assoc old text (take h.count more)
       ∙ ap (λ (l : List ℕ). old ++ l) (sym (take-append-add text more h.count));
 }
+
+-- nothing of a text was printed
+pub begins_not : (old new text : List ℕ) → new ≡ old → Begins old new text
+begins_not old new text h = record { count = 0; within = omega arith; printed = h ∙ sym (append-nil old) }

@@ -1,2 +1,7 @@
-mod Filling
 pub mod Beginnings
+mod Cutting
+mod Filling
+mod Keeping
+mod Kept
+mod Overwriting
+mod Replaying

@@ -1,6 +1,12 @@
+pub mod Calls
+pub mod Disk
 pub mod Faults
 pub mod HostFiles
 pub mod MemoryBoard
 pub mod MemoryFiles
+pub mod MomentLaws
+pub mod Moments
 pub mod Printing
 pub mod Reading
+pub mod Replays
+pub mod Requests

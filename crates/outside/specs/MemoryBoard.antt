@@ -1,31 +1,71 @@
 -- What a board in memory is.
-use Rattle.std.specs.Prelude.{ℕ, ◌+◌, List, ◌++◌, Contains}
+use Rattle.std.specs.Prelude.{ℕ, zero, suc, ◌+◌, List, [], ◌∷◌, ◌++◌, length, count_by, true, false, Contains}
+use Rattle.outside.specs.Calls.{Call, Print, Kept, Contents, IsInSome, opened, begun, after, after_all}
 use Rattle.outside.specs.Faults.{one_more}
+use Rattle.outside.specs.Moments.{LeftSince}
 
--- what was printed, the numbers of the calls that fail, and how many calls were kept, failed by these numbers, and were refused for want of memory
+-- the image that the board opened with, the numbers of the calls that fail, the calls that were kept, and how many were refused for want of memory
 pub record BoardState : Type 0 where
-  pub text : List ℕ
+  pub start : List ℕ
   pub fail : List ℕ
-  pub calls : ℕ
-  pub failed : ℕ
+  pub calls : List Kept
   pub refused : ℕ
+
+-- what the board holds now
+abbrev pub held_by : BoardState → Contents
+held_by board = after_all (opened board.start) board.calls
+
+-- the image that a read gives
+abbrev pub image_of : BoardState → List ℕ
+image_of board = (held_by board).image
+
+-- the places where a cut may leave any byte
+abbrev pub in_flight_of : BoardState → ℕ → Type 0
+in_flight_of board place = IsInSome (held_by board).ranges place
+
+-- what was printed
+abbrev pub text_of : BoardState → List ℕ
+text_of board = (held_by board).text
+
+-- the moment, which is the number of calls
+abbrev pub moment_of : BoardState → ℕ
+moment_of board = length board.calls
+
+-- what a cut at some moment from one on might have left
+abbrev pub left_since_of : BoardState → ℕ → List ℕ → List ℕ → Type 0
+left_since_of board start left_image left_text = LeftSince (opened board.start) board.calls start left_image left_text
 
 -- how many calls failed, by their numbers or for want of memory
 abbrev pub faults_of : BoardState → ℕ
-faults_of board = board.failed + board.refused
+faults_of board = board.refused + count_by (λ kept. kept.failed) board.calls
 
 -- the next call fails by its number
 abbrev pub IsListedCall : BoardState → Type 0
-IsListedCall board = Contains board.fail (one_more board.calls)
+IsListedCall board = Contains board.fail (length board.calls + 1)
+
+-- the board after a call that was kept and didn't fail
+abbrev pub done_on : BoardState → Call → BoardState
+done_on board call = record board { calls = board.calls ++ record { call = call; failed = false } ∷ [] }
 
 -- the board after a print that was kept and didn't fail
 abbrev pub printed_on : BoardState → List ℕ → BoardState
-printed_on board bytes = record board { text = board.text ++ bytes; calls = one_more board.calls }
+printed_on board bytes = done_on board (Print bytes)
 
 -- the board after a call that was kept and failed by its number
-abbrev pub failed_on : BoardState → BoardState
-failed_on board = record board { calls = one_more board.calls; failed = one_more board.failed }
+abbrev pub failed_on : BoardState → Call → BoardState
+failed_on board call = record board { calls = board.calls ++ record { call = call; failed = true } ∷ [] }
 
 -- the board after a call that found no memory, which isn't kept
 abbrev pub refused_on : BoardState → BoardState
 refused_on board = record board { refused = one_more board.refused }
+
+-- what these calls leave inside the one with a number, which has begun and isn't over; 0 is before the first
+abbrev pub inside : Contents → List Kept → ℕ → Contents
+inside held calls zero = held
+inside held [] (suc number) = held
+inside held (kept ∷ more) (suc zero) = begun held kept.call
+inside held (kept ∷ more) (suc (suc number)) = inside (after held kept) more (suc number)
+
+-- what a cut inside the call with this number finds of the board
+abbrev pub held_inside : BoardState → ℕ → Contents
+held_inside board number = inside (opened board.start) board.calls number

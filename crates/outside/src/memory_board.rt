@@ -1,108 +1,192 @@
 //! A board in memory, of which chosen calls fail.
-ghost use Rattle.std.specs.Prelude.{◌≡◌, ◌⊎◌, ℕ, ◌+◌, ◌<◌, ◌≤◌, ◌++◌, List, [], length, IfOk, OnOk, OnErr};
+ghost use Rattle.std.specs.Prelude.{◌≡◌, ◌⊎◌, ℕ, ◌+◌, ◌<◌, ◌≤◌, ◌++◌, List, [], length, take, drop, IfOk, OnOk, OnErr};
+ghost use Rattle.outside.specs.Calls.{Read, Write, Sync, Print, IsInSome, opened};
+ghost use Rattle.outside.specs.Disk.{IsPiece, IsWithin, SameBut, MayLeave, MayLeaveAmid, Elapses};
 ghost use Rattle.outside.specs.Faults.{HasCause};
-ghost use Rattle.outside.specs.MemoryBoard.{BoardState, IsListedCall, failed_on, faults_of, printed_on, refused_on};
+ghost use Rattle.outside.specs.MemoryBoard.{BoardState, IsListedCall, done_on, failed_on, faults_of, held_inside, image_of, in_flight_of, left_since_of, moment_of, printed_on, refused_on, text_of};
+ghost use Rattle.outside.specs.MomentLaws.{counts_now, only_now};
 ghost use Rattle.outside.specs.Printing.{Begins};
 
 use crate::board::Board;
 use crate::fault::Failed;
+use crate::memory_state::MemoryState;
+use crate::replay::Fill;
 use std::alloc::Global;
-use std::marker::Model;
 use std::sync::ledger::Ledger;
 use taxi_units::{NoMemory, Steps};
 
-/// A board in memory, which tells what was printed. A call that finds no memory fails and raises
-/// `refused` by one; it isn't kept, takes no number and changes nothing else. The other calls are
-/// kept and numbered from 1, and exactly those with chosen numbers fail; a print among them prints
-/// nothing. The count of faults is `refused` and the number of the calls that failed by their
-/// numbers, together. A number stands still at the last value of a `u64`.
+/// A board in memory, which tells its image and what was printed. A call that finds no memory fails
+/// and raises `refused` by one; it isn't kept, takes no number and changes nothing else. The other
+/// calls are kept and numbered from 1, and exactly those with chosen numbers fail. A write among
+/// these leaves the image as it was, and its range in flight; a print among them prints nothing. The
+/// count of faults is `refused`, which stands still at the last value of a `u64`, and the number of
+/// the calls that failed by their numbers, together.
 #[derive(Drop)]
 pub struct MemoryBoard {
-    text: Vec<u8>,
-    fail: Vec<u64>,
-    calls: u64,
-    failed: u64,
-    refused: u64,
-}
-
-impl Model for MemoryBoard {
-    ghost Value = { BoardState };
-
-    ghost view = { λ b. record { text = b.text.items; fail = b.fail.items; calls = b.calls; failed = b.failed; refused = b.refused } };
+    state: MemoryState,
+    ghost size: { length (image_of state) ≡ 2048 },
 }
 
 impl MemoryBoard {
-    /// Nothing is printed yet. The calls with the numbers in `fail` will fail. The image of a store
-    /// isn't used. `NoMemory` comes only where there is no memory.
-    pub fn new(alloc: Global, _image: &[u8; 2048], fail: &[u64]) -> Result<MemoryBoard, NoMemory>
-        ensures { IfOk result (λ b. b ≡ record { text = []; fail = fail.now; calls = 0; failed = 0; refused = 0 }) }
+    /// A board whose store holds these bytes, with nothing in flight and nothing printed. The calls
+    /// with the numbers in `fail` will fail. `NoMemory` comes only where there is no memory.
+    pub fn new(alloc: Global, image: &[u8; 2048], fail: &[u64]) -> Result<MemoryBoard, NoMemory>
+        ensures { IfOk result (λ b. b.state ≡ record { start = image.now; fail = fail.now; calls = []; refused = 0 }) }
     {
-        let Ok(fail) = Vec::from_slice(alloc, fail) else {
-            return Err(NoMemory);
-        };
-        Ok(MemoryBoard {
-            text: Vec::new(alloc),
-            fail,
-            calls: 0,
-            failed: 0,
-            refused: 0,
-        })
+        let state = MemoryState::new(alloc, image, fail)?;
+        Ok(MemoryBoard { state })
     }
 
     /// How many calls were kept, those that failed by their numbers among them.
     pub fn calls(&self) -> u64
-        ensures { result ≡ self.now.calls }
+        ensures { result ≡ length self.now.state.calls }
     {
-        self.calls
+        self.state.calls()
     }
 
     /// What was printed.
     pub fn printed(&self) -> &[u8]
-        ensures { result.now ≡ self.now.text }
+        ensures { result.now ≡ text_of self.now.state }
     {
-        self.text.as_slice()
+        self.state.printed()
+    }
+
+    /// What a read gives: the bytes of the store.
+    pub fn image(&self) -> &[u8; 2048]
+        ensures { result.now ≡ image_of self.now.state }
+    {
+        self.state.image()
     }
 
     /// How many calls failed for want of memory.
     pub fn refused(&self) -> u64
-        ensures { result ≡ self.now.refused }
+        ensures { result ≡ self.now.state.refused }
     {
-        self.refused
+        self.state.refused()
+    }
+
+    /// An image that a cut inside the call with this number may leave, 0 being before the first. What
+    /// was in flight before the call is still so, inside a sync too, and so is the range that the call
+    /// itself writes. The bytes in flight become what `fill` says. All others are those that a read
+    /// gave before the call.
+    pub fn cut(&self, call: u64, fill: Fill) -> [u8; 2048]
+        requires { call ≤ length self.now.state.calls }
+        ensures left { left_since_of self.now.state 0 result (held_inside self.now.state call).text }
+        ensures inside { SameBut (IsInSome (held_inside self.now.state call).ranges) (held_inside self.now.state call).image result }
+        ensures settled { (held_inside self.now.state call).ranges ≡ [] → result ≡ (held_inside self.now.state call).image }
+        ensures zero { call ≡ 0 → result ≡ self.now.state.start }
+    {
+        self.state.cut(call, fill)
     }
 }
 
 impl Board for MemoryBoard {
+    ghost tells_image = { Unit {0} };
+
     ghost tells_text = { Unit {0} };
 
-    ghost printed = { λ b. b.text };
+    ghost image = { λ b. image_of b.state };
 
-    ghost faults = { faults_of };
+    ghost in_flight = { λ b. in_flight_of b.state };
 
-    #[tactic(auto, using(crate::proofs::Beginnings::begins_whole))]
-    fn print<L: Ledger>(&mut self, bytes: &[u8], steps: &mut Steps<L>) -> Result<(), Failed>
-        requires some { 0 < length bytes.now }
-        requires few { length bytes.now ≤ 512 }
-        ensures whole { OnOk result (self.new.text ≡ self.old.text ++ bytes.now) }
-        ensures begun { Begins self.old.text self.new.text bytes.now }
-        ensures cause { HasCause (faults_of self.old) (faults_of self.new) result }
+    ghost printed = { λ b. text_of b.state };
+
+    ghost moment = { λ b. moment_of b.state };
+
+    ghost left_since = { λ b. left_since_of b.state };
+
+    ghost faults = { λ b. faults_of b.state };
+
+    ghost store = { λ b _. b.size };
+
+    ghost counts_now = { λ b start left_image left_text _ _ le now. counts_now (opened b.state.start) b.state.calls start left_image left_text le now };
+
+    ghost only_now = { λ b left_image left_text left. only_now (opened b.state.start) b.state.calls left_image left_text left };
+
+    fn read<L: Ledger>(
+        &mut self,
+        at: u16,
+        buf: &mut [u8],
+        steps: &mut Steps<L>,
+    ) -> Result<(), Failed>
+        requires { IsPiece at (length buf.old) }
+        ensures bytes { OnOk result (buf.new ≡ take (length buf.old) (drop at (image_of self.old.state))) }
+        ensures image { image_of self.new.state ≡ image_of self.old.state }
+        ensures flight { (place : ℕ) → in_flight_of self.new.state place → in_flight_of self.old.state place }
+        ensures text { text_of self.new.state ≡ text_of self.old.state }
+        ensures time { Elapses (moment_of self.old.state) (moment_of self.new.state) (left_since_of self.old.state) (left_since_of self.new.state)
+            (MayLeave (image_of self.new.state) (in_flight_of self.new.state) (text_of self.new.state)) }
+        ensures cause { HasCause (faults_of self.old.state) (faults_of self.new.state) result }
         ensures step { steps.new ≡ steps.old + 1 }
 
         // A call that is kept fails exactly by its number. One that isn't kept was refused.
-        ensures kept { OnOk result ((¬ IsListedCall self.old) × (self.new ≡ printed_on self.old bytes.now)) }
-        ensures failed { OnErr result ((IsListedCall self.old × (self.new ≡ failed_on self.old)) ⊎ (self.new ≡ refused_on self.old)) }
+        ensures kept { OnOk result ((¬ IsListedCall self.old.state) × (self.new.state ≡ done_on self.old.state Read)) }
+        ensures failed { OnErr result ((IsListedCall self.old.state × (self.new.state ≡ failed_on self.old.state Read)) ⊎ (self.new.state ≡ refused_on self.old.state)) }
     {
         steps.spend();
-        let call = self.calls.saturating_add(1);
-        if self.fail.contains(&call) {
-            self.calls = call;
-            self.failed = self.failed.saturating_add(1);
-            return Err(Failed);
-        }
-        let Ok(()) = self.text.extend_from_slice(bytes) else {
-            self.refused = self.refused.saturating_add(1);
-            return Err(Failed);
-        };
-        self.calls = call;
-        Ok(())
+        self.state.keep_read(at, buf)
+    }
+
+    fn write_at<L: Ledger>(
+        &mut self,
+        at: u16,
+        bytes: &[u8],
+        steps: &mut Steps<L>,
+    ) -> Result<(), Failed>
+        requires { IsPiece at (length bytes.now) }
+        ensures written { OnOk result (take (length bytes.now) (drop at (image_of self.new.state)) ≡ bytes.now) }
+        ensures image { SameBut (IsWithin at (length bytes.now)) (image_of self.old.state) (image_of self.new.state) }
+        ensures flight { (place : ℕ) → in_flight_of self.new.state place → in_flight_of self.old.state place ⊎ IsWithin at (length bytes.now) place }
+        ensures text { text_of self.new.state ≡ text_of self.old.state }
+        ensures time { Elapses (moment_of self.old.state) (moment_of self.new.state) (left_since_of self.old.state) (left_since_of self.new.state)
+            (MayLeave (image_of self.new.state) (in_flight_of self.new.state) (text_of self.new.state)) }
+        ensures cause { HasCause (faults_of self.old.state) (faults_of self.new.state) result }
+        ensures step { steps.new ≡ steps.old + 1 }
+
+        // A call that is kept fails exactly by its number. One that isn't kept was refused.
+        ensures kept { OnOk result ((¬ IsListedCall self.old.state) × (self.new.state ≡ done_on self.old.state (Write at bytes.now))) }
+        ensures failed { OnErr result ((IsListedCall self.old.state × (self.new.state ≡ failed_on self.old.state (Write at bytes.now))) ⊎ (self.new.state ≡ refused_on self.old.state)) }
+    {
+        steps.spend();
+        self.state.keep_write(at, bytes)
+    }
+
+    fn sync<L: Ledger>(&mut self, steps: &mut Steps<L>) -> Result<(), Failed>
+        ensures durable { OnOk result ((place : ℕ) → ¬ in_flight_of self.new.state place) }
+        ensures same { OnOk result (image_of self.new.state ≡ image_of self.old.state) }
+        ensures image { SameBut (in_flight_of self.old.state) (image_of self.old.state) (image_of self.new.state) }
+        ensures flight { (place : ℕ) → in_flight_of self.new.state place → in_flight_of self.old.state place }
+        ensures text { text_of self.new.state ≡ text_of self.old.state }
+        ensures time { Elapses (moment_of self.old.state) (moment_of self.new.state) (left_since_of self.old.state) (left_since_of self.new.state)
+            (MayLeave (image_of self.new.state) (in_flight_of self.new.state) (text_of self.new.state)) }
+        ensures cause { HasCause (faults_of self.old.state) (faults_of self.new.state) result }
+        ensures step { steps.new ≡ steps.old + 1 }
+
+        // A call that is kept fails exactly by its number. One that isn't kept was refused.
+        ensures kept { OnOk result ((¬ IsListedCall self.old.state) × (self.new.state ≡ done_on self.old.state Sync)) }
+        ensures failed { OnErr result ((IsListedCall self.old.state × (self.new.state ≡ failed_on self.old.state Sync)) ⊎ (self.new.state ≡ refused_on self.old.state)) }
+    {
+        steps.spend();
+        self.state.keep_sync()
+    }
+
+    fn print<L: Ledger>(&mut self, bytes: &[u8], steps: &mut Steps<L>) -> Result<(), Failed>
+        requires some { 0 < length bytes.now }
+        requires few { length bytes.now ≤ 512 }
+        ensures whole { OnOk result (text_of self.new.state ≡ text_of self.old.state ++ bytes.now) }
+        ensures begun { Begins (text_of self.old.state) (text_of self.new.state) bytes.now }
+        ensures image { image_of self.new.state ≡ image_of self.old.state }
+        ensures flight { (place : ℕ) → in_flight_of self.new.state place → in_flight_of self.old.state place }
+        ensures time { Elapses (moment_of self.old.state) (moment_of self.new.state) (left_since_of self.old.state) (left_since_of self.new.state)
+            (MayLeaveAmid (image_of self.new.state) (in_flight_of self.new.state) (text_of self.old.state) bytes.now) }
+        ensures cause { HasCause (faults_of self.old.state) (faults_of self.new.state) result }
+        ensures step { steps.new ≡ steps.old + 1 }
+
+        // A call that is kept fails exactly by its number. One that isn't kept was refused.
+        ensures kept { OnOk result ((¬ IsListedCall self.old.state) × (self.new.state ≡ printed_on self.old.state bytes.now)) }
+        ensures failed { OnErr result ((IsListedCall self.old.state × (self.new.state ≡ failed_on self.old.state (Print bytes.now))) ⊎ (self.new.state ≡ refused_on self.old.state)) }
+    {
+        steps.spend();
+        self.state.keep_print(bytes)
     }
 }

@@ -1,23 +1,6 @@
-ghost use Rattle.std.specs.Prelude.{◌≡◌, ◌<◌, ◌≤◌, length};
-
-use crate::{Board, Failed, FileBoard, Files, HostFiles, MemoryBoard, MemoryFiles, fill};
+use crate::{Failed, Files, HostFiles, MemoryFiles, fill};
 use std::fs;
-use std::marker::Brand;
-use std::sync::ledger::{Blank, Ledger};
 use std::test::Fail;
-use taxi_units::Steps;
-
-/// Prints a piece, counting steps from 0.
-fn print<B: Board, L: Ledger>(blank: Blank, board: &mut B, bytes: &[u8]) -> Result<(), Failed>
-    requires name { blank.name ≡ L.name }
-    requires parts { blank.parts ≡ L.parts }
-    requires one { 0 < blank.parts }
-    requires some { 0 < length bytes.now }
-    requires few { length bytes.now ≤ 512 }
-{
-    let mut steps: Steps<L> = Steps::open(blank);
-    board.print(bytes, &mut steps)
-}
 
 #[test]
 fn reads_of_memory_files(rt: HostRuntime) -> Result<(), Fail> {
@@ -58,25 +41,6 @@ fn fills(rt: HostRuntime) -> Result<(), Fail> {
 }
 
 #[test]
-fn prints_of_a_memory_board(rt: HostRuntime) -> Result<(), Fail> {
-    let mut board = MemoryBoard::new(rt.alloc(), &[0; 2048], &[2])?;
-    let rows = [
-        (b"FOR ".as_slice(), Ok(()), b"FOR ".as_slice()),
-        (b"RENT", Err(Failed), b"FOR "),
-        (b"HIRE\n", Ok(()), b"FOR HIRE\n"),
-    ];
-    for (bytes, want, text) in rows {
-        assert_eq!(rt;
-            print::<MemoryBoard, Brand>(Blank::new(1), &mut board, bytes),
-            want
-        );
-        assert_eq!(rt; board.printed(), text);
-    }
-    assert_eq!(rt; (board.calls(), board.refused()), (3, 0));
-    Ok(())
-}
-
-#[test]
 fn reads_of_the_system(rt: HostRuntime) -> Result<(), Fail> {
     fs::write(&rt, "outside_test.txt", b"abcde")?;
     let words = [
@@ -100,13 +64,4 @@ fn reads_of_the_system(rt: HostRuntime) -> Result<(), Fail> {
     }
     fs::remove_file(&rt, "outside_test.txt")?;
     Ok(())
-}
-
-#[test]
-fn prints_of_the_system(rt: HostRuntime) {
-    let mut board = FileBoard::new(rt, rt.alloc());
-    assert_eq!(rt;
-        print::<FileBoard<HostRuntime>, Brand>(Blank::new(1), &mut board, b"FOR HIRE\n"),
-        Ok(())
-    );
 }

@@ -1,0 +1,36 @@
+-- What bytes that are put from a place on leave of an image.
+use Rattle.std.proofs.Common.{◌≡◌, ◌⊎◌, inl, inr, ⊎_elim, ℕ, ◌≤◌, ◌<◌, ◌+◌, ◌-◌, ◌∙◌, ap, List, ◌++◌, length, take, drop, get_or, arith, length-append, length-take, length-drop}
+use Rattle.std.proofs.lemmas.Grind.{common_steps}
+use Rattle.std.proofs.lemmas.Bool.{cases_lt}
+use Rattle.std.proofs.lemmas.List.{get_or_append_left, get_or-append_right, get_or-take, get_or-drop}
+use Rattle.outside.specs.Calls.{overwrite}
+use Rattle.outside.specs.Disk.{IsWithin, SameBut}
+
+module _ (at : ℕ) (bytes image : List ℕ) (fits : at + length bytes ≤ length image) where
+  front_size : length (take at image ++ bytes) ≡ at + length bytes
+  front_size = omega (arith, fits, length-append (take at image) bytes, length-take at image)
+
+  whole_size : length (take at image ++ bytes ++ drop (at + length bytes) image) ≡ length image
+  whole_size = omega (arith, fits, front_size, length-append (take at image ++ bytes) (drop (at + length bytes) image), length-drop (at + length bytes) image)
+
+  rest_same : (place : ℕ) → ¬ IsWithin at (length bytes) place → (place < at) ⊎ (at ≤ place)
+      → get_or (take at image ++ bytes ++ drop (at + length bytes) image) place 0 ≡ get_or image place 0
+  rest_same place none (inl below) =
+      get_or_append_left (take at image ++ bytes) (drop (at + length bytes) image) 0 place (omega (arith, front_size, below))
+      ∙ get_or_append_left (take at image) bytes 0 place (omega (arith, fits, below, length-take at image)) ∙ get_or-take at image place 0 below
+  rest_same place none (inr above) = ⊎_elim (λ inside. absurd (none (record { low = above; high = inside }))) (λ (behind : at + length bytes ≤ place).
+      get_or-append_right (take at image ++ bytes) (drop (at + length bytes) image) (at + length bytes) place 0 front_size behind
+      ∙ get_or-drop (at + length bytes) image (place - (at + length bytes)) 0
+      ∙ ap (λ (k : ℕ). get_or image k 0) (omega (arith, behind))) (cases_lt place (at + length bytes))
+
+  pub overwrite_size : length (overwrite at bytes image) ≡ length image
+  overwrite_size = whole_size
+
+  pub overwrite_same : SameBut (IsWithin at (length bytes)) image (overwrite at bytes image)
+  overwrite_same = record {
+    size = whole_size;
+    rest = λ place none. rest_same place none (cases_lt place at);
+  }
+
+  pub overwrite_written : take (length bytes) (drop at (overwrite at bytes image)) ≡ bytes
+  overwrite_written = grind (arith, fits, common_steps)

@@ -1,0 +1,68 @@
+use Rattle.std.proofs.Common.{◌≡◌, ◌∙◌, ◌+◌, ◌-◌, ◌<◌, ℕ, suc, List, [], ap, arith, get_or, length, length-take, refl, subst, sym, take, get_or-take, rules}
+use Rattle.std.proofs.lemmas.List.{take_more}
+use Rattle.std.specs.List.{All}
+use Rattle.outside.specs.Calls.{Contents, IsInSome, IsInStore, Kept, after, after_all, begun, opened}
+use Rattle.outside.specs.Disk.{SameBut}
+use Rattle.outside.specs.MemoryBoard.{BoardState, held_inside}
+use Rattle.outside.specs.Moments.{LeftBy}
+use Rattle.outside.specs.Replays.{Follows}
+use Rattle.outside.proofs.Cutting.{inside_is, left_first, left_inside, settled_is}
+use Rattle.outside.proofs.Keeping.{after_pushed}
+use Rattle.outside.proofs.memory_state.MemoryState.cut.Goals as goal
+
+pub loop-kept-preserved : goal.loop-kept-preserved
+loop-kept-preserved c =
+    let start = c.args.self.now.start in
+    let calls = c.args.self.now.calls in
+    let n = c.args.call - 1 in
+    let k = c.loop-kept.kept-index in
+    let kept = c.kept-item.result in
+    let calls_are : c.deref.result.now ≡ calls = c.deref.ensures.value ∙ ap (λ (b : BoardState). b.calls) c.self.view_is in
+    let under : k < n = omega (arith, length-take n c.deref.result.now, c.loop-kept-test.true) in
+    let below : k < length calls = omega (arith, length-take n c.deref.result.now, ap length calls_are, c.loop-kept-test.true) in
+    let is : kept ≡ get_or calls k kept = c.kept-item.is ∙ get_or-take n c.deref.result.now k kept under ∙ ap (λ (l : List Kept). get_or l k kept) calls_are in
+    let next : after_all (opened start) (take (k + 1) calls) ≡ after (after_all (opened start) (take k calls)) kept =
+    ap (after_all (opened start)) (take_more calls k kept below) ∙ after_pushed (opened start) (take k calls) (get_or calls k kept) ∙ ap (after (after_all (opened start) (take k calls))) (sym is) in
+    subst (λ (h : Contents). Follows h c.pass.new.self) (sym next) (c.pass.ensures (after_all (opened start) (take k calls)) c.loop-kept.invariant)
+
+inside_of : (c : goal.After-result-2-1) → SameBut (IsInSome (held_inside c.args.self.now c.args.call).ranges) (held_inside c.args.self.now c.args.call).image c.begin.new.self.left
+inside_of c =
+    let start = c.args.self.now.start in
+    let calls = c.args.self.now.calls in
+    let n = c.args.call - 1 in
+    let calls_are : c.self.inside.calls.items ≡ calls = ap (λ (b : BoardState). b.calls) c.self.view_is in
+    let number_is : c.args.call ≡ suc n = omega (arith, c.if-count-eq0.false) in
+    let below : n < length calls = omega (arith, c.requires, number_is) in
+    let all : c.loop-kept.kept-index ≡ n = omega (arith, length-take n c.deref.result.now, ap length c.deref.ensures.value, ap length calls_are, c.loop-kept.auto.kept-index-end, c.loop-kept-test.false, below) in
+    let is : c.index.result.now ≡ get_or calls n c.index.result.now = c.index.ensures ∙ ap (λ (l : List Kept). get_or l n c.index.result.now) calls_are in
+    let follows = c.begin.ensures (after_all (opened start) (take n calls)) (subst (λ (k : ℕ). Follows (after_all (opened start) (take k calls)) c.loop-kept.replay) all c.loop-kept.invariant) in
+    let found : held_inside c.args.self.now c.args.call ≡ begun (after_all (opened start) (take n calls)) c.index.result.now.call =
+    ap (λ (k : ℕ). held_inside c.args.self.now k) number_is ∙ inside_is (opened start) calls n c.index.result.now below is in
+    subst (λ (h : Contents). SameBut (IsInSome h.ranges) h.image c.begin.new.self.left) (sym found) follows.left
+
+pub returns-clause-inside : goal.returns-clause-inside
+returns-clause-inside c = inside_of c
+
+pub returns-clause-left : goal.returns-clause-left
+returns-clause-left c =
+    let size : length c.self.inside.start ≡ 2048 = search rules in
+    left_inside (opened c.args.self.now.start) c.args.self.now.calls c.args.call c.begin.new.self.left
+    (ap (λ (b : BoardState). length b.start) (sym c.self.view_is) ∙ size)
+    (subst (λ (b : BoardState). All IsInStore b.calls) c.self.view_is c.self.invariant.1) (inside_of c)
+
+pub returns-clause-settled : goal.returns-clause-settled
+returns-clause-settled c none = settled_is (held_inside c.args.self.now c.args.call) c.begin.new.self.left none (inside_of c)
+
+pub returns-then-count-eq0-clause-left : goal.returns-then-count-eq0-clause-left
+returns-then-count-eq0-clause-left c =
+    let start = c.args.self.now.start in
+    let start_is : c.self.inside.start ≡ start = ap (λ (b : BoardState). b.start) c.self.view_is in
+    let zero_is : 0 ≡ c.args.call = omega (arith, c.if-count-eq0.true) in
+    subst (λ (k : ℕ). LeftBy (opened start) c.args.self.now.calls c.self.inside.start (held_inside c.args.self.now k).text) zero_is
+    (left_first (opened start) c.args.self.now.calls c.self.inside.start [] (record {
+      bytes = record {
+        size = ap length start_is;
+        rest = λ place _. ap (λ (l : List ℕ). get_or l place 0) start_is;
+      };
+      text = refl;
+    }))

@@ -1,0 +1,9 @@
+use Rattle.std.proofs.Common.{ap, ◌∙◌, List}
+use Rattle.outside.specs.Calls.{Kept, after_all}
+use Rattle.outside.specs.Requests.{call_of}
+use Rattle.outside.proofs.Keeping.{after_pushed}
+use Rattle.outside.proofs.memory_state.keep.Goals as goal
+
+pub returns-clause-leaves : goal.returns-clause-leaves
+returns-clause-leaves c held =
+    ap (λ (l : List Kept). after_all held l) c.in-Ok.ensures.items ∙ after_pushed held c.args.calls.now.items (record { call = call_of c.args.request; failed = c.contains-failed.result })

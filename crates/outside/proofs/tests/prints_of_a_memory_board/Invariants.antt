@@ -1,4 +1,0 @@
-use Rattle.outside.proofs.tests.prints_of_a_memory_board.Given as goal
-
-abbrev pub ghosts-print : goal.ghosts-print
-ghosts-print g a = record { name = a.blank.name; parts = a.blank.parts }

@@ -1,0 +1,217 @@
+//! What a board in memory keeps.
+ghost use Rattle.std.specs.Prelude.{◌≡◌, ◌⊎◌, ◌↔◌, ℕ, ◌+◌, ◌≤◌, ◌++◌, List, [], ◌∷◌, length, take, drop, true, Contains, IfOk, OnOk, OnErr};
+ghost use Rattle.std.specs.List.{All};
+ghost use Rattle.outside.specs.Calls.{Contents, Read, Write, Sync, Print, IsInSome, IsInStore, after, after_all, call_end};
+ghost use Rattle.outside.specs.Disk.{SameBut};
+ghost use Rattle.outside.specs.MemoryBoard.{IsListedCall, done_on, failed_on, held_inside, image_of, left_since_of, printed_on, refused_on, text_of};
+ghost use Rattle.outside.specs.Requests.{call_of};
+
+use crate::fault::Failed;
+use crate::kept_call::{KeptCall, Request};
+use crate::replay::{Fill, Replay, put};
+use std::alloc::Global;
+use std::marker::Model;
+use taxi_units::NoMemory;
+
+/// The calls that a board in memory keeps, and what they leave.
+#[derive(Drop)]
+pub(crate) struct MemoryState {
+    alloc: Global,
+    start: [u8; 2048],
+    image: [u8; 2048],
+    text: Vec<u8>,
+    fail: Vec<u64>,
+    calls: Vec<KeptCall>,
+    refused: u64,
+}
+
+impl Model for MemoryState {
+    ghost use Rattle.std.specs.List.{All};
+    ghost use Rattle.outside.specs.Calls.{Mirrors, IsInStore, after_all, opened};
+    ghost use Rattle.outside.specs.MemoryBoard.{BoardState};
+
+    ghost Value = { BoardState };
+
+    ghost view = { λ m. record { start = m.start; fail = m.fail.items; calls = m.calls.items; refused = m.refused } };
+
+    ghost invariant = { λ m. Mirrors (after_all (opened m.start) m.calls.items) m.image m.text.items × All IsInStore m.calls.items };
+}
+
+impl MemoryState {
+    /// No call was kept yet.
+    pub(crate) fn new(
+        alloc: Global,
+        image: &[u8; 2048],
+        fail: &[u64],
+    ) -> Result<MemoryState, NoMemory>
+        ensures state { IfOk result (λ m. m ≡ record { start = image.now; fail = fail.now; calls = []; refused = 0 }) }
+        ensures size { IfOk result (λ m. length (image_of m) ≡ 2048) }
+    {
+        let Ok(fail) = Vec::from_slice(alloc, fail) else {
+            return Err(NoMemory);
+        };
+        Ok(MemoryState {
+            alloc,
+            start: *image,
+            image: *image,
+            text: Vec::new(alloc),
+            fail,
+            calls: Vec::new(alloc),
+            refused: 0,
+        })
+    }
+
+    /// How many calls were kept.
+    pub(crate) fn calls(&self) -> u64
+        ensures { result ≡ length self.now.calls }
+    {
+        self.calls.len() as u64
+    }
+
+    /// What was printed.
+    pub(crate) fn printed(&self) -> &[u8]
+        ensures { result.now ≡ text_of self.now }
+    {
+        self.text.as_slice()
+    }
+
+    /// What a read gives.
+    pub(crate) fn image(&self) -> &[u8; 2048]
+        ensures { result.now ≡ image_of self.now }
+    {
+        &self.image
+    }
+
+    /// How many calls found no memory.
+    pub(crate) fn refused(&self) -> u64
+        ensures { result ≡ self.now.refused }
+    {
+        self.refused
+    }
+
+    /// An image that a cut inside the call with this number may leave, 0 being before the first. What
+    /// was in flight before the call is still so, inside a sync too, and so is the range that the call
+    /// itself writes. The bytes in flight become what `fill` says. All others are those that a read
+    /// gave before the call.
+    pub(crate) fn cut(&self, call: u64, fill: Fill) -> [u8; 2048]
+        requires { call ≤ length self.now.calls }
+        ensures left { left_since_of self.now 0 result (held_inside self.now call).text }
+        ensures inside { SameBut (IsInSome (held_inside self.now call).ranges) (held_inside self.now call).image result }
+        ensures settled { (held_inside self.now call).ranges ≡ [] → result ≡ (held_inside self.now call).image }
+        ensures zero { call ≡ 0 → result ≡ self.now.start }
+    {
+        let count = call as usize;
+        if count == 0 {
+            return self.start;
+        }
+        let mut replay = Replay::new(&self.start, fill);
+        for kept in &self.calls[..count - 1] {
+            replay.pass(kept);
+        }
+        replay.begin(&self.calls[count - 1]);
+        replay.left
+    }
+
+    /// Counts a call that found no memory, and answers its failure.
+    fn refuse(&mut self) -> Failed
+        ensures refused { self.new ≡ refused_on self.old }
+        ensures rises { self.old.refused ≤ self.new.refused }
+    {
+        self.refused = self.refused.saturating_add(1);
+        Failed
+    }
+
+    /// Keeps a read, and fills the buffer where it doesn't fail.
+    pub(crate) fn keep_read(&mut self, at: u16, buf: &mut [u8]) -> Result<(), Failed>
+        requires { at + length buf.old ≤ 2048 }
+        ensures bytes { OnOk result (buf.new ≡ take (length buf.old) (drop at (image_of self.old))) }
+        ensures kept { OnOk result ((¬ IsListedCall self.old) × (self.new ≡ done_on self.old Read)) }
+        ensures failed { OnErr result ((IsListedCall self.old × (self.new ≡ failed_on self.old Read)) ⊎ (self.new ≡ refused_on self.old)) }
+        ensures rises { self.old.refused ≤ self.new.refused }
+    {
+        let Ok(failed) = keep(&mut self.calls, &self.fail, Request::Read) else {
+            return Err(self.refuse());
+        };
+        if failed {
+            return Err(Failed);
+        }
+        let from = at as usize;
+        let to = from + buf.len();
+        buf.copy_from_slice(&self.image[from..to]);
+        Ok(())
+    }
+
+    /// Keeps a write, and puts its bytes where it doesn't fail.
+    pub(crate) fn keep_write(&mut self, at: u16, bytes: &[u8]) -> Result<(), Failed>
+        requires { at + length bytes.now ≤ 2048 }
+        ensures kept { OnOk result ((¬ IsListedCall self.old) × (self.new ≡ done_on self.old (Write at bytes.now))) }
+        ensures failed { OnErr result ((IsListedCall self.old × (self.new ≡ failed_on self.old (Write at bytes.now))) ⊎ (self.new ≡ refused_on self.old)) }
+        ensures rises { self.old.refused ≤ self.new.refused }
+    {
+        let Ok(copy) = Vec::from_slice(self.alloc, bytes) else {
+            return Err(self.refuse());
+        };
+        let Ok(failed) = keep(&mut self.calls, &self.fail, Request::Write(at, copy)) else {
+            return Err(self.refuse());
+        };
+        if failed {
+            return Err(Failed);
+        }
+        put(&mut self.image, at as usize, bytes);
+        Ok(())
+    }
+
+    /// Keeps a sync.
+    pub(crate) fn keep_sync(&mut self) -> Result<(), Failed>
+        ensures kept { OnOk result ((¬ IsListedCall self.old) × (self.new ≡ done_on self.old Sync)) }
+        ensures failed { OnErr result ((IsListedCall self.old × (self.new ≡ failed_on self.old Sync)) ⊎ (self.new ≡ refused_on self.old)) }
+        ensures rises { self.old.refused ≤ self.new.refused }
+    {
+        let Ok(failed) = keep(&mut self.calls, &self.fail, Request::Sync) else {
+            return Err(self.refuse());
+        };
+        if failed { Err(Failed) } else { Ok(()) }
+    }
+
+    /// Keeps a print, and puts its bytes behind the text where it doesn't fail.
+    pub(crate) fn keep_print(&mut self, bytes: &[u8]) -> Result<(), Failed>
+        ensures kept { OnOk result ((¬ IsListedCall self.old) × (self.new ≡ printed_on self.old bytes.now)) }
+        ensures failed { OnErr result ((IsListedCall self.old × (self.new ≡ failed_on self.old (Print bytes.now))) ⊎ (self.new ≡ refused_on self.old)) }
+        ensures rises { self.old.refused ≤ self.new.refused }
+    {
+        let Ok(piece) = Vec::from_slice(self.alloc, bytes) else {
+            return Err(self.refuse());
+        };
+        let count = self.text.len();
+        let Ok(()) = self.text.extend_from_slice(bytes) else {
+            return Err(self.refuse());
+        };
+        let Ok(failed) = keep(&mut self.calls, &self.fail, Request::Print(piece)) else {
+            self.text.truncate(count);
+            return Err(self.refuse());
+        };
+        if failed {
+            self.text.truncate(count);
+            return Err(Failed);
+        }
+        Ok(())
+    }
+}
+
+/// Keeps a call, and answers whether it fails by its number. A call that finds no memory isn't kept.
+fn keep(calls: &mut Vec<KeptCall>, fail: &[u64], request: Request) -> Result<bool, NoMemory>
+    requires fits { All IsInStore calls.old.items }
+    requires inside { call_end (call_of request) ≤ 2048 }
+    ensures fits { All IsInStore calls.new.items }
+    ensures kept { IfOk result (λ failed. calls.new.items ≡ calls.old.items ++ record { call = call_of request; failed = failed } ∷ []) }
+    ensures leaves { IfOk result (λ failed. (held : Contents) → after_all held calls.new.items ≡ after (after_all held calls.old.items) (record { call = call_of request; failed = failed })) }
+    ensures listed { IfOk result (λ failed. failed ≡ true ↔ Contains fail.now (length calls.old.items + 1)) }
+    ensures same { OnErr result (calls.new.items ≡ calls.old.items) }
+{
+    let number = calls.len() as u64 + 1;
+    let failed = fail.contains(&number);
+    let Ok(()) = calls.push(KeptCall { request, failed }) else {
+        return Err(NoMemory);
+    };
+    Ok(failed)
+}
