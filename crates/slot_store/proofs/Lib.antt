@@ -1,0 +1,6 @@
+mod Slices
+pub mod Untouched
+pub mod Moments
+mod Staged
+pub mod Findings
+mod Ordered

@@ -1,0 +1,29 @@
+//! Two gated slots in the board's store, which keep one body through any cut of the power: what the
+//! pair stands for is found by a scan, and a new body is written in three stages, each one write and
+//! its sync. All of it is this project's own.
+#![tactic(auto)]
+
+mod body;
+mod durable;
+mod found;
+mod laws;
+mod pair;
+mod ready;
+mod scanning;
+mod shut;
+mod storing;
+mod written;
+
+pub use body::Body;
+pub use found::{Found, SlotFault};
+pub use laws::{
+    a_pair_stands_for_one_body, a_pair_that_is_not_touched_stays, a_scan_answers_by_the_image,
+};
+pub use pair::{Pair, Place};
+pub use ready::Ready;
+pub use scanning::scan;
+pub use shut::Shut;
+pub use written::Written;
+
+#[cfg(test)]
+mod tests;

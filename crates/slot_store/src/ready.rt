@@ -1,0 +1,94 @@
+//! The first stage: the slot that is written next is shut.
+ghost use Rattle.std.specs.Prelude.{◌≡◌, ◌+◌, ◌≤◌, false, Option, Some, None, IfOk, OnOk, IsOk};
+ghost use Rattle.outside.specs.Disk.{LeavesOnly};
+ghost use Rattle.outside.specs.Faults.{HasCause};
+ghost use Rattle.slot_store.specs.declared.pair.Pair.{Pair};
+ghost use Rattle.slot_store.specs.Slots.{Shows};
+ghost use Rattle.slot_store.specs.Stages.{spare_at, is_spare_open, IsPair, IsReady, IsShut, LeavesBeside, WritesIn};
+
+use crate::durable::write_and_sync;
+use crate::pair::CLOSED;
+use crate::{Body, Pair, Place, Shut};
+use outside::{Board, Failed};
+use std::marker::Model;
+use std::sync::ledger::Ledger;
+use taxi_units::Steps;
+
+/// A pair of slots that may get a new body. A stage uses up its state, and after a stage that failed
+/// only a scan goes on.
+#[derive(Drop)]
+pub struct Ready {
+    pair: Pair,
+}
+
+impl Model for Ready {
+    ghost Value = { Pair };
+
+    ghost view = { λ r. r.pair };
+
+    ghost invariant = { λ r. IsPair r.pair };
+}
+
+impl Ready {
+    /// The pair that begins at `at`, at most 1,024, with its latest body at a place, whose slot is 0
+    /// or 1. The other slot is written next.
+    pub fn new(at: u16, place: Place) -> Ready
+        requires at { at ≤ 1024 }
+        requires slot { place.slot ≤ 1 }
+        ensures { result ≡ record { at = at; latest = Some place } }
+    {
+        Ready {
+            pair: Pair {
+                at,
+                latest: Some(place),
+            },
+        }
+    }
+
+    /// The pair that begins at `at`, at most 1,024, of which no gate is open. Slot 0 is written next.
+    pub fn blank(at: u16) -> Ready
+        requires { at ≤ 1024 }
+        ensures { result ≡ record { at = at; latest = None } }
+    {
+        Ready {
+            pair: Pair { at, latest: None },
+        }
+    }
+
+    /// Where the pair begins.
+    pub fn at(&self) -> u16
+        ensures is { result ≡ self.now.at }
+        ensures in_store { result ≤ 1024 }
+    {
+        self.pair.at
+    }
+
+    /// Shuts the slot that is written next: where its gate is open, writes 0x00 there and syncs, and
+    /// else makes no call. At each moment a cut leaves an image that stands for the latest body, or
+    /// is blank as before, also where the stage failed. `Failed` comes only where the board's count
+    /// of faults rose.
+    pub fn shut<T: Body, B: Board, L: Ledger>(
+        self,
+        board: &mut B,
+        steps: &mut Steps<L>,
+    ) -> Result<Shut, Failed>
+        requires ready { B.tells_image → (latest : Option T) × IsReady T.reads T.number_of self (B.image board.old) (B.in_flight board.old) latest }
+        ensures any_moment { B.tells_image → (latest : Option T) → IsReady T.reads T.number_of self (B.image board.old) (B.in_flight board.old) latest
+            → LeavesOnly B.moment B.left_since board.old board.new (LeavesBeside (B.image board.old) (B.in_flight board.old) (B.printed board.old) (spare_at self) 512
+            (λ image. Shows T.reads T.number_of self.at image latest)) }
+        ensures shut { B.tells_image → OnOk result ((latest : Option T) → IsReady T.reads T.number_of self (B.image board.old) (B.in_flight board.old) latest
+            → IsShut T.reads self (B.image board.new) (B.in_flight board.new) latest) }
+        ensures closed { is_spare_open self.latest ≡ false → IsOk result × (board.new ≡ board.old) × (steps.new ≡ steps.old) }
+        ensures beside { WritesIn B.image B.in_flight B.printed (spare_at self) 512 board.old board.new }
+        ensures pair { IfOk result (λ shut. shut ≡ self) }
+        ensures cause { HasCause (B.faults board.old) (B.faults board.new) result }
+        ensures steps { steps.new ≤ steps.old + 2 }
+    {
+        let shut = Shut::of(self.pair);
+        if !self.pair.is_spare_open() {
+            return Ok(shut);
+        }
+        write_and_sync(board, self.pair.spare(), &[CLOSED], steps)?;
+        Ok(shut)
+    }
+}

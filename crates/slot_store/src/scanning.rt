@@ -1,0 +1,115 @@
+//! What a pair of slots stands for.
+ghost use Rattle.std.specs.Prelude.{◌≡◌, ℕ, ◌+◌, ◌≤◌, take, drop, IfOk, OnOk, IsErrOf};
+ghost use Rattle.outside.specs.Disk.{SameBut, MayLeave, LeavesOnly};
+ghost use Rattle.outside.specs.Faults.{HasCause, Rose};
+ghost use Rattle.slot_store.specs.Scan.{held, verdict_on, found_at, IsAsFound, IsSound};
+
+use crate::pair::OPEN;
+use crate::{Body, Found, Place, SlotFault};
+use outside::{Board, Failed};
+use std::sync::ledger::Ledger;
+use taxi_units::Steps;
+
+/// Reads the pair of slots that begins at `at`, at most 1,024, by one sync and two reads. It writes
+/// and prints nothing, and at no moment might a cut have left what it couldn't have left before.
+///
+/// Where no slot is open, the pair is `Blank`; else the open slot whose body has the greatest number
+/// has the latest body. `BadBody` names the lower open slot whose body isn't read. Where there is
+/// none, `SameNumber` comes where both slots are open with one number. `DeviceFailed` comes only
+/// where the board's count of faults rose. After each other answer nothing is in flight, and the
+/// image is as it was; after `Latest` the pair is settled at the place.
+pub fn scan<T: Body, B: Board, L: Ledger>(
+    board: &mut B,
+    at: u16,
+    steps: &mut Steps<L>,
+) -> Result<Found<T>, SlotFault>
+    requires { at ≤ 1024 }
+    ensures exact { B.tells_image → ¬ IsErrOf result SlotFault.DeviceFailed → result ≡ found_at T.reads T.number_of at (B.image board.old) }
+    ensures settled { B.tells_image → IfOk result (IsAsFound T.reads T.number_of at (B.image board.new) (B.in_flight board.new)) }
+    ensures sound { IfOk result (IsSound T.valid) }
+    ensures any_moment { LeavesOnly B.moment B.left_since board.old board.new (MayLeave (B.image board.old) (B.in_flight board.old) (B.printed board.old)) }
+    ensures same { ¬ IsErrOf result SlotFault.DeviceFailed → B.image board.new ≡ B.image board.old }
+    ensures durable { B.tells_image → ¬ IsErrOf result SlotFault.DeviceFailed → (place : ℕ) → ¬ B.in_flight board.new place }
+    ensures image { SameBut (B.in_flight board.old) (B.image board.old) (B.image board.new) }
+    ensures flight { (place : ℕ) → B.in_flight board.new place → B.in_flight board.old place }
+    ensures text { B.printed board.new ≡ B.printed board.old }
+    ensures faults { B.faults board.old ≤ B.faults board.new }
+    ensures cause { IsErrOf result SlotFault.DeviceFailed → Rose (B.faults board.old) (B.faults board.new) }
+    ensures steps { steps.new ≤ steps.old + 3 }
+{
+    let (first, second) = read_pair(board, at, steps)?;
+    judge(&first, &second)
+}
+
+/// Syncs, and reads the bytes of both slots.
+fn read_pair<B: Board, L: Ledger>(
+    board: &mut B,
+    at: u16,
+    steps: &mut Steps<L>,
+) -> Result<([u8; 512], [u8; 512]), Failed>
+    requires { at ≤ 1024 }
+    ensures first { B.tells_image → IfOk result (λ slots. slots.0 ≡ take 512 (drop at (B.image board.old))) }
+    ensures second { B.tells_image → IfOk result (λ slots. slots.1 ≡ take 512 (drop (at + 512) (B.image board.old))) }
+    ensures same { OnOk result (B.image board.new ≡ B.image board.old) }
+    ensures durable { B.tells_image → OnOk result ((place : ℕ) → ¬ B.in_flight board.new place) }
+    ensures any_moment { LeavesOnly B.moment B.left_since board.old board.new (MayLeave (B.image board.old) (B.in_flight board.old) (B.printed board.old)) }
+    ensures image { SameBut (B.in_flight board.old) (B.image board.old) (B.image board.new) }
+    ensures flight { (place : ℕ) → B.in_flight board.new place → B.in_flight board.old place }
+    ensures text { B.printed board.new ≡ B.printed board.old }
+    ensures cause { HasCause (B.faults board.old) (B.faults board.new) result }
+    ensures steps { steps.new ≤ steps.old + 3 }
+{
+    board.sync(steps)?;
+    let mut first = [0; 512];
+    board.read(at, &mut first, steps)?;
+    let mut second = [0; 512];
+    board.read(at + 512, &mut second, steps)?;
+    Ok((first, second))
+}
+
+/// The answer to the bytes of two slots.
+fn judge<T: Body>(first: &[u8; 512], second: &[u8; 512]) -> Result<Found<T>, SlotFault>
+    ensures exact { result ≡ verdict_on T.reads T.number_of first.now second.now }
+    ensures sound { IfOk result (IsSound T.valid) }
+    ensures not_failed { ¬ IsErrOf result SlotFault.DeviceFailed }
+{
+    match (body_in::<T>(first), body_in::<T>(second)) {
+        (None, None) => Ok(Found::Blank),
+        (Some(None), _) => Err(SlotFault::BadBody(0)),
+        (_, Some(None)) => Err(SlotFault::BadBody(1)),
+        (Some(Some(body)), None) => Ok(latest(0, false, body)),
+        (None, Some(Some(body))) => Ok(latest(1, false, body)),
+        (Some(Some(a)), Some(Some(b))) => {
+            let (first_number, second_number) = (a.number(), b.number());
+            if first_number == second_number {
+                Err(SlotFault::SameNumber(first_number))
+            } else if first_number < second_number {
+                Ok(latest(1, true, b))
+            } else {
+                Ok(latest(0, true, a))
+            }
+        }
+    }
+}
+
+/// The answer that this slot has the latest body.
+fn latest<T: Body>(slot: u8, other_open: bool, body: T) -> Found<T>
+    ensures { result ≡ Found.Latest (record { slot = slot; other_open = other_open }) body }
+{
+    Found::Latest {
+        place: Place { slot, other_open },
+        body,
+    }
+}
+
+/// The body of an open slot, where it is read.
+fn body_in<T: Body>(slot: &[u8; 512]) -> Option<Option<T>>
+    ensures { result ≡ held T.reads slot.now }
+{
+    if slot[0] != OPEN {
+        return None;
+    }
+    let mut body = [0; 511];
+    body.copy_from_slice(&slot[1..]);
+    Some(T::get(&body))
+}

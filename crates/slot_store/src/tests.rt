@@ -1,0 +1,95 @@
+//! The tests' body is a number; the board is one in memory.
+mod cuts;
+mod numbered;
+mod staged;
+
+ghost use Rattle.std.specs.Prelude.{◌≡◌, ◌<◌, ◌≤◌};
+
+use crate::{Body, Found, Ready, SlotFault, scan};
+use numbered::{Numbered, spell};
+use outside::{Fill, MemoryBoard};
+use std::alloc::Global;
+use std::marker::Brand;
+use std::process::Abort;
+use std::sync::ledger::{Blank, Ledger};
+use std::test::Fail;
+use taxi_units::Steps;
+
+/// A slot: its gate, its number, and its last byte.
+type Slot = (u8, u64, u8);
+
+/// What a scan answers: a fault, or nothing yet, or the slot of the latest body, whether the other
+/// slot is open, and the body's number.
+type Answer = Result<Option<(u8, bool, u64)>, SlotFault>;
+
+const SHUT: Slot = (0, 0, 0);
+
+/// The two slots of a pair, and what a scan answers.
+const PAIRS: [(Slot, Slot, Answer); 10] = [
+    (SHUT, SHUT, Ok(None)),
+    ((0xA5, 1, 0), SHUT, Ok(Some((0, false, 1)))),
+    (SHUT, (0xA5, 1, 0), Ok(Some((1, false, 1)))),
+    ((0xA5, 4, 0), (0xA5, 4, 0), Err(SlotFault::SameNumber(4))),
+    (SHUT, (0xA5, 0, 7), Err(SlotFault::BadBody(1))),
+    ((0xA5, 1, 7), (0xA5, 2, 7), Err(SlotFault::BadBody(0))),
+    ((0xA5, 1, 0), (0xA5, 256, 0), Ok(Some((1, true, 256)))),
+    ((0xA5, 256, 0), (0xA5, 1, 0), Ok(Some((0, true, 256)))),
+    ((0xA5, 1, 0), (0xA4, 2, 7), Ok(Some((0, false, 1)))),
+    ((0x5A, 1, 0), (0, 2, 0), Ok(None)),
+];
+
+/// The bytes of a slot.
+fn slot_of(slot: Slot) -> [u8; 512] {
+    let (gate, number, last) = slot;
+    let mut bytes = [gate; 512];
+    bytes[1..].copy_from_slice(&spell(number));
+    bytes[511] = last;
+    bytes
+}
+
+/// A store with a pair at a place, and other bytes elsewhere.
+fn store_of(at: u16, first: Slot, second: Slot) -> [u8; 2048]
+    requires { at ≤ 1024 }
+{
+    let at = at as usize;
+    let mut image = [0xA5; 2048];
+    image[at..at + 512].copy_from_slice(&slot_of(first));
+    image[at + 512..at + 1024].copy_from_slice(&slot_of(second));
+    image
+}
+
+/// What a scan of a board answers.
+fn answer<L: Ledger>(board: &mut MemoryBoard, at: u16, steps: &mut Steps<L>) -> Answer
+    requires { at ≤ 1024 }
+{
+    match scan::<Numbered, MemoryBoard, L>(board, at, steps)? {
+        Found::Blank => Ok(None),
+        Found::Latest { place, body } => Ok(Some((place.slot, place.other_open, body.number()))),
+    }
+}
+
+/// Scans the table's pairs, at both places of the store.
+fn scan_pairs<L: Ledger>(alloc: Global, blank: Blank, rt: &impl Abort) -> Result<(), Fail>
+    requires name { blank.name ≡ L.name }
+    requires parts { blank.parts ≡ L.parts }
+    requires one { 0 < blank.parts }
+{
+    let mut steps: Steps<L> = Steps::open(blank);
+    for (row, (first, second, want)) in PAIRS.iter().enumerate() {
+        for at in [0, 1024] {
+            let image = store_of(at, *first, *second);
+            let mut board = MemoryBoard::new(alloc, &image, &[])?;
+            assert_eq!(rt;
+                answer(&mut board, at, &mut steps),
+                *want,
+                "row {row} at {at}"
+            );
+        }
+    }
+    Ok(())
+}
+
+#[test]
+fn scans_pairs(rt: HostRuntime) -> Result<(), Fail> {
+    scan_pairs::<Brand>(rt.alloc(), Blank::new(1), &rt)
+}
