@@ -1,4 +1,5 @@
 pub mod CalendarDays
+pub mod DayNumbers
 pub mod Dates
 pub mod LocalTimes
 pub mod OffsetLists

@@ -1,5 +1,5 @@
 -- The proleptic Gregorian calendar, from the year 0 on.
-use Rattle.std.specs.Prelude.{◌≡◌, ℕ, zero, suc, ◌+◌, ◌-◌, ◌%◌, ◌≤◌, Bool, not, ◌&&◌, ◌||◌, ◌==◌, nat_lt, if◌then◌else◌, ℤ, pos, ◌+ℤ◌, unsigned_abs}
+use Rattle.std.specs.Prelude.{◌≡◌, ℕ, zero, suc, ◌+◌, ◌-◌, ◌%◌, ◌≤◌, Bool, not, ◌&&◌, ◌||◌, ◌==◌, nat_le, nat_lt, if◌then◌else◌, ℤ, pos, ◌+ℤ◌, unsigned_abs}
 use Rattle.std.specs.Int.{int_rem_euclid}
 
 -- every fourth year is a leap year, but of the centuries only every fourth
@@ -15,6 +15,10 @@ abbrev pub days_of_month : (year month : ℕ) → ℕ
 days_of_month year month =
     if month == 2 then (if is_leap_year year then 29 else 28)
     else (if (month == 4) || (month == 6) || (month == 9) || (month == 11) then 30 else 31)
+
+-- the calendar has a date
+abbrev pub is_date : (year month date : ℕ) → Bool
+is_date year month date = nat_le 1 month && (nat_le month 12 && (nat_le 1 date && nat_le date (days_of_month year month)))
 
 -- the days of the first so many years, from the year 0 on
 unfoldable pub days_of_years : ℕ → ℕ
@@ -39,6 +43,10 @@ pub record IsDateOf (day : ℤ) (year month date : ℕ) : Type 0 where
   pub month_in : (1 ≤ month) × (month ≤ 12)
   pub date_in : (1 ≤ date) × (date ≤ days_of_month year month)
   pub count : day +ℤ pos (days_of_years 1970) ≡ pos (days_of_years year + place_in_year year month date)
+
+-- the days from 1970-01-01 to a date of 1970 or later
+abbrev pub day_number_of : (year month date : ℕ) → ℕ
+day_number_of year month date = days_of_years year + place_in_year year month date - days_of_years 1970
 
 -- the weekday of a day number, 1 for Monday to 7 for Sunday: day 0 was a Thursday
 abbrev pub weekday_of : ℤ → ℕ

@@ -5,11 +5,13 @@
 
 mod calendar;
 mod clock;
+mod day_numbers;
 mod local_time;
 mod offsets;
 
 pub use calendar::the_calendar_goes_day_by_day;
 pub use clock::{Clock, ClockBack};
+pub use day_numbers::day_number;
 pub use local_time::{LocalTime, civil};
 pub use offsets::{OffsetFault, Offsets};
 

@@ -155,3 +155,25 @@ fn sets_the_clock(rt: HostRuntime) {
     assert_eq!(rt; clock.set(999, false), Ok(()));
     assert_eq!(rt; clock.second(), 999);
 }
+
+/// Rows of a date and its day number, as Python's datetime gives it, or none where there is no such date.
+const DAY_NUMBERS: [(u16, u8, u8, Option<u32>); 10] = [
+    (1970, 1, 1, Some(0)),
+    (2000, 1, 1, Some(10957)),
+    (2000, 2, 29, Some(11016)),
+    (2026, 1, 1, Some(20454)),
+    (2199, 12, 31, Some(84005)),
+    (2027, 2, 29, None),
+    (2100, 2, 29, None),
+    (2026, 13, 1, None),
+    (2026, 4, 31, None),
+    (2026, 6, 0, None),
+];
+
+#[test]
+fn numbers_days(rt: HostRuntime) {
+    for (year, month, date, number) in DAY_NUMBERS {
+        assert!(rt; 1970 <= year && year <= 9999);
+        assert_eq!(rt; day_number(year, month, date), number);
+    }
+}

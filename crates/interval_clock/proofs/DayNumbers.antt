@@ -1,0 +1,53 @@
+-- The day numbers of dates.
+use Rattle.std.proofs.Common.{◌≡◌, ℕ, ◌*◌, ◌/◌, ◌≤◌, true, ℤ, pos, ◌-ℤ◌, ◌*ℤ◌, int_div, inl, inr, arith, ap}
+use Rattle.std.specs.Cmp.Derive.{both_true}
+use Rattle.std.proofs.lemmas.Bool.{cases_lt, le-leb}
+use Rattle.jiff_core.specs.declared.civil.date.Date.{Date}
+use Rattle.jiff_core.specs.Date.{epoch_day}
+use Rattle.jiff_core.proofs.SignedLemmas.{signed_arith}
+use Rattle.interval_clock.specs.Calendar.{days_of_years, days_of_month, day_number_of, is_date, IsDateOf}
+use Rattle.interval_clock.proofs.CalendarDays.{days_of_years-later}
+use Rattle.interval_clock.proofs.Dates.{epoch_day_is_date}
+
+-- the years up to one are at least those up to an earlier one
+days_of_years-rise : (year later : ℕ) → year ≤ later → days_of_years year ≤ days_of_years later
+days_of_years-rise year later h =
+    elim (cases_lt year later) [
+      | inl lt ↦ omega (arith, days_of_years-later year later lt)
+      | inr ge ↦ let same : year ≡ later = omega arith in rw same (omega arith)
+    ]
+
+-- a date from 1970 on has its day number
+pub epoch_day_is_number : (d : Date) (year : ℕ) → 1970 ≤ year → d.year ≡ pos year → epoch_day d ≡ pos (day_number_of year d.month d.day)
+epoch_day_is_number d year from same =
+    omega (arith, signed_arith, (epoch_day_is_date d year same).count, days_of_years-rise 1970 year from)
+
+-- the calendar has the dates of jiff
+pub is_date_there : (d : Date) (year month date : ℕ) → d.year ≡ pos year → d.month ≡ month → d.day ≡ date → is_date year month date ≡ true
+is_date_there d year month date e f g =
+    let within : (1 ≤ date) × (date ≤ days_of_month year month) = rw (← g, ← f) (rw e at d.day_in) in
+    let months : (1 ≤ month) × (month ≤ 12) = rw (← f) d.month_in in
+    both_true (le-leb 1 month months.0) (both_true (le-leb month 12 months.1) (both_true (le-leb 1 date within.0) (le-leb date (days_of_month year month) within.1)))
+
+-- a date of jiff, by its numbers
+pub number_there : (d : Date) (year month date : ℕ) → 1970 ≤ year → d.year ≡ pos year → d.month ≡ month → d.day ≡ date → epoch_day d ≡ pos (day_number_of year month date)
+number_there d year month date from e f g = rw (← f, ← g) (epoch_day_is_number d year from e)
+
+pub date_there : (d : Date) (day : ℤ) (year month date : ℕ) → day ≡ epoch_day d → d.year ≡ pos year → d.month ≡ month → d.day ≡ date → IsDateOf day year month date
+date_there d day year month date same e f g = rw (same, ← f, ← g) (epoch_day_is_date d year e)
+
+-- the whole hours of so many days
+hours_of_days : (n : ℕ) → int_div (pos n *ℤ pos 86400000000000) (pos 3600000000000) ≡ pos (n * 24)
+hours_of_days n =
+    let hours : n * 86400000000000 / 3600000000000 ≡ n * 24 = omega arith in
+    ap pos hours
+
+-- the same, of the time between two dates
+pub whole_hours : (n : ℕ) (day start nanos hours : ℤ) → day ≡ pos n → start ≡ pos 0 → nanos ≡ (day -ℤ start) *ℤ pos 86400000000000 → hours ≡ int_div nanos (pos 3600000000000) → hours ≡ pos (n * 24)
+whole_hours n day start nanos hours d s e h =
+    let apart : day -ℤ start ≡ pos n = omega (arith, signed_arith) in
+    rw (h, e, apart) (hours_of_days n)
+
+-- and the days again
+pub days_of_hours : (n : ℕ) → int_div (pos (n * 24)) (pos 24) ≡ pos n
+days_of_hours n = let days : n * 24 / 24 ≡ n = omega arith in ap pos days
