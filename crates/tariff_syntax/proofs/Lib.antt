@@ -7,13 +7,13 @@ pub mod GrammarSteps
 pub mod ItemLaws
 pub mod LineOrder
 pub mod Measures
+pub mod Ranges
 pub mod ReadsLaws
 pub mod ShownConditions
 pub mod ShownFigures
 pub mod ShownGrammar
 pub mod ShownLines
 pub mod Shows
-pub mod Soundness
 pub mod TokenLaws
 pub mod TokenOrder
 pub mod Tools

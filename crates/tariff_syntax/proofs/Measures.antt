@@ -52,7 +52,7 @@ unfolding gcd_of
 divides_gcd a b d m first second = divides_in (b + 1) a b d m first second
 
 -- a whole multiple is one that the number divides
-divides : (m a : ℕ) → m / a * a ≡ m → a ∣ m
+pub divides : (m a : ℕ) → m / a * a ≡ m → a ∣ m
 divides m a e = subst (λ (n : ℕ). a ∣ n) e (dvd-mul_left a (m / a))
 
 product : (a b g : ℕ) → g ∣ a → a / g * b * g ≡ a * b
@@ -73,7 +73,8 @@ lcm_of-multiple_of_first a b =
 pub lcm_of-multiple_of_second : (a b : ℕ) → lcm_of a b / b * b ≡ lcm_of a b
 lcm_of-multiple_of_second a b = div-mul_cancel b (dvd-mul_left b (a / gcd_of a b))
 
-lcm_divides : (a b n : ℕ) → 0 < a → a ∣ n → b ∣ n → lcm_of a b ∣ n
+-- and a number that both divide is a whole multiple of it
+pub lcm_divides : (a b n : ℕ) → 0 < a → a ∣ n → b ∣ n → lcm_of a b ∣ n
 lcm_divides a b n first da db =
     let g = gcd_of a b in
     let h = is_gcd_of a b in

@@ -15,8 +15,6 @@ pub mod Printed
 pub mod PrintedCondition
 pub mod Reads
 pub mod Renumbered
-pub mod Simple
-pub mod Sound
 pub mod Spelled
 pub mod TextLines
 pub mod Token
@@ -24,3 +22,4 @@ pub mod TokenReading
 pub mod Tree
 pub mod Weight
 pub mod Words
+pub mod Writable

@@ -4,6 +4,7 @@ ghost use Rattle.tariff_syntax.specs.Printed.{printed};
 ghost use Rattle.tariff_syntax.specs.Reads.{Reads, IsFirstBadLine};
 ghost use Rattle.tariff_syntax.specs.Renumbered.{renumbered};
 ghost use Rattle.tariff_syntax.specs.Tree.{Tree};
+ghost use Rattle.tariff_syntax.specs.Writable.{IsWritable};
 
 /// The law of texts: a text either reads as a tariff, and as no other, or it has a first bad line, and
 /// no other.
@@ -18,4 +19,10 @@ pub fn texts_read_as_one_tariff()
 /// for the numbers of its lines.
 pub fn printed_forms_read_back()
     ensures { (text : List ℕ) (t : Tree) → Reads text t → Reads (printed t) (renumbered t) }
+{}
+
+/// The law of numbers: each number of a tariff that a text reads as is in the range that its place in a
+/// text has.
+pub fn texts_have_their_numbers()
+    ensures { (text : List ℕ) (t : Tree) → Reads text t → IsWritable t }
 {}

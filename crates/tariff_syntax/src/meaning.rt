@@ -9,13 +9,14 @@ use crate::context::Context;
 use crate::tariff::{Item, Tariff};
 use pulse_input::reached;
 
-/// Whether a condition holds in a context. Its dates are compared by their places in a leap year.
+/// Whether a condition holds in a context. Its dates are compared by their places in a leap year. The
+/// right part is asked first: conditions join from the left, so a long one is no deep recursion.
 pub fn sat(cond: &Cond, x: &Context) -> bool
     ensures { result ≡ holds (condition_of cond.now) x.now }
 {
     match cond {
-        Cond::And(left, right) => sat(left, x) && sat(right, x),
-        Cond::Or(left, right) => sat(left, x) || sat(right, x),
+        Cond::And(left, right) => sat(right, x) && sat(left, x),
+        Cond::Or(left, right) => sat(right, x) || sat(left, x),
         Cond::Not(inner) => !sat(inner, x),
         Cond::Position(number) => x.position == *number,
         Cond::Zone(number) => x.zone == *number,
@@ -119,8 +120,9 @@ fn is_within(from: u16, to: u16, n: u16) -> bool
     }
 }
 
-/// The place of a date in a leap year, 0 for 1 January.
-fn month_day(month: u8, date: u8) -> u16
+/// The place of a month and date in a leap year, from 0 for 1 January to 365 for 31 December. The places
+/// of what no leap year has mean nothing.
+pub fn month_day(month: u8, date: u8) -> u16
     ensures { result ≡ month_day_of month date }
 {
     (days_before(month) + date as u16).saturating_sub(1)
