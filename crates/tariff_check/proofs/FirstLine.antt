@@ -1,0 +1,106 @@
+-- The first line that is so.
+use Rattle.std.proofs.Common.{◌≡◌, ◌⊎◌, inl, inr, ◌↔◌, ℕ, Bool, true, false, cond, List, [], ◌∷◌, ◌++◌, Option, Some, None, All, refl, ap, sym, ◌∙◌, subst, append_assoc}
+use Rattle.std.proofs.lemmas.List.Elements.{All-nil, All-cons}
+use Rattle.tariff_syntax.specs.Tree.{Line, Entry}
+use Rattle.tariff_check.specs.Lines.{LineTest, IsFirstLine, first_line, first_after}
+
+-- the test of a line decides how the search goes on
+found : (b : Bool) (line number : ℕ) (rest : Option ℕ) → cond b (Some line) rest ≡ Some number → ((b ≡ true) × (line ≡ number)) ⊎ ((b ≡ false) × (rest ≡ Some number))
+found true line number rest h = inl (refl, cc)
+found false line number rest h = inr (refl, h)
+
+pub passed_by : (b : Bool) (line : ℕ) (rest : Option ℕ) → cond b (Some line) rest ≡ None → (b ≡ false) × (rest ≡ None)
+passed_by true line rest h = absurd cc
+passed_by false line rest h = (refl, h)
+
+-- where no line is so, none is, whatever stands before it
+pub never : (test : LineTest) (so : Entry → Bool) → ((before : List Line) (x : Entry) → test before x ≡ false → so x ≡ false) → (before ls : List Line) → first_after test before ls ≡ None → All (λ (l : Line). so l.entry ≡ false) ls
+never test so tells before [] h = All-nil (λ (l : Line). so l.entry ≡ false)
+never test so tells before (l ∷ ls) h =
+    let here = passed_by (test before l.entry) l.line (first_after test (before ++ l ∷ []) ls) h in
+    All-cons (λ (m : Line). so m.entry ≡ false) l ls (tells before l.entry here.0) (never test so tells (before ++ l ∷ []) ls here.1)
+
+-- a line is the first that is so among some lines, after the lines before them
+pub record IsFirstAfter (test : LineTest) (front ls : List Line) (number : ℕ) : Type 0 where
+  pub before : List Line
+  pub line : Line
+  pub after : List Line
+  pub split : ls ≡ before ++ line ∷ after
+  pub number_is : line.line ≡ number
+  pub is_so : test (front ++ before) line.entry ≡ true
+  pub none_earlier : (xs ys : List Line) (l : Line) → before ≡ xs ++ l ∷ ys → test (front ++ xs) l.entry ≡ false
+
+append_none : (xs : List Line) → xs ++ [] ≡ xs
+append_none [] = refl
+append_none (x ∷ xs) = ap (λ (ys : List Line). x ∷ ys) (append_none xs)
+
+no_split : {A : Type 0} (xs ys : List Line) (l : Line) → [] ≡ xs ++ l ∷ ys → A
+no_split [] ys l h = absurd cc
+no_split (x ∷ xs) ys l h = absurd cc
+
+first_here : (test : LineTest) (front : List Line) (l : Line) (ls : List Line) (number : ℕ) → test front l.entry ≡ true → l.line ≡ number → IsFirstAfter test front (l ∷ ls) number
+first_here test front l ls number so named = record {
+  before = [];
+  line = l;
+  after = ls;
+  split = refl;
+  number_is = named;
+  is_so = rw (append_none front) so;
+  none_earlier = λ xs ys m e. no_split xs ys m e;
+}
+
+earlier : (test : LineTest) (front : List Line) (l : Line) (before : List Line) → test front l.entry ≡ false → ((xs ys : List Line) (m : Line) → before ≡ xs ++ m ∷ ys → test ((front ++ l ∷ []) ++ xs) m.entry ≡ false) → (xs ys : List Line) (m : Line) → l ∷ before ≡ xs ++ m ∷ ys → test (front ++ xs) m.entry ≡ false
+earlier test front l before not_here none [] ys m e =
+    let same : l ≡ m = cc in
+    rw (append_none front) (subst (λ (k : Line). test front k.entry ≡ false) same not_here)
+earlier test front l before not_here none (x ∷ xs) ys m e =
+    let same : l ≡ x = cc in
+    let rest : before ≡ xs ++ m ∷ ys = cc in
+    let there = none xs ys m rest in
+    let joined : (front ++ l ∷ []) ++ xs ≡ front ++ x ∷ xs = append_assoc front (l ∷ []) xs ∙ ap (λ (k : Line). front ++ k ∷ xs) same in
+    subst (λ (ks : List Line). test ks m.entry ≡ false) joined there
+
+first_later : (test : LineTest) (front : List Line) (l : Line) (ls : List Line) (number : ℕ) → test front l.entry ≡ false → IsFirstAfter test (front ++ l ∷ []) ls number → IsFirstAfter test front (l ∷ ls) number
+first_later test front l ls number not_here h = record {
+  before = l ∷ h.before;
+  line = h.line;
+  after = h.after;
+  split = ap (λ (ks : List Line). l ∷ ks) h.split;
+  number_is = h.number_is;
+  is_so = subst (λ (ks : List Line). test ks h.line.entry ≡ true) (append_assoc front (l ∷ []) h.before) h.is_so;
+  none_earlier = earlier test front l h.before not_here h.none_earlier;
+}
+
+is_first_after : (test : LineTest) (front ls : List Line) (number : ℕ) → first_after test front ls ≡ Some number → IsFirstAfter test front ls number
+is_first_after test front [] number h = absurd cc
+is_first_after test front (l ∷ ls) number h =
+    elim (found (test front l.entry) l.line number (first_after test (front ++ l ∷ []) ls) h) [
+      | inl here ↦ first_here test front l ls number here.0 here.1
+      | inr later ↦ first_later test front l ls number later.0 (is_first_after test (front ++ l ∷ []) ls number later.1)
+    ]
+
+first_after_is : (test : LineTest) (front ls : List Line) (number : ℕ) (before : List Line) (line : Line) (after : List Line) → ls ≡ before ++ line ∷ after → line.line ≡ number → test (front ++ before) line.entry ≡ true → ((xs ys : List Line) (l : Line) → before ≡ xs ++ l ∷ ys → test (front ++ xs) l.entry ≡ false) → first_after test front ls ≡ Some number
+first_after_is test front ls number [] line after split named so none =
+    let here : test front line.entry ≡ true = rw (append_none front) at so in
+    rw (split, here, named) refl
+first_after_is test front ls number (l ∷ before) line after split named so none =
+    let first : test front l.entry ≡ false = rw (append_none front) at (none [] before l refl) in
+    let rest = first_after_is test (front ++ l ∷ []) (before ++ line ∷ after) number before line after refl named
+    (subst (λ (ks : List Line). test ks line.entry ≡ true) (sym (append_assoc front (l ∷ []) before)) so)
+    (λ (xs ys : List Line) (m : Line) (e : before ≡ xs ++ m ∷ ys). subst (λ (ks : List Line). test ks m.entry ≡ false) (sym (append_assoc front (l ∷ []) xs)) (none (l ∷ xs) ys m (ap (λ (ks : List Line). l ∷ ks) e))) in
+    rw (split, first) rest
+
+-- the number that is found is that of the first line that is so
+pub first_line_is : (test : LineTest) (lines : List Line) (number : ℕ) → (first_line test lines ≡ Some number) ↔ IsFirstLine test lines number
+first_line_is test lines number = (
+  λ (h : first_line test lines ≡ Some number). let f = is_first_after test [] lines number h in record {
+    before = f.before;
+    line = f.line;
+    after = f.after;
+    split = f.split;
+    number_is = f.number_is;
+    is_so = f.is_so;
+    none_earlier = f.none_earlier;
+  },
+  λ (h : IsFirstLine test lines number). first_after_is test [] lines number h.before h.line h.after h.split h.number_is h.is_so h.none_earlier,
+)

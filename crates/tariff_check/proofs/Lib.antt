@@ -1,0 +1,10 @@
+pub mod CommonMeasure
+pub mod CutLaws
+pub mod CutOrder
+pub mod DefaultLines
+pub mod FirstLine
+pub mod LineFacts
+pub mod MeasureLaws
+pub mod PartLaws
+pub mod SoundParts
+pub mod Staging

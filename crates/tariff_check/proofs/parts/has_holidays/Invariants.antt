@@ -1,0 +1,7 @@
+use Rattle.std.proofs.Common.{◌≡◌, map, drop}
+use Rattle.tariff_check.specs.Parts.{has_holidays}
+use Rattle.tariff_syntax.specs.Tree.{line_of}
+use Rattle.tariff_check.proofs.parts.has_holidays.Given as goal
+
+abbrev pub invariant-loop-line : goal.invariant-loop-line
+invariant-loop-line l = has_holidays (map line_of (drop l.line-index l.lines)) ≡ has_holidays (map line_of l.lines)

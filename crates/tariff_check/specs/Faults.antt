@@ -1,0 +1,75 @@
+-- The faults of a tariff, in their order.
+use Rattle.std.specs.Prelude.{◌≡◌, ℕ, ◌^◌, Bool, true, false, not, ◌==◌, nat_lt, List, [], ◌∷◌, Option, Some, None, is_none, All}
+use Rattle.std.specs.List.{list_any}
+use Rattle.std.specs.Option.{option_or}
+use Rattle.drive_modes.specs.declared.meterage.Rounding.{Rounding}
+use Rattle.tariff_syntax.specs.Condition.{Condition}
+use Rattle.tariff_syntax.specs.Meaning.{rate_conditions, initial_conditions}
+use Rattle.tariff_syntax.specs.Tree.{Tree, Line}
+use Rattle.tariff_check.specs.Cells.{cells_of}
+use Rattle.tariff_check.specs.Cuts.{count_of, most_cuts}
+use Rattle.tariff_check.specs.Lines.{first_line, is_duplicate, is_one_too_many, names_unknown, is_after_default, has_bad_date, has_great_amount, has_measure_zero}
+use Rattle.tariff_check.specs.Measure.{measure_of}
+use Rattle.tariff_check.specs.Parts.{step_of, positions_of, zones_of}
+use Rattle.tariff_check.specs.declared.fault.Dimension.{Dimension}
+use Rattle.tariff_check.specs.declared.fault.Dimension.TheVariants.{MonthDay, Minute, Distance, Time}
+use Rattle.tariff_check.specs.declared.fault.CheckFault.{CheckFault}
+use Rattle.tariff_check.specs.declared.fault.CheckFault.TheVariants.{NoStep, StepZero, Duplicate, TooManyLines, UnknownNumber, NoDefaultRate, NoDefaultInitial, LineAfterDefault, BadDate, AmountTooBig, MeasureZero, NoCommonMeasure, TooManyCuts, TooManyCells}
+
+-- a fault where something is so
+abbrev pub fault_if : Bool → CheckFault → Option CheckFault
+fault_if true fault = Some fault
+fault_if false fault = None
+
+-- a fault of the first line that is so
+abbrev pub fault_at : (ℕ → CheckFault) → Option ℕ → Option CheckFault
+fault_at fault None = None
+fault_at fault (Some line) = Some (fault line)
+
+-- the display step is 0
+abbrev pub is_step_zero : Option (ℕ × Rounding) → Bool
+is_step_zero None = false
+is_step_zero (Some s) = s.0 == 0
+
+-- too many cuts in a dimension
+abbrev pub cuts_fault : List Line → Dimension → Option CheckFault
+cuts_fault lines dimension = fault_if (nat_lt (most_cuts dimension) (count_of dimension lines)) (TooManyCuts dimension (count_of dimension lines))
+
+-- whether a line without a condition is there
+abbrev pub has_default : List (Option Condition) → Bool
+has_default conditions = list_any is_none conditions
+
+-- each fault where its condition holds, in their order
+abbrev pub faults_of : List Line → List (Option CheckFault)
+faults_of ls =
+    fault_if (is_none (step_of ls)) NoStep
+    ∷ fault_if (is_step_zero (step_of ls)) StepZero
+    ∷ fault_at Duplicate (first_line is_duplicate ls)
+    ∷ fault_at TooManyLines (first_line is_one_too_many ls)
+    ∷ fault_at UnknownNumber (first_line (names_unknown (positions_of ls) (zones_of ls)) ls)
+    ∷ fault_if (not (has_default (rate_conditions ls))) NoDefaultRate
+    ∷ fault_if (not (has_default (initial_conditions ls))) NoDefaultInitial
+    ∷ fault_at LineAfterDefault (first_line is_after_default ls)
+    ∷ fault_at BadDate (first_line has_bad_date ls)
+    ∷ fault_at AmountTooBig (first_line has_great_amount ls)
+    ∷ fault_at MeasureZero (first_line has_measure_zero ls)
+    ∷ fault_if (nat_lt (10 ^ 18) (measure_of ls)) NoCommonMeasure
+    ∷ cuts_fault ls MonthDay
+    ∷ cuts_fault ls Minute
+    ∷ cuts_fault ls Distance
+    ∷ cuts_fault ls Time
+    ∷ fault_if (nat_lt 64512 (cells_of ls)) (TooManyCells (cells_of ls))
+    ∷ []
+
+-- the first that is there
+abbrev pub first_some : {A : Type 0} → List (Option A) → Option A
+first_some [] = None
+first_some (x ∷ xs) = option_or x (first_some xs)
+
+-- the first fault of a tariff
+abbrev pub fault_of : Tree → Option CheckFault
+fault_of t = first_some (faults_of t.lines)
+
+-- a tariff is sound where none of the faults is there
+abbrev pub IsSound : Tree → Type 0
+IsSound t = All (λ (f : Option CheckFault). f ≡ None) (faults_of t.lines)

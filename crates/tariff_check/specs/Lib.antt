@@ -1,0 +1,10 @@
+pub mod Cells
+pub mod Counted
+pub mod Cuts
+pub mod Faults
+pub mod Lines
+pub mod Measure
+pub mod Parts
+pub mod Rules
+pub mod Sound
+pub mod Stages

@@ -1,0 +1,69 @@
+-- What a sound tariff is made of.
+use Rattle.std.specs.Prelude.{◌≡◌, ℕ, ◌^◌, ◌≤◌, true, Some, length, All, IsTrue}
+use Rattle.drive_modes.specs.declared.meterage.Rounding.{Rounding}
+use Rattle.interval_clock.specs.Calendar.{is_date}
+use Rattle.tariff_syntax.specs.Condition as tree
+use Rattle.tariff_syntax.specs.Condition.{Condition}
+use Rattle.tariff_syntax.specs.Meaning.{rate_conditions, initial_conditions}
+use Rattle.tariff_syntax.specs.Tree.{Tree, Line}
+use Rattle.tariff_syntax.specs.Writable.{IsFromTo, IsWritableCondition}
+use Rattle.tariff_check.specs.Cells.{cells_of}
+use Rattle.tariff_check.specs.Cuts.{count_of, most_cuts}
+use Rattle.tariff_check.specs.Faults.{has_default}
+use Rattle.tariff_check.specs.Lines.{atoms_in}
+use Rattle.tariff_check.specs.Measure.{measure_of}
+use Rattle.tariff_check.specs.Parts.{RateNumbers, InitialNumbers, SupplementNumbers, DateNumbers, step_of, positions_of, zones_of, holidays_of, supplement_of, initials_of, rates_of}
+use Rattle.tariff_check.specs.declared.fault.Dimension.{Dimension}
+
+-- the numbers of a rate
+pub record IsSoundRate (r : RateNumbers) : Type 0 where
+  pub distance_amount : r.a ≤ 10 ^ 6
+  pub distance : IsFromTo 1 (10 ^ 12) r.b
+  pub time_amount : r.c ≤ 10 ^ 6
+  pub time : IsFromTo 1 (10 ^ 12) r.e
+
+-- those of an initial hire fee
+pub record IsSoundInitial (i : InitialNumbers) : Type 0 where
+  pub amount : i.amount ≤ 99999999
+  pub covers : i.covers ≤ 99999999
+
+-- those of a supplement
+pub record IsSoundSupplement (s : SupplementNumbers) : Type 0 where
+  pub amount : s.amount ≤ 10 ^ 6
+  pub most : IsFromTo 1 99 s.most
+
+-- a holiday is a date of the years 2000 to 2199
+pub record IsSoundHoliday (d : DateNumbers) : Type 0 where
+  pub year : IsFromTo 2000 2199 d.year
+  pub date : IsTrue (is_date d.year d.month d.date)
+
+-- an atom: dates of a leap year, and an `after` of more than 0
+abbrev pub IsSoundAtom : Condition → Type 0
+IsSoundAtom (tree.date from_month from_date to_month to_date) = IsTrue (is_date 2000 from_month from_date) × IsTrue (is_date 2000 to_month to_date)
+IsSoundAtom (tree.after_distance decimetres) = 1 ≤ decimetres
+IsSoundAtom (tree.after_time tenths) = 1 ≤ tenths
+IsSoundAtom atom = Unit {0}
+
+-- an atom of a sound tariff whose numbers a text can have
+abbrev pub IsGoodAtom : Condition → Type 0
+IsGoodAtom atom = IsWritableCondition atom × IsSoundAtom atom
+
+-- a sound tariff, part by part
+pub record HasSoundParts (t : Tree) : Type 0 where
+  pub decimals : t.decimals ≤ 3
+  pub step : (s : ℕ × Rounding) × (step_of t.lines ≡ Some s) × IsFromTo 1 (10 ^ 6) s.0
+  pub positions : IsFromTo 1 9 (positions_of t.lines)
+  pub zones : IsFromTo 1 9 (zones_of t.lines)
+  pub rates : All IsSoundRate (rates_of t.lines)
+  pub rate_count : length (rates_of t.lines) ≤ 64
+  pub default_rate : has_default (rate_conditions t.lines) ≡ true
+  pub initials : All IsSoundInitial (initials_of t.lines)
+  pub initial_count : length (initials_of t.lines) ≤ 64
+  pub default_initial : has_default (initial_conditions t.lines) ≡ true
+  pub supplements : (number : ℕ) (s : SupplementNumbers) → supplement_of t.lines number ≡ Some s → IsSoundSupplement s
+  pub holidays : All IsSoundHoliday (holidays_of t.lines)
+  pub holiday_count : length (holidays_of t.lines) ≤ 255
+  pub atoms : All (λ (l : Line). All IsGoodAtom (atoms_in l.entry)) t.lines
+  pub measure : IsFromTo 1 (10 ^ 18) (measure_of t.lines)
+  pub cuts : (dimension : Dimension) → count_of dimension t.lines ≤ most_cuts dimension
+  pub cells : IsFromTo 1 64512 (cells_of t.lines)

@@ -1,0 +1,64 @@
+//! How many cuts there are.
+ghost use Rattle.std.specs.Prelude.{◌≡◌, ◌≤◌, ◌⊎◌, Some, None, IfOk, IfErr, OnOk, map};
+ghost use Rattle.tariff_check.specs.Counted.{HasCounts};
+ghost use Rattle.tariff_check.specs.Cuts.{count_of, most_cuts};
+ghost use Rattle.tariff_check.specs.Faults.{cuts_fault};
+ghost use Rattle.tariff_check.specs.Stages.{cut_fault};
+ghost use Rattle.tariff_check.specs.declared.fault.CheckFault.TheVariants.{NoMemory};
+ghost use Rattle.tariff_syntax.specs.Tree.{line_of};
+
+use crate::cells::Counts;
+use crate::cuts::cuts;
+use crate::fault::{CheckFault, Dimension};
+use std::alloc::Global;
+use tariff_syntax::TariffLine;
+
+/// How many cuts some lines have in each dimension, or that they are too many.
+pub(crate) fn counts(alloc: Global, lines: &[TariffLine]) -> Result<Counts, CheckFault>
+    ensures counts { IfOk result (λ n. HasCounts (map line_of lines.now) n) }
+    ensures none { OnOk result (cut_fault (map line_of lines.now) ≡ None) }
+    ensures fault { IfErr result (λ f. (f ≡ NoMemory) ⊎ (cut_fault (map line_of lines.now) ≡ Some f)) }
+{
+    let month_day = count(alloc, lines, Dimension::MonthDay)?;
+    let minute = count(alloc, lines, Dimension::Minute)?;
+    let distance = count(alloc, lines, Dimension::Distance)?;
+    let time = count(alloc, lines, Dimension::Time)?;
+    Ok(Counts {
+        month_day,
+        minute,
+        distance,
+        time,
+    })
+}
+
+/// How many cuts some lines have in a dimension, or that they are too many. `NoMemory` too where they are
+/// more than fit 32 bits, which is more than 32 GiB of them.
+fn count(alloc: Global, lines: &[TariffLine], dimension: Dimension) -> Result<u32, CheckFault>
+    ensures count { IfOk result (λ n. (n ≡ count_of dimension (map line_of lines.now)) × (n ≤ most_cuts dimension)) }
+    ensures none { OnOk result (cuts_fault (map line_of lines.now) dimension ≡ None) }
+    ensures fault { IfErr result (λ f. (f ≡ NoMemory) ⊎ (cuts_fault (map line_of lines.now) dimension ≡ Some f)) }
+{
+    let count = match cuts(alloc, lines, dimension) {
+        Ok(cuts) => cuts.len(),
+        Err(_) => return Err(CheckFault::NoMemory),
+    };
+    if count > u32::MAX as usize {
+        return Err(CheckFault::NoMemory);
+    }
+    if count as u32 > most(dimension) {
+        return Err(CheckFault::TooManyCuts(dimension, count as u32));
+    }
+    Ok(count as u32)
+}
+
+/// How many cuts there may be in a dimension.
+fn most(dimension: Dimension) -> u32
+    ensures { result ≡ most_cuts dimension }
+{
+    match dimension {
+        Dimension::MonthDay => 63,
+        Dimension::Minute => 63,
+        Dimension::Distance => 15,
+        Dimension::Time => 15,
+    }
+}

@@ -1,0 +1,120 @@
+//! The cuts of a tariff.
+ghost use Rattle.std.specs.BTreeSet.{insert_key};
+ghost use Rattle.std.specs.List.{flat_map};
+ghost use Rattle.std.specs.Ordering.{nat_cmp};
+ghost use Rattle.std.specs.Prelude.{◌≡◌, IfOk, OnOk, map};
+ghost use Rattle.tariff_check.specs.Cuts.{atom_cuts, cuts_of, with_each};
+ghost use Rattle.tariff_check.specs.Lines.{atoms_if, atoms_in, atoms_of};
+ghost use Rattle.tariff_syntax.specs.Condition.{condition_if, condition_of};
+ghost use Rattle.tariff_syntax.specs.Tree.{entry_of, line_of, tree_of};
+
+use crate::atom_cuts::atom_cuts;
+use crate::checked::Checked;
+use crate::fault::Dimension;
+use std::alloc::{AllocError, Global};
+use std::collections::BTreeSet;
+use tariff_syntax::{Cond, Item, TariffLine};
+use taxi_units::NoMemory;
+
+/// The different numbers with which the conditions of a tariff compare in a dimension, in order: places
+/// in a leap year, minutes of the day, decimetres or tenths of a second. `NoMemory` where memory runs out.
+pub fn cut_values(
+    alloc: Global,
+    checked: &Checked,
+    dimension: Dimension,
+) -> Result<Vec<u64>, NoMemory>
+    ensures { IfOk result (λ v. v.items ≡ cuts_of dimension (tree_of checked.now).lines) }
+{
+    let cuts = cuts(alloc, checked.tariff().lines.as_slice(), dimension)?;
+    let values: Result<Vec<u64>, AllocError> = cuts.into_iter().collect(alloc);
+    match values {
+        Ok(values) => Ok(values),
+        Err(_) => Err(NoMemory),
+    }
+}
+
+/// The different cuts of some lines in a dimension.
+pub(crate) fn cuts(
+    alloc: Global,
+    lines: &[TariffLine],
+    dimension: Dimension,
+) -> Result<BTreeSet<u64>, NoMemory>
+    ensures { IfOk result (λ s. s.keys ≡ cuts_of dimension (map line_of lines.now)) }
+{
+    let mut cuts = BTreeSet::new(alloc);
+    for line in lines {
+        add_line(&mut cuts, dimension, &line.item)?;
+    }
+    Ok(cuts)
+}
+
+/// Puts the cuts of a line among others.
+fn add_line(cuts: &mut BTreeSet<u64>, dimension: Dimension, item: &Item) -> Result<(), NoMemory>
+    ensures { OnOk result (cuts.new.keys ≡ with_each cuts.old.keys (flat_map (atom_cuts dimension) (atoms_in (entry_of item.now)))) }
+{
+    match item {
+        Item::Initial(initial) => add_if(cuts, dimension, &initial.cond),
+        Item::Rate(rate) => add_if(cuts, dimension, &rate.cond),
+        _ => Ok(()),
+    }
+}
+
+/// Puts the cuts of a condition that may not be there among others.
+fn add_if(
+    cuts: &mut BTreeSet<u64>,
+    dimension: Dimension,
+    cond: &Option<Cond>,
+) -> Result<(), NoMemory>
+    ensures { OnOk result (cuts.new.keys ≡ with_each cuts.old.keys (flat_map (atom_cuts dimension) (atoms_if (condition_if cond.now)))) }
+{
+    match cond {
+        Some(cond) => add_condition(cuts, dimension, cond),
+        None => Ok(()),
+    }
+}
+
+/// Puts the cuts of a condition among others.
+fn add_condition(
+    cuts: &mut BTreeSet<u64>,
+    dimension: Dimension,
+    cond: &Cond,
+) -> Result<(), NoMemory>
+    ensures { OnOk result (cuts.new.keys ≡ with_each cuts.old.keys (flat_map (atom_cuts dimension) (atoms_of (condition_of cond.now)))) }
+{
+    match cond {
+        Cond::And(left, right) => {
+            add_condition(cuts, dimension, left)?;
+            add_condition(cuts, dimension, right)
+        }
+        Cond::Or(left, right) => {
+            add_condition(cuts, dimension, left)?;
+            add_condition(cuts, dimension, right)
+        }
+        Cond::Not(inner) => add_condition(cuts, dimension, inner),
+        _ => add_atom(cuts, dimension, cond),
+    }
+}
+
+/// Puts the cuts of an atom among others.
+fn add_atom(cuts: &mut BTreeSet<u64>, dimension: Dimension, cond: &Cond) -> Result<(), NoMemory>
+    ensures { OnOk result (cuts.new.keys ≡ with_each cuts.old.keys (atom_cuts dimension (condition_of cond.now))) }
+{
+    let (first, second) = atom_cuts(dimension, cond);
+    if let Some(cut) = first {
+        add(cuts, cut)?;
+    }
+    if let Some(cut) = second {
+        add(cuts, cut)?;
+    }
+    Ok(())
+}
+
+/// Puts a cut among others.
+fn add(cuts: &mut BTreeSet<u64>, cut: u64) -> Result<(), NoMemory>
+    ensures { OnOk result (cuts.new.keys ≡ insert_key nat_cmp cuts.old.keys cut) }
+{
+    match cuts.insert(cut) {
+        Ok(_) => Ok(()),
+        Err(_) => Err(NoMemory),
+    }
+}

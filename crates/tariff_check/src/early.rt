@@ -1,0 +1,92 @@
+//! The faults of the lines of a tariff.
+ghost use Rattle.std.specs.Prelude.{◌≡◌, map};
+ghost use Rattle.tariff_check.specs.Faults.{fault_at};
+ghost use Rattle.tariff_check.specs.Lines.{first_line};
+ghost use Rattle.tariff_check.specs.Rules.{breaks_rule, fault_of_rule};
+ghost use Rattle.tariff_check.specs.Stages.{default_fault, early_fault, line_fault, number_fault};
+ghost use Rattle.tariff_syntax.specs.Tree.{line_of};
+
+use crate::fault::CheckFault;
+use crate::parts::{has_default_initial, has_default_rate, positions, step_fault, zones};
+use crate::rules::{LineRule, first_line};
+use tariff_syntax::TariffLine;
+
+/// The first fault of lines.
+pub(crate) fn early_fault(lines: &[TariffLine]) -> Option<CheckFault>
+    ensures { result ≡ early_fault (map line_of lines.now) }
+{
+    if let Some(fault) = step_fault(lines) {
+        return Some(fault);
+    }
+    if let Some(fault) = line_fault(lines) {
+        return Some(fault);
+    }
+    if let Some(fault) = default_fault(lines) {
+        return Some(fault);
+    }
+    number_fault(lines)
+}
+
+/// A line that is there too often, or that names what isn't there.
+fn line_fault(lines: &[TariffLine]) -> Option<CheckFault>
+    ensures { result ≡ line_fault (map line_of lines.now) }
+{
+    if let Some(fault) = fault_at(LineRule::Once, lines) {
+        return Some(fault);
+    }
+    if let Some(fault) = fault_at(LineRule::Few, lines) {
+        return Some(fault);
+    }
+    fault_at(LineRule::Known(positions(lines), zones(lines)), lines)
+}
+
+/// A default that isn't there, or a line after it.
+fn default_fault(lines: &[TariffLine]) -> Option<CheckFault>
+    ensures { result ≡ default_fault (map line_of lines.now) }
+{
+    if !has_default_rate(lines) {
+        return Some(CheckFault::NoDefaultRate);
+    }
+    if !has_default_initial(lines) {
+        return Some(CheckFault::NoDefaultInitial);
+    }
+    fault_at(LineRule::NotAfterDefault, lines)
+}
+
+/// A line with a number that it may not have.
+fn number_fault(lines: &[TariffLine]) -> Option<CheckFault>
+    ensures { result ≡ number_fault (map line_of lines.now) }
+{
+    if let Some(fault) = fault_at(LineRule::Dated, lines) {
+        return Some(fault);
+    }
+    if let Some(fault) = fault_at(LineRule::Moderate, lines) {
+        return Some(fault);
+    }
+    fault_at(LineRule::Measured, lines)
+}
+
+/// The fault of the first line that breaks a rule.
+fn fault_at(rule: LineRule, lines: &[TariffLine]) -> Option<CheckFault>
+    ensures { result ≡ fault_at (fault_of_rule rule) (first_line (breaks_rule rule) (map line_of lines.now)) }
+{
+    match first_line(rule, lines) {
+        Some(line) => Some(fault_of(rule, line)),
+        None => None,
+    }
+}
+
+/// The fault of a line that breaks a rule.
+fn fault_of(rule: LineRule, line: u32) -> CheckFault
+    ensures { result ≡ fault_of_rule rule line }
+{
+    match rule {
+        LineRule::Once => CheckFault::Duplicate(line),
+        LineRule::Few => CheckFault::TooManyLines(line),
+        LineRule::Known(_, _) => CheckFault::UnknownNumber(line),
+        LineRule::NotAfterDefault => CheckFault::LineAfterDefault(line),
+        LineRule::Dated => CheckFault::BadDate(line),
+        LineRule::Moderate => CheckFault::AmountTooBig(line),
+        LineRule::Measured => CheckFault::MeasureZero(line),
+    }
+}

@@ -1,0 +1,29 @@
+//! Which tariffs are well-formed: each fault of a tariff by its rule, and what a sound tariff is made of.
+#![tactic(auto)]
+
+mod atom_cuts;
+mod atoms;
+mod cells;
+mod checked;
+mod checking;
+mod counts;
+mod cuts;
+mod early;
+mod fault;
+mod laws;
+mod measure;
+mod pairs;
+mod parts;
+mod rules;
+
+pub use checked::Checked;
+pub use checking::check;
+pub use cuts::cut_values;
+pub use fault::{CheckFault, Dimension};
+pub use laws::{
+    cuts_are_in_order, faults_name_the_first_line, measures_are_least, some_line_always_holds,
+    sound_tariffs_have_sound_parts,
+};
+
+#[cfg(test)]
+mod tests;

@@ -1,0 +1,102 @@
+//! The rules for lines, and the first line that breaks one.
+ghost use Rattle.std.specs.Prelude.{◌≡◌, ◌&&◌, nat_le, map};
+ghost use Rattle.interval_clock.specs.Calendar.{is_date};
+ghost use Rattle.tariff_check.specs.Lines.{first_line, is_great, is_for_nothing, is_no_holiday};
+ghost use Rattle.tariff_check.specs.Rules.{breaks_rule};
+ghost use Rattle.tariff_syntax.specs.Tree.{entry_of, line_of};
+
+use crate::atoms::{AtomRule, is_date, item_breaks};
+use crate::pairs::{count_alike, most_alike, some_excludes, some_is_default_for};
+use tariff_syntax::{Item, TariffLine};
+
+/// What is asked of a line.
+#[derive(Clone, Copy, Debug)]
+pub(crate) enum LineRule {
+    /// No earlier line excludes it.
+    Once,
+    /// It is no 65th rate, 65th initial hire fee or 256th holiday.
+    Few,
+    /// Its condition names no position and no zone above the highest.
+    Known(u8, u8),
+    /// No earlier line of its kind is without a condition.
+    NotAfterDefault,
+    /// Its dates are dates.
+    Dated,
+    /// Its amounts aren't too big.
+    Moderate,
+    /// Its measures are above 0.
+    Measured,
+}
+
+/// The number of the first line that breaks a rule.
+pub(crate) fn first_line(rule: LineRule, lines: &[TariffLine]) -> Option<u32>
+    ensures { result ≡ first_line (breaks_rule rule) (map line_of lines.now) }
+{
+    for (place, line) in lines.iter().enumerate() {
+        if breaks(rule, &lines[..place], &line.item) {
+            return Some(line.line);
+        }
+    }
+    None
+}
+
+/// Whether a line breaks a rule, where the lines before it are known.
+fn breaks(rule: LineRule, before: &[TariffLine], item: &Item) -> bool
+    ensures { result ≡ breaks_rule rule (map line_of before.now) (entry_of item.now) }
+{
+    match rule {
+        LineRule::Once => some_excludes(item, before),
+        LineRule::Few => most_alike(item) <= count_alike(item, before),
+        LineRule::Known(positions, zones) => item_breaks(AtomRule::Known(positions, zones), item),
+        LineRule::NotAfterDefault => some_is_default_for(item, before),
+        LineRule::Dated => is_no_holiday(item) || item_breaks(AtomRule::Dated, item),
+        LineRule::Moderate => is_great(item),
+        LineRule::Measured => is_for_nothing(item) || item_breaks(AtomRule::AfterSome, item),
+    }
+}
+
+/// Whether an item is a holiday that is no date of the years 2000 to 2199.
+fn is_no_holiday(item: &Item) -> bool
+    ensures { result ≡ is_no_holiday (entry_of item.now) }
+{
+    match item {
+        Item::Holiday { year, month, date } => !is_date_of_meter(*year, *month, *date),
+        _ => false,
+    }
+}
+
+/// Whether this is a date of the years 2000 to 2199.
+fn is_date_of_meter(year: u16, month: u8, date: u8) -> bool
+    ensures { result ≡ (nat_le 2000 year && (nat_le year 2199 && is_date year month date)) }
+{
+    2000 <= year && year <= 2199 && is_date(year, month, date)
+}
+
+/// The most units of a step, of an amount of a rate and of a supplement.
+const MOST_AMOUNT: u64 = 1_000_000;
+
+/// The most units of an initial hire fee and of what it covers.
+const MOST_INITIAL: u64 = 99_999_999;
+
+/// Whether an item has an amount that is too big.
+fn is_great(item: &Item) -> bool
+    ensures { result ≡ is_great (entry_of item.now) }
+{
+    match item {
+        Item::Step { amount, .. } => *amount > MOST_AMOUNT,
+        Item::Supplement { amount, .. } => *amount > MOST_AMOUNT,
+        Item::Rate(rate) => rate.a > MOST_AMOUNT || rate.c > MOST_AMOUNT,
+        Item::Initial(initial) => initial.amount > MOST_INITIAL || initial.covers > MOST_INITIAL,
+        _ => false,
+    }
+}
+
+/// Whether an item is a rate with a measure of 0.
+fn is_for_nothing(item: &Item) -> bool
+    ensures { result ≡ is_for_nothing (entry_of item.now) }
+{
+    match item {
+        Item::Rate(rate) => rate.b == 0 || rate.e == 0,
+        _ => false,
+    }
+}

@@ -1,0 +1,240 @@
+//! Which texts are sound tariffs, and their cuts.
+use super::*;
+use std::alloc::Global;
+use tariff_syntax::parse;
+
+/// The cells and the measure of a text's tariff, or its fault; `NoMemory` where it is none.
+fn outcome(alloc: Global, text: &str) -> Result<(u64, u64), CheckFault> {
+    match parse(alloc, text.as_bytes()) {
+        Ok(tariff) => {
+            let checked = check(alloc, tariff)?;
+            Ok((checked.cells(), checked.measure()))
+        }
+        Err(_) => Err(CheckFault::NoMemory),
+    }
+}
+
+/// Nine positions, the minutes 1 to 63 and the distances 100 m to 1500 m.
+const FULL: &str =
+    "positions 9\nstep 0.10\ninitial 4.00\nrate 0.10 per 100.0 m, 0.10 per 20.0 s when time \
+    00:00..00:01 or time 00:02..00:03 or time 00:04..00:05 or time 00:06..00:07 or time \
+    00:08..00:09 or time 00:10..00:11 or time 00:12..00:13 or time 00:14..00:15 or time \
+    00:16..00:17 or time 00:18..00:19 or time 00:20..00:21 or time 00:22..00:23 or time \
+    00:24..00:25 or time 00:26..00:27 or time 00:28..00:29 or time 00:30..00:31 or time \
+    00:32..00:33 or time 00:34..00:35 or time 00:36..00:37 or time 00:38..00:39 or time \
+    00:40..00:41 or time 00:42..00:43 or time 00:44..00:45 or time 00:46..00:47 or time \
+    00:48..00:49 or time 00:50..00:51 or time 00:52..00:53 or time 00:54..00:55 or time \
+    00:56..00:57 or time 00:58..00:59 or time 01:00..01:01 or time 01:02..01:03 or after \
+    100.0 m or after 200.0 m or after 300.0 m or after 400.0 m or after 500.0 m or after \
+    600.0 m or after 700.0 m or after 800.0 m or after 900.0 m or after 1000.0 m or after \
+    1100.0 m or after 1200.0 m or after 1300.0 m or after 1400.0 m or after 1500.0 m\nrate \
+    0.10 per 100.0 m, 0.10 per 20.0 s\n";
+
+/// The same with a time.
+const OVER: &str =
+    "positions 9\nstep 0.10\ninitial 4.00\nrate 0.10 per 100.0 m, 0.10 per 20.0 s when time \
+    00:00..00:01 or time 00:02..00:03 or time 00:04..00:05 or time 00:06..00:07 or time \
+    00:08..00:09 or time 00:10..00:11 or time 00:12..00:13 or time 00:14..00:15 or time \
+    00:16..00:17 or time 00:18..00:19 or time 00:20..00:21 or time 00:22..00:23 or time \
+    00:24..00:25 or time 00:26..00:27 or time 00:28..00:29 or time 00:30..00:31 or time \
+    00:32..00:33 or time 00:34..00:35 or time 00:36..00:37 or time 00:38..00:39 or time \
+    00:40..00:41 or time 00:42..00:43 or time 00:44..00:45 or time 00:46..00:47 or time \
+    00:48..00:49 or time 00:50..00:51 or time 00:52..00:53 or time 00:54..00:55 or time \
+    00:56..00:57 or time 00:58..00:59 or time 01:00..01:01 or time 01:02..01:03 or after \
+    100.0 m or after 200.0 m or after 300.0 m or after 400.0 m or after 500.0 m or after \
+    600.0 m or after 700.0 m or after 800.0 m or after 900.0 m or after 1000.0 m or after \
+    1100.0 m or after 1200.0 m or after 1300.0 m or after 1400.0 m or after 1500.0 m or \
+    after 60.0 s\nrate 0.10 per 100.0 m, 0.10 per 20.0 s\n";
+
+/// Nine positions, 24 cuts of days and 40 of minutes.
+const DAYS: &str =
+    "positions 9\nstep 0.10\ninitial 4.00\nrate 0.10 per 100.0 m, 0.10 per 20.0 s when date \
+    01-02..01-02 or date 01-04..01-04 or date 01-06..01-06 or date 01-08..01-08 or date \
+    01-10..01-10 or date 01-12..01-12 or date 01-14..01-14 or date 01-16..01-16 or date \
+    01-18..01-18 or date 01-20..01-20 or date 01-22..01-22 or date 01-24..01-24 or time \
+    01:00..01:01 or time 01:02..01:03 or time 01:04..01:05 or time 01:06..01:07 or time \
+    01:08..01:09 or time 01:10..01:11 or time 01:12..01:13 or time 01:14..01:15 or time \
+    01:16..01:17 or time 01:18..01:19 or time 01:20..01:21 or time 01:22..01:23 or time \
+    01:24..01:25 or time 01:26..01:27 or time 01:28..01:29 or time 01:30..01:31 or time \
+    01:32..01:33 or time 01:34..01:35 or time 01:36..01:37 or time 01:38..01:39\nrate 0.10 \
+    per 100.0 m, 0.10 per 20.0 s\n";
+
+/// A tariff of a city.
+const CITY: &str = "decimals 2
+step 0.20 ahead
+positions 2
+zones 2
+holiday 2026-01-01
+holiday 2026-12-25
+supplement 1 2.00 max 4
+supplement 2 0.50 max 9
+supplement 3 5.00 max 1
+initial 5.00 covers 0.40 when time 22:00..06:00 or day sun or holiday
+initial 4.20 covers 0.40
+rate 0.20 per 80.0 m, 0.20 per 20.0 s when position 2 or zone 2
+rate 0.20 per 90.0 m, 0.20 per 20.0 s when time 22:00..06:00 or day sun or holiday
+rate 0.20 per 100.0 m, 0.20 per 20.0 s when after 5000.0 m
+rate 0.20 per 125.0 m, 0.20 per 25.0 s
+";
+
+/// Sound tariffs, with their cells and their measures.
+const SOUND: [(&str, (u64, u64)); 4] = [
+    (FULL, (64_512, 1000)),
+    (CITY, (336, 180_000)),
+    (
+        "decimals 2\nstep 0.20 ahead\ninitial 3.80 covers 0.40\nrate 0.20 per 117.4 m, 0.20 per 25.2 s\n",
+        (7, 147_924),
+    ),
+    (
+        "step 0.10\ninitial 4\nrate 0.10 per 100000000.0 m, 0.10 per 99999999.9 s\n",
+        (7, 999_999_999_000_000_000),
+    ),
+];
+
+/// Texts, and the fault of each. Those that have two faults have the one that is looked for first.
+const FAULTY: [(&str, CheckFault); 24] = [
+    ("", CheckFault::NoStep),
+    ("initial 1\nzones 2\nzones 2\n", CheckFault::NoStep),
+    ("step 0\nstep 1\n", CheckFault::StepZero),
+    (
+        "step 1\n\nstep 1\nzones 2\nzones 2\n",
+        CheckFault::Duplicate(3),
+    ),
+    (
+        "step 1\npositions 1\npositions 2\n",
+        CheckFault::Duplicate(3),
+    ),
+    (
+        "step 1\nsupplement 1 1 max 1\nsupplement 2 1 max 1\nsupplement 1 2 max 2\n",
+        CheckFault::Duplicate(4),
+    ),
+    (
+        "step 1\nholiday 2026-01-06\nholiday 2027-01-06\nholiday 2026-01-06\n",
+        CheckFault::Duplicate(4),
+    ),
+    (
+        "step 1\npositions 2\nrate 1 per 1 m, 1 per 1 s when position 2 or zone 2\n",
+        CheckFault::UnknownNumber(3),
+    ),
+    (
+        "step 0.20 ahead\ninitial 3.80 covers 0.40\nrate 0.20 per 117.4 m, 0.20 per 25.2 s when zone 1\n",
+        CheckFault::NoDefaultRate,
+    ),
+    (
+        "step 1\ninitial 1 when holiday\nrate 1 per 1 m, 1 per 1 s\nrate 1 per 1 m, 1 per 1 s\n",
+        CheckFault::NoDefaultInitial,
+    ),
+    (
+        "decimals 2\nstep 0.20 ahead\ninitial 3.80 covers 0.40\nrate 0.20 per 117.4 m, 0.20 per 25.2 s\nrate 0.20 per 117.4 m, 0.20 per 25.2 s\n",
+        CheckFault::LineAfterDefault(5),
+    ),
+    (
+        "step 1\nholiday 2027-02-29\ninitial 1\nrate 1 per 1 m, 1 per 1 s\n",
+        CheckFault::BadDate(2),
+    ),
+    (
+        "step 1\nholiday 2200-01-01\ninitial 1\nrate 1 per 1 m, 1 per 1 s\n",
+        CheckFault::BadDate(2),
+    ),
+    (
+        "step 1\ninitial 1 when date 02-29..02-30\ninitial 1\nrate 1 per 1 m, 1 per 1 s\n",
+        CheckFault::BadDate(2),
+    ),
+    (
+        "step 10000.01\ninitial 1000000.00\nrate 1 per 1 m, 1 per 1 s\n",
+        CheckFault::AmountTooBig(1),
+    ),
+    (
+        "step 10000.00\ninitial 999999.99 covers 1000000.00\nrate 1 per 1 m, 1 per 1 s\n",
+        CheckFault::AmountTooBig(2),
+    ),
+    (
+        "step 1\ninitial 1\nsupplement 1 10000.01 max 1\nrate 1 per 0.0 m, 1 per 1 s\n",
+        CheckFault::AmountTooBig(3),
+    ),
+    (
+        "decimals 2\nstep 0.20 ahead\ninitial 3.80 covers 0.40\nrate 0.20 per 0.0 m, 0.20 per 25.2 s\n",
+        CheckFault::MeasureZero(4),
+    ),
+    (
+        "step 1\ninitial 1 when not after 0.0 s\ninitial 1\nrate 1 per 1 m, 1 per 1 s\n",
+        CheckFault::MeasureZero(2),
+    ),
+    (
+        "step 0.10\ninitial 4\nrate 0.10 per 100000000.0 m, 0.10 per 100000000.1 s\n",
+        CheckFault::NoCommonMeasure,
+    ),
+    (
+        "step 1\ninitial 1\nrate 1 per 1 m, 1 per 1 s when after 1 s or after 2 s or after 3 s or after 4 s \
+         or after 5 s or after 6 s or after 7 s or after 8 s or after 9 s or after 10 s or after 11 s \
+         or after 12 s or after 13 s or after 14 s or after 15 s or after 16 s or after 1 s\nrate 1 per 1 m, 1 per 1 s\n",
+        CheckFault::TooManyCuts(Dimension::Time, 16),
+    ),
+    (OVER, CheckFault::TooManyCells(129_024)),
+    (DAYS, CheckFault::TooManyCells(64_575)),
+    ("step 1 step\n", CheckFault::NoMemory),
+];
+
+#[test]
+fn counts_cells_and_measures(rt: HostRuntime) {
+    for (text, want) in SOUND {
+        assert_eq!(rt; outcome(rt.alloc(), text), Ok(want), "{text}");
+    }
+}
+
+#[test]
+fn names_the_first_fault(rt: HostRuntime) {
+    for (text, want) in FAULTY {
+        assert_eq!(rt; outcome(rt.alloc(), text), Err(want), "{text}");
+    }
+}
+
+/// The lines of a text's tariff and its cuts in a dimension.
+fn lines_and_cuts(
+    alloc: Global,
+    text: &str,
+    dimension: Dimension,
+) -> Result<(usize, Vec<u64>), CheckFault> {
+    match parse(alloc, text.as_bytes()) {
+        Ok(tariff) => {
+            let checked = check(alloc, tariff)?;
+            let lines = checked.tariff().lines.as_slice().len();
+            match cut_values(alloc, &checked, dimension) {
+                Ok(cuts) => Ok((lines, cuts)),
+                Err(_) => Err(CheckFault::NoMemory),
+            }
+        }
+        Err(_) => Err(CheckFault::NoMemory),
+    }
+}
+
+/// A tariff whose days are cut before the first and after the last, but not at the year's end or midnight.
+const RANGES: &str = "step 1
+initial 1 when date 12-24..12-31 or time 00:00..06:00
+initial 1
+rate 1 per 1 m, 1 per 1 s when date 02-28..03-01 or date 02-29..03-01 or after 2 s or after 1 s
+rate 1 per 1 m, 1 per 1 s
+";
+
+/// Texts, how many lines they have, a dimension, and their cuts in it.
+const CUTS: [(&str, usize, Dimension, &[u64]); 7] = [
+    (CITY, 14, Dimension::Minute, &[360, 1320]),
+    (CITY, 14, Dimension::Distance, &[50_000]),
+    (CITY, 14, Dimension::MonthDay, &[]),
+    (RANGES, 5, Dimension::MonthDay, &[58, 59, 61, 358]),
+    (RANGES, 5, Dimension::Minute, &[360]),
+    (RANGES, 5, Dimension::Distance, &[]),
+    (RANGES, 5, Dimension::Time, &[10, 20]),
+];
+
+#[test]
+fn gives_cuts_in_order(rt: HostRuntime) {
+    for (text, lines, dimension, want) in CUTS {
+        let (found, cuts) = lines_and_cuts(rt.alloc(), text, dimension).expect(
+            &rt,
+            "a sound tariff",
+        );
+        assert_eq!(rt; found, lines);
+        assert_eq!(rt; cuts.as_slice(), want);
+    }
+}
