@@ -1,0 +1,108 @@
+-- Holidays by their day numbers.
+use Rattle.std.proofs.Common.{leb, ◌==◌, zero, suc, length, get_or, Option, Some, None, ◌≡◌, ◌∙◌, ℕ, ◌+◌, ◌<◌, ◌≤◌, Bool, true, false, ◌&&◌, eqb, List, [], ◌∷◌, map, ℤ, pos, ◌<ℤ◌, arith, refl, ap, subst}
+use Rattle.std.proofs.lemmas.Bool.{and_parts, leb-true, eqb-true, eq-eqb, false_from_ne_true}
+use Rattle.std.proofs.lemmas.Bool.Decides.{Decides-int_eq, same_from_decides}
+use Rattle.std.proofs.lemmas.Int.{ints}
+use Rattle.std.proofs.lemmas.List.Elements.{All-head, All-tail}
+use Rattle.std.specs.List.{All, list_any, cons_option}
+use Rattle.std.specs.Option.{IfSome}
+use Rattle.std.specs.Ordering.{int_eq}
+use Rattle.interval_clock.proofs.CalendarDays.{IsDateOf-only, days_of_years-later}
+use Rattle.interval_clock.specs.Calendar.{CalendarDate, IsDateOf, days_of_month, days_of_years, place_in_year}
+use Rattle.tariff_calendar.proofs.Insertions.{list_any-with_each}
+use Rattle.tariff_calendar.specs.Lists.{day_of, has_day, is_holiday, lists_of}
+use Rattle.tariff_check.proofs.SoundParts.{sound_parts}
+use Rattle.tariff_check.specs.Faults.{IsSound}
+use Rattle.tariff_check.specs.Parts.{DateNumbers, holiday_part, holidays_of}
+use Rattle.tariff_check.specs.Sound.{HasSoundParts, IsSoundHoliday}
+use Rattle.tariff_syntax.specs.Tree.{Tree, entry_of, line_of}
+use Rattle.tariff_syntax.specs.Writable.{IsWritable}
+use Rattle.tariff_syntax.specs.declared.tariff.TariffLine.{TariffLine}
+
+-- no day before 1970 is one of day numbers
+pub has_day-before : (holidays : List ℕ) (day : ℤ) → day <ℤ pos 0 → has_day holidays day ≡ false
+has_day-before [] day before = refl
+has_day-before (h ∷ hs) day before =
+    let here : int_eq (pos h) day ≡ false = false_from_ne_true (int_eq (pos h) day) (λ same. let is = (Decides-int_eq (pos h) day).0 same in omega (arith, ints)) in
+    rw (here, has_day-before hs day before) refl
+
+IfSome-first : {X : Type 0} (P : X → Type 0) (o : Option X) (xs : List X) → All P (cons_option o xs) → IfSome o P × All P xs
+IfSome-first P None xs all = (tt, all)
+IfSome-first P (Some x) xs all = (All-head P x xs all, All-tail P x xs all)
+
+-- what holds of all holidays holds of that of each line
+pub holiday_at : (P : DateNumbers → Type 0) (lines : List TariffLine) (i : ℕ) (d : TariffLine) → i < length lines → All P (holidays_of (map line_of lines)) → IfSome (holiday_part (entry_of (get_or lines i d).item)) P
+holiday_at P [] i d within all = absurd (omega arith)
+holiday_at P (l ∷ ls) zero d within all = (IfSome-first P (holiday_part (entry_of l.item)) (holidays_of (map line_of ls)) all).0
+holiday_at P (l ∷ ls) (suc i) d within all = holiday_at P ls i d (omega arith) (IfSome-first P (holiday_part (entry_of l.item)) (holidays_of (map line_of ls)) all).1
+
+-- a date of the calendar from 2000 on is that of its day number
+IsDateOf-day_of : (d : DateNumbers) → IsSoundHoliday d → IsDateOf (pos (day_of d)) d.year d.month d.date
+IsDateOf-day_of d sound =
+    let months = and_parts (leb 1 d.month) (leb d.month 12 && (leb 1 d.date && leb d.date (days_of_month d.year d.month))) sound.date in
+    let more = and_parts (leb d.month 12) (leb 1 d.date && leb d.date (days_of_month d.year d.month)) months.1 in
+    let dates = and_parts (leb 1 d.date) (leb d.date (days_of_month d.year d.month)) more.1 in
+    let earlier : days_of_years 1970 ≤ days_of_years d.year = omega (arith, days_of_years-later 1970 d.year (omega (arith, sound.year))) in
+    let counted : day_of d + days_of_years 1970 ≡ days_of_years d.year + place_in_year d.year d.month d.date = omega arith in
+    record {
+      month_in = (leb-true 1 d.month months.0, leb-true d.month 12 more.0);
+      date_in = (leb-true 1 d.date dates.0, leb-true d.date (days_of_month d.year d.month) dates.1);
+      count = ap pos counted;
+    }
+
+-- two days of one date are the same
+same_day : (day other : ℤ) (year month date : ℕ) → IsDateOf day year month date → IsDateOf other year month date → day ≡ other
+same_day day other year month date is also = omega (arith, ints, is.count, also.count)
+
+same_day_by : (day other : ℤ) (year month date year₂ month₂ date₂ : ℕ) → year₂ ≡ year → month₂ ≡ month → date₂ ≡ date → IsDateOf day year₂ month₂ date₂ → IsDateOf other year month date → day ≡ other
+same_day_by day other year month date year₂ month₂ date₂ a b c is also = same_day day other year month date (rw (a, b, c) at is) also
+
+-- a holiday is of this date
+abbrev pub is_of_date : (year month date : ℕ) → DateNumbers → Bool
+is_of_date year month date d = (d.year == year) && ((d.month == month) && (d.date == date))
+
+of_date-parts : (year month date : ℕ) (d : DateNumbers) → is_of_date year month date d ≡ true → (d.year ≡ year) × (d.month ≡ month) × (d.date ≡ date)
+of_date-parts year month date d is =
+    let first = and_parts (eqb d.year year) (eqb d.month month && eqb d.date date) is in
+    let second = and_parts (eqb d.month month) (eqb d.date date) first.1 in
+    (eqb-true d.year year first.0, eqb-true d.month month second.0, eqb-true d.date date second.1)
+
+of_date-from : (year month date : ℕ) (d : DateNumbers) → d.year ≡ year → d.month ≡ month → d.date ≡ date → is_of_date year month date d ≡ true
+of_date-from year month date d a b c = rw (eq-eqb d.year year a, eq-eqb d.month month b, eq-eqb d.date date c) refl
+
+abbrev date_in : DateNumbers → CalendarDate
+date_in d = record { year = d.year; month = d.month; date = d.date }
+
+abbrev date_is : (year month date : ℕ) → CalendarDate
+date_is year month date = record { year = year; month = month; date = date }
+
+-- a holiday's day number is that of a date exactly where it is of that date
+day_decides_date : (day : ℤ) (year month date : ℕ) (d : DateNumbers) → IsDateOf day year month date → IsSoundHoliday d → int_eq (pos (day_of d)) day ≡ is_of_date year month date d
+day_decides_date day year month date d is sound =
+    let own = IsDateOf-day_of d sound in
+    same_from_decides (int_eq (pos (day_of d)) day) (is_of_date year month date d) (Decides-int_eq (pos (day_of d)) day) (
+      (λ of_date.
+          let parts = of_date-parts year month date d of_date in
+          same_day_by (pos (day_of d)) day year month date d.year d.month d.date parts.0 parts.1 parts.2 own is),
+      (λ same.
+          let only = IsDateOf-only day (date_in d) (date_is year month date) (subst (λ (z : ℤ). IsDateOf z d.year d.month d.date) same own) is in
+          of_date-from year month date d (ap (λ (e : CalendarDate). e.year) only) (ap (λ (e : CalendarDate). e.month) only) (ap (λ (e : CalendarDate). e.date) only)),
+    )
+
+-- so one of them has that day number where one is of that date
+days_decide_dates : (day : ℤ) (year month date : ℕ) (ds : List DateNumbers) → IsDateOf day year month date → All IsSoundHoliday ds → has_day (map day_of ds) day ≡ list_any (is_of_date year month date) ds
+days_decide_dates day year month date [] is sound = refl
+days_decide_dates day year month date (d ∷ ds) is sound =
+    let here = day_decides_date day year month date d is (All-head IsSoundHoliday d ds sound) in
+    let rest = days_decide_dates day year month date ds is (All-tail IsSoundHoliday d ds sound) in
+    rw (here, rest) refl
+
+-- the day numbers of sound holidays are those of the dates in the holiday lines
+days_are_dates_in : (t : Tree) (k : ℕ) (day : ℤ) (year month date : ℕ) → HasSoundParts t → IsDateOf day year month date → has_day (lists_of t k).holidays day ≡ is_holiday t.lines year month date
+days_are_dates_in t k day year month date parts is =
+    list_any-with_each (λ holiday. int_eq (pos holiday) day) [] (map day_of (holidays_of t.lines))
+    ∙ days_decide_dates day year month date (holidays_of t.lines) is parts.holidays
+
+-- the same of a tariff whose numbers a text can have
+pub days_are_dates : (t : Tree) (k : ℕ) (day : ℤ) (year month date : ℕ) → IsWritable t → IsSound t → IsDateOf day year month date → has_day (lists_of t k).holidays day ≡ is_holiday t.lines year month date
+days_are_dates t k day year month date writable sound is = days_are_dates_in t k day year month date (sound_parts t writable sound) is

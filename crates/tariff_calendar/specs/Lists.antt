@@ -1,0 +1,82 @@
+-- The cuts and the holidays of a tariff under a constant.
+use Rattle.std.specs.Prelude.{ℕ, ◌+◌, ◌*◌, ◌/◌, ◌<◌, ◌≤◌, Bool, ◌&&◌, ◌==◌, nat_le, List, [], map, length, get_or, ℤ, pos}
+use Rattle.std.specs.List.{list_any, count_by}
+use Rattle.std.specs.Ordering.{int_eq}
+use Rattle.interval_clock.specs.Calendar.{day_number_of}
+use Rattle.tariff_syntax.specs.Tree.{Tree, Line}
+use Rattle.tariff_check.specs.Cuts.{cuts_of, with_each}
+use Rattle.tariff_check.specs.Parts.{DateNumbers, holidays_of}
+use Rattle.tariff_check.specs.declared.fault.Dimension.{Dimension}
+use Rattle.tariff_check.specs.declared.fault.Dimension.TheVariants.{MonthDay, Minute, Distance, Time}
+
+-- Numbers in order: the cuts of each dimension, places in a leap year, minutes, pulses and ticks, and the day numbers
+-- of the holidays. Cuts that are different distances may be the same number of pulses, so those don't fall.
+pub record CutLists : Type 0 where
+  pub month_days : List ℕ
+  pub minutes : List ℕ
+  pub distances : List ℕ
+  pub times : List ℕ
+  pub holidays : List ℕ
+
+-- the fewest pulses that are so many decimetres, k pulses being a kilometre
+abbrev pub pulses_for : (k decimetres : ℕ) → ℕ
+pulses_for k decimetres = (k * decimetres + 9999) / 10000
+
+-- the day number of a date
+abbrev pub day_of : DateNumbers → ℕ
+day_of d = day_number_of d.year d.month d.date
+
+-- the lists of a tariff under a constant
+abbrev pub lists_of : Tree → (k : ℕ) → CutLists
+lists_of t k =
+    record {
+      month_days = cuts_of MonthDay t.lines;
+      minutes = cuts_of Minute t.lines;
+      distances = map (pulses_for k) (cuts_of Distance t.lines);
+      times = cuts_of Time t.lines;
+      holidays = with_each [] (map day_of (holidays_of t.lines));
+    }
+
+-- the list of a dimension
+abbrev pub list_in : CutLists → Dimension → List ℕ
+list_in lists MonthDay = lists.month_days
+list_in lists Minute = lists.minutes
+list_in lists Distance = lists.distances
+list_in lists Time = lists.times
+
+-- how many cuts are at most a value
+abbrev pub count_at_most : (value : ℕ) → List ℕ → ℕ
+count_at_most value cuts = count_by (λ cut. nat_le cut value) cuts
+
+-- no number is less than one before it
+abbrev pub IsNotFalling : List ℕ → Type 0
+IsNotFalling xs = (i j : ℕ) → i < j → j < length xs → get_or xs i 0 ≤ get_or xs j 0
+
+-- numbers that don't fall, and no more than so many
+pub record IsOrdered (most : ℕ) (xs : List ℕ) : Type 0 where
+  pub few : length xs ≤ most
+  pub not_falling : IsNotFalling xs
+
+-- the lists of a sound tariff: none is longer than a look-up reaches
+pub record AreOrdered (lists : CutLists) : Type 0 where
+  pub month_days : IsOrdered 63 lists.month_days
+  pub minutes : IsOrdered 63 lists.minutes
+  pub distances : IsOrdered 15 lists.distances
+  pub times : IsOrdered 15 lists.times
+  pub holidays : IsOrdered 255 lists.holidays
+
+-- how many cuts may be read for that
+abbrev pub most_reads : Dimension → ℕ
+most_reads MonthDay = 6
+most_reads Minute = 6
+most_reads Distance = 4
+most_reads Time = 4
+
+-- a day number is that of a holiday
+abbrev pub has_day : List ℕ → ℤ → Bool
+has_day holidays day = list_any (λ holiday. int_eq (pos holiday) day) holidays
+
+-- a date stands in a holiday line
+abbrev pub is_holiday : List Line → (year month date : ℕ) → Bool
+is_holiday lines year month date =
+    list_any (λ (d : DateNumbers). (d.year == year) && ((d.month == month) && (d.date == date))) (holidays_of lines)

@@ -1,0 +1,102 @@
+//! The lists of cuts and of holidays.
+ghost use Rattle.std.specs.Prelude.{◌≡◌, ◌+◌, ◌≤◌, IfOk};
+ghost use Rattle.tariff_calendar.specs.Lists.{IsOrdered, count_at_most, has_day, list_in, lists_of, most_reads};
+ghost use Rattle.tariff_check.specs.Cuts.{most_cuts};
+ghost use Rattle.tariff_syntax.specs.Tree.{tree_of};
+
+use crate::collecting::{holiday_days, in_pulses};
+use crate::halving::{count, has};
+use pulse_input::Constant;
+use std::alloc::Global;
+use std::marker::Model;
+use std::sync::ledger::Ledger;
+use tariff_check::{Checked, Dimension, cut_values};
+use taxi_units::{NoMemory, Steps};
+
+/// The numbers with which the conditions of a tariff compare, in each dimension in order, and the day
+/// numbers of its holidays in order. Of a condition, a line or a text it keeps nothing. That contexts are
+/// told apart by cuts is this project's own.
+#[derive(Debug, Drop)]
+pub struct Cuts {
+    month_days: Vec<u64>,
+    minutes: Vec<u64>,
+    distances: Vec<u64>,
+    times: Vec<u64>,
+    holidays: Vec<u64>,
+}
+
+impl Model for Cuts {
+    ghost use Rattle.tariff_calendar.specs.Lists.{AreOrdered, CutLists};
+
+    ghost Value = { CutLists };
+
+    ghost view = { λ c. record { month_days = c.month_days.items; minutes = c.minutes.items; distances = c.distances.items; times = c.times.items; holidays = c.holidays.items } };
+
+    ghost invariant = { λ c. AreOrdered (record { month_days = c.month_days.items; minutes = c.minutes.items; distances = c.distances.items; times = c.times.items; holidays = c.holidays.items }) };
+}
+
+impl Cuts {
+    /// The lists of a tariff under a constant of the taximeter: places in a leap year, minutes of the day,
+    /// pulses and ticks, and days since 1970-01-01. A distance is cut at the fewest pulses that are as
+    /// far. `NoMemory` where memory runs out.
+    pub fn collect(alloc: Global, checked: &Checked, k: Constant) -> Result<Cuts, NoMemory>
+        ensures { IfOk result (λ c. c ≡ lists_of (tree_of checked.now) k) }
+    {
+        let lines = checked.tariff().lines.as_slice();
+        let month_days = cut_values(alloc, checked, Dimension::MonthDay)?;
+        let minutes = cut_values(alloc, checked, Dimension::Minute)?;
+        let distances = cut_values(alloc, checked, Dimension::Distance)?;
+        let times = cut_values(alloc, checked, Dimension::Time)?;
+        Ok(Cuts {
+            month_days,
+            minutes,
+            distances: in_pulses(alloc, distances.as_slice(), k)?,
+            times,
+            holidays: holiday_days(alloc, lines)?,
+        })
+    }
+
+    /// How many cuts of a dimension are at most a value. Each cut that is read is one step: at most 6 for
+    /// days and minutes, 4 for distances and times.
+    pub fn find<L: Ledger>(&self, dimension: Dimension, value: u64, steps: &mut Steps<L>) -> usize
+        ensures value { result ≡ count_at_most value (list_in self.now dimension) }
+        ensures steps { steps.new ≤ steps.old + most_reads dimension }
+    {
+        count(self.ordered(dimension), value, steps)
+    }
+
+    /// Whether a day, by its number since 1970-01-01, is a holiday. Each day that is read is one step, and
+    /// they are at most 8.
+    pub fn holiday<L: Ledger>(&self, day: i32, steps: &mut Steps<L>) -> bool
+        ensures value { result ≡ has_day self.now.holidays day }
+        ensures steps { steps.new ≤ steps.old + 8 }
+    {
+        if day < 0 {
+            return false;
+        }
+        has(self.holidays.as_slice(), day as u64, steps)
+    }
+
+    /// The cuts of a dimension, in order. No steps: the tables are filled from it, and no look-up uses it.
+    pub fn list(&self, dimension: Dimension) -> &[u64]
+        ensures { result.now ≡ list_in self.now dimension }
+    {
+        self.ordered(dimension)
+    }
+
+    /// The same, with what a look-up needs.
+    fn ordered(&self, dimension: Dimension) -> &[u64]
+        ensures value { result.now ≡ list_in self.now dimension }
+        ensures ordered { IsOrdered (most_cuts dimension) result.now }
+    {
+        match dimension {
+            Dimension::MonthDay => self.month_days.as_slice(),
+            Dimension::Minute => self.minutes.as_slice(),
+            Dimension::Distance => self.distances.as_slice(),
+            Dimension::Time => self.times.as_slice(),
+        }
+    }
+}
+
+#[cfg(test)]
+mod tests;

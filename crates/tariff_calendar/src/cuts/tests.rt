@@ -1,0 +1,147 @@
+//! The lists of tariffs, and look-ups in them.
+ghost use Rattle.std.specs.Prelude.{◌≡◌, ◌<◌};
+
+use super::*;
+use std::marker::Brand;
+use std::sync::ledger::Blank;
+use std::test::Fail;
+use tariff_check::check;
+use tariff_syntax::{parse, texts_have_their_numbers};
+
+/// The lists of a text's tariff under so many pulses a kilometre. `None` where it isn't sound.
+fn collected(alloc: Global, text: &str, k: u32) -> Option<Cuts> {
+    let tariff = parse(alloc, text.as_bytes()).ok()?;
+    texts_have_their_numbers();
+    let checked = check(alloc, tariff).ok()?;
+    Cuts::collect(alloc, &checked, Constant::new(k).ok()?).ok()
+}
+
+/// How many cuts are at most a value, counting steps from 0.
+fn found<L: Ledger>(blank: Blank, cuts: &Cuts, dimension: Dimension, value: u64) -> usize
+    requires name { blank.name ≡ L.name }
+    requires parts { blank.parts ≡ L.parts }
+    requires some { 0 < blank.parts }
+{
+    let mut steps: Steps<L> = Steps::open(blank);
+    cuts.find(dimension, value, &mut steps)
+}
+
+/// Whether a day is a holiday, counting steps from 0.
+fn is_holiday<L: Ledger>(blank: Blank, cuts: &Cuts, day: i32) -> bool
+    requires name { blank.name ≡ L.name }
+    requires parts { blank.parts ≡ L.parts }
+    requires some { 0 < blank.parts }
+{
+    let mut steps: Steps<L> = Steps::open(blank);
+    cuts.holiday(day, &mut steps)
+}
+
+/// Conditions, pulses a kilometre, and the cuts of a dimension. A distance is cut at the first pulse at
+/// which a trip has come as far.
+const LISTS: [(&str, u32, Dimension, &[u64]); 10] = [
+    ("after 9656.1 m", 10_000, Dimension::Distance, &[96_561]),
+    ("after 9656.1 m", 3_000, Dimension::Distance, &[28_969]),
+    (
+        "after 100 m or after 0.2 m or after 0.1 m",
+        500,
+        Dimension::Distance,
+        &[1, 1, 50],
+    ),
+    ("date 02-28..03-01", 500, Dimension::MonthDay, &[58, 61]),
+    ("date 12-31..01-01", 500, Dimension::MonthDay, &[1, 365]),
+    ("date 01-01..12-31", 500, Dimension::MonthDay, &[]),
+    ("time 00:00..06:00", 500, Dimension::Minute, &[360]),
+    (
+        "not time 23:59..06:00 and time 06:00..00:01",
+        500,
+        Dimension::Minute,
+        &[1, 360, 1439],
+    ),
+    ("after 60 s or after 0.1 s", 500, Dimension::Time, &[1, 600]),
+    ("after 60 s or day sun", 500, Dimension::Distance, &[]),
+];
+
+#[test]
+fn collects_cuts(rt: HostRuntime) -> Result<(), Fail> {
+    for (when, k, dimension, want) in LISTS {
+        let text = format!(in rt.alloc();
+            "step 0.10
+initial 4.00
+rate 0.20 per 100.0 m, 0.10 per 20.0 s when {when}
+rate 0.10 per 100.0 m, 0.10 per 20.0 s
+"
+        )?;
+        let cuts = collected(rt.alloc(), text.as_str(), k);
+        let found = cuts.as_ref().map(|cuts| cuts.list(dimension));
+        assert_eq!(rt; found, Some(want), "{when}");
+    }
+    Ok(())
+}
+
+/// A city tariff.
+const CITY: &str = "decimals 2
+step 0.20 ahead
+positions 2
+zones 2
+holiday 2026-12-25
+holiday 2026-01-01
+supplement 1 2.00 max 4
+supplement 2 0.50 max 9
+supplement 3 5.00 max 1
+initial 5.00 covers 0.40 when time 22:00..06:00 or day sun or holiday
+initial 4.20 covers 0.40
+rate 0.20 per 80.0 m, 0.20 per 20.0 s when position 2 or zone 2
+rate 0.20 per 90.0 m, 0.20 per 20.0 s when time 22:00..06:00 or day sun or holiday
+rate 0.20 per 100.0 m, 0.20 per 20.0 s when after 5000.0 m
+rate 0.20 per 125.0 m, 0.20 per 25.0 s
+";
+
+/// Its cuts under constant 10,000 in the order of dimensions, and its holidays.
+const CITY_LISTS: [&[u64]; 5] = [&[], &[360, 1320], &[50_000], &[], &[20_454, 20_812]];
+
+/// The lists are all that there is: numbers, and no condition, line or text.
+#[test]
+fn keeps_numbers_alone(rt: HostRuntime) {
+    let cuts = collected(rt.alloc(), CITY, 10_000);
+    assert!(rt; cuts.is_some());
+    if let Some(cuts) = cuts {
+        let Cuts {
+            month_days,
+            minutes,
+            distances,
+            times,
+            holidays,
+        } = cuts;
+        let lists: [Vec<u64>; 5] = [month_days, minutes, distances, times, holidays];
+        for place in 0..5 {
+            assert_eq!(rt; lists[place].as_slice(), CITY_LISTS[place]);
+        }
+    }
+}
+
+#[test]
+fn looks_up(rt: HostRuntime) {
+    let cuts = collected(rt.alloc(), CITY, 10_000);
+    assert!(rt; cuts.is_some());
+    if let Some(cuts) = cuts {
+        for (value, want) in [(0, 0), (359, 0), (360, 1), (1319, 1), (1320, 2), (1321, 2)] {
+            let count = found::<Brand>(Blank::new(1), &cuts, Dimension::Minute, value);
+            assert_eq!(rt; count, want, "minute {value}");
+        }
+        for (day, want) in [
+            (-20_454, false),
+            (0, false),
+            (20_453, false),
+            (20_454, true),
+            (20_455, false),
+            (20_812, true),
+            (20_813, false),
+        ] {
+            assert_eq!(rt;
+                is_holiday::<Brand>(Blank::new(1), &cuts, day),
+                want,
+                "day {day}"
+            );
+        }
+    }
+}

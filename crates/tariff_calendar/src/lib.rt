@@ -1,0 +1,12 @@
+//! The cuts of a tariff under a constant, and its holidays: lists of numbers that are looked up by halving.
+#![tactic(auto)]
+
+mod collecting;
+mod cuts;
+mod halving;
+mod laws;
+
+pub use cuts::Cuts;
+pub use laws::{
+    cuts_are_the_fewest_pulses, cuts_decide_conditions, holidays_are_dates, lists_are_ordered,
+};
