@@ -1,0 +1,8 @@
+pub mod Compiled
+mod Fits
+mod Looked
+mod LowCuts
+mod Numbering
+mod ShortRows
+mod SoundLines
+mod Supplements

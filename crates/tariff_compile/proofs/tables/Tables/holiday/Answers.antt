@@ -1,0 +1,20 @@
+use Rattle.std.proofs.Common.{◌∙◌, ap, sym, w32, FitsSigned, rules}
+use Rattle.std.proofs.lemmas.Int.{to_z-of_z}
+use Rattle.tariff_calendar.specs.Lists.{has_day}
+use Rattle.tariff_compile.specs.Tables.{TableParts}
+use Rattle.tariff_compile.proofs.Compiled.{holiday-dates, holiday-some}
+use Rattle.tariff_compile.proofs.tables.Tables.holiday.Goals as goal
+
+pub returns-clause-tree : goal.returns-clause-tree
+returns-clause-tree g c = λ t year month date is of.
+    let fits : FitsSigned w32 c.args.day = search rules in
+    c.holiday.ensures.value
+    ∙ (ap (has_day c.self.inside.cuts.holidays) (to_z-of_z w32 c.args.day fits)
+    ∙ (ap (λ (p : TableParts). has_day p.cuts.holidays c.args.day) c.self.view_is
+    ∙ holiday-dates t c.args.self.now c.args.day year month date is of))
+
+pub returns-clause-some : goal.returns-clause-some
+returns-clause-some g c = λ t is holiday.
+    let fits : FitsSigned w32 c.args.day = search rules in
+    let read = c.holiday.ensures.value ∙ (ap (has_day c.self.inside.cuts.holidays) (to_z-of_z w32 c.args.day fits) ∙ ap (λ (p : TableParts). has_day p.cuts.holidays c.args.day) c.self.view_is) in
+    holiday-some t c.args.self.now c.args.day is (sym read ∙ holiday)

@@ -1,0 +1,15 @@
+use Rattle.std.proofs.Common.{◌∙◌, ap, get_or, ◌-◌, arith}
+use Rattle.tariff_compile.specs.Tables.{TableParts}
+use Rattle.tariff_compile.proofs.Compiled.{supplement-none, supplement-there}
+use Rattle.tariff_compile.proofs.tables.Tables.supplement.Goals as goal
+use Rattle.tariff_compile.proofs.tables.Tables.supplement.Goals.{then-number-lt1-via-then-number-lt1, then-number-lt1-via-else-number-lt1+then-number-gt16}
+
+pub returns-then-number-lt1-clause-tree : goal.returns-then-number-lt1-clause-tree
+returns-then-number-lt1-clause-tree g c = λ t is. supplement-none t c.args.self.now c.args.number is (λ range.
+    elim c.then-number-lt1.branch [ then-number-lt1-via-then-number-lt1 w ↦ omega arith | then-number-lt1-via-else-number-lt1+then-number-gt16 w ↦ omega arith ])
+
+pub returns-clause-tree : goal.returns-clause-tree
+returns-clause-tree g c = λ t is.
+    c.read.ensures.value
+    ∙ (ap (λ (p : TableParts). get_or p.supplements (c.args.number - 1) c.read.result) c.self.view_is
+    ∙ supplement-there t c.args.self.now c.args.number c.read.result is (omega arith, omega arith))

@@ -1,0 +1,106 @@
+-- The cells of a tariff: how they are numbered, and a context of each.
+use Rattle.std.specs.Prelude.{ℕ, ◌+◌, ◌-◌, ◌*◌, ◌/◌, ◌%◌, ◌^◌, ◌<◌, ◌==◌, if◌then◌else◌, List, ◌∷◌, length, get_or, min, All}
+use Rattle.tariff_syntax.specs.declared.context.Context.{Context}
+use Rattle.tariff_calendar.specs.Lists.{CutLists, count_at_most}
+use Rattle.tariff_calendar.specs.Range.{longest}
+use Rattle.tariff_compile.specs.declared.parts.Bands.{Bands}
+
+-- how many numbers each dimension has
+abbrev pub sizes_of : (positions zones day_kinds : ℕ) → CutLists → Bands
+sizes_of positions zones day_kinds lists =
+    record {
+      position = positions;
+      zone = zones;
+      weekday = 7;
+      holiday = day_kinds;
+      month_day = length lists.month_days + 1;
+      minute = length lists.minutes + 1;
+      distance = length lists.distances + 1;
+      time = length lists.times + 1;
+    }
+
+-- the numbers of a cell are ones that the dimensions have
+pub record IsBelow (sizes b : Bands) : Type 0 where
+  pub position : b.position < sizes.position
+  pub zone : b.zone < sizes.zone
+  pub weekday : b.weekday < sizes.weekday
+  pub holiday : b.holiday < sizes.holiday
+  pub month_day : b.month_day < sizes.month_day
+  pub minute : b.minute < sizes.minute
+  pub distance : b.distance < sizes.distance
+  pub time : b.time < sizes.time
+
+-- how many cells there are
+abbrev pub cell_count : (sizes : Bands) → ℕ
+cell_count s = s.position * s.zone * s.weekday * s.holiday * s.month_day * s.minute * s.distance * s.time
+
+-- cells are numbered from 0 over the dimensions, the last running fastest
+abbrev pub cell_number : (sizes b : Bands) → ℕ
+cell_number s b =
+    ((((((b.position * s.zone + b.zone) * s.weekday + b.weekday) * s.holiday + b.holiday) * s.month_day + b.month_day) * s.minute + b.minute)
+    * s.distance + b.distance) * s.time + b.time
+
+-- the numbers of a cell in each dimension
+abbrev pub bands_of : (sizes : Bands) (cell : ℕ) → Bands
+bands_of s n =
+    let distances = n / s.time in
+    let minutes = distances / s.distance in
+    let month_days = minutes / s.minute in
+    let holidays = month_days / s.month_day in
+    let weekdays = holidays / s.holiday in
+    let zones = weekdays / s.weekday in
+    record {
+      position = zones / s.zone;
+      zone = zones % s.zone;
+      weekday = weekdays % s.weekday;
+      holiday = holidays % s.holiday;
+      month_day = month_days % s.month_day;
+      minute = minutes % s.minute;
+      distance = distances % s.distance;
+      time = n % s.time;
+    }
+
+-- the numbers of the cell in which a context is
+abbrev pub bands_at : CutLists → Context → Bands
+bands_at lists x =
+    record {
+      position = x.position - 1;
+      zone = x.zone - 1;
+      weekday = x.weekday - 1;
+      holiday = if x.holiday then 1 else 0;
+      month_day = count_at_most x.month_day lists.month_days;
+      minute = count_at_most x.minute lists.minutes;
+      distance = count_at_most x.pulses lists.distances;
+      time = count_at_most x.ticks lists.times;
+    }
+
+-- where a band begins: at its cut, and the first at 0
+abbrev pub beginning : List ℕ → (band : ℕ) → ℕ
+beginning cuts band = get_or (0 ∷ cuts) band 0
+
+-- A context of a cell: it is at the beginning of each band. No trip has more than 8,640,000 ticks, but a cell that no
+-- trip can reach has its lines too.
+abbrev pub context_in : (k : ℕ) → CutLists → Bands → Context
+context_in k lists b =
+    record {
+      constant = k;
+      position = b.position + 1;
+      zone = b.zone + 1;
+      weekday = b.weekday + 1;
+      month_day = beginning lists.month_days b.month_day;
+      holiday = b.holiday == 1;
+      minute = beginning lists.minutes b.minute;
+      pulses = beginning lists.distances b.distance;
+      ticks = min longest (beginning lists.times b.time);
+    }
+
+-- numbers of a cell that a tariff may have in the dimensions without cuts
+pub record IsNarrow (b : Bands) : Type 0 where
+  pub position : b.position < 9
+  pub zone : b.zone < 9
+  pub weekday : b.weekday < 7
+
+-- days of a year and minutes of a day
+pub record HasLowCuts (lists : CutLists) : Type 0 where
+  pub month_days : All (λ cut. cut < 2 ^ 16) lists.month_days
+  pub minutes : All (λ cut. cut < 2 ^ 16) lists.minutes

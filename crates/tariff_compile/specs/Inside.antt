@@ -1,0 +1,21 @@
+-- The parts of a value of the program.
+use Rattle.tariff_compile.specs.Tables.{TableParts}
+use Rattle.tariff_compile.specs.declared.tables.Tables.TheInside.{Inside}
+
+-- the parts of the tables
+abbrev pub parts_of : Inside → TableParts
+parts_of t =
+    record {
+      cuts = t.cuts;
+      weights = t.weights.items.items;
+      initials = t.initials.items.items;
+      cells = t.cells.items.items;
+      supplements = t.supplements.items.items;
+      constant = t.constant;
+      measure = t.measure;
+      step = t.step;
+      rounding = t.rounding;
+      decimals = t.decimals;
+      positions = t.positions;
+      zones = t.zones;
+    }

@@ -1,0 +1,4 @@
+pub mod Cells
+pub mod Inside
+pub mod Rows
+pub mod Tables

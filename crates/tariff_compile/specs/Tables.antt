@@ -1,0 +1,146 @@
+-- The tables of a tariff under a constant, and what they are looked up for.
+use Rattle.std.specs.Prelude.{◌≡◌, ℕ, ◌+◌, ◌*◌, ◌/◌, ◌^◌, ◌<◌, ◌≤◌, List, map, get_or, Option, Some}
+use Rattle.std.specs.List.{range_with_len}
+use Rattle.std.specs.Option.{unwrap_or, option_map}
+use Rattle.drive_modes.specs.declared.charges.Weights.{Weights}
+use Rattle.drive_modes.specs.declared.meterage.Rounding.{Rounding}
+use Rattle.drive_modes.specs.declared.meterage.Rounding.TheVariants.{Behind}
+use Rattle.tariff_syntax.specs.Meaning.{rate_place, initial_place}
+use Rattle.tariff_syntax.specs.Tree.{Tree}
+use Rattle.tariff_syntax.specs.Writable.{IsFromTo, IsWritable}
+use Rattle.tariff_syntax.specs.declared.context.Context.{Context}
+use Rattle.tariff_check.specs.Cells.{day_kinds}
+use Rattle.tariff_check.specs.Faults.{IsSound}
+use Rattle.tariff_check.specs.Measure.{measure_of}
+use Rattle.tariff_check.specs.Parts.{RateNumbers, InitialNumbers, SupplementNumbers, step_of, positions_of, zones_of, supplement_of, initials_of, rates_of}
+use Rattle.tariff_calendar.specs.Lists.{CutLists, lists_of}
+use Rattle.tariff_compile.specs.Cells.{sizes_of, cell_count, cell_number, bands_of, bands_at, context_in}
+use Rattle.tariff_compile.specs.declared.parts.Bands.{Bands}
+use Rattle.tariff_compile.specs.declared.parts.CellLines.{CellLines}
+use Rattle.tariff_compile.specs.declared.parts.Initial.{Initial}
+use Rattle.tariff_compile.specs.declared.parts.Supplement.{Supplement}
+
+-- the parts of the tables
+pub record TableParts : Type 0 where
+  pub cuts : CutLists
+  pub weights : List Weights
+  pub initials : List Initial
+  pub cells : List CellLines
+  pub supplements : List (Option Supplement)
+  pub constant : ℕ
+  pub measure : ℕ
+  pub step : ℕ
+  pub rounding : Rounding
+  pub decimals : ℕ
+  pub positions : ℕ
+  pub zones : ℕ
+
+-- in units of 1/M of the smallest money unit, M being k times the common measure: what a pulse and what a tick weighs
+abbrev pub weights_of : (k common : ℕ) → RateNumbers → Weights
+weights_of k common r = record { per_pulse = 10000 * r.a * (common / r.b); per_tick = r.c * k * (common / r.e) }
+
+-- an initial hire fee in the tables
+abbrev pub initial_of : InitialNumbers → Initial
+initial_of i = record { amount = i.amount; covers = i.covers }
+
+-- a supplement in the tables
+abbrev pub supplement_in : SupplementNumbers → Supplement
+supplement_in s = record { amount = s.amount; max = s.most }
+
+-- the weights of each rate
+abbrev pub all_weights : Tree → (k : ℕ) → List Weights
+all_weights t k = map (weights_of k (measure_of t.lines)) (rates_of t.lines)
+
+-- the initial hire fees
+abbrev pub all_initials : Tree → List Initial
+all_initials t = map initial_of (initials_of t.lines)
+
+-- the supplement of a number, where the tariff has it
+abbrev pub supplement_at : Tree → (number : ℕ) → Option Supplement
+supplement_at t number = option_map supplement_in (supplement_of t.lines number)
+
+-- the lines that hold first in a context
+abbrev pub lines_at : Tree → Context → CellLines
+lines_at t x = record { rate = unwrap_or (rate_place t x) 0; initial = unwrap_or (initial_place t x) 0 }
+
+-- the numbers that each dimension of a tariff's cells has
+abbrev pub sizes_in : Tree → (k : ℕ) → Bands
+sizes_in t k = sizes_of (positions_of t.lines) (zones_of t.lines) (day_kinds t.lines) (lists_of t k)
+
+-- a context of the cell of this number
+abbrev pub context_of : Tree → (k cell : ℕ) → Context
+context_of t k cell = context_in k (lists_of t k) (bands_of (sizes_in t k) cell)
+
+-- the number of a context's cell
+abbrev pub cell_of : Tree → (k : ℕ) → Context → ℕ
+cell_of t k x = cell_number (sizes_in t k) (bands_at (lists_of t k) x)
+
+-- the lines of a cell are those that hold first in a context
+pub record HasLinesOf (t : Tree) (x : Context) (lines : CellLines) : Type 0 where
+  pub rate : rate_place t x ≡ Some lines.rate
+  pub initial : initial_place t x ≡ Some lines.initial
+
+-- the lines of each cell
+abbrev pub all_cells : Tree → (k : ℕ) → List CellLines
+all_cells t k = map (λ cell. lines_at t (context_of t k cell)) (range_with_len 0 (cell_count (sizes_in t k)))
+
+-- the display step, and how the fare is rounded to it
+abbrev pub step_in : Tree → ℕ × Rounding
+step_in t = unwrap_or (step_of t.lines) (0, Behind)
+
+-- the tables of a tariff under a constant
+abbrev pub tables_of : Tree → (k : ℕ) → TableParts
+tables_of t k =
+    record {
+      cuts = lists_of t k;
+      weights = all_weights t k;
+      initials = all_initials t;
+      cells = all_cells t k;
+      supplements = map (λ place. supplement_at t (place + 1)) (range_with_len 0 16);
+      constant = k;
+      measure = k * measure_of t.lines;
+      step = (step_in t).0;
+      rounding = (step_in t).1;
+      decimals = t.decimals;
+      positions = positions_of t.lines;
+      zones = zones_of t.lines;
+    }
+
+-- these are the tables of a sound tariff
+pub record IsTablesOf (t : Tree) (tables : TableParts) : Type 0 where
+  pub writable : IsWritable t
+  pub sound : IsSound t
+  pub constant : (500 ≤ tables.constant) × (tables.constant ≤ 200000)
+  pub parts : tables ≡ tables_of t tables.constant
+
+-- these are tables
+abbrev pub IsCompiled : TableParts → Type 0
+IsCompiled tables = (t : Tree) × IsTablesOf t tables
+
+-- the weights of the rate that holds first in a context
+abbrev pub rate_by : Tree → (k : ℕ) → Context → Weights
+rate_by t k x = get_or (all_weights t k) (unwrap_or (rate_place t x) 0) (record { per_pulse = 0; per_tick = 0 })
+
+-- the initial hire fee that holds first in a context at the hiring
+abbrev pub initial_by : Tree → Context → Initial
+initial_by t x = get_or (all_initials t) (unwrap_or (initial_place t x) 0) (record { amount = 0; covers = 0 })
+
+-- how large the weights of a rate are: a pulse is at most 20,000,000 units of money, a tick at most 1,000,000
+pub record AreFit (measure : ℕ) (w : Weights) : Type 0 where
+  pub per_pulse : w.per_pulse ≤ 10 ^ 28
+  pub per_tick : w.per_tick ≤ 2 * 10 ^ 29
+  pub pulse_units : w.per_pulse ≤ 2 * 10 ^ 7 * measure
+  pub tick_units : w.per_tick ≤ 10 ^ 6 * measure
+
+-- how large an initial hire fee is
+pub record IsFitInitial (i : Initial) : Type 0 where
+  pub amount : i.amount ≤ 99999999
+  pub covers : i.covers ≤ 99999999
+
+-- how large the numbers of tables are
+pub record IsFit (tables : TableParts) : Type 0 where
+  pub measure : (0 < tables.measure) × (tables.measure ≤ 2 * 10 ^ 23)
+  pub step : IsFromTo 1 (10 ^ 6) tables.step
+  pub decimals : tables.decimals ≤ 3
+  pub positions : IsFromTo 1 9 tables.positions
+  pub zones : IsFromTo 1 9 tables.zones

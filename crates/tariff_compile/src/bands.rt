@@ -1,0 +1,80 @@
+//! How cells are numbered over the dimensions.
+ghost use Rattle.std.specs.Prelude.{◌≡◌, ℕ, ◌+◌, ◌*◌, ◌^◌, ◌<◌, ◌≤◌};
+ghost use Rattle.tariff_compile.specs.Cells.{IsBelow, bands_of, cell_count, cell_number, sizes_of};
+
+use crate::parts::Bands;
+use tariff_calendar::Cuts;
+use tariff_check::Dimension;
+
+/// How many numbers each dimension has, where there are so many positions, zones, cuts and cells. Where
+/// holidays are told from other days, there are twice as many cells.
+pub(crate) fn sizes_of(positions: u8, zones: u8, cuts: &Cuts, cells: usize) -> Bands
+    requires positions { 0 < positions }
+    requires zones { 0 < zones }
+    ensures { (kinds : ℕ) → cells ≡ cell_count (sizes_of positions zones kinds cuts.now) → result ≡ sizes_of positions zones kinds cuts.now }
+{
+    let position = positions as usize;
+    let zone = zones as usize;
+    let month_day = cuts.list(Dimension::MonthDay).len() + 1;
+    let minute = cuts.list(Dimension::Minute).len() + 1;
+    let distance = cuts.list(Dimension::Distance).len() + 1;
+    let time = cuts.list(Dimension::Time).len() + 1;
+    let days = cells / time / distance / minute / month_day;
+    Bands {
+        position,
+        zone,
+        weekday: 7,
+        holiday: days / (position * zone * 7),
+        month_day,
+        minute,
+        distance,
+        time,
+    }
+}
+
+/// The number of a cell: cells are numbered from 0 over the dimensions, the last running fastest.
+pub(crate) fn cell_number(sizes: &Bands, bands: &Bands) -> usize
+    requires below { IsBelow sizes.now bands.now }
+    requires fits { cell_count sizes.now ≤ 2 ^ 32 }
+    ensures value { result ≡ cell_number sizes.now bands.now }
+    ensures below { result < cell_count sizes.now }
+{
+    let zones = and_digit(bands.position, sizes.zone, bands.zone);
+    let weekdays = and_digit(zones, sizes.weekday, bands.weekday);
+    let holidays = and_digit(weekdays, sizes.holiday, bands.holiday);
+    let month_days = and_digit(holidays, sizes.month_day, bands.month_day);
+    let minutes = and_digit(month_days, sizes.minute, bands.minute);
+    let distances = and_digit(minutes, sizes.distance, bands.distance);
+    and_digit(distances, sizes.time, bands.time)
+}
+
+/// A number and one digit more, of a dimension that has so many.
+fn and_digit(number: usize, size: usize, digit: usize) -> usize
+    requires { number * size + digit < 2 ^ 32 }
+    ensures { result ≡ number * size + digit }
+{
+    number * size + digit
+}
+
+/// The numbers of a cell in each dimension.
+pub(crate) fn bands_of(sizes: &Bands, cell: usize) -> Bands
+    requires { IsBelow sizes.now (bands_of sizes.now cell) }
+    ensures { result ≡ bands_of sizes.now cell }
+{
+    let distances = cell / sizes.time;
+    let minutes = distances / sizes.distance;
+    let month_days = minutes / sizes.minute;
+    let holidays = month_days / sizes.month_day;
+    let weekdays = holidays / sizes.holiday;
+    let zones = weekdays / sizes.weekday;
+    Bands {
+        position: zones / sizes.zone,
+        zone: zones % sizes.zone,
+        weekday: weekdays % sizes.weekday,
+        holiday: holidays % sizes.holiday,
+        month_day: month_days % sizes.month_day,
+        minute: minutes % sizes.minute,
+        distance: distances % sizes.distance,
+        time: cell % sizes.time,
+    }
+}

@@ -1,0 +1,67 @@
+//! A context of each cell.
+ghost use Rattle.std.specs.Prelude.{◌≡◌, ◌+◌, ◌≤◌};
+ghost use Rattle.tariff_compile.specs.Cells.{HasLowCuts, IsNarrow, bands_at, beginning, context_in};
+
+use crate::parts::Bands;
+use pulse_input::Constant;
+use std::sync::ledger::Ledger;
+use tariff_calendar::Cuts;
+use tariff_check::Dimension;
+use tariff_syntax::Context;
+use taxi_units::Steps;
+
+/// No trip has more ticks, which are ten days.
+const LONGEST: u64 = 8_640_000;
+
+/// A context of a cell: it is at the beginning of each band.
+pub(crate) fn context_in(k: Constant, cuts: &Cuts, bands: &Bands) -> Context
+    requires narrow { IsNarrow bands.now }
+    requires low { HasLowCuts cuts.now }
+    ensures { result ≡ context_in k cuts.now bands.now }
+{
+    let month_day = beginning(cuts.list(Dimension::MonthDay), bands.month_day);
+    let minute = beginning(cuts.list(Dimension::Minute), bands.minute);
+    let ticks = beginning(cuts.list(Dimension::Time), bands.time);
+    Context {
+        constant: k,
+        position: (bands.position + 1) as u8,
+        zone: (bands.zone + 1) as u8,
+        weekday: (bands.weekday + 1) as u8,
+        month_day: month_day as u16,
+        holiday: bands.holiday == 1,
+        minute: minute as u16,
+        pulses: beginning(cuts.list(Dimension::Distance), bands.distance),
+        ticks: ticks.min(LONGEST) as u32,
+    }
+}
+
+/// Where a band begins: at its cut, and the first at 0.
+fn beginning(cuts: &[u64], band: usize) -> u64
+    ensures { result ≡ beginning cuts.now band }
+{
+    if band == 0 || band > cuts.len() {
+        0
+    } else {
+        cuts[band - 1]
+    }
+}
+
+/// The numbers of the cell in which a context is. At most 20 steps.
+pub(crate) fn bands_at<L: Ledger>(cuts: &Cuts, x: &Context, steps: &mut Steps<L>) -> Bands
+    requires position { 1 ≤ x.now.position }
+    requires zone { 1 ≤ x.now.zone }
+    requires weekday { 1 ≤ x.now.weekday }
+    ensures value { result ≡ bands_at cuts.now x.now }
+    ensures steps { steps.new ≤ steps.old + 20 }
+{
+    Bands {
+        position: x.position as usize - 1,
+        zone: x.zone as usize - 1,
+        weekday: x.weekday as usize - 1,
+        holiday: if x.holiday { 1 } else { 0 },
+        month_day: cuts.find(Dimension::MonthDay, x.month_day as u64, steps),
+        minute: cuts.find(Dimension::Minute, x.minute as u64, steps),
+        distance: cuts.find(Dimension::Distance, x.pulses, steps),
+        time: cuts.find(Dimension::Time, x.ticks as u64, steps),
+    }
+}

@@ -1,0 +1,37 @@
+//! The parts of the tables that are plain numbers.
+
+/// An initial hire fee and the amount of charges that it covers, in units of the last decimal: each at
+/// most 99,999,999.
+#[derive(Clone, Copy, Debug, PartialEq, Eq)]
+pub struct Initial {
+    pub amount: u64,
+    pub covers: u64,
+}
+
+/// A supplement, in units of the last decimal, and how often a hiring may have it: at most 1,000,000, and
+/// 1 to 99.
+#[derive(Clone, Copy, Debug, PartialEq, Eq)]
+pub struct Supplement {
+    pub amount: u64,
+    pub max: u8,
+}
+
+/// The lines of a cell, by their places from 0 among the rates and among the initial hire fees.
+#[derive(Clone, Copy, Debug, PartialEq, Eq)]
+pub(crate) struct CellLines {
+    pub(crate) rate: u8,
+    pub(crate) initial: u8,
+}
+
+/// The number of a cell in each dimension, from 0; or how many numbers each dimension has.
+#[derive(Clone, Copy, Debug, PartialEq, Eq)]
+pub(crate) struct Bands {
+    pub(crate) position: usize,
+    pub(crate) zone: usize,
+    pub(crate) weekday: usize,
+    pub(crate) holiday: usize,
+    pub(crate) month_day: usize,
+    pub(crate) minute: usize,
+    pub(crate) distance: usize,
+    pub(crate) time: usize,
+}

@@ -1,0 +1,80 @@
+//! Makes the rows of the tables, each in an empty line.
+ghost use Rattle.std.specs.Prelude.{◌≡◌, [], ◌+◌, ◌≤◌, ◌++◌, ◌↔◌, length, codes, decimal, IsOk, OnOk};
+ghost use Rattle.arrayvec.specs.ArrayVec.{array_vec_len};
+ghost use Rattle.taxi_units.specs.Number.{money_text};
+ghost use Rattle.tariff_compile.specs.Rows.{cell_row, initial_row, measure_row, rate_row};
+
+use crate::parts::{CellLines, Initial};
+use drive_modes::Weights;
+use taxi_units::{Line, LineFull, put_bytes, put_money, put_number};
+
+/// The row of the measure.
+pub(crate) fn measure_row(row: &mut Line, measure: u128) -> Result<(), LineFull>
+    requires { row.old.items ≡ [] }
+    ensures variant { IsOk result ↔ (length (measure_row measure) ≤ 512) }
+    ensures ok { OnOk result (row.new.items ≡ measure_row measure) }
+{
+    put_field(row, b"MEASURE ", measure)?;
+    put_bytes(row, b"\n")
+}
+
+/// The row of a rate, by its number from 1.
+pub(crate) fn rate_row(row: &mut Line, number: u64, weights: Weights) -> Result<(), LineFull>
+    requires { row.old.items ≡ [] }
+    ensures variant { IsOk result ↔ (length (rate_row number weights) ≤ 512) }
+    ensures ok { OnOk result (row.new.items ≡ rate_row number weights) }
+{
+    put_field(row, b"RATE ", number as u128)?;
+    put_field(row, b" ", weights.per_pulse)?;
+    put_field(row, b" ", weights.per_tick)?;
+    put_bytes(row, b"\n")
+}
+
+/// The row of an initial hire fee, by its number from 1, with so many decimals of money.
+pub(crate) fn initial_row(
+    row: &mut Line,
+    decimals: u8,
+    number: u64,
+    initial: Initial,
+) -> Result<(), LineFull>
+    requires empty { row.old.items ≡ [] }
+    requires decimals { decimals ≤ 3 }
+    ensures variant { IsOk result ↔ (length (initial_row decimals number initial) ≤ 512) }
+    ensures ok { OnOk result (row.new.items ≡ initial_row decimals number initial) }
+{
+    put_field(row, b"INITIAL ", number as u128)?;
+    put_amount(row, decimals, initial.amount)?;
+    put_amount(row, decimals, initial.covers)?;
+    put_bytes(row, b"\n")
+}
+
+/// The row of a cell, with the numbers of its rate and its initial hire fee from 1.
+pub(crate) fn cell_row(row: &mut Line, cell: u64, lines: CellLines) -> Result<(), LineFull>
+    requires { row.old.items ≡ [] }
+    ensures variant { IsOk result ↔ (length (cell_row cell lines) ≤ 512) }
+    ensures ok { OnOk result (row.new.items ≡ cell_row cell lines) }
+{
+    put_field(row, b"CELL ", cell as u128)?;
+    put_field(row, b" ", lines.rate as u128 + 1)?;
+    put_field(row, b" ", lines.initial as u128 + 1)?;
+    put_bytes(row, b"\n")
+}
+
+/// Appends a word and a number.
+fn put_field(row: &mut Line, word: &[u8], number: u128) -> Result<(), LineFull>
+    ensures variant { IsOk result ↔ (array_vec_len row.old + length word.now + length (decimal number) ≤ 512) }
+    ensures ok { OnOk result (row.new.items ≡ row.old.items ++ (word.now ++ decimal number)) }
+{
+    put_bytes(row, word)?;
+    put_number(row, number)
+}
+
+/// Appends a blank and an amount of money.
+fn put_amount(row: &mut Line, decimals: u8, amount: u64) -> Result<(), LineFull>
+    requires { decimals ≤ 3 }
+    ensures variant { IsOk result ↔ (array_vec_len row.old + 1 + length (money_text decimals amount) ≤ 512) }
+    ensures ok { OnOk result (row.new.items ≡ row.old.items ++ (codes " " ++ money_text decimals amount)) }
+{
+    put_bytes(row, b" ")?;
+    put_money(row, amount as u128, decimals)
+}

@@ -1,0 +1,241 @@
+//! The tables and their look-ups.
+ghost use Rattle.std.specs.Prelude.{◌≡◌, ℕ, [], ◌+◌, ◌*◌, ◌^◌, ◌<◌, ◌≤◌, ◌++◌, ◌↔◌, true, length, IsOk, OnOk, OnErr};
+ghost use Rattle.arrayvec.specs.ArrayVec.{array_vec_len};
+ghost use Rattle.interval_clock.specs.Calendar.{IsDateOf};
+ghost use Rattle.tariff_calendar.specs.Lists.{is_holiday};
+ghost use Rattle.tariff_calendar.specs.Range.{IsInRangeOf};
+ghost use Rattle.tariff_check.specs.Parts.{has_holidays};
+ghost use Rattle.tariff_compile.specs.Rows.{row_count, row_text};
+ghost use Rattle.tariff_compile.specs.Tables.{AreFit, IsCompiled, IsFitInitial, IsTablesOf, cell_of, initial_by, lines_at, rate_by, supplement_at};
+ghost use Rattle.tariff_syntax.specs.Tree.{Tree};
+
+use crate::bands::{cell_number, sizes_of};
+use crate::contexts::bands_at;
+use crate::counted::Counted;
+use crate::parts::{CellLines, Initial, Supplement};
+use crate::rows::{cell_row, initial_row, measure_row, rate_row};
+use drive_modes::{Rounding, Weights};
+use pulse_input::Constant;
+use std::marker::Model;
+use std::sync::ledger::Ledger;
+use tariff_calendar::Cuts;
+use tariff_syntax::Context;
+use taxi_units::{Line, LineFull, Steps, put_bytes};
+
+/// The tables of a sound tariff under a constant: its cuts, what each rate weighs, its initial hire fees
+/// and supplements, and for each cell the places of its lines. Of a condition, a line or a text they keep
+/// nothing. Tables of cells are this project's own.
+#[derive(Drop)]
+pub struct Tables {
+    pub(crate) cuts: Cuts,
+    pub(crate) weights: Counted<Weights>,
+    pub(crate) initials: Counted<Initial>,
+    pub(crate) cells: Counted<CellLines>,
+    pub(crate) supplements: Counted<Option<Supplement>>,
+    pub(crate) constant: Constant,
+    pub(crate) measure: u128,
+    pub(crate) step: u64,
+    pub(crate) rounding: Rounding,
+    pub(crate) decimals: u8,
+    pub(crate) positions: u8,
+    pub(crate) zones: u8,
+}
+
+impl Model for Tables {
+    ghost use Rattle.tariff_compile.specs.Tables.{IsCompiled, TableParts};
+
+    ghost Value = { TableParts };
+
+    ghost use Rattle.tariff_compile.specs.Inside.{parts_of};
+
+    ghost view = { parts_of };
+
+    ghost invariant = { λ t. IsCompiled (parts_of t) };
+}
+
+impl Tables {
+    /// The weights of the rate that holds first in a context, which a trip may have and which has the
+    /// tables' constant. A step is the read of a cut, of a cell or of the weights, and they are at most 22.
+    pub fn rate_at<L: Ledger>(&self, x: &Context, steps: &mut Steps<L>) -> Weights
+        requires range { (t : Tree) → IsTablesOf t self.now → IsInRangeOf t self.now.constant x.now }
+        ensures tree { (t : Tree) → IsTablesOf t self.now → result ≡ rate_by t self.now.constant x.now }
+        ensures fit { AreFit self.now.measure result }
+        ensures steps { steps.new ≤ steps.old + 22 }
+    {
+        let lines = self.lines_at(x, steps);
+        self.weights.read(lines.rate as usize, steps)
+    }
+
+    /// The initial hire fee that holds first in a context at the hiring, which a trip may have and which
+    /// has the tables' constant. A step is the read of a cut, of a cell or of the fee, and they are at most
+    /// 22.
+    pub fn initial_at<L: Ledger>(&self, x: &Context, steps: &mut Steps<L>) -> Initial
+        requires range { (t : Tree) → IsTablesOf t self.now → IsInRangeOf t self.now.constant x.now }
+        ensures tree { (t : Tree) → IsTablesOf t self.now → result ≡ initial_by t x.now }
+        ensures fit { IsFitInitial result }
+        ensures steps { steps.new ≤ steps.old + 22 }
+    {
+        let lines = self.lines_at(x, steps);
+        self.initials.read(lines.initial as usize, steps)
+    }
+
+    /// The lines of a context's cell. At most 21 steps.
+    fn lines_at<L: Ledger>(&self, x: &Context, steps: &mut Steps<L>) -> CellLines
+        requires range { (t : Tree) → IsTablesOf t self.now → IsInRangeOf t self.now.constant x.now }
+        ensures tree { (t : Tree) → IsTablesOf t self.now → result ≡ lines_at t x.now }
+        ensures compiled { IsCompiled self.now }
+        ensures steps { steps.new ≤ steps.old + 21 }
+    {
+        let cell = self.cell_of(x, steps);
+        self.cells.read(cell, steps)
+    }
+
+    /// The number of a context's cell. At most 20 steps.
+    fn cell_of<L: Ledger>(&self, x: &Context, steps: &mut Steps<L>) -> usize
+        requires range { (t : Tree) → IsTablesOf t self.now → IsInRangeOf t self.now.constant x.now }
+        ensures tree { (t : Tree) → IsTablesOf t self.now → result ≡ cell_of t self.now.constant x.now }
+        ensures compiled { IsCompiled self.now }
+        ensures steps { steps.new ≤ steps.old + 20 }
+    {
+        let bands = bands_at(&self.cuts, x, steps);
+        let count = self.cells.as_slice().len();
+        let sizes = sizes_of(self.positions, self.zones, &self.cuts, count);
+        cell_number(&sizes, &bands)
+    }
+
+    /// Whether a day, by its number since 1970-01-01, is a holiday of the tariff. At most 8 steps.
+    pub fn holiday<L: Ledger>(&self, day: i32, steps: &mut Steps<L>) -> bool
+        ensures tree { (t : Tree) (year month date : ℕ) → IsTablesOf t self.now → IsDateOf day year month date → result ≡ is_holiday t.lines year month date }
+        ensures some { (t : Tree) → IsTablesOf t self.now → result ≡ true → has_holidays t.lines ≡ true }
+        ensures steps { steps.new ≤ steps.old + 8 }
+    {
+        self.cuts.holiday(day, steps)
+    }
+
+    /// The supplement of a number; `None` exactly where the tariff has no such line, as for each number
+    /// outside 1 to 16. One step.
+    pub fn supplement<L: Ledger>(&self, number: u8, steps: &mut Steps<L>) -> Option<Supplement>
+        ensures tree { (t : Tree) → IsTablesOf t self.now → result ≡ supplement_at t number }
+        ensures steps { steps.new ≡ steps.old + 1 }
+    {
+        if number < 1 || number > 16 {
+            steps.spend();
+            return None;
+        }
+        self.supplements.read(number as usize - 1, steps)
+    }
+
+    /// M, the constant times the common measure: a unit of charge is 1/M of the smallest money unit.
+    pub fn measure(&self) -> u128
+        ensures value { result ≡ self.now.measure }
+        ensures positive { 0 < result }
+        ensures most { result ≤ 2 * 10 ^ 23 }
+        ensures compiled { IsCompiled self.now }
+    {
+        self.measure
+    }
+
+    /// The display step, 1 to 1,000,000.
+    pub fn step(&self) -> u64
+        ensures value { result ≡ self.now.step }
+        ensures positive { 0 < result }
+        ensures most { result ≤ 10 ^ 6 }
+    {
+        self.step
+    }
+
+    /// How the fare is rounded to the display step.
+    pub fn rounding(&self) -> Rounding
+        ensures { result ≡ self.now.rounding }
+    {
+        self.rounding
+    }
+
+    /// The decimals of money, 0 to 3.
+    pub fn decimals(&self) -> u8
+        ensures value { result ≡ self.now.decimals }
+        ensures most { result ≤ 3 }
+    {
+        self.decimals
+    }
+
+    /// How many tariff positions there are, 1 to 9.
+    pub fn positions(&self) -> u8
+        ensures value { result ≡ self.now.positions }
+        ensures range { (1 ≤ result) × (result ≤ 9) }
+    {
+        self.positions
+    }
+
+    /// How many zones there are, 1 to 9.
+    pub fn zones(&self) -> u8
+        ensures value { result ≡ self.now.zones }
+        ensures range { (1 ≤ result) × (result ≤ 9) }
+    {
+        self.zones
+    }
+
+    /// The constant of the taximeter.
+    pub fn constant(&self) -> Constant
+        ensures { result ≡ self.now.constant }
+    {
+        self.constant
+    }
+
+    /// How many rows the tables have as a text.
+    pub fn rows(&self) -> u64
+        ensures { result ≡ row_count self.now }
+    {
+        let rates = self.weights.as_slice().len() as u64;
+        let initials = self.initials.as_slice().len() as u64;
+        let cells = self.cells.as_slice().len() as u64;
+        1 + rates + initials + cells
+    }
+
+    /// Appends a row, ended by a line feed: row 0 is `MEASURE M`; then comes `RATE i per_pulse per_tick`
+    /// for each rate, `INITIAL i amount covers` for each initial hire fee, both numbered from 1, and
+    /// `CELL c r i` for each cell, numbered from 0, with the numbers of its rate and its initial hire fee.
+    /// The form is this project's own.
+    ///
+    /// `LineFull` where it doesn't fit; the line is then unchanged.
+    pub fn put_row(&self, i: u64, line: &mut Line) -> Result<(), LineFull>
+        requires { i < row_count self.now }
+        ensures variant { IsOk result ↔ (array_vec_len line.old + length (row_text self.now i) ≤ 512) }
+        ensures ok { OnOk result (line.new.items ≡ line.old.items ++ row_text self.now i) }
+        ensures err { OnErr result (line.new ≡ line.old) }
+        // A row fits into an empty line.
+        ensures short { (0 < length (row_text self.now i)) × (length (row_text self.now i) ≤ 512) }
+    {
+        let mut row = Line::new();
+        self.make_row(i, &mut row)?;
+        put_bytes(line, row.as_slice())
+    }
+
+    /// Makes a row in an empty line.
+    fn make_row(&self, i: u64, row: &mut Line) -> Result<(), LineFull>
+        requires row { i < row_count self.now }
+        requires empty { row.old.items ≡ [] }
+        ensures variant { IsOk result ↔ (length (row_text self.now i) ≤ 512) }
+        ensures ok { OnOk result (row.new.items ≡ row_text self.now i) }
+        ensures compiled { IsCompiled self.now }
+    {
+        if i == 0 {
+            return measure_row(row, self.measure);
+        }
+        let rate = (i - 1) as usize;
+        let weights = self.weights.as_slice();
+        if rate < weights.len() {
+            return rate_row(row, i, weights[rate]);
+        }
+        let initial = rate - weights.len();
+        let initials = self.initials.as_slice();
+        if initial < initials.len() {
+            return initial_row(row, self.decimals, initial as u64 + 1, initials[initial]);
+        }
+        let cell = initial - initials.len();
+        cell_row(row, cell as u64, self.cells.as_slice()[cell])
+    }
+}
+
+#[cfg(test)]
+mod tests;

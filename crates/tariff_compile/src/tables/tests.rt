@@ -1,0 +1,326 @@
+//! Tables of tariffs, as rows and by look-ups.
+ghost use Rattle.std.specs.Prelude.{◌≡◌, ◌<◌, ◌≤◌};
+ghost use Rattle.tariff_syntax.specs.Writable.{IsFromTo};
+
+use super::*;
+use crate::compile;
+use crate::counted::tests::items_of;
+use std::alloc::Global;
+use std::marker::Brand;
+use std::sync::ledger::Blank;
+use std::test::Fail;
+use tariff_check::{Dimension, check};
+use tariff_syntax::{parse, texts_have_their_numbers};
+
+/// The tables of a text's tariff under so many pulses a kilometre. `None` where there are none.
+fn compiled(alloc: Global, text: &str, k: u32) -> Option<Tables> {
+    let tariff = parse(alloc, text.as_bytes()).ok()?;
+    texts_have_their_numbers();
+    let checked = check(alloc, tariff).ok()?;
+    compile(alloc, &checked, Constant::new(k).ok()?).ok()
+}
+
+/// The rows of the tables of a text's tariff. `None` where there are none.
+fn rows_of(alloc: Global, text: &str, k: u32) -> Option<Vec<u8>> {
+    let tables = compiled(alloc, text, k)?;
+    let mut rows = Vec::new(alloc);
+    for row in 0..tables.rows() {
+        let mut line = Line::new();
+        tables.put_row(row, &mut line).ok()?;
+        rows.extend_from_slice(line.as_slice()).ok()?;
+    }
+    Some(rows)
+}
+
+/// A tariff of one rate.
+const PLAIN: &str = "decimals 2
+step 0.20 ahead
+initial 3.80 covers 0.40
+rate 0.20 per 117.4 m, 0.20 per 25.2 s
+";
+
+const PLAIN_ROWS: &str = "MEASURE 1479240000
+RATE 1 25200000 117400000
+INITIAL 1 3.80 0.40
+CELL 0 1 1
+CELL 1 1 1
+CELL 2 1 1
+CELL 3 1 1
+CELL 4 1 1
+CELL 5 1 1
+CELL 6 1 1
+";
+
+/// A rate of the night, and one of the day. The night has the first and the last minutes of a day.
+const NIGHT: &str = "step 0.10 behind
+initial 4.00
+rate 0.10 per 50.0 m, 0.10 per 10.0 s when time 22:00..06:00
+rate 0.10 per 100.0 m, 0.10 per 20.0 s
+";
+
+const NIGHT_ROWS: &str = "MEASURE 1000000
+RATE 1 200000 100000
+RATE 2 100000 50000
+INITIAL 1 4.00 0.00
+CELL 0 1 1
+CELL 1 2 1
+CELL 2 1 1
+CELL 3 1 1
+CELL 4 2 1
+CELL 5 1 1
+CELL 6 1 1
+CELL 7 2 1
+CELL 8 1 1
+CELL 9 1 1
+CELL 10 2 1
+CELL 11 1 1
+CELL 12 1 1
+CELL 13 2 1
+CELL 14 1 1
+CELL 15 1 1
+CELL 16 2 1
+CELL 17 1 1
+CELL 18 1 1
+CELL 19 2 1
+CELL 20 1 1
+";
+
+/// Rates and initial hire fees of long trips: the longest has 8,640,000 ticks, and an initial hire fee
+/// is that of a trip that begins.
+const LONG: &str = "decimals 0
+step 1
+initial 5 when after 864000.0 s and day sun
+initial 4
+rate 3 per 1.0 m, 1 per 0.1 s when after 864000.1 s and day sun
+rate 2 per 1.0 m, 1 per 0.1 s when after 864000.0 s and day sun
+rate 1 per 1.0 m, 1 per 0.1 s
+";
+
+const LONG_ROWS: &str = "MEASURE 5000
+RATE 1 30000 5000
+RATE 2 20000 5000
+RATE 3 10000 5000
+INITIAL 1 5 0
+INITIAL 2 4 0
+CELL 0 3 2
+CELL 1 3 2
+CELL 2 3 2
+CELL 3 3 2
+CELL 4 3 2
+CELL 5 3 2
+CELL 6 3 2
+CELL 7 3 2
+CELL 8 3 2
+CELL 9 3 2
+CELL 10 3 2
+CELL 11 3 2
+CELL 12 3 2
+CELL 13 3 2
+CELL 14 3 2
+CELL 15 3 2
+CELL 16 3 2
+CELL 17 3 2
+CELL 18 3 2
+CELL 19 2 2
+CELL 20 2 2
+";
+
+/// Texts, pulses a kilometre, and the rows. Memory is there for all of them.
+const TEXTS: [(&str, u32, &str); 3] = [
+    (PLAIN, 10_000, PLAIN_ROWS),
+    (NIGHT, 1000, NIGHT_ROWS),
+    (LONG, 500, LONG_ROWS),
+];
+
+#[test]
+fn writes_rows(rt: HostRuntime) {
+    for (text, k, want) in TEXTS {
+        let rows = rows_of(rt.alloc(), text, k).unwrap_or(Vec::new(rt.alloc()));
+        assert_eq!(rt; rows.as_slice(), want.as_bytes(), "{text}");
+    }
+}
+
+/// What holds first at a minute of a day, with nothing driven, in the first position and zone. The day
+/// is given by its number since 1970-01-01, its weekday and its place in a leap year. Steps are counted
+/// from 0.
+fn found<L: Ledger>(
+    blank: Blank,
+    tables: &Tables,
+    day: i32,
+    weekday: u8,
+    month_day: u16,
+    minute: u16,
+) -> (u128, u64)
+    requires name { blank.name ≡ L.name }
+    requires parts { blank.parts ≡ L.parts }
+    requires some { 0 < blank.parts }
+    requires weekday { IsFromTo 1 7 weekday }
+    requires month_day { month_day ≤ 365 }
+    requires minute { minute ≤ 1439 }
+{
+    let mut steps: Steps<L> = Steps::open(blank);
+    let x = Context {
+        constant: tables.constant(),
+        position: 1,
+        zone: 1,
+        weekday,
+        month_day,
+        holiday: tables.holiday(day, &mut steps),
+        minute,
+        pulses: 0,
+        ticks: 0,
+    };
+    let weights = tables.rate_at(&x, &mut steps);
+    let initial = tables.initial_at(&x, &mut steps);
+    (weights.per_pulse, initial.amount)
+}
+
+/// Rates of a holiday, of some days of a year, and of all others.
+const DAYS: &str = "step 0.10
+holiday 2026-01-06
+initial 4.00
+rate 0.30 per 100.0 m, 0.10 per 20.0 s when holiday
+rate 0.20 per 100.0 m, 0.10 per 20.0 s when date 02-28..03-01
+rate 0.10 per 100.0 m, 0.10 per 20.0 s
+";
+
+/// A city tariff.
+const CITY: &str = "decimals 2
+step 0.20 ahead
+positions 2
+zones 2
+holiday 2026-01-01
+holiday 2026-12-25
+supplement 1 2.00 max 4
+supplement 2 0.50 max 9
+supplement 3 5.00 max 1
+initial 5.00 covers 0.40 when time 22:00..06:00 or day sun or holiday
+initial 4.20 covers 0.40
+rate 0.20 per 80.0 m, 0.20 per 20.0 s when position 2 or zone 2
+rate 0.20 per 90.0 m, 0.20 per 20.0 s when time 22:00..06:00 or day sun or holiday
+rate 0.20 per 100.0 m, 0.20 per 20.0 s when after 5000.0 m
+rate 0.20 per 125.0 m, 0.20 per 25.0 s
+";
+
+/// Texts, a day, its weekday and its place in a leap year, a minute, and the weight of a pulse and the
+/// initial hire fee.
+const FOUND: [(&str, i32, u8, u16, u16, (u128, u64)); 9] = [
+    (DAYS, 20_459, 2, 5, 720, (300_000, 400)),
+    (DAYS, 21_243, 2, 59, 720, (200_000, 400)),
+    (DAYS, 20_454, 4, 0, 0, (100_000, 400)),
+    (DAYS, 20_460, 3, 6, 0, (100_000, 400)),
+    (CITY, 20_514, 1, 61, 600, (28_800_000, 420)),
+    (CITY, 20_514, 1, 61, 359, (40_000_000, 500)),
+    (CITY, 20_514, 1, 61, 1320, (40_000_000, 500)),
+    (CITY, 20_513, 7, 60, 600, (40_000_000, 500)),
+    (CITY, 20_454, 4, 0, 600, (40_000_000, 500)),
+];
+
+#[test]
+fn looks_up_lines(rt: HostRuntime) {
+    for (text, day, weekday, month_day, minute, want) in FOUND {
+        let tables = compiled(rt.alloc(), text, 10_000);
+        assert!(rt; tables.is_some());
+        assert!(rt; 1 <= weekday && weekday <= 7 && month_day <= 365 && minute <= 1439);
+        if let Some(tables) = tables {
+            let lines = found::<Brand>(Blank::new(1), &tables, day, weekday, month_day, minute);
+            assert_eq!(rt; lines, want, "day {day} minute {minute}");
+        }
+    }
+}
+
+/// The supplement of a number, counting steps from 0.
+fn supplement<L: Ledger>(blank: Blank, tables: &Tables, number: u8) -> Option<Supplement>
+    requires name { blank.name ≡ L.name }
+    requires parts { blank.parts ≡ L.parts }
+    requires some { 0 < blank.parts }
+{
+    let mut steps: Steps<L> = Steps::open(blank);
+    tables.supplement(number, &mut steps)
+}
+
+/// Numbers, and the supplement of each in the city tariff.
+const SUPPLEMENTS: [(u8, Option<Supplement>); 7] = [
+    (0, None),
+    (
+        1,
+        Some(Supplement {
+            amount: 200,
+            max: 4,
+        }),
+    ),
+    (2, Some(Supplement { amount: 50, max: 9 })),
+    (
+        3,
+        Some(Supplement {
+            amount: 500,
+            max: 1,
+        }),
+    ),
+    (4, None),
+    (16, None),
+    (255, None),
+];
+
+#[test]
+fn finds_supplements(rt: HostRuntime) {
+    let tables = compiled(rt.alloc(), CITY, 10_000);
+    assert!(rt; tables.is_some());
+    if let Some(tables) = tables {
+        for (number, want) in SUPPLEMENTS {
+            assert_eq!(rt;
+                supplement::<Brand>(Blank::new(1), &tables, number),
+                want,
+                "{number}"
+            );
+        }
+        assert_eq!(rt; tables.rows(), 343);
+        assert_eq!(rt; tables.measure(), 1_800_000_000);
+        assert_eq!(rt; (tables.step(), tables.rounding()), (20, Rounding::Ahead));
+        assert_eq!(rt;
+            (tables.decimals(), tables.positions(), tables.zones()),
+            (2, 2, 2)
+        );
+    }
+}
+
+/// The parts are all that there is: numbers, and no condition, line or text.
+#[test]
+fn keeps_numbers_alone(rt: HostRuntime) {
+    let tables = compiled(rt.alloc(), PLAIN, 10_000);
+    assert!(rt; tables.is_some());
+    if let Some(tables) = tables {
+        let Tables {
+            cuts,
+            weights,
+            initials,
+            cells,
+            supplements,
+            constant,
+            measure,
+            step,
+            rounding,
+            decimals,
+            positions,
+            zones,
+        } = tables;
+        let cuts: Cuts = cuts;
+        let weights: Vec<Weights> = items_of(weights);
+        let initials: Vec<Initial> = items_of(initials);
+        let cells: Vec<CellLines> = items_of(cells);
+        let supplements: Vec<Option<Supplement>> = items_of(supplements);
+        let numbers: (Constant, u128, u64, Rounding, u8, u8, u8) = (
+            constant, measure, step, rounding, decimals, positions, zones,
+        );
+        assert_eq!(rt; cuts.list(Dimension::Minute).len(), 0);
+        assert_eq!(rt; weights.len(), 1);
+        assert_eq!(rt; initials.len(), 1);
+        assert_eq!(rt; supplements.len(), 16);
+        assert_eq!(rt; numbers.1, 1_479_240_000);
+        for lines in &cells {
+            let CellLines { rate, initial } = *lines;
+            let places: (u8, u8) = (rate, initial);
+            assert_eq!(rt; places, (0, 0));
+        }
+    }
+}
