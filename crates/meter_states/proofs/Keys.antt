@@ -1,45 +1,58 @@
--- A key that waits.
-use Rattle.std.proofs.Common.{◌≡◌, Bool, true, false, cond, Option, Some, None, refl, ap, length}
+-- What the parts of a tick come to, in each case.
+use Rattle.std.proofs.Common.{◌≡◌, ◌≤◌, Bool, true, false, cond, List, [], Option, Some, None, refl, ap, length, sum}
+use Rattle.std.proofs.lemmas.Bool.{le-leb}
+use Rattle.meter_states.specs.Trip.{InHired, InStopped}
 use Rattle.std.proofs.Math.Dec.{leb}
 use Rattle.taxi_units.specs.declared.event.Key.{Key}
 use Rattle.taxi_units.specs.declared.event.Key.TheVariants as keys
 use Rattle.taxi_units.specs.declared.event.Operating.{Operating}
 use Rattle.taxi_units.specs.declared.event.Operating.TheVariants.{Off, ForHire, Hired, Stopped}
-use Rattle.meter_states.specs.declared.rates.Rates.{Rates}
-use Rattle.meter_states.specs.Meter.{Meter, pressed, keyed, keyed_by, acts_keyed, acts_pressed, unlatched, acted, expired, longest}
+use Rattle.meter_states.specs.Setting.{Setting}
+use Rattle.meter_states.specs.Meter.{Meter, counted, context_of, parts_counted, with_part, pressed, keyed, keyed_by, acts_keyed, acts_pressed, unlatched, acted, expired, longest}
 
 -- the key that waits is the one that acts
-pub keyed-some : (r : Rates) (key : Key) (m : Meter) → m.latch ≡ Some key → keyed r m ≡ pressed r key m.operating (unlatched m)
-keyed-some r key m e = ap (λ (latch : Option Key). keyed_by r latch m) e
+pub keyed-some : (s : Setting) (key : Key) (m : Meter) → m.latch ≡ Some key → keyed s m ≡ pressed s key m.operating (unlatched m)
+keyed-some s key m e = ap (λ (latch : Option Key). keyed_by s latch m) e
 
 pub acts_keyed-some : (key : Key) (m : Meter) → m.latch ≡ Some key → acts_keyed m.latch m.operating ≡ acts_pressed key m.operating
 acts_keyed-some key m e = ap (λ (latch : Option Key). acts_keyed latch m.operating) e
 
 -- no key changes what was last shown
-shown-pressed : (r : Rates) (key : Key) (operating : Operating) (m : Meter) → (pressed r key operating m).shown ≡ m.shown
-shown-pressed r keys.Hire Off m = refl
-shown-pressed r keys.Hire ForHire m = refl
-shown-pressed r keys.Hire Hired m = refl
-shown-pressed r keys.Hire Stopped m = refl
-shown-pressed r keys.Stop Off m = refl
-shown-pressed r keys.Stop ForHire m = refl
-shown-pressed r keys.Stop Hired m = refl
-shown-pressed r keys.Stop Stopped m = refl
-shown-pressed r keys.Clear Off m = refl
-shown-pressed r keys.Clear ForHire m = refl
-shown-pressed r keys.Clear Hired m = refl
-shown-pressed r keys.Clear Stopped m = refl
-shown-pressed r (keys.Position n) operating m = refl
-shown-pressed r (keys.Zone n) operating m = refl
-shown-pressed r (keys.Extra n) operating m = refl
+shown-pressed : (s : Setting) (key : Key) (operating : Operating) (m : Meter) → (pressed s key operating m).shown ≡ m.shown
+shown-pressed s keys.Hire Off m = refl
+shown-pressed s keys.Hire ForHire m = refl
+shown-pressed s keys.Hire Hired m = refl
+shown-pressed s keys.Hire Stopped m = refl
+shown-pressed s keys.Stop Off m = refl
+shown-pressed s keys.Stop ForHire m = refl
+shown-pressed s keys.Stop Hired m = refl
+shown-pressed s keys.Stop Stopped m = refl
+shown-pressed s keys.Clear Off m = refl
+shown-pressed s keys.Clear ForHire m = refl
+shown-pressed s keys.Clear Hired m = refl
+shown-pressed s keys.Clear Stopped m = refl
+shown-pressed s (keys.Position n) operating m = refl
+shown-pressed s (keys.Zone n) operating m = refl
+shown-pressed s (keys.Extra n) operating m = refl
 
-shown-keyed : (r : Rates) (latch : Option Key) (m : Meter) → (keyed_by r latch m).shown ≡ m.shown
-shown-keyed r None m = refl
-shown-keyed r (Some key) m = shown-pressed r key m.operating (unlatched m)
+shown-keyed : (s : Setting) (latch : Option Key) (m : Meter) → (keyed_by s latch m).shown ≡ m.shown
+shown-keyed s None m = refl
+shown-keyed s (Some key) m = shown-pressed s key m.operating (unlatched m)
 
-shown-either : (r : Rates) (m : Meter) (b : Bool) → (cond b (expired m) (keyed r m)).shown ≡ m.shown
-shown-either r m true = refl
-shown-either r m false = shown-keyed r m.latch m
+shown-either : (s : Setting) (m : Meter) (b : Bool) → (cond b (expired m) (keyed s m)).shown ≡ m.shown
+shown-either s m true = refl
+shown-either s m false = shown-keyed s m.latch m
 
-pub shown-acted : (r : Rates) (m : Meter) → (acted r m).shown ≡ m.shown
-shown-acted r m = shown-either r m (leb longest (length m.parts))
+pub shown-acted : (s : Setting) (m : Meter) → (acted s m).shown ≡ m.shown
+shown-acted s m = shown-either s m (leb longest (length m.parts))
+
+-- an interval that ends in Hired, and one that ends in Stopped
+pub counted-hired : (s : Setting) (m : Meter) → m.operating ≡ Hired → counted s m ≡ with_part (InHired (sum m.taken) (context_of s m)) m
+counted-hired s m on = ap (λ (o : Operating). record m { taken = []; parts = parts_counted o m.parts (sum m.taken) (context_of s m) }) on
+
+pub counted-stopped : (s : Setting) (m : Meter) → m.operating ≡ Stopped → counted s m ≡ with_part (InStopped (sum m.taken)) m
+counted-stopped s m on = ap (λ (o : Operating). record m { taken = []; parts = parts_counted o m.parts (sum m.taken) (context_of s m) }) on
+
+-- a trip that has reached its longest time
+pub acted-expired : (s : Setting) (m : Meter) → longest ≤ length m.parts → acted s m ≡ expired m
+acted-expired s m long = ap (λ (b : Bool). cond b (expired m) (keyed s m)) (le-leb longest (length m.parts) long)

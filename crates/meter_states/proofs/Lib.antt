@@ -1,3 +1,3 @@
 pub mod Keys
-pub mod Speed
 pub mod Shows
+pub mod Speed

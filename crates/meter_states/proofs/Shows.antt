@@ -13,7 +13,7 @@ use Rattle.taxi_units.specs.declared.event.Why.TheVariants.{NotNow, TooFast}
 use Rattle.taxi_units.specs.declared.receipt.Display.{Display}
 use Rattle.meter_states.specs.declared.act.Act.{Act}
 use Rattle.meter_states.specs.declared.act.Act.TheVariants.{Show, Refuse}
-use Rattle.meter_states.specs.declared.rates.Rates.{Rates}
+use Rattle.meter_states.specs.Setting.{Setting}
 use Rattle.meter_states.specs.Same.{is_shown}
 use Rattle.meter_states.specs.Meter.{Meter, powered, off_or, room, too_fast, counted, longest, expired, pressed, acts_pressed, keyed, keyed_by, acts_keyed, acts_expired, acted, acts_acted, unlatched, display_of, acts_shown, latched, acts_latched, acts_of}
 use Rattle.meter_states.specs.Showable.{IsShowable}
@@ -26,33 +26,33 @@ both [] ys p q = q
 both (x ∷ xs) ys p q = (p.0, both xs ys p.1 q)
 
 -- a position other than Off stays one
-on_pressed : (r : Rates) (key : Key) (operating : Operating) (m : Meter) → operating ≢ Off → m.operating ≡ operating → (pressed r key operating m).operating ≢ Off
-on_pressed r keys.Hire Off m on e = absurd (on refl)
-on_pressed r keys.Hire ForHire m on e = λ h. absurd cc
-on_pressed r keys.Hire Hired m on e = λ h. absurd cc
-on_pressed r keys.Hire Stopped m on e = λ h. absurd cc
-on_pressed r keys.Stop Off m on e = absurd (on refl)
-on_pressed r keys.Stop ForHire m on e = λ h. absurd cc
-on_pressed r keys.Stop Hired m on e = λ h. absurd cc
-on_pressed r keys.Stop Stopped m on e = λ h. absurd cc
-on_pressed r keys.Clear Off m on e = absurd (on refl)
-on_pressed r keys.Clear ForHire m on e = λ h. absurd cc
-on_pressed r keys.Clear Hired m on e = λ h. absurd cc
-on_pressed r keys.Clear Stopped m on e = λ h. absurd cc
-on_pressed r (keys.Position n) operating m on e = λ h. on (cc)
-on_pressed r (keys.Zone n) operating m on e = λ h. on (cc)
-on_pressed r (keys.Extra n) operating m on e = λ h. on (cc)
+on_pressed : (s : Setting) (key : Key) (operating : Operating) (m : Meter) → operating ≢ Off → m.operating ≡ operating → (pressed s key operating m).operating ≢ Off
+on_pressed s keys.Hire Off m on e = absurd (on refl)
+on_pressed s keys.Hire ForHire m on e = λ h. absurd cc
+on_pressed s keys.Hire Hired m on e = λ h. absurd cc
+on_pressed s keys.Hire Stopped m on e = λ h. absurd cc
+on_pressed s keys.Stop Off m on e = absurd (on refl)
+on_pressed s keys.Stop ForHire m on e = λ h. absurd cc
+on_pressed s keys.Stop Hired m on e = λ h. absurd cc
+on_pressed s keys.Stop Stopped m on e = λ h. absurd cc
+on_pressed s keys.Clear Off m on e = absurd (on refl)
+on_pressed s keys.Clear ForHire m on e = λ h. absurd cc
+on_pressed s keys.Clear Hired m on e = λ h. absurd cc
+on_pressed s keys.Clear Stopped m on e = λ h. absurd cc
+on_pressed s (keys.Position n) operating m on e = λ h. on (cc)
+on_pressed s (keys.Zone n) operating m on e = λ h. on (cc)
+on_pressed s (keys.Extra n) operating m on e = λ h. on (cc)
 
-on_keyed : (r : Rates) (latch : Option Key) (m : Meter) → m.operating ≢ Off → (keyed_by r latch m).operating ≢ Off
-on_keyed r None m on = on
-on_keyed r (Some key) m on = on_pressed r key m.operating (unlatched m) on refl
+on_keyed : (s : Setting) (latch : Option Key) (m : Meter) → m.operating ≢ Off → (keyed_by s latch m).operating ≢ Off
+on_keyed s None m on = on
+on_keyed s (Some key) m on = on_pressed s key m.operating (unlatched m) on refl
 
-on_either : (r : Rates) (m : Meter) (b : Bool) → m.operating ≢ Off → (cond b (expired m) (keyed r m)).operating ≢ Off
-on_either r m true on = λ h. absurd cc
-on_either r m false on = on_keyed r m.latch m on
+on_either : (s : Setting) (m : Meter) (b : Bool) → m.operating ≢ Off → (cond b (expired m) (keyed s m)).operating ≢ Off
+on_either s m true on = λ h. absurd cc
+on_either s m false on = on_keyed s m.latch m on
 
-on_acted : (r : Rates) (m : Meter) → m.operating ≢ Off → (acted r m).operating ≢ Off
-on_acted r m on = on_either r m (leb longest (length m.parts)) on
+on_acted : (s : Setting) (m : Meter) → m.operating ≢ Off → (acted s m).operating ≢ Off
+on_acted s m on = on_either s m (leb longest (length m.parts)) on
 
 refused : (key : Key) (operating : Operating) → Shows (acts_pressed key operating)
 refused keys.Hire Off = (tt, tt)
@@ -96,11 +96,11 @@ waiting None = tt
 waiting (Some key) = (tt, tt)
 
 -- where the meter isn't off, its tick shows what has a text
-tick_shows : (r : Rates) (m : Meter) → r.decimals ≤ 3 → m.operating ≢ Off → Shows (acts_acted (counted m) ++ acts_shown m.shown (display_of r (acted r (counted m))))
-tick_shows r m few on =
-    let next = acted r (counted m) in
-    both (acts_acted (counted m)) (acts_shown m.shown (display_of r next)) (either_refused (counted m) (leb longest (length (counted m).parts)))
-    (shown (is_shown m.shown (display_of r next)) (display_of r next) (on_acted r (counted m) on) few)
+tick_shows : (s : Setting) (m : Meter) → s.tariff.decimals ≤ 3 → m.operating ≢ Off → Shows (acts_acted (counted s m) ++ acts_shown m.shown (display_of s (acted s (counted s m))))
+tick_shows s m few on =
+    let next = acted s (counted s m) in
+    both (acts_acted (counted s m)) (acts_shown m.shown (display_of s next)) (either_refused (counted s m) (leb longest (length (counted s m).parts)))
+    (shown (is_shown m.shown (display_of s next)) (display_of s next) (on_acted s (counted s m) on) few)
 
 by_position : (o : Operating) (x y : List Act) → Shows x → (o ≢ Off → Shows y) → Shows (off_or o x y)
 by_position Off x y p q = p
@@ -108,13 +108,13 @@ by_position ForHire x y p q = q (λ h. absurd cc)
 by_position Hired x y p q = q (λ h. absurd cc)
 by_position Stopped x y p q = q (λ h. absurd cc)
 
-acts_show : (r : Rates) (m : Meter) (event : Event) → r.decimals ≤ 3 → Shows (acts_of r m event)
-acts_show r m (events.Up second) few = by_position m.operating _ _ ((λ h. absurd cc, few), tt) (λ on. (tt, tt))
-acts_show r m events.Down few = (tt, tt)
-acts_show r m (events.Pulses n) few = by_position m.operating _ _ (tt, tt) (λ on. surplus (ltb 0 (n - room m)) (n - room m))
-acts_show r m events.Tick few = by_position m.operating _ _ (tt, tt) (λ on. tick_shows r m few on)
-acts_show r m (events.Clock second) few = (tt, tt)
-acts_show r m (events.Key key) few = by_position m.operating _ _ (tt, tt) (λ on. waiting m.latch)
+acts_show : (s : Setting) (m : Meter) (event : Event) → s.tariff.decimals ≤ 3 → Shows (acts_of s m event)
+acts_show s m (events.Up second) few = by_position m.operating _ _ ((λ h. absurd cc, few), tt) (λ on. (tt, tt))
+acts_show s m events.Down few = (tt, tt)
+acts_show s m (events.Pulses n) few = by_position m.operating _ _ (tt, tt) (λ on. surplus (ltb 0 (n - room m)) (n - room m))
+acts_show s m events.Tick few = by_position m.operating _ _ (tt, tt) (λ on. tick_shows s m few on)
+acts_show s m (events.Clock second) few = (tt, tt)
+acts_show s m (events.Key key) few = by_position m.operating _ _ (tt, tt) (λ on. waiting m.latch)
 
-pub acts-showable : (r : Rates) (m : Meter) (event : Event) → r.decimals ≤ 3 → All IsShowable (acts_of r m event)
-acts-showable r m event few = All-from_recursion IsShowable (acts_of r m event) (acts_show r m event few)
+pub acts-showable : (s : Setting) (m : Meter) (event : Event) → s.tariff.decimals ≤ 3 → All IsShowable (acts_of s m event)
+acts-showable s m event few = All-from_recursion IsShowable (acts_of s m event) (acts_show s m event few)

@@ -1,13 +1,27 @@
--- The compiled weights compare as the cross-over speed says.
-use Rattle.std.proofs.Common.{◌≡◌, ℕ, ◌*◌, ◌/◌, ◌<◌, ◌≤◌, Bool, true, false, cond, refl, ap, sym, ◌∙◌, ltb, arith}
+-- The charges of the meter compare as the cross-over speed says.
+use Rattle.std.proofs.Common.{◌≡◌, ℕ, zero, suc, ◌*◌, ◌/◌, ◌<◌, ◌≤◌, Bool, true, false, cond, List, [], ◌∷◌, All, Option, Some, length, get_or, map, refl, ap, sym, ◌∙◌, ltb, arith}
+use Rattle.std.specs.List.{flat_map}
+use Rattle.std.specs.Option.{unwrap_or}
 use Rattle.std.proofs.lemmas.Bool.{ltb-true, ltb-false, lt-ltb, le-ltb}
+use Rattle.std.proofs.lemmas.List.{get_or-map}
+use Rattle.std.proofs.lemmas.List.Elements.{All-get_or, All-head, All-tail}
 use Rattle.std.proofs.Math.Nat.{mul_assoc, mul_comm, mul_left_comm, mul-pos, mul-le-mul_right, le_of_mul-le-mul_right, lt_of_mul-lt-mul_right, mul-lt-mul_of_pos_right}
 use Rattle.drive_modes.specs.declared.charges.Mode.TheVariants.{Single}
+use Rattle.drive_modes.specs.declared.charges.Weights.{Weights}
 use Rattle.drive_modes.specs.Charge.{charge_of}
-use Rattle.tariff_syntax.specs.Sound.{IsSound}
-use Rattle.tariff_syntax.specs.declared.plain.Simple.{Simple}
-use Rattle.tariff_syntax.proofs.Measures.{lcm_of-multiple_of_first, lcm_of-multiple_of_second, lcm_is_least}
-use Rattle.meter_states.specs.Rates.{weights_of, charge_by_speed, common}
+use Rattle.tariff_syntax.specs.Meaning.{rate_place}
+use Rattle.tariff_syntax.specs.Tree.{Tree}
+use Rattle.tariff_syntax.specs.Writable.{IsWritable}
+use Rattle.tariff_syntax.specs.declared.context.Context.{Context}
+use Rattle.tariff_check.specs.Faults.{IsSound}
+use Rattle.tariff_check.specs.Measure.{IsMultipleOfAll, measure_of, measures_of}
+use Rattle.tariff_check.specs.Parts.{RateNumbers, rates_of}
+use Rattle.tariff_check.specs.Sound.{HasSoundParts, IsSoundRate}
+use Rattle.tariff_check.proofs.CommonMeasure.{measure_is_least}
+use Rattle.tariff_check.proofs.DefaultLines.{rate_always}
+use Rattle.tariff_check.proofs.SoundParts.{sound_parts}
+use Rattle.tariff_compile.specs.Tables.{all_weights, rate_by, weights_of}
+use Rattle.meter_states.specs.Setting.{charge_by_speed, rate_at}
 
 -- numbers that are scaled alike compare alike
 same-below : (d t a c v w : ℕ) → 0 < v → 0 < w → d * v ≡ a * w → t * v ≡ c * w → (b : Bool) → ltb d t ≡ b → ltb a c ≡ b
@@ -26,16 +40,45 @@ scaled_distance a b e p x = simp (mul_assoc, mul_comm, mul_left_comm)
 scaled_time : (b c e k y : ℕ) → c * k * y * (b * e) ≡ c * k * b * (y * e)
 scaled_time b c e k y = simp (mul_assoc, mul_comm, mul_left_comm)
 
-pub charge-by_speed : (t : Simple) (k p : ℕ) → IsSound t → charge_of Single (weights_of t k) p ≡ charge_by_speed t k p
-charge-by_speed t k p s =
-    let l = common t in
-    let b = s.distance_above_zero in
-    let e = s.time_above_zero in
-    let distance : p * (10000 * t.a * (l / t.b)) * (t.b * t.e) ≡ 10000 * p * t.a * t.e * l =
-    scaled_distance t.a t.b t.e p (l / t.b) ∙ ap (λ (n : ℕ). 10000 * p * t.a * t.e * n) (lcm_of-multiple_of_first t.b t.e) in
-    let time : t.c * k * (l / t.e) * (t.b * t.e) ≡ t.c * k * t.b * l =
-    scaled_time t.b t.c t.e k (l / t.e) ∙ ap (λ (n : ℕ). t.c * k * t.b * n) (lcm_of-multiple_of_second t.b t.e) in
-    let positive : 0 < l = (lcm_is_least t.b t.e b e).positive in
-    let same : ltb (10000 * p * t.a * t.e) (t.c * k * t.b) ≡ ltb (p * (10000 * t.a * (l / t.b))) (t.c * k * (l / t.e)) =
-    same-below _ _ _ _ (t.b * t.e) l (mul-pos b e) positive distance time _ refl in
-    ap (λ (below : Bool). cond below (t.c * k * (l / t.e)) (p * (10000 * t.a * (l / t.b)))) (sym same)
+-- a rate of which both measures divide the common one
+by_speed : (k common p : ℕ) (r : RateNumbers) → 0 < r.b → 0 < r.e → 0 < common → common / r.b * r.b ≡ common → common / r.e * r.e ≡ common
+    → charge_of Single (weights_of k common r) p ≡ charge_by_speed k common r p
+by_speed k common p r b e positive first second =
+    let distance : p * (10000 * r.a * (common / r.b)) * (r.b * r.e) ≡ 10000 * p * r.a * r.e * common =
+    scaled_distance r.a r.b r.e p (common / r.b) ∙ ap (λ (n : ℕ). 10000 * p * r.a * r.e * n) first in
+    let time : r.c * k * (common / r.e) * (r.b * r.e) ≡ r.c * k * r.b * common =
+    scaled_time r.b r.c r.e k (common / r.e) ∙ ap (λ (n : ℕ). r.c * k * r.b * n) second in
+    let same : ltb (10000 * p * r.a * r.e) (r.c * k * r.b) ≡ ltb (p * (10000 * r.a * (common / r.b))) (r.c * k * (common / r.e)) =
+    same-below _ _ _ _ (r.b * r.e) common (mul-pos b e) positive distance time _ refl in
+    ap (λ (below : Bool). cond below (r.c * k * (common / r.e)) (p * (10000 * r.a * (common / r.b)))) (sym same)
+
+-- both measures of a rate
+pub record DivideIt (m : ℕ) (r : RateNumbers) : Type 0 where
+  pub first : m / r.b * r.b ≡ m
+  pub second : m / r.e * r.e ≡ m
+
+each_divides : (m : ℕ) (rs : List RateNumbers) → IsMultipleOfAll (flat_map (λ (r : RateNumbers). r.b ∷ r.e ∷ []) rs) m → (place : ℕ) (d : RateNumbers) → place < length rs → DivideIt m (get_or rs place d)
+each_divides m [] all place d h = absurd (omega arith)
+each_divides m (r ∷ rs) all zero d h =
+    let rest = flat_map (λ (r' : RateNumbers). r'.b ∷ r'.e ∷ []) rs in
+    record { first = All-head (λ n. m / n * n ≡ m) r.b (r.e ∷ rest) all; second = All-head (λ n. m / n * n ≡ m) r.e rest (All-tail (λ n. m / n * n ≡ m) r.b (r.e ∷ rest) all) }
+each_divides m (r ∷ rs) all (suc place) d h =
+    let rest = flat_map (λ (r' : RateNumbers). r'.b ∷ r'.e ∷ []) rs in
+    each_divides m rs (All-tail (λ n. m / n * n ≡ m) r.e rest (All-tail (λ n. m / n * n ≡ m) r.b (r.e ∷ rest) all)) place d (omega (arith, h))
+
+pub charge-by_speed : (t : Tree) (k : ℕ) (x : Context) (p : ℕ) → IsWritable t → IsSound t
+    → (place : ℕ) × (rate_place t x ≡ Some place) × (place < length (rates_of t.lines)) × (charge_of Single (rate_by t k x) p ≡ charge_by_speed k (measure_of t.lines) (rate_at t place) p)
+charge-by_speed t k x p writable sound =
+    let parts = sound_parts t writable sound in
+    let found = rate_always t x sound in
+    let place = found.0 in
+    let within = found.2 in
+    let m = measure_of t.lines in
+    let none : RateNumbers = record { a = 0; b = 0; c = 0; e = 0 } in
+    let least = measure_is_least t writable sound in
+    let r = rate_at t place in
+    let numbers : IsSoundRate r = All-get_or IsSoundRate (rates_of t.lines) place none within parts.rates in
+    let both = each_divides m (rates_of t.lines) least.multiple place none within in
+    let weights : rate_by t k x ≡ weights_of k m r =
+    ap (λ (o : Option ℕ). get_or (all_weights t k) (unwrap_or o 0) (record { per_pulse = 0; per_tick = 0 })) found.1 ∙ get_or-map (weights_of k m) (rates_of t.lines) place none (record { per_pulse = 0; per_tick = 0 }) within in
+    (place, found.1, within, ap (λ (w : Weights). charge_of Single w p) weights ∙ by_speed k m p r numbers.distance.0 numbers.time.0 least.positive both.first both.second)

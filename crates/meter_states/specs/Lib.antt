@@ -1,6 +1,6 @@
-pub mod Rates
-pub mod Trip
-pub mod Same
-pub mod Meter
 pub mod Core
+pub mod Meter
+pub mod Same
+pub mod Setting
 pub mod Showable
+pub mod Trip

@@ -1,5 +1,5 @@
 -- The meter: its states, and what each event does to them. It keeps each interval of a trip.
-use Rattle.std.specs.Prelude.{ℕ, ◌-◌, ◌*◌, List, [], ◌∷◌, ◌++◌, Option, Some, None, sum, length, min, if◌then◌else◌, nat_le, nat_lt}
+use Rattle.std.specs.Prelude.{ℕ, ◌-◌, ◌*◌, pos, ℤ, List, [], ◌∷◌, ◌++◌, Option, Some, None, sum, length, min, if◌then◌else◌, nat_le, nat_lt}
 use Rattle.taxi_units.specs.declared.event.Key.{Key}
 use Rattle.taxi_units.specs.declared.event.Key.TheVariants as keys
 use Rattle.taxi_units.specs.declared.event.Event.{Event}
@@ -10,31 +10,42 @@ use Rattle.taxi_units.specs.declared.event.Why.TheVariants.{NotNow, KeyWaiting, 
 use Rattle.taxi_units.specs.declared.receipt.Display.{Display}
 use Rattle.meter_states.specs.declared.act.Act.{Act}
 use Rattle.meter_states.specs.declared.act.Act.TheVariants.{Show, Refuse}
-use Rattle.meter_states.specs.declared.rates.Rates.{Rates}
-use Rattle.meter_states.specs.Trip.{Part, InHired, InStopped, fare_of}
+use Rattle.interval_clock.specs.LocalTime.{local_second, local_time_of}
+use Rattle.interval_clock.specs.declared.local_time.LocalTime.{LocalTime}
+use Rattle.tariff_syntax.specs.declared.context.Context.{Context}
+use Rattle.tariff_calendar.specs.Lists.{is_holiday}
+use Rattle.tariff_compile.specs.Tables.{initial_by}
+use Rattle.tariff_compile.specs.declared.parts.Initial.{Initial}
+use Rattle.meter_states.specs.Setting.{Setting, unit_of}
+use Rattle.meter_states.specs.Trip.{Part, InHired, InStopped, pulses_of, fare_of}
 use Rattle.meter_states.specs.Same.{is_shown}
 
--- a state of the meter: without a trip the cover is 0 and there are no parts
+-- a state of the meter: without a trip the hire fee and the cover are 0 and there are no parts
 pub record Meter : Type 0 where
   pub operating : Operating
+  -- the clock's second, at which the running interval began
+  pub second : ℕ
   -- the pulses that the running interval took, piece by piece
   pub taken : List ℕ
   pub latch : Option Key
   pub shown : Option Display
-  -- of the trip: what is covered by its hire fee, in units of charge, and its intervals
+  -- of the trip: its initial hire fee, what that covers, in units of charge, and its intervals
+  pub initial : ℕ
   pub cover : ℕ
   pub parts : List Part
 
 -- the meter without a trip, before anything was shown
-abbrev pub idle : Operating → Meter
-idle operating = record { operating = operating; taken = []; latch = None; shown = None; cover = 0; parts = [] }
+abbrev pub idle : Operating → (second : ℕ) → Meter
+idle operating second =
+    record { operating = operating; second = second; taken = []; latch = None; shown = None; initial = 0; cover = 0; parts = [] }
 
--- as it begins, and as it is powered
+-- as it begins: before the clock is read it stands at the first second that it may show
 abbrev pub off : Meter
-off = idle Off
+off = idle Off 946684800
 
-abbrev pub powered : Meter
-powered = idle ForHire
+-- as it is powered
+abbrev pub powered : (second : ℕ) → Meter
+powered second = idle ForHire second
 
 -- x in Off, and y in each other position
 abbrev pub off_or : {A : Type 0} → Operating → A → A → A
@@ -57,21 +68,54 @@ taking n m = record m { taken = m.taken ++ min n (room m) ∷ [] }
 abbrev pub too_fast : ℕ → List Act
 too_fast left = if nat_lt 0 left then Refuse (TooFast left) ∷ [] else []
 
+-- ---- the context of an interval
+
+-- the offsets from UTC that give local time: none
+abbrev pub offsets : List (ℕ × ℤ)
+offsets = (946684800, pos 0) ∷ []
+
+-- the local time at a second
+abbrev pub local_at : (second : ℕ) → LocalTime
+local_at second = local_time_of (local_second offsets second)
+
+-- the context at a local time, where a trip has these parts; the tariff position and the zone are 1
+abbrev pub context_on : Setting → LocalTime → List Part → Context
+context_on s local parts =
+    record {
+      constant = s.constant;
+      position = 1;
+      zone = 1;
+      weekday = local.weekday;
+      month_day = local.month_day;
+      holiday = is_holiday s.tariff.lines local.year local.month local.date;
+      minute = local.minute;
+      pulses = pulses_of parts;
+      ticks = length parts;
+    }
+
+-- the context at the beginning of the running interval
+abbrev pub context_of : Setting → Meter → Context
+context_of s m = context_on s (local_at m.second) m.parts
+
 -- ---- the end of an interval
 
 -- the interval becomes a part of the trip
-abbrev pub parts_counted : Operating → List Part → ℕ → List Part
-parts_counted Off parts p = parts
-parts_counted ForHire parts p = parts
-parts_counted Hired parts p = parts ++ InHired p ∷ []
-parts_counted Stopped parts p = parts ++ InStopped p ∷ []
+abbrev pub parts_counted : Operating → List Part → (p : ℕ) → Context → List Part
+parts_counted Off parts p x = parts
+parts_counted ForHire parts p x = parts
+parts_counted Hired parts p x = parts ++ InHired p x ∷ []
+parts_counted Stopped parts p x = parts ++ InStopped p ∷ []
 
-abbrev pub counted : Meter → Meter
-counted m = record m { taken = []; parts = parts_counted m.operating m.parts (sum m.taken) }
+abbrev pub counted : Setting → Meter → Meter
+counted s m = record m { taken = []; parts = parts_counted m.operating m.parts (sum m.taken) (context_of s m) }
+
+-- the same, part by part
+abbrev pub with_part : Part → Meter → Meter
+with_part part m = record m { taken = []; parts = m.parts ++ part ∷ [] }
 
 -- the trip is closed
 abbrev pub closed : Meter → Meter
-closed m = record m { operating = ForHire; cover = 0; parts = [] }
+closed m = record m { operating = ForHire; initial = 0; cover = 0; parts = [] }
 
 -- the key leaves the latch
 abbrev pub unlatched : Meter → Meter
@@ -89,17 +133,21 @@ acts_expired (Some key) = Refuse Expired ∷ []
 abbrev pub expired : Meter → Meter
 expired m = closed (unlatched m)
 
--- a trip begins
-abbrev pub hired : Rates → Meter → Meter
-hired r m = record m { operating = Hired; cover = r.covers * r.measure; parts = [] }
+-- a trip begins with this hire fee
+abbrev pub hired_with : Setting → Initial → Meter → Meter
+hired_with s fee m = record m { operating = Hired; initial = fee.amount; cover = fee.covers * unit_of s; parts = [] }
+
+-- a trip begins, with the hire fee that the tariff's text names for the context
+abbrev pub hired : Setting → Meter → Meter
+hired s m = hired_with s (initial_by s.tariff (context_of s m)) m
 
 -- what a key does in an operating position, where it does anything
-abbrev pub pressed : Rates → Key → Operating → Meter → Meter
-pressed r keys.Hire ForHire m = hired r m
-pressed r keys.Hire Stopped m = record m { operating = Hired }
-pressed r keys.Stop Hired m = record m { operating = Stopped }
-pressed r keys.Clear Stopped m = closed m
-pressed r key operating m = m
+abbrev pub pressed : Setting → Key → Operating → Meter → Meter
+pressed s keys.Hire ForHire m = hired s m
+pressed s keys.Hire Stopped m = record m { operating = Hired }
+pressed s keys.Stop Hired m = record m { operating = Stopped }
+pressed s keys.Clear Stopped m = closed m
+pressed s key operating m = m
 
 -- and where it is refused
 abbrev pub acts_pressed : Key → Operating → List Act
@@ -110,37 +158,37 @@ acts_pressed keys.Clear Stopped = []
 acts_pressed key operating = Refuse NotNow ∷ []
 
 -- a key that waits acts
-abbrev pub keyed_by : Rates → Option Key → Meter → Meter
-keyed_by r None m = m
-keyed_by r (Some key) m = pressed r key m.operating (unlatched m)
+abbrev pub keyed_by : Setting → Option Key → Meter → Meter
+keyed_by s None m = m
+keyed_by s (Some key) m = pressed s key m.operating (unlatched m)
 
-abbrev pub keyed : Rates → Meter → Meter
-keyed r m = keyed_by r m.latch m
+abbrev pub keyed : Setting → Meter → Meter
+keyed s m = keyed_by s m.latch m
 
 abbrev pub acts_keyed : Option Key → Operating → List Act
 acts_keyed None operating = []
 acts_keyed (Some key) operating = acts_pressed key operating
 
 -- a trip that has reached its longest time expires; otherwise the key acts
-abbrev pub acted : Rates → Meter → Meter
-acted r m = if nat_le longest (length m.parts) then expired m else keyed r m
+abbrev pub acted : Setting → Meter → Meter
+acted s m = if nat_le longest (length m.parts) then expired m else keyed s m
 
 abbrev pub acts_acted : Meter → List Act
 acts_acted m = if nat_le longest (length m.parts) then acts_expired m.latch else acts_keyed m.latch m.operating
 
 -- ---- the display
 
-abbrev pub fare_shown : Rates → Meter → Operating → ℕ
-fare_shown r m Off = 0
-fare_shown r m ForHire = 0
-fare_shown r m Hired = fare_of r m.cover m.parts
-fare_shown r m Stopped = fare_of r m.cover m.parts
+abbrev pub fare_shown : Setting → Meter → Operating → ℕ
+fare_shown s m Off = 0
+fare_shown s m ForHire = 0
+fare_shown s m Hired = fare_of s m.initial m.cover m.parts
+fare_shown s m Stopped = fare_of s m.initial m.cover m.parts
 
-abbrev pub display_of : Rates → Meter → Display
-display_of r m = record { operating = m.operating; position = 1; zone = 1; fare = fare_shown r m m.operating; supplements = 0; decimals = r.decimals }
+abbrev pub display_of : Setting → Meter → Display
+display_of s m = record { operating = m.operating; position = 1; zone = 1; fare = fare_shown s m m.operating; supplements = 0; decimals = s.tariff.decimals }
 
-abbrev pub displayed : Rates → Meter → Meter
-displayed r m = record m { shown = Some (display_of r m) }
+abbrev pub displayed : Setting → Meter → Meter
+displayed s m = record m { shown = Some (display_of s m) }
 
 -- the display is shown where it differs from the one that was last shown
 abbrev pub acts_shown : Option Display → Display → List Act
@@ -159,19 +207,19 @@ acts_latched (Some waiting) = Refuse KeyWaiting ∷ []
 -- ---- an event
 
 -- the next state
-abbrev pub after : Rates → Meter → Event → Meter
-after r m (events.Up second) = off_or m.operating (displayed r powered) m
-after r m events.Down = m
-after r m (events.Pulses n) = off_or m.operating m (taking n m)
-after r m events.Tick = off_or m.operating m (displayed r (acted r (counted m)))
-after r m (events.Clock second) = m
-after r m (events.Key key) = off_or m.operating m (latched key m.latch m)
+abbrev pub after : Setting → Meter → Event → Meter
+after s m (events.Up second) = off_or m.operating (displayed s (powered second)) m
+after s m events.Down = m
+after s m (events.Pulses n) = off_or m.operating m (taking n m)
+after s m events.Tick = off_or m.operating m (displayed s (acted s (counted s m)))
+after s m (events.Clock second) = m
+after s m (events.Key key) = off_or m.operating m (latched key m.latch m)
 
 -- what the meter does, in order
-abbrev pub acts_of : Rates → Meter → Event → List Act
-acts_of r m (events.Up second) = off_or m.operating (Show (display_of r powered) ∷ []) (Refuse Powered ∷ [])
-acts_of r m events.Down = Refuse NotNow ∷ []
-acts_of r m (events.Pulses n) = off_or m.operating (Refuse NotNow ∷ []) (too_fast (n - room m))
-acts_of r m events.Tick = off_or m.operating (Refuse NotNow ∷ []) (acts_acted (counted m) ++ acts_shown m.shown (display_of r (acted r (counted m))))
-acts_of r m (events.Clock second) = Refuse NotNow ∷ []
-acts_of r m (events.Key key) = off_or m.operating (Refuse NotNow ∷ []) (acts_latched m.latch)
+abbrev pub acts_of : Setting → Meter → Event → List Act
+acts_of s m (events.Up second) = off_or m.operating (Show (display_of s (powered second)) ∷ []) (Refuse Powered ∷ [])
+acts_of s m events.Down = Refuse NotNow ∷ []
+acts_of s m (events.Pulses n) = off_or m.operating (Refuse NotNow ∷ []) (too_fast (n - room m))
+acts_of s m events.Tick = off_or m.operating (Refuse NotNow ∷ []) (acts_acted (counted s m) ++ acts_shown m.shown (display_of s (acted s (counted s m))))
+acts_of s m (events.Clock second) = Refuse NotNow ∷ []
+acts_of s m (events.Key key) = off_or m.operating (Refuse NotNow ∷ []) (acts_latched m.latch)

@@ -2,13 +2,14 @@
 #![tactic(auto)]
 
 mod act;
+mod laws;
+mod local;
 mod machine;
-mod rates;
 mod shown;
 
 pub use act::{Act, Acts};
-pub use machine::{Core, acts_are_showable};
-pub use rates::{Rates, charges_follow_the_speed};
+pub use laws::{acts_are_showable, charges_follow_the_speed};
+pub use machine::Core;
 
 #[cfg(test)]
 mod tests;

@@ -1,31 +1,36 @@
 //! The core: the state of the meter, and what each event does to it.
-ghost use Rattle.std.specs.Prelude.{◌≡◌, ◌≤◌, All};
-ghost use Rattle.taxi_units.specs.declared.event.Event.{Event};
-ghost use Rattle.meter_states.specs.declared.rates.Rates.{Rates};
-ghost use Rattle.meter_states.specs.Meter.{Meter, acts_of};
-ghost use Rattle.meter_states.specs.Showable.{IsShowable};
+ghost use Rattle.std.specs.Prelude.{◌≡◌, ◌*◌, ◌^◌, ◌<◌, ◌≤◌};
+ghost use Rattle.tariff_compile.specs.Tables.{IsFit};
 
 use crate::act::{Act, Acts, refusal};
-use crate::rates::Rates;
+use crate::local::local_at;
 use crate::shown::is_shown;
-use drive_modes::{Meterage, Mode, charge};
+use drive_modes::{Meterage, Mode, Weights, charge};
 use pulse_input::Gate;
 use std::marker::Model;
 use std::sync::ledger::Ledger;
+use tariff_compile::Tables;
+use tariff_syntax::Context;
 use taxi_units::{Display, Event, Key, Operating, Steps, Why};
 
 /// A trip ends after so many ticks, which are ten days. This project's own limit.
 const LONGEST: u32 = 8_640_000;
+
+/// The first second that a clock may show, 2000-01-01T00:00Z.
+const FIRST: u64 = 946_684_800;
 
 /// The meter's state. It counts the intervals of a trip and keeps their sum, and never the intervals
 /// themselves, so it takes no memory. Without a trip `ticks` and `meterage` are zero.
 #[derive(Debug, Drop)]
 pub struct Core {
     operating: Operating,
+    second: u64,
     gate: Gate,
     latch: Option<Key>,
     shown: Option<Display>,
+    pulses: u64,
     ticks: u32,
+    initial: u64,
     meterage: Meterage,
 }
 
@@ -34,7 +39,7 @@ impl Model for Core {
 
     ghost Value = { Plain };
 
-    ghost view = { λ c. record { operating = c.operating; gate = c.gate; latch = c.latch; shown = c.shown; ticks = c.ticks; meterage = c.meterage } };
+    ghost view = { λ c. record { operating = c.operating; second = c.second; gate = c.gate; latch = c.latch; shown = c.shown; pulses = c.pulses; ticks = c.ticks; initial = c.initial; meterage = c.meterage } };
 }
 
 /// The meterage where there is no trip.
@@ -49,29 +54,38 @@ impl Core {
     ghost use Rattle.taxi_units.specs.declared.event.Operating.TheVariants.{Off, ForHire};
     ghost use Rattle.taxi_units.specs.declared.event.Why.TheVariants.{NotNow, Powered};
     ghost use Rattle.meter_states.specs.declared.act.Act.TheVariants.{Show, Refuse};
-    ghost use Rattle.meter_states.specs.Rates.{IsFit};
-    ghost use Rattle.meter_states.specs.Meter.{Meter, idle, off, powered, off_or, room, taking, too_fast, counted, closed, longest, acts_expired, expired, hired, pressed, acts_pressed, unlatched, keyed, acts_keyed, acted, acts_acted, display_of, displayed, acts_shown, fare_shown, latched, acts_latched, after, acts_of};
-    ghost use Rattle.meter_states.specs.Core.{Plain, Stands, IsLawful, IsLawfulTo};
+    ghost use Rattle.tariff_compile.specs.Tables.{AreFit, IsFit, IsTablesOf, TableParts, rate_by};
+    ghost use Rattle.tariff_calendar.specs.Range.{IsInRangeOf};
+    ghost use Rattle.interval_clock.specs.Offsets.{IsSecond};
+    ghost use Rattle.meter_states.specs.Setting.{Setting, IsSettingOf};
+    ghost use Rattle.tariff_syntax.specs.Tree.{Tree};
+    ghost use Rattle.meter_states.specs.Meter.{Meter, idle, off, powered, off_or, room, taking, too_fast, context_of, counted, with_part, closed, longest, acts_expired, expired, hired, pressed, acts_pressed, unlatched, keyed, acts_keyed, acted, acts_acted, display_of, displayed, acts_shown, fare_shown, latched, acts_latched, after, acts_of};
+    ghost use Rattle.meter_states.specs.Core.{Plain, Stands, IsLawful, IsLawfulTo, IsTimely, charging_steps, hiring_steps};
+    ghost use Rattle.meter_states.specs.Trip.{InHired, InStopped};
 
     /// A core that is off, as the meter begins.
     pub fn off() -> Core
-        ensures state { (r : Rates) → Stands r result off }
-        ensures lawful { (r : Rates) → IsFit r → IsLawful r result }
+        ensures state { (s : Setting) → Stands s result off }
+        ensures lawful { (t : TableParts) → IsFit t → IsLawful t result }
     {
-        Core::idle(Operating::Off)
+        Core::idle(Operating::Off, FIRST)
     }
 
     /// A core without a trip, before anything was shown.
-    fn idle(operating: Operating) -> Core
-        ensures state { (r : Rates) → Stands r result (idle operating) }
-        ensures lawful { (r : Rates) → IsFit r → IsLawful r result }
+    fn idle(operating: Operating, second: u64) -> Core
+        requires { IsSecond second }
+        ensures state { (s : Setting) → Stands s result (idle operating second) }
+        ensures lawful { (t : TableParts) → IsFit t → IsLawful t result }
     {
         Core {
             operating,
+            second,
             gate: Gate::new(),
             latch: None,
             shown: None,
+            pulses: 0,
             ticks: 0,
+            initial: 0,
             meterage: NONE,
         }
     }
@@ -86,56 +100,59 @@ impl Core {
     /// What an event does. The rules are this project's own; that the fare is calculated in Hired
     /// alone, and by the rule of mode S, is the measuring instruments directive's. An event that is
     /// refused changes nothing, but for pulses that are too fast: the gate takes those that it can.
-    pub fn step<L: Ledger>(&mut self, rates: &Rates, event: Event, steps: &mut Steps<L>) -> Acts
-        requires fit { IsFit rates.now }
-        requires lawful { IsLawful rates.now self.old }
-        ensures lawful { IsLawful rates.now self.new }
-        ensures state { (m : Meter) → Stands rates.now self.old m → Stands rates.now self.new (after rates.now m event) }
-        ensures acts { (m : Meter) → Stands rates.now self.old m → result.items ≡ acts_of rates.now m event }
-        ensures steps { steps.new ≤ steps.old + 2 }
+    pub fn step<L: Ledger>(&mut self, tables: &Tables, event: Event, steps: &mut Steps<L>) -> Acts
+        requires fit { IsFit tables.now }
+        requires lawful { IsLawful tables.now self.old }
+        requires timely { IsTimely event }
+        ensures lawful { IsLawful tables.now self.new }
+        ensures state { (s : Setting) (m : Meter) → IsSettingOf s tables.now → Stands s self.old m → Stands s self.new (after s m event) }
+        ensures acts { (s : Setting) (m : Meter) → IsSettingOf s tables.now → Stands s self.old m → result.items ≡ acts_of s m event }
+        ensures steps { steps.new ≤ steps.old + 36 }
     {
         match event {
-            Event::Up(_) => self.power_up(rates),
+            Event::Up(second) => self.power_up(tables, second),
             Event::Down => refusal(Why::NotNow),
             Event::Pulses(n) => self.take_pulses(n),
-            Event::Tick => self.tick(rates, steps),
+            Event::Tick => self.tick(tables, steps),
             Event::Clock(_) => refusal(Why::NotNow),
             Event::Key(key) => self.take_key(key),
         }
     }
 
     /// The supply comes.
-    fn power_up(&mut self, rates: &Rates) -> Acts
-        requires fit { IsFit rates.now }
-        requires lawful { IsLawful rates.now self.old }
-        ensures lawful { IsLawful rates.now self.new }
-        ensures state { (m : Meter) → Stands rates.now self.old m → Stands rates.now self.new (off_or m.operating (displayed rates.now powered) m) }
-        ensures acts { (m : Meter) → Stands rates.now self.old m → result.items ≡ off_or m.operating (Show (display_of rates.now powered) ∷ []) (Refuse Powered ∷ []) }
+    fn power_up(&mut self, tables: &Tables, second: u64) -> Acts
+        requires fit { IsFit tables.now }
+        requires second { IsSecond second }
+        requires lawful { IsLawful tables.now self.old }
+        ensures lawful { IsLawful tables.now self.new }
+        ensures state { (s : Setting) (m : Meter) → IsSettingOf s tables.now → Stands s self.old m → Stands s self.new (off_or m.operating (displayed s (powered second)) m) }
+        ensures acts { (s : Setting) (m : Meter) → IsSettingOf s tables.now → Stands s self.old m → result.items ≡ off_or m.operating (Show (display_of s (powered second)) ∷ []) (Refuse Powered ∷ []) }
     {
         match self.operating {
-            Operating::Off => self.begin(rates),
+            Operating::Off => self.begin(tables, second),
             Operating::ForHire | Operating::Hired | Operating::Stopped => refusal(Why::Powered),
         }
     }
 
     /// The meter begins, for hire.
-    fn begin(&mut self, rates: &Rates) -> Acts
-        requires { IsFit rates.now }
-        ensures lawful { IsLawful rates.now self.new }
-        ensures state { Stands rates.now self.new (displayed rates.now powered) }
-        ensures acts { result.items ≡ Show (display_of rates.now powered) ∷ [] }
+    fn begin(&mut self, tables: &Tables, second: u64) -> Acts
+        requires fit { IsFit tables.now }
+        requires second { IsSecond second }
+        ensures lawful { IsLawful tables.now self.new }
+        ensures state { (s : Setting) → IsSettingOf s tables.now → Stands s self.new (displayed s (powered second)) }
+        ensures acts { (s : Setting) → IsSettingOf s tables.now → result.items ≡ Show (display_of s (powered second)) ∷ [] }
     {
-        *self = Core::idle(Operating::ForHire);
+        *self = Core::idle(Operating::ForHire, second);
         let mut acts = Acts::new();
-        self.show(rates, &mut acts);
+        self.show(tables, &mut acts);
         acts
     }
 
     /// The interval takes pulses.
     fn take_pulses(&mut self, n: u32) -> Acts
-        ensures lawful { (r : Rates) → IsLawful r self.old → IsLawful r self.new }
-        ensures state { (r : Rates) (m : Meter) → IsLawful r self.old → Stands r self.old m → Stands r self.new (off_or m.operating m (taking n m)) }
-        ensures acts { (r : Rates) (m : Meter) → IsLawful r self.old → Stands r self.old m → result.items ≡ off_or m.operating (Refuse NotNow ∷ []) (too_fast (n - room m)) }
+        ensures lawful { (t : TableParts) → IsLawful t self.old → IsLawful t self.new }
+        ensures state { (t : TableParts) (s : Setting) (m : Meter) → IsLawful t self.old → Stands s self.old m → Stands s self.new (off_or m.operating m (taking n m)) }
+        ensures acts { (t : TableParts) (s : Setting) (m : Meter) → IsLawful t self.old → Stands s self.old m → result.items ≡ off_or m.operating (Refuse NotNow ∷ []) (too_fast (n - room m)) }
     {
         if let Operating::Off = self.operating {
             return refusal(Why::NotNow);
@@ -149,9 +166,9 @@ impl Core {
 
     /// A key waits for the end of the interval.
     fn take_key(&mut self, key: Key) -> Acts
-        ensures lawful { (r : Rates) → IsLawful r self.old → IsLawful r self.new }
-        ensures state { (r : Rates) (m : Meter) → Stands r self.old m → Stands r self.new (off_or m.operating m (latched key m.latch m)) }
-        ensures acts { (r : Rates) (m : Meter) → Stands r self.old m → result.items ≡ off_or m.operating (Refuse NotNow ∷ []) (acts_latched m.latch) }
+        ensures lawful { (t : TableParts) → IsLawful t self.old → IsLawful t self.new }
+        ensures state { (s : Setting) (m : Meter) → Stands s self.old m → Stands s self.new (off_or m.operating m (latched key m.latch m)) }
+        ensures acts { (s : Setting) (m : Meter) → Stands s self.old m → result.items ≡ off_or m.operating (Refuse NotNow ∷ []) (acts_latched m.latch) }
     {
         if let Operating::Off = self.operating {
             return refusal(Why::NotNow);
@@ -164,80 +181,142 @@ impl Core {
     }
 
     /// An interval ends.
-    fn tick<L: Ledger>(&mut self, rates: &Rates, steps: &mut Steps<L>) -> Acts
-        requires fit { IsFit rates.now }
-        requires lawful { IsLawful rates.now self.old }
-        ensures lawful { IsLawful rates.now self.new }
-        ensures state { (m : Meter) → Stands rates.now self.old m → Stands rates.now self.new (off_or m.operating m (displayed rates.now (acted rates.now (counted m)))) }
-        ensures acts { (m : Meter) → Stands rates.now self.old m → result.items ≡ off_or m.operating (Refuse NotNow ∷ []) (acts_acted (counted m) ++ acts_shown m.shown (display_of rates.now (acted rates.now (counted m)))) }
-        ensures steps { steps.new ≤ steps.old + 2 }
+    fn tick<L: Ledger>(&mut self, tables: &Tables, steps: &mut Steps<L>) -> Acts
+        requires fit { IsFit tables.now }
+        requires lawful { IsLawful tables.now self.old }
+        ensures lawful { IsLawful tables.now self.new }
+        ensures state { (s : Setting) (m : Meter) → IsSettingOf s tables.now → Stands s self.old m → Stands s self.new (off_or m.operating m (displayed s (acted s (counted s m)))) }
+        ensures acts { (s : Setting) (m : Meter) → IsSettingOf s tables.now → Stands s self.old m → result.items ≡ off_or m.operating (Refuse NotNow ∷ []) (acts_acted (counted s m) ++ acts_shown m.shown (display_of s (acted s (counted s m)))) }
+        ensures steps { steps.new ≤ steps.old + 36 }
     {
         match self.operating {
             Operating::Off => refusal(Why::NotNow),
             Operating::ForHire | Operating::Hired | Operating::Stopped => {
-                self.end_interval(rates, steps)
+                self.end_interval(tables, steps)
             }
         }
     }
 
     /// The interval is counted, a key acts, and the display is shown.
-    fn end_interval<L: Ledger>(&mut self, rates: &Rates, steps: &mut Steps<L>) -> Acts
-        requires fit { IsFit rates.now }
-        requires lawful { IsLawful rates.now self.old }
-        ensures lawful { IsLawful rates.now self.new }
-        ensures state { (m : Meter) → Stands rates.now self.old m → Stands rates.now self.new (displayed rates.now (acted rates.now (counted m))) }
-        ensures acts { (m : Meter) → Stands rates.now self.old m → result.items ≡ acts_acted (counted m) ++ acts_shown m.shown (display_of rates.now (acted rates.now (counted m))) }
-        ensures steps { steps.new ≤ steps.old + 2 }
+    fn end_interval<L: Ledger>(&mut self, tables: &Tables, steps: &mut Steps<L>) -> Acts
+        requires fit { IsFit tables.now }
+        requires lawful { IsLawful tables.now self.old }
+        ensures lawful { IsLawful tables.now self.new }
+        ensures state { (s : Setting) (m : Meter) → IsSettingOf s tables.now → Stands s self.old m → Stands s self.new (displayed s (acted s (counted s m))) }
+        ensures acts { (s : Setting) (m : Meter) → IsSettingOf s tables.now → Stands s self.old m → result.items ≡ acts_acted (counted s m) ++ acts_shown m.shown (display_of s (acted s (counted s m))) }
+        ensures steps { steps.new ≤ steps.old + 36 }
     {
-        self.count_interval(rates, steps);
-        let mut acts = self.act(rates, steps);
-        self.show(rates, &mut acts);
+        self.count_interval(tables, steps);
+        let mut acts = self.act(tables, steps);
+        self.show(tables, &mut acts);
         acts
     }
 
     /// The interval becomes a part of the trip, and is charged in Hired.
-    fn count_interval<L: Ledger>(&mut self, rates: &Rates, steps: &mut Steps<L>)
-        requires fit { IsFit rates.now }
-        requires lawful { IsLawful rates.now self.old }
-        ensures lawful { IsLawfulTo rates.now 8640000 self.new }
-        ensures state { (m : Meter) → Stands rates.now self.old m → Stands rates.now self.new (counted m) }
-        ensures steps { steps.new ≤ steps.old + 1 }
+    fn count_interval<L: Ledger>(&mut self, tables: &Tables, steps: &mut Steps<L>)
+        requires fit { IsFit tables.now }
+        requires lawful { IsLawful tables.now self.old }
+        ensures lawful { IsLawfulTo tables.now 8640000 self.new }
+        ensures state { (s : Setting) (m : Meter) → IsSettingOf s tables.now → Stands s self.old m → Stands s self.new (counted s m) }
+        ensures operating { self.new.operating ≡ self.old.operating }
+        ensures steps { steps.new ≤ steps.old + charging_steps self.old.operating }
+    {
+        match self.operating {
+            Operating::Off | Operating::ForHire => {
+                self.gate.take();
+            }
+            Operating::Hired => self.charge_interval(tables, steps),
+            Operating::Stopped => self.pass_interval(),
+        }
+    }
+
+    /// The interval becomes a part of the trip, and is charged.
+    fn charge_interval<L: Ledger>(&mut self, tables: &Tables, steps: &mut Steps<L>)
+        requires fit { IsFit tables.now }
+        requires lawful { IsLawful tables.now self.old }
+        ensures lawful { IsLawfulTo tables.now 8640000 self.new }
+        ensures state { (s : Setting) (m : Meter) → IsSettingOf s tables.now → Stands s self.old m → Stands s self.new (with_part (InHired (sum m.taken) (context_of s m)) m) }
+        ensures operating { self.new.operating ≡ self.old.operating }
+        ensures steps { steps.new ≤ steps.old + 36 }
+    {
+        let weights = self.weights(tables, steps);
+        let pulses = self.gate.take();
+        let charged = charge(Mode::Single, weights, pulses);
+        self.meterage.add(charged, modulus(tables));
+        self.pulses += pulses as u64;
+        self.ticks += 1;
+    }
+
+    /// The interval becomes a part of the trip that isn't charged.
+    fn pass_interval(&mut self)
+        requires gate { self.old.gate ≤ 2000 }
+        requires pulses { self.old.pulses ≤ 2000 * self.old.ticks }
+        requires ticks { self.old.ticks ≤ 8639999 }
+        ensures lawful { (t : TableParts) → IsLawful t self.old → IsLawfulTo t 8640000 self.new }
+        ensures state { (s : Setting) (m : Meter) → Stands s self.old m → Stands s self.new (with_part (InStopped (sum m.taken)) m) }
+        ensures operating { self.new.operating ≡ self.old.operating }
     {
         let pulses = self.gate.take();
-        match self.operating {
-            Operating::Off | Operating::ForHire => {}
-            Operating::Hired => {
-                let weights = rates.weights(steps);
-                let charged = charge(Mode::Single, weights, pulses);
-                self.meterage.add(charged, rates.modulus());
-                self.ticks += 1;
-            }
-            Operating::Stopped => self.ticks += 1,
+        self.pulses += pulses as u64;
+        self.ticks += 1;
+    }
+
+    /// The weights of the rate that holds at the beginning of the running interval.
+    fn weights<L: Ledger>(&self, tables: &Tables, steps: &mut Steps<L>) -> Weights
+        requires fit { IsFit tables.now }
+        requires lawful { IsLawful tables.now self.now }
+        ensures rate { (s : Setting) (m : Meter) → IsSettingOf s tables.now → Stands s self.now m → result ≡ rate_by s.tariff s.constant (context_of s m) }
+        ensures fit { AreFit tables.now.measure result }
+        ensures steps { steps.new ≤ steps.old + 36 }
+    {
+        let x = self.context(tables, steps);
+        tables.rate_at(&x, steps)
+    }
+
+    /// The context at the beginning of the running interval. The tariff position and the zone are 1.
+    fn context<L: Ledger>(&self, tables: &Tables, steps: &mut Steps<L>) -> Context
+        requires fit { IsFit tables.now }
+        requires lawful { IsLawful tables.now self.now }
+        ensures value { (s : Setting) (m : Meter) → IsSettingOf s tables.now → Stands s self.now m → result ≡ context_of s m }
+        ensures range { (t : Tree) → IsTablesOf t tables.now → IsInRangeOf t tables.now.constant result }
+        ensures steps { steps.new ≤ steps.old + 14 }
+    {
+        let local = local_at(self.second, steps);
+        Context {
+            constant: tables.constant(),
+            position: 1,
+            zone: 1,
+            weekday: local.weekday,
+            month_day: local.month_day,
+            holiday: tables.holiday(local.day, steps),
+            minute: local.minute,
+            pulses: self.pulses,
+            ticks: self.ticks,
         }
     }
 
     /// The trip expires, or else the key that waits acts.
-    fn act<L: Ledger>(&mut self, rates: &Rates, steps: &mut Steps<L>) -> Acts
-        requires fit { IsFit rates.now }
-        requires lawful { IsLawfulTo rates.now 8640000 self.old }
-        ensures lawful { IsLawful rates.now self.new }
-        ensures state { (m : Meter) → Stands rates.now self.old m → Stands rates.now self.new (acted rates.now m) }
-        ensures acts { (m : Meter) → Stands rates.now self.old m → result.items ≡ acts_acted m }
+    fn act<L: Ledger>(&mut self, tables: &Tables, steps: &mut Steps<L>) -> Acts
+        requires fit { IsFit tables.now }
+        requires lawful { IsLawfulTo tables.now 8640000 self.old }
+        ensures lawful { IsLawful tables.now self.new }
+        ensures state { (s : Setting) (m : Meter) → IsSettingOf s tables.now → Stands s self.old m → Stands s self.new (acted s m) }
+        ensures acts { (s : Setting) (m : Meter) → IsSettingOf s tables.now → Stands s self.old m → result.items ≡ acts_acted m }
         ensures few { length result.items ≤ 1 }
-        ensures steps { steps.new ≤ steps.old + 1 }
+        ensures steps { steps.new ≤ steps.old + hiring_steps self.old.operating }
     {
         if self.ticks >= LONGEST {
             self.expire()
         } else {
-            self.press(rates, steps)
+            self.press(tables, steps)
         }
     }
 
     /// The trip has reached its longest time.
     fn expire(&mut self) -> Acts
-        ensures lawful { (r : Rates) → IsFit r → IsLawfulTo r 8640000 self.old → IsLawful r self.new }
-        ensures state { (r : Rates) (m : Meter) → Stands r self.old m → Stands r self.new (expired m) }
-        ensures acts { (r : Rates) (m : Meter) → Stands r self.old m → result.items ≡ acts_expired m.latch }
+        ensures lawful { (t : TableParts) → IsFit t → IsLawfulTo t 8640000 self.old → IsLawful t self.new }
+        ensures state { (s : Setting) (m : Meter) → Stands s self.old m → Stands s self.new (expired m) }
+        ensures acts { (s : Setting) (m : Meter) → Stands s self.old m → result.items ≡ acts_expired m.latch }
         ensures few { length result.items ≤ 1 }
     {
         self.close();
@@ -252,47 +331,49 @@ impl Core {
 
     /// The trip is closed.
     fn close(&mut self)
-        ensures lawful { (r : Rates) (most : ℕ) → IsFit r → IsLawfulTo r most self.old → IsLawful r self.new }
-        ensures state { (r : Rates) (m : Meter) → Stands r self.old m → Stands r self.new (closed m) }
+        ensures lawful { (t : TableParts) (most : ℕ) → IsFit t → IsLawfulTo t most self.old → IsLawful t self.new }
+        ensures state { (s : Setting) (m : Meter) → Stands s self.old m → Stands s self.new (closed m) }
         ensures latch { self.new.latch ≡ self.old.latch }
     {
         self.operating = Operating::ForHire;
+        self.pulses = 0;
         self.ticks = 0;
+        self.initial = 0;
         self.meterage = NONE;
     }
 
     /// The key that waits acts.
-    fn press<L: Ledger>(&mut self, rates: &Rates, steps: &mut Steps<L>) -> Acts
-        requires fit { IsFit rates.now }
-        requires lawful { IsLawful rates.now self.old }
-        ensures lawful { IsLawful rates.now self.new }
-        ensures state { (m : Meter) → Stands rates.now self.old m → Stands rates.now self.new (keyed rates.now m) }
-        ensures acts { (m : Meter) → Stands rates.now self.old m → result.items ≡ acts_keyed m.latch m.operating }
+    fn press<L: Ledger>(&mut self, tables: &Tables, steps: &mut Steps<L>) -> Acts
+        requires fit { IsFit tables.now }
+        requires lawful { IsLawful tables.now self.old }
+        ensures lawful { IsLawful tables.now self.new }
+        ensures state { (s : Setting) (m : Meter) → IsSettingOf s tables.now → Stands s self.old m → Stands s self.new (keyed s m) }
+        ensures acts { (s : Setting) (m : Meter) → IsSettingOf s tables.now → Stands s self.old m → result.items ≡ acts_keyed m.latch m.operating }
         ensures few { length result.items ≤ 1 }
-        ensures steps { steps.new ≤ steps.old + 1 }
+        ensures steps { steps.new ≤ steps.old + hiring_steps self.old.operating }
     {
         match self.latch {
             None => Acts::new(),
             Some(key) => {
                 self.latch = None;
-                self.press_key(key, rates, steps)
+                self.press_key(key, tables, steps)
             }
         }
     }
 
     /// A key acts, or is refused in this operating position.
-    fn press_key<L: Ledger>(&mut self, key: Key, rates: &Rates, steps: &mut Steps<L>) -> Acts
-        requires fit { IsFit rates.now }
-        requires lawful { IsLawful rates.now self.old }
-        ensures lawful { IsLawful rates.now self.new }
-        ensures state { (m : Meter) → Stands rates.now self.old m → Stands rates.now self.new (pressed rates.now key m.operating m) }
-        ensures acts { (m : Meter) → Stands rates.now self.old m → result.items ≡ acts_pressed key m.operating }
+    fn press_key<L: Ledger>(&mut self, key: Key, tables: &Tables, steps: &mut Steps<L>) -> Acts
+        requires fit { IsFit tables.now }
+        requires lawful { IsLawful tables.now self.old }
+        ensures lawful { IsLawful tables.now self.new }
+        ensures state { (s : Setting) (m : Meter) → IsSettingOf s tables.now → Stands s self.old m → Stands s self.new (pressed s key m.operating m) }
+        ensures acts { (s : Setting) (m : Meter) → IsSettingOf s tables.now → Stands s self.old m → result.items ≡ acts_pressed key m.operating }
         ensures few { length result.items ≤ 1 }
-        ensures steps { steps.new ≤ steps.old + 1 }
+        ensures steps { steps.new ≤ steps.old + hiring_steps self.old.operating }
     {
         match (key, self.operating) {
             (Key::Hire, Operating::ForHire) => {
-                self.hire(rates, steps);
+                self.hire(tables, steps);
                 Acts::new()
             }
             (Key::Hire, Operating::Stopped) => {
@@ -312,29 +393,32 @@ impl Core {
     }
 
     /// A trip begins.
-    fn hire<L: Ledger>(&mut self, rates: &Rates, steps: &mut Steps<L>)
-        requires fit { IsFit rates.now }
-        requires lawful { IsLawful rates.now self.old }
-        ensures lawful { IsLawful rates.now self.new }
-        ensures state { (m : Meter) → Stands rates.now self.old m → Stands rates.now self.new (hired rates.now m) }
-        ensures step { steps.new ≡ steps.old + 1 }
+    fn hire<L: Ledger>(&mut self, tables: &Tables, steps: &mut Steps<L>)
+        requires fit { IsFit tables.now }
+        requires lawful { IsLawful tables.now self.old }
+        ensures lawful { IsLawful tables.now self.new }
+        ensures state { (s : Setting) (m : Meter) → IsSettingOf s tables.now → Stands s self.old m → Stands s self.new (hired s m) }
+        ensures steps { steps.new ≤ steps.old + 36 }
     {
+        let x = self.context(tables, steps);
+        let fee = tables.initial_at(&x, steps);
         self.operating = Operating::Hired;
+        self.pulses = 0;
         self.ticks = 0;
-        steps.spend();
-        self.meterage = Meterage::start(rates.covers, rates.measure);
+        self.initial = fee.amount;
+        self.meterage = Meterage::start(fee.covers, tables.measure());
     }
 
     /// The display is shown where it differs from the one that was last shown.
-    fn show(&mut self, rates: &Rates, acts: &mut Acts)
-        requires fit { IsFit rates.now }
-        requires lawful { IsLawful rates.now self.old }
+    fn show(&mut self, tables: &Tables, acts: &mut Acts)
+        requires fit { IsFit tables.now }
+        requires lawful { IsLawful tables.now self.old }
         requires room { length acts.old.items ≤ 1 }
-        ensures lawful { IsLawful rates.now self.new }
-        ensures state { (m : Meter) → Stands rates.now self.old m → Stands rates.now self.new (displayed rates.now m) }
-        ensures acts { (m : Meter) → Stands rates.now self.old m → acts.new.items ≡ acts.old.items ++ acts_shown m.shown (display_of rates.now m) }
+        ensures lawful { IsLawful tables.now self.new }
+        ensures state { (s : Setting) (m : Meter) → IsSettingOf s tables.now → Stands s self.old m → Stands s self.new (displayed s m) }
+        ensures acts { (s : Setting) (m : Meter) → IsSettingOf s tables.now → Stands s self.old m → acts.new.items ≡ acts.old.items ++ acts_shown m.shown (display_of s m) }
     {
-        let display = self.display(rates);
+        let display = self.display(tables);
         if !is_shown(&self.shown, &display) {
             acts.push(Act::Show(display));
         }
@@ -342,38 +426,42 @@ impl Core {
     }
 
     /// The display now.
-    fn display(&self, rates: &Rates) -> Display
-        requires fit { IsFit rates.now }
-        requires lawful { IsLawful rates.now self.now }
-        ensures { (m : Meter) → Stands rates.now self.now m → result ≡ display_of rates.now m }
+    fn display(&self, tables: &Tables) -> Display
+        requires fit { IsFit tables.now }
+        requires lawful { IsLawful tables.now self.now }
+        ensures { (s : Setting) (m : Meter) → IsSettingOf s tables.now → Stands s self.now m → result ≡ display_of s m }
     {
         Display {
             operating: self.operating,
             position: 1,
             zone: 1,
-            fare: self.fare(rates),
+            fare: self.fare(tables),
             supplements: 0,
-            decimals: rates.decimals,
+            decimals: tables.decimals(),
         }
     }
 
     /// The fare that is shown, which is 0 without a trip.
-    fn fare(&self, rates: &Rates) -> u64
-        requires fit { IsFit rates.now }
-        requires lawful { IsLawful rates.now self.now }
-        ensures { (m : Meter) → Stands rates.now self.now m → result ≡ fare_shown rates.now m m.operating }
+    fn fare(&self, tables: &Tables) -> u64
+        requires fit { IsFit tables.now }
+        requires lawful { IsLawful tables.now self.now }
+        ensures { (s : Setting) (m : Meter) → IsSettingOf s tables.now → Stands s self.now m → result ≡ fare_shown s m m.operating }
     {
         match self.operating {
             Operating::Off | Operating::ForHire => 0,
             Operating::Hired | Operating::Stopped => {
                 self.meterage
-                    .shown(rates.initial, rates.step, rates.rounding)
+                    .shown(self.initial, tables.step(), tables.rounding())
             }
         }
     }
 }
 
-/// A law: each act of the meter has a text. A display is never shown in Off.
-pub fn acts_are_showable()
-    ensures { (r : Rates) (m : Meter) (event : Event) → r.decimals ≤ 3 → All IsShowable (acts_of r m event) }
-{}
+/// What a display step takes, in units of charge.
+fn modulus(tables: &Tables) -> u128
+    requires { IsFit tables.now }
+    ensures value { result ≡ tables.now.step * tables.now.measure }
+    ensures range { (0 < result) × (result ≤ 2 * 10 ^ 29) }
+{
+    tables.step() as u128 * tables.measure()
+}

@@ -1,16 +1,19 @@
 //! A rate of 0.20 for 117.4 m and 0.20 for 25.2 s, rounded ahead, and an initial hire fee of 3.80 that
 //! covers 0.40, under a constant of 10,000. The time of 504 intervals is the cover exactly, and so is
 //! the distance of 2,348 pulses; the time of 252 further intervals is a display step exactly.
-ghost use Rattle.std.specs.Prelude.{◌≡◌, ◌<◌};
-ghost use Rattle.meter_states.specs.Rates.{IsFit};
+ghost use Rattle.std.specs.Prelude.{◌≡◌, ◌<◌, IfSome, IsTrue};
+ghost use Rattle.meter_states.specs.Core.{IsTimely};
+ghost use Rattle.tariff_compile.specs.Tables.{IsFit};
 
-use crate::{Act, Core, Rates};
-use drive_modes::{Rounding, Weights};
+use crate::{Act, Core};
 use pulse_input::Constant;
+use std::alloc::Global;
 use std::marker::Brand;
 use std::process::Abort;
 use std::sync::ledger::{Blank, Ledger};
-use tariff_syntax::{Simple, common_measure};
+use tariff_check::check;
+use tariff_compile::{Tables, compile};
+use tariff_syntax::{parse, texts_have_their_numbers};
 use taxi_units::{Display, Event, Key, Operating, Steps, Why};
 
 /// So many times: events without acts, and then an event with these acts.
@@ -40,82 +43,96 @@ const fn shown(operating: Operating, fare: u64) -> Act {
     })
 }
 
-/// The weights of the tariff.
-fn rates(rt: &impl Abort) -> Rates
-    ensures { IsFit result }
+const PLAIN: &str = "step 0.20 ahead
+initial 3.80 covers 0.40
+rate 0.20 per 117.4 m, 0.20 per 25.2 s
+";
+
+/// A dearer rate from 5 m on, and a hire fee that holds on a Thursday.
+const CONDITIONS: &str = "step 0.20 ahead
+initial 3.80 covers 0.40 when day thu
+initial 9.00
+rate 0.40 per 117.4 m, 0.20 per 25.2 s when after 5.0 m
+rate 0.20 per 117.4 m, 0.20 per 25.2 s
+";
+
+/// The tables of a text's tariff. `None` where there are none.
+fn compiled(alloc: Global, text: &str) -> Option<Tables>
+    ensures { IfSome result IsFit }
 {
-    let tariff = Simple {
-        decimals: 2,
-        step: 20,
-        rounding: Rounding::Ahead,
-        initial: 380,
-        covers: 40,
-        a: 20,
-        b: 1174,
-        c: 20,
-        e: 252,
-    };
-    assert_eq!(rt; common_measure(1174, 252), 147_924);
-    Rates::new(&tariff, Constant::new(10_000).unwrap())
+    let tariff = parse(alloc, text.as_bytes()).ok()?;
+    texts_have_their_numbers();
+    let checked = check(alloc, tariff).ok()?;
+    compile(alloc, &checked, Constant::new(10_000).ok()?).ok()
+}
+
+/// Whether an event's second is one that a clock may show.
+fn is_timely(event: Event) -> bool
+    ensures { IsTrue result → IsTimely event }
+{
+    match event {
+        Event::Up(second) | Event::Clock(second) => {
+            946_684_800 <= second && second <= 7_258_118_399
+        }
+        Event::Down | Event::Pulses(_) | Event::Tick | Event::Key(_) => true,
+    }
 }
 
 /// Carries out rows, one after the other, on a meter that is off.
-fn follow<L: Ledger>(blank: Blank, rt: &impl Abort, rows: &[Row])
+fn follow<L: Ledger>(blank: Blank, rt: &impl Abort, tables: &Tables, rows: &[Row])
+    requires fit { IsFit tables.now }
     requires name { blank.name ≡ L.name }
     requires parts { blank.parts ≡ L.parts }
     requires one { 0 < blank.parts }
 {
-    let rates = rates(rt);
     let mut steps: Steps<L> = Steps::open(blank);
     let mut core = Core::off();
     for (place, (times, before, event, want)) in rows.iter().enumerate() {
         for _ in 0..*times {
             for event in *before {
-                let acts = core.step(&rates, *event, &mut steps);
+                assert!(rt; is_timely(*event));
+                let acts = core.step(tables, *event, &mut steps);
                 assert!(rt; acts.is_empty(), "row {place}: {acts:?}");
             }
-            let acts = core.step(&rates, *event, &mut steps);
+            assert!(rt; is_timely(*event));
+            let acts = core.step(tables, *event, &mut steps);
             assert_eq!(rt; acts.as_slice(), *want, "row {place}");
         }
     }
 }
 
+/// Carries out rows under a text's tariff.
+fn follow_under(alloc: Global, rt: &impl Abort, text: &str, rows: &[Row]) {
+    let Some(tables) = compiled(alloc, text) else {
+        panic!(rt; "no tables");
+    };
+    follow::<Brand>(Blank::new(1), rt, &tables, rows);
+}
+
 /// Carries out a trip of 8,640,000 intervals without pulses, in the last of which a key is pressed.
-fn expire<L: Ledger>(blank: Blank, rt: &impl Abort)
+fn expire<L: Ledger>(blank: Blank, rt: &impl Abort, tables: &Tables)
+    requires fit { IsFit tables.now }
     requires name { blank.name ≡ L.name }
     requires parts { blank.parts ≡ L.parts }
     requires one { 0 < blank.parts }
 {
-    let rates = rates(rt);
     let mut steps: Steps<L> = Steps::open(blank);
     let mut core = Core::off();
     for event in [UP, HIRE, Event::Tick] {
-        core.step(&rates, event, &mut steps);
+        core.step(tables, event, &mut steps);
     }
     let mut last = None;
     for _ in 0..8_639_999 {
-        if let Some(act) = core.step(&rates, Event::Tick, &mut steps).last() {
+        if let Some(act) = core.step(tables, Event::Tick, &mut steps).last() {
             last = Some(*act);
         }
     }
     assert_eq!(rt; last, Some(shown(Operating::Hired, 686_060)));
-    core.step(&rates, STOP, &mut steps);
-    let acts = core.step(&rates, Event::Tick, &mut steps);
+    core.step(tables, STOP, &mut steps);
+    let acts = core.step(tables, Event::Tick, &mut steps);
     let want = [Act::Refuse(Why::Expired), shown(Operating::ForHire, 0)];
     assert_eq!(rt; acts.as_slice(), want.as_slice());
     assert_eq!(rt; core.operating(), Operating::ForHire);
-}
-
-#[test]
-fn weighs_a_tariff(rt: HostRuntime) {
-    let rates = rates(&rt);
-    let weights = Weights {
-        per_pulse: 25_200_000,
-        per_tick: 117_400_000,
-    };
-    assert_eq!(rt; rates.weights, weights);
-    assert_eq!(rt; rates.measure, 1_479_240_000);
-    assert_eq!(rt; rates.modulus(), 29_584_800_000);
 }
 
 #[test]
@@ -146,7 +163,7 @@ fn refuses(rt: HostRuntime) {
         (1, &[Event::Key(Key::Extra(1))], Event::Tick, NOT_NOW),
         (1, &[], Event::Tick, &[]),
     ];
-    follow::<Brand>(Blank::new(1), &rt, &rows);
+    follow_under(rt.alloc(), &rt, PLAIN, &rows);
 }
 
 #[test]
@@ -189,10 +206,35 @@ fn charges_trips(rt: HostRuntime) {
         ),
         (1, &[CLEAR], Event::Tick, &[shown(Operating::ForHire, 0)]),
     ];
-    follow::<Brand>(Blank::new(1), &rt, &rows);
+    follow_under(rt.alloc(), &rt, PLAIN, &rows);
 }
 
 #[test]
 fn ends_the_longest_trip(rt: HostRuntime) {
-    expire::<Brand>(Blank::new(1), &rt);
+    let Some(tables) = compiled(rt.alloc(), PLAIN) else {
+        panic!(&rt; "no tables");
+    };
+    expire::<Brand>(Blank::new(1), &rt, &tables);
+}
+
+#[test]
+fn asks_at_the_beginning_of_an_interval(rt: HostRuntime) {
+    let rows: [Row; 8] = [
+        // 1 January 2026 is a Thursday
+        (1, &[], UP, &[shown(Operating::ForHire, 0)]),
+        (1, &[HIRE], Event::Tick, &[shown(Operating::Hired, 380)]),
+        // 50 pulses are 5 m: the interval in which they come is charged as before, the next one twice as dear
+        (1, &[Event::Pulses(50)], Event::Tick, &[]),
+        (57, &[Event::Pulses(20)], Event::Tick, &[]),
+        (1, &[Event::Pulses(9)], Event::Tick, &[]),
+        (
+            1,
+            &[Event::Pulses(1)],
+            Event::Tick,
+            &[shown(Operating::Hired, 400)],
+        ),
+        (1, &[STOP], Event::Tick, &[shown(Operating::Stopped, 400)]),
+        (1, &[CLEAR], Event::Tick, &[shown(Operating::ForHire, 0)]),
+    ];
+    follow_under(rt.alloc(), &rt, CONDITIONS, &rows);
 }

@@ -1,12 +1,12 @@
 use Rattle.meter_states.specs.Core.{IsLawful}
-use Rattle.meter_states.specs.Rates.{IsFit}
+use Rattle.tariff_compile.specs.Tables.{IsFit}
 use Rattle.meter_states.proofs.tests.follow.Given as goal
 
 abbrev pub invariant-loop-event : goal.invariant-loop-event
-invariant-loop-event g l = IsFit l.rates × IsLawful l.rates l.core
+invariant-loop-event g l = IsFit l.tables × IsLawful l.tables l.core
 
 abbrev pub invariant-loop : goal.invariant-loop
-invariant-loop g l = IsFit l.rates × IsLawful l.rates l.core
+invariant-loop g l = IsFit l.tables × IsLawful l.tables l.core
 
 abbrev pub invariant-loop-place : goal.invariant-loop-place
-invariant-loop-place g l = IsFit l.rates × IsLawful l.rates l.core
+invariant-loop-place g l = IsFit l.tables × IsLawful l.tables l.core
