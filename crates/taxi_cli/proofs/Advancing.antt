@@ -9,7 +9,7 @@ use Rattle.drive_text.specs.Runs.{run_events}
 use Rattle.drive_text.specs.Drive.{events_in, first_bad}
 use Rattle.drive_text.specs.Reading.{HasTaken, AddsRuns}
 use Rattle.drive_text.proofs.Cuts.{events_in-append}
-use Rattle.meter_states.specs.declared.rates.Rates.{Rates}
+use Rattle.tariff_compile.specs.Tables.{TableParts}
 use Rattle.meter_states.specs.Core.{IsLawful}
 use Rattle.taxi_cli.specs.declared.pieces.PieceFault.{PieceFault}
 use Rattle.taxi_cli.specs.declared.pieces.PieceFault.TheVariants.{Board, BadLine}
@@ -18,21 +18,21 @@ use Rattle.taxi_cli.specs.Pieces.{Place, Advances, IsCutWithin, StopsAt}
 use Rattle.taxi_cli.proofs.Carrying.{carries-none, carries-then, stops-then, stops-longer, bounded-then}
 
 -- no bytes advance nothing
-pub advances-none : (told : Type 0) (r : Rates) (a : Place) → IsLawful r a.core → Advances told r a a []
-advances-none told r a lawful =
+pub advances-none : (told : Type 0) (tables : TableParts) (a : Place) → IsLawful tables a.core → Advances told tables a a []
+advances-none told tables a lawful =
     record {
       meaning = [];
       taken = λ b h. subst (λ (bytes : List ℕ). HasTaken a.reading bytes) (sym (append-nil b)) h;
       events = λ b h. ap events_in (append-nil b) ∙ sym (append-nil (events_in b));
-      carried = carries-none told r a.core a.printed lawful;
+      carried = carries-none told tables a.core a.printed lawful;
       bounded = omega arith;
     }
 
 -- the runs that a reader gave for bytes were carried out
-pub advances-runs : (told : Type 0) (r : Rates) (a b : Place) (bytes : List ℕ) (runs : List Run) → AddsRuns a.reading bytes [] runs
+pub advances-runs : (told : Type 0) (tables : TableParts) (a b : Place) (bytes : List ℕ) (runs : List Run) → AddsRuns a.reading bytes [] runs
     → ((before : List ℕ) → HasTaken a.reading before → HasTaken b.reading (before ++ bytes))
-    → Carries told r a.core b.core (flat_map run_events runs) a.printed b.printed → IsBounded a.steps b.steps (flat_map run_events runs) → Advances told r a b bytes
-advances-runs told r a b bytes runs adds taken carried bounded =
+    → Carries told tables a.core b.core (flat_map run_events runs) a.printed b.printed → IsBounded a.steps b.steps (flat_map run_events runs) → Advances told tables a b bytes
+advances-runs told tables a b bytes runs adds taken carried bounded =
     record {
       meaning = flat_map run_events runs;
       taken = taken;
@@ -42,17 +42,17 @@ advances-runs told r a b bytes runs adds taken carried bounded =
     }
 
 -- the board failed while the runs that a reader gave for bytes were carried out
-pub cut-runs : (told : Type 0) (r : Rates) (a b : Place) (bytes more : List ℕ) (runs : List Run) → AddsRuns a.reading bytes [] runs
-    → Stops told r a.core (flat_map run_events runs) a.printed b.printed → IsBounded a.steps b.steps (flat_map run_events runs)
-    → (before : List ℕ) → HasTaken a.reading before → IsCutWithin told r a b before (bytes ++ more)
-cut-runs told r a b bytes more runs adds stopped bounded before h =
+pub cut-runs : (told : Type 0) (tables : TableParts) (a b : Place) (bytes more : List ℕ) (runs : List Run) → AddsRuns a.reading bytes [] runs
+    → Stops told tables a.core (flat_map run_events runs) a.printed b.printed → IsBounded a.steps b.steps (flat_map run_events runs)
+    → (before : List ℕ) → HasTaken a.reading before → IsCutWithin told tables a b before (bytes ++ more)
+cut-runs told tables a b bytes more runs adds stopped bounded before h =
     let later = events_in-append (before ++ bytes) more in
     let es = flat_map run_events runs in
     let here : events_in (before ++ bytes) ≡ events_in before ++ es = adds.events before h ∙ ap (λ (rs : List Run). events_in before ++ flat_map run_events rs) (sym adds.added) in
     record {
       meaning = es ++ later.0;
       events = ap events_in (sym (append_assoc before bytes more)) ∙ later.1 ∙ ap (λ (t : List Event). t ++ later.0) here ∙ append_assoc (events_in before) es later.0;
-      stopped = stops-longer told r a.core es later.0 a.printed b.printed stopped;
+      stopped = stops-longer told tables a.core es later.0 a.printed b.printed stopped;
       bounded = bounded-more a.steps b.steps es later.0 bounded;
     }
   where
@@ -60,8 +60,8 @@ cut-runs told r a b bytes more runs adds stopped bounded before h =
     bounded-more x y es fs h = bounded-then x y y es fs h (omega arith)
 
 -- further bytes after those that were carried out
-pub advances-then : (told : Type 0) (r : Rates) (a b c : Place) (bytes more : List ℕ) → Advances told r a b bytes → Advances told r b c more → Advances told r a c (bytes ++ more)
-advances-then told r a b c bytes more first next =
+pub advances-then : (told : Type 0) (tables : TableParts) (a b c : Place) (bytes more : List ℕ) → Advances told tables a b bytes → Advances told tables b c more → Advances told tables a c (bytes ++ more)
+advances-then told tables a b c bytes more first next =
     record {
       meaning = first.meaning ++ next.meaning;
       taken = λ before h. subst (λ (t : List ℕ). HasTaken c.reading t) (append_assoc before bytes more) (next.taken (before ++ bytes) (first.taken before h));
@@ -70,25 +70,25 @@ advances-then told r a b c bytes more first next =
           ∙ next.events (before ++ bytes) (first.taken before h)
           ∙ ap (λ (t : List Event). t ++ next.meaning) (first.events before h)
           ∙ append_assoc (events_in before) first.meaning next.meaning;
-      carried = carries-then told r a.core b.core c.core first.meaning next.meaning a.printed b.printed c.printed first.carried next.carried;
+      carried = carries-then told tables a.core b.core c.core first.meaning next.meaning a.printed b.printed c.printed first.carried next.carried;
       bounded = bounded-then a.steps b.steps c.steps first.meaning next.meaning first.bounded next.bounded;
     }
 
 -- a cut after bytes that were carried out
-pub cut-then : (told : Type 0) (r : Rates) (a b c : Place) (bytes more before : List ℕ) → HasTaken a.reading before → Advances told r a b bytes → IsCutWithin told r b c (before ++ bytes) more → IsCutWithin told r a c before (bytes ++ more)
-cut-then told r a b c bytes more before h first next =
+pub cut-then : (told : Type 0) (tables : TableParts) (a b c : Place) (bytes more before : List ℕ) → HasTaken a.reading before → Advances told tables a b bytes → IsCutWithin told tables b c (before ++ bytes) more → IsCutWithin told tables a c before (bytes ++ more)
+cut-then told tables a b c bytes more before h first next =
     record {
       meaning = first.meaning ++ next.meaning;
       events = ap events_in (sym (append_assoc before bytes more)) ∙ next.events ∙ ap (λ (t : List Event). t ++ next.meaning) (first.events before h) ∙ append_assoc (events_in before) first.meaning next.meaning;
-      stopped = stops-then told r a.core b.core first.meaning next.meaning a.printed b.printed c.printed first.carried next.stopped;
+      stopped = stops-then told tables a.core b.core first.meaning next.meaning a.printed b.printed c.printed first.carried next.stopped;
       bounded = bounded-then a.steps b.steps c.steps first.meaning next.meaning first.bounded next.bounded;
     }
 
 -- a stop after bytes that were carried out
-pub stops-at_more : (told : Type 0) (r : Rates) (a b c : Place) (bytes more : List ℕ) (fault : PieceFault) → Advances told r a b bytes → StopsAt told r b c more fault → StopsAt told r a c (bytes ++ more) fault
-stops-at_more told r a b c bytes more Board first next = λ before h. cut-then told r a b c bytes more before h first (next (before ++ bytes) (first.taken before h))
-stops-at_more told r a b c bytes more (BadLine line) first next = (
-  advances-then told r a b c bytes more first next.0,
+pub stops-at_more : (told : Type 0) (tables : TableParts) (a b c : Place) (bytes more : List ℕ) (fault : PieceFault) → Advances told tables a b bytes → StopsAt told tables b c more fault → StopsAt told tables a c (bytes ++ more) fault
+stops-at_more told tables a b c bytes more Board first next = λ before h. cut-then told tables a b c bytes more before h first (next (before ++ bytes) (first.taken before h))
+stops-at_more told tables a b c bytes more (BadLine line) first next = (
+  advances-then told tables a b c bytes more first next.0,
   λ before h. ap first_bad (sym (append_assoc before bytes more)) ∙ next.1 (before ++ bytes) (first.taken before h),
 )
 

@@ -9,10 +9,11 @@ use Rattle.taxi_units.specs.declared.event.Event.{Event}
 use Rattle.drive_text.specs.Drive.{events_in, first_bad, bad_at_end}
 use Rattle.drive_text.specs.Reading.{Reading, HasTaken}
 use Rattle.drive_text.proofs.Cuts.{first_bad-append, events_in-append_bad}
-use Rattle.meter_states.specs.declared.rates.Rates.{Rates}
+use Rattle.tariff_compile.specs.Tables.{TableParts, IsCompiled}
+use Rattle.meter_states.specs.Setting.{Setting, IsSettingOf}
 use Rattle.meter_states.specs.Meter.{Meter, off}
 use Rattle.meter_states.specs.Core.{Plain, Stands, IsLawful}
-use Rattle.taxi_cli.specs.Running.{state_after, run_text, IsBounded}
+use Rattle.taxi_cli.specs.Running.{state_after, run_text, IsUnderWay, IsBounded}
 use Rattle.taxi_cli.specs.Pieces.{Place, Advances, IsCutWithin, StopsAt}
 use Rattle.taxi_cli.specs.Drive.{Whole, BadAt, Endless, drive_limit, drive_end, end_by, drive_text, IsSplit, StopsAfter, ReachesEnd, IsBoundedBy, RunsDrive, end_at, fault_of}
 use Rattle.taxi_cli.specs.declared.pieces.PieceFault.{PieceFault}
@@ -22,55 +23,66 @@ use Rattle.taxi_cli.specs.declared.drive.RunFault.{RunFault}
 use Rattle.taxi_cli.proofs.Carrying.{state_after-append, run_text-append}
 
 -- how far a drive has come: the bytes that were taken, and what they have left
-pub record IsSoFar (tells told : Type 0) (r : Rates) (core : Plain) (reading : Reading) (drive rest before now : List ℕ) (steps0 steps left : ℕ) : Type 0 where
+pub record IsSoFar (tells told : Type 0) (tables : TableParts) (core : Plain) (reading : Reading) (drive rest before now : List ℕ) (steps0 steps left : ℕ) : Type 0 where
   pub taken : List ℕ
   pub split : tells → drive ≡ taken ++ rest
   pub read : HasTaken reading taken
-  pub lawful : IsLawful r core
-  pub stands : Stands r core (state_after r off (events_in taken))
-  pub printed : told → now ≡ before ++ run_text r off (events_in taken)
+  pub lawful : IsLawful tables core
+  pub compiled : IsCompiled tables
+  pub stands : (w : Setting) → IsSettingOf w tables → Stands w core (state_after w off (events_in taken))
+  pub printed : told → (w : Setting) → IsSettingOf w tables → now ≡ before ++ run_text w off (events_in taken)
   pub bounded : IsBounded steps0 steps (events_in taken)
   pub good : first_bad taken ≡ None
   pub count : length taken + left ≡ drive_limit
 
 -- the beginning
-pub so_far-none : (tells told : Type 0) (r : Rates) (core : Plain) (reading : Reading) (drive before : List ℕ) (steps : ℕ) → HasTaken reading [] → IsLawful r core → Stands r core off
-    → IsSoFar tells told r core reading drive drive before before steps steps drive_limit
-so_far-none tells told r core reading drive before steps read lawful stands =
+pub so_far-none : (tells told : Type 0) (tables : TableParts) (core : Plain) (reading : Reading) (drive before : List ℕ) (steps : ℕ) → HasTaken reading [] → IsLawful tables core → IsCompiled tables → ((w : Setting) → Stands w core off)
+    → IsSoFar tells told tables core reading drive drive before before steps steps drive_limit
+so_far-none tells told tables core reading drive before steps read lawful compiled stands =
     record {
       taken = [];
       split = λ t. refl;
       read = read;
       lawful = lawful;
-      stands = stands;
-      printed = λ t. sym (append-nil before);
+      compiled = compiled;
+      stands = λ w is. stands w;
+      printed = λ t w is. sym (append-nil before);
       bounded = omega arith;
       good = refl;
       count = omega arith;
     }
 
 -- the events after those of the bytes that were taken
-pub meaning-run : (r : Rates) (taken piece : List ℕ) (meaning : List Event) → events_in (taken ++ piece) ≡ events_in taken ++ meaning
-    → run_text r off (events_in (taken ++ piece)) ≡ run_text r off (events_in taken) ++ run_text r (state_after r off (events_in taken)) meaning
-meaning-run r taken piece meaning e = ap (run_text r off) e ∙ run_text-append r off (events_in taken) meaning
+pub meaning-run : (w : Setting) (taken piece : List ℕ) (meaning : List Event) → events_in (taken ++ piece) ≡ events_in taken ++ meaning
+    → run_text w off (events_in (taken ++ piece)) ≡ run_text w off (events_in taken) ++ run_text w (state_after w off (events_in taken)) meaning
+meaning-run w taken piece meaning e = ap (run_text w off) e ∙ run_text-append w off (events_in taken) meaning
+
+-- the core is under way
+pub under_way-so_far : (tells told : Type 0) (tables : TableParts) (core : Plain) (reading : Reading) (drive rest before now : List ℕ) (steps0 steps left : ℕ)
+    → IsSoFar tells told tables core reading drive rest before now steps0 steps left → IsUnderWay tables core
+under_way-so_far tells told tables core reading drive rest before now steps0 steps left s =
+    let w : Setting = record { tariff = s.compiled.0; constant = tables.constant } in
+    let is : IsSettingOf w tables = record { constant = refl; tables = s.compiled.1 } in
+    record { setting = w; meter = state_after w off (events_in s.taken); is = is; stands = s.stands w is }
 
 -- a piece further
-pub so_far-piece : (tells told : Type 0) (r : Rates) (a b : Place) (drive rest rest' before : List ℕ) (steps0 left left' : ℕ) (piece : List ℕ)
-    → (s : IsSoFar tells told r a.core a.reading drive rest before a.printed steps0 a.steps left) → (tells → rest ≡ piece ++ rest') → Advances told r a b piece → first_bad (s.taken ++ piece) ≡ None → left ≡ length piece + left'
-    → IsSoFar tells told r b.core b.reading drive rest' before b.printed steps0 b.steps left'
-so_far-piece tells told r a b drive rest rest' before steps0 left left' piece s split next good count =
+pub so_far-piece : (tells told : Type 0) (tables : TableParts) (a b : Place) (drive rest rest' before : List ℕ) (steps0 left left' : ℕ) (piece : List ℕ)
+    → (s : IsSoFar tells told tables a.core a.reading drive rest before a.printed steps0 a.steps left) → (tells → rest ≡ piece ++ rest') → Advances told tables a b piece → first_bad (s.taken ++ piece) ≡ None → left ≡ length piece + left'
+    → IsSoFar tells told tables b.core b.reading drive rest' before b.printed steps0 b.steps left'
+so_far-piece tells told tables a b drive rest rest' before steps0 left left' piece s split next good count =
     let e = next.events s.taken s.read in
     record {
       taken = s.taken ++ piece;
       split = λ t. s.split t ∙ ap (λ (xs : List ℕ). s.taken ++ xs) (split t) ∙ sym (append_assoc s.taken piece rest');
       read = next.taken s.taken s.read;
       lawful = next.carried.lawful;
-      stands = subst (λ (m : Meter). Stands r b.core m) (sym (ap (state_after r off) e ∙ state_after-append r off (events_in s.taken) next.meaning)) (next.carried.state (state_after r off (events_in s.taken)) s.stands);
-      printed = λ t.
-          next.carried.printed t (state_after r off (events_in s.taken)) s.stands
-          ∙ ap (λ (p : List ℕ). p ++ run_text r (state_after r off (events_in s.taken)) next.meaning) (s.printed t)
-          ∙ append_assoc before (run_text r off (events_in s.taken)) (run_text r (state_after r off (events_in s.taken)) next.meaning)
-          ∙ ap (λ (p : List ℕ). before ++ p) (sym (meaning-run r s.taken piece next.meaning e));
+      compiled = s.compiled;
+      stands = λ w is. subst (λ (m : Meter). Stands w b.core m) (sym (ap (state_after w off) e ∙ state_after-append w off (events_in s.taken) next.meaning)) (next.carried.state w (state_after w off (events_in s.taken)) is (s.stands w is));
+      printed = λ t w is.
+          next.carried.printed t w (state_after w off (events_in s.taken)) is (s.stands w is)
+          ∙ ap (λ (p : List ℕ). p ++ run_text w (state_after w off (events_in s.taken)) next.meaning) (s.printed t w is)
+          ∙ append_assoc before (run_text w off (events_in s.taken)) (run_text w (state_after w off (events_in s.taken)) next.meaning)
+          ∙ ap (λ (p : List ℕ). before ++ p) (sym (meaning-run w s.taken piece next.meaning e));
       bounded = omega (arith, s.bounded, next.bounded, ap length e, length-append (events_in s.taken) next.meaning);
       good = good;
       count = omega (arith, s.count, count, length-append s.taken piece);
@@ -82,8 +94,8 @@ so_far-piece tells told r a b drive rest rest' before steps0 left left' piece s 
 take-limit : (drive : List ℕ) → length drive ≤ drive_limit → take drive_limit drive ≡ drive
 take-limit drive h = take_all drive_limit drive h
 
-pub drive_text-within : (r : Rates) (drive : List ℕ) → length drive ≤ drive_limit → drive_text r drive ≡ run_text r off (events_in drive)
-drive_text-within r drive h = ap (λ (d : List ℕ). run_text r off (events_in d)) (take-limit drive h)
+pub drive_text-within : (w : Setting) (drive : List ℕ) → length drive ≤ drive_limit → drive_text w drive ≡ run_text w off (events_in drive)
+drive_text-within w drive h = ap (λ (d : List ℕ). run_text w off (events_in d)) (take-limit drive h)
 
 -- of bytes with more behind them, the first up to the limit
 take-front : (c left : List ℕ) → length c ≤ drive_limit → take drive_limit (c ++ left) ≡ c ++ take (drive_limit - length c) left
@@ -110,10 +122,10 @@ end-bad c left n h bad =
     end_either (c ++ left) n (ltb (length (c ++ left)) drive_limit) refl (first_bad-append c left n bad)
     (ap first_bad (take-front c left h) ∙ first_bad-append c (take (drive_limit - length c) left) n bad)
 
-pub drive_text-bad : (r : Rates) (c left : List ℕ) (n : ℕ) → length c ≤ drive_limit → first_bad c ≡ Some n → drive_text r (c ++ left) ≡ run_text r off (events_in c)
-drive_text-bad r c left n h bad =
-    ap (λ (d : List ℕ). run_text r off (events_in d)) (take-front c left h)
-    ∙ ap (run_text r off) (events_in-append_bad c (take (drive_limit - length c) left) n bad)
+pub drive_text-bad : (w : Setting) (c left : List ℕ) (n : ℕ) → length c ≤ drive_limit → first_bad c ≡ Some n → drive_text w (c ++ left) ≡ run_text w off (events_in c)
+drive_text-bad w c left n h bad =
+    ap (λ (d : List ℕ). run_text w off (events_in d)) (take-front c left h)
+    ∙ ap (run_text w off) (events_in-append_bad c (take (drive_limit - length c) left) n bad)
 
 -- as many bytes as may be taken, none of them in a bad line
 take-exact : (c left : List ℕ) → length c ≡ drive_limit → take drive_limit (c ++ left) ≡ c
@@ -128,36 +140,36 @@ end-endless c left h good =
     let front : first_bad (take drive_limit (c ++ left)) ≡ None = ap first_bad (take-exact c left h) ∙ good in
     rw (long, front) refl
 
-pub drive_text-endless : (r : Rates) (c left : List ℕ) → length c ≡ drive_limit → drive_text r (c ++ left) ≡ run_text r off (events_in c)
-drive_text-endless r c left h = ap (λ (d : List ℕ). run_text r off (events_in d)) (take-exact c left h)
+pub drive_text-endless : (w : Setting) (c left : List ℕ) → length c ≡ drive_limit → drive_text w (c ++ left) ≡ run_text w off (events_in c)
+drive_text-endless w c left h = ap (λ (d : List ℕ). run_text w off (events_in d)) (take-exact c left h)
 
 -- ---- from how far it has come
 
-whole_by : (told : Type 0) (r : Rates) (drive left before now : List ℕ) (o : Option ℕ) → bad_at_end drive ≡ o → length drive < drive_limit → (told → now ≡ before ++ run_text r off (events_in drive)) → RunsDrive told r drive left (end_at o) before now
-whole_by told r drive left before now None e h printed =
-    record { end_is = end-whole drive None h e; printed = λ t. printed t ∙ ap (λ (x : List ℕ). before ++ x) (sym (drive_text-within r drive (omega arith))) }
-whole_by told r drive left before now (Some n) e h printed =
-    record { end_is = end-whole drive (Some n) h e; printed = λ t. printed t ∙ ap (λ (x : List ℕ). before ++ x) (sym (drive_text-within r drive (omega arith))) }
+whole_by : (told : Type 0) (tables : TableParts) (drive left before now : List ℕ) (o : Option ℕ) → bad_at_end drive ≡ o → length drive < drive_limit → (told → (w : Setting) → IsSettingOf w tables → now ≡ before ++ run_text w off (events_in drive)) → RunsDrive told tables drive left (end_at o) before now
+whole_by told tables drive left before now None e h printed =
+    record { end_is = end-whole drive None h e; printed = λ t w is. printed t w is ∙ ap (λ (x : List ℕ). before ++ x) (sym (drive_text-within w drive (omega arith))) }
+whole_by told tables drive left before now (Some n) e h printed =
+    record { end_is = end-whole drive (Some n) h e; printed = λ t w is. printed t w is ∙ ap (λ (x : List ℕ). before ++ x) (sym (drive_text-within w drive (omega arith))) }
 
 -- the drive was read to its end
-pub ends-whole : (tells told : Type 0) (r : Rates) (core : Plain) (reading : Reading) (drive rest rest' before now : List ℕ) (steps0 steps left : ℕ) (result : Result (Unit {0}) RunFault)
-    → IsSoFar tells told r core reading drive rest before now steps0 steps left → 0 < left → (tells → rest ≡ []) → ((d : List ℕ) → HasTaken reading d → result ≡ end_at (bad_at_end d))
-    → tells → RunsDrive told r drive rest' result before now
-ends-whole tells told r core reading drive rest rest' before now steps0 steps left result s some empty answer t =
+pub ends-whole : (tells told : Type 0) (tables : TableParts) (core : Plain) (reading : Reading) (drive rest rest' before now : List ℕ) (steps0 steps left : ℕ) (result : Result (Unit {0}) RunFault)
+    → IsSoFar tells told tables core reading drive rest before now steps0 steps left → 0 < left → (tells → rest ≡ []) → ((d : List ℕ) → HasTaken reading d → result ≡ end_at (bad_at_end d))
+    → tells → RunsDrive told tables drive rest' result before now
+ends-whole tells told tables core reading drive rest rest' before now steps0 steps left result s some empty answer t =
     let whole : drive ≡ s.taken = s.split t ∙ ap (λ (xs : List ℕ). s.taken ++ xs) (empty t) ∙ append-nil s.taken in
     let short : length s.taken < drive_limit = omega (arith, s.count) in
-    let ends : RunsDrive told r s.taken rest' (end_at (bad_at_end s.taken)) before now = whole_by told r s.taken rest' before now (bad_at_end s.taken) refl short s.printed in
-    subst (λ (d : List ℕ). RunsDrive told r d rest' result before now) (sym whole)
-    (subst (λ (x : Result (Unit {0}) RunFault). RunsDrive told r s.taken rest' x before now) (sym (answer s.taken s.read)) ends)
+    let ends : RunsDrive told tables s.taken rest' (end_at (bad_at_end s.taken)) before now = whole_by told tables s.taken rest' before now (bad_at_end s.taken) refl short s.printed in
+    subst (λ (d : List ℕ). RunsDrive told tables d rest' result before now) (sym whole)
+    (subst (λ (x : Result (Unit {0}) RunFault). RunsDrive told tables s.taken rest' x before now) (sym (answer s.taken s.read)) ends)
 
 -- a read failed
-pub stops-read : (tells told : Type 0) (r : Rates) (core : Plain) (reading : Reading) (drive rest rest' before now : List ℕ) (steps0 steps left : ℕ)
-    → IsSoFar tells told r core reading drive rest before now steps0 steps left → (tells → rest' ≡ rest) → tells → StopsAfter drive rest' told (λ taken. now ≡ before ++ drive_text r taken)
-stops-read tells told r core reading drive rest rest' before now steps0 steps left s kept t =
+pub stops-read : (tells told : Type 0) (tables : TableParts) (core : Plain) (reading : Reading) (drive rest rest' before now : List ℕ) (steps0 steps left : ℕ)
+    → IsSoFar tells told tables core reading drive rest before now steps0 steps left → (tells → rest' ≡ rest) → tells → StopsAfter drive rest' told (λ taken. (w : Setting) → IsSettingOf w tables → now ≡ before ++ drive_text w taken)
+stops-read tells told tables core reading drive rest rest' before now steps0 steps left s kept t =
     record {
       taken = s.taken;
       split = record { bytes = s.split t ∙ ap (λ (xs : List ℕ). s.taken ++ xs) (sym (kept t)) };
-      printed = λ told. s.printed told ∙ ap (λ (x : List ℕ). before ++ x) (sym (drive_text-within r s.taken (omega (arith, s.count))));
+      printed = λ told w is. s.printed told w is ∙ ap (λ (x : List ℕ). before ++ x) (sym (drive_text-within w s.taken (omega (arith, s.count))));
     }
 
 -- the bytes that were taken, with a further piece
@@ -165,24 +177,25 @@ further : (drive taken piece rest rest' : List ℕ) → drive ≡ taken ++ rest 
 further drive taken piece rest rest' e f = record { bytes = e ∙ ap (λ (xs : List ℕ). taken ++ xs) f ∙ sym (append_assoc taken piece rest') }
 
 -- the board failed in a piece
-pub stops-board : (tells told : Type 0) (r : Rates) (a b : Place) (drive rest rest' before piece : List ℕ) (steps0 left : ℕ)
-    → (s : IsSoFar tells told r a.core a.reading drive rest before a.printed steps0 a.steps left) → (tells → rest ≡ piece ++ rest') → length piece ≤ left → IsCutWithin told r a b s.taken piece
-    → tells → StopsAfter drive rest' told (λ taken. Begins before b.printed (drive_text r taken))
-stops-board tells told r a b drive rest rest' before piece steps0 left s split few cut t =
-    let m = state_after r off (events_in s.taken) in
-    let front = run_text r off (events_in s.taken) in
-    let text : drive_text r (s.taken ++ piece) ≡ front ++ run_text r m cut.meaning =
-    drive_text-within r (s.taken ++ piece) (omega (arith, s.count, length-append s.taken piece)) ∙ meaning-run r s.taken piece cut.meaning cut.events in
+pub stops-board : (tells told : Type 0) (tables : TableParts) (a b : Place) (drive rest rest' before piece : List ℕ) (steps0 left : ℕ)
+    → (s : IsSoFar tells told tables a.core a.reading drive rest before a.printed steps0 a.steps left) → (tells → rest ≡ piece ++ rest') → length piece ≤ left → IsCutWithin told tables a b s.taken piece
+    → tells → StopsAfter drive rest' told (λ taken. (w : Setting) → IsSettingOf w tables → Begins before b.printed (drive_text w taken))
+stops-board tells told tables a b drive rest rest' before piece steps0 left s split few cut t =
+    let text : (w : Setting) → drive_text w (s.taken ++ piece) ≡ run_text w off (events_in s.taken) ++ run_text w (state_after w off (events_in s.taken)) cut.meaning =
+    λ w. drive_text-within w (s.taken ++ piece) (omega (arith, s.count, length-append s.taken piece)) ∙ meaning-run w s.taken piece cut.meaning cut.events in
     record {
       taken = s.taken ++ piece;
       split = further drive s.taken piece rest rest' (s.split t) (split t);
-      printed = λ told. subst (λ (x : List ℕ). Begins before b.printed x) (sym text) (begins_after before a.printed b.printed front (run_text r m cut.meaning) (s.printed told) (cut.stopped told m s.stands));
+      printed = λ told w is.
+          subst (λ (x : List ℕ). Begins before b.printed x) (sym (text w))
+          (begins_after before a.printed b.printed (run_text w off (events_in s.taken)) (run_text w (state_after w off (events_in s.taken)) cut.meaning)
+          (s.printed told w is) (cut.stopped told w (state_after w off (events_in s.taken)) is (s.stands w is)));
     }
 
-pub bounded-board : (tells told : Type 0) (r : Rates) (a b : Place) (drive rest rest' before piece : List ℕ) (steps0 left : ℕ)
-    → (s : IsSoFar tells told r a.core a.reading drive rest before a.printed steps0 a.steps left) → (tells → rest ≡ piece ++ rest') → IsCutWithin told r a b s.taken piece
+pub bounded-board : (tells told : Type 0) (tables : TableParts) (a b : Place) (drive rest rest' before piece : List ℕ) (steps0 left : ℕ)
+    → (s : IsSoFar tells told tables a.core a.reading drive rest before a.printed steps0 a.steps left) → (tells → rest ≡ piece ++ rest') → IsCutWithin told tables a b s.taken piece
     → tells → IsBoundedBy 0 drive rest' steps0 b.steps
-bounded-board tells told r a b drive rest rest' before piece steps0 left s split cut t =
+bounded-board tells told tables a b drive rest rest' before piece steps0 left s split cut t =
     record {
       taken = s.taken ++ piece;
       split = further drive s.taken piece rest rest' (s.split t) (split t);
@@ -190,28 +203,27 @@ bounded-board tells told r a b drive rest rest' before piece steps0 left s split
     }
 
 -- a piece has the first bad line
-pub ends-bad : (tells told : Type 0) (r : Rates) (a b : Place) (drive rest rest' before piece : List ℕ) (steps0 left n : ℕ)
-    → (s : IsSoFar tells told r a.core a.reading drive rest before a.printed steps0 a.steps left) → (tells → rest ≡ piece ++ rest') → length piece ≤ left → Advances told r a b piece → first_bad (s.taken ++ piece) ≡ Some n
-    → tells → ReachesEnd told r drive (BadAt n) before b.printed
-ends-bad tells told r a b drive rest rest' before piece steps0 left n s split few next bad t =
+pub ends-bad : (tells told : Type 0) (tables : TableParts) (a b : Place) (drive rest rest' before piece : List ℕ) (steps0 left n : ℕ)
+    → (s : IsSoFar tells told tables a.core a.reading drive rest before a.printed steps0 a.steps left) → (tells → rest ≡ piece ++ rest') → length piece ≤ left → Advances told tables a b piece → first_bad (s.taken ++ piece) ≡ Some n
+    → tells → ReachesEnd told tables drive (BadAt n) before b.printed
+ends-bad tells told tables a b drive rest rest' before piece steps0 left n s split few next bad t =
     let c = s.taken ++ piece in
     let within : length c ≤ drive_limit = omega (arith, s.count, length-append s.taken piece) in
     let whole : drive ≡ c ++ rest' = (further drive s.taken piece rest rest' (s.split t) (split t)).bytes in
-    let m = state_after r off (events_in s.taken) in
     let e = next.events s.taken s.read in
     record {
       end_is = ap drive_end whole ∙ end-bad c rest' n within bad;
-      printed = λ told.
-          next.carried.printed told m s.stands
-          ∙ ap (λ (p : List ℕ). p ++ run_text r m next.meaning) (s.printed told)
-          ∙ append_assoc before (run_text r off (events_in s.taken)) (run_text r m next.meaning)
-          ∙ ap (λ (p : List ℕ). before ++ p) (sym (ap (drive_text r) whole ∙ drive_text-bad r c rest' n within bad ∙ meaning-run r s.taken piece next.meaning e));
+      printed = λ told w is.
+          next.carried.printed told w (state_after w off (events_in s.taken)) is (s.stands w is)
+          ∙ ap (λ (p : List ℕ). p ++ run_text w (state_after w off (events_in s.taken)) next.meaning) (s.printed told w is)
+          ∙ append_assoc before (run_text w off (events_in s.taken)) (run_text w (state_after w off (events_in s.taken)) next.meaning)
+          ∙ ap (λ (p : List ℕ). before ++ p) (sym (ap (drive_text w) whole ∙ drive_text-bad w c rest' n within bad ∙ meaning-run w s.taken piece next.meaning e));
     }
 
-pub bounded-piece : (tells told : Type 0) (r : Rates) (a b : Place) (drive rest rest' before piece : List ℕ) (steps0 left : ℕ)
-    → (s : IsSoFar tells told r a.core a.reading drive rest before a.printed steps0 a.steps left) → (tells → rest ≡ piece ++ rest') → Advances told r a b piece
+pub bounded-piece : (tells told : Type 0) (tables : TableParts) (a b : Place) (drive rest rest' before piece : List ℕ) (steps0 left : ℕ)
+    → (s : IsSoFar tells told tables a.core a.reading drive rest before a.printed steps0 a.steps left) → (tells → rest ≡ piece ++ rest') → Advances told tables a b piece
     → tells → IsBoundedBy 0 drive rest' steps0 b.steps
-bounded-piece tells told r a b drive rest rest' before piece steps0 left s split next t =
+bounded-piece tells told tables a b drive rest rest' before piece steps0 left s split next t =
     record {
       taken = s.taken ++ piece;
       split = further drive s.taken piece rest rest' (s.split t) (split t);
@@ -219,27 +231,27 @@ bounded-piece tells told r a b drive rest rest' before piece steps0 left s split
     }
 
 -- as many bytes as may be taken were taken
-pub ends-endless : (tells told : Type 0) (r : Rates) (core : Plain) (reading : Reading) (drive rest before now : List ℕ) (steps0 steps left : ℕ)
-    → IsSoFar tells told r core reading drive rest before now steps0 steps left → left ≤ 0 → tells → ReachesEnd told r drive Endless before now
-ends-endless tells told r core reading drive rest before now steps0 steps left s none t =
+pub ends-endless : (tells told : Type 0) (tables : TableParts) (core : Plain) (reading : Reading) (drive rest before now : List ℕ) (steps0 steps left : ℕ)
+    → IsSoFar tells told tables core reading drive rest before now steps0 steps left → left ≤ 0 → tells → ReachesEnd told tables drive Endless before now
+ends-endless tells told tables core reading drive rest before now steps0 steps left s none t =
     let full : length s.taken ≡ drive_limit = omega (arith, s.count) in
     record {
       end_is = ap drive_end (s.split t) ∙ end-endless s.taken rest full s.good;
-      printed = λ told. s.printed told ∙ ap (λ (p : List ℕ). before ++ p) (sym (ap (drive_text r) (s.split t) ∙ drive_text-endless r s.taken rest full));
+      printed = λ told w is. s.printed told w is ∙ ap (λ (p : List ℕ). before ++ p) (sym (ap (drive_text w) (s.split t) ∙ drive_text-endless w s.taken rest full));
     }
 
 -- a piece wasn't carried out to its end
-pub ends-piece : (tells told : Type 0) (r : Rates) (a b : Place) (drive rest rest' before piece : List ℕ) (steps0 left : ℕ) (fault : PieceFault)
-    → (s : IsSoFar tells told r a.core a.reading drive rest before a.printed steps0 a.steps left) → (tells → rest ≡ piece ++ rest') → length piece ≤ left → StopsAt told r a b piece fault
-    → tells → RunsDrive {T = Unit {0}} told r drive rest' (Err (fault_of fault)) before b.printed
-ends-piece tells told r a b drive rest rest' before piece steps0 left Board s split few stop t = stops-board tells told r a b drive rest rest' before piece steps0 left s split few (stop s.taken s.read) t
-ends-piece tells told r a b drive rest rest' before piece steps0 left (BadLine n) s split few stop t = ends-bad tells told r a b drive rest rest' before piece steps0 left n s split few stop.0 (stop.1 s.taken s.read) t
+pub ends-piece : (tells told : Type 0) (tables : TableParts) (a b : Place) (drive rest rest' before piece : List ℕ) (steps0 left : ℕ) (fault : PieceFault)
+    → (s : IsSoFar tells told tables a.core a.reading drive rest before a.printed steps0 a.steps left) → (tells → rest ≡ piece ++ rest') → length piece ≤ left → StopsAt told tables a b piece fault
+    → tells → RunsDrive {T = Unit {0}} told tables drive rest' (Err (fault_of fault)) before b.printed
+ends-piece tells told tables a b drive rest rest' before piece steps0 left Board s split few stop t = stops-board tells told tables a b drive rest rest' before piece steps0 left s split few (stop s.taken s.read) t
+ends-piece tells told tables a b drive rest rest' before piece steps0 left (BadLine n) s split few stop t = ends-bad tells told tables a b drive rest rest' before piece steps0 left n s split few stop.0 (stop.1 s.taken s.read) t
 
-pub bounded-stop : (tells told : Type 0) (r : Rates) (a b : Place) (drive rest rest' before piece : List ℕ) (steps0 left : ℕ) (fault : PieceFault)
-    → (s : IsSoFar tells told r a.core a.reading drive rest before a.printed steps0 a.steps left) → (tells → rest ≡ piece ++ rest') → StopsAt told r a b piece fault
+pub bounded-stop : (tells told : Type 0) (tables : TableParts) (a b : Place) (drive rest rest' before piece : List ℕ) (steps0 left : ℕ) (fault : PieceFault)
+    → (s : IsSoFar tells told tables a.core a.reading drive rest before a.printed steps0 a.steps left) → (tells → rest ≡ piece ++ rest') → StopsAt told tables a b piece fault
     → tells → IsBoundedBy 0 drive rest' steps0 b.steps
-bounded-stop tells told r a b drive rest rest' before piece steps0 left Board s split stop t = bounded-board tells told r a b drive rest rest' before piece steps0 left s split (stop s.taken s.read) t
-bounded-stop tells told r a b drive rest rest' before piece steps0 left (BadLine n) s split stop t = bounded-piece tells told r a b drive rest rest' before piece steps0 left s split stop.0 t
+bounded-stop tells told tables a b drive rest rest' before piece steps0 left Board s split stop t = bounded-board tells told tables a b drive rest rest' before piece steps0 left s split (stop s.taken s.read) t
+bounded-stop tells told tables a b drive rest rest' before piece steps0 left (BadLine n) s split stop t = bounded-piece tells told tables a b drive rest rest' before piece steps0 left s split stop.0 t
 
 -- only a fault of the board in a piece is one of the drive
 pub board_fault-is : (fault : PieceFault) → fault_of fault ≡ BoardFault → fault ≡ Board

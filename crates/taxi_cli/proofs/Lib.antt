@@ -1,7 +1,9 @@
+pub mod Advancing
+pub mod Carrying
+pub mod Driving
+pub mod Endings
 pub mod Lengths
 pub mod Printing
-pub mod Carrying
-pub mod Advancing
-pub mod Driving
-pub mod Plain
-pub mod Endings
+pub mod Rows
+pub mod Stores
+pub mod Tariffs

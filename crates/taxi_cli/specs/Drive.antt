@@ -2,7 +2,8 @@
 use Rattle.std.specs.Prelude.{◌≡◌, ℕ, ◌+◌, ◌*◌, ◌≤◌, List, ◌++◌, length, take, Option, Some, None, Result, Ok, Err, if◌then◌else◌, nat_lt}
 use Rattle.outside.specs.Printing.{Begins}
 use Rattle.drive_text.specs.Drive.{events_in, first_bad, bad_at_end}
-use Rattle.meter_states.specs.declared.rates.Rates.{Rates}
+use Rattle.tariff_compile.specs.Tables.{TableParts}
+use Rattle.meter_states.specs.Setting.{Setting, IsSettingOf}
 use Rattle.meter_states.specs.Meter.{off}
 use Rattle.taxi_cli.specs.declared.pieces.PieceFault.{PieceFault}
 use Rattle.taxi_cli.specs.declared.pieces.PieceFault.TheVariants.{Board, BadLine}
@@ -33,8 +34,8 @@ drive_end drive =
     else end_by (first_bad (take drive_limit drive)) Endless
 
 -- what a drive shows: the displays and refusals of the events of its good lines
-abbrev pub drive_text : Rates → List ℕ → List ℕ
-drive_text r drive = run_text r off (events_in (take drive_limit drive))
+abbrev pub drive_text : Setting → List ℕ → List ℕ
+drive_text s drive = run_text s off (events_in (take drive_limit drive))
 
 -- so many bytes of the drive were taken, and the others are left
 pub record IsSplit (drive taken left : List ℕ) : Type 0 where
@@ -53,17 +54,17 @@ pub record IsBoundedBy (opening : ℕ) (drive left : List ℕ) (before now : ℕ
   pub bound : now ≤ before + opening + 64 * length (events_in taken)
 
 -- the drive was carried out to this end, and what it shows was printed
-pub record ReachesEnd (tells_text : Type 0) (r : Rates) (drive : List ℕ) (reached : DriveEnd) (before now : List ℕ) : Type 0 where
+pub record ReachesEnd (tells_text : Type 0) (t : TableParts) (drive : List ℕ) (reached : DriveEnd) (before now : List ℕ) : Type 0 where
   pub end_is : drive_end drive ≡ reached
-  pub printed : tells_text → now ≡ before ++ drive_text r drive
+  pub printed : tells_text → (s : Setting) → IsSettingOf s t → now ≡ before ++ drive_text s drive
 
 -- what a run of a drive has printed, by how it ended
-abbrev pub RunsDrive : {T : Type 0} → Type 0 → Rates → List ℕ → List ℕ → Result T RunFault → List ℕ → List ℕ → Type 0
-RunsDrive told r drive left (Ok done) before now = ReachesEnd told r drive Whole before now
-RunsDrive told r drive left (Err (BadDrive line)) before now = ReachesEnd told r drive (BadAt line) before now
-RunsDrive told r drive left (Err TooLong) before now = ReachesEnd told r drive Endless before now
-RunsDrive told r drive left (Err ReadFault) before now = StopsAfter drive left told (λ taken. now ≡ before ++ drive_text r taken)
-RunsDrive told r drive left (Err BoardFault) before now = StopsAfter drive left told (λ taken. Begins before now (drive_text r taken))
+abbrev pub RunsDrive : {T : Type 0} → Type 0 → TableParts → List ℕ → List ℕ → Result T RunFault → List ℕ → List ℕ → Type 0
+RunsDrive told t drive left (Ok done) before now = ReachesEnd told t drive Whole before now
+RunsDrive told t drive left (Err (BadDrive line)) before now = ReachesEnd told t drive (BadAt line) before now
+RunsDrive told t drive left (Err TooLong) before now = ReachesEnd told t drive Endless before now
+RunsDrive told t drive left (Err ReadFault) before now = StopsAfter drive left told (λ taken. (s : Setting) → IsSettingOf s t → now ≡ before ++ drive_text s taken)
+RunsDrive told t drive left (Err BoardFault) before now = StopsAfter drive left told (λ taken. (s : Setting) → IsSettingOf s t → Begins before now (drive_text s taken))
 
 -- what ends a drive where this ended a piece of it
 abbrev pub fault_of : PieceFault → RunFault

@@ -5,7 +5,12 @@ use Rattle.taxi_cli.specs.Command.{Answer, text_of}
 use Rattle.taxi_cli.specs.Drive.{IsSplit, StopsAfter}
 use Rattle.taxi_cli.specs.LastLine.{status_of, line_of, read_fault_line, no_memory_line}
 use Rattle.taxi_cli.specs.declared.ending.Ended.{Ended}
-use Rattle.taxi_cli.specs.declared.ending.Ended.TheVariants.{Done, BadDrive, EndlessDrive, ReadFault, BoardFault, NoMemory}
+use Rattle.taxi_cli.specs.declared.ending.Ended.TheVariants.{Done, BadTariff, BadDrive, EndlessDrive, ReadFault, BoardFault, NoMemory}
+use Rattle.tariff_check.specs.declared.fault.CheckFault.{CheckFault}
+use Rattle.tariff_check.specs.declared.fault.CheckFault.TheVariants as checks
+use Rattle.taxi_cli.specs.declared.tariff.Refusal.TheVariants.{Unsound}
+use Rattle.taxi_cli.specs.declared.tariff.TextFault.{TextFault}
+use Rattle.taxi_cli.specs.declared.tariff.TextFault.TheVariants as texts
 use Rattle.taxi_cli.specs.declared.drive.RunFault.{RunFault}
 use Rattle.taxi_cli.specs.declared.drive.RunFault.TheVariants as faults
 
@@ -64,7 +69,8 @@ pub record IsShown (tells_text : Type 0) (answer : Answer) (status : ℕ) (line 
 -- what the command has printed where it ended so, without its last line
 abbrev pub EndsBefore : Type 0 → Answer → (List ℕ → List ℕ) → List ℕ → List ℕ → Ended → List ℕ → List ℕ → Type 0
 EndsBefore tells_text answer shown drive left ReadFault before now = StopsAfter drive left tells_text (λ taken. now ≡ before ++ shown taken)
-EndsBefore tells_text answer shown drive left BoardFault before now = StopsAfter drive left tells_text (λ taken. Begins before now (shown taken))
+EndsBefore tells_text answer shown drive left BoardFault before now =
+    StopsAfter drive left tells_text (λ taken. Begins before now (shown taken)) ⊎ (tells_text → Begins before now answer.shown)
 EndsBefore tells_text answer shown drive left NoMemory before now = (left ≡ drive) × (tells_text → now ≡ before)
 EndsBefore tells_text answer shown drive left ended before now = IsShown tells_text answer (status_of ended) (line_of ended) before now
 
@@ -75,3 +81,14 @@ ended_by (Err faults.ReadFault) = ReadFault
 ended_by (Err faults.BoardFault) = BoardFault
 ended_by (Err (faults.BadDrive line)) = BadDrive line
 ended_by (Err faults.TooLong) = EndlessDrive
+
+-- how the command ended where its tariff wasn't read
+abbrev pub ended_for : TextFault → Ended
+ended_for texts.ReadFault = ReadFault
+ended_for (texts.Refused why) = BadTariff why
+ended_for texts.NoMemory = NoMemory
+
+-- why a text whose tariff has this fault wasn't read
+abbrev pub unsound_for : CheckFault → TextFault
+unsound_for checks.NoMemory = texts.NoMemory
+unsound_for fault = texts.Refused (Unsound fault)

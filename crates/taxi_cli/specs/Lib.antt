@@ -1,8 +1,9 @@
+pub mod Command
+pub mod Drive
+pub mod Ending
+pub mod LastLine
+pub mod Pieces
+pub mod Running
+pub mod Store
 pub mod Texts
 pub mod Words
-pub mod LastLine
-pub mod Running
-pub mod Pieces
-pub mod Drive
-pub mod Command
-pub mod Ending

@@ -1,7 +1,10 @@
 -- The words of a command.
-use Rattle.std.specs.Prelude.{ℕ, List, [], ◌∷◌, length, Option, Some, None, if◌then◌else◌, nat_le, nat_eq, ◌&&◌, ◌==◌, codes}
+use Rattle.std.specs.Prelude.{ℕ, Bool, List, [], ◌∷◌, length, Option, Some, None, if◌then◌else◌, nat_le, nat_eq, ◌&&◌, ◌==◌, codes}
 use Rattle.std.specs.Cmp.Lexicographic.{pointwise}
+use Rattle.std.specs.Option.{option_map}
 use Rattle.taxi_units.specs.Number.{number_at}
+use Rattle.taxi_cli.specs.declared.words.Row.{Row}
+use Rattle.taxi_cli.specs.declared.words.Row.TheVariants.{Check, Tables, Fare}
 
 -- a number of at most 6 digits that is a constant
 abbrev pub constant_in : List ℕ → Option (ℕ × List ℕ) → Option ℕ
@@ -12,7 +15,13 @@ constant_in word (Some (k, rest)) =
 unfoldable pub constant_of : List ℕ → Option ℕ
 constant_of word = constant_in word (number_at word)
 
--- `fare TARIFF DRIVE CONSTANT`: the constant, where the words are these
-abbrev pub fare_words : List (List ℕ) → Option ℕ
-fare_words (command ∷ tariff ∷ drive ∷ constant ∷ []) = if pointwise nat_eq command (codes "fare") then constant_of constant else None
-fare_words words = None
+-- a word is this one
+abbrev pub is_word : List ℕ → List ℕ → Bool
+is_word word name = pointwise nat_eq word name
+
+-- the commands: `check TARIFF`, `tables TARIFF CONSTANT` and `fare TARIFF DRIVE CONSTANT`
+abbrev pub row_of : List (List ℕ) → Option Row
+row_of (command ∷ tariff ∷ []) = if is_word command (codes "check") then Some Check else None
+row_of (command ∷ tariff ∷ constant ∷ []) = if is_word command (codes "tables") then option_map Tables (constant_of constant) else None
+row_of (command ∷ tariff ∷ drive ∷ constant ∷ []) = if is_word command (codes "fare") then option_map Fare (constant_of constant) else None
+row_of words = None

@@ -1,16 +1,18 @@
 //! Carries out a drive, from its first byte to its end.
 ghost use Rattle.std.specs.Prelude.{◌≡◌, ◌≢◌, ℕ, ◌+◌, ◌*◌, ◌<◌, ◌≤◌, ◌^◌, ◌++◌, List, length, IfOk, IfErr, OnOk, Err};
 ghost use Rattle.outside.specs.Faults.{Rose};
-ghost use Rattle.meter_states.specs.Rates.{IsFit};
+ghost use Rattle.tariff_compile.specs.Tables.{IsCompiled, IsFit};
 ghost use Rattle.drive_text.specs.Drive.{bad_at_end};
 ghost use Rattle.drive_text.specs.Reading.{HasTaken};
 ghost use Rattle.taxi_cli.specs.Drive.{RunsDrive, IsBoundedBy, end_at, fault_of};
+ghost use Rattle.taxi_cli.specs.Store.{KeepsStore};
 
 use crate::pieces::{PieceFault, carry_out_piece};
 use drive_text::Reader;
-use meter_states::{Core, Rates};
+use meter_states::Core;
 use outside::{Board, Files};
 use std::sync::ledger::Ledger;
+use tariff_compile::Tables;
 use taxi_units::Steps;
 
 /// At most so many bytes of a drive are taken.
@@ -31,21 +33,24 @@ pub enum RunFault {
 
 /// Reads the drive of a word, carries out each event as soon as its line is read, and prints the
 /// displays and refusals. It takes no memory: it keeps one piece of 512 bytes and one unfinished line.
+#[tactic(auto, using(crate::proofs::Stores::keeps_none, crate::proofs::Stores::keeps_print, crate::proofs::Stores::keeps_then))]
 pub fn run_drive<F: Files, B: Board, L: Ledger>(
-    rates: &Rates,
+    tables: &Tables,
     files: &mut F,
     word: usize,
     board: &mut B,
     steps: &mut Steps<L>,
 ) -> Result<(), RunFault>
-    requires { IsFit rates.now }
-    ensures ends { F.tells → RunsDrive B.tells_text rates.now (F.rest files.old word) (F.rest files.new word) result (B.printed board.old) (B.printed board.new) }
+    requires fit { IsFit tables.now }
+    requires compiled { IsCompiled tables.now }
+    ensures ends { F.tells → RunsDrive B.tells_text tables.now (F.rest files.old word) (F.rest files.new word) result (B.printed board.old) (B.printed board.new) }
     ensures steps { F.tells → IsBoundedBy 0 (F.rest files.old word) (F.rest files.new word) steps.old steps.new }
     ensures others { (other : ℕ) → other ≢ word → F.rest files.new other ≡ F.rest files.old other }
     ensures read_fault { result ≡ Err RunFault.ReadFault → Rose (F.faults files.old word) (F.faults files.new word) }
     ensures board_fault { result ≡ Err RunFault.BoardFault → Rose (B.faults board.old) (B.faults board.new) }
     ensures counts { (other : ℕ) → F.faults files.old other ≤ F.faults files.new other }
     ensures count { B.faults board.old ≤ B.faults board.new }
+    ensures store { KeepsStore B.image B.in_flight B.moment B.left_since board.old board.new }
 {
     let mut core = Core::off();
     let mut reader = Reader::new();
@@ -59,7 +64,7 @@ pub fn run_drive<F: Files, B: Board, L: Ledger>(
             Ok(count) => count,
             Err(_) => return Err(RunFault::ReadFault),
         };
-        match carry_out_piece(rates, &mut core, &mut reader, &buf[..count], board, steps) {
+        match carry_out_piece(tables, &mut core, &mut reader, &buf[..count], board, steps) {
             Ok(()) => left -= count as u64,
             Err(fault) => return Err(fault_of_piece(fault)),
         }

@@ -1,21 +1,23 @@
 //! The command `fare`.
 ghost use Rattle.std.specs.Prelude.{◌≡◌, ◌≢◌, ◌⊎◌, ℕ, ◌+◌, ◌≤◌, List, []};
 ghost use Rattle.outside.specs.Faults.{Rose};
+ghost use Rattle.taxi_cli.specs.Command.{fare_answer, shown_under, tariff_in};
 ghost use Rattle.taxi_cli.specs.Drive.{IsBoundedBy};
-ghost use Rattle.taxi_cli.specs.Command.{fare_answer, shown_under, simple_in};
 ghost use Rattle.taxi_cli.specs.Ending.{EndsBefore, ended_by};
+ghost use Rattle.taxi_cli.specs.Store.{KeepsStore};
 
 use crate::drive::{RunFault, run_drive};
-use crate::ending::Ended;
-use crate::tariff::{TextFault, read_simple};
-use meter_states::Rates;
+use crate::ending::{Ended, refused_by};
+use crate::tariff::read_tariff;
 use outside::{Board, Files};
 use pulse_input::Constant;
 use std::alloc::Global;
 use std::sync::ledger::Ledger;
+use tariff_compile::compile;
 use taxi_units::Steps;
 
 /// Reads the tariff of word 1, and carries out the drive of word 2 under it.
+#[tactic(auto, using(crate::proofs::Stores::keeps_none, crate::proofs::Stores::keeps_print, crate::proofs::Stores::keeps_then))]
 pub fn fare<F: Files, B: Board, L: Ledger>(
     alloc: Global,
     constant: Constant,
@@ -23,22 +25,23 @@ pub fn fare<F: Files, B: Board, L: Ledger>(
     board: &mut B,
     steps: &mut Steps<L>,
 ) -> Ended
-    ensures ends { F.tells → EndsBefore B.tells_text (fare_answer constant (simple_in (F.rest files.old 1)) (F.rest files.old 2)) (shown_under constant (simple_in (F.rest files.old 1))) (F.rest files.old 2) (F.rest files.new 2) result (B.printed board.old) (B.printed board.new) }
+    ensures ends { F.tells → EndsBefore B.tells_text (fare_answer constant (tariff_in (F.rest files.old 1)) (F.rest files.old 2)) (shown_under constant (tariff_in (F.rest files.old 1))) (F.rest files.old 2) (F.rest files.new 2) result (B.printed board.old) (B.printed board.new) }
     ensures steps { F.tells → IsBoundedBy 0 (F.rest files.old 2) (F.rest files.new 2) steps.old steps.new }
     ensures read_fault { result ≡ Ended.ReadFault → Rose (F.faults files.old 1) (F.faults files.new 1) ⊎ Rose (F.faults files.old 2) (F.faults files.new 2) }
     ensures board_fault { result ≡ Ended.BoardFault → Rose (B.faults board.old) (B.faults board.new) }
     ensures words { result ≢ Ended.BadWords }
     ensures count { B.faults board.old ≤ B.faults board.new }
     ensures counts { (other : ℕ) → F.faults files.old other ≤ F.faults files.new other }
+    ensures store { KeepsStore B.image B.in_flight B.moment B.left_since board.old board.new }
 {
-    let simple = match read_simple(alloc, files, 1) {
-        Ok(simple) => simple,
-        Err(TextFault::ReadFault) => return Ended::ReadFault,
-        Err(TextFault::Refused(why)) => return Ended::BadTariff(why),
-        Err(TextFault::NoMemory) => return Ended::NoMemory,
+    let checked = match read_tariff(alloc, files, 1) {
+        Ok(checked) => checked,
+        Err(fault) => return refused_by(fault),
     };
-    let rates = Rates::new(&simple, constant);
-    let ran = run_drive(&rates, files, 2, board, steps);
+    let Ok(tables) = compile(alloc, &checked, constant) else {
+        return Ended::NoMemory;
+    };
+    let ran = run_drive(&tables, files, 2, board, steps);
     ended_of(ran)
 }
 

@@ -6,6 +6,7 @@ mod ending;
 mod events;
 mod fare;
 mod pieces;
+mod reports;
 mod runs;
 mod tariff;
 #[cfg(test)]

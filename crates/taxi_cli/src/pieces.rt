@@ -1,19 +1,21 @@
 //! Carries out the pieces of a drive as they are read.
 ghost use Rattle.std.specs.Prelude.{◌≡◌, ◌≢◌, ℕ, ◌+◌, ◌*◌, ◌<◌, ◌≤◌, ◌^◌, ◌++◌, List, length, take, None, Some, IfOk, IfErr, OnOk, Err};
 ghost use Rattle.outside.specs.Faults.{Rose};
-ghost use Rattle.meter_states.specs.Rates.{IsFit};
-ghost use Rattle.meter_states.specs.Meter.{Meter};
-ghost use Rattle.meter_states.specs.Core.{Stands, IsLawful};
+ghost use Rattle.tariff_compile.specs.Tables.{IsFit};
+ghost use Rattle.meter_states.specs.Core.{IsLawful};
 ghost use Rattle.drive_text.specs.Drive.{first_bad};
 ghost use Rattle.drive_text.specs.Reading.{HasTaken};
 ghost use Rattle.taxi_cli.specs.Pieces.{Advances, StopsAt};
+ghost use Rattle.taxi_cli.specs.Running.{IsUnderWay};
+ghost use Rattle.taxi_cli.specs.Store.{KeepsStore};
 
 use crate::runs::carry_out_runs;
 use arrayvec::ArrayVec;
 use drive_text::{Reader, Run};
-use meter_states::{Core, Rates};
+use meter_states::Core;
 use outside::Board;
 use std::sync::ledger::Ledger;
+use tariff_compile::Tables;
 use taxi_units::Steps;
 
 /// Why a piece wasn't carried out to its end.
@@ -27,33 +29,35 @@ pub enum PieceFault {
 
 /// Carries out the lines that end in the beginning of a piece, as many as one list of runs holds, and
 /// answers how many bytes that are.
+#[tactic(auto, using(crate::proofs::Stores::keeps_none, crate::proofs::Stores::keeps_print, crate::proofs::Stores::keeps_then))]
 fn carry_out_beginning<B: Board, L: Ledger>(
-    rates: &Rates,
+    tables: &Tables,
     core: &mut Core,
     reader: &mut Reader,
     piece: &[u8],
     board: &mut B,
     steps: &mut Steps<L>,
 ) -> Result<usize, PieceFault>
-    requires fit { IsFit rates.now }
-    requires lawful { IsLawful rates.now core.old }
-    requires stands { (m : Meter) × Stands rates.now core.old m }
+    requires fit { IsFit tables.now }
+    requires lawful { IsLawful tables.now core.old }
+    requires stands { IsUnderWay tables.now core.old }
     requires few { (b : List ℕ) × HasTaken reader.old b × (length b + length piece.now < 2 ^ 64) }
     requires some { 0 < length piece.now }
     ensures within { IfOk result (λ n. (0 < n) × (n ≤ length piece.now)) }
-    ensures carried { IfOk result (λ n. Advances B.tells_text rates.now (record { core = core.old; reading = reader.old; printed = B.printed board.old; steps = steps.old }) (record { core = core.new; reading = reader.new; printed = B.printed board.new; steps = steps.new }) (take n piece.now)) }
+    ensures carried { IfOk result (λ n. Advances B.tells_text tables.now (record { core = core.old; reading = reader.old; printed = B.printed board.old; steps = steps.old }) (record { core = core.new; reading = reader.new; printed = B.printed board.new; steps = steps.new }) (take n piece.now)) }
     ensures good { IfOk result (λ n. (b : List ℕ) → HasTaken reader.old b → first_bad (b ++ take n piece.now) ≡ None) }
-    ensures stopped { IfErr result (StopsAt B.tells_text rates.now (record { core = core.old; reading = reader.old; printed = B.printed board.old; steps = steps.old }) (record { core = core.new; reading = reader.new; printed = B.printed board.new; steps = steps.new }) piece.now) }
+    ensures stopped { IfErr result (StopsAt B.tells_text tables.now (record { core = core.old; reading = reader.old; printed = B.printed board.old; steps = steps.old }) (record { core = core.new; reading = reader.new; printed = B.printed board.new; steps = steps.new }) piece.now) }
     ensures count { B.faults board.old ≤ B.faults board.new }
     ensures failed { result ≡ Err PieceFault.Board → Rose (B.faults board.old) (B.faults board.new) }
+    ensures store { KeepsStore B.image B.in_flight B.moment B.left_since board.old board.new }
 {
     let mut runs: ArrayVec<Run, 64> = ArrayVec::new();
     match reader.feed(piece, &mut runs) {
-        Ok(taken) => match carry_out_runs(rates, core, runs.as_slice(), board, steps) {
+        Ok(taken) => match carry_out_runs(tables, core, runs.as_slice(), board, steps) {
             Ok(()) => Ok(taken),
             Err(_) => Err(PieceFault::Board),
         },
-        Err(bad) => match carry_out_runs(rates, core, runs.as_slice(), board, steps) {
+        Err(bad) => match carry_out_runs(tables, core, runs.as_slice(), board, steps) {
             Ok(()) => Err(PieceFault::BadLine(bad.line)),
             Err(_) => Err(PieceFault::Board),
         },
@@ -61,28 +65,30 @@ fn carry_out_beginning<B: Board, L: Ledger>(
 }
 
 /// Carries out the lines that end in a piece.
+#[tactic(auto, using(crate::proofs::Stores::keeps_none, crate::proofs::Stores::keeps_print, crate::proofs::Stores::keeps_then))]
 pub fn carry_out_piece<B: Board, L: Ledger>(
-    rates: &Rates,
+    tables: &Tables,
     core: &mut Core,
     reader: &mut Reader,
     piece: &[u8],
     board: &mut B,
     steps: &mut Steps<L>,
 ) -> Result<(), PieceFault>
-    requires fit { IsFit rates.now }
-    requires lawful { IsLawful rates.now core.old }
-    requires stands { (m : Meter) × Stands rates.now core.old m }
+    requires fit { IsFit tables.now }
+    requires lawful { IsLawful tables.now core.old }
+    requires stands { IsUnderWay tables.now core.old }
     requires few { (b : List ℕ) × HasTaken reader.old b × (length b + length piece.now < 2 ^ 64) }
     requires some { 0 < length piece.now }
-    ensures carried { OnOk result (Advances B.tells_text rates.now (record { core = core.old; reading = reader.old; printed = B.printed board.old; steps = steps.old }) (record { core = core.new; reading = reader.new; printed = B.printed board.new; steps = steps.new }) piece.now) }
+    ensures carried { OnOk result (Advances B.tells_text tables.now (record { core = core.old; reading = reader.old; printed = B.printed board.old; steps = steps.old }) (record { core = core.new; reading = reader.new; printed = B.printed board.new; steps = steps.new }) piece.now) }
     ensures good { OnOk result ((b : List ℕ) → HasTaken reader.old b → first_bad (b ++ piece.now) ≡ None) }
-    ensures stopped { IfErr result (StopsAt B.tells_text rates.now (record { core = core.old; reading = reader.old; printed = B.printed board.old; steps = steps.old }) (record { core = core.new; reading = reader.new; printed = B.printed board.new; steps = steps.new }) piece.now) }
+    ensures stopped { IfErr result (StopsAt B.tells_text tables.now (record { core = core.old; reading = reader.old; printed = B.printed board.old; steps = steps.old }) (record { core = core.new; reading = reader.new; printed = B.printed board.new; steps = steps.new }) piece.now) }
     ensures count { B.faults board.old ≤ B.faults board.new }
     ensures failed { result ≡ Err PieceFault.Board → Rose (B.faults board.old) (B.faults board.new) }
+    ensures store { KeepsStore B.image B.in_flight B.moment B.left_since board.old board.new }
 {
     let mut rest = piece;
     while !rest.is_empty() {
-        match carry_out_beginning(rates, core, reader, rest, board, steps) {
+        match carry_out_beginning(tables, core, reader, rest, board, steps) {
             Ok(taken) => {
                 let (_, after) = rest.split_at(taken);
                 rest = after;

@@ -1,12 +1,14 @@
 //! Reads the tariff of a word.
 ghost use Rattle.std.specs.Prelude.{◌≡◌, ◌≢◌, ℕ, ◌+◌, ◌-◌, ◌<◌, ◌≤◌, ◌^◌, ◌++◌, List, [], length, IfOk, OnOk, IfErr, Ok, Err, vec_len};
 ghost use Rattle.outside.specs.Faults.{Rose};
-ghost use Rattle.tariff_syntax.specs.Sound.{IsSound};
-ghost use Rattle.taxi_cli.specs.Command.{simple_in};
+ghost use Rattle.tariff_syntax.specs.Tree.{tree_of};
+ghost use Rattle.taxi_cli.specs.Command.{tariff_in};
+ghost use Rattle.taxi_cli.specs.Ending.{unsound_for};
 
 use outside::Files;
 use std::alloc::Global;
-use tariff_syntax::{ParseFault, Simple, parse, simple};
+use tariff_check::{CheckFault, Checked, check};
+use tariff_syntax::{ParseFault, parse};
 
 /// Why a tariff isn't accepted.
 #[derive(Clone, Copy, Debug, PartialEq, Eq)]
@@ -15,8 +17,8 @@ pub enum Refusal {
     TooLong,
     /// The line of this number is the first that is no line of a tariff.
     Syntax(u32),
-    /// It isn't one that this program carries out yet.
-    NotBuilt,
+    /// It isn't sound: this is its first fault.
+    Unsound(CheckFault),
 }
 
 /// Why a text wasn't read.
@@ -36,7 +38,7 @@ const MOST: usize = 65_536;
 /// Reads what is left of a word's file, where it has at most 65,536 bytes. `Refused` where it has more.
 fn read_text<F: Files>(alloc: Global, files: &mut F, word: usize) -> Result<Vec<u8>, TextFault>
     ensures text { F.tells → IfOk result (λ text. text.items ≡ F.rest files.old word) }
-    ensures refused { (why : Refusal) → F.tells → result ≡ Err (TextFault.Refused why) → simple_in (F.rest files.old word) ≡ Err why }
+    ensures refused { (why : Refusal) → F.tells → result ≡ Err (TextFault.Refused why) → tariff_in (F.rest files.old word) ≡ Err why }
     ensures read_fault { result ≡ Err TextFault.ReadFault → Rose (F.faults files.old word) (F.faults files.new word) }
     ensures others { (other : ℕ) → other ≢ word → F.rest files.new other ≡ F.rest files.old other }
     ensures counts { (other : ℕ) → F.faults files.old other ≤ F.faults files.new other }
@@ -56,18 +58,27 @@ fn read_text<F: Files>(alloc: Global, files: &mut F, word: usize) -> Result<Vec<
     Err(TextFault::Refused(Refusal::TooLong))
 }
 
-/// The numbers of the plain tariff that a text is.
-#[tactic(auto, using(crate::proofs::Plain::syntax_of))]
-fn simple_of_text(alloc: Global, text: &[u8]) -> Result<Simple, TextFault>
-    ensures found { IfOk result (λ t. simple_in text.now ≡ Ok t) }
-    ensures sound { IfOk result IsSound }
-    ensures refused { (why : Refusal) → result ≡ Err (TextFault.Refused why) → simple_in text.now ≡ Err why }
+/// Why a text whose tariff has this fault wasn't read.
+fn unsound(fault: CheckFault) -> TextFault
+    ensures { result ≡ unsound_for fault }
+{
+    match fault {
+        CheckFault::NoMemory => TextFault::NoMemory,
+        fault => TextFault::Refused(Refusal::Unsound(fault)),
+    }
+}
+
+/// The sound tariff of a text.
+#[tactic(auto, using(crate::proofs::Tariffs::writable_of, crate::proofs::Tariffs::syntax_of))]
+fn tariff_of_text(alloc: Global, text: &[u8]) -> Result<Checked, TextFault>
+    ensures found { IfOk result (λ c. tariff_in text.now ≡ Ok (tree_of c)) }
+    ensures refused { (why : Refusal) → result ≡ Err (TextFault.Refused why) → tariff_in text.now ≡ Err why }
     ensures read { result ≢ Err TextFault.ReadFault }
 {
     match parse(alloc, text) {
-        Ok(tariff) => match simple(&tariff) {
-            Some(simple) => Ok(simple),
-            None => Err(TextFault::Refused(Refusal::NotBuilt)),
+        Ok(tariff) => match check(alloc, tariff) {
+            Ok(checked) => Ok(checked),
+            Err(fault) => Err(unsound(fault)),
         },
         Err(ParseFault::TooLong) => Err(TextFault::Refused(Refusal::TooLong)),
         Err(ParseFault::Syntax { line }) => Err(TextFault::Refused(Refusal::Syntax(line))),
@@ -76,10 +87,13 @@ fn simple_of_text(alloc: Global, text: &[u8]) -> Result<Simple, TextFault>
 }
 
 /// Reads the tariff of a word.
-pub fn read_simple<F: Files>(alloc: Global, files: &mut F, word: usize) -> Result<Simple, TextFault>
-    ensures found { F.tells → IfOk result (λ t. simple_in (F.rest files.old word) ≡ Ok t) }
-    ensures sound { IfOk result IsSound }
-    ensures refused { (why : Refusal) → F.tells → result ≡ Err (TextFault.Refused why) → simple_in (F.rest files.old word) ≡ Err why }
+pub fn read_tariff<F: Files>(
+    alloc: Global,
+    files: &mut F,
+    word: usize,
+) -> Result<Checked, TextFault>
+    ensures found { F.tells → IfOk result (λ c. tariff_in (F.rest files.old word) ≡ Ok (tree_of c)) }
+    ensures refused { (why : Refusal) → F.tells → result ≡ Err (TextFault.Refused why) → tariff_in (F.rest files.old word) ≡ Err why }
     ensures read_fault { result ≡ Err TextFault.ReadFault → Rose (F.faults files.old word) (F.faults files.new word) }
     ensures others { (other : ℕ) → other ≢ word → F.rest files.new other ≡ F.rest files.old other }
     ensures counts { (other : ℕ) → F.faults files.old other ≤ F.faults files.new other }
@@ -88,5 +102,5 @@ pub fn read_simple<F: Files>(alloc: Global, files: &mut F, word: usize) -> Resul
         Ok(text) => text,
         Err(fault) => return Err(fault),
     };
-    simple_of_text(alloc, text.as_slice())
+    tariff_of_text(alloc, text.as_slice())
 }

@@ -132,32 +132,36 @@ const TARIFFS: [(&str, &str, u8); 12] = [
         "BAD TARIFF Syntax 3\n",
         2,
     ),
-    ("", "BAD TARIFF NotBuilt\n", 2),
-    ("decimals 2\nstep 0.20 ahead\n", "BAD TARIFF NotBuilt\n", 2),
+    ("", "BAD TARIFF NoStep\n", 2),
+    (
+        "decimals 2\nstep 0.20 ahead\n",
+        "BAD TARIFF NoDefaultRate\n",
+        2,
+    ),
     (
         "step 0.00\ninitial 3.80\nrate 0.20 per 117.4 m, 0.20 per 25.2 s\n",
-        "BAD TARIFF NotBuilt\n",
+        "BAD TARIFF StepZero\n",
         2,
     ),
     (
         "step 0.20\ninitial 3.80\nrate 0.20 per 0.0 m, 0.20 per 25.2 s\n",
-        "BAD TARIFF NotBuilt\n",
+        "BAD TARIFF MeasureZero 3\n",
         2,
     ),
     (
         "step 0.20\ninitial 3.80\nrate 0.20 per 117.4 m, 0.20 per 25.2 s when day sun\n",
-        "BAD TARIFF NotBuilt\n",
+        "BAD TARIFF NoDefaultRate\n",
         2,
     ),
     (
         "step 0.20\nstep 0.20\nrate 0.20 per 117.4 m, 0.20 per 25.2 s\n",
-        "BAD TARIFF NotBuilt\n",
+        "BAD TARIFF Duplicate 2\n",
         2,
     ),
     (
         "step 0.20\ninitial 3.80\nrate 0.20 per 117.4 m, 0.20 per 25.2 s\npositions 1\n",
-        "BAD TARIFF NotBuilt\n",
-        2,
+        "FOR HIRE T1 Z1\nHIRED T1 Z1 3.80 +0.00\nHIRED T1 Z1 4.00 +0.00\nHIRED T1 Z1 4.20 +0.00\n",
+        0,
     ),
 ];
 
@@ -268,6 +272,83 @@ fn faults_of_the_outside(rt: HostRuntime) -> Result<(), Fail> {
             output.as_bytes(),
             "read {reads}, print {prints}"
         );
+    }
+    Ok(())
+}
+
+/// Tariffs and what `check` says of them, with its status.
+const CHECKS: [(&str, &str, u8); 7] = [
+    (A, "OK CELLS 7 MEASURE 147924\n", 0),
+    ("", "BAD TARIFF NoStep\n", 2),
+    (
+        "decimals 2\nstep 0.20 ahead\ninitial 3.80 covers 0.40\nrate 0.20 per 117.4 m, 0.20 per 25.2 s when zone 1\n",
+        "BAD TARIFF NoDefaultRate\n",
+        2,
+    ),
+    (
+        "step 0.20\ninitial 3.80\nrate 0.20 per 117.4 m, 0.20 per 25.2 s\nrate 0.20 per 117.4 m, 0.20 per 25.2 s\n",
+        "BAD TARIFF LineAfterDefault 4\n",
+        2,
+    ),
+    (
+        "step 0.20\nholiday 2027-02-29\ninitial 3.80\nrate 0.20 per 117.4 m, 0.20 per 25.2 s\n",
+        "BAD TARIFF BadDate 2\n",
+        2,
+    ),
+    (
+        "step 0.20\ninitial 3.80\nrate 0.10 per 100000000.0 m, 0.10 per 99999999.9 s\n",
+        "OK CELLS 7 MEASURE 999999999000000000\n",
+        0,
+    ),
+    (
+        "step 0.20\ninitial 3.80\nrate 0.10 per 100000000.0 m, 0.10 per 100000000.1 s\n",
+        "BAD TARIFF NoCommonMeasure\n",
+        2,
+    ),
+];
+
+#[test]
+fn checks(rt: HostRuntime) -> Result<(), Fail> {
+    for (tariff, output, status) in CHECKS {
+        let mut board = MemoryBoard::new(rt.alloc(), &[0; 2048], &[])?;
+        let ended = call(rt.alloc(), &["check", "t"], tariff, "", &[], &mut board)?;
+        assert_eq!(rt; ended, status, "{tariff}");
+        assert_eq!(rt; board.printed(), output.as_bytes(), "{tariff}");
+    }
+    // 65 rates, of which the last stands in line 67.
+    let mut many = String::from_str(rt.alloc(), "step 0.20\ninitial 3.80\n")?;
+    for _ in 0..65 {
+        many.push_str("rate 1 per 1 m, 1 per 1 s when zone 1\n")?;
+    }
+    let mut board = MemoryBoard::new(rt.alloc(), &[0; 2048], &[])?;
+    call(
+        rt.alloc(),
+        &["check", "t"],
+        many.as_str(),
+        "",
+        &[],
+        &mut board,
+    )?;
+    assert_eq!(rt; board.printed(), b"BAD TARIFF TooManyLines 67\n".as_slice());
+    Ok(())
+}
+
+/// Tariff A under a constant of 10,000, as rows.
+const ROWS: &str =
+    "MEASURE 1479240000\nRATE 1 25200000 117400000\nINITIAL 1 3.80 0.40\nCELL 0 1 1\nCELL 1 1 1\nCELL 2 1 1\nCELL 3 1 1\nCELL 4 1 1\nCELL 5 1 1\nCELL 6 1 1\n";
+
+#[test]
+fn tables(rt: HostRuntime) -> Result<(), Fail> {
+    for (constant, print, output, status) in [
+        ("10000", 0, ROWS, 0),
+        ("499", 0, "BAD WORDS\n", 1),
+        ("10000", 2, "MEASURE 1479240000\n", 8),
+    ] {
+        let mut board = MemoryBoard::new(rt.alloc(), &[0; 2048], &[print])?;
+        let words = ["tables", "t", constant];
+        let ended = call(rt.alloc(), &words, A, "", &[], &mut board)?;
+        assert_eq!(rt; ended, status, "{constant}");
+        assert_eq!(rt; board.printed(), output.as_bytes(), "{constant}");
     }
     Ok(())
 }

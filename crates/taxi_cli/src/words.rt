@@ -1,10 +1,21 @@
 //! The words of a command.
-ghost use Rattle.std.specs.Prelude.{◌≡◌, ℕ, ◌≤◌, IfSome, map, string_bytes};
+ghost use Rattle.std.specs.Prelude.{◌≡◌, ℕ, ◌≤◌, Some, map, string_bytes};
 ghost use Rattle.taxi_units.specs.Reading.{Gives};
-ghost use Rattle.taxi_cli.specs.Words.{constant_of, fare_words};
+ghost use Rattle.taxi_cli.specs.Words.{constant_of, row_of};
 
 use pulse_input::Constant;
 use taxi_units::number_at;
+
+/// A command that the program knows.
+#[derive(Clone, Copy, Debug)]
+pub enum Row {
+    /// `check TARIFF`
+    Check,
+    /// `tables TARIFF CONSTANT`
+    Tables(Constant),
+    /// `fare TARIFF DRIVE CONSTANT`
+    Fare(Constant),
+}
 
 /// The constant that a word is: 1 to 6 digits, 500 to 200,000.
 #[tactic(auto, unfolding(crate::specs::Words::constant_of))]
@@ -19,15 +30,18 @@ fn constant(word: &[u8]) -> Option<Constant>
     }
 }
 
-/// The constant of the words `fare TARIFF DRIVE CONSTANT`. None for any other words.
-pub fn fare_constant(words: &[String]) -> Option<Constant>
-    ensures { Gives (λ k. k) result (fare_words (map string_bytes words.now)) }
+/// The command that words are. None where the program knows none such.
+pub fn row_in(words: &[String]) -> Option<Row>
+    ensures { result ≡ row_of (map string_bytes words.now) }
 {
-    if words.len() != 4 {
-        return None;
+    match words {
+        [command, _] if command.as_str() == "check" => Some(Row::Check),
+        [command, _, k] if command.as_str() == "tables" => {
+            Some(Row::Tables(constant(k.as_bytes())?))
+        }
+        [command, _, _, k] if command.as_str() == "fare" => {
+            Some(Row::Fare(constant(k.as_bytes())?))
+        }
+        _ => None,
     }
-    if words[0].as_str() != "fare" {
-        return None;
-    }
-    constant(words[3].as_bytes())
 }

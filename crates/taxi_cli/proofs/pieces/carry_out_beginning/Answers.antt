@@ -14,8 +14,8 @@ returns-in-Err-carry_out_runs-clause-stopped g c = λ before h.
     let adds = rw c.new-runs.ensures at c.in-Ok.ensures.runs in
     let stopped = rw c.as_slice.ensures.value at c.carry_out_runs.ensures.stopped in
     let bounded = rw c.as_slice.ensures.value at c.carry_out_runs.ensures.steps in
-    subst (λ (bytes : List ℕ). IsCutWithin g.B.Board.tells_text c.args.rates.now a b before bytes) (take-append-drop n piece)
-    (cut-runs g.B.Board.tells_text c.args.rates.now a b (take n piece) (drop n piece) c.feed.new.out.items adds stopped bounded before h)
+    subst (λ (bytes : List ℕ). IsCutWithin g.B.Board.tells_text c.args.tables.now a b before bytes) (take-append-drop n piece)
+    (cut-runs g.B.Board.tells_text c.args.tables.now a b (take n piece) (drop n piece) c.feed.new.out.items adds stopped bounded before h)
 
 pub returns-in-Ok-carry_out_runs-2-clause-stopped : goal.returns-in-Ok-carry_out_runs-2-clause-stopped
 returns-in-Ok-carry_out_runs-2-clause-stopped g c =
@@ -25,7 +25,7 @@ returns-in-Ok-carry_out_runs-2-clause-stopped g c =
     let adds = rw c.new-runs.ensures at c.in-Err.ensures.bad_runs in
     let carried = rw c.as_slice-in-Err.ensures.value at c.in-Ok-carry_out_runs-2.ensures.carried in
     let bounded = rw c.as_slice-in-Err.ensures.value at c.carry_out_runs-in-Err.ensures.steps in
-    (advances-runs g.B.Board.tells_text c.args.rates.now a b c.args.piece.now c.feed.new.out.items adds c.in-Err.ensures.failed carried bounded, c.in-Err.ensures.bad)
+    (advances-runs g.B.Board.tells_text c.args.tables.now a b c.args.piece.now c.feed.new.out.items adds c.in-Err.ensures.failed carried bounded, c.in-Err.ensures.bad)
 
 pub returns-in-Err-carry_out_runs-2-clause-stopped : goal.returns-in-Err-carry_out_runs-2-clause-stopped
 returns-in-Err-carry_out_runs-2-clause-stopped g c = λ before h.
@@ -35,5 +35,5 @@ returns-in-Err-carry_out_runs-2-clause-stopped g c = λ before h.
     let adds = rw c.new-runs.ensures at c.in-Err.ensures.bad_runs in
     let stopped = rw c.as_slice-in-Err.ensures.value at c.carry_out_runs-in-Err.ensures.stopped in
     let bounded = rw c.as_slice-in-Err.ensures.value at c.carry_out_runs-in-Err.ensures.steps in
-    subst (λ (bytes : List ℕ). IsCutWithin g.B.Board.tells_text c.args.rates.now a b before bytes) (append-nil c.args.piece.now)
-    (cut-runs g.B.Board.tells_text c.args.rates.now a b c.args.piece.now [] c.feed.new.out.items adds stopped bounded before h)
+    subst (λ (bytes : List ℕ). IsCutWithin g.B.Board.tells_text c.args.tables.now a b before bytes) (append-nil c.args.piece.now)
+    (cut-runs g.B.Board.tells_text c.args.tables.now a b c.args.piece.now [] c.feed.new.out.items adds stopped bounded before h)
