@@ -19,12 +19,12 @@ shifted n v p w =
     omega (arith, apart, turned, none)
 
 -- a number and the digits after it
-value_after : (n : ℕ) (digits : List ℕ) → digits_value_after 10 n digits ≡ n * 10 ^ length digits + digits_value 10 digits
+pub value_after : (n : ℕ) (digits : List ℕ) → digits_value_after 10 n digits ≡ n * 10 ^ length digits + digits_value 10 digits
 value_after n [] = omega arith
 value_after n (c ∷ cs) = rw (value_after (n * 10 + digit_value c) cs, value_after (0 * 10 + digit_value c) cs, pow-suc 10 (length cs)) (shifted n (digit_value c) (10 ^ length cs) (digits_value 10 cs))
 
 -- the units of digits that fill the decimals
-units_of_parts : (decimals : ℕ) (whole parts : List ℕ) → length parts ≡ decimals → units_of decimals whole parts ≡ digits_value 10 whole * 10 ^ decimals + digits_value 10 parts
+pub units_of_parts : (decimals : ℕ) (whole parts : List ℕ) → length parts ≡ decimals → units_of decimals whole parts ≡ digits_value 10 whole * 10 ^ decimals + digits_value 10 parts
 units_of_parts decimals whole parts e =
     let none : decimals - length parts ≡ 0 = omega arith in
     let value = value_append 0 whole parts ∙ value_after (digits_value 10 whole) parts in

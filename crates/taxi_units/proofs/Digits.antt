@@ -3,7 +3,7 @@ use Rattle.std.proofs.Common.{◌≡◌, ℕ, suc, ◌+◌, ◌-◌, ◌*◌, �
 use Rattle.std.specs.Char.{is_ascii_digit, digit_value}
 use Rattle.std.specs.Str.Parse.{AllDigits, digits_value, digits_value_after}
 use Rattle.std.proofs.lemmas.Int.Digits.{digits_value-lt}
-use Rattle.std.proofs.Math.Nat.{one-le-pow, pow-le-pow_right, le-mul_of_pos_right}
+use Rattle.std.proofs.Math.Nat.{one-le-pow, pow-suc, pow-le-pow_right, mul_assoc, mul-le-mul_left, le-mul_of_pos_right}
 use Rattle.std.proofs.lemmas.Bool.{le-ltb, lt-ltb}
 use Rattle.std.proofs.lemmas.Bool.Decides.{nat_tests}
 use Rattle.taxi_units.specs.declared.decimal.NumberFault.TheVariants.{TooBig}
@@ -97,3 +97,15 @@ too_big_by_parts decimals whole parts few large = too_big decimals whole parts f
 
 pub too_big_by_whole : (decimals : ℕ) (whole parts : List ℕ) → length parts ≤ decimals → 10 ^ 12 < digits_value 10 whole → units_read decimals whole parts ≡ Err TooBig
 too_big_by_whole decimals whole parts few large = too_big_by_parts decimals whole parts few (omega (arith, value_grows (digits_value 10 whole) parts))
+
+-- one zero more behind a number
+pub one_zero_more : (number zeros : ℕ) → number * 10 ^ zeros * 10 ≡ number * 10 ^ (zeros + 1)
+one_zero_more number zeros =
+    let next : zeros + 1 ≡ suc zeros = omega arith in
+    rw (next, pow-suc 10 zeros) (mul_assoc number (10 ^ zeros) 10)
+
+-- a number that passes the largest with some zeros behind it passes it with more
+pub large_with_zeros : (number few zeros : ℕ) → few < zeros → 10 ^ 12 < number * 10 ^ few * 10 → 10 ^ 12 < number * 10 ^ zeros
+large_with_zeros number few zeros lt large =
+    let more : 10 ^ (few + 1) ≤ 10 ^ zeros = pow-le-pow_right (omega arith) (omega arith) in
+    omega (arith, one_zero_more number few, mul-le-mul_left number more)

@@ -1,7 +1,12 @@
-pub mod Amounts
-pub mod Digits
-pub mod Form
-pub mod Front
-pub mod Numbers
-pub mod Words
-pub mod Written
+mod Amounts
+mod Digits
+mod Form
+mod Front
+mod Halvings
+pub mod Laws
+mod Lengths
+mod Numbers
+mod Places
+mod Spelled
+mod Words
+mod Written

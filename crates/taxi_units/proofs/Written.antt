@@ -83,7 +83,7 @@ digits_of_padded width n h =
     let some : 0 < length (padded_text width n) = omega (arith, length-append (replicate zeros 48) (decimal n), decimal_some n h) in
     ((some, zeros_digits zeros (decimal n) digits.0.1), zeros_value zeros (decimal n) ∙ digits.1)
 
-length_of_padded : (width n : ℕ) → length (padded_text width n) ≡ width - length (decimal n) + length (decimal n)
+pub length_of_padded : (width n : ℕ) → length (padded_text width n) ≡ width - length (decimal n) + length (decimal n)
 length_of_padded width n = omega (arith, length-append (replicate (width - length (decimal n)) 48) (decimal n), length-replicate {A = ℕ} (width - length (decimal n)) 48)
 
 pub padded_within : (k width n : ℕ) → 0 < k → width ≤ k → n < 10 ^ k → n < 2 ^ 128 → length (padded_text width n) ≤ k

@@ -1,5 +1,5 @@
 //! Numbers that are read: whole texts of decimals, and numbers at the front of a text.
-ghost use Rattle.std.specs.Prelude.{◌≡◌, ◌+◌, ◌^◌, ◌<◌, ◌≤◌, length, MatchOption};
+ghost use Rattle.std.specs.Prelude.{◌≡◌, ◌+◌, ◌*◌, ◌^◌, ◌<◌, ◌≤◌, length, MatchOption};
 ghost use Rattle.std.specs.Char.{is_ascii_digit};
 ghost use Rattle.std.specs.List.{prefix_len};
 ghost use Rattle.std.specs.Str.Parse.{digits_value_after};
@@ -24,7 +24,7 @@ pub enum NumberFault {
 const LARGEST: u64 = 1_000_000_000_000;
 
 /// Reads one or more digits, and perhaps a point and one or more digits, as an amount in units of
-/// the last of 0 to 3 decimals: with two decimals, `0.2` is 20.
+/// the last of so many decimals: with two decimals, `0.2` is 20.
 ///
 /// `Empty` where the text is empty, `BadDigit` where it breaks this form, `TooManyDecimals` where the
 /// form is good and it has more decimals than that, `TooBig` where neither holds and the amount passes
@@ -32,7 +32,6 @@ const LARGEST: u64 = 1_000_000_000_000;
 /// `decimals_are_read_by_their_form` says what each answer means.
 #[tactic(auto, using(crate::proofs::Digits::digits_in_front))]
 pub fn read_decimal(text: &[u8], decimals: u8) -> Result<u64, NumberFault>
-    requires { decimals ≤ 3 }
     ensures { result ≡ decimal_read decimals text.now }
 {
     if text.is_empty() {
@@ -80,7 +79,6 @@ fn count_digits(text: &[u8]) -> usize
 
 /// What stands after the whole digits: nothing, or a point and decimals.
 fn read_rest(whole: &[u8], rest: &[u8], decimals: u8) -> Result<u64, NumberFault>
-    requires decimals { decimals ≤ 3 }
     requires whole { digits_at_front whole.now ≡ length whole.now }
     requires places { length whole.now + length rest.now < 2 ^ 63 }
     ensures { result ≡ whole_read decimals whole.now rest.now }
@@ -99,7 +97,6 @@ fn read_rest(whole: &[u8], rest: &[u8], decimals: u8) -> Result<u64, NumberFault
 
 /// What stands after the point.
 fn read_parts(whole: &[u8], parts: &[u8], decimals: u8) -> Result<u64, NumberFault>
-    requires decimals { decimals ≤ 3 }
     requires whole { digits_at_front whole.now ≡ length whole.now }
     requires places { length whole.now + length parts.now < 2 ^ 63 }
     ensures { result ≡ parts_read decimals whole.now parts.now }
@@ -114,7 +111,6 @@ fn read_parts(whole: &[u8], parts: &[u8], decimals: u8) -> Result<u64, NumberFau
 /// The units of a text of good form.
 #[tactic(auto, using(crate::proofs::Digits::units_by_parts, crate::proofs::Digits::too_big_by_parts, crate::proofs::Digits::too_big_by_whole))]
 fn read_units(whole: &[u8], parts: &[u8], decimals: u8) -> Result<u64, NumberFault>
-    requires decimals { decimals ≤ 3 }
     requires whole { digits_at_front whole.now ≡ length whole.now }
     requires parts { digits_at_front parts.now ≡ length parts.now }
     requires places { length whole.now + length parts.now < 2 ^ 63 }
@@ -129,11 +125,26 @@ fn read_units(whole: &[u8], parts: &[u8], decimals: u8) -> Result<u64, NumberFau
     let Some(number) = number_from(number, parts) else {
         return Err(NumberFault::TooBig);
     };
-    let units = number * 10u64.pow((decimals as usize - parts.len()) as u32);
-    if units > LARGEST {
-        return Err(NumberFault::TooBig);
+    match scaled(number, decimals as usize - parts.len()) {
+        Some(units) => Ok(units),
+        None => Err(NumberFault::TooBig),
     }
-    Ok(units)
+}
+
+/// A number with so many zeros behind it, where it doesn't pass the largest.
+#[tactic(auto, using(crate::proofs::Digits::one_zero_more, crate::proofs::Digits::large_with_zeros))]
+fn scaled(number: u64, zeros: usize) -> Option<u64>
+    requires { number ≤ 10 ^ 12 }
+    ensures { MatchOption result (10 ^ 12 < number * 10 ^ zeros) (λ n. (n ≡ number * 10 ^ zeros) × (n ≤ 10 ^ 12)) }
+{
+    let mut units = number;
+    for _ in 0..zeros {
+        units *= 10;
+        if units > LARGEST {
+            return None;
+        }
+    }
+    Some(units)
 }
 
 /// The number that these digits make after those of a number, where it doesn't pass the largest.
@@ -169,10 +180,12 @@ mod tests {
             ("1.5", 0, Err(NumberFault::TooManyDecimals(2))),
             ("0.2", 2, Ok(20)),
             ("007", 3, Ok(7000)),
+            ("0", 255, Ok(0)),
+            ("1", 12, Ok(1_000_000_000_000)),
+            ("1", 13, Err(NumberFault::TooBig)),
             ("10000000000.00", 2, Ok(1_000_000_000_000)),
             ("10000000000.01", 2, Err(NumberFault::TooBig)),
         ] {
-            assert!(rt; decimals <= 3);
             assert_eq!(rt; read_decimal(text.as_bytes(), decimals), want, "{text}");
         }
         assert_eq!(rt; read_decimal(&[b'9'; 400], 0), Err(NumberFault::TooBig));

@@ -2,24 +2,33 @@
 //! numbers.
 #![tactic(auto)]
 
+mod calendar;
+mod counted;
 mod decimal;
 mod event;
-mod laws;
 mod line;
 mod reading;
 mod receipt;
 mod steps;
+mod texts;
+mod time;
 
+pub use calendar::{
+    date_of_place, date_place, dates_go_by_their_places, days_of_month, is_date, is_leap_year,
+};
+pub use counted::{AtMost, Counted, Keyed};
 pub use decimal::{NumberFault, number_at, read_decimal};
 pub use event::{Event, Key, Operating, Why};
-pub use laws::{
-    amounts_read_back, decimals_are_read_by_their_form, numbers_are_read_by_their_digits,
-    numbers_read_back, words_are_read_by_their_text,
-};
 pub use line::{Line, LineFull, put_bytes, put_money, put_number, put_padded};
 pub use reading::word;
 pub use receipt::{Display, Kind, Receipt, Stamp};
 pub use steps::Steps;
+pub use texts::{
+    amounts_are_written_by_their_digits, amounts_read_back, decimals_are_read_by_their_form,
+    numbers_are_read_by_their_digits, numbers_are_written_by_their_digits, numbers_read_back,
+    texts_of_numbers_are_short, words_are_read_by_their_text,
+};
+pub use time::{FIRST_SECOND, LAST_SECOND, LONGEST_TRIP};
 
 /// Memory ran out.
 #[derive(Clone, Copy, Debug, PartialEq, Eq)]

@@ -37,7 +37,8 @@ pub struct Display {
 }
 
 /// What a receipt says. `number` is the store's number after the entry, `hired_mm` the distance of
-/// the trip in millimetres, `steps` the number of display steps of `step` each, above `initial`.
+/// the trip in millimetres, `steps` the number of display steps of `step` each, above `initial`, and
+/// `minimum` what the fare is at least.
 #[derive(Clone, Copy, Debug, PartialEq, Eq)]
 pub struct Receipt {
     pub number: u64,
@@ -47,6 +48,7 @@ pub struct Receipt {
     pub position: u8,
     pub hired_mm: u128,
     pub initial: u64,
+    pub minimum: u64,
     pub steps: u64,
     pub step: u64,
     pub fare: u64,

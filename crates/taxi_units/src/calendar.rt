@@ -1,0 +1,137 @@
+//! The calendar: leap years, the lengths of months, and the places of dates in a leap year.
+ghost use Rattle.std.specs.Prelude.{◌≡◌, ◌⊎◌, ℕ, ◌≤◌, ◌↔◌, ◌<◌, ◌^◌, IsTrue, Some, None, sum};
+ghost use Rattle.taxi_units.specs.Calendar.{IsDate, IsLeapYearDate, IsMonth, date_of_place, date_place, days_of_month, is_date, is_leap_year, month_lengths};
+
+/// Whether a year is a leap year of the proleptic Gregorian calendar.
+pub fn is_leap_year(year: u16) -> bool
+    ensures { result ≡ is_leap_year year }
+{
+    year % 4 == 0 && (year % 100 != 0 || year % 400 == 0)
+}
+
+/// How many days a month of a year has. The month is 1 to 12.
+pub fn days_of_month(year: u16, month: u8) -> u8
+    requires { IsMonth month }
+    ensures { result ≡ days_of_month year month }
+{
+    month_lengths(is_leap_year(year))[month as usize - 1] as u8
+}
+
+/// Whether the calendar has a date. The month counts from 1 for January, the date from 1.
+pub fn is_date(year: u16, month: u8, date: u8) -> bool
+    ensures value { result ≡ is_date year month date }
+    ensures meaning { IsTrue result ↔ IsDate year month date }
+{
+    1 <= month && month <= 12 && 1 <= date && date <= days_of_month(year, month)
+}
+
+/// The place of a month and date in a leap year, from 0 for 1 January to 365 for 31 December. The places
+/// of what no leap year has mean nothing.
+pub fn date_place(month: u8, date: u8) -> u16
+    ensures { result ≡ date_place month date }
+{
+    let lengths = month_lengths(true);
+    let months = month.saturating_sub(1).min(12) as usize;
+    days_in(&lengths[..months]) + date.saturating_sub(1) as u16
+}
+
+/// The month and date at a place in a leap year: `None` where the place is above 365.
+pub fn date_of_place(place: u16) -> Option<(u8, u8)>
+    ensures { result ≡ date_of_place place }
+{
+    let mut month = 1;
+    let mut days = place;
+    for length in month_lengths(true) {
+        if days < length {
+            return Some((month, days as u8 + 1));
+        }
+        days -= length;
+        month += 1;
+    }
+    None
+}
+
+/// The 366 dates of a leap year and the places 0 to 365 go back and forth, and a date is before
+/// another where its place is.
+pub fn dates_go_by_their_places()
+    ensures places { (month date place : ℕ) → (date_of_place place ≡ Some (month, date))
+        ↔ (IsLeapYearDate month date × (date_place month date ≡ place)) }
+    ensures beyond { (place : ℕ) → (date_of_place place ≡ None) ↔ (366 ≤ place) }
+    ensures order { (month date later other : ℕ) → IsLeapYearDate month date → IsLeapYearDate later other
+        → (date_place month date < date_place later other) ↔ ((month < later) ⊎ ((month ≡ later) × (date < other))) }
+{}
+
+/// The days of the months from January to December.
+fn month_lengths(leap: bool) -> [u16; 12]
+    ensures { result ≡ month_lengths leap }
+{
+    [
+        31,
+        if leap { 29 } else { 28 },
+        31,
+        30,
+        31,
+        30,
+        31,
+        31,
+        30,
+        31,
+        30,
+        31,
+    ]
+}
+
+/// The days of these months together.
+fn days_in(lengths: &[u16]) -> u16
+    requires { sum lengths.now < 2 ^ 16 }
+    ensures { result ≡ sum lengths.now }
+{
+    lengths.iter().sum()
+}
+
+#[cfg(test)]
+mod tests {
+    use super::{date_of_place, date_place, days_of_month, is_date};
+
+    /// Rows of a year, a month and its days, as Python's calendar gives them.
+    #[test]
+    fn knows_the_months(rt: HostRuntime) {
+        for (year, month, days) in [
+            (1900, 2, 28),
+            (2000, 2, 29),
+            (2024, 2, 29),
+            (2026, 1, 31),
+            (2026, 2, 28),
+            (2026, 4, 30),
+            (2026, 7, 31),
+            (2026, 8, 31),
+            (2026, 11, 30),
+            (2100, 2, 28),
+        ] {
+            assert!(rt; 1 <= month && month <= 12);
+            assert_eq!(rt; days_of_month(year, month), days, "{year} {month}");
+            assert!(rt; is_date(year, month, days));
+            assert!(rt; !is_date(year, month, days + 1));
+        }
+        for (month, date) in [(0, 1), (13, 1), (1, 0)] {
+            assert!(rt; !is_date(2026, month, date));
+        }
+    }
+
+    /// Rows of a month, a date and the day of the year 2000 that Python's datetime gives, less one.
+    #[test]
+    fn places_dates(rt: HostRuntime) {
+        for (month, date, place) in [
+            (1, 1, 0),
+            (2, 28, 58),
+            (2, 29, 59),
+            (3, 1, 60),
+            (7, 31, 212),
+            (12, 31, 365),
+        ] {
+            assert_eq!(rt; date_place(month, date), place);
+            assert_eq!(rt; date_of_place(place), Some((month, date)));
+        }
+        assert_eq!(rt; date_of_place(366), None);
+    }
+}

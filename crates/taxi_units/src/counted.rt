@@ -1,0 +1,191 @@
+//! Lists whose reads are counted.
+ghost use Rattle.std.specs.Prelude.{◌≡◌, ℕ, ◌+◌, ◌<◌, Bool, true, false, ◌↔◌, IsTrue, length, count_by, MatchOption};
+ghost use Rattle.std.specs.List.Sorted.{IsPartitionPoint, IsPartitionedBy};
+ghost use Rattle.taxi_units.specs.Counted.{HalvesIn, IsElement, IsLastOf};
+
+use crate::steps::Steps;
+use std::marker::Model;
+use std::sync::ledger::Ledger;
+
+/// An element that is looked up by a key.
+pub trait Keyed: Copy {
+    /// What it is looked up by.
+    type Key: Copy;
+
+    /// Whether the element's key is at most a key.
+    ghost at_most: { Self → Self.Key → Bool };
+
+    /// Whether the element's key is at most this one.
+    fn is_at_most(&self, key: Self::Key) -> bool
+        ensures { result ≡ at_most self.now key };
+}
+
+/// A number is its own key.
+impl Keyed for u64 {
+    ghost use Rattle.std.specs.Prelude.{nat_le};
+
+    type Key = u64;
+
+    ghost at_most = { nat_le };
+
+    fn is_at_most(&self, key: u64) -> bool {
+        *self <= key
+    }
+}
+
+/// A signed number is its own key.
+impl Keyed for i32 {
+    ghost use Rattle.std.specs.Prelude.{int_le};
+
+    type Key = i32;
+
+    ghost at_most = { int_le };
+
+    fn is_at_most(&self, key: i32) -> bool {
+        *self <= key
+    }
+}
+
+/// A pair of a second and the offset that is in force from it on is looked up by its second.
+impl Keyed for (u64, i32) {
+    ghost use Rattle.std.specs.Prelude.{nat_le};
+
+    type Key = u64;
+
+    ghost at_most = { λ pair second. nat_le pair.0 second };
+
+    fn is_at_most(&self, second: u64) -> bool {
+        self.0 <= second
+    }
+}
+
+/// How many elements of a list are at most a key, and the last of them.
+#[derive(Clone, Copy, Debug, PartialEq, Eq)]
+pub struct AtMost<T> {
+    pub count: usize,
+    pub last: Option<T>,
+}
+
+/// A view of a list of which a look-up reads one element at a time, each read being one step. Its
+/// length costs none.
+#[derive(Drop)]
+pub struct Counted<'a, T> {
+    items: &'a [T],
+}
+
+impl<'a, T> Model for Counted<'a, T> {
+    ghost use Rattle.std.specs.Prelude.{List};
+
+    ghost Value = { List T };
+
+    ghost view = { λ c. c.items.now };
+}
+
+impl<'a, T: Copy> Counted<'a, T> {
+    /// A view of this list.
+    pub fn of(items: &'a [T]) -> Counted<'a, T>
+        ensures { result ≡ items.now }
+    {
+        Counted { items }
+    }
+
+    /// How many elements there are. No step.
+    pub fn len(&self) -> usize
+        ensures { result ≡ length self.now }
+    {
+        self.items.len()
+    }
+
+    /// Whether there are none. No step.
+    pub fn is_empty(&self) -> bool
+        ensures { IsTrue result ↔ (length self.now ≡ 0) }
+    {
+        self.items.is_empty()
+    }
+
+    /// Reads the element at a place, from 0, which is one step.
+    pub fn read<L: Ledger>(&self, place: usize, steps: &mut Steps<L>) -> T
+        requires { place < length self.now }
+        ensures value { IsElement self.now place result }
+        ensures step { steps.new ≡ steps.old + 1 }
+    {
+        steps.spend();
+        let items = self.items;
+        items[place]
+    }
+}
+
+impl<'a, T: Keyed> Counted<'a, T> {
+    /// How many elements are at most a key, and the last of them, in a list in which none of these comes
+    /// after one that isn't. It is found by halving, in no more steps than the length has binary digits.
+    pub fn at_most<L: Ledger>(&self, key: T::Key, steps: &mut Steps<L>) -> AtMost<T>
+        requires { IsPartitionedBy (λ element. T.at_most element key) self.now }
+        ensures count { result.count ≡ count_by (λ element. T.at_most element key) self.now }
+        ensures point { IsPartitionPoint (λ element. T.at_most element key ≡ true) (λ element. T.at_most element key ≡ false) self.now result.count }
+        ensures last { MatchOption result.last (result.count ≡ 0) (IsLastOf self.now result.count) }
+        ensures steps { HalvesIn (length self.now) steps.old steps.new }
+    {
+        let mut count = 0;
+        let mut last = None;
+        let mut end = self.len();
+        while count < end {
+            let middle = count + (end - count) / 2;
+            let element = self.read(middle, steps);
+            if element.is_at_most(key) {
+                count = middle + 1;
+                last = Some(element);
+            } else {
+                end = middle;
+            }
+        }
+        AtMost { count, last }
+    }
+}
+
+#[cfg(test)]
+mod tests {
+    use super::{AtMost, Counted};
+    use crate::steps::Steps;
+    use std::marker::Brand;
+    use std::sync::ledger::{Blank, Ledger};
+
+    /// What is found in a list that doesn't fall.
+    fn found<L: Ledger>(blank: Blank, list: &[u64], key: u64) -> Option<AtMost<u64>>
+        requires name { blank.name ≡ L.name }
+        requires parts { blank.parts ≡ L.parts }
+        requires some { 0 < blank.parts }
+    {
+        let mut steps: Steps<L> = Steps::open(blank);
+        if !list.is_sorted() {
+            return None;
+        }
+        Some(Counted::of(list).at_most(key, &mut steps))
+    }
+
+    /// Rows of a key, and the count that Python's bisect gives.
+    #[test]
+    fn finds_the_last_at_most(rt: HostRuntime) {
+        let list = [0, 59, 60, 60, 121, 365];
+        for (key, count, last) in [
+            (0, 1, Some(0)),
+            (58, 1, Some(0)),
+            (59, 2, Some(59)),
+            (60, 4, Some(60)),
+            (364, 5, Some(121)),
+            (u64::MAX, 6, Some(365)),
+        ] {
+            let want = AtMost { count, last };
+            assert_eq!(rt;
+                found::<Brand>(Blank::new(1), &list, key),
+                Some(want),
+                "{key}"
+            );
+        }
+        let none = AtMost {
+            count: 0,
+            last: None,
+        };
+        assert_eq!(rt; found::<Brand>(Blank::new(1), &list[1..], 58), Some(none));
+        assert_eq!(rt; found::<Brand>(Blank::new(1), &[], 58), Some(none));
+    }
+}
