@@ -3,21 +3,21 @@ use Rattle.std.proofs.Common.{◌≡◌, inl, inr, ℕ, zero, suc, ◌≤◌, �
 use Rattle.std.specs.List.{All}
 use Rattle.std.proofs.lemmas.List.{ext_get_or}
 use Rattle.outside.specs.Calls.{Call, Read, Write, Sync, Print, Contents, Kept, IsInSome, IsInStore, after, after_all, begun, call_end, done, overwrite}
-use Rattle.outside.specs.Disk.{IsWithin, SameBut}
+use Rattle.outside.specs.Disk.{AreBytes, IsWithin, SameBut}
 use Rattle.outside.specs.MemoryBoard.{inside}
 use Rattle.outside.specs.Moments.{Leaves, LeftBy}
 use Rattle.outside.proofs.Overwriting.{overwrite_same, overwrite_size}
 use Rattle.outside.proofs.Replaying.{kept_of}
 
-after_size : (held : Contents) (call : Call) (failed : Bool) → length held.image ≡ 2048 → call_end call ≤ 2048 → length (after held (kept_of call failed)).image ≡ 2048
-after_size held Read true size fits = size
-after_size held Read false size fits = size
-after_size held (Write at bytes) true size fits = size
-after_size held (Write at bytes) false size fits = overwrite_size at bytes held.image (omega (arith, size, fits)) ∙ size
-after_size held Sync true size fits = size
-after_size held Sync false size fits = size
-after_size held (Print bytes) true size fits = size
-after_size held (Print bytes) false size fits = size
+after_size : (store : ℕ) (held : Contents) (call : Call) (failed : Bool) → length held.image ≡ store → call_end call ≤ store → length (after held (kept_of call failed)).image ≡ store
+after_size store held Read true size fits = size
+after_size store held Read false size fits = size
+after_size store held (Write at bytes) true size fits = size
+after_size store held (Write at bytes) false size fits = overwrite_size at bytes held.image (omega (arith, size, fits)) ∙ size
+after_size store held Sync true size fits = size
+after_size store held Sync false size fits = size
+after_size store held (Print bytes) true size fits = size
+after_size store held (Print bytes) false size fits = size
 
 -- what a cut may leave now is among what one at these calls might have left
 pub left_first : (held : Contents) (calls : List Kept) (i x : List ℕ) → Leaves held i x → LeftBy held calls i x
@@ -25,31 +25,32 @@ left_first held [] i x now = now
 left_first held (kept ∷ more) i x now = inl now
 
 -- the same at the first call, once it has begun
-left_begun : (held : Contents) (call : Call) (failed : Bool) (more : List Kept) (i : List ℕ) → length held.image ≡ 2048 → call_end call ≤ 2048
+left_begun : (store : ℕ) (held : Contents) (call : Call) (failed : Bool) (more : List Kept) (i : List ℕ) → AreBytes i → length held.image ≡ store → call_end call ≤ store
     → SameBut (IsInSome (begun held call).ranges) (begun held call).image i → LeftBy held (kept_of call failed ∷ more) i (begun held call).text
-left_begun held Read failed more i size fits left = inl (record { bytes = left; text = refl })
-left_begun held (Write at bytes) true more i size fits left = inr (inr (left_first (begun held (Write at bytes)) more i held.text (record { bytes = left; text = refl })))
-left_begun held (Write at bytes) false more i size fits left = inr (inr (left_first (done held (Write at bytes)) more i held.text (record {
+left_begun store held Read failed more i small size fits left = inl (record { bytes = left; small = small; text = refl })
+left_begun store held (Write at bytes) true more i small size fits left = inr (inr (left_first (begun held (Write at bytes)) more i held.text (record { bytes = left; small = small; text = refl })))
+left_begun store held (Write at bytes) false more i small size fits left = inr (inr (left_first (done held (Write at bytes)) more i held.text (record {
   bytes = record {
     size = left.size ∙ sym put.size;
     rest = λ place none. left.rest place none ∙ sym (put.rest place (λ r. none (inr r)));
   };
+  small = small;
   text = refl;
 })))
   where
     put : SameBut (IsWithin at (length bytes)) held.image (overwrite at bytes held.image)
     put = overwrite_same at bytes held.image (omega (arith, size, fits))
-left_begun held Sync failed more i size fits left = inl (record { bytes = left; text = refl })
-left_begun held (Print bytes) failed more i size fits left = inl (record { bytes = left; text = refl })
+left_begun store held Sync failed more i small size fits left = inl (record { bytes = left; small = small; text = refl })
+left_begun store held (Print bytes) failed more i small size fits left = inl (record { bytes = left; small = small; text = refl })
 
 -- what a cut inside a call may leave is what one at some moment might have left
-pub left_inside : (held : Contents) (calls : List Kept) (number : ℕ) (i : List ℕ) → length held.image ≡ 2048 → All IsInStore calls
+pub left_inside : (store : ℕ) (held : Contents) (calls : List Kept) (number : ℕ) (i : List ℕ) → AreBytes i → length held.image ≡ store → All (IsInStore store) calls
     → SameBut (IsInSome (inside held calls number).ranges) (inside held calls number).image i → LeftBy held calls i (inside held calls number).text
-left_inside held calls zero i size fits left = left_first held calls i held.text (record { bytes = left; text = refl })
-left_inside held [] (suc number) i size fits left = record { bytes = left; text = refl }
-left_inside held (kept ∷ more) (suc zero) i size fits left = left_begun held kept.call kept.failed more i size (fits 0 kept (omega arith)) left
-left_inside held (kept ∷ more) (suc (suc number)) i size fits left =
-    inr (inr (left_inside (after held kept) more (suc number) i (after_size held kept.call kept.failed size (fits 0 kept (omega arith))) (λ k d below. fits (suc k) d (omega (arith, below))) left))
+left_inside store held calls zero i small size fits left = left_first held calls i held.text (record { bytes = left; small = small; text = refl })
+left_inside store held [] (suc number) i small size fits left = record { bytes = left; small = small; text = refl }
+left_inside store held (kept ∷ more) (suc zero) i small size fits left = left_begun store held kept.call kept.failed more i small size (fits 0 kept (omega arith)) left
+left_inside store held (kept ∷ more) (suc (suc number)) i small size fits left =
+    inr (inr (left_inside store (after held kept) more (suc number) i small (after_size store held kept.call kept.failed size (fits 0 kept (omega arith))) (λ k d below. fits (suc k) d (omega (arith, below))) left))
 
 -- what a cut inside a call finds is what the calls before it leave, with the call begun
 pub inside_is : (held : Contents) (calls : List Kept) (number : ℕ) (kept : Kept) → number < length calls → kept ≡ get_or calls number kept

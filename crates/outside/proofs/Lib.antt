@@ -1,7 +1,7 @@
-pub mod Beginnings
 mod Cutting
 mod Filling
 mod Keeping
 mod Kept
+pub mod Laws
 mod Overwriting
 mod Replaying

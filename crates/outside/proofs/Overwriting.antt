@@ -1,10 +1,11 @@
 -- What bytes that are put from a place on leave of an image.
-use Rattle.std.proofs.Common.{◌≡◌, ◌⊎◌, inl, inr, ⊎_elim, ℕ, ◌≤◌, ◌<◌, ◌+◌, ◌-◌, ◌∙◌, ap, List, ◌++◌, length, take, drop, get_or, arith, length-append, length-take, length-drop}
+use Rattle.std.proofs.Common.{◌≡◌, ◌⊎◌, inl, inr, ⊎_elim, ℕ, zero, suc, ◌≤◌, ◌<◌, ◌+◌, ◌-◌, ◌∙◌, ap, subst, sym, List, [], ◌∷◌, ◌++◌, length, take, drop, get_or, arith, length-append, length-take, length-drop}
 use Rattle.std.proofs.lemmas.Grind.{common_steps}
 use Rattle.std.proofs.lemmas.Bool.{cases_lt}
 use Rattle.std.proofs.lemmas.List.{get_or_append_left, get_or-append_right, get_or-take, get_or-drop}
 use Rattle.outside.specs.Calls.{overwrite}
-use Rattle.outside.specs.Disk.{IsWithin, SameBut}
+use Rattle.outside.specs.Disk.{AreBytes, IsWithin, SameBut}
+use Rattle.outside.proofs.Laws.{slice_bytes}
 
 module _ (at : ℕ) (bytes image : List ℕ) (fits : at + length bytes ≤ length image) where
   front_size : length (take at image ++ bytes) ≡ at + length bytes
@@ -34,3 +35,13 @@ module _ (at : ℕ) (bytes image : List ℕ) (fits : at + length bytes ≤ lengt
 
   pub overwrite_written : take (length bytes) (drop at (overwrite at bytes image)) ≡ bytes
   overwrite_written = grind (arith, fits, common_steps)
+
+-- bytes of bytes
+append_bytes : (front back : List ℕ) → AreBytes front → AreBytes back → (place : ℕ) → get_or (front ++ back) place 0 < 256
+append_bytes [] back small more place = more place
+append_bytes (byte ∷ front) back small more zero = small 0
+append_bytes (byte ∷ front) back small more (suc place) = append_bytes front back (λ k. small (suc k)) more place
+
+pub overwrite_bytes : (at : ℕ) (bytes image : List ℕ) → AreBytes image → AreBytes bytes → AreBytes (overwrite at bytes image)
+overwrite_bytes at bytes image small more = append_bytes (take at image ++ bytes) (drop (at + length bytes) image) (append_bytes (take at image) bytes (slice_bytes image 0 at small) more)
+    (λ place. subst (λ (byte : ℕ). byte < 256) (sym (get_or-drop (at + length bytes) image place 0)) (small (at + length bytes + place)))

@@ -63,9 +63,9 @@ call_end (Write at bytes) = at + length bytes
 call_end Sync = 0
 call_end (Print bytes) = 0
 
--- a write lies in the store
-abbrev pub IsInStore : Kept → Type 0
-IsInStore kept = call_end kept.call ≤ 2048
+-- a write lies in a store of this size
+abbrev pub IsInStore : ℕ → Kept → Type 0
+IsInStore size kept = call_end kept.call ≤ size
 
 -- this image and this text are those that a board holds
 pub record Mirrors (held : Contents) (image text : List ℕ) : Type 0 where

@@ -7,6 +7,8 @@ pub mod MemoryFiles
 pub mod MomentLaws
 pub mod Moments
 pub mod Printing
+pub mod QuietBoard
 pub mod Reading
 pub mod Replays
 pub mod Requests
+pub mod Runs

@@ -1,6 +1,7 @@
 -- What a board in memory is.
-use Rattle.std.specs.Prelude.{ℕ, zero, suc, ◌+◌, List, [], ◌∷◌, ◌++◌, length, count_by, true, false, Contains}
+use Rattle.std.specs.Prelude.{◌≡◌, ◌⊎◌, ℕ, zero, suc, ◌+◌, List, [], ◌∷◌, ◌++◌, length, count_by, true, false, Contains}
 use Rattle.outside.specs.Calls.{Call, Print, Kept, Contents, IsInSome, opened, begun, after, after_all}
+use Rattle.outside.specs.Disk.{Elapses, IsImage}
 use Rattle.outside.specs.Faults.{one_more}
 use Rattle.outside.specs.Moments.{LeftSince}
 
@@ -10,6 +11,10 @@ pub record BoardState : Type 0 where
   pub fail : List ℕ
   pub calls : List Kept
   pub refused : ℕ
+
+-- a board that no call was made of
+abbrev pub new_board : List ℕ → List ℕ → BoardState
+new_board image fail = record { start = image; fail = fail; calls = []; refused = 0 }
 
 -- what the board holds now
 abbrev pub held_by : BoardState → Contents
@@ -39,6 +44,20 @@ left_since_of board start left_image left_text = LeftSince (opened board.start) 
 abbrev pub faults_of : BoardState → ℕ
 faults_of board = board.refused + count_by (λ kept. kept.failed) board.calls
 
+-- a board in memory: its image is one that a store of 2,048 bytes may hold
+pub record Memory : Type 0 where
+  pub state : BoardState
+  pub is_image : IsImage 2048 (image_of state)
+
+-- at moment 0 the store holds this image, nothing is in flight or printed, and there were no faults; a cut might have left that alone
+pub record IsNew (image : List ℕ) (board : BoardState) : Type 0 where
+  pub image_is : image_of board ≡ image
+  pub settled : (place : ℕ) → ¬ in_flight_of board place
+  pub text_is : text_of board ≡ []
+  pub faults_are : faults_of board ≡ 0
+  pub moment_is : moment_of board ≡ 0
+  pub left : (left_image left_text : List ℕ) → left_since_of board 0 left_image left_text → (left_image ≡ image) × (left_text ≡ [])
+
 -- the next call fails by its number
 abbrev pub IsListedCall : BoardState → Type 0
 IsListedCall board = Contains board.fail (length board.calls + 1)
@@ -58,6 +77,18 @@ failed_on board call = record board { calls = board.calls ++ record { call = cal
 -- the board after a call that found no memory, which isn't kept
 abbrev pub refused_on : BoardState → BoardState
 refused_on board = record board { refused = one_more board.refused }
+
+-- the call was kept and didn't fail
+abbrev pub IsDone : BoardState → Call → BoardState → Type 0
+IsDone old call new = (¬ IsListedCall old) × (new ≡ done_on old call)
+
+-- the call was kept and failed by its number, or it was refused
+abbrev pub IsUndone : BoardState → Call → BoardState → Type 0
+IsUndone old call new = (IsListedCall old × (new ≡ failed_on old call)) ⊎ (new ≡ refused_on old)
+
+-- time went on, with these outcomes
+abbrev pub TimePasses : BoardState → BoardState → (List ℕ → List ℕ → Type 0) → Type 0
+TimePasses old new outcome = Elapses (moment_of old) (moment_of new) (left_since_of old) (left_since_of new) outcome
 
 -- what these calls leave inside the one with a number, which has begun and isn't over; 0 is before the first
 abbrev pub inside : Contents → List Kept → ℕ → Contents

@@ -1,16 +1,15 @@
 //! The boards, call by call.
 ghost use Rattle.std.specs.Prelude.{◌≡◌, ◌<◌};
 
-use crate::{Board, Failed, FileBoard, Fill, MemoryBoard, QuietBoard};
+use crate::{Board, Failed, Fill, MemoryBoard, QuietBoard};
 use std::marker::Brand;
 use std::sync::ledger::{Blank, Ledger};
 use std::test::Fail;
-use std::{fs, io};
 use taxi_units::Steps;
 
 /// What is asked of a board.
 #[derive(Drop)]
-enum Asked<'a> {
+pub(crate) enum Asked<'a> {
     Read(u16),
     Write(u16, &'a [u8]),
     Sync,
@@ -63,11 +62,39 @@ const FAILED_CUTS: [(u64, Fill, [u8; 6]); 6] = [
     (7, Fill::Byte(165), [165, 165, 165, 165, 165, 0]),
 ];
 
-/// Makes a call under a new counter, and answers the four bytes of a read, and zeros of any other
-/// call. A piece that doesn't lie in the store isn't asked for.
-fn counted<B: Board, L: Ledger>(
-    blank: Blank,
+/// Makes a call, and answers the four bytes of a read, and zeros of any other call. A piece that doesn't
+/// lie in the store isn't asked for.
+pub(crate) fn call<B: Board<L>, L: Ledger>(
     board: &mut B,
+    asked: &Asked,
+    steps: &mut Steps<L>,
+) -> Result<[u8; 4], Failed> {
+    let mut buf = [0; 4];
+    match asked {
+        Asked::Read(at) => {
+            if *at <= 2044 {
+                board.read(*at, &mut buf, steps)?;
+            }
+        }
+        Asked::Write(at, bytes) => {
+            if !bytes.is_empty() && bytes.len() <= 512 && *at as usize + bytes.len() <= 2048 {
+                board.write_at(*at, bytes, steps)?;
+            }
+        }
+        Asked::Sync => board.sync(steps)?,
+        Asked::Print(bytes) => {
+            if !bytes.is_empty() && bytes.len() <= 512 {
+                board.print(bytes, steps)?;
+            }
+        }
+    }
+    Ok(buf)
+}
+
+/// Makes a call of a memory board under a new counter.
+fn counted<L: Ledger>(
+    blank: Blank,
+    board: &mut MemoryBoard,
     asked: &Asked,
 ) -> Result<[u8; 4], Failed>
     requires name { blank.name ≡ L.name }
@@ -75,31 +102,31 @@ fn counted<B: Board, L: Ledger>(
     requires one { 0 < blank.parts }
 {
     let mut steps: Steps<L> = Steps::open(blank);
-    let mut buf = [0; 4];
-    match asked {
-        Asked::Read(at) => {
-            if *at <= 2044 {
-                board.read(*at, &mut buf, &mut steps)?;
-            }
-        }
-        Asked::Write(at, bytes) => {
-            if !bytes.is_empty() && bytes.len() <= 512 && *at as usize + bytes.len() <= 2048 {
-                board.write_at(*at, bytes, &mut steps)?;
-            }
-        }
-        Asked::Sync => board.sync(&mut steps)?,
-        Asked::Print(bytes) => {
-            if !bytes.is_empty() && bytes.len() <= 512 {
-                board.print(bytes, &mut steps)?;
-            }
-        }
-    }
-    Ok(buf)
+    call(board, asked, &mut steps)
 }
 
-/// Makes a call.
-fn ask<B: Board>(board: &mut B, asked: &Asked) -> Result<[u8; 4], Failed> {
-    counted::<B, Brand>(Blank::new(1), board, asked)
+/// Makes a call of a memory board.
+fn ask(board: &mut MemoryBoard, asked: &Asked) -> Result<[u8; 4], Failed> {
+    counted::<Brand>(Blank::new(1), board, asked)
+}
+
+/// Makes a call of a quiet board under a new counter.
+fn counted_quietly<L: Ledger>(
+    blank: Blank,
+    board: &mut QuietBoard,
+    asked: &Asked,
+) -> Result<[u8; 4], Failed>
+    requires name { blank.name ≡ L.name }
+    requires parts { blank.parts ≡ L.parts }
+    requires one { 0 < blank.parts }
+{
+    let mut steps: Steps<L> = Steps::open(blank);
+    call(board, asked, &mut steps)
+}
+
+/// Makes a call of a quiet board.
+fn ask_quietly(board: &mut QuietBoard, asked: &Asked) -> Result<[u8; 4], Failed> {
+    counted_quietly::<Brand>(Blank::new(1), board, asked)
 }
 
 /// Whether the call was kept, and a cut inside it leaves these bytes in front.
@@ -184,54 +211,7 @@ fn calls_of_a_quiet_board(rt: HostRuntime) {
         (Asked::Read(0), [3; 4]),
     ];
     for (asked, want) in &rows {
-        let read = ask(&mut board, asked);
+        let read = ask_quietly(&mut board, asked);
         assert_eq!(rt; read, Ok(*want));
     }
-}
-
-/// Whether each call of the store fails where a folder has its name.
-fn fails_over_a_folder(rt: HostRuntime) -> io::Result<bool> {
-    fs::create_dir(&rt, "taxi.store")?;
-    let mut board = FileBoard::new(rt, rt.alloc());
-    let mut failed = true;
-    for asked in &[Asked::Read(0), Asked::Write(0, &[1]), Asked::Sync] {
-        failed = failed && ask(&mut board, asked) == Err(Failed);
-    }
-    fs::remove_dir(&rt, "taxi.store")?;
-    Ok(failed)
-}
-
-/// The store's whole way: there is no file, the first write makes it, and another board reads it. A
-/// short file reads as zeros behind its end, and a folder isn't a store.
-#[test]
-fn the_store_of_the_system(rt: HostRuntime) -> Result<(), Fail> {
-    let _ = fs::remove_file(&rt, "taxi.store");
-    let rows = [
-        (Asked::Read(0), [0; 4], false),
-        (Asked::Sync, [0; 4], false),
-        (Asked::Write(1, &[1, 2]), [0; 4], true),
-        (Asked::Write(2047, &[9]), [0; 4], true),
-        (Asked::Read(0), [0, 1, 2, 0], true),
-        (Asked::Sync, [0; 4], true),
-        (Asked::Print(b"FOR HIRE\n"), [0; 4], true),
-    ];
-    let mut board = FileBoard::new(rt, rt.alloc());
-    for (asked, want, is_made) in &rows {
-        let read = ask(&mut board, asked);
-        assert_eq!(rt; read, Ok(*want));
-        assert_eq!(rt; fs::metadata(&rt, "taxi.store").is_ok(), *is_made);
-    }
-    assert_eq!(rt; fs::metadata(&rt, "taxi.store")?.len(), 2048);
-    let mut board = FileBoard::new(rt, rt.alloc());
-    for (at, want) in [(0, [0, 1, 2, 0]), (2044, [0, 0, 0, 9])] {
-        let read = ask(&mut board, &Asked::Read(at));
-        assert_eq!(rt; read, Ok(want));
-    }
-    fs::write(&rt, "taxi.store", [5u8, 6].as_slice())?;
-    let mut board = FileBoard::new(rt, rt.alloc());
-    let read = ask(&mut board, &Asked::Read(0));
-    assert_eq!(rt; read, Ok([5, 6, 0, 0]));
-    fs::remove_file(&rt, "taxi.store")?;
-    assert!(rt; fails_over_a_folder(rt)?);
-    Ok(())
 }

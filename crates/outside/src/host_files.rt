@@ -1,14 +1,16 @@
 //! The files of the system.
-ghost use Rattle.std.specs.Prelude.{◌≡◌, ◌<◌, ◌≤◌, [], length, map, string_bytes, IfSome};
+ghost use Rattle.std.specs.Prelude.{◌≡◌, ◌<◌, ◌≤◌, [], length, map, string_bytes, IfOk};
 ghost use Rattle.outside.specs.HostFiles.{HostState};
 
+use crate::failures::counted;
 use crate::fault::Failed;
 use crate::files::Files;
+use crate::retried::read_some;
 use std::alloc::Global;
-use std::fs;
-use std::io::Read;
+use std::io::ErrorKind;
 use std::marker::Model;
 use std::rt::Files as HostSystem;
+use std::{fs, io};
 
 /// A file that was opened, and the place of its word.
 #[derive(Drop)]
@@ -17,11 +19,12 @@ struct Opened<T: Drop> {
     file: T,
 }
 
-/// The files of the system that the program's words name. Each is opened at its first read and
-/// stays open. A word beyond them, a file that can't be opened, and an opening that finds no memory
-/// are failed reads. Nothing is told of what the files hold. The count of faults of every word is the
-/// number of reads that failed, of all words together, which stands still at the last value of a
-/// `u64`.
+/// The files of the system that the program's words name. Each is opened at its first read and stays
+/// open. A word beyond them, a file that can't be opened, and an opening that finds no memory are failed
+/// reads. An error of the system is never told as an end: a read is Ok exactly where the system answered
+/// no error. A read that a signal interrupts is made again, 64 times at most in all. Nothing is told of
+/// what the files hold. The count of faults of every word is the number of reads that failed, of all words
+/// together, which stands still at the last value of a `u64`.
 #[derive(Drop)]
 pub struct HostFiles<'a, R: HostSystem + Drop> {
     rt: R,
@@ -50,31 +53,33 @@ impl<'a, R: HostSystem + Drop> HostFiles<'a, R> {
     }
 
     /// The place of the word's file among those that are open. It is opened where it isn't yet.
-    fn place(&mut self, word: usize) -> Option<usize>
+    fn place(&mut self, word: usize) -> io::Result<usize>
         ensures { self.new ≡ self.old }
     {
         if let Some(place) = self.opened.iter().position(|opened| opened.word == word) {
-            return Some(place);
+            return Ok(place);
         }
-        let name = self.words.get(word)?;
-        let Ok(file) = fs::open(&self.rt, name.as_str()) else {
-            return None;
+        let Some(name) = self.words.get(word) else {
+            return Err(io::Error::from(ErrorKind::NotFound));
         };
+        let file = fs::open(&self.rt, name.as_str())?;
         let place = self.opened.len();
         match self.opened.push(Opened { word, file }) {
-            Ok(()) => Some(place),
-            Err(_) => None,
+            Ok(()) => Ok(place),
+            Err(_) => Err(io::Error::from(ErrorKind::OutOfMemory)),
         }
     }
 
-    /// Reads from the word's file, where that can be done.
-    fn attempt(&mut self, word: usize, buf: &mut [u8]) -> Option<usize>
-        ensures within { IfSome result (λ n. n ≤ length buf.old) }
+    /// Reads from the word's file.
+    fn attempt(&mut self, word: usize, buf: &mut [u8]) -> io::Result<usize>
+        ensures within { IfOk result (λ n. n ≤ length buf.old) }
         ensures same { self.new ≡ self.old }
     {
         let place = self.place(word)?;
-        let opened = self.opened.get_mut(place)?;
-        opened.file.read(buf).ok()
+        match self.opened.get_mut(place) {
+            Some(opened) => read_some(&mut opened.file, buf),
+            None => Err(io::Error::from(ErrorKind::NotFound)),
+        }
     }
 }
 
@@ -86,12 +91,7 @@ impl<'a, R: HostSystem + Drop> Files for HostFiles<'a, R> {
     ghost faults = { λ f _. f.failed };
 
     fn read(&mut self, word: usize, buf: &mut [u8]) -> Result<usize, Failed> {
-        match self.attempt(word, buf) {
-            Some(count) => Ok(count),
-            None => {
-                self.failures = self.failures.saturating_add(1);
-                Err(Failed)
-            }
-        }
+        let answer = self.attempt(word, buf);
+        counted(&mut self.failures, answer)
     }
 }

@@ -4,30 +4,45 @@
 #![tactic(auto)]
 
 mod board;
+mod failures;
 mod fault;
 mod file_board;
 mod file_store;
 mod files;
 mod host_files;
+mod image;
 mod kept_call;
+mod list_laws;
 mod memory_board;
 mod memory_file;
 mod memory_files;
 mod memory_state;
 mod quiet_board;
 mod replay;
+mod retried;
+mod run_laws;
+mod store_file;
+mod text;
 
 pub use board::Board;
 pub use fault::Failed;
 pub use file_board::FileBoard;
-pub use files::{Files, fill};
+pub use files::Files;
 pub use host_files::HostFiles;
+pub use list_laws::{Places, a_slice_of_bytes, a_slice_that_is_not_touched, what_begins_a_text};
 pub use memory_board::MemoryBoard;
 pub use memory_files::MemoryFiles;
 pub use quiet_board::QuietBoard;
 pub use replay::Fill;
+pub use run_laws::{
+    Kind, a_kept_store_is_left, a_print_is_a_run, a_run_after_another, a_run_that_calls_nothing,
+    a_wider_kind,
+};
+pub use text::{RoomFault, TextFault, read_text, read_whole};
 
 #[cfg(test)]
 mod board_tests;
+#[cfg(test)]
+mod file_tests;
 #[cfg(test)]
 mod tests;

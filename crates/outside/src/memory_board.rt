@@ -1,9 +1,9 @@
 //! A board in memory, of which chosen calls fail.
 ghost use Rattle.std.specs.Prelude.{◌≡◌, ◌⊎◌, ℕ, ◌+◌, ◌<◌, ◌≤◌, ◌++◌, List, [], length, take, drop, IfOk, OnOk, OnErr};
 ghost use Rattle.outside.specs.Calls.{Read, Write, Sync, Print, IsInSome, opened};
-ghost use Rattle.outside.specs.Disk.{IsPiece, IsWithin, SameBut, MayLeave, MayLeaveAmid, Elapses};
+ghost use Rattle.outside.specs.Disk.{IsImage, IsPiece, IsWithin, SameBut, MayLeave, MayLeaveAmid};
 ghost use Rattle.outside.specs.Faults.{HasCause};
-ghost use Rattle.outside.specs.MemoryBoard.{BoardState, IsListedCall, done_on, failed_on, faults_of, held_inside, image_of, in_flight_of, left_since_of, moment_of, printed_on, refused_on, text_of};
+ghost use Rattle.outside.specs.MemoryBoard.{Memory, IsDone, IsNew, IsUndone, TimePasses, new_board, faults_of, held_inside, image_of, in_flight_of, left_since_of, moment_of, text_of};
 ghost use Rattle.outside.specs.MomentLaws.{counts_now, only_now};
 ghost use Rattle.outside.specs.Printing.{Begins};
 
@@ -12,6 +12,7 @@ use crate::fault::Failed;
 use crate::memory_state::MemoryState;
 use crate::replay::Fill;
 use std::alloc::Global;
+use std::marker::Model;
 use std::sync::ledger::Ledger;
 use taxi_units::{NoMemory, Steps};
 
@@ -24,14 +25,21 @@ use taxi_units::{NoMemory, Steps};
 #[derive(Drop)]
 pub struct MemoryBoard {
     state: MemoryState,
-    ghost size: { length (image_of state) ≡ 2048 },
+    ghost is_image: { IsImage 2048 (image_of state) },
+}
+
+impl Model for MemoryBoard {
+    ghost Value = { Memory };
+
+    ghost view = { λ b. record { state = b.state; is_image = b.is_image } };
 }
 
 impl MemoryBoard {
-    /// A board whose store holds these bytes, with nothing in flight and nothing printed. The calls
-    /// with the numbers in `fail` will fail. `NoMemory` comes only where there is no memory.
+    /// A board at moment 0, whose store holds these bytes, with nothing in flight, nothing printed and
+    /// no faults. The calls with the numbers in `fail` will fail. `NoMemory` comes only where there is no memory.
     pub fn new(alloc: Global, image: &[u8; 2048], fail: &[u64]) -> Result<MemoryBoard, NoMemory>
-        ensures { IfOk result (λ b. b.state ≡ record { start = image.now; fail = fail.now; calls = []; refused = 0 }) }
+        ensures state { IfOk result (λ b. b.state ≡ new_board image.now fail.now) }
+        ensures new { IfOk result (λ b. IsNew image.now b.state) }
     {
         let state = MemoryState::new(alloc, image, fail)?;
         Ok(MemoryBoard { state })
@@ -72,15 +80,17 @@ impl MemoryBoard {
     pub fn cut(&self, call: u64, fill: Fill) -> [u8; 2048]
         requires { call ≤ length self.now.state.calls }
         ensures left { left_since_of self.now.state 0 result (held_inside self.now.state call).text }
-        ensures inside { SameBut (IsInSome (held_inside self.now.state call).ranges) (held_inside self.now.state call).image result }
-        ensures settled { (held_inside self.now.state call).ranges ≡ [] → result ≡ (held_inside self.now.state call).image }
+        ensures inside { SameBut (IsInSome (held_inside self.now.state call).ranges)
+            (held_inside self.now.state call).image result }
+        ensures settled { (held_inside self.now.state call).ranges ≡ []
+            → result ≡ (held_inside self.now.state call).image }
         ensures zero { call ≡ 0 → result ≡ self.now.state.start }
     {
         self.state.cut(call, fill)
     }
 }
 
-impl Board for MemoryBoard {
+impl<L: Ledger> Board<L> for MemoryBoard {
     ghost tells_image = { Unit {0} };
 
     ghost tells_text = { Unit {0} };
@@ -97,94 +107,87 @@ impl Board for MemoryBoard {
 
     ghost faults = { λ b. faults_of b.state };
 
-    ghost store = { λ b _. b.size };
+    ghost store = { λ b _. b.is_image };
 
-    ghost counts_now = { λ b start left_image left_text _ _ le now. counts_now (opened b.state.start) b.state.calls start left_image left_text le now };
+    ghost counts_now = { λ b start left_image left_text _ _ le now.
+        counts_now (opened b.state.start) b.state.calls start left_image left_text le now };
 
-    ghost only_now = { λ b left_image left_text left. only_now (opened b.state.start) b.state.calls left_image left_text left };
+    ghost only_now = { λ b left_image left_text left.
+        only_now (opened b.state.start) b.state.calls left_image left_text left };
 
-    fn read<L: Ledger>(
-        &mut self,
-        at: u16,
-        buf: &mut [u8],
-        steps: &mut Steps<L>,
-    ) -> Result<(), Failed>
-        requires { IsPiece at (length buf.old) }
+    fn read(&mut self, at: u16, buf: &mut [u8], steps: &mut Steps<L>) -> Result<(), Failed>
+        requires { IsPiece 2048 at (length buf.old) }
         ensures bytes { OnOk result (buf.new ≡ take (length buf.old) (drop at (image_of self.old.state))) }
         ensures image { image_of self.new.state ≡ image_of self.old.state }
         ensures flight { (place : ℕ) → in_flight_of self.new.state place → in_flight_of self.old.state place }
         ensures text { text_of self.new.state ≡ text_of self.old.state }
-        ensures time { Elapses (moment_of self.old.state) (moment_of self.new.state) (left_since_of self.old.state) (left_since_of self.new.state)
+        ensures time { TimePasses self.old.state self.new.state
             (MayLeave (image_of self.new.state) (in_flight_of self.new.state) (text_of self.new.state)) }
         ensures cause { HasCause (faults_of self.old.state) (faults_of self.new.state) result }
         ensures step { steps.new ≡ steps.old + 1 }
 
         // A call that is kept fails exactly by its number. One that isn't kept was refused.
-        ensures kept { OnOk result ((¬ IsListedCall self.old.state) × (self.new.state ≡ done_on self.old.state Read)) }
-        ensures failed { OnErr result ((IsListedCall self.old.state × (self.new.state ≡ failed_on self.old.state Read)) ⊎ (self.new.state ≡ refused_on self.old.state)) }
+        ensures kept { OnOk result (IsDone self.old.state Read self.new.state) }
+        ensures failed { OnErr result (IsUndone self.old.state Read self.new.state) }
     {
         steps.spend();
         self.state.keep_read(at, buf)
     }
 
-    fn write_at<L: Ledger>(
-        &mut self,
-        at: u16,
-        bytes: &[u8],
-        steps: &mut Steps<L>,
-    ) -> Result<(), Failed>
-        requires { IsPiece at (length bytes.now) }
+    fn write_at(&mut self, at: u16, bytes: &[u8], steps: &mut Steps<L>) -> Result<(), Failed>
+        requires { IsPiece 2048 at (length bytes.now) }
         ensures written { OnOk result (take (length bytes.now) (drop at (image_of self.new.state)) ≡ bytes.now) }
         ensures image { SameBut (IsWithin at (length bytes.now)) (image_of self.old.state) (image_of self.new.state) }
-        ensures flight { (place : ℕ) → in_flight_of self.new.state place → in_flight_of self.old.state place ⊎ IsWithin at (length bytes.now) place }
+        ensures flight { (place : ℕ) → in_flight_of self.new.state place → in_flight_of self.old.state place
+            ⊎ IsWithin at (length bytes.now) place }
         ensures text { text_of self.new.state ≡ text_of self.old.state }
-        ensures time { Elapses (moment_of self.old.state) (moment_of self.new.state) (left_since_of self.old.state) (left_since_of self.new.state)
+        ensures time { TimePasses self.old.state self.new.state
             (MayLeave (image_of self.new.state) (in_flight_of self.new.state) (text_of self.new.state)) }
         ensures cause { HasCause (faults_of self.old.state) (faults_of self.new.state) result }
         ensures step { steps.new ≡ steps.old + 1 }
 
         // A call that is kept fails exactly by its number. One that isn't kept was refused.
-        ensures kept { OnOk result ((¬ IsListedCall self.old.state) × (self.new.state ≡ done_on self.old.state (Write at bytes.now))) }
-        ensures failed { OnErr result ((IsListedCall self.old.state × (self.new.state ≡ failed_on self.old.state (Write at bytes.now))) ⊎ (self.new.state ≡ refused_on self.old.state)) }
+        ensures kept { OnOk result (IsDone self.old.state (Write at bytes.now) self.new.state) }
+        ensures failed { OnErr result (IsUndone self.old.state (Write at bytes.now) self.new.state) }
     {
         steps.spend();
         self.state.keep_write(at, bytes)
     }
 
-    fn sync<L: Ledger>(&mut self, steps: &mut Steps<L>) -> Result<(), Failed>
+    fn sync(&mut self, steps: &mut Steps<L>) -> Result<(), Failed>
         ensures durable { OnOk result ((place : ℕ) → ¬ in_flight_of self.new.state place) }
         ensures same { OnOk result (image_of self.new.state ≡ image_of self.old.state) }
         ensures image { SameBut (in_flight_of self.old.state) (image_of self.old.state) (image_of self.new.state) }
         ensures flight { (place : ℕ) → in_flight_of self.new.state place → in_flight_of self.old.state place }
         ensures text { text_of self.new.state ≡ text_of self.old.state }
-        ensures time { Elapses (moment_of self.old.state) (moment_of self.new.state) (left_since_of self.old.state) (left_since_of self.new.state)
+        ensures time { TimePasses self.old.state self.new.state
             (MayLeave (image_of self.new.state) (in_flight_of self.new.state) (text_of self.new.state)) }
         ensures cause { HasCause (faults_of self.old.state) (faults_of self.new.state) result }
         ensures step { steps.new ≡ steps.old + 1 }
 
         // A call that is kept fails exactly by its number. One that isn't kept was refused.
-        ensures kept { OnOk result ((¬ IsListedCall self.old.state) × (self.new.state ≡ done_on self.old.state Sync)) }
-        ensures failed { OnErr result ((IsListedCall self.old.state × (self.new.state ≡ failed_on self.old.state Sync)) ⊎ (self.new.state ≡ refused_on self.old.state)) }
+        ensures kept { OnOk result (IsDone self.old.state Sync self.new.state) }
+        ensures failed { OnErr result (IsUndone self.old.state Sync self.new.state) }
     {
         steps.spend();
         self.state.keep_sync()
     }
 
-    fn print<L: Ledger>(&mut self, bytes: &[u8], steps: &mut Steps<L>) -> Result<(), Failed>
+    fn print(&mut self, bytes: &[u8], steps: &mut Steps<L>) -> Result<(), Failed>
         requires some { 0 < length bytes.now }
         requires few { length bytes.now ≤ 512 }
         ensures whole { OnOk result (text_of self.new.state ≡ text_of self.old.state ++ bytes.now) }
         ensures begun { Begins (text_of self.old.state) (text_of self.new.state) bytes.now }
         ensures image { image_of self.new.state ≡ image_of self.old.state }
         ensures flight { (place : ℕ) → in_flight_of self.new.state place → in_flight_of self.old.state place }
-        ensures time { Elapses (moment_of self.old.state) (moment_of self.new.state) (left_since_of self.old.state) (left_since_of self.new.state)
+        ensures time { TimePasses self.old.state self.new.state
             (MayLeaveAmid (image_of self.new.state) (in_flight_of self.new.state) (text_of self.old.state) bytes.now) }
         ensures cause { HasCause (faults_of self.old.state) (faults_of self.new.state) result }
         ensures step { steps.new ≡ steps.old + 1 }
 
         // A call that is kept fails exactly by its number. One that isn't kept was refused.
-        ensures kept { OnOk result ((¬ IsListedCall self.old.state) × (self.new.state ≡ printed_on self.old.state bytes.now)) }
-        ensures failed { OnErr result ((IsListedCall self.old.state × (self.new.state ≡ failed_on self.old.state (Print bytes.now))) ⊎ (self.new.state ≡ refused_on self.old.state)) }
+        ensures kept { OnOk result (IsDone self.old.state (Print bytes.now) self.new.state) }
+        ensures failed { OnErr result (IsUndone self.old.state (Print bytes.now) self.new.state) }
     {
         steps.spend();
         self.state.keep_print(bytes)

@@ -2,11 +2,12 @@
 ghost use Rattle.std.specs.Prelude.{◌≡◌, ◌⊎◌, ◌↔◌, ℕ, ◌+◌, ◌≤◌, ◌++◌, List, [], ◌∷◌, length, take, drop, true, Contains, IfOk, OnOk, OnErr};
 ghost use Rattle.std.specs.List.{All};
 ghost use Rattle.outside.specs.Calls.{Contents, Read, Write, Sync, Print, IsInSome, IsInStore, after, after_all, call_end};
-ghost use Rattle.outside.specs.Disk.{SameBut};
-ghost use Rattle.outside.specs.MemoryBoard.{IsListedCall, done_on, failed_on, held_inside, image_of, left_since_of, printed_on, refused_on, text_of};
+ghost use Rattle.outside.specs.Disk.{IsImage, SameBut};
+ghost use Rattle.outside.specs.MemoryBoard.{IsDone, IsUndone, held_inside, new_board, image_of, left_since_of, refused_on, text_of};
 ghost use Rattle.outside.specs.Requests.{call_of};
 
 use crate::fault::Failed;
+use crate::image::known;
 use crate::kept_call::{KeptCall, Request};
 use crate::replay::{Fill, Replay, put};
 use std::alloc::Global;
@@ -34,7 +35,8 @@ impl Model for MemoryState {
 
     ghost view = { λ m. record { start = m.start; fail = m.fail.items; calls = m.calls.items; refused = m.refused } };
 
-    ghost invariant = { λ m. Mirrors (after_all (opened m.start) m.calls.items) m.image m.text.items × All IsInStore m.calls.items };
+    ghost invariant = { λ m. Mirrors (after_all (opened m.start) m.calls.items) m.image m.text.items
+        × All (IsInStore 2048) m.calls.items };
 }
 
 impl MemoryState {
@@ -44,16 +46,17 @@ impl MemoryState {
         image: &[u8; 2048],
         fail: &[u64],
     ) -> Result<MemoryState, NoMemory>
-        ensures state { IfOk result (λ m. m ≡ record { start = image.now; fail = fail.now; calls = []; refused = 0 }) }
-        ensures size { IfOk result (λ m. length (image_of m) ≡ 2048) }
+        ensures state { IfOk result (λ m. m ≡ new_board image.now fail.now) }
+        ensures is_image { IfOk result (λ m. IsImage 2048 (image_of m)) }
     {
         let Ok(fail) = Vec::from_slice(alloc, fail) else {
             return Err(NoMemory);
         };
+        let image = known(*image);
         Ok(MemoryState {
             alloc,
-            start: *image,
-            image: *image,
+            start: image,
+            image,
             text: Vec::new(alloc),
             fail,
             calls: Vec::new(alloc),
@@ -96,20 +99,21 @@ impl MemoryState {
     pub(crate) fn cut(&self, call: u64, fill: Fill) -> [u8; 2048]
         requires { call ≤ length self.now.calls }
         ensures left { left_since_of self.now 0 result (held_inside self.now call).text }
-        ensures inside { SameBut (IsInSome (held_inside self.now call).ranges) (held_inside self.now call).image result }
+        ensures inside { SameBut (IsInSome (held_inside self.now call).ranges)
+            (held_inside self.now call).image result }
         ensures settled { (held_inside self.now call).ranges ≡ [] → result ≡ (held_inside self.now call).image }
         ensures zero { call ≡ 0 → result ≡ self.now.start }
     {
         let count = call as usize;
         if count == 0 {
-            return self.start;
+            return known(self.start);
         }
         let mut replay = Replay::new(&self.start, fill);
         for kept in &self.calls[..count - 1] {
             replay.pass(kept);
         }
         replay.begin(&self.calls[count - 1]);
-        replay.left
+        known(replay.left)
     }
 
     /// Counts a call that found no memory, and answers its failure.
@@ -125,8 +129,8 @@ impl MemoryState {
     pub(crate) fn keep_read(&mut self, at: u16, buf: &mut [u8]) -> Result<(), Failed>
         requires { at + length buf.old ≤ 2048 }
         ensures bytes { OnOk result (buf.new ≡ take (length buf.old) (drop at (image_of self.old))) }
-        ensures kept { OnOk result ((¬ IsListedCall self.old) × (self.new ≡ done_on self.old Read)) }
-        ensures failed { OnErr result ((IsListedCall self.old × (self.new ≡ failed_on self.old Read)) ⊎ (self.new ≡ refused_on self.old)) }
+        ensures kept { OnOk result (IsDone self.old Read self.new) }
+        ensures failed { OnErr result (IsUndone self.old Read self.new) }
         ensures rises { self.old.refused ≤ self.new.refused }
     {
         let Ok(failed) = keep(&mut self.calls, &self.fail, Request::Read) else {
@@ -144,8 +148,8 @@ impl MemoryState {
     /// Keeps a write, and puts its bytes where it doesn't fail.
     pub(crate) fn keep_write(&mut self, at: u16, bytes: &[u8]) -> Result<(), Failed>
         requires { at + length bytes.now ≤ 2048 }
-        ensures kept { OnOk result ((¬ IsListedCall self.old) × (self.new ≡ done_on self.old (Write at bytes.now))) }
-        ensures failed { OnErr result ((IsListedCall self.old × (self.new ≡ failed_on self.old (Write at bytes.now))) ⊎ (self.new ≡ refused_on self.old)) }
+        ensures kept { OnOk result (IsDone self.old (Write at bytes.now) self.new) }
+        ensures failed { OnErr result (IsUndone self.old (Write at bytes.now) self.new) }
         ensures rises { self.old.refused ≤ self.new.refused }
     {
         let Ok(copy) = Vec::from_slice(self.alloc, bytes) else {
@@ -163,8 +167,8 @@ impl MemoryState {
 
     /// Keeps a sync.
     pub(crate) fn keep_sync(&mut self) -> Result<(), Failed>
-        ensures kept { OnOk result ((¬ IsListedCall self.old) × (self.new ≡ done_on self.old Sync)) }
-        ensures failed { OnErr result ((IsListedCall self.old × (self.new ≡ failed_on self.old Sync)) ⊎ (self.new ≡ refused_on self.old)) }
+        ensures kept { OnOk result (IsDone self.old Sync self.new) }
+        ensures failed { OnErr result (IsUndone self.old Sync self.new) }
         ensures rises { self.old.refused ≤ self.new.refused }
     {
         let Ok(failed) = keep(&mut self.calls, &self.fail, Request::Sync) else {
@@ -175,8 +179,8 @@ impl MemoryState {
 
     /// Keeps a print, and puts its bytes behind the text where it doesn't fail.
     pub(crate) fn keep_print(&mut self, bytes: &[u8]) -> Result<(), Failed>
-        ensures kept { OnOk result ((¬ IsListedCall self.old) × (self.new ≡ printed_on self.old bytes.now)) }
-        ensures failed { OnErr result ((IsListedCall self.old × (self.new ≡ failed_on self.old (Print bytes.now))) ⊎ (self.new ≡ refused_on self.old)) }
+        ensures kept { OnOk result (IsDone self.old (Print bytes.now) self.new) }
+        ensures failed { OnErr result (IsUndone self.old (Print bytes.now) self.new) }
         ensures rises { self.old.refused ≤ self.new.refused }
     {
         let Ok(piece) = Vec::from_slice(self.alloc, bytes) else {
@@ -200,11 +204,14 @@ impl MemoryState {
 
 /// Keeps a call, and answers whether it fails by its number. A call that finds no memory isn't kept.
 fn keep(calls: &mut Vec<KeptCall>, fail: &[u64], request: Request) -> Result<bool, NoMemory>
-    requires fits { All IsInStore calls.old.items }
+    requires fits { All (IsInStore 2048) calls.old.items }
     requires inside { call_end (call_of request) ≤ 2048 }
-    ensures fits { All IsInStore calls.new.items }
-    ensures kept { IfOk result (λ failed. calls.new.items ≡ calls.old.items ++ record { call = call_of request; failed = failed } ∷ []) }
-    ensures leaves { IfOk result (λ failed. (held : Contents) → after_all held calls.new.items ≡ after (after_all held calls.old.items) (record { call = call_of request; failed = failed })) }
+    ensures fits { All (IsInStore 2048) calls.new.items }
+    ensures kept { IfOk result (λ failed.
+        calls.new.items ≡ calls.old.items ++ record { call = call_of request; failed = failed } ∷ []) }
+    ensures leaves { IfOk result (λ failed. (held : Contents)
+        → after_all held calls.new.items ≡ after (after_all held calls.old.items)
+        (record { call = call_of request; failed = failed })) }
     ensures listed { IfOk result (λ failed. failed ≡ true ↔ Contains fail.now (length calls.old.items + 1)) }
     ensures same { OnErr result (calls.new.items ≡ calls.old.items) }
 {

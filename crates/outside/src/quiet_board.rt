@@ -1,30 +1,43 @@
 //! A board in memory that never fails and keeps nothing of its calls.
-ghost use Rattle.std.specs.Prelude.{◌≡◌, [], length};
+ghost use Rattle.std.specs.Prelude.{◌≡◌, []};
+ghost use Rattle.outside.specs.Disk.{IsImage};
 
 use crate::board::Board;
 use crate::fault::Failed;
+use crate::image::known;
 use std::marker::Model;
 use std::sync::ledger::Ledger;
 use taxi_units::Steps;
 
 /// A board in memory that never fails and takes no memory. It tells its image, of which nothing is
-/// ever in flight, and not what was printed.
+/// ever in flight, and not what was printed. It tells no moments either: its moment is always 0, and
+/// it names nothing that a cut might have left, so a clause on what a cut leaves says nothing of it.
 #[derive(Drop)]
 pub struct QuietBoard {
     image: [u8; 2048],
-    ghost size: { length image ≡ 2048 },
+    ghost is_image: { IsImage 2048 image },
+}
+
+impl Model for QuietBoard {
+    ghost use Rattle.outside.specs.QuietBoard.{Quiet};
+
+    ghost Value = { Quiet };
+
+    ghost view = { λ b. record { image = b.image; is_image = b.is_image } };
 }
 
 impl QuietBoard {
     /// A board whose store holds these bytes.
     pub fn new(image: &[u8; 2048]) -> QuietBoard
-        ensures { ⟦<QuietBoard as Board>⟧.image result ≡ image.now }
+        ensures { result.image ≡ image.now }
     {
-        QuietBoard { image: *image }
+        QuietBoard {
+            image: known(*image),
+        }
     }
 }
 
-impl Board for QuietBoard {
+impl<L: Ledger> Board<L> for QuietBoard {
     ghost tells_image = { Unit {0} };
 
     ghost tells_text = { ⊥ };
@@ -41,18 +54,13 @@ impl Board for QuietBoard {
 
     ghost faults = { λ _. 0 };
 
-    ghost store = { λ b _. b.size };
+    ghost store = { λ b _. b.is_image };
 
     ghost counts_now = { λ _ _ _ _ _ told_text _ _. absurd told_text };
 
     ghost only_now = { λ _ _ _ left. absurd left };
 
-    fn read<L: Ledger>(
-        &mut self,
-        at: u16,
-        buf: &mut [u8],
-        steps: &mut Steps<L>,
-    ) -> Result<(), Failed> {
+    fn read(&mut self, at: u16, buf: &mut [u8], steps: &mut Steps<L>) -> Result<(), Failed> {
         steps.spend();
         let from = at as usize;
         let to = from + buf.len();
@@ -60,12 +68,7 @@ impl Board for QuietBoard {
         Ok(())
     }
 
-    fn write_at<L: Ledger>(
-        &mut self,
-        at: u16,
-        bytes: &[u8],
-        steps: &mut Steps<L>,
-    ) -> Result<(), Failed> {
+    fn write_at(&mut self, at: u16, bytes: &[u8], steps: &mut Steps<L>) -> Result<(), Failed> {
         steps.spend();
         let from = at as usize;
         let to = from + bytes.len();
@@ -73,12 +76,12 @@ impl Board for QuietBoard {
         Ok(())
     }
 
-    fn sync<L: Ledger>(&mut self, steps: &mut Steps<L>) -> Result<(), Failed> {
+    fn sync(&mut self, steps: &mut Steps<L>) -> Result<(), Failed> {
         steps.spend();
         Ok(())
     }
 
-    fn print<L: Ledger>(&mut self, _bytes: &[u8], steps: &mut Steps<L>) -> Result<(), Failed> {
+    fn print(&mut self, _bytes: &[u8], steps: &mut Steps<L>) -> Result<(), Failed> {
         steps.spend();
         Ok(())
     }

@@ -1,4 +1,4 @@
-use crate::{Failed, Files, HostFiles, MemoryFiles, fill};
+use crate::{Files, HostFiles, MemoryFiles, RoomFault, TextFault, read_text, read_whole};
 use std::fs;
 use std::test::Fail;
 
@@ -27,16 +27,41 @@ fn reads_of_memory_files(rt: HostRuntime) -> Result<(), Fail> {
     Ok(())
 }
 
+/// Buffers of this size over a file of seven bytes, of which this read fails, and what is answered.
+const WHOLE: [(usize, u64, Result<usize, RoomFault>); 7] = [
+    (8, 0, Ok(7)),
+    (7, 0, Ok(7)),
+    (6, 0, Err(RoomFault::TooLong)),
+    (0, 0, Err(RoomFault::TooLong)),
+    (8, 2, Err(RoomFault::DeviceFailed)),
+    (7, 2, Err(RoomFault::DeviceFailed)),
+    (6, 2, Err(RoomFault::DeviceFailed)),
+];
+
 #[test]
-fn fills(rt: HostRuntime) -> Result<(), Fail> {
-    let mut files = MemoryFiles::new(rt.alloc(), &[5])?;
-    files.add(b"abcdefg")?;
-    let mut buf = [0; 4];
-    for want in [b"abcd".as_slice(), b"efg", b""] {
-        let count = fill(&mut files, 0, &mut buf).map_err(|_| "read")?;
-        assert_eq!(rt; &buf[..count], want);
+fn reads_whole_texts(rt: HostRuntime) -> Result<(), Fail> {
+    for (room, fail, want) in WHOLE {
+        let mut files = MemoryFiles::new(rt.alloc(), &[fail])?;
+        files.add(b"abcdefg")?;
+        let mut buf = [0; 8];
+        assert_eq!(rt;
+            read_whole(&mut files, 0, &mut buf[..room]),
+            want,
+            "{room} {fail}"
+        );
+        let mut files = MemoryFiles::new(rt.alloc(), &[fail])?;
+        files.add(b"abcdefg")?;
+        match read_text(rt.alloc(), &mut files, 0, room) {
+            Ok(text) => {
+                assert_eq!(rt; Ok(text.len()), want);
+                assert_eq!(rt; text.as_slice(), b"abcdefg".as_slice());
+            }
+            Err(fault) => assert_eq!(rt;
+                fault == TextFault::TooLong,
+                want == Err(RoomFault::TooLong)
+            ),
+        }
     }
-    assert_eq!(rt; fill(&mut files, 0, &mut buf), Err(Failed));
     Ok(())
 }
 
@@ -59,7 +84,7 @@ fn reads_of_the_system(rt: HostRuntime) -> Result<(), Fail> {
     ];
     let mut buf = [0; 8];
     for (word, room, want) in rows {
-        let count = fill(&mut files, word, &mut buf[..room]);
+        let count = files.read(word, &mut buf[..room]);
         assert_eq!(rt; count.ok().map(|count| &buf[..count]), want, "word {word}");
     }
     fs::remove_file(&rt, "outside_test.txt")?;

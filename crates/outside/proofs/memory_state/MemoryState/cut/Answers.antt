@@ -25,7 +25,7 @@ loop-kept-preserved c =
     ap (after_all (opened start)) (take_more calls k kept below) ∙ after_pushed (opened start) (take k calls) (get_or calls k kept) ∙ ap (after (after_all (opened start) (take k calls))) (sym is) in
     subst (λ (h : Contents). Follows h c.pass.new.self) (sym next) (c.pass.ensures (after_all (opened start) (take k calls)) c.loop-kept.invariant)
 
-inside_of : (c : goal.After-result-2-1) → SameBut (IsInSome (held_inside c.args.self.now c.args.call).ranges) (held_inside c.args.self.now c.args.call).image c.begin.new.self.left
+inside_of : (c : goal.After-known-2) → SameBut (IsInSome (held_inside c.args.self.now c.args.call).ranges) (held_inside c.args.self.now c.args.call).image c.known-2.result
 inside_of c =
     let start = c.args.self.now.start in
     let calls = c.args.self.now.calls in
@@ -38,7 +38,8 @@ inside_of c =
     let follows = c.begin.ensures (after_all (opened start) (take n calls)) (subst (λ (k : ℕ). Follows (after_all (opened start) (take k calls)) c.loop-kept.replay) all c.loop-kept.invariant) in
     let found : held_inside c.args.self.now c.args.call ≡ begun (after_all (opened start) (take n calls)) c.index.result.now.call =
     ap (λ (k : ℕ). held_inside c.args.self.now k) number_is ∙ inside_is (opened start) calls n c.index.result.now below is in
-    subst (λ (h : Contents). SameBut (IsInSome h.ranges) h.image c.begin.new.self.left) (sym found) follows.left
+    subst (λ (h : Contents). SameBut (IsInSome h.ranges) h.image c.known-2.result) (sym found)
+    (subst (SameBut (IsInSome (begun (after_all (opened start) (take n calls)) c.index.result.now.call).ranges) (begun (after_all (opened start) (take n calls)) c.index.result.now.call).image) (sym c.known-2.ensures.same) follows.left)
 
 pub returns-clause-inside : goal.returns-clause-inside
 returns-clause-inside c = inside_of c
@@ -46,23 +47,24 @@ returns-clause-inside c = inside_of c
 pub returns-clause-left : goal.returns-clause-left
 returns-clause-left c =
     let size : length c.self.inside.start ≡ 2048 = search rules in
-    left_inside (opened c.args.self.now.start) c.args.self.now.calls c.args.call c.begin.new.self.left
+    left_inside 2048 (opened c.args.self.now.start) c.args.self.now.calls c.args.call c.known-2.result c.known-2.ensures.is_image.small
     (ap (λ (b : BoardState). length b.start) (sym c.self.view_is) ∙ size)
-    (subst (λ (b : BoardState). All IsInStore b.calls) c.self.view_is c.self.invariant.1) (inside_of c)
+    (subst (λ (b : BoardState). All (IsInStore 2048) b.calls) c.self.view_is c.self.invariant.1) (inside_of c)
 
 pub returns-clause-settled : goal.returns-clause-settled
-returns-clause-settled c none = settled_is (held_inside c.args.self.now c.args.call) c.begin.new.self.left none (inside_of c)
+returns-clause-settled c none = settled_is (held_inside c.args.self.now c.args.call) c.known-2.result none (inside_of c)
 
 pub returns-then-count-eq0-clause-left : goal.returns-then-count-eq0-clause-left
 returns-then-count-eq0-clause-left c =
     let start = c.args.self.now.start in
-    let start_is : c.self.inside.start ≡ start = ap (λ (b : BoardState). b.start) c.self.view_is in
+    let start_is : c.known.result ≡ start = c.known.ensures.same ∙ ap (λ (b : BoardState). b.start) c.self.view_is in
     let zero_is : 0 ≡ c.args.call = omega (arith, c.if-count-eq0.true) in
-    subst (λ (k : ℕ). LeftBy (opened start) c.args.self.now.calls c.self.inside.start (held_inside c.args.self.now k).text) zero_is
-    (left_first (opened start) c.args.self.now.calls c.self.inside.start [] (record {
+    subst (λ (k : ℕ). LeftBy (opened start) c.args.self.now.calls c.known.result (held_inside c.args.self.now k).text) zero_is
+    (left_first (opened start) c.args.self.now.calls c.known.result [] (record {
       bytes = record {
         size = ap length start_is;
         rest = λ place _. ap (λ (l : List ℕ). get_or l place 0) start_is;
       };
+      small = c.known.ensures.is_image.small;
       text = refl;
     }))
