@@ -156,7 +156,7 @@ module _ {T : Type 0} (reads : List ℕ → Option T) (number_of : T → ℕ) (a
   answer_is answer = ((λ is. subst (λ (r : Result (Found T) SlotFault). IsAnswer reads number_of at image r) is (found_answers reads number_of at image)), one_answer answer)
 
   -- where a body that the pair stands for is found
-  found_where : (body : T) → StandsFor reads number_of at image body → (place : Place) × (found_at reads number_of at image ≡ Ok (Latest place body))
+  pub found_where : (body : T) → StandsFor reads number_of at image body → (place : Place) × (found_at reads number_of at image ≡ Ok (Latest place body))
   found_where body stands = by stands.1.other
     where
       by : IsClosed (slot_at at (1 - stands.0)) image ⊎ IsOlder reads number_of (slot_at at (1 - stands.0)) image (number_of body) → (place : Place) × (found_at reads number_of at image ≡ Ok (Latest place body))

@@ -1,6 +1,7 @@
-mod Slices
-pub mod Untouched
-pub mod Moments
-mod Staged
-pub mod Findings
+mod Findings
+pub mod Laws
+mod Moments
 mod Ordered
+mod Slices
+mod Staged
+mod Untouched

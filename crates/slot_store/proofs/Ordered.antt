@@ -1,14 +1,18 @@
 -- A list of bodies, one after the other.
-use Rattle.std.proofs.Common.{◌≡◌, ◌⊎◌, inl, inr, ℕ, zero, suc, ◌+◌, ◌<◌, List, [], ◌∷◌, ◌++◌, length, take, drop, get_or, Option, Some, None, refl, sym, ◌∙◌, ap, subst, arith, take-append-drop}
-use Rattle.std.proofs.lemmas.List.{take_more, drop_more}
-use Rattle.outside.specs.Disk.{SameBut, MayLeave, LeavesOnly}
+use Rattle.std.proofs.Common.{◌≡◌, ◌⊎◌, inl, inr, ⊎_elim, ℕ, zero, suc, ◌+◌, ◌<◌, ◌≤◌, List, [], ◌∷◌, ◌++◌, length, take, drop, get_or, Option, Some, None, refl, sym, ◌∙◌, ap, subst, arith, take-append-drop}
+use Rattle.std.proofs.lemmas.List.{append-nil, take_more, drop_more}
+use Rattle.outside.specs.declared.board.Board.{Ghosts}
+use Rattle.outside.specs.Disk.{SameBut, MayLeave}
+use Rattle.outside.specs.Runs.{LeavesOnly}
+use Rattle.outside.proofs.Laws.{leaves_wider}
 use Rattle.slot_store.specs.declared.pair.Pair.{Pair}
 use Rattle.slot_store.specs.declared.pair.Place.{Place}
 use Rattle.slot_store.specs.Slots.{StandsFor, Shows, IsSettled}
-use Rattle.slot_store.specs.Stages.{spare_at, IsBefore, IsReadyAt, LeavesBeside, WritesIn}
-use Rattle.slot_store.specs.Order.{AreNewer, last_of, ShowsOne, LeavesOne, Gets, GetsEach, StoresSome}
+use Rattle.slot_store.specs.Stages.{spare_at, IsBefore, IsReadyAt}
+use Rattle.slot_store.specs.Writes.{LeavesThroughout, WritesIn}
+use Rattle.slot_store.specs.Order.{AreNewer, last_of, ShowsOne, GetsEach, StoresSome}
 use Rattle.slot_store.proofs.Untouched.{stays_blank, stays_at, at_stands}
-use Rattle.slot_store.proofs.Moments.{leaves_more, joined, Leaves, wider, in_part, run_on, writes_on, writes_in_part}
+use Rattle.slot_store.proofs.Moments.{wider, in_part, run_on, writes_on, writes_in_part}
 
 -- the last of a longer list
 pub last_more : {T : Type 0} (latest : Option T) (bodies : List T) (body : T) → last_of latest (bodies ++ body ∷ []) ≡ Some body
@@ -43,38 +47,46 @@ module _ {T : Type 0} (reads : List ℕ → Option T) (number_of : T → ℕ) (a
   shows_last latest [] body image shows = shows
   shows_last latest (b ∷ rest) body image shows = inr (shows_last (Some b) rest body image shows)
 
-  module _ {D : Type 0} (image : D → List ℕ) (in_flight : D → ℕ → Type 0) (moment : D → ℕ) (left_since : D → ℕ → List ℕ → List ℕ → Type 0) where
-    -- one body more was stored
-    pub gets_more : (latest : Option T) (bodies : List T) (body : T) (old between new : D) → GetsEach reads number_of at image in_flight moment left_since latest bodies [] old between
-        → Gets reads number_of at image in_flight moment left_since (last_of latest bodies) body between new → LeavesOne reads number_of at image in_flight moment left_since (Some body) [] new new
-        → GetsEach reads number_of at image in_flight moment left_since latest (bodies ++ body ∷ []) [] old new
-    gets_more latest [] body old between new first next rests = (
-      new,
-      record {
-        leaves = joined moment left_since old between new _ (leaves_more moment left_since old between _ _ first (λ left text shows. inl shows)) next.leaves;
-        place = next.place;
-        settled = next.settled;
-      },
-      rests,
-    )
-    gets_more latest (b ∷ rest) body old between new first next rests = (first.0, first.1, gets_more (Some b) rest body first.0 between new first.2 next rests)
+  -- where nothing was begun behind the bodies, one more may be
+  shows_begun : (latest : Option T) (bodies : List T) (body : T) (image : List ℕ) → ShowsOne reads number_of at latest (bodies ++ []) image → ShowsOne reads number_of at latest (bodies ++ body ∷ []) image
+  shows_begun latest [] body image shows = inl shows
+  shows_begun latest (b ∷ rest) body image (inl shows) = inl shows
+  shows_begun latest (b ∷ rest) body image (inr later) = inr (shows_begun (Some b) rest body image later)
+
+  module _ {D L : Type 0} (B : Ghosts D L) where
+    -- what was left from a moment on, at a board of which this is known
+    in_time : (board : D) (start : ℕ) (latest : Option T) (stored begun : List T) → GetsEach reads number_of at B board start latest stored begun → start ≤ B.moment board
+    in_time board start latest [] begun gets = gets.0
+    in_time board start latest (b ∷ rest) begun gets = omega (arith, gets.1.1.0, in_time board gets.1.0 (Some b) rest begun gets.1.1.1)
 
     -- one body more was begun
-    pub gets_begun : (latest : Option T) (bodies : List T) (body : T) (old between new : D) → GetsEach reads number_of at image in_flight moment left_since latest bodies [] old between
-        → LeavesOne reads number_of at image in_flight moment left_since (last_of latest bodies) (body ∷ []) between new → GetsEach reads number_of at image in_flight moment left_since latest bodies (body ∷ []) old new
-    gets_begun latest [] body old between new first next = joined moment left_since old between new _ (leaves_more moment left_since old between _ _ first (λ left text shows. inl shows)) next
-    gets_begun latest (b ∷ rest) body old between new first next = (first.0, first.1, gets_begun (Some b) rest body first.0 between new first.2 next)
+    pub gets_begun : (latest : Option T) (stored : List T) (body : T) (start : ℕ) (between new : D) → GetsEach reads number_of at B between start latest stored []
+        → LeavesOnly B between new (λ left text. ShowsOne reads number_of at (last_of latest stored) (body ∷ []) left) → GetsEach reads number_of at B new start latest stored (body ∷ [])
+    gets_begun latest [] body start between new gets next = (
+      omega (arith, gets.0, next.later),
+      λ left text was. ⊎_elim (λ before. inl (gets.1 left text before)) (λ is. is) (next.before start left text gets.0 was),
+    )
+    gets_begun latest (b ∷ rest) body start between new gets next = (
+      λ left text was. ⊎_elim (λ before. shows_begun latest (b ∷ rest) body left (gets.0 left text before)) (shows_last latest (b ∷ rest) body left)
+          (next.before start left text (in_time between start latest (b ∷ rest) [] gets) was),
+      (gets.1.0, (gets.1.1.0, gets_begun (Some b) rest body gets.1.0 between new gets.1.1.1 next)),
+    )
+
+    -- and stored, where from now on a cut leaves it
+    pub gets_more : (latest : Option T) (stored : List T) (body : T) (start : ℕ) (board : D) → GetsEach reads number_of at B board start latest stored (body ∷ [])
+        → ((left text : List ℕ) → B.left_since board (B.moment board) left text → StandsFor reads number_of at left body) → GetsEach reads number_of at B board start latest (stored ++ body ∷ []) []
+    gets_more latest [] body start board gets is = (gets.1, (B.moment board, (gets.0, (omega arith, is))))
+    gets_more latest (b ∷ rest) body start board gets is = (
+      λ left text was. subst (λ (bodies : List T). ShowsOne reads number_of at latest (b ∷ bodies) left) (sym (append-nil (rest ++ body ∷ []))) (gets.0 left text was),
+      (gets.1.0, (gets.1.1.0, gets_more (Some b) rest body gets.1.0 board gets.1.1.1 is)),
+    )
 
     -- a moment at which nothing is in flight
-    pub rests : (board : D) (printed : List ℕ) (place : Option Place) (latest : Option T) → ((left text : List ℕ) → left_since board (moment board) left text → MayLeave (image board) (in_flight board) printed left text)
-        → IsReadyAt reads number_of at place (image board) (in_flight board) latest → LeavesOne reads number_of at image in_flight moment left_since latest [] board board
-    rests board printed place latest only_now ready = record {
-      later = omega arith;
-      each = λ left text was. quiet_leaves place latest (image board) left (in_flight board) ready (only_now left text was).bytes;
-      before = λ start left text le was. inl was;
-    }
+    pub rests : (board : D) (place : Option Place) (latest : Option T) → ((left text : List ℕ) → B.left_since board (B.moment board) left text → MayLeave (B.image board) (B.in_flight board) (B.printed board) left text)
+        → IsReadyAt reads number_of at place (B.image board) (B.in_flight board) latest → GetsEach reads number_of at B board (B.moment board) latest [] []
+    rests board place latest only_now ready = (omega arith, λ left text was. quiet_leaves place latest (B.image board) left (B.in_flight board) ready (only_now left text was).bytes)
 
-    module _ (printed : D → List ℕ) (old between new : D) (pair : Pair) (here : pair.at ≡ at) (latest : Option T) (bodies : List T) (n : ℕ) (body : T) (lt : n < length bodies) (is : body ≡ get_or bodies n body) where
+    module _ (old between new : D) (pair : Pair) (here : pair.at ≡ at) (latest : Option T) (bodies : List T) (n : ℕ) (body : T) (lt : n < length bodies) (is : body ≡ get_or bodies n body) where
       pub one_more : take (n + 1) bodies ≡ take n bodies ++ body ∷ []
       one_more = take_more bodies n body lt ∙ ap (λ (b : T). take n bodies ++ b ∷ []) (sym is)
 
@@ -86,26 +98,29 @@ module _ {T : Type 0} (reads : List ℕ → Option T) (number_of : T → ℕ) (a
 
       -- what one body more leaves
       abbrev pub NextLeaves : Type 0
-      NextLeaves = LeavesOnly moment left_since between new (LeavesBeside (image between) (in_flight between) (printed between) (spare_at pair) 512 (λ left. Shows reads number_of pair.at left (last_of latest (take n bodies)) ⊎ StandsFor reads number_of pair.at left body))
+      NextLeaves = LeavesThroughout B (spare_at pair) 512 (λ left. Shows reads number_of pair.at left (last_of latest (take n bodies)) ⊎ StandsFor reads number_of pair.at left body) between new
 
-      next_leaves : NextLeaves → Leaves moment left_since image in_flight printed at 1024 (ShowsOne reads number_of at (last_of latest (take n bodies)) (body ∷ [])) between new
-      next_leaves next = in_part moment left_since image in_flight printed at 1024 between new (spare_at pair) 512 _ (omega (arith, here)) (omega (arith, here))
-          (subst (λ (place : ℕ). LeavesOnly moment left_since between new (LeavesBeside (image between) (in_flight between) (printed between) (spare_at pair) 512 (λ left. Shows reads number_of place left (last_of latest (take n bodies)) ⊎ StandsFor reads number_of place left body))) here next)
+      next_leaves : NextLeaves → LeavesThroughout B at 1024 (ShowsOne reads number_of at (last_of latest (take n bodies)) (body ∷ [])) between new
+      next_leaves next = in_part B at 1024 (spare_at pair) 512 _ between new (omega (arith, here)) (omega (arith, here))
+          (subst (λ (place : ℕ). LeavesThroughout B (spare_at pair) 512 (λ left. Shows reads number_of place left (last_of latest (take n bodies)) ⊎ StandsFor reads number_of place left body) between new) here next)
 
-      pub moments_more : WritesIn image in_flight printed at 1024 old between → Leaves moment left_since image in_flight printed at 1024 (ShowsOne reads number_of at latest (take n bodies)) old between → NextLeaves
-          → Leaves moment left_since image in_flight printed at 1024 (ShowsOne reads number_of at latest (take (n + 1) bodies)) old new
-      moments_more writes so_far next = subst (λ (l : List T). Leaves moment left_since image in_flight printed at 1024 (ShowsOne reads number_of at latest l) old new) (sym one_more)
-          (run_on moment left_since image in_flight printed at 1024 old between new _ writes
-          (wider moment left_since image in_flight printed at 1024 old between _ _ (shows_longer latest (take n bodies) (body ∷ [])) so_far)
-          (wider moment left_since image in_flight printed at 1024 between new _ _ (shows_last latest (take n bodies) body) (next_leaves next)))
+      next_only : NextLeaves → LeavesOnly B between new (λ left text. ShowsOne reads number_of at (last_of latest (take n bodies)) (body ∷ []) left)
+      next_only next = leaves_wider B _ _ between new (λ left text leaves. leaves.stands) (next_leaves next).leaves
 
-      pub moments_whole : (k : ℕ) → Leaves moment left_since image in_flight printed at 1024 (ShowsOne reads number_of at latest (take k bodies)) old new → Leaves moment left_since image in_flight printed at 1024 (ShowsOne reads number_of at latest bodies) old new
-      moments_whole k run = wider moment left_since image in_flight printed at 1024 old new _ _ (λ left shows. subst (λ (l : List T). ShowsOne reads number_of at latest l left) (take-append-drop k bodies) (shows_longer latest (take k bodies) (drop k bodies) left shows)) run
+      pub moments_more : WritesIn B at 1024 old between → LeavesThroughout B at 1024 (ShowsOne reads number_of at latest (take n bodies)) old between → NextLeaves
+          → LeavesThroughout B at 1024 (ShowsOne reads number_of at latest (take (n + 1) bodies)) old new
+      moments_more writes so_far next = subst (λ (l : List T). LeavesThroughout B at 1024 (ShowsOne reads number_of at latest l) old new) (sym one_more)
+          (run_on B at 1024 old between new _ writes
+          (wider B at 1024 old between _ _ (shows_longer latest (take n bodies) (body ∷ [])) so_far)
+          (wider B at 1024 between new _ _ (shows_last latest (take n bodies) body) (next_leaves next)))
 
-      pub next_begun : GetsEach reads number_of at image in_flight moment left_since latest (take n bodies) [] old between → NextLeaves → GetsEach reads number_of at image in_flight moment left_since latest (take n bodies) (body ∷ []) old new
-      next_begun so_far next = gets_begun latest (take n bodies) body old between new so_far (leaves_more moment left_since between new _ _ (next_leaves next) (λ left text leaves. leaves.stands))
+      pub moments_whole : (k : ℕ) → LeavesThroughout B at 1024 (ShowsOne reads number_of at latest (take k bodies)) old new → LeavesThroughout B at 1024 (ShowsOne reads number_of at latest bodies) old new
+      moments_whole k run = wider B at 1024 old new _ _ (λ left shows. subst (λ (l : List T). ShowsOne reads number_of at latest l left) (take-append-drop k bodies) (shows_longer latest (take k bodies) (drop k bodies) left shows)) run
 
-      pub stores_some : GetsEach reads number_of at image in_flight moment left_since latest (take n bodies) [] old between → NextLeaves → StoresSome reads number_of at image in_flight moment left_since latest bodies old new
+      next_begun : GetsEach reads number_of at B between (B.moment old) latest (take n bodies) [] → NextLeaves → GetsEach reads number_of at B new (B.moment old) latest (take n bodies) (body ∷ [])
+      next_begun so_far next = gets_begun latest (take n bodies) body (B.moment old) between new so_far (next_only next)
+
+      pub stores_some : GetsEach reads number_of at B between (B.moment old) latest (take n bodies) [] → NextLeaves → StoresSome reads number_of at B latest bodies old new
       stores_some so_far next = record {
         stored = take n bodies;
         begun = body ∷ [];
@@ -115,14 +130,12 @@ module _ {T : Type 0} (reads : List ℕ → Option T) (number_of : T → ℕ) (a
         each = next_begun so_far next;
       }
 
-      pub next_stored : (printed_now : List ℕ) (place : Place) → GetsEach reads number_of at image in_flight moment left_since latest (take n bodies) [] old between → NextLeaves → IsSettled reads number_of pair.at place (image new) (in_flight new) body
-          → ((left text : List ℕ) → left_since new (moment new) left text → MayLeave (image new) (in_flight new) printed_now left text) → GetsEach reads number_of at image in_flight moment left_since latest (take (n + 1) bodies) [] old new
-      next_stored printed_now place so_far next settled only_now =
-          let settled_here = subst (λ (start : ℕ). IsSettled reads number_of start place (image new) (in_flight new) body) here settled in
-          subst (λ (l : List T). GetsEach reads number_of at image in_flight moment left_since latest l [] old new) (sym one_more)
-          (gets_more latest (take n bodies) body old between new so_far
-          (record { leaves = leaves_more moment left_since between new _ _ (next_leaves next) (λ left text leaves. leaves.stands); place = place; settled = settled_here })
-          (rests new printed_now (Some place) (Some body) only_now settled_here))
+      pub next_stored : (place : Place) → GetsEach reads number_of at B between (B.moment old) latest (take n bodies) [] → NextLeaves → IsSettled reads number_of pair.at place (B.image new) (B.in_flight new) body
+          → ((left text : List ℕ) → B.left_since new (B.moment new) left text → MayLeave (B.image new) (B.in_flight new) (B.printed new) left text) → GetsEach reads number_of at B new (B.moment old) latest (take (n + 1) bodies) []
+      next_stored place so_far next settled only_now =
+          let settled_here = subst (λ (start : ℕ). IsSettled reads number_of start place (B.image new) (B.in_flight new) body) here settled in
+          subst (λ (l : List T). GetsEach reads number_of at B new (B.moment old) latest l []) (sym one_more)
+          (gets_more latest (take n bodies) body (B.moment old) new (next_begun so_far next) (rests new (Some place) (Some body) only_now settled_here).1)
 
-      pub writes_more : WritesIn image in_flight printed at 1024 old between → WritesIn image in_flight printed (spare_at pair) 512 between new → WritesIn image in_flight printed at 1024 old new
-      writes_more first next = writes_on image in_flight printed at 1024 old between new first (writes_in_part image in_flight printed at 1024 (spare_at pair) 512 between new (omega (arith, here)) (omega (arith, here)) next)
+      pub writes_more : WritesIn B at 1024 old between → WritesIn B (spare_at pair) 512 between new → WritesIn B at 1024 old new
+      writes_more first next = writes_on B at 1024 old between new first (writes_in_part B at 1024 (spare_at pair) 512 between new (omega (arith, here)) (omega (arith, here)) next)

@@ -1,6 +1,6 @@
-pub mod Torn
+pub mod Numbered
+pub mod Order
+pub mod Scan
 pub mod Slots
 pub mod Stages
-pub mod Scan
-pub mod Order
-pub mod Numbered
+pub mod Writes

@@ -1,8 +1,7 @@
 -- A list of bodies that a pair of slots gets, one after the other.
 use Rattle.std.specs.Prelude.{◌≡◌, ◌⊎◌, ℕ, ◌≤◌, List, [], ◌∷◌, ◌++◌, length, Option, Some}
-use Rattle.outside.specs.Disk.{LeavesOnly}
-use Rattle.slot_store.specs.declared.pair.Place.{Place}
-use Rattle.slot_store.specs.Slots.{Shows, IsSettled}
+use Rattle.outside.specs.declared.board.Board.{Ghosts}
+use Rattle.slot_store.specs.Slots.{Shows}
 use Rattle.slot_store.specs.Stages.{IsBefore}
 
 -- the numbers rise, from the latest body on
@@ -21,27 +20,23 @@ module _ {T : Type 0} (reads : List ℕ → Option T) (number_of : T → ℕ) (a
   ShowsOne latest [] image = Shows reads number_of at image latest
   ShowsOne latest (body ∷ rest) image = Shows reads number_of at image latest ⊎ ShowsOne (Some body) rest image
 
-  module _ {D : Type 0} (image : D → List ℕ) (in_flight : D → ℕ → Type 0) (moment : D → ℕ) (left_since : D → ℕ → List ℕ → List ℕ → Type 0) where
-    -- from one state on to another a cut leaves the latest or one of the bodies
-    abbrev pub LeavesOne : Option T → List T → D → D → Type 0
-    LeavesOne latest bodies old new = LeavesOnly moment left_since old new (λ left text. ShowsOne latest bodies left)
+  module _ {D L : Type 0} (B : Ghosts D L) where
+    -- from a moment on a cut leaves the latest or one of the bodies
+    abbrev pub LeavesFrom : D → ℕ → Option T → List T → Type 0
+    LeavesFrom board start latest bodies = (left_image left_text : List ℕ) → B.left_since board start left_image left_text → ShowsOne latest bodies left_image
 
-    -- a state comes at which the pair is settled with this body; until then a cut leaves the latest or this one
-    pub record Gets (latest : Option T) (body : T) (old between : D) : Type 0 where
-      pub leaves : LeavesOne latest (body ∷ []) old between
-      pub place : Place
-      pub settled : IsSettled reads number_of at place (image between) (in_flight between) body
+    -- the pair got these bodies one after the other, and perhaps more were begun: each body has its moment, the moments rise
+    -- from the start to now, and from the moment of a body on a cut leaves that body or a later one
+    abbrev pub GetsEach : D → ℕ → Option T → List T → List T → Type 0
+    GetsEach board start latest [] begun = (start ≤ B.moment board) × LeavesFrom board start latest begun
+    GetsEach board start latest (body ∷ rest) begun =
+        LeavesFrom board start latest (body ∷ rest ++ begun) × ((moment : ℕ) × ((start ≤ moment) × GetsEach board moment (Some body) rest begun))
 
-    -- the pair got the bodies one after the other, none left out, and from then on a cut leaves the last of them or what was begun behind it
-    abbrev pub GetsEach : Option T → List T → List T → D → D → Type 0
-    GetsEach latest [] begun old new = LeavesOne latest begun old new
-    GetsEach latest (body ∷ rest) begun old new = (between : D) × Gets latest body old between × GetsEach (Some body) rest begun between new
-
-    -- how far a list of bodies came: the first ones were stored, and perhaps the next one was begun
+    -- how far a list of bodies came since the old state: the first ones were stored, and perhaps the next one was begun
     pub record StoresSome (latest : Option T) (bodies : List T) (old new : D) : Type 0 where
       pub stored : List T
       pub begun : List T
       pub left : List T
       pub split : bodies ≡ stored ++ (begun ++ left)
       pub one : length begun ≤ 1
-      pub each : GetsEach latest stored begun old new
+      pub each : GetsEach new (B.moment old) latest stored begun

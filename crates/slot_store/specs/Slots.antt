@@ -11,6 +11,10 @@ slot_at at slot = at + 512 * slot
 abbrev pub IsQuiet : ℕ → (ℕ → Type 0) → Type 0
 IsQuiet at in_flight = (place : ℕ) → IsWithin at 1024 place → ¬ in_flight place
 
+-- nothing of the pair is in flight that wasn't
+abbrev pub FliesNoMore : ℕ → (ℕ → Type 0) → (ℕ → Type 0) → Type 0
+FliesNoMore at old new = (place : ℕ) → IsWithin at 1024 place → new place → old place
+
 -- the pair is the same in both images
 pub record IsSamePair (at : ℕ) (image left : List ℕ) : Type 0 where
   pub size : length left ≡ length image
@@ -55,6 +59,10 @@ module _ {T : Type 0} (reads : List ℕ → Option T) (number_of : T → ℕ) wh
   abbrev pub Shows : ℕ → List ℕ → Option T → Type 0
   Shows at image None = IsBlank at image
   Shows at image (Some body) = StandsFor at image body
+
+  -- the pair shows the latest body, or stands for the new one
+  abbrev pub ShowsEither : ℕ → Option T → T → List ℕ → Type 0
+  ShowsEither at latest body image = Shows at image latest ⊎ StandsFor at image body
 
   -- the latest body is at this place
   pub record IsAt (at : ℕ) (place : Place) (image : List ℕ) (body : T) : Type 0 where

@@ -1,9 +1,9 @@
 -- The three stages in which a pair of slots gets a new body.
 use Rattle.std.specs.Prelude.{◌≡◌, ℕ, ◌-◌, ◌<◌, ◌≤◌, Bool, false, List, Option, Some, None, is_some}
-use Rattle.outside.specs.Disk.{SameBut, MayLeave}
+use Rattle.outside.specs.declared.board.Board.{Ghosts}
+use Rattle.slot_store.specs.declared.body.Body.{Ghosts as BodyGhosts}
 use Rattle.slot_store.specs.declared.pair.Pair.{Pair}
 use Rattle.slot_store.specs.declared.pair.Place.{Place}
-use Rattle.slot_store.specs.Torn.{OrWithin}
 use Rattle.slot_store.specs.Slots.{slot_at, IsQuiet, IsClosed, IsBlank, IsOpen, HasBody, IsSettled}
 
 -- the slot with the latest body, which is kept; of a blank pair, slot 1
@@ -73,13 +73,16 @@ module _ {T : Type 0} (reads : List ℕ → Option T) (number_of : T → ℕ) wh
     pub body_is : HasBody reads (spare_at pair) image (Some body)
     pub newer : IsBefore number_of latest (number_of body)
 
--- a cut leaves what was printed, an image of this kind, and outside so many bytes from here on what it might have left at the start
-pub record LeavesBeside (image : List ℕ) (in_flight : ℕ → Type 0) (printed : List ℕ) (start count : ℕ) (kind : List ℕ → Type 0) (left_image left_text : List ℕ) : Type 0 where
-  pub stands : kind left_image
-  pub beside : MayLeave image (OrWithin in_flight start count) printed left_image left_text
+-- the same of a pair on a board, over the meanings of the body and of the board as a whole
+module _ {T : Type 0} (meanings : BodyGhosts T) {D L : Type 0} (B : Ghosts D L) where
+  abbrev pub IsReadyOn : Pair → D → Option T → Type 0
+  IsReadyOn pair board latest = IsReady meanings.reads meanings.number_of pair (B.image board) (B.in_flight board) latest
 
--- outside so many bytes from here on the image is as it was, but for what was in flight, and nothing more is in flight; nothing was printed
-pub record WritesIn {D : Type 0} (image : D → List ℕ) (in_flight : D → ℕ → Type 0) (printed : D → List ℕ) (start count : ℕ) (old new : D) : Type 0 where
-  pub rest : SameBut (OrWithin (in_flight old) start count) (image old) (image new)
-  pub flight : (place : ℕ) → in_flight new place → OrWithin (in_flight old) start count place
-  pub text : printed new ≡ printed old
+  abbrev pub IsShutOn : Pair → D → Option T → Type 0
+  IsShutOn pair board latest = IsShut meanings.reads pair (B.image board) (B.in_flight board) latest
+
+  abbrev pub IsWrittenOn : Pair → D → Option T → T → Type 0
+  IsWrittenOn pair board latest body = IsWritten meanings.reads meanings.number_of pair (B.image board) (B.in_flight board) latest body
+
+  abbrev pub IsSettledOn : ℕ → Place → D → T → Type 0
+  IsSettledOn at place board body = IsSettled meanings.reads meanings.number_of at place (B.image board) (B.in_flight board) body

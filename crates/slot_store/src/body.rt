@@ -1,8 +1,10 @@
 //! What a slot holds.
-ghost use Rattle.std.specs.Prelude.{◌≡◌, ◌<◌, ℕ, List, Option, Some, length};
-ghost use Rattle.std.specs.List.{All};
+ghost use Rattle.std.specs.Prelude.{◌≡◌, ℕ, List, Option, Some, length};
+ghost use Rattle.outside.specs.Disk.{AreBytes};
 
-/// A value of 511 bytes that slots hold, with a number by which the later of two is known.
+/// A value of 511 bytes that slots hold, with a number by which the later of two is known. Values are
+/// compared as contracts see them: a body with buffers in it by its items, as the kit's models of
+/// these give them, and not by where they lie in memory.
 pub trait Body: Sized + Drop {
     /// The values that may be written.
     ghost valid: { Self → Type 0 };
@@ -39,5 +41,6 @@ pub trait Body: Sized + Drop {
     ghost gives_valid: { (bytes : List ℕ) (body : Self) → reads bytes ≡ Some body → valid body };
 
     /// Nothing but its own bytes is read as a value.
-    ghost nothing_else: { (bytes : List ℕ) (body : Self) → length bytes ≡ 511 → All (λ byte. byte < 256) bytes → reads bytes ≡ Some body → bytes ≡ spelling body };
+    ghost nothing_else: { (bytes : List ℕ) (body : Self)
+        → length bytes ≡ 511 → AreBytes bytes → reads bytes ≡ Some body → bytes ≡ spelling body };
 }

@@ -6,8 +6,8 @@
 mod body;
 mod durable;
 mod found;
-mod laws;
 mod pair;
+mod pair_laws;
 mod ready;
 mod scanning;
 mod shut;
@@ -16,10 +16,12 @@ mod written;
 
 pub use body::Body;
 pub use found::{Found, SlotFault};
-pub use laws::{
-    a_pair_stands_for_one_body, a_pair_that_is_not_touched_stays, a_scan_answers_by_the_image,
-};
 pub use pair::{Pair, Place};
+pub use pair_laws::{
+    a_pair_apart_is_the_same, a_pair_stands_for_one_body, a_pair_that_is_not_touched_stays,
+    a_scan_answers_by_the_image, a_scan_finds_the_body, a_settled_pair_stays,
+    a_store_of_the_whole_pair, an_open_slot_has_a_spelling,
+};
 pub use ready::Ready;
 pub use scanning::scan;
 pub use shut::Shut;

@@ -1,10 +1,10 @@
 //! The first stage: the slot that is written next is shut.
-ghost use Rattle.std.specs.Prelude.{◌≡◌, ◌+◌, ◌≤◌, false, Option, Some, None, IfOk, OnOk, IsOk};
-ghost use Rattle.outside.specs.Disk.{LeavesOnly};
+ghost use Rattle.std.specs.Prelude.{◌≡◌, ◌+◌, ◌≤◌, true, false, get_or, Option, Some, None, IfOk, OnOk, IsOk};
 ghost use Rattle.outside.specs.Faults.{HasCause};
 ghost use Rattle.slot_store.specs.declared.pair.Pair.{Pair};
 ghost use Rattle.slot_store.specs.Slots.{Shows};
-ghost use Rattle.slot_store.specs.Stages.{spare_at, is_spare_open, IsPair, IsReady, IsShut, LeavesBeside, WritesIn};
+ghost use Rattle.slot_store.specs.Stages.{spare_at, is_spare_open, IsPair, IsReadyOn, IsShutOn};
+ghost use Rattle.slot_store.specs.Writes.{LeavesThroughout, WritesIn};
 
 use crate::durable::write_and_sync;
 use crate::pair::CLOSED;
@@ -65,23 +65,28 @@ impl Ready {
 
     /// Shuts the slot that is written next: where its gate is open, writes 0x00 there and syncs, and
     /// else makes no call. At each moment a cut leaves an image that stands for the latest body, or
-    /// is blank as before, also where the stage failed. `Failed` comes only where the board's count
-    /// of faults rose.
-    pub fn shut<T: Body, B: Board, L: Ledger>(
+    /// is blank as before, and so does the board's own image, also where the stage failed. `Failed`
+    /// comes only where the board's count of faults rose.
+    pub fn shut<T: Body, B: Board<L>, L: Ledger>(
         self,
         board: &mut B,
         steps: &mut Steps<L>,
     ) -> Result<Shut, Failed>
-        requires ready { B.tells_image → (latest : Option T) × IsReady T.reads T.number_of self (B.image board.old) (B.in_flight board.old) latest }
-        ensures any_moment { B.tells_image → (latest : Option T) → IsReady T.reads T.number_of self (B.image board.old) (B.in_flight board.old) latest
-            → LeavesOnly B.moment B.left_since board.old board.new (LeavesBeside (B.image board.old) (B.in_flight board.old) (B.printed board.old) (spare_at self) 512
-            (λ image. Shows T.reads T.number_of self.at image latest)) }
-        ensures shut { B.tells_image → OnOk result ((latest : Option T) → IsReady T.reads T.number_of self (B.image board.old) (B.in_flight board.old) latest
-            → IsShut T.reads self (B.image board.new) (B.in_flight board.new) latest) }
-        ensures closed { is_spare_open self.latest ≡ false → IsOk result × (board.new ≡ board.old) × (steps.new ≡ steps.old) }
-        ensures beside { WritesIn B.image B.in_flight B.printed (spare_at self) 512 board.old board.new }
+        requires ready { B.tells_image → (latest : Option T) × IsReadyOn T.Body B.Board self board.old latest }
+        ensures any_moment { B.tells_image → (latest : Option T) → IsReadyOn T.Body B.Board self board.old latest
+            → LeavesThroughout B.Board (spare_at self) 512
+            (λ image. Shows T.reads T.number_of self.at image latest) board.old board.new }
+        ensures shut { B.tells_image → OnOk result ((latest : Option T) → IsReadyOn T.Body B.Board self board.old latest
+            → IsShutOn T.Body B.Board self board.new latest) }
+        ensures gate { B.tells_image → is_spare_open self.latest ≡ true
+            → OnOk result (get_or (B.image board.new) (spare_at self) 0 ≡ 0) }
+        ensures closed { is_spare_open self.latest ≡ false
+            → IsOk result × (board.new ≡ board.old) × (steps.new ≡ steps.old) }
+        ensures gate_alone { WritesIn B.Board (spare_at self) 1 board.old board.new }
+        ensures beside { WritesIn B.Board (spare_at self) 512 board.old board.new }
         ensures pair { IfOk result (λ shut. shut ≡ self) }
         ensures cause { HasCause (B.faults board.old) (B.faults board.new) result }
+        ensures calls { is_spare_open self.latest ≡ true → OnOk result (steps.new ≡ steps.old + 2) }
         ensures steps { steps.new ≤ steps.old + 2 }
     {
         let shut = Shut::of(self.pair);

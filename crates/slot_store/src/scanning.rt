@@ -1,7 +1,8 @@
 //! What a pair of slots stands for.
 ghost use Rattle.std.specs.Prelude.{◌≡◌, ℕ, ◌+◌, ◌≤◌, take, drop, IfOk, OnOk, IsErrOf};
-ghost use Rattle.outside.specs.Disk.{SameBut, MayLeave, LeavesOnly};
+ghost use Rattle.outside.specs.Disk.{SameBut, MayLeave};
 ghost use Rattle.outside.specs.Faults.{HasCause, Rose};
+ghost use Rattle.outside.specs.Runs.{LeavesOnly};
 ghost use Rattle.slot_store.specs.Scan.{held, verdict_on, found_at, IsAsFound, IsSound};
 
 use crate::pair::OPEN;
@@ -16,25 +17,30 @@ use taxi_units::Steps;
 /// Where no slot is open, the pair is `Blank`; else the open slot whose body has the greatest number
 /// has the latest body. `BadBody` names the lower open slot whose body isn't read. Where there is
 /// none, `SameNumber` comes where both slots are open with one number. `DeviceFailed` comes only
-/// where the board's count of faults rose. After each other answer nothing is in flight, and the
-/// image is as it was; after `Latest` the pair is settled at the place.
-pub fn scan<T: Body, B: Board, L: Ledger>(
+/// where the board's count of faults rose. After each other answer nothing is in flight, the image is
+/// as it was, and the three calls were made; after `Latest` the pair is settled at the place.
+pub fn scan<T: Body, B: Board<L>, L: Ledger>(
     board: &mut B,
     at: u16,
     steps: &mut Steps<L>,
 ) -> Result<Found<T>, SlotFault>
     requires { at ≤ 1024 }
-    ensures exact { B.tells_image → ¬ IsErrOf result SlotFault.DeviceFailed → result ≡ found_at T.reads T.number_of at (B.image board.old) }
-    ensures settled { B.tells_image → IfOk result (IsAsFound T.reads T.number_of at (B.image board.new) (B.in_flight board.new)) }
+    ensures exact { B.tells_image → ¬ IsErrOf result SlotFault.DeviceFailed
+        → result ≡ found_at T.reads T.number_of at (B.image board.old) }
+    ensures settled { B.tells_image → IfOk result
+        (IsAsFound T.reads T.number_of at (B.image board.new) (B.in_flight board.new)) }
     ensures sound { IfOk result (IsSound T.valid) }
-    ensures any_moment { LeavesOnly B.moment B.left_since board.old board.new (MayLeave (B.image board.old) (B.in_flight board.old) (B.printed board.old)) }
+    ensures any_moment { LeavesOnly B.Board board.old board.new
+        (MayLeave (B.image board.old) (B.in_flight board.old) (B.printed board.old)) }
     ensures same { ¬ IsErrOf result SlotFault.DeviceFailed → B.image board.new ≡ B.image board.old }
-    ensures durable { B.tells_image → ¬ IsErrOf result SlotFault.DeviceFailed → (place : ℕ) → ¬ B.in_flight board.new place }
+    ensures durable { B.tells_image → ¬ IsErrOf result SlotFault.DeviceFailed
+        → (place : ℕ) → ¬ B.in_flight board.new place }
     ensures image { SameBut (B.in_flight board.old) (B.image board.old) (B.image board.new) }
     ensures flight { (place : ℕ) → B.in_flight board.new place → B.in_flight board.old place }
     ensures text { B.printed board.new ≡ B.printed board.old }
     ensures faults { B.faults board.old ≤ B.faults board.new }
     ensures cause { IsErrOf result SlotFault.DeviceFailed → Rose (B.faults board.old) (B.faults board.new) }
+    ensures calls { ¬ IsErrOf result SlotFault.DeviceFailed → steps.new ≡ steps.old + 3 }
     ensures steps { steps.new ≤ steps.old + 3 }
 {
     let (first, second) = read_pair(board, at, steps)?;
@@ -42,7 +48,7 @@ pub fn scan<T: Body, B: Board, L: Ledger>(
 }
 
 /// Syncs, and reads the bytes of both slots.
-fn read_pair<B: Board, L: Ledger>(
+fn read_pair<B: Board<L>, L: Ledger>(
     board: &mut B,
     at: u16,
     steps: &mut Steps<L>,
@@ -52,11 +58,13 @@ fn read_pair<B: Board, L: Ledger>(
     ensures second { B.tells_image → IfOk result (λ slots. slots.1 ≡ take 512 (drop (at + 512) (B.image board.old))) }
     ensures same { OnOk result (B.image board.new ≡ B.image board.old) }
     ensures durable { B.tells_image → OnOk result ((place : ℕ) → ¬ B.in_flight board.new place) }
-    ensures any_moment { LeavesOnly B.moment B.left_since board.old board.new (MayLeave (B.image board.old) (B.in_flight board.old) (B.printed board.old)) }
+    ensures any_moment { LeavesOnly B.Board board.old board.new
+        (MayLeave (B.image board.old) (B.in_flight board.old) (B.printed board.old)) }
     ensures image { SameBut (B.in_flight board.old) (B.image board.old) (B.image board.new) }
     ensures flight { (place : ℕ) → B.in_flight board.new place → B.in_flight board.old place }
     ensures text { B.printed board.new ≡ B.printed board.old }
     ensures cause { HasCause (B.faults board.old) (B.faults board.new) result }
+    ensures calls { OnOk result (steps.new ≡ steps.old + 3) }
     ensures steps { steps.new ≤ steps.old + 3 }
 {
     board.sync(steps)?;

@@ -1,10 +1,10 @@
 //! The three stages in a row, for one body and for a list of them.
 ghost use Rattle.std.specs.Prelude.{◌≡◌, ◌⊎◌, ◌+◌, ◌*◌, ◌≤◌, ℕ, List, [], length, Option, IfOk, OnOk};
 ghost use Rattle.std.specs.List.{All};
-ghost use Rattle.outside.specs.Disk.{LeavesOnly};
 ghost use Rattle.outside.specs.Faults.{HasCause};
-ghost use Rattle.slot_store.specs.Slots.{StandsFor, Shows, IsSettled};
-ghost use Rattle.slot_store.specs.Stages.{spare_at, new_place, IsBefore, IsReady, LeavesBeside, WritesIn};
+ghost use Rattle.slot_store.specs.Slots.{ShowsEither};
+ghost use Rattle.slot_store.specs.Stages.{spare_at, new_place, IsBefore, IsReadyOn, IsSettledOn};
+ghost use Rattle.slot_store.specs.Writes.{LeavesThroughout, WritesIn};
 ghost use Rattle.slot_store.specs.Order.{AreNewer, last_of, ShowsOne, GetsEach, StoresSome};
 
 use crate::{Body, Place, Ready};
@@ -15,25 +15,27 @@ use taxi_units::Steps;
 impl Ready {
     /// Stores a body, whose number is greater than the latest body's, by the three stages, and answers
     /// its place. At each moment a cut leaves an image that stands for the latest body, or is blank as
-    /// before, or stands for the new body, also where a stage failed. `Failed` comes only where the
-    /// board's count of faults rose.
-    pub fn store<T: Body, B: Board, L: Ledger>(
+    /// before, or stands for the new body, and so does the board's own image, also where a stage
+    /// failed. `Failed` comes only where the board's count of faults rose.
+    pub fn store<T: Body, B: Board<L>, L: Ledger>(
         self,
         board: &mut B,
         body: &T,
         steps: &mut Steps<L>,
     ) -> Result<Place, Failed>
         requires valid { T.valid body.now }
-        requires ready { B.tells_image → (latest : Option T) × IsReady T.reads T.number_of self (B.image board.old) (B.in_flight board.old) latest
+        requires ready { B.tells_image → (latest : Option T) × IsReadyOn T.Body B.Board self board.old latest
             × IsBefore T.number_of latest (T.number_of body.now) }
-        ensures any_moment { B.tells_image → (latest : Option T) → IsReady T.reads T.number_of self (B.image board.old) (B.in_flight board.old) latest
+        ensures any_moment { B.tells_image → (latest : Option T)
+            → IsReadyOn T.Body B.Board self board.old latest
             → IsBefore T.number_of latest (T.number_of body.now)
-            → LeavesOnly B.moment B.left_since board.old board.new (LeavesBeside (B.image board.old) (B.in_flight board.old) (B.printed board.old) (spare_at self) 512
-            (λ image. Shows T.reads T.number_of self.at image latest ⊎ StandsFor T.reads T.number_of self.at image body.now)) }
-        ensures settled { B.tells_image → IfOk result (λ place. (latest : Option T) → IsReady T.reads T.number_of self (B.image board.old) (B.in_flight board.old) latest
+            → LeavesThroughout B.Board (spare_at self) 512
+            (ShowsEither T.reads T.number_of self.at latest body.now) board.old board.new }
+        ensures settled { B.tells_image → IfOk result (λ place. (latest : Option T)
+            → IsReadyOn T.Body B.Board self board.old latest
             → IsBefore T.number_of latest (T.number_of body.now)
-            → IsSettled T.reads T.number_of self.at place (B.image board.new) (B.in_flight board.new) body.now) }
-        ensures beside { WritesIn B.image B.in_flight B.printed (spare_at self) 512 board.old board.new }
+            → IsSettledOn T.Body B.Board self.at place board.new body.now) }
+        ensures beside { WritesIn B.Board (spare_at self) 512 board.old board.new }
         ensures place { IfOk result (λ place. place ≡ new_place self) }
         ensures slot_in { IfOk result (λ place. place.slot ≤ 1) }
         ensures cause { HasCause (B.faults board.old) (B.faults board.new) result }
@@ -46,33 +48,37 @@ impl Ready {
 
     /// Stores a list of bodies, whose numbers rise from the latest body's on, one after the other, and
     /// answers the pair with the last of them as its latest. At each moment a cut leaves an image that
-    /// stands for the latest body, or is blank as before, or stands for one of the list: each in its
-    /// turn, none left out, also where a stage failed. `Failed` comes only where the board's count of
-    /// faults rose.
-    pub fn store_all<T: Body, B: Board, L: Ledger>(
+    /// stands for the latest body, or is blank as before, or stands for one of the list, and so does
+    /// the board's own image: each in its turn, none left out, also where a stage failed. `Failed`
+    /// comes only where the board's count of faults rose.
+    pub fn store_all<T: Body, B: Board<L>, L: Ledger>(
         self,
         board: &mut B,
         bodies: &[T],
         steps: &mut Steps<L>,
     ) -> Result<Ready, Failed>
         requires valid { All T.valid bodies.now }
-        requires ready { B.tells_image → (latest : Option T) × IsReady T.reads T.number_of self (B.image board.old) (B.in_flight board.old) latest
+        requires ready { B.tells_image → (latest : Option T) × IsReadyOn T.Body B.Board self board.old latest
             × AreNewer T.number_of latest bodies.now }
-        ensures any_moment { B.tells_image → (latest : Option T) → IsReady T.reads T.number_of self (B.image board.old) (B.in_flight board.old) latest
+        ensures any_moment { B.tells_image → (latest : Option T)
+            → IsReadyOn T.Body B.Board self board.old latest
             → AreNewer T.number_of latest bodies.now
-            → LeavesOnly B.moment B.left_since board.old board.new (LeavesBeside (B.image board.old) (B.in_flight board.old) (B.printed board.old) self.at 1024
-            (ShowsOne T.reads T.number_of self.at latest bodies.now)) }
-        ensures in_order { B.tells_image → (latest : Option T) → IsReady T.reads T.number_of self (B.image board.old) (B.in_flight board.old) latest
+            → LeavesThroughout B.Board self.at 1024
+            (ShowsOne T.reads T.number_of self.at latest bodies.now) board.old board.new }
+        ensures in_order { B.tells_image → (latest : Option T)
+            → IsReadyOn T.Body B.Board self board.old latest
             → AreNewer T.number_of latest bodies.now
-            → StoresSome T.reads T.number_of self.at B.image B.in_flight B.moment B.left_since latest bodies.now board.old board.new }
-        ensures all { B.tells_image → OnOk result ((latest : Option T) → IsReady T.reads T.number_of self (B.image board.old) (B.in_flight board.old) latest
+            → StoresSome T.reads T.number_of self.at B.Board latest bodies.now board.old board.new }
+        ensures all { B.tells_image → OnOk result ((latest : Option T)
+            → IsReadyOn T.Body B.Board self board.old latest
             → AreNewer T.number_of latest bodies.now
-            → GetsEach T.reads T.number_of self.at B.image B.in_flight B.moment B.left_since latest bodies.now [] board.old board.new) }
-        ensures ready { B.tells_image → IfOk result (λ ready. (latest : Option T) → IsReady T.reads T.number_of self (B.image board.old) (B.in_flight board.old) latest
+            → GetsEach T.reads T.number_of self.at B.Board board.new (B.moment board.old) latest bodies.now []) }
+        ensures ready { B.tells_image → IfOk result (λ ready. (latest : Option T)
+            → IsReadyOn T.Body B.Board self board.old latest
             → AreNewer T.number_of latest bodies.now
-            → IsReady T.reads T.number_of ready (B.image board.new) (B.in_flight board.new) (last_of latest bodies.now)) }
+            → IsReadyOn T.Body B.Board ready board.new (last_of latest bodies.now)) }
         ensures pair { IfOk result (λ ready. ready.at ≡ self.at) }
-        ensures beside { WritesIn B.image B.in_flight B.printed self.at 1024 board.old board.new }
+        ensures beside { WritesIn B.Board self.at 1024 board.old board.new }
         ensures cause { HasCause (B.faults board.old) (B.faults board.new) result }
         ensures steps { steps.new ≤ steps.old + 6 * length bodies.now }
     {

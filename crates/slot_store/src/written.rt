@@ -1,10 +1,10 @@
 //! The third stage: the gate is opened.
 ghost use Rattle.std.specs.Prelude.{◌≡◌, ◌⊎◌, ◌+◌, ◌≤◌, Option, IfOk, OnOk};
-ghost use Rattle.outside.specs.Disk.{LeavesOnly};
 ghost use Rattle.outside.specs.Faults.{HasCause};
 ghost use Rattle.slot_store.specs.declared.pair.Pair.{Pair};
-ghost use Rattle.slot_store.specs.Slots.{StandsFor, Shows, IsSettled};
-ghost use Rattle.slot_store.specs.Stages.{spare_at, new_place, IsPair, IsWritten, LeavesBeside, WritesIn};
+ghost use Rattle.slot_store.specs.Slots.{ShowsEither};
+ghost use Rattle.slot_store.specs.Stages.{spare_at, new_place, IsPair, IsWrittenOn, IsSettledOn};
+ghost use Rattle.slot_store.specs.Writes.{LeavesThroughout, WritesIn};
 
 use crate::durable::write_and_sync;
 use crate::pair::OPEN;
@@ -39,23 +39,28 @@ impl Written {
 
     /// Opens the slot that was written: writes 0xA5 at its gate and syncs, and answers the new place.
     /// At each moment a cut leaves an image that stands for the latest body, or is blank as before, or
-    /// stands for the new body, also where the stage failed. `Failed` comes only where the board's
-    /// count of faults rose.
-    pub fn finish<T: Body, B: Board, L: Ledger>(
+    /// stands for the new body, and so does the board's own image, also where the stage failed.
+    /// `Failed` comes only where the board's count of faults rose.
+    pub fn finish<T: Body, B: Board<L>, L: Ledger>(
         self,
         board: &mut B,
         steps: &mut Steps<L>,
     ) -> Result<Place, Failed>
-        requires written { B.tells_image → (latest : Option T) × ((body : T) × IsWritten T.reads T.number_of self (B.image board.old) (B.in_flight board.old) latest body) }
-        ensures any_moment { B.tells_image → (latest : Option T) (body : T) → IsWritten T.reads T.number_of self (B.image board.old) (B.in_flight board.old) latest body
-            → LeavesOnly B.moment B.left_since board.old board.new (LeavesBeside (B.image board.old) (B.in_flight board.old) (B.printed board.old) (spare_at self) 512
-            (λ image. Shows T.reads T.number_of self.at image latest ⊎ StandsFor T.reads T.number_of self.at image body)) }
-        ensures settled { B.tells_image → IfOk result (λ place. (latest : Option T) (body : T) → IsWritten T.reads T.number_of self (B.image board.old) (B.in_flight board.old) latest body
-            → IsSettled T.reads T.number_of self.at place (B.image board.new) (B.in_flight board.new) body) }
-        ensures beside { WritesIn B.image B.in_flight B.printed (spare_at self) 512 board.old board.new }
+        requires written { B.tells_image → (latest : Option T)
+            × ((body : T) × IsWrittenOn T.Body B.Board self board.old latest body) }
+        ensures any_moment { B.tells_image → (latest : Option T) (body : T)
+            → IsWrittenOn T.Body B.Board self board.old latest body
+            → LeavesThroughout B.Board (spare_at self) 512
+            (ShowsEither T.reads T.number_of self.at latest body) board.old board.new }
+        ensures settled { B.tells_image → IfOk result (λ place. (latest : Option T) (body : T)
+            → IsWrittenOn T.Body B.Board self board.old latest body
+            → IsSettledOn T.Body B.Board self.at place board.new body) }
+        ensures gate_alone { WritesIn B.Board (spare_at self) 1 board.old board.new }
+        ensures beside { WritesIn B.Board (spare_at self) 512 board.old board.new }
         ensures place { IfOk result (λ place. place ≡ new_place self) }
         ensures slot_in { IfOk result (λ place. place.slot ≤ 1) }
         ensures cause { HasCause (B.faults board.old) (B.faults board.new) result }
+        ensures calls { OnOk result (steps.new ≡ steps.old + 2) }
         ensures steps { steps.new ≤ steps.old + 2 }
     {
         write_and_sync(board, self.pair.spare(), &[OPEN], steps)?;

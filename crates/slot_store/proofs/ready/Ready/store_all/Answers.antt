@@ -19,9 +19,9 @@ loop-body-init g c =
       in_store = omega (arith, c.at-at.ensures.is, c.at-at.ensures.in_store);
       pair = refl;
       ready = λ told latest ready newer. ready;
-      moments = λ told latest ready newer. no_call board.moment board.left_since now (board.image now) (board.printed now) (board.in_flight now) pair.at 1024 _ (g.met.B.Board.only_now now)
+      moments = λ told latest ready newer. no_call board now pair.at 1024 _ (g.met.B.Board.only_now now)
           (λ left same. quiet_leaves reads number_of pair.at pair.latest latest (board.image now) left (board.in_flight now) ready same);
-      gets = λ told latest ready newer. rests reads number_of pair.at board.image board.in_flight board.moment board.left_since now (board.printed now) pair.latest latest (g.met.B.Board.only_now now) ready;
+      gets = λ told latest ready newer. rests reads number_of pair.at board now pair.latest latest (g.met.B.Board.only_now now) ready;
       beside = record { rest = record { size = refl; rest = λ place none. refl }; flight = λ place flying. inl flying; text = refl };
       faults = omega arith;
       steps = omega arith;
@@ -36,7 +36,7 @@ store-requires-clause-ready g c told =
     let inv = c.loop-body.invariant in (
       last_of opening.0 (take c.loop-body.body-index c.args.bodies.now),
       inv.ready told opening.0 opening.1 opening.2,
-      newer_next reads number_of c.args.self.at board.image board.in_flight board.moment board.left_since board.printed c.args.board.now c.loop-body.board c.loop-body.board c.loop-body.ready inv.pair opening.0 c.args.bodies.now c.loop-body.body-index c.body-item.result c.loop-body-test.true c.body-item.is opening.2,
+      newer_next reads number_of c.args.self.at board c.args.board.now c.loop-body.board c.loop-body.board c.loop-body.ready inv.pair opening.0 c.args.bodies.now c.loop-body.body-index c.body-item.result c.loop-body-test.true c.body-item.is opening.2,
     )
 
 pub returns-in_err-place-clause-any_moment : goal.returns-in_err-place-clause-any_moment
@@ -52,9 +52,9 @@ returns-in_err-place-clause-any_moment g c told latest ready newer =
     let between = c.loop-body.board in
     let new = c.store.new.board in
     let next = c.store.ensures.any_moment told (last_of latest (take n bodies)) (inv.ready told latest ready newer)
-    (newer_next reads number_of c.args.self.at board.image board.in_flight board.moment board.left_since board.printed old between new c.loop-body.ready inv.pair latest bodies n body c.loop-body-test.true c.body-item.is newer) in
-    moments_whole reads number_of c.args.self.at board.image board.in_flight board.moment board.left_since board.printed old between new c.loop-body.ready inv.pair latest bodies n body c.loop-body-test.true c.body-item.is (n + 1)
-    (moments_more reads number_of c.args.self.at board.image board.in_flight board.moment board.left_since board.printed old between new c.loop-body.ready inv.pair latest bodies n body c.loop-body-test.true c.body-item.is
+    (newer_next reads number_of c.args.self.at board old between new c.loop-body.ready inv.pair latest bodies n body c.loop-body-test.true c.body-item.is newer) in
+    moments_whole reads number_of c.args.self.at board old between new c.loop-body.ready inv.pair latest bodies n body c.loop-body-test.true c.body-item.is (n + 1)
+    (moments_more reads number_of c.args.self.at board old between new c.loop-body.ready inv.pair latest bodies n body c.loop-body-test.true c.body-item.is
     inv.beside (inv.moments told latest ready newer) next)
 
 pub returns-in_err-place-clause-in_order : goal.returns-in_err-place-clause-in_order
@@ -70,8 +70,8 @@ returns-in_err-place-clause-in_order g c told latest ready newer =
     let between = c.loop-body.board in
     let new = c.store.new.board in
     let next = c.store.ensures.any_moment told (last_of latest (take n bodies)) (inv.ready told latest ready newer)
-    (newer_next reads number_of c.args.self.at board.image board.in_flight board.moment board.left_since board.printed old between new c.loop-body.ready inv.pair latest bodies n body c.loop-body-test.true c.body-item.is newer) in
-    stores_some reads number_of c.args.self.at board.image board.in_flight board.moment board.left_since board.printed old between new c.loop-body.ready inv.pair latest bodies n body c.loop-body-test.true c.body-item.is
+    (newer_next reads number_of c.args.self.at board old between new c.loop-body.ready inv.pair latest bodies n body c.loop-body-test.true c.body-item.is newer) in
+    stores_some reads number_of c.args.self.at board old between new c.loop-body.ready inv.pair latest bodies n body c.loop-body-test.true c.body-item.is
     (inv.gets told latest ready newer) next
 
 pub loop-body-preserved : goal.loop-body-preserved
@@ -88,7 +88,7 @@ loop-body-preserved g c =
     let new = c.store.new.board in
     let at = c.args.self.at in
     let place = c.in_ok-place.place in
-    let next_newer = λ (latest : Option g.row.T.Denot) (newer : AreNewer number_of latest bodies). newer_next reads number_of at board.image board.in_flight board.moment board.left_since board.printed old between new c.loop-body.ready inv.pair latest bodies n body c.loop-body-test.true c.body-item.is newer in
+    let next_newer = λ (latest : Option g.row.T.Denot) (newer : AreNewer number_of latest bodies). newer_next reads number_of at board old between new c.loop-body.ready inv.pair latest bodies n body c.loop-body-test.true c.body-item.is newer in
     record {
       here = inv.here;
       in_store = inv.in_store;
@@ -98,14 +98,14 @@ loop-body-preserved g c =
           let here : c.loop-body.ready.at ≡ c.at-at.result = inv.pair ∙ sym inv.here in
           subst (λ (p : Pair). IsReady reads number_of p (board.image new) (board.in_flight new) (last_of latest (take (n + 1) bodies))) (sym c.new-ready.ensures)
           (subst (λ (l : Option g.row.T.Denot). IsReady reads number_of (record { at = c.at-at.result; latest = Some place }) (board.image new) (board.in_flight new) l)
-          (sym (last_next reads number_of at board.image board.in_flight board.moment board.left_since board.printed old between new c.loop-body.ready inv.pair latest bodies n body c.loop-body-test.true c.body-item.is))
+          (sym (last_next reads number_of at board old between new c.loop-body.ready inv.pair latest bodies n body c.loop-body-test.true c.body-item.is))
           (subst (λ (start : ℕ). IsSettled reads number_of start place (board.image new) (board.in_flight new) body) here settled));
-      moments = λ told latest ready newer. moments_more reads number_of at board.image board.in_flight board.moment board.left_since board.printed old between new c.loop-body.ready inv.pair latest bodies n body c.loop-body-test.true c.body-item.is
+      moments = λ told latest ready newer. moments_more reads number_of at board old between new c.loop-body.ready inv.pair latest bodies n body c.loop-body-test.true c.body-item.is
           inv.beside (inv.moments told latest ready newer) (c.store.ensures.any_moment told (last_of latest (take n bodies)) (inv.ready told latest ready newer) (next_newer latest newer));
-      gets = λ told latest ready newer. next_stored reads number_of at board.image board.in_flight board.moment board.left_since board.printed old between new c.loop-body.ready inv.pair latest bodies n body c.loop-body-test.true c.body-item.is
-          (board.printed new) place (inv.gets told latest ready newer) (c.store.ensures.any_moment told (last_of latest (take n bodies)) (inv.ready told latest ready newer) (next_newer latest newer))
+      gets = λ told latest ready newer. next_stored reads number_of at board old between new c.loop-body.ready inv.pair latest bodies n body c.loop-body-test.true c.body-item.is
+          place (inv.gets told latest ready newer) (c.store.ensures.any_moment told (last_of latest (take n bodies)) (inv.ready told latest ready newer) (next_newer latest newer))
           (c.in_ok-place.ensures.settled told (last_of latest (take n bodies)) (inv.ready told latest ready newer) (next_newer latest newer)) (g.met.B.Board.only_now new);
-      beside = writes_more reads number_of at board.image board.in_flight board.moment board.left_since board.printed old between new c.loop-body.ready inv.pair None bodies n body c.loop-body-test.true c.body-item.is inv.beside c.store.ensures.beside;
+      beside = writes_more reads number_of at board old between new c.loop-body.ready inv.pair None bodies n body c.loop-body-test.true c.body-item.is inv.beside c.store.ensures.beside;
       faults = omega (arith, inv.faults, c.store.ensures.cause.later);
       steps = omega (arith, inv.steps, c.store.ensures.steps);
     }

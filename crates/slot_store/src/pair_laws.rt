@@ -1,0 +1,87 @@
+//! What the answers of a scan mean, and what stays of a pair, in words that share nothing with how
+//! the code finds it.
+ghost use Rattle.std.specs.Prelude.{◌≡◌, ◌⊎◌, ◌↔◌, ℕ, ◌+◌, ◌≤◌, List, length, take, drop, Option, Some, Result, Ok};
+ghost use Rattle.outside.specs.Disk.{AreBytes, SameBut};
+ghost use Rattle.slot_store.specs.declared.pair.Pair.{Pair};
+ghost use Rattle.slot_store.specs.declared.pair.Place.{Place};
+ghost use Rattle.slot_store.specs.declared.found.Found.{Found};
+ghost use Rattle.slot_store.specs.declared.found.Found.TheVariants.{Latest};
+ghost use Rattle.slot_store.specs.declared.found.SlotFault.{SlotFault};
+ghost use Rattle.slot_store.specs.Slots.{IsQuiet, IsSamePair, IsBlank, IsOpen, IsAt, FliesNoMore, StandsFor, Shows, ShowsEither};
+ghost use Rattle.slot_store.specs.Scan.{found_at, IsAnswer};
+ghost use Rattle.slot_store.specs.Stages.{spare_at, IsPair, IsReadyOn, IsSettledOn};
+ghost use Rattle.slot_store.specs.Writes.{IsApart, OrWithin, LeavesThroughout, WritesIn};
+
+use crate::Body;
+use outside::Board;
+use std::sync::ledger::Ledger;
+
+/// The answer to a pair of slots is the one that its image calls for, and there is just one.
+pub fn a_scan_answers_by_the_image<T: Body>()
+    ensures { (at : ℕ) (image : List ℕ) (answer : Result (Found T) SlotFault)
+        → (found_at T.reads T.number_of at image ≡ answer) ↔ IsAnswer T.reads T.number_of at image answer }
+{}
+
+/// An image that stands for a body is answered with that body.
+pub fn a_scan_finds_the_body<T: Body>()
+    ensures { (at : ℕ) (image : List ℕ) (body : T) → StandsFor T.reads T.number_of at image body
+        → (place : Place) × (found_at T.reads T.number_of at image ≡ Ok (Latest place body)) }
+{}
+
+/// A pair of slots stands for one body at most.
+pub fn a_pair_stands_for_one_body<T: Body>()
+    ensures { (at : ℕ) (image : List ℕ) (one other : T)
+        → StandsFor T.reads T.number_of at image one → StandsFor T.reads T.number_of at image other → one ≡ other }
+{}
+
+/// An open slot whose body is read has that body's own spelling, in an image of bytes.
+pub fn an_open_slot_has_a_spelling<T: Body>()
+    ensures { (start : ℕ) (image : List ℕ) (body : T) → AreBytes image → start + 512 ≤ length image
+        → IsOpen T.reads start image (Some body) → take 511 (drop (start + 1) image) ≡ T.spelling body }
+{}
+
+/// A pair whose latest body is at a place stands for that body. It stays so, and a blank pair stays
+/// blank, in each image in which the pair has the same bytes: in each that a cut leaves while nothing
+/// of the pair is in flight, and after writes that lie elsewhere.
+pub fn a_pair_that_is_not_touched_stays<T: Body>()
+    ensures stands { (at : ℕ) (place : Place) (image : List ℕ) (body : T)
+        → IsAt T.reads T.number_of at place image body → StandsFor T.reads T.number_of at image body }
+    ensures stays { (at : ℕ) (place : Place) (image left : List ℕ) (body : T)
+        → IsAt T.reads T.number_of at place image body → IsSamePair at image left
+        → IsAt T.reads T.number_of at place left body }
+    ensures blank { (at : ℕ) (image left : List ℕ) → IsBlank at image → IsSamePair at image left → IsBlank at left }
+{}
+
+/// A pair that is settled, or blank with nothing in flight, stays so on a board on which it has the
+/// same bytes and no more of it is in flight. A cut of the power leaves what it stands for.
+pub fn a_settled_pair_stays<T: Body, B: Board<L>, L: Ledger>()
+    ensures settled { (at : ℕ) (place : Place) (body : T) (old new : B) → IsSettledOn T.Body B.Board at place old body
+        → IsSamePair at (B.image old) (B.image new) → FliesNoMore at (B.in_flight old) (B.in_flight new)
+        → IsSettledOn T.Body B.Board at place new body }
+    ensures ready { (pair : Pair) (latest : Option T) (old new : B) → IsReadyOn T.Body B.Board pair old latest
+        → IsSamePair pair.at (B.image old) (B.image new) → FliesNoMore pair.at (B.in_flight old) (B.in_flight new)
+        → IsReadyOn T.Body B.Board pair new latest }
+    ensures left { (pair : Pair) (latest : Option T) (board : B) (left_image : List ℕ)
+        → IsReadyOn T.Body B.Board pair board latest
+        → SameBut (B.in_flight board) (B.image board) left_image → Shows T.reads T.number_of pair.at left_image latest }
+{}
+
+/// A pair of which nothing is in flight, and that lies apart from what is written, has the same bytes
+/// then, and nothing of it is in flight; and so it has in what a cut leaves.
+pub fn a_pair_apart_is_the_same<B: Board<L>, L: Ledger>()
+    ensures image { (at start count : ℕ) (old : B) (left_image : List ℕ)
+        → IsApart at start count → IsQuiet at (B.in_flight old)
+        → SameBut (OrWithin (B.in_flight old) start count) (B.image old) left_image
+        → IsSamePair at (B.image old) left_image }
+    ensures quiet { (at start count : ℕ) (old new : B) → IsApart at start count → IsQuiet at (B.in_flight old)
+        → WritesIn B.Board start count old new → IsQuiet at (B.in_flight new) }
+{}
+
+/// What a stage or a store promises of the slot that is written next holds of the whole pair.
+pub fn a_store_of_the_whole_pair<T: Body, B: Board<L>, L: Ledger>()
+    ensures leaves { (pair : Pair) (latest : Option T) (body : T) (old new : B) → IsPair pair
+        → LeavesThroughout B.Board (spare_at pair) 512 (ShowsEither T.reads T.number_of pair.at latest body) old new
+        → LeavesThroughout B.Board pair.at 1024 (ShowsEither T.reads T.number_of pair.at latest body) old new }
+    ensures writes { (pair : Pair) (old new : B) → IsPair pair
+        → WritesIn B.Board (spare_at pair) 512 old new → WritesIn B.Board pair.at 1024 old new }
+{}
