@@ -1,1 +1,3 @@
-pub mod WholeMillimetres
+mod Bursts
+pub mod Laws
+mod WholeMillimetres

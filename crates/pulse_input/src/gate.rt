@@ -1,5 +1,7 @@
 //! The pulses of the measuring interval that runs.
-ghost use Rattle.std.specs.Prelude.{◌≡◌, ℕ, ◌+◌, ◌-◌, ◌≤◌, min};
+ghost use Rattle.std.specs.Prelude.{◌≡◌, ℕ, ◌+◌, ◌-◌, ◌≤◌, List, min, sum};
+ghost use Rattle.std.specs.List.{fold};
+ghost use Rattle.pulse_input.specs.Gate.{counted};
 
 use std::marker::Model;
 
@@ -33,7 +35,7 @@ impl Gate {
     /// Counts `n` further pulses as far as the interval can have them, and gives those that were not
     /// counted.
     pub fn add(&mut self, n: u32) -> u32
-        ensures count { self.new ≡ min 2000 (self.old + n) }
+        ensures count { self.new ≡ counted self.old n }
         ensures surplus { result ≡ self.old + n - 2000 }
         ensures all { self.new + result ≡ self.old + n }
     {
@@ -53,3 +55,8 @@ impl Gate {
         pulses
     }
 }
+
+/// A law: after any list of bursts of pulses a gate has counted their sum, up to 2,000.
+pub fn a_gate_counts_the_sum()
+    ensures { (pulses : ℕ) (bursts : List ℕ) → pulses ≤ 2000 → fold counted pulses bursts ≡ min 2000 (pulses + sum bursts) }
+{}

@@ -8,7 +8,7 @@ mod gate;
 
 pub use constant::{BadConstant, Constant};
 pub use distance::{distances_are_whole_millimetres, millimetres, reached};
-pub use gate::Gate;
+pub use gate::{Gate, a_gate_counts_the_sum};
 
 #[cfg(test)]
 mod tests;
