@@ -1,3 +1,4 @@
-pub mod Sums
-pub mod Steps
-pub mod Crossover
+mod Crossover
+pub mod Laws
+mod Steps
+mod Sums

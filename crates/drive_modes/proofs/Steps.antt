@@ -4,7 +4,7 @@ use Rattle.std.proofs.lemmas.Nat.{div-add-mod', div-mul-add, mod_below}
 use Rattle.std.proofs.lemmas.Grind.{common_steps}
 use Rattle.drive_modes.specs.declared.meterage.Rounding.{Rounding}
 use Rattle.drive_modes.specs.declared.meterage.Rounding.TheVariants.{Behind, Ahead}
-use Rattle.drive_modes.specs.Fare.{above_cover, quotient, saved, steps_of}
+use Rattle.drive_modes.specs.Fare.{Opening, above_cover, quotient, saved, steps_above, steps_of}
 
 -- behind, the most that an amount fills
 pub quotient-behind : (n x y : ℕ) → 0 < y → (n ≤ quotient Behind x y) ↔ (n * y ≤ x)
@@ -27,9 +27,9 @@ rounded-up q (suc rest) y below =
     one-more q rest ∙ sym (ap (λ (n : ℕ). n / y) more ∙ div-mul-add (q + 1) y rest (omega arith))
 
 -- the display steps of what is kept are those of all that is above the cover
-pub steps-quotient : (rounding : Rounding) (v r modulus f : ℕ) → 0 < modulus → steps_of rounding (saved v r modulus f) ≡ quotient rounding (above_cover v r f) modulus
-steps-quotient Behind v r modulus f some = refl
-steps-quotient Ahead v r modulus f some =
-    let x = above_cover v r f in
-    rounded-up (x / modulus) (x % modulus) modulus (mod_below x modulus some)
-    ∙ ap (λ (n : ℕ). (n + (modulus - 1)) / modulus) (div-add-mod' x modulus)
+pub steps-quotient : (rounding : Rounding) (opening : Opening) (charged : ℕ) → 0 < opening.modulus → steps_of rounding (saved opening charged) ≡ steps_above rounding opening charged
+steps-quotient Behind opening charged some = refl
+steps-quotient Ahead opening charged some =
+    let x = above_cover opening charged in
+    rounded-up (x / opening.modulus) (x % opening.modulus) opening.modulus (mod_below x opening.modulus some)
+    ∙ ap (λ (n : ℕ). (n + (opening.modulus - 1)) / opening.modulus) (div-add-mod' x opening.modulus)

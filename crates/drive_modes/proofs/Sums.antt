@@ -6,7 +6,7 @@ use Rattle.std.proofs.lemmas.Nat.{div-mul-add, mod-mul-add}
 use Rattle.std.proofs.lemmas.List.Sums.{sum_by_from}
 use Rattle.drive_modes.specs.declared.meterage.Meterage.{Meterage}
 use Rattle.drive_modes.specs.declared.meterage.Rounding.{Rounding}
-use Rattle.drive_modes.specs.Fare.{above_cover, added, quotient, saved, shown_fare, steps_of}
+use Rattle.drive_modes.specs.Fare.{Opening, above_cover, added, opening_of, saved, shown_fare, steps_above, steps_of}
 use Rattle.drive_modes.proofs.Steps.{steps-quotient}
 
 -- x units more, beside the display steps and the rest of g units
@@ -19,44 +19,43 @@ steps-together g x modulus some = sym (mul-add-div some (g / modulus) (g % modul
 rest-together : (g x modulus : ℕ) → (g % modulus + x) % modulus ≡ (g + x) % modulus
 rest-together g x modulus = sym (mul-add-mod_self_left modulus (g / modulus) (g % modulus + x)) ∙ ap (λ (n : ℕ). n % modulus) (together g x modulus)
 
-above-together : (v r f c : ℕ) → above_cover v r f + (c - (v - f)) ≡ above_cover v r (f + c)
-above-together v r f c = omega arith
+above-together : (opening : Opening) (f c : ℕ) → above_cover opening f + (c - (opening.cover - f)) ≡ above_cover opening (f + c)
+above-together opening f c = omega arith
 
 -- a further charge adds to the sum
-pub added-saved : (v r modulus f c : ℕ) → 0 < modulus → added modulus (saved v r modulus f) c ≡ saved v r modulus (f + c)
-added-saved v r modulus f c some =
-    let cover : v - f - c ≡ v - (f + c) = omega arith in
-    let above = above-together v r f c in
-    let steps = steps-together (above_cover v r f) (c - (v - f)) modulus some in
-    let rest = rest-together (above_cover v r f) (c - (v - f)) modulus in
+pub added-saved : (opening : Opening) (f c : ℕ) → 0 < opening.modulus → added opening.modulus (saved opening f) c ≡ saved opening (f + c)
+added-saved opening f c some =
+    let cover : opening.cover - f - c ≡ opening.cover - (f + c) = omega arith in
+    let above = above-together opening f c in
+    let steps = steps-together (above_cover opening f) (c - (opening.cover - f)) opening.modulus some in
+    let rest = rest-together (above_cover opening f) (c - (opening.cover - f)) opening.modulus in
     cc
 
-fold-saved : (v r modulus f : ℕ) (charges : List ℕ) → 0 < modulus → fold (added modulus) (saved v r modulus f) charges ≡ saved v r modulus (fold (λ a x. a + x) f charges)
-fold-saved v r modulus f [] some = refl
-fold-saved v r modulus f (c ∷ charges) some =
-    ap (λ (m : Meterage). fold (added modulus) m charges) (added-saved v r modulus f c some)
-    ∙ fold-saved v r modulus (f + c) charges some
-
--- further charges add their sum
-pub saved-further : (v r modulus f : ℕ) (charges : List ℕ) → 0 < modulus → fold (added modulus) (saved v r modulus f) charges ≡ saved v r modulus (f + sum charges)
-saved-further v r modulus f charges some = fold-saved v r modulus f charges some ∙ ap (saved v r modulus) (sum_by_from (λ (x : ℕ). x) f charges)
+fold-saved : (opening : Opening) (f : ℕ) (charges : List ℕ) → 0 < opening.modulus → fold (added opening.modulus) (saved opening f) charges ≡ saved opening (fold (λ a x. a + x) f charges)
+fold-saved opening f [] some = refl
+fold-saved opening f (c ∷ charges) some =
+    ap (λ (m : Meterage). fold (added opening.modulus) m charges) (added-saved opening f c some)
+    ∙ fold-saved opening (f + c) charges some
 
 -- what charges make of a trip is what their sum makes of it
-pub saved-sum : (v r modulus : ℕ) (charges : List ℕ) → 0 < modulus → fold (added modulus) (saved v r modulus 0) charges ≡ saved v r modulus (sum charges)
-saved-sum v r modulus charges some = fold-saved v r modulus 0 charges some
-
--- and so is the fare that is shown
-pub shown-sum : (initial step v r modulus : ℕ) (rounding : Rounding) (charges : List ℕ) → 0 < modulus → shown_fare initial step (steps_of rounding (fold (added modulus) (saved v r modulus 0) charges)) ≡ shown_fare initial step (quotient rounding (above_cover v r (sum charges)) modulus)
-shown-sum initial step v r modulus rounding charges some =
-    ap (λ (m : Meterage). shown_fare initial step (steps_of rounding m)) (saved-sum v r modulus charges some)
-    ∙ ap (shown_fare initial step) (steps-quotient rounding v r modulus (sum charges) some)
+pub saved-sum : (opening : Opening) (charges : List ℕ) → 0 < opening.modulus → fold (added opening.modulus) (saved opening 0) charges ≡ saved opening (sum charges)
+saved-sum opening charges some = fold-saved opening 0 charges some
 
 -- a meterage whose rest is below a display step is one that was saved
-pub saved-any : (modulus : ℕ) (m : Meterage) → m.rest < modulus → m ≡ saved m.cover_left (m.steps_full * modulus + m.rest) modulus 0
+pub saved-any : (modulus : ℕ) (m : Meterage) → m.rest < modulus → m ≡ saved (opening_of modulus m) 0
 saved-any modulus m below =
     let above : m.steps_full * modulus + m.rest + (0 - m.cover_left) ≡ m.steps_full * modulus + m.rest = omega arith in
     let cover : m.cover_left - 0 ≡ m.cover_left = omega arith in
     let steps = ap (λ (n : ℕ). n / modulus) above ∙ div-mul-add m.steps_full modulus m.rest below in
     let rest = ap (λ (n : ℕ). n % modulus) above ∙ mod-mul-add m.steps_full modulus m.rest below in
-    let whole : saved m.cover_left (m.steps_full * modulus + m.rest) modulus 0 ≡ record { cover_left = m.cover_left; steps_full = m.steps_full; rest = m.rest } = cc in
+    let whole : saved (opening_of modulus m) 0 ≡ record { cover_left = m.cover_left; steps_full = m.steps_full; rest = m.rest } = cc in
     sym whole
+
+-- so from every state on the display steps and the fare that are shown are those of the sum
+pub shown-sum : (initial minimum step modulus : ℕ) (rounding : Rounding) (m : Meterage) (charges : List ℕ) → m.rest < modulus → (steps_of rounding (fold (added modulus) m charges) ≡ steps_above rounding (opening_of modulus m) (sum charges)) × (shown_fare initial minimum step (steps_of rounding (fold (added modulus) m charges)) ≡ shown_fare initial minimum step (steps_above rounding (opening_of modulus m) (sum charges)))
+shown-sum initial minimum step modulus rounding m charges below =
+    let opening = opening_of modulus m in
+    let some : 0 < modulus = omega arith in
+    let kept : fold (added modulus) m charges ≡ saved opening (sum charges) = ap (λ (start : Meterage). fold (added modulus) start charges) (saved-any modulus m below) ∙ saved-sum opening charges some in
+    let steps : steps_of rounding (fold (added modulus) m charges) ≡ steps_above rounding opening (sum charges) = ap (steps_of rounding) kept ∙ steps-quotient rounding opening (sum charges) some in
+    (steps, ap (shown_fare initial minimum step) steps)

@@ -1,6 +1,7 @@
 //! The charge of a measuring interval.
-ghost use Rattle.std.specs.Prelude.{◌≡◌, ℕ, ◌+◌, ◌*◌, ◌^◌, ◌<◌, ◌≤◌, max};
+ghost use Rattle.std.specs.Prelude.{◌≡◌, ℕ, ◌+◌, ◌*◌, ◌^◌, ◌<◌, ◌≤◌, ◌↔◌, max};
 ghost use Rattle.drive_modes.specs.Charge.{charge_of};
+ghost use Rattle.drive_modes.specs.Speed.{AreWeightsOf, IsBelowCrossOver, Rate};
 
 /// How time and distance share in the fare: the two modes of the measuring instruments directive.
 #[derive(Clone, Copy, Debug, PartialEq, Eq)]
@@ -50,4 +51,16 @@ pub fn charge_by_crossover()
     ensures above { (w : Weights) (p : ℕ) → w.per_tick ≤ p * w.per_pulse → charge_of Mode.Single w p ≡ p * w.per_pulse }
     ensures greater { (w : Weights) (p : ℕ) → charge_of Mode.Single w p ≡ max (p * w.per_pulse) w.per_tick }
     ensures both { (w : Weights) (p : ℕ) → charge_of Mode.Double w p ≡ p * w.per_pulse + w.per_tick }
+{}
+
+/// A law: the cross-over speed is where mode S changes over. Under the weights of a rate, p pulses an
+/// interval are below the cross-over speed exactly where they cost less than the interval; there the
+/// charge is the time's, and from that speed on it is the distance's.
+pub fn mode_s_changes_over_at_the_cross_over()
+    ensures exactly { (rate : Rate) (k measure p : ℕ) (w : Weights) → AreWeightsOf rate k measure w → 0 < measure → 0 < rate.b * k * rate.e
+        → IsBelowCrossOver rate k p ↔ (p * w.per_pulse < w.per_tick) }
+    ensures time { (rate : Rate) (k measure p : ℕ) (w : Weights) → AreWeightsOf rate k measure w → 0 < measure → 0 < rate.b * k * rate.e
+        → IsBelowCrossOver rate k p → charge_of Mode.Single w p ≡ w.per_tick }
+    ensures distance { (rate : Rate) (k measure p : ℕ) (w : Weights) → AreWeightsOf rate k measure w → 0 < measure → 0 < rate.b * k * rate.e
+        → ¬ (IsBelowCrossOver rate k p) → charge_of Mode.Single w p ≡ p * w.per_pulse }
 {}

@@ -9,7 +9,9 @@ mod charges;
 mod meterage;
 mod speed;
 
-pub use charges::{Mode, Weights, charge, charge_by_crossover};
+pub use charges::{
+    Mode, Weights, charge, charge_by_crossover, mode_s_changes_over_at_the_cross_over,
+};
 pub use meterage::{Meterage, Rounding, fares_add_up, steps_are_whole_steps};
 pub use speed::cross_over;
 

@@ -2,7 +2,7 @@
 //! and rounded is this project's own rule.
 ghost use Rattle.std.specs.Prelude.{◌≡◌, ℕ, ◌+◌, ◌-◌, ◌*◌, ◌/◌, ◌^◌, ◌<◌, ◌≤◌, ◌↔◌, List, sum};
 ghost use Rattle.std.specs.List.{fold};
-ghost use Rattle.drive_modes.specs.Fare.{above_cover, added, quotient, saved, shown_fare, steps_of};
+ghost use Rattle.drive_modes.specs.Fare.{Opening, added, opening_of, quotient, saved, shown_fare, steps_above, steps_of};
 
 /// Whether the fare is shown behind what was driven or ahead of it.
 #[derive(Clone, Copy, Debug, PartialEq, Eq)]
@@ -32,7 +32,7 @@ impl Meterage {
         requires covers { covers ≤ 99999999 }
         requires measure { measure ≤ 2 * 10 ^ 23 }
         ensures exact { result ≡ record { cover_left = covers * measure; steps_full = 0; rest = 0 } }
-        ensures sum { (modulus : ℕ) → 0 < modulus → result ≡ saved (covers * measure) 0 modulus 0 }
+        ensures sum { (modulus : ℕ) → 0 < modulus → result ≡ saved (record { cover = covers * measure; above = 0; modulus = modulus }) 0 }
         ensures bound { result.cover_left ≤ 2 * 10 ^ 31 }
     {
         Meterage {
@@ -53,7 +53,8 @@ impl Meterage {
         requires cover { self.old.cover_left ≤ 2 * 10 ^ 31 }
         requires steps { self.old.steps_full + (self.old.rest + (charge - self.old.cover_left)) / modulus ≤ 4 * 10 ^ 17 }
         ensures exact { self.new ≡ added modulus self.old charge }
-        ensures sum { (v r f : ℕ) → self.old ≡ saved v r modulus f → self.new ≡ saved v r modulus (f + charge) }
+        ensures sum { (cover above charged : ℕ) → let opening : Opening = record { cover = cover; above = above; modulus = modulus } in
+            self.old ≡ saved opening charged → self.new ≡ saved opening (charged + charge) }
         ensures rest { self.new.rest < modulus }
         ensures cover { self.new.cover_left ≤ self.old.cover_left }
     {
@@ -68,7 +69,8 @@ impl Meterage {
     pub fn steps(&self, rounding: Rounding) -> u64
         requires steps { self.now.steps_full ≤ 4 * 10 ^ 17 }
         ensures exact { result ≡ steps_of rounding self.now }
-        ensures sum { (v r modulus f : ℕ) → 0 < modulus → self.now ≡ saved v r modulus f → result ≡ quotient rounding (above_cover v r f) modulus }
+        ensures sum { (cover above modulus charged : ℕ) → let opening : Opening = record { cover = cover; above = above; modulus = modulus } in
+            0 < modulus → self.now ≡ saved opening charged → result ≡ steps_above rounding opening charged }
     {
         match rounding {
             Rounding::Behind => self.steps_full,
@@ -83,27 +85,34 @@ impl Meterage {
     }
 
     /// The fare that is shown, in the smallest units of money: the initial hire fee `initial`, at most
-    /// 99,999,999, and `step`, at most 1,000,000, for each display step that is shown. A greater fare
-    /// than 99,999,999 is shown as that.
-    pub fn shown(&self, initial: u64, step: u64, rounding: Rounding) -> u64
+    /// 99,999,999, and `step`, at most 1,000,000, for each display step that is shown, or `minimum`, at
+    /// most 99,999,999, where that is more. A greater fare than 99,999,999 is shown as that.
+    pub fn shown(&self, initial: u64, minimum: u64, step: u64, rounding: Rounding) -> u64
         requires steps { self.now.steps_full ≤ 4 * 10 ^ 17 }
         requires initial { initial ≤ 99999999 }
+        requires minimum { minimum ≤ 99999999 }
         requires step { step ≤ 1000000 }
-        ensures exact { result ≡ shown_fare initial step (steps_of rounding self.now) }
-        ensures sum { (v r modulus f : ℕ) → 0 < modulus → self.now ≡ saved v r modulus f → result ≡ shown_fare initial step (quotient rounding (above_cover v r f) modulus) }
+        ensures exact { result ≡ shown_fare initial minimum step (steps_of rounding self.now) }
+        ensures sum { (cover above modulus charged : ℕ) → let opening : Opening = record { cover = cover; above = above; modulus = modulus } in
+            0 < modulus → self.now ≡ saved opening charged → result ≡ shown_fare initial minimum step (steps_above rounding opening charged) }
+        ensures least { minimum ≤ result }
         ensures most { result ≤ 99999999 }
     {
         let fare = initial as u128 + step as u128 * self.steps(rounding) as u128;
-        fare.min(LARGEST_FARE) as u64
+        fare.max(minimum as u128).min(LARGEST_FARE) as u64
     }
 }
 
 /// A law: a meterage that is kept from charge to charge is what their sum alone makes of it, from the
 /// start of a trip and from every state that was saved in the middle of one.
 pub fn fares_add_up()
-    ensures sum { (v r modulus : ℕ) (charges : List ℕ) → 0 < modulus → fold (added modulus) (saved v r modulus 0) charges ≡ saved v r modulus (sum charges) }
-    ensures shown { (initial step v r modulus : ℕ) (rounding : Rounding) (charges : List ℕ) → 0 < modulus → shown_fare initial step (steps_of rounding (fold (added modulus) (saved v r modulus 0) charges)) ≡ shown_fare initial step (quotient rounding (above_cover v r (sum charges)) modulus) }
-    ensures any_state { (modulus : ℕ) (m : Meterage) → m.rest < modulus → m ≡ saved m.cover_left (m.steps_full * modulus + m.rest) modulus 0 }
+    ensures sum { (opening : Opening) (charges : List ℕ) → 0 < opening.modulus
+        → fold (added opening.modulus) (saved opening 0) charges ≡ saved opening (sum charges) }
+    ensures any_state { (modulus : ℕ) (m : Meterage) → m.rest < modulus → m ≡ saved (opening_of modulus m) 0 }
+    ensures shown { (initial minimum step modulus : ℕ) (rounding : Rounding) (m : Meterage) (charges : List ℕ) → m.rest < modulus
+        → let n = steps_above rounding (opening_of modulus m) (sum charges) in
+        let later = fold (added modulus) m charges in
+        (steps_of rounding later ≡ n) × (shown_fare initial minimum step (steps_of rounding later) ≡ shown_fare initial minimum step n) }
 {}
 
 /// A law: behind, the display steps of an amount are the most that it fills; ahead, they are the

@@ -33,9 +33,10 @@ fn follows_a_trip(rt: HostRuntime) {
         }
         assert!(rt; meterage.steps_full == 0);
         assert_eq!(rt; meterage.steps(Rounding::Behind), 0);
-        assert_eq!(rt; meterage.shown(380, 20, Rounding::Behind), 380);
+        assert_eq!(rt; meterage.shown(380, 0, 20, Rounding::Behind), 380);
         assert_eq!(rt; meterage.steps(Rounding::Ahead), steps);
-        assert_eq!(rt; meterage.shown(380, 20, Rounding::Ahead), fare);
+        assert_eq!(rt; meterage.shown(380, 0, 20, Rounding::Ahead), fare);
+        assert_eq!(rt; meterage.shown(380, 600, 20, Rounding::Ahead), 600);
     }
 }
 
