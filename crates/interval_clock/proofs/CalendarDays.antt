@@ -1,25 +1,49 @@
 -- How the days of the calendar follow one another.
-use Rattle.std.proofs.Common.{◌≡◌, ℕ, zero, suc, ◌+◌, ◌-◌, ◌<◌, ◌≤◌, ℤ, pos, ◌+ℤ◌, refl, subst, sym, inl, inr, true, arith}
+use Rattle.std.proofs.Common.{◌≡◌, ◌∙◌, Bool, false, slice_index, if◌then◌else◌, sum, take, ap, rules, ℕ, zero, suc, ◌+◌, ◌-◌, ◌<◌, ◌≤◌, ℤ, pos, ◌+ℤ◌, refl, subst, sym, inl, inr, true, arith}
 use Rattle.std.proofs.lemmas.Bool.{cases_lt, le-ltb, lt-ltb}
 use Rattle.std.proofs.lemmas.Bool.Decides.{nat_tests}
 use Rattle.jiff.proofs.SpanFacts.{signed_arith}
-use Rattle.interval_clock.specs.Calendar.{CalendarDate, days_of_years, days_of_months, days_of_month, days_of_year, place_in_year, IsDateOf, is_leap_year, next_date, date_after}
+use Rattle.std.proofs.lemmas.List.Sums.{sum_by_more}
+use Rattle.interval_clock.specs.declared.day_numbers.CalendarDate.{CalendarDate}
+use Rattle.interval_clock.specs.Calendar.{date_place, month_lengths, days_of_years, days_of_months, days_of_month, days_of_year, place_in_year, IsDateOf, is_leap_year, next_date, date_after}
 
 -- a year ends where the next one begins
 pub days_of_years-next : (year : ℕ) → days_of_years (year + 1) ≡ days_of_years year + days_of_year year
 unfolding days_of_years
 days_of_years-next year = let next : year + 1 ≡ suc year = omega arith in rw next refl
 
--- and so a month
-pub days_of_months-next : (year month : ℕ) → 1 ≤ month → days_of_months year month ≡ days_of_months year (month - 1) + days_of_month year month
+-- what holds of the months holds of every month
+pub each_month : (P : ℕ → Type 0) → P 1 × P 2 × P 3 × P 4 × P 5 × P 6 × P 7 × P 8 × P 9 × P 10 × P 11 × P 12 → (month : ℕ) → 1 ≤ month → month ≤ 12 → P month
+each_month P p zero low high = absurd (omega arith)
+each_month P p (suc zero) low high = p.0
+each_month P p (suc (suc zero)) low high = p.1
+each_month P p (suc (suc (suc zero))) low high = p.2
+each_month P p (suc (suc (suc (suc zero)))) low high = p.3
+each_month P p (suc (suc (suc (suc (suc zero))))) low high = p.4
+each_month P p (suc (suc (suc (suc (suc (suc zero)))))) low high = p.5
+each_month P p (suc (suc (suc (suc (suc (suc (suc zero))))))) low high = p.6
+each_month P p (suc (suc (suc (suc (suc (suc (suc (suc zero)))))))) low high = p.7
+each_month P p (suc (suc (suc (suc (suc (suc (suc (suc (suc zero))))))))) low high = p.8
+each_month P p (suc (suc (suc (suc (suc (suc (suc (suc (suc (suc zero)))))))))) low high = p.9
+each_month P p (suc (suc (suc (suc (suc (suc (suc (suc (suc (suc (suc zero))))))))))) low high = p.10
+each_month P p (suc (suc (suc (suc (suc (suc (suc (suc (suc (suc (suc (suc zero)))))))))))) low high = p.11
+each_month P p (suc (suc (suc (suc (suc (suc (suc (suc (suc (suc (suc (suc (suc more))))))))))))) low high = absurd (omega arith)
+
+-- a month ends where the next one begins
+pub days_of_months-next : (year month : ℕ) → 1 ≤ month → month ≤ 12 → days_of_months year month ≡ days_of_months year (month - 1) + days_of_month year month
 unfolding days_of_months
-days_of_months-next year zero first = absurd (omega arith)
-days_of_months-next year (suc month) first = let back : suc month - 1 ≡ month = omega arith in rw back refl
+days_of_months-next year month first last =
+    let next : month ≡ month - 1 + 1 = omega arith in
+    ap (λ (n : ℕ). sum (take n (month_lengths (is_leap_year year)))) next ∙ sum_by_more (λ (n : ℕ). n) (month_lengths (is_leap_year year)) (month - 1) 0 (omega arith)
+
+year_by_months : (leap : Bool) → sum (month_lengths leap) ≡ (if leap then 366 else 365)
+year_by_months true = refl
+year_by_months false = refl
 
 -- twelve months are a year
 pub days_of_months-all : (year : ℕ) → days_of_months year 12 ≡ days_of_year year
 unfolding days_of_months
-days_of_months-all year = grind (arith, nat_tests)
+days_of_months-all year = year_by_months (is_leap_year year)
 
 -- a later year begins after a year
 pub days_of_years-later : (year later : ℕ) → year < later → days_of_years year + days_of_year year ≤ days_of_years later
@@ -31,21 +55,32 @@ days_of_years-later year (suc later) after =
       | inr ge ↦ let same : year ≡ later = omega arith in rw same (omega arith)
     ]
 
--- later months go on after earlier ones
-pub days_of_months-later : (year months later : ℕ) → months < later → days_of_months year months + days_of_month year (suc months) ≤ days_of_months year later
+pub days_of_months-none : (year : ℕ) → days_of_months year 0 ≡ 0
 unfolding days_of_months
-days_of_months-later year months zero after = absurd (omega arith)
-days_of_months-later year months (suc later) after =
+days_of_months-none year = refl
+
+pub days_of_months-suc : (year month : ℕ) → month < 12 → days_of_months year (suc month) ≡ days_of_months year month + days_of_month year (suc month)
+days_of_months-suc year month few =
+    let back : suc month - 1 ≡ month = omega arith in
+    subst (λ (n : ℕ). days_of_months year (suc month) ≡ days_of_months year n + days_of_month year (suc month)) back (days_of_months-next year (suc month) (omega arith) (omega arith))
+
+-- later months go on after earlier ones
+pub days_of_months-later : (year months later : ℕ) → months < later → later ≤ 12 → days_of_months year months + days_of_month year (suc months) ≤ days_of_months year later
+days_of_months-later year months zero after most = absurd (omega arith)
+days_of_months-later year months (suc later) after most =
+    let next = days_of_months-suc year later (omega arith) in
     elim (cases_lt months later) [
-      | inl lt ↦ let rest = days_of_months-later year months later lt in omega arith
-      | inr ge ↦ let same : months ≡ later = omega arith in rw same (omega arith)
+      | inl lt ↦ let rest = days_of_months-later year months later lt (omega arith) in omega (arith, next, rest)
+      | inr ge ↦
+          let same : later ≡ months = omega arith in
+          subst (λ (m : ℕ). days_of_months year m + days_of_month year (suc m) ≤ days_of_months year (suc later)) same (omega (arith, next))
     ]
 
 -- a date lies in its year
 pub place_in_year_bound : (year month date : ℕ) → 1 ≤ month → month ≤ 12 → 1 ≤ date → date ≤ days_of_month year month → place_in_year year month date < days_of_year year
 place_in_year_bound year month date first last low high =
     let back : suc (month - 1) ≡ month = omega arith in
-    let later = rw back at (days_of_months-later year (month - 1) 12 (omega arith)) in
+    let later = rw back at (days_of_months-later year (month - 1) 12 (omega arith) (omega arith)) in
     omega (arith, later, days_of_months-all year)
 
 -- the next date lies in the same month, or begins the next one, or the next year
@@ -59,8 +94,8 @@ next_year : (d : CalendarDate) → days_of_month d.year d.month ≤ d.date → 1
 next_year d ge end = rw (le-ltb d.date (days_of_month d.year d.month) ge, le-ltb d.month 12 end) refl
 
 -- a month has 28 to 31 days
-days_of_month_bounds : (year month : ℕ) → (28 ≤ days_of_month year month) × (days_of_month year month ≤ 31)
-days_of_month_bounds year month = grind arith
+pub days_of_month_bounds : (year month : ℕ) → 1 ≤ month → month ≤ 12 → (28 ≤ days_of_month year month) × (days_of_month year month ≤ 31)
+days_of_month_bounds year month low high = each_month (λ m. (28 ≤ days_of_month year m) × (days_of_month year m ≤ 31)) (search rules) month low high
 
 -- and its day number is one more
 in_month : (day : ℤ) (year month date : ℕ) → IsDateOf day year month date → date < days_of_month year month → IsDateOf (day +ℤ pos 1) year month (date + 1)
@@ -76,8 +111,8 @@ month_after day year month date h ge lt =
     let place : place_in_year year (month + 1) 1 ≡ days_of_months year month = rw back (omega arith) in
     record {
       month_in = omega (arith, h.month_in);
-      date_in = omega (arith, days_of_month_bounds year (month + 1));
-      count = omega (arith, signed_arith, h.count, h.date_in, h.month_in, place, days_of_months-next year month h.month_in.0);
+      date_in = omega (arith, days_of_month_bounds year (month + 1) (omega arith) (omega arith));
+      count = omega (arith, signed_arith, h.count, h.date_in, h.month_in, place, days_of_months-next year month h.month_in.0 h.month_in.1);
     }
 
 year_after : (day : ℤ) (year month date : ℕ) → IsDateOf day year month date → days_of_month year month ≤ date → 12 ≤ month → IsDateOf (day +ℤ pos 1) (year + 1) 1 1
@@ -87,8 +122,8 @@ year_after day year month date h ge end =
     let ends : days_of_months year month ≡ days_of_year year = rw last (days_of_months-all year) in
     record {
       month_in = omega arith;
-      date_in = omega (arith, days_of_month_bounds (year + 1) 1);
-      count = omega (arith, signed_arith, h.count, h.date_in, ends, days_of_months-next year month h.month_in.0, days_of_years-next year);
+      date_in = omega (arith, days_of_month_bounds (year + 1) 1 (omega arith) (omega arith));
+      count = omega (arith, signed_arith, h.count, h.date_in, ends, days_of_months-next year month h.month_in.0 h.month_in.1, days_of_years-next year);
     }
 
 -- the day after a date has the next date
@@ -105,7 +140,7 @@ IsDateOf-next_date day d h =
 
 pub IsDateOf-first : IsDateOf (pos 0) 1970 1 1
 unfolding days_of_months
-IsDateOf-first = record { month_in = omega arith; date_in = omega (arith, days_of_month_bounds 1970 1); count = omega (arith, signed_arith) }
+IsDateOf-first = record { month_in = omega arith; date_in = omega (arith, days_of_month_bounds 1970 1 (omega arith) (omega arith)); count = omega (arith, signed_arith) }
 
 -- going on from 1970-01-01 gives the date of each day
 pub IsDateOf-date_after : (n : ℕ) → IsDateOf (pos n) (date_after n).year (date_after n).month (date_after n).date
@@ -129,7 +164,7 @@ no_later_month : (day : ℤ) (year month date month₂ date₂ : ℕ) → IsDate
 no_later_month day year month date month₂ date₂ h k =
     let back : suc (month - 1) ≡ month = omega (arith, h.month_in) in
     elim (cases_lt month month₂) [
-      | inl lt ↦ absurd (omega (arith, same_count day year month date year month₂ date₂ h k, rw back at (days_of_months-later year (month - 1) (month₂ - 1) (omega (arith, h.month_in))), h.date_in, k.date_in))
+      | inl lt ↦ absurd (omega (arith, same_count day year month date year month₂ date₂ h k, rw back at (days_of_months-later year (month - 1) (month₂ - 1) (omega (arith, h.month_in)) (omega (arith, k.month_in))), h.date_in, k.date_in))
       | inr ge ↦ ge
     ]
 
@@ -150,10 +185,17 @@ IsDateOf-only day a b h k =
     same_date a.year a.month a.date b.year b.month b.date (sym year) (sym month) (sym date)
 
 -- all leap years have the same months
-pub days_of_months-leap : (year months : ℕ) → is_leap_year year ≡ true → days_of_months year months ≡ days_of_months 2000 months
+pub places-leap : (year month date : ℕ) → is_leap_year year ≡ true → place_in_year year month date ≡ date_place month date
 unfolding days_of_months
-days_of_months-leap year zero leap = refl
-days_of_months-leap year (suc months) leap =
-    let rest = days_of_months-leap year months leap in
-    let month : days_of_month year (suc months) ≡ days_of_month 2000 (suc months) = rw leap refl in
-    omega arith
+places-leap year month date leap = ap (λ (b : Bool). sum (take (month - 1) (month_lengths b)) + (date - 1)) leap
+
+lengths_most : (leap : Bool) (month : ℕ) → 1 ≤ month → month ≤ 12 → slice_index (month_lengths leap) (month - 1) ≤ slice_index (month_lengths true) (month - 1)
+lengths_most true month low high = omega arith
+lengths_most false month low high = each_month (λ m. slice_index (month_lengths false) (m - 1) ≤ slice_index (month_lengths true) (m - 1)) (search rules) month low high
+
+-- a date has one of the 366 places of a leap year
+pub date_place-most : (day : ℤ) (year month date : ℕ) → IsDateOf day year month date → date_place month date ≤ 365
+date_place-most day year month date h =
+    let most = lengths_most (is_leap_year year) month h.month_in.0 h.month_in.1 in
+    let below = place_in_year_bound 2000 month date h.month_in.0 h.month_in.1 h.date_in.0 (omega (arith, h.date_in, most)) in
+    omega (arith, below, places-leap 2000 month date refl)

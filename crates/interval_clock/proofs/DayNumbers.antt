@@ -5,7 +5,7 @@ use Rattle.std.proofs.lemmas.Bool.{cases_lt, le-leb}
 use Rattle.jiff_core.specs.declared.civil.date.Date.{Date}
 use Rattle.jiff_core.specs.Date.{epoch_day}
 use Rattle.jiff_core.proofs.SignedLemmas.{signed_arith}
-use Rattle.interval_clock.specs.Calendar.{days_of_years, days_of_month, day_number_of, is_date, IsDateOf}
+use Rattle.interval_clock.specs.Calendar.{days_of_years, days_of_month, day_number_of, is_date, IsDate, IsDateOf}
 use Rattle.interval_clock.proofs.CalendarDays.{days_of_years-later}
 use Rattle.interval_clock.proofs.Dates.{epoch_day_is_date}
 
@@ -25,7 +25,8 @@ epoch_day_is_number d year from same =
 -- the calendar has the dates of jiff
 pub is_date_there : (d : Date) (year month date : ℕ) → d.year ≡ pos year → d.month ≡ month → d.day ≡ date → is_date year month date ≡ true
 is_date_there d year month date e f g =
-    let within : (1 ≤ date) × (date ≤ days_of_month year month) = rw (← g, ← f) (rw e at d.day_in) in
+    let there = epoch_day_is_date d year e in
+    let within : (1 ≤ date) × (date ≤ days_of_month year month) = rw (← g, ← f) there.date_in in
     let months : (1 ≤ month) × (month ≤ 12) = rw (← f) d.month_in in
     both_true (le-leb 1 month months.0) (both_true (le-leb month 12 months.1) (both_true (le-leb 1 date within.0) (le-leb date (days_of_month year month) within.1)))
 
@@ -51,3 +52,15 @@ whole_hours n day start nanos hours d s e h =
 -- and the days again
 pub days_of_hours : (n : ℕ) → int_div (pos (n * 24)) (pos 24) ≡ pos n
 days_of_hours n = let days : n * 24 / 24 ≡ n = omega arith in ap pos days
+
+-- a date of the calendar from 1970 on is that of its day number
+pub is_date_of_number : (year month date : ℕ) → 1970 ≤ year → IsDate year month date → IsDateOf (pos (day_number_of year month date)) year month date
+is_date_of_number year month date from is = record {
+  month_in = is.0;
+  date_in = (is.1, is.2);
+  count = omega (arith, signed_arith, days_of_years-rise 1970 year from);
+}
+
+-- and of no other
+pub one_day_number : (day : ℤ) (year month date : ℕ) → 1970 ≤ year → IsDateOf day year month date → day ≡ pos (day_number_of year month date)
+one_day_number day year month date from is = omega (arith, signed_arith, is.count, days_of_years-rise 1970 year from)

@@ -1,5 +1,6 @@
-pub mod CalendarDays
-pub mod DayNumbers
-pub mod Dates
-pub mod LocalTimes
-pub mod OffsetLists
+mod CalendarDays
+mod DayNumbers
+mod Dates
+pub mod Laws
+mod LocalTimes
+mod OffsetLists

@@ -1,9 +1,12 @@
 -- Lists of offsets: the pair in force.
-use Rattle.std.proofs.Common.{◌≡◌, ℕ, zero, suc, ◌+◌, ◌-◌, ◌*◌, ◌/◌, ◌^◌, ◌<◌, ◌≤◌, ℤ, List, [], ◌∷◌, length, inl, inr, arith, refl}
-use Rattle.std.proofs.Math.Nat.{pow-suc}
-use Rattle.std.proofs.lemmas.Bool.{cases_lt}
+use Rattle.std.proofs.Common.{Option, Some, MatchOption, ap, subst, leb, pos, true, false, count_by, ◌≡◌, ℕ, zero, suc, ◌+◌, ◌-◌, ◌*◌, ◌/◌, ◌^◌, ◌<◌, ◌≤◌, ℤ, List, [], ◌∷◌, length, inl, inr, arith, refl}
+use Rattle.std.proofs.lemmas.Bool.{cases_lt, leb-true, leb-false}
+use Rattle.std.proofs.lemmas.List.Sums.{count_by-le-length}
+use Rattle.std.proofs.lemmas.List.Sorted.{IsNonDecreasingBy-from_default, IsPartitionedBy-leb}
+use Rattle.std.specs.List.Sorted.{IsPartitionedBy, IsPartitionPoint}
 use Rattle.std.proofs.lemmas.Grind.{common_steps}
-use Rattle.interval_clock.specs.Offsets.{IsOffsetList, IsInForce, offset_from, offset_of, second_at}
+use Rattle.taxi_units.specs.Counted.{IsLastOf}
+use Rattle.interval_clock.specs.Offsets.{IsSecond, IsOffsetList, IsInForce, offset_from, offset_of, second_at}
 
 -- later pairs of a lawful list begin no earlier
 pub rises : (pairs : List (ℕ × ℤ)) (earlier later : ℕ) → IsOffsetList pairs → earlier ≤ later → later < length pairs → second_at pairs earlier ≤ second_at pairs later
@@ -41,19 +44,30 @@ offset_from-in_force (pair ∷ pairs) before second (suc place) force =
       last = λ later after within. force.last (suc later) (omega arith) (omega arith);
     })
 
--- with `spent` steps taken, a stretch of that width is halved down to one place by `bound` steps
-pub record HalvesWithin (spent bound width : ℕ) : Type 0 where
-  pub rounds : ℕ
-  pub room : spent + rounds ≤ bound
-  pub fits : width ≤ 2 ^ rounds
+-- so those that begin at or before a second stand before those that don't
+pub parted : (pairs : List (ℕ × ℤ)) (second : ℕ) → IsOffsetList pairs → IsPartitionedBy (λ pair. leb pair.0 second) pairs
+parted pairs second list =
+    IsPartitionedBy-leb (λ (pair : ℕ × ℤ). pair.0) pairs second
+    (IsNonDecreasingBy-from_default (λ (pair : ℕ × ℤ). pair.0) pairs (0, pos 0) (λ i j le within. rises pairs i j list le within))
 
-halved_once : (spent bound width half rounds : ℕ) → spent + rounds ≤ bound → width ≤ 2 ^ rounds → 1 < width → half ≤ width - width / 2 → HalvesWithin (spent + 1) bound half
-halved_once spent bound width half zero room fits wide less = absurd (omega arith)
-halved_once spent bound width half (suc rounds) room fits wide less =
-    let twice : width ≤ 2 ^ rounds * 2 = rw pow-suc at fits in
-    record { rounds = rounds; room = omega arith; fits = omega arith }
+-- and the last of them is in force
+pub last_begun : (pairs : List (ℕ × ℤ)) (second count : ℕ) → IsOffsetList pairs → IsSecond second → count ≡ count_by (λ pair. leb pair.0 second) pairs → IsPartitionPoint (λ pair. leb pair.0 second ≡ true) (λ pair. leb pair.0 second ≡ false) pairs count → (0 < count) × IsInForce pairs second (count - 1)
+last_begun pairs second zero list in_range counted point =
+    let first : second < second_at pairs 0 = leb-false (second_at pairs 0) second (point.1 0 (0, pos 0) (omega arith) (omega (arith, list.some))) in
+    absurd (omega (arith, list.start))
+last_begun pairs second (suc n) list in_range counted point =
+    let few : count_by (λ pair. leb pair.0 second) pairs ≤ length pairs = count_by-le-length (λ (pair : ℕ × ℤ). leb pair.0 second) pairs in
+    let back : suc n - 1 ≡ n = omega arith in (
+      omega arith,
+      rw back (record {
+        within = omega arith;
+        begun = leb-true (second_at pairs n) second (point.0 n (0, pos 0) (omega arith) (omega arith));
+        last = λ later after within. leb-false (second_at pairs later) second (point.1 later (0, pos 0) (omega arith) within);
+      }),
+    )
 
--- a halving is one step
-pub halved : (spent bound width half : ℕ) → HalvesWithin spent bound width → 1 < width → half ≤ width - width / 2 → HalvesWithin (spent + 1) bound half
-halved spent bound width half within wide less =
-    halved_once spent bound width half within.rounds within.room within.fits wide less
+-- what was read last is that pair
+pub found_in_force : (pairs : List (ℕ × ℤ)) (second count : ℕ) (last : Option (ℕ × ℤ)) (pair : ℕ × ℤ) → IsOffsetList pairs → IsSecond second → count ≡ count_by (λ other. leb other.0 second) pairs → IsPartitionPoint (λ other. leb other.0 second ≡ true) (λ other. leb other.0 second ≡ false) pairs count → MatchOption last (count ≡ 0) (IsLastOf pairs count) → last ≡ Some pair → IsInForce pairs second (count - 1) × (pair.1 ≡ offset_of pairs (count - 1))
+found_in_force pairs second count last pair list in_range counted point read is =
+    let here : IsLastOf pairs count pair = subst (λ (o : Option (ℕ × ℤ)). MatchOption o (count ≡ 0) (IsLastOf pairs count)) is read in
+    ((last_begun pairs second count list in_range counted point).1, ap (λ (p : ℕ × ℤ). p.1) (here.1 (0, pos 0)))

@@ -1,13 +1,22 @@
 -- Local time: the day and the time of the day of a local second.
-use Rattle.std.specs.Prelude.{ℕ, ◌/◌, ◌≤◌, ℤ, pos, ◌+ℤ◌, unsigned_abs, List}
+use Rattle.std.specs.Prelude.{ℕ, ◌+◌, ◌/◌, ◌≤◌, ℤ, pos, ◌+ℤ◌, ◌≤ℤ◌, unsigned_abs, List}
 use Rattle.std.specs.Int.{int_div_euclid, int_rem_euclid}
-use Rattle.interval_clock.specs.Calendar.{date_after, place_in_leap_year, weekday_of}
+use Rattle.interval_clock.specs.Calendar.{date_after, date_place, weekday_of}
 use Rattle.interval_clock.specs.Offsets.{offset_at}
+use Rattle.taxi_units.specs.Time.{first_second, last_second}
 use Rattle.interval_clock.specs.declared.local_time.LocalTime.{LocalTime}
 
 -- the local second: a second and the offset in force at it
 abbrev pub local_second : List (ℕ × ℤ) → (second : ℕ) → ℤ
 local_second pairs second = pos second +ℤ offset_at pairs second
+
+-- a local second of the meter: at most 14 hours before its first second, or after its last
+abbrev pub IsLocalSecond : ℕ → Type 0
+IsLocalSecond local = (first_second ≤ local + 50400) × (local ≤ last_second + 50400)
+
+-- the days of these: from 1999-12-31 to 2200-01-01
+abbrev pub IsLocalDay : ℤ → Type 0
+IsLocalDay day = (pos 10956 ≤ℤ day) × (day ≤ℤ pos 84006)
 
 -- the day number of a local second: whole days of 86,400 seconds from 1970-01-01
 abbrev pub day_of : (local : ℤ) → ℤ
@@ -32,7 +41,7 @@ local_time_of local =
       month = date.month;
       date = date.date;
       weekday = weekday_of day;
-      month_day = place_in_leap_year date.month date.date;
+      month_day = date_place date.month date.date;
       minute = minute_of_day local;
       second = second_of_day local;
     }

@@ -2,10 +2,8 @@
 use Rattle.std.specs.Prelude.{◌≡◌, ◌≢◌, ℕ, ◌-◌, ◌<◌, ◌≤◌, nat_le, if◌then◌else◌, ℤ, pos, neg_ℤ, ◌≤ℤ◌, List, [], ◌∷◌, length, slice_index_or}
 use Rattle.interval_clock.specs.declared.offsets.OffsetFault.{OffsetFault}
 use Rattle.interval_clock.specs.declared.offsets.OffsetFault.TheVariants.{Empty, TooMany, FirstNotStart, OutOfRange, NotRising}
-
--- a second from 2000-01-01T00:00Z to 2199-12-31T23:59:59Z
-abbrev pub IsSecond : ℕ → Type 0
-IsSecond second = (946684800 ≤ second) × (second ≤ 7258118399)
+use Rattle.taxi_units.specs.Time.{first_second}
+pub use Rattle.taxi_units.specs.Time.{IsSecond}
 
 -- an offset of at most 14 hours, in seconds
 abbrev pub IsOffset : ℤ → Type 0
@@ -41,7 +39,7 @@ pub record FirstPlace (pairs : List (ℕ × ℤ)) (Holds : ℕ → Type 0) (plac
 pub record IsOffsetList (pairs : List (ℕ × ℤ)) : Type 0 where
   pub some : 1 ≤ length pairs
   pub few : length pairs ≤ 32
-  pub start : second_at pairs 0 ≡ 946684800
+  pub start : second_at pairs 0 ≡ first_second
   pub in_range : EachPlace pairs (IsInRangeAt pairs)
   pub rising : EachPlace pairs (RisesAt pairs)
 
@@ -53,11 +51,11 @@ IsOfLength pairs = (1 ≤ length pairs) × (length pairs ≤ 32)
 abbrev pub IsFaultOf : List (ℕ × ℤ) → OffsetFault → Type 0
 IsFaultOf pairs Empty = pairs ≡ []
 IsFaultOf pairs TooMany = 32 < length pairs
-IsFaultOf pairs FirstNotStart = IsOfLength pairs × (second_at pairs 0 ≢ 946684800)
+IsFaultOf pairs FirstNotStart = IsOfLength pairs × (second_at pairs 0 ≢ first_second)
 IsFaultOf pairs (OutOfRange place) =
-    IsOfLength pairs × (second_at pairs 0 ≡ 946684800) × FirstPlace pairs (IsInRangeAt pairs) place
+    IsOfLength pairs × (second_at pairs 0 ≡ first_second) × FirstPlace pairs (IsInRangeAt pairs) place
 IsFaultOf pairs (NotRising place) =
-    IsOfLength pairs × (second_at pairs 0 ≡ 946684800) × EachPlace pairs (IsInRangeAt pairs)
+    IsOfLength pairs × (second_at pairs 0 ≡ first_second) × EachPlace pairs (IsInRangeAt pairs)
     × FirstPlace pairs (RisesAt pairs) place
 
 -- the pair at a place is the last one that begins at or before a second

@@ -1,6 +1,8 @@
 //! What the definitions of the calendar come to.
 ghost use Rattle.std.specs.Prelude.{◌≡◌, ℕ, ◌+◌, ◌%◌, ℤ, pos, ◌+ℤ◌, IsTrue};
-ghost use Rattle.interval_clock.specs.Calendar.{CalendarDate, IsDateOf, date_after, is_leap_year, next_date, place_in_leap_year, place_in_year, weekday_of};
+ghost use Rattle.interval_clock.specs.Calendar.{IsDateOf, date_after, date_place, is_leap_year, next_date, place_in_year, weekday_of};
+
+use crate::day_numbers::CalendarDate;
 
 /// A law: the calendar goes day by day from Thursday 1 January 1970, which is day 0. The day after a
 /// date is the next date and the next weekday, a day has one date, the date of day n is found by going
@@ -15,5 +17,5 @@ pub fn the_calendar_goes_day_by_day()
     ensures date_after { (n : ℕ)
         → IsDateOf (pos n) (date_after n).year (date_after n).month (date_after n).date }
     ensures leap_years { (year month date : ℕ) → IsTrue (is_leap_year year)
-        → place_in_year year month date ≡ place_in_leap_year month date }
+        → place_in_year year month date ≡ date_place month date }
 {}

@@ -1,15 +1,13 @@
 //! The local date and time of a second.
-ghost use Rattle.std.specs.Prelude.{◌≡◌, ℕ, ◌+◌, ◌/◌, ◌<◌, ◌≤◌, pos, ℤ, ◌≤ℤ◌};
-ghost use Rattle.interval_clock.specs.Calendar.{IsDateOf, place_in_leap_year, weekday_of};
-ghost use Rattle.interval_clock.specs.LocalTime.{HasPartsInRange, day_of, local_second, local_time_of, minute_of_day, second_of_day};
+ghost use Rattle.std.specs.Prelude.{◌≡◌, ℕ, ◌+◌, ◌*◌, ◌%◌, ◌/◌, ◌<◌, ◌≤◌, pos, ℤ, ◌≤ℤ◌, ◌+ℤ◌, ◌*ℤ◌};
+ghost use Rattle.interval_clock.specs.Calendar.{IsDateOf, date_place, weekday_of};
+ghost use Rattle.interval_clock.specs.LocalTime.{HasPartsInRange, IsLocalDay, IsLocalSecond, day_of, local_second, local_time_of, minute_of_day, second_of_day};
 ghost use Rattle.interval_clock.specs.Offsets.{IsSecond};
-ghost use Rattle.jiff.specs.Words.{epoch_day, IsBetween};
 
+use crate::day_numbers::{calendar_date, date_of};
 use crate::offsets::Offsets;
-use jiff::ToSpan;
-use jiff::civil::{Date, date};
 use std::sync::ledger::Ledger;
-use taxi_units::Steps;
+use taxi_units::{Steps, date_place};
 
 /// A local date and time, in the proleptic Gregorian calendar.
 #[derive(Clone, Copy, Debug, PartialEq, Eq)]
@@ -40,19 +38,19 @@ pub fn civil<L: Ledger>(offsets: &Offsets, second: u64, steps: &mut Steps<L>) ->
     ensures day { result.day ≡ day_of (local_second offsets.now second) }
     ensures date { IsDateOf result.day result.year result.month result.date }
     ensures weekday { result.weekday ≡ weekday_of result.day }
-    ensures month_day { result.month_day ≡ place_in_leap_year result.month result.date }
+    ensures month_day { result.month_day ≡ date_place result.month result.date }
     ensures minute { result.minute ≡ minute_of_day (local_second offsets.now second) }
     ensures second { result.second ≡ second_of_day (local_second offsets.now second) }
     ensures ranges { HasPartsInRange result }
     ensures steps { steps.new ≤ steps.old + 6 }
+    ensures read { steps.old + 1 ≤ steps.new }
 {
     local_time((second as i64 + offsets.at(second, steps) as i64) as u64)
 }
 
 /// The local date and time at a local second.
 fn local_time(local: u64) -> LocalTime
-    requires from { 946634400 ≤ local }
-    requires to { local ≤ 7258168799 }
+    requires { IsLocalSecond local }
     ensures value { result ≡ local_time_of (pos local) }
     ensures day { result.day ≡ day_of (pos local) }
     ensures date { IsDateOf result.day result.year result.month result.date }
@@ -63,44 +61,35 @@ fn local_time(local: u64) -> LocalTime
 
 /// The local date and time at a second of a day.
 fn on_day(day: i32, second: u32) -> LocalTime
-    requires day { IsBetween (pos 10956) (pos 84006) day }
+    requires day { IsLocalDay day }
     requires second { second < 86400 }
     ensures from { pos 0 ≤ℤ result.day }
     ensures day { result.day ≡ day }
     ensures date { IsDateOf result.day result.year result.month result.date }
     ensures weekday { result.weekday ≡ weekday_of result.day }
-    ensures month_day { result.month_day ≡ place_in_leap_year result.month result.date }
+    ensures month_day { result.month_day ≡ date_place result.month result.date }
     ensures minute { result.minute ≡ second / 60 }
     ensures second { result.second ≡ second }
     ensures ranges { HasPartsInRange result }
 {
-    let date = date_of(day);
+    let there = date_of(day);
+    let date = calendar_date(there);
     LocalTime {
         day,
-        year: date.year() as u16,
-        month: date.month() as u8,
-        date: date.day() as u8,
-        weekday: date.weekday().to_monday_one_offset() as u8,
-        month_day: month_day_of(date),
+        year: date.year,
+        month: date.month,
+        date: date.date,
+        weekday: there.weekday().to_monday_one_offset() as u8,
+        month_day: date_place(date.month, date.date),
         minute: (second / 60) as u16,
         second,
     }
 }
 
-/// The date of a day number.
-fn date_of(day: i32) -> Date
-    requires { IsBetween (pos 0) (pos 100000) day }
-    ensures { epoch_day result ≡ day }
-{
-    date(1970, 1, 1) + (day as i64).days()
-}
-
-/// The place of a date's month and day in a leap year.
-fn month_day_of(local: Date) -> u16
-    requires { pos 0 ≤ℤ local.year }
-    ensures place { result ≡ place_in_leap_year local.month local.day }
-    ensures most { result ≤ 365 }
-{
-    let in_leap_year = date(2000, local.month(), local.day());
-    (in_leap_year.day_of_year() - 1) as u16
-}
+/// A law: the day and the second of the day of a local second add up to it, and the minute of the day
+/// is the whole minutes of that second.
+pub fn local_times_add_up()
+    ensures sum { (local : ℤ) → day_of local *ℤ pos 86400 +ℤ pos (second_of_day local) ≡ local }
+    ensures within { (local : ℤ) → second_of_day local < 86400 }
+    ensures minute { (local : ℤ) → minute_of_day local * 60 + second_of_day local % 60 ≡ second_of_day local }
+{}

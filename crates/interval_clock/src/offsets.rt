@@ -1,11 +1,11 @@
 //! The list of offsets from UTC that gives local time.
-ghost use Rattle.std.specs.Prelude.{◌≡◌, ℕ, ◌+◌, ◌<◌, ◌≤◌, ◌↔◌, length, slice_index_or, pos, IsOk, IfOk, IfErr, Err, MatchOption};
+ghost use Rattle.std.specs.Prelude.{◌≡◌, ℕ, ◌+◌, ◌<◌, ◌≤◌, ◌↔◌, List, length, ℤ, pos, IsOk, IfOk, IfErr, Err, MatchOption};
 ghost use Rattle.interval_clock.specs.Offsets.{IsSecond, IsOffset, IsInRangeAt, RisesAt, EachPlace, FirstPlace, IsFaultOf, IsOffsetList, IsInForce, offset_at, offset_of, second_at};
 
 use arrayvec::ArrayVec;
 use std::marker::Model;
 use std::sync::ledger::Ledger;
-use taxi_units::Steps;
+use taxi_units::{Counted, FIRST_SECOND, LAST_SECOND, Steps};
 
 /// Why a list of offsets was refused. A place counts from 0.
 #[derive(Clone, Copy, Debug, PartialEq, Eq)]
@@ -70,47 +70,29 @@ impl Offsets {
 
     /// The offset in force at a second of 946,684,800 to 7,258,118,399, in seconds: that of the last
     /// pair that begins at or before it. Each pair that is read is one step, and they are at most 6.
+    #[tactic(auto, using(crate::proofs::OffsetLists::parted, crate::proofs::OffsetLists::last_begun))]
     pub fn at<L: Ledger>(&self, second: u64, steps: &mut Steps<L>) -> i32
         requires { IsSecond second }
         ensures value { result ≡ offset_at self.now second }
         ensures in_force { (place : ℕ) × IsInForce self.now second place × (result ≡ offset_of self.now place) }
         ensures in_range { IsOffset result }
         ensures steps { steps.new ≤ steps.old + 6 }
+        ensures read { steps.old + 1 ≤ steps.new }
     {
-        let place = self.place_at(second, steps);
-        self.pair(place, steps).1
-    }
-
-    /// The place of the pair in force, found by halving.
-    fn place_at<L: Ledger>(&self, second: u64, steps: &mut Steps<L>) -> usize
-        requires { IsSecond second }
-        ensures in_force { IsInForce self.now second result }
-        ensures lawful { IsOffsetList self.now }
-        ensures steps { steps.new ≤ steps.old + 5 }
-    {
-        let mut begun = 0;
-        let mut later = self.pairs.len();
-        while later - begun > 1 {
-            let middle = begun + (later - begun) / 2;
-            if self.pair(middle, steps).0 <= second {
-                begun = middle;
-            } else {
-                later = middle;
-            }
+        let found = Counted::of(self.pairs()).at_most(second, steps);
+        match found.last {
+            Some(pair) => pair.1,
+            None => 0,
         }
-        begun
-    }
-
-    /// Reads one pair, which is one step.
-    fn pair<L: Ledger>(&self, place: usize, steps: &mut Steps<L>) -> (u64, i32)
-        requires { place < length self.now }
-        ensures value { result ≡ slice_index_or self.now place (0, pos 0) }
-        ensures step { steps.new ≡ steps.old + 1 }
-    {
-        steps.spend();
-        self.pairs[place]
     }
 }
+
+/// A law: the offset at a second is that of the last pair that begins at or before it, in every list; and
+/// where none does it is 0.
+pub fn the_last_pair_begun_is_in_force()
+    ensures in_force { (pairs : List (ℕ × ℤ)) (second place : ℕ) → IsInForce pairs second place → offset_at pairs second ≡ offset_of pairs place }
+    ensures before { (pairs : List (ℕ × ℤ)) (second : ℕ) → EachPlace pairs (λ place. second < second_at pairs place) → offset_at pairs second ≡ pos 0 }
+{}
 
 /// The first fault of a list.
 fn fault_of(pairs: &[(u64, i32)]) -> Option<OffsetFault>
@@ -133,10 +115,6 @@ fn fault_of(pairs: &[(u64, i32)]) -> Option<OffsetFault>
     }
     None
 }
-
-const FIRST_SECOND: u64 = 946_684_800;
-
-const LAST_SECOND: u64 = 7_258_118_399;
 
 const MOST_SECONDS: i32 = 50_400;
 

@@ -4,12 +4,7 @@ ghost use Rattle.interval_clock.specs.Offsets.{IsSecond};
 use super::*;
 use std::marker::Brand;
 use std::sync::ledger::{Blank, Ledger};
-use taxi_units::Steps;
-
-/// The first and the last second of the meter.
-const FIRST: u64 = 946_684_800;
-
-const LAST: u64 = 7_258_118_399;
+use taxi_units::{FIRST_SECOND as FIRST, LAST_SECOND as LAST, Steps};
 
 /// The local time of a second by these pairs, counting steps from 0.
 fn local_time<L: Ledger>(blank: Blank, pairs: &[(u64, i32)], second: u64) -> Option<LocalTime>
@@ -175,5 +170,11 @@ fn numbers_days(rt: HostRuntime) {
     for (year, month, date, number) in DAY_NUMBERS {
         assert!(rt; 1970 <= year && year <= 9999);
         assert_eq!(rt; day_number(year, month, date), number);
+        if let Some(day) = number
+            && 10_592 <= day
+            && day <= 84_006
+        {
+            assert_eq!(rt; date_of_day(day), CalendarDate { year, month, date });
+        }
     }
 }

@@ -1,5 +1,5 @@
 use Rattle.std.proofs.Common.{refl, ◌-◌, arith}
-use Rattle.interval_clock.proofs.CalendarDays.{IsDateOf-first, IsDateOf-next_date, IsDateOf-only, IsDateOf-date_after, days_of_months-leap}
+use Rattle.interval_clock.proofs.CalendarDays.{IsDateOf-first, IsDateOf-next_date, IsDateOf-only, IsDateOf-date_after, places-leap}
 use Rattle.interval_clock.proofs.calendar.the_calendar_goes_day_by_day.Goals as goal
 
 pub returns-clause-first : goal.returns-clause-first
@@ -15,4 +15,4 @@ pub returns-clause-date_after : goal.returns-clause-date_after
 returns-clause-date_after c = IsDateOf-date_after
 
 pub returns-clause-leap_years : goal.returns-clause-leap_years
-returns-clause-leap_years c year month date leap = omega (arith, days_of_months-leap year (month - 1) leap)
+returns-clause-leap_years c = places-leap

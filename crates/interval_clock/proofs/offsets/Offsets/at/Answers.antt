@@ -1,12 +1,46 @@
-use Rattle.std.proofs.Common.{◌≡◌, ◌∙◌, ap, sym, pos, ℕ, FitsSigned, w32, ℤ, rules}
+use Rattle.std.proofs.Common.{◌≡◌, ◌∙◌, ◌-◌, sym, subst, pos, ℕ, ℤ, List, FitsSigned, w32, arith}
 use Rattle.std.proofs.lemmas.Int.{to_z-of_z}
-use Rattle.interval_clock.specs.Offsets.{offset_of}
-use Rattle.interval_clock.proofs.OffsetLists.{offset_from-in_force}
+use Rattle.jiff_core.proofs.SignedLemmas.{signed_arith}
+use Rattle.interval_clock.specs.Offsets.{IsInForce, IsOffsetList, offset_at, offset_of}
+use Rattle.interval_clock.proofs.OffsetLists.{found_in_force, offset_from-in_force}
 use Rattle.interval_clock.proofs.offsets.Offsets.at.Goals as goal
 
-pub returns-clause-value : goal.returns-clause-value
-returns-clause-value g c =
-    let force = offset_from-in_force c.args.self.now (pos 0) c.args.second c.place_at-place.result c.place_at-place.ensures.in_force in
-    let read : c.pair.result.1 ≡ offset_of c.args.self.now c.place_at-place.result = ap (λ (p : ℕ × ℤ). p.1) c.pair.ensures.value in
-    let fits : FitsSigned w32 c.pair.result.1 = search rules in
-    to_z-of_z w32 _ fits ∙ (read ∙ sym force)
+pub returns-in-Some-clause-value : goal.returns-in-Some-clause-value
+returns-in-Some-clause-value g c =
+    let same : c.of.result ≡ c.args.self.now = c.of.ensures ∙ c.pairs.ensures.value in
+    let list : IsOffsetList c.of.result = rw same c.pairs.ensures.lawful in
+    let found = found_in_force c.of.result c.args.second c.at_most-found.result.count c.at_most-found.result.last c.in-Some.pair list c.requires c.at_most-found.ensures.count c.at_most-found.ensures.point c.at_most-found.ensures.last c.in-Some.is in
+    let range = (list.in_range (c.at_most-found.result.count - 1) found.0.within).1 in
+    let fits : FitsSigned w32 c.in-Some.pair.1 = omega (arith, signed_arith, found.1, range) in
+    let kept = to_z-of_z w32 c.in-Some.pair.1 fits in
+    let value : c.in-Some.pair.1 ≡ offset_at c.of.result c.args.second = found.1 ∙ sym (offset_from-in_force c.of.result (pos 0) c.args.second (c.at_most-found.result.count - 1) found.0) in
+    kept ∙ subst (λ (pairs : List (ℕ × ℤ)). c.in-Some.pair.1 ≡ offset_at pairs c.args.second) same value
+
+pub returns-in-Some-clause-in_force : goal.returns-in-Some-clause-in_force
+returns-in-Some-clause-in_force g c =
+    let same : c.of.result ≡ c.args.self.now = c.of.ensures ∙ c.pairs.ensures.value in
+    let list : IsOffsetList c.of.result = rw same c.pairs.ensures.lawful in
+    let found = found_in_force c.of.result c.args.second c.at_most-found.result.count c.at_most-found.result.last c.in-Some.pair list c.requires c.at_most-found.ensures.count c.at_most-found.ensures.point c.at_most-found.ensures.last c.in-Some.is in
+    let range = (list.in_range (c.at_most-found.result.count - 1) found.0.within).1 in
+    let fits : FitsSigned w32 c.in-Some.pair.1 = omega (arith, signed_arith, found.1, range) in
+    let kept = to_z-of_z w32 c.in-Some.pair.1 fits in (
+      c.at_most-found.result.count - 1,
+      subst (λ (pairs : List (ℕ × ℤ)). IsInForce pairs c.args.second (c.at_most-found.result.count - 1)) same found.0,
+      kept ∙ subst (λ (pairs : List (ℕ × ℤ)). c.in-Some.pair.1 ≡ offset_of pairs (c.at_most-found.result.count - 1)) same found.1,
+    )
+
+pub returns-in-Some-clause-in_range : goal.returns-in-Some-clause-in_range
+returns-in-Some-clause-in_range g c =
+    let same : c.of.result ≡ c.args.self.now = c.of.ensures ∙ c.pairs.ensures.value in
+    let list : IsOffsetList c.of.result = rw same c.pairs.ensures.lawful in
+    let found = found_in_force c.of.result c.args.second c.at_most-found.result.count c.at_most-found.result.last c.in-Some.pair list c.requires c.at_most-found.ensures.count c.at_most-found.ensures.point c.at_most-found.ensures.last c.in-Some.is in
+    let range = (list.in_range (c.at_most-found.result.count - 1) found.0.within).1 in
+    let fits : FitsSigned w32 c.in-Some.pair.1 = omega (arith, signed_arith, found.1, range) in
+    let kept = to_z-of_z w32 c.in-Some.pair.1 fits in
+    omega (arith, signed_arith, kept, found.1, range)
+
+pub returns-in-Some-clause-steps : goal.returns-in-Some-clause-steps
+returns-in-Some-clause-steps g c =
+    let same : c.of.result ≡ c.args.self.now = c.of.ensures ∙ c.pairs.ensures.value in
+    let list : IsOffsetList c.of.result = rw same c.pairs.ensures.lawful in
+    c.at_most-found.ensures.steps.most 6 (omega (arith, list.few))

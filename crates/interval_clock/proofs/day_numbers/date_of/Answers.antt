@@ -3,7 +3,7 @@ use Rattle.std.proofs.lemmas.Int.{to_z-of_z}
 use Rattle.jiff.proofs.SpanFacts.{signed_arith, date_add-days, can_add-days}
 use Rattle.jiff.specs.Words.{epoch_day}
 use Rattle.interval_clock.proofs.Dates.{epoch_day-start}
-use Rattle.interval_clock.proofs.local_time.date_of.Goals as goal
+use Rattle.interval_clock.proofs.day_numbers.date_of.Goals as goal
 
 pub add-requires : goal.add-requires
 add-requires c =
