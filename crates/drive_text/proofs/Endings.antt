@@ -5,7 +5,7 @@ use Rattle.std.proofs.Math.Seq.{get_or-append_seam, take-append_seam}
 use Rattle.std.proofs.lemmas.Bool.{lt-ltb, le-ltb, ltb-true, eqb-true}
 use Rattle.std.proofs.lemmas.List.{length-take-le}
 use Rattle.drive_text.specs.Lines.{is_comment, is_too_long}
-use Rattle.drive_text.specs.Fields.{text_events, line_events}
+use Rattle.drive_text.specs.Fields.{text_runs, line_runs}
 
 -- a CR at the end is no part of the line
 pub strip-snoc : (t : List ℕ) (c : ℕ) → strip_carriage_return (t ++ c ∷ []) ≡ cond (eqb c 13) t (t ++ c ∷ [])
@@ -27,6 +27,10 @@ strip_le_by false t = omega arith
 
 strip_le : (t : List ℕ) → length (strip_carriage_return t) ≤ length t
 strip_le t = strip_le_by (eqb (get_or t (length t - 1) 0) 13) t
+
+strip_ge_by : (cr : Bool) (t : List ℕ) → length t ≤ length (cond cr (take (length t - 1) t) t) + 1
+strip_ge_by true t = omega (arith, length-take-le (length t - 1) t (omega arith))
+strip_ge_by false t = omega arith
 
 grows_by : (cr : Bool) (n : ℕ) → n ≤ cond cr n (n + 1)
 grows_by true n = omega arith
@@ -64,17 +68,17 @@ pub comment_some : (t : List ℕ) → is_comment t ≡ true → 0 < length t
 comment_some [] e = cc
 comment_some (x ∷ xs) e = omega arith
 
-text_comment : (l : List ℕ) → is_comment l ≡ true → text_events l ≡ Some []
-unfolding text_events
+text_comment : (l : List ℕ) → is_comment l ≡ true → text_runs l ≡ Some []
+unfolding text_runs
 text_comment [] e = refl
 text_comment (x ∷ xs) e = rw e refl
 
--- a comment has no events
-pub line_events-comment : (t : List ℕ) → is_comment t ≡ true → line_events t ≡ Some []
-line_events-comment t e = text_comment (strip_carriage_return t) (comment-strip t ∙ e)
+-- a comment has no runs
+pub line_runs-comment : (t : List ℕ) → is_comment t ≡ true → line_runs t ≡ Some []
+line_runs-comment t e = text_comment (strip_carriage_return t) (comment-strip t ∙ e)
 
-text_long : (l : List ℕ) → is_comment l ≡ false → ltb 80 (length l) ≡ true → text_events l ≡ None
-unfolding text_events
+text_long : (l : List ℕ) → is_comment l ≡ false → ltb 80 (length l) ≡ true → text_runs l ≡ None
+unfolding text_runs
 text_long [] e long = cc
 text_long (x ∷ xs) e long = rw (e, long) refl
 
@@ -88,8 +92,8 @@ pub long_is : (t : List ℕ) → is_too_long t ≡ true → (ltb 80 (length (str
 long_is t e = both_by (ltb 80 (length (strip_carriage_return t))) (is_comment t) e
 
 -- a line that is too long is no line of a drive
-pub line_events-long : (t : List ℕ) → is_too_long t ≡ true → line_events t ≡ None
-line_events-long t e = text_long (strip_carriage_return t) (comment-strip t ∙ (long_is t e).1) (long_is t e).0
+pub line_runs-long : (t : List ℕ) → is_too_long t ≡ true → line_runs t ≡ None
+line_runs-long t e = text_long (strip_carriage_return t) (comment-strip t ∙ (long_is t e).1) (long_is t e).0
 
 -- a comment isn't too long
 pub comment_fits : (t : List ℕ) → is_comment t ≡ true → is_too_long t ≡ false
@@ -112,3 +116,19 @@ pub too_long-append : (t : List ℕ) (c : ℕ) → is_too_long t ≡ true → is
 too_long-append t c e =
     let long : 80 < length (strip_carriage_return t) = ltb-true 80 (length (strip_carriage_return t)) (long_is t e).0 in
     long_fails (t ++ c ∷ []) (omega (arith, strip_grows t c, long)) (comment-append t (c ∷ []) (omega (arith, strip_le t, long)) ∙ (long_is t e).1)
+
+-- with more than 81 bytes there are more than 80 before a CR
+pub many_fail : (t : List ℕ) → 81 < length t → is_comment t ≡ false → is_too_long t ≡ true
+many_fail t many plain = long_fails t (omega (arith, many, strip_ge_by (eqb (get_or t (length t - 1) 0) 13) t)) plain
+
+-- by the test
+pub long_by_test : (t : List ℕ) → ltb 80 (length (strip_carriage_return t)) ≡ true → is_comment t ≡ false → is_too_long t ≡ true
+long_by_test t long plain = rw (long, plain) refl
+
+pub short_by_test : (t : List ℕ) → ltb 80 (length (strip_carriage_return t)) ≡ false → is_too_long t ≡ false
+short_by_test t short = rw short refl
+
+-- where bytes begin a comment, nothing stood before them
+pub nothing_before : (t p : List ℕ) → is_comment t ≡ false → is_comment (t ++ p) ≡ true → t ≡ []
+nothing_before [] p plain e = refl
+nothing_before (x ∷ xs) p plain e = absurd (cc)

@@ -1,137 +1,246 @@
--- A reader that takes a piece byte by byte.
-use Rattle.std.proofs.Common.{◌≡◌, ℕ, ◌+◌, ◌<◌, ◌≤◌, Bool, true, false, cond, List, [], ◌∷◌, ◌++◌, length, take, drop, get_or, refl, ap, sym, ◌∙◌, subst, arith, eqb, append_assoc, Option, Some, None, MatchOption, flat_map}
-use Rattle.std.proofs.lemmas.List.{append-nil, take_more, take-append-drop}
-use Rattle.std.proofs.lemmas.List.Elements.{All-nil, All-append}
-use Rattle.std.proofs.lemmas.Grind.{flat_map-append}
-use Rattle.taxi_units.specs.declared.event.Event.{Event}
+-- What a part of a piece, and then a piece, changes of a reader.
+use Rattle.std.proofs.Common.{◌≡◌, ◌≢◌, ◌⊎◌, inl, inr, ℕ, zero, suc, ◌+◌, ◌-◌, ◌<◌, ◌≤◌, Bool, true, false, List, [], ◌∷◌, ◌++◌, length, take, drop, refl, ap, sym, ◌∙◌, subst, arith, append_assoc, length-append, Option, Some, None, All, Result, Err, IsOk, option_to_list, MatchOption}
+use Rattle.std.proofs.Math.Seq.{take-append_seam, drop-append_seam}
+use Rattle.std.proofs.lemmas.Bool.{cases_lt}
+use Rattle.std.proofs.lemmas.List.{append-nil, length-take-le, take-append-le, take_all}
+use Rattle.std.proofs.lemmas.List.Elements.{All-nil, All-append, All-take}
 use Rattle.drive_text.specs.declared.run.Run.{Run}
-use Rattle.drive_text.specs.Runs.{run_events}
+use Rattle.drive_text.specs.Fields.{line_runs}
+use Rattle.drive_text.specs.Lines.{is_too_long, IsOneLine}
+use Rattle.drive_text.specs.Drive.{first_bad, runs_in, runs_after}
+use Rattle.drive_text.specs.Part.{TakesPart, FailsIn}
 use Rattle.drive_text.specs.Ranges.{IsRunInRange}
-use Rattle.drive_text.specs.Lines.{ended_lines, unfinished_line}
-use Rattle.drive_text.specs.Drive.{first_bad, events_in}
-use Rattle.drive_text.specs.Reading.{Reading, StandsIn, HasFailed, HasTaken, AddsRuns}
-use Rattle.drive_text.proofs.Splits.{lines_fit}
-use Rattle.drive_text.proofs.Cuts.{first_bad-append, events_in-append_bad}
+use Rattle.drive_text.specs.Reading.{Reading, HasFailed, HasTaken, TakesTo, BreaksIn}
+use Rattle.drive_text.proofs.Cuts.{runs_in-append_bad}
+use Rattle.drive_text.proofs.Parts.{no_runs}
+use Rattle.drive_text.proofs.Ranges.{runs_in_range}
+use Rattle.drive_text.proofs.Standing.{goes_on, failed_at, failed_stays, number_of, number_small, line_is_bad, bad_gives_none, line_too_long}
 
-going_by : (o : Option ℕ) (r : Reading) (lines : List (List ℕ)) (t : List ℕ) → MatchOption o (StandsIn r lines t) (λ line. HasFailed r line) → r.failed ≡ false → (o ≡ None) × StandsIn r lines t
-going_by (Some n) r lines t h going = let f = h.failed in cc
-going_by None r lines t h going = (refl, h)
+-- ---- a part
 
--- a reader that goes on has met no bad line
-pub goes_on : (r : Reading) (b : List ℕ) → HasTaken r b → r.failed ≡ false → first_bad b ≡ None
-goes_on r b h going = (going_by (first_bad b) r (ended_lines b) (unfinished_line b) h going).0
+quiet_line : (b l : List ℕ) (count : ℕ) → IsOneLine l → count < length (l ++ 10 ∷ []) → runs_in (b ++ take count (l ++ 10 ∷ [])) ≡ runs_in b
+quiet_line b l count one few =
+    let short : count ≤ length l = omega (arith, length-append l (10 ∷ [])) in
+    ap (λ (x : List ℕ). runs_in (b ++ x)) (take-append-le count l (10 ∷ []) short) ∙ no_runs b (take count l) (All-take (λ c. c ≢ 10) count l one)
 
-failed_by : (o : Option ℕ) (r : Reading) (lines : List (List ℕ)) (t : List ℕ) → MatchOption o (StandsIn r lines t) (λ line. HasFailed r line) → r.failed ≡ true → o ≡ Some r.begun
-failed_by (Some n) r lines t h failed = ap Some (sym h.begun)
-failed_by None r lines t h failed = let f = h.going in cc
+-- a line with its LF
+pub takes_line : (old new : Reading) (l : List ℕ) (before after rs : List Run) → IsOneLine l → after ≡ before ++ rs → All IsRunInRange rs → new.failed ≡ false → new.begun ≤ old.begun + 1
+    → ((b : List ℕ) → HasTaken old b → HasTaken new (b ++ (l ++ 10 ∷ []))) → ((b : List ℕ) → HasTaken old b → runs_in (b ++ (l ++ 10 ∷ [])) ≡ runs_in b ++ rs)
+    → TakesPart old new (l ++ 10 ∷ []) [] before after
+takes_line old new l before after rs one added range going counted reader read = record {
+  part = l ++ 10 ∷ [];
+  split = sym (append-nil (l ++ 10 ∷ []));
+  some = omega (arith, length-append l (10 ∷ []));
+  going = going;
+  counted = counted;
+  reader = reader;
+  runs = rs;
+  added = added;
+  in_range = range;
+  read = read;
+  quiet = λ b count few. quiet_line b l count one few;
+}
 
--- a reader that failed did so at the first bad line
-pub failed_at : (r : Reading) (b : List ℕ) → HasTaken r b → r.failed ≡ true → first_bad b ≡ Some r.begun
-failed_at r b h failed = failed_by (first_bad b) r (ended_lines b) (unfinished_line b) h failed
+-- bytes of a line
+pub takes_bytes : (old new : Reading) (p : List ℕ) → IsOneLine p → 0 < length p → new.failed ≡ false → new.begun ≤ old.begun + 1
+    → ((b : List ℕ) → HasTaken old b → HasTaken new (b ++ p)) → (runs : List Run) → TakesPart old new p [] runs runs
+takes_bytes old new p one some going counted reader runs = record {
+  part = p;
+  split = sym (append-nil p);
+  some = some;
+  going = going;
+  counted = counted;
+  reader = reader;
+  runs = [];
+  added = sym (append-nil runs);
+  in_range = All-nil IsRunInRange;
+  read = λ b h. no_runs b p one ∙ sym (append-nil (runs_in b));
+  quiet = λ b count few. no_runs b (take count p) (All-take (λ c. c ≢ 10) count p one);
+}
 
--- and has taken whatever comes
-pub failed_stays : (r : Reading) (b c : List ℕ) → HasTaken r b → r.failed ≡ true → HasTaken r (b ++ c)
-failed_stays r b c h failed =
-    let bad = first_bad-append b c r.begun (failed_at r b h failed) in
-    let failure : HasFailed r r.begun = record { failed = failed; begun = refl } in
-    subst (λ (o : Option ℕ). MatchOption o (StandsIn r (ended_lines (b ++ c)) (unfinished_line (b ++ c))) (λ line. HasFailed r line)) (sym bad) failure
+-- where a line is bad
+pub fails_line : (old new : Reading) (l : List ℕ) (number line : ℕ) → IsOneLine l → line_runs (old.kept ++ l) ≡ None → old.failed ≡ false → old.comment ≡ false → number ≡ number_of old → line ≡ number → HasFailed new number → FailsIn old new (l ++ 10 ∷ []) line
+fails_line old new l number line one bad going plain is same failed = record {
+  failed = failed.failed;
+  number = failed.begun ∙ sym same;
+  counted = omega (arith, failed.begun, is, number_small old);
+  reader = λ b h. line_is_bad old new b l one going plain bad (subst (HasFailed new) is failed) h;
+  read = λ b h. bad_gives_none old b l one going plain bad h;
+}
 
-count_by : (n : ℕ) (t : List ℕ) → cond (eqb (length t) 0) n (n + 1) ≤ n + length t
-count_by n [] = omega arith
-count_by n (x ∷ xs) = some (eqb (length (x ∷ xs)) 0)
+-- or too long
+pub fails_bytes : (old new : Reading) (p : List ℕ) (number line : ℕ) → IsOneLine p → is_too_long (old.kept ++ p) ≡ true → old.failed ≡ false → old.comment ≡ false → number ≡ number_of old → line ≡ number → HasFailed new number → FailsIn old new p line
+fails_bytes old new p number line one long going plain is same failed = record {
+  failed = failed.failed;
+  number = failed.begun ∙ sym same;
+  counted = omega (arith, failed.begun, is, number_small old);
+  reader = λ b h. line_too_long old new b p one long going plain (subst (HasFailed new) is failed) h;
+  read = λ b h. no_runs b p one;
+}
+
+-- a text that finds no room
+pub refused_many : {T E : Type 0} (r : Result T E) (e : E) (n : ℕ) → r ≡ Err e → (n ≤ 81 → IsOk r) → 81 < n
+refused_many r e n is fits = either (cases_lt 81 n)
   where
-    some : (none : Bool) → cond none n (n + 1) ≤ n + length (x ∷ xs)
-    some true = omega arith
-    some false = omega arith
+    either : (81 < n) ⊎ (n ≤ 81) → 81 < n
+    either (inl many) = many
+    either (inr few) = let ok : IsOk r = fits few in absurd (cc)
 
--- no more lines were begun than bytes were taken
-pub begun_fits : (r : Reading) (b : List ℕ) → HasTaken r b → r.failed ≡ false → r.begun ≤ length b
-begun_fits r b h going =
-    let s = (going_by (first_bad b) r (ended_lines b) (unfinished_line b) h going).1 in
-    let begun = s.begun in
-    omega (arith, count_by (length (ended_lines b)) (unfinished_line b), lines_fit b, begun)
+-- the runs of a good line
+pub range_of : (line : List ℕ) (run : Option Run) → line_runs line ≡ Some (option_to_list run) → All IsRunInRange (option_to_list run)
+range_of line run e = runs_in_range line (option_to_list run) e
 
--- where a reader stands after some bytes of a piece
-pub record Feeds (first now : Reading) (taken : List ℕ) (old new : List Run) : Type 0 where
+-- a piece that was parted at an LF
+pub split_of : {R : Type 0} (now : R → List ℕ) (piece line : List ℕ) (found : Option R) (rest : R) → found ≡ Some rest → MatchOption found (piece ≡ line) (λ r. piece ≡ line ++ 10 ∷ now r) → piece ≡ line ++ 10 ∷ now rest
+split_of now piece line (Some r) rest is h = h ∙ ap (λ (x : List ℕ). line ++ 10 ∷ x) (ap now (cc))
+split_of now piece line None rest is h = absurd (cc)
+
+-- before a rest
+pub takes_before : (old new : Reading) (part piece rest : List ℕ) (before after : List Run) → piece ≡ part ++ rest → TakesPart old new part [] before after → TakesPart old new piece rest before after
+takes_before old new part piece rest before after is h = record {
+  part = h.part;
+  split = is ∙ ap (λ (x : List ℕ). x ++ rest) (h.split ∙ append-nil h.part);
+  some = h.some;
+  going = h.going;
+  counted = h.counted;
+  reader = h.reader;
+  runs = h.runs;
+  added = h.added;
+  in_range = h.in_range;
+  read = h.read;
+  quiet = h.quiet;
+}
+
+pub fails_before : (old new : Reading) (part piece rest : List ℕ) (line : ℕ) → piece ≡ part ++ rest → FailsIn old new part line → FailsIn old new piece line
+fails_before old new part piece rest line is h = record {
+  failed = h.failed;
+  number = h.number;
+  counted = h.counted;
+  reader = λ b t. subst (HasTaken new) (sym (whole b)) (failed_stays new (b ++ part) rest (h.reader b t) h.failed);
+  read = λ b t. ap runs_in (whole b) ∙ (runs_in-append_bad (b ++ part) rest new.begun (failed_at new (b ++ part) (h.reader b t) h.failed) ∙ h.read b t);
+}
+  where
+    whole : (b : List ℕ) → b ++ piece ≡ (b ++ part) ++ rest
+    whole b = ap (λ (x : List ℕ). b ++ x) is ∙ sym (append_assoc b part rest)
+
+-- ---- a piece
+
+-- the reader has taken the front of a piece
+pub record Feeds (first now : Reading) (piece rest : List ℕ) (old new : List Run) : Type 0 where
+  pub done : List ℕ
+  pub split : piece ≡ done ++ rest
   pub going : now.failed ≡ false
-  pub reader : (b : List ℕ) → HasTaken first b → HasTaken now (b ++ taken)
-  pub runs : AddsRuns first taken old new
+  pub counted : now.begun + length rest ≤ first.begun + length piece
+  pub reader : (b : List ℕ) → HasTaken first b → HasTaken now (b ++ done)
+  pub runs : List Run
+  pub added : new ≡ old ++ runs
+  pub in_range : All IsRunInRange runs
+  pub read : (b : List ℕ) → HasTaken first b → runs_in (b ++ done) ≡ runs_in b ++ runs
+  pub none_yet : length done ≡ 0 → new ≡ old
+  pub not_before : (b : List ℕ) (sooner : ℕ) → HasTaken first b → sooner < length done → length (old ++ runs_after b (take sooner done)) < 64
 
-adds_nothing : (r : Reading) (old : List Run) → AddsRuns r [] old old
-adds_nothing r old = record {
+-- nothing of it
+pub feeds_none : (r : Reading) (piece : List ℕ) (old : List Run) → r.failed ≡ false → Feeds r r piece piece old old
+feeds_none r piece old going = record {
+  done = [];
+  split = refl;
+  going = going;
+  counted = omega arith;
+  reader = λ b h. subst (HasTaken r) (sym (append-nil b)) h;
   runs = [];
   added = sym (append-nil old);
   in_range = All-nil IsRunInRange;
-  events = λ b h. ap events_in (append-nil b) ∙ sym (append-nil (events_in b));
+  read = λ b h. ap runs_in (append-nil b) ∙ sym (append-nil (runs_in b));
+  none_yet = λ none. refl;
+  not_before = λ b sooner h few. absurd (omega arith);
 }
 
--- before the first
-pub feeds_none : (r : Reading) (old : List Run) → r.failed ≡ false → Feeds r r [] old old
-feeds_none r old going = record {
-  going = going;
-  reader = λ b h. subst (λ (x : List ℕ). HasTaken r x) (sym (append-nil b)) h;
-  runs = adds_nothing r old;
-}
+added_runs : (b c : List ℕ) (rs : List Run) → runs_in (b ++ c) ≡ runs_in b ++ rs → runs_after b c ≡ rs
+added_runs b c rs e = ap (drop (length (runs_in b))) e ∙ drop-append_seam (runs_in b) rs
 
-reader_then : (first now after : Reading) (xs ys : List ℕ) → ((b : List ℕ) → HasTaken first b → HasTaken now (b ++ xs)) → ((b : List ℕ) → HasTaken now b → HasTaken after (b ++ ys)) → (b : List ℕ) → HasTaken first b → HasTaken after (b ++ (xs ++ ys))
-reader_then first now after xs ys f g b h = subst (λ (x : List ℕ). HasTaken after x) (append_assoc b xs ys) (g (b ++ xs) (f b h))
+take_past : (n : ℕ) (xs ys : List ℕ) → length xs ≤ n → take n (xs ++ ys) ≡ xs ++ take (n - length xs) ys
+take_past n [] ys h = ap (λ (k : ℕ). take k ys) (omega arith)
+take_past zero (x ∷ xs) ys h = absurd (omega arith)
+take_past (suc n) (x ∷ xs) ys h =
+    let less : suc n - length (x ∷ xs) ≡ n - length xs = omega arith in
+    ap (λ (zs : List ℕ). x ∷ zs) (take_past n xs ys (omega arith) ∙ ap (λ (k : ℕ). xs ++ take k ys) (sym less))
 
-runs_then : (first now : Reading) (xs ys : List ℕ) (old mid new : List Run) → ((b : List ℕ) → HasTaken first b → HasTaken now (b ++ xs)) → AddsRuns first xs old mid → AddsRuns now ys mid new → AddsRuns first (xs ++ ys) old new
-runs_then first now xs ys old mid new f a z = record {
-  runs = a.runs ++ z.runs;
-  added = z.added ∙ (ap (λ (l : List Run). l ++ z.runs) a.added ∙ append_assoc old a.runs z.runs);
-  in_range = All-append IsRunInRange a.runs z.runs a.in_range z.in_range;
-  events = λ b h.
-      sym (ap events_in (append_assoc b xs ys))
-      ∙ (z.events (b ++ xs) (f b h)
-      ∙ (ap (λ (l : List Event). l ++ flat_map run_events z.runs) (a.events b h)
-      ∙ (append_assoc (events_in b) (flat_map run_events a.runs) (flat_map run_events z.runs)
-      ∙ ap (λ (l : List Event). events_in b ++ l) (sym (flat_map-append run_events a.runs z.runs)))));
-}
-
--- one byte more
-pub feeds_more : (first now after : Reading) (piece : List ℕ) (i : ℕ) (old mid new : List Run) → i < length piece → Feeds first now (take i piece) old mid
-    → ((b : List ℕ) → HasTaken now b → HasTaken after (b ++ get_or piece i 0 ∷ [])) → after.failed ≡ false → AddsRuns now (get_or piece i 0 ∷ []) mid new → Feeds first after (take (i + 1) piece) old new
-feeds_more first now after piece i old mid new lt f g going z = record {
-  going = going;
-  reader = subst (λ (x : List ℕ). (b : List ℕ) → HasTaken first b → HasTaken after (b ++ x)) (sym (take_more piece i 0 lt)) (reader_then first now after (take i piece) (get_or piece i 0 ∷ []) f.reader g);
-  runs = subst (λ (x : List ℕ). AddsRuns first x old new) (sym (take_more piece i 0 lt)) (runs_then first now (take i piece) (get_or piece i 0 ∷ []) old mid new f.reader f.runs z);
-}
-
--- where a reader stands that failed in a piece
-pub record Stops (first after : Reading) (piece : List ℕ) (old new : List Run) : Type 0 where
-  pub bad : (b : List ℕ) → HasTaken first b → first_bad (b ++ piece) ≡ Some after.begun
-  pub reader : (b : List ℕ) → HasTaken first b → HasTaken after (b ++ piece)
-  pub runs : AddsRuns first piece old new
-
-stops_then : (first after : Reading) (xs ys : List ℕ) (old new : List Run) → after.failed ≡ true → ((b : List ℕ) → HasTaken first b → HasTaken after (b ++ xs)) → AddsRuns first xs old new → Stops first after (xs ++ ys) old new
-stops_then first after xs ys old new failed f a = record {
-  bad = λ b h. failed_at after (b ++ (xs ++ ys)) (all b h) failed;
-  reader = all;
-  runs = record {
-    runs = a.runs;
-    added = a.added;
-    in_range = a.in_range;
-    events = λ b h.
-        sym (ap events_in (append_assoc b xs ys))
-        ∙ (events_in-append_bad (b ++ xs) ys after.begun (failed_at after (b ++ xs) (f b h) failed) ∙ a.events b h);
-  };
+-- with one part more
+pub feeds_more : (first now after : Reading) (piece rest left : List ℕ) (old mid new : List Run) → length mid < 64 → Feeds first now piece rest old mid → TakesPart now after rest left mid new → Feeds first after piece left old new
+feeds_more first now after piece rest left old mid new room f t = record {
+  done = f.done ++ t.part;
+  split = f.split ∙ (ap (λ (x : List ℕ). f.done ++ x) t.split ∙ sym (append_assoc f.done t.part left));
+  going = t.going;
+  counted = omega (arith, f.counted, t.counted, t.some, ap length t.split, length-append t.part left);
+  reader = λ b h. subst (HasTaken after) (append_assoc b f.done t.part) (t.reader (b ++ f.done) (f.reader b h));
+  runs = f.runs ++ t.runs;
+  added = t.added ∙ (ap (λ (x : List Run). x ++ t.runs) f.added ∙ append_assoc old f.runs t.runs);
+  in_range = All-append IsRunInRange f.runs t.runs f.in_range t.in_range;
+  read = λ b h. sym (ap runs_in (append_assoc b f.done t.part)) ∙ (t.read (b ++ f.done) (f.reader b h) ∙ (ap (λ (x : List Run). x ++ t.runs) (f.read b h) ∙ append_assoc (runs_in b) f.runs t.runs));
+  none_yet = λ none. absurd (omega (arith, none, t.some, length-append f.done t.part));
+  not_before = λ b sooner h few. either b sooner h few (cases_lt sooner (length f.done));
 }
   where
-    all : (b : List ℕ) → HasTaken first b → HasTaken after (b ++ (xs ++ ys))
-    all b h = subst (λ (x : List ℕ). HasTaken after x) (append_assoc b xs ys) (failed_stays after (b ++ xs) ys (f b h) failed)
+    inside : (b : List ℕ) (sooner : ℕ) → HasTaken first b → length f.done ≤ sooner → sooner < length (f.done ++ t.part) → length (old ++ runs_after b (take sooner (f.done ++ t.part))) < 64
+    inside b sooner h much few =
+        let count = sooner - length f.done in
+        let front : take sooner (f.done ++ t.part) ≡ f.done ++ take count t.part = take_past sooner f.done t.part much in
+        let same : runs_in (b ++ (f.done ++ take count t.part)) ≡ runs_in b ++ f.runs =
+        ap runs_in (sym (append_assoc b f.done (take count t.part))) ∙ (t.quiet (b ++ f.done) count (omega (arith, length-append f.done t.part)) ∙ f.read b h) in
+        let runs : runs_after b (take sooner (f.done ++ t.part)) ≡ f.runs = ap (runs_after b) front ∙ added_runs b (f.done ++ take count t.part) f.runs same in
+        rw (runs, ← f.added) room
 
--- a byte at which it fails
-pub feeds_bad : (first now after : Reading) (piece : List ℕ) (i : ℕ) (old mid new : List Run) → i < length piece → Feeds first now (take i piece) old mid
-    → ((b : List ℕ) → HasTaken now b → HasTaken after (b ++ get_or piece i 0 ∷ [])) → after.failed ≡ true → AddsRuns now (get_or piece i 0 ∷ []) mid new → Stops first after piece old new
-feeds_bad first now after piece i old mid new lt f g failed z =
-    let front = take i piece ++ get_or piece i 0 ∷ [] in
-    let whole : front ++ drop (i + 1) piece ≡ piece = ap (λ (x : List ℕ). x ++ drop (i + 1) piece) (sym (take_more piece i 0 lt)) ∙ take-append-drop (i + 1) piece in
-    let taken = reader_then first now after (take i piece) (get_or piece i 0 ∷ []) f.reader g in
-    let runs = runs_then first now (take i piece) (get_or piece i 0 ∷ []) old mid new f.reader f.runs z in
-    subst (λ (x : List ℕ). Stops first after x old new) whole (stops_then first after front (drop (i + 1) piece) old new failed taken runs)
+    either : (b : List ℕ) (sooner : ℕ) → HasTaken first b → sooner < length (f.done ++ t.part) → (sooner < length f.done) ⊎ (length f.done ≤ sooner) → length (old ++ runs_after b (take sooner (f.done ++ t.part))) < 64
+    either b sooner h few (inl less) = rw (take-append-le sooner f.done t.part (omega arith)) (f.not_before b sooner h less)
+    either b sooner h few (inr much) = inside b sooner h much few
 
--- a reader that had failed before
-pub failed_stops : (r : Reading) (piece : List ℕ) (old : List Run) → r.failed ≡ true → Stops r r piece old old
-failed_stops r piece old failed =
-    stops_then r r [] piece old old failed (λ b h. subst (λ (x : List ℕ). HasTaken r x) (sym (append-nil b)) h) (adds_nothing r old)
+-- up to where it stopped
+pub takes_to : (first now : Reading) (piece rest : List ℕ) (old new : List Run) (place : ℕ) → Feeds first now piece rest old new → place + length rest ≡ length piece → (length rest ≡ 0) ⊎ (length new ≡ 64)
+    → (b : List ℕ) → HasTaken first b → TakesTo b piece old new place
+takes_to first now piece rest old new place f count ends b h =
+    let is : place ≡ length f.done = omega (arith, ap length f.split, length-append f.done rest, count) in
+    let front : take place piece ≡ f.done = ap (take place) f.split ∙ (ap (λ (n : ℕ). take n (f.done ++ rest)) is ∙ take-append_seam f.done rest) in
+    record {
+      within = omega arith;
+      good = ap (λ (x : List ℕ). first_bad (b ++ x)) front ∙ goes_on now (b ++ f.done) (f.reader b h) f.going;
+      runs = f.added ∙ ap (λ (x : List Run). old ++ x) (sym (ap (runs_after b) front ∙ added_runs b f.done f.runs (f.read b h)));
+      ends = last ends;
+      not_before = λ sooner less.
+          let front_of : take sooner piece ≡ take sooner f.done = ap (take sooner) f.split ∙ take-append-le sooner f.done rest (omega arith) in
+          rw front_of (f.not_before b sooner h (omega arith));
+    }
+  where
+    last : (length rest ≡ 0) ⊎ (length new ≡ 64) → (place ≡ length piece) ⊎ (length new ≡ 64)
+    last (inl none) = inl (omega arith)
+    last (inr full) = inr full
+
+pub feeds_reader : (first now : Reading) (piece rest : List ℕ) (old new : List Run) (place : ℕ) → Feeds first now piece rest old new → place + length rest ≡ length piece
+    → (b : List ℕ) → HasTaken first b → HasTaken now (b ++ take place piece)
+feeds_reader first now piece rest old new place f count b h =
+    let is : place ≡ length f.done = omega (arith, ap length f.split, length-append f.done rest, count) in
+    let front : take place piece ≡ f.done = ap (take place) f.split ∙ (ap (λ (n : ℕ). take n (f.done ++ rest)) is ∙ take-append_seam f.done rest) in
+    subst (λ (x : List ℕ). HasTaken now (b ++ x)) (sym front) (f.reader b h)
+
+-- or where it failed
+pub breaks_in : (first now after : Reading) (piece rest : List ℕ) (old new : List Run) (line : ℕ) → Feeds first now piece rest old new → FailsIn now after rest line → length new < 64
+    → (b : List ℕ) → HasTaken first b → BreaksIn b piece old new line
+breaks_in first now after piece rest old new line f t room b h =
+    let whole : b ++ piece ≡ (b ++ f.done) ++ rest = ap (λ (x : List ℕ). b ++ x) f.split ∙ sym (append_assoc b f.done rest) in
+    record {
+      bad = ap first_bad whole ∙ (failed_at after ((b ++ f.done) ++ rest) (t.reader (b ++ f.done) (f.reader b h)) t.failed ∙ ap Some t.number);
+      runs = f.added ∙ ap (λ (x : List Run). old ++ x) (sym (added_runs b piece f.runs (ap runs_in whole ∙ (t.read (b ++ f.done) (f.reader b h) ∙ f.read b h))));
+      room = room;
+    }
+
+pub breaks_reader : (first now after : Reading) (piece rest : List ℕ) (old new : List Run) (line : ℕ) → Feeds first now piece rest old new → FailsIn now after rest line → (b : List ℕ) → HasTaken first b → HasTaken after (b ++ piece)
+breaks_reader first now after piece rest old new line f t b h =
+    let whole : b ++ piece ≡ (b ++ f.done) ++ rest = ap (λ (x : List ℕ). b ++ x) f.split ∙ sym (append_assoc b f.done rest) in
+    subst (HasTaken after) (sym whole) (t.reader (b ++ f.done) (f.reader b h))
+
+-- where the list is full and wasn't at first, some of the piece was taken
+pub some_taken : (first now : Reading) (piece rest : List ℕ) (old new : List Run) → Feeds first now piece rest old new → length new ≡ 64 → length old < 64 → 0 < length piece - length rest
+some_taken first now piece rest old new f full room = either (cases_lt 0 (length piece - length rest))
+  where
+    either : (0 < length piece - length rest) ⊎ (length piece - length rest ≤ 0) → 0 < length piece - length rest
+    either (inl some) = some
+    either (inr none) = absurd (omega (arith, ap length (f.none_yet (omega (arith, ap length f.split, length-append f.done rest, none)))))

@@ -1,12 +1,16 @@
 mod Blanks
-pub mod Cuts
+mod Cuts
 mod Decimals
 mod Endings
-pub mod Feeding
-pub mod LineLaw
+mod Feeding
+pub mod Laws
+mod LineLaw
 mod Numbers
+mod Parts
 mod Positions
-pub mod ReadBack
+mod Ranges
+mod ReadBack
 mod Splits
-pub mod Table
-pub mod Taken
+mod Standing
+mod Table
+mod Wholes

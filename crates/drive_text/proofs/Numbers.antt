@@ -9,10 +9,10 @@ use Rattle.std.proofs.lemmas.List.{append-nil}
 use Rattle.std.proofs.lemmas.List.Elements.{All-nil, All-cons}
 use Rattle.std.proofs.lemmas.Str.Parse.{digit_from_value}
 use Rattle.taxi_units.specs.Number.{number_at}
-use Rattle.taxi_units.proofs.Numbers.{numbers_are_read_by_their_digits}
+use Rattle.taxi_units.proofs.Laws.{numbers_are_read_by_their_digits}
 use Rattle.drive_text.specs.Fields.{is_number, number_in}
 use Rattle.drive_text.specs.Table.{IsNumberIn}
-use Rattle.drive_text.proofs.Blanks.{NoBlank}
+use Rattle.drive_text.specs.Lines.{HasNone}
 
 digit_below : (c : ℕ) → is_ascii_digit c ≡ true → digit_value c < 10
 digit_below c h = grind (arith, nat_tests)
@@ -35,11 +35,11 @@ digits_all [] h = refl
 digits_all (d ∷ ds) h = rw (digit_is d h.0, digits_all ds h.1) refl
 
 -- digits are no blanks
-pub digits_blankless : (ds : List ℕ) → AllDigits 10 ds → NoBlank ds
-digits_blankless [] h = All-nil (λ b. eqb b 32 ≡ false)
+pub digits_blankless : (ds : List ℕ) → AllDigits 10 ds → HasNone 32 ds
+digits_blankless [] h = All-nil (λ b. b ≢ 32)
 digits_blankless (d ∷ ds) h =
     let r = digit_from_value d h.0 in
-    All-cons (λ b. eqb b 32 ≡ false) d ds (ne_eqb d 32 (λ e. omega arith)) (digits_blankless ds h.1)
+    All-cons (λ b. b ≢ 32) d ds (λ e. omega arith) (digits_blankless ds h.1)
 
 picked : {A : Type 0} (b : Bool) (x y : A) → cond b (Some x) None ≡ Some y → (b ≡ true) × (x ≡ y)
 picked true x y e = (refl, cc)

@@ -7,21 +7,24 @@ use Rattle.std.proofs.lemmas.List.Elements.{All-nil, All-cons, All-head, All-tai
 use Rattle.std.proofs.lemmas.Bool.{ne_eqb, eqb-true}
 use Rattle.std.proofs.lemmas.Fmt.{decimal_is_IsNumeral_wide}
 use Rattle.std.proofs.lemmas.Str.Parse.{digit_from_value}
+use Rattle.taxi_units.specs.Time.{first_second, last_second}
 use Rattle.taxi_units.specs.declared.event.Event.{Event}
 use Rattle.taxi_units.specs.declared.event.Event.TheVariants.{Up, Down, Pulses, Tick, Clock}
 use Rattle.taxi_units.specs.declared.event.Event.TheVariants as events
 use Rattle.taxi_units.specs.declared.event.Key.{Key}
 use Rattle.taxi_units.specs.declared.event.Key.TheVariants.{Hire, Stop, Clear, Position, Zone, Extra}
+use Rattle.drive_text.specs.declared.run.Run.{Run}
+use Rattle.drive_text.specs.declared.run.Run.TheVariants.{One}
 use Rattle.drive_text.specs.Ranges.{IsInRange, IsKeyInRange}
-use Rattle.drive_text.specs.Lines.{ended_lines, unfinished_line, is_too_long}
-use Rattle.drive_text.specs.Fields.{line_events}
+use Rattle.drive_text.specs.Lines.{ended_lines, unfinished_line, is_too_long, IsOneLine}
+use Rattle.drive_text.specs.Fields.{line_runs}
 use Rattle.drive_text.specs.Table.{IsNumberIn, Means}
 use Rattle.drive_text.specs.Table.Means.{up, down, clock, pulses, tick, hire, stop, clear, position, zone, extra}
-use Rattle.drive_text.specs.Drive.{or_else, first_bad_line, bad_at_end, events_of_lines, events_in}
+use Rattle.drive_text.specs.Drive.{or_else, first_bad_line, bad_at_end, runs_of_lines, runs_in}
 use Rattle.drive_text.specs.Written.{key_text, event_fields, event_text}
-use Rattle.drive_text.proofs.Splits.{ended-lf, unfinished-lf, ended-other, unfinished-other}
-use Rattle.drive_text.proofs.Positions.{first_bad_line-good, events_of_lines-good, events_of_lines-one}
-use Rattle.drive_text.proofs.Table.{line_events-table}
+use Rattle.drive_text.proofs.Parts.{line_ends}
+use Rattle.drive_text.proofs.Positions.{first_bad_line-good, runs_of_lines-good, runs_of_lines-one}
+use Rattle.drive_text.proofs.Table.{line_runs-table}
 use Rattle.drive_text.proofs.Decimals.{decimal_short}
 
 -- no line end and no CR
@@ -34,7 +37,7 @@ written low high n above below small =
     let h = decimal_is_IsNumeral_wide n (omega arith) in
     record { numeral = h.0; few = decimal_short n small; value = h.1; above = above; below = below }
 
-key_means : (key : Key) → IsKeyInRange key → Means (codes "K " ++ key_text key) (events.Key key ∷ [])
+key_means : (key : Key) → IsKeyInRange key → Means (codes "K " ++ key_text key) (One (events.Key key) ∷ [])
 unfolding key_text
 key_means Hire h = hire
 key_means Stop h = stop
@@ -44,13 +47,13 @@ key_means (Zone n) h = zone n (decimal n) (written 0 99 n (omega arith) h (omega
 key_means (Extra n) h = extra n (decimal n) (written 0 99 n (omega arith) h (omega arith))
 
 -- the fields of an event mean that event
-fields_mean : (event : Event) → IsInRange event → Means (event_fields event) (event ∷ [])
+fields_mean : (event : Event) → IsInRange event → Means (event_fields event) (One event ∷ [])
 unfolding event_fields
-fields_mean (Up n) h = up n (decimal n) (written 946684800 7258118399 n h.0 h.1 (omega arith))
+fields_mean (Up n) h = up n (decimal n) (written first_second last_second n h.0 h.1 (omega arith))
 fields_mean Down h = down
 fields_mean (Pulses n) h = pulses n (decimal n) (written 1 65535 n h.0 h.1 (omega arith))
 fields_mean Tick h = tick
-fields_mean (Clock n) h = clock n (decimal n) (written 946684800 7258118399 n h.0 h.1 (omega arith))
+fields_mean (Clock n) h = clock n (decimal n) (written first_second last_second n h.0 h.1 (omega arith))
 fields_mean (events.Key key) h = key_means key h
 
 plain_digits : (ds : List ℕ) → AllDigits 10 ds → IsPlain ds
@@ -97,22 +100,13 @@ strip_plain (x ∷ xs) p =
     let no_cr : eqb (get_or (x ∷ xs) (length (x ∷ xs) - 1) 0) 13 ≡ false = ne_eqb _ 13 (λ e. omega arith) in
     rw no_cr refl
 
-line_read : (event : Event) → IsInRange event → line_events (event_fields event) ≡ Some (event ∷ [])
+line_read : (event : Event) → IsInRange event → line_runs (event_fields event) ≡ Some (One event ∷ [])
 line_read event h =
-    (line_events-table (event_fields event) (event ∷ [])).1
-    (subst (λ (t : List ℕ). Means t (event ∷ [])) (sym (strip_plain (event_fields event) (fields_plain event h))) (fields_mean event h))
+    (line_runs-table (event_fields event) (One event ∷ [])).1
+    (subst (λ (t : List ℕ). Means t (One event ∷ [])) (sym (strip_plain (event_fields event) (fields_plain event h))) (fields_mean event h))
 
--- bytes without a line end go on with the unfinished line
-plain_taken : (b t : List ℕ) → IsPlain t → (ended_lines (b ++ t) ≡ ended_lines b) × (unfinished_line (b ++ t) ≡ unfinished_line b ++ t)
-plain_taken b [] p = (ap ended_lines (append-nil b), ap unfinished_line (append-nil b) ∙ sym (append-nil (unfinished_line b)))
-plain_taken b (x ∷ xs) p =
-    let first : 32 ≤ x = All-head (λ c. 32 ≤ c) x xs p in
-    let other : x ≢ 10 = λ e. omega arith in
-    let step = append_assoc b (x ∷ []) xs in
-    let more = plain_taken (b ++ x ∷ []) xs (All-tail (λ c. 32 ≤ c) x xs p) in (
-      sym (ap ended_lines step) ∙ (more.0 ∙ ended-other b x other),
-      sym (ap unfinished_line step) ∙ (more.1 ∙ (ap (λ (l : List ℕ). l ++ xs) (unfinished-other b x other) ∙ append_assoc (unfinished_line b) (x ∷ []) xs)),
-    )
+no_lf : (t : List ℕ) → IsPlain t → IsOneLine t
+no_lf t p = λ k d lt. let c = p k d lt in λ e. omega arith
 
 ends_by : (o : Option ℕ) (long empty : Bool) (k m : ℕ) → or_else (or_else o (cond long (Some k) None)) (cond empty None (Some m)) ≡ None → (o ≡ None) × (empty ≡ true)
 ends_by (Some n) long empty k m e = cc
@@ -125,23 +119,22 @@ empty_is [] e = refl
 empty_is (x ∷ xs) e = let none : length (x ∷ xs) ≡ 0 = eqb-true (length (x ∷ xs)) 0 e in absurd (omega arith)
 
 -- a good line after ended good lines
-good_line : (b t : List ℕ) (es : List Event) → IsPlain t → line_events t ≡ Some es → bad_at_end b ≡ None → (events_in (b ++ (t ++ 10 ∷ [])) ≡ events_in b ++ es) × (bad_at_end (b ++ (t ++ 10 ∷ [])) ≡ None)
-good_line b t es p good whole =
+good_line : (b t : List ℕ) (rs : List Run) → IsPlain t → line_runs t ≡ Some rs → bad_at_end b ≡ None → (runs_in (b ++ (t ++ 10 ∷ [])) ≡ runs_in b ++ rs) × (bad_at_end (b ++ (t ++ 10 ∷ [])) ≡ None)
+good_line b t rs p good whole =
     let h = ends_by (first_bad_line (ended_lines b)) (is_too_long (unfinished_line b)) (eqb (length (unfinished_line b)) 0) (length (ended_lines b) + 1) (length (ended_lines b) + 1) whole in
-    let taken = plain_taken b t p in
-    let line : unfinished_line (b ++ t) ≡ t = taken.1 ∙ ap (λ (l : List ℕ). l ++ t) (empty_is (unfinished_line b) h.1) in
-    let step : b ++ (t ++ 10 ∷ []) ≡ (b ++ t) ++ 10 ∷ [] = sym (append_assoc b t (10 ∷ [])) in
-    let ended : ended_lines (b ++ (t ++ 10 ∷ [])) ≡ ended_lines b ++ t ∷ [] = ap ended_lines step ∙ (ended-lf (b ++ t) ∙ (ap (λ (x : List (List ℕ)). x ++ unfinished_line (b ++ t) ∷ []) taken.0 ∙ ap (λ (x : List ℕ). ended_lines b ++ x ∷ []) line)) in
-    let unfinished : unfinished_line (b ++ (t ++ 10 ∷ [])) ≡ [] = ap unfinished_line step ∙ unfinished-lf (b ++ t) in
-    let none : first_bad_line (ended_lines b ++ t ∷ []) ≡ None = first_bad_line-good (ended_lines b) t es h.0 good in (
-      ap events_of_lines ended ∙ (events_of_lines-good (ended_lines b) (t ∷ []) h.0 ∙ ap (λ (l : List Event). events_in b ++ l) (events_of_lines-one t es good)),
+    let ends = line_ends b t (no_lf t p) in
+    let line : unfinished_line b ++ t ≡ t = ap (λ (l : List ℕ). l ++ t) (empty_is (unfinished_line b) h.1) in
+    let ended : ended_lines (b ++ (t ++ 10 ∷ [])) ≡ ended_lines b ++ t ∷ [] = ends.0 ∙ ap (λ (x : List ℕ). ended_lines b ++ x ∷ []) line in
+    let unfinished : unfinished_line (b ++ (t ++ 10 ∷ [])) ≡ [] = ends.1 in
+    let none : first_bad_line (ended_lines b ++ t ∷ []) ≡ None = first_bad_line-good (ended_lines b) t rs h.0 good in (
+      ap runs_of_lines ended ∙ (runs_of_lines-good (ended_lines b) (t ∷ []) h.0 ∙ ap (λ (l : List Run). runs_in b ++ l) (runs_of_lines-one t rs good)),
       rw (ended, unfinished, none) refl,
     )
 
 -- after ended lines of which none is bad, the line of an event adds this event alone
-pub events_in-event_text : (b : List ℕ) (event : Event) → IsInRange event → bad_at_end b ≡ None → events_in (b ++ event_text event) ≡ events_in b ++ event ∷ []
-events_in-event_text b event h whole = (good_line b (event_fields event) (event ∷ []) (fields_plain event h) (line_read event h) whole).0
+pub runs_in-event_text : (b : List ℕ) (event : Event) → IsInRange event → bad_at_end b ≡ None → runs_in (b ++ event_text event) ≡ runs_in b ++ One event ∷ []
+runs_in-event_text b event h whole = (good_line b (event_fields event) (One event ∷ []) (fields_plain event h) (line_read event h) whole).0
 
 -- and is not bad
 pub bad_at_end-event_text : (b : List ℕ) (event : Event) → IsInRange event → bad_at_end b ≡ None → bad_at_end (b ++ event_text event) ≡ None
-bad_at_end-event_text b event h whole = (good_line b (event_fields event) (event ∷ []) (fields_plain event h) (line_read event h) whole).1
+bad_at_end-event_text b event h whole = (good_line b (event_fields event) (One event ∷ []) (fields_plain event h) (line_read event h) whole).1

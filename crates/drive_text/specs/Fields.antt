@@ -1,4 +1,4 @@
--- What a line of a drive means.
+-- What a line of a drive gives: none or one run.
 use Rattle.std.specs.Prelude.{ℕ, List, [], ◌∷◌, length, Bool, nat_le, nat_lt, nat_eq, ◌&&◌, ◌==◌, if◌then◌else◌, Option, Some, None, codes}
 use Rattle.std.specs.Option.{option_map}
 use Rattle.std.specs.List.{list_all, slice_split}
@@ -7,12 +7,14 @@ use Rattle.std.specs.Cmp.Lexicographic.{pointwise}
 use Rattle.std.specs.Str.Lines.{strip_carriage_return}
 use Rattle.std.specs.Str.Parse.{digits_value}
 use Rattle.taxi_units.specs.Reading.{◌>>=◌}
+use Rattle.taxi_units.specs.Time.{first_second, last_second}
 use Rattle.taxi_units.specs.declared.event.Event.{Event}
 use Rattle.taxi_units.specs.declared.event.Event.TheVariants.{Up, Down, Pulses, Tick, Clock}
 use Rattle.taxi_units.specs.declared.event.Event.TheVariants as events
 use Rattle.taxi_units.specs.declared.event.Key.{Key}
 use Rattle.taxi_units.specs.declared.event.Key.TheVariants.{Hire, Stop, Clear, Position, Zone, Extra}
-use Rattle.drive_text.specs.Runs.{intervals_events}
+use Rattle.drive_text.specs.declared.run.Run.{Run}
+use Rattle.drive_text.specs.declared.run.Run.TheVariants.{One, Many}
 
 -- whether a field is this word
 abbrev pub is_word : List ℕ → List ℕ → Bool
@@ -31,7 +33,7 @@ number_in low high field =
 
 -- a second of the years 2000 to 2199
 abbrev pub second_in : List ℕ → Option ℕ
-second_in field = number_in 946684800 7258118399 field
+second_in field = number_in first_second last_second field
 
 -- H, S, C
 unfoldable pub plain_key : List ℕ → Option Key
@@ -49,20 +51,20 @@ numbered_key name number =
     else if is_word (codes "E") name then option_map Extra (number_in 0 99 number)
     else None
 
--- the one event of what was found
-abbrev pub one : {A : Type 0} → (A → Event) → Option A → Option (List Event)
-one event found = option_map (λ x. event x ∷ []) found
+-- the run of one event, of what was found
+abbrev pub one : {A : Type 0} → (A → Event) → Option A → Option Run
+one event found = option_map (λ x. One (event x)) found
 
 -- D, T
-unfoldable pub events_of_one_field : List ℕ → Option (List Event)
-events_of_one_field name =
-    if is_word (codes "D") name then Some (Down ∷ [])
-    else if is_word (codes "T") name then Some (Tick ∷ [])
+unfoldable pub run_of_one_field : List ℕ → Option Run
+run_of_one_field name =
+    if is_word (codes "D") name then Some (One Down)
+    else if is_word (codes "T") name then Some (One Tick)
     else None
 
 -- U s, C s, P p, K with a plain key
-unfoldable pub events_of_two_fields : List ℕ → List ℕ → Option (List Event)
-events_of_two_fields name field =
+unfoldable pub run_of_two_fields : List ℕ → List ℕ → Option Run
+run_of_two_fields name field =
     if is_word (codes "U") name then one Up (second_in field)
     else if is_word (codes "C") name then one Clock (second_in field)
     else if is_word (codes "P") name then one Pulses (number_in 1 65535 field)
@@ -70,35 +72,36 @@ events_of_two_fields name field =
     else None
 
 -- so many intervals, each with so many pulses
-abbrev pub intervals_of : List ℕ → List ℕ → Option (List Event)
+abbrev pub intervals_of : List ℕ → List ℕ → Option Run
 intervals_of first second = do
   pulses ← number_in 0 65535 first
   count ← number_in 1 36000 second
-  Some (intervals_events pulses count)
+  Some (Many pulses count)
 
 -- I p n, K with a numbered key
-unfoldable pub events_of_three_fields : List ℕ → List ℕ → List ℕ → Option (List Event)
-events_of_three_fields name first second =
+unfoldable pub run_of_three_fields : List ℕ → List ℕ → List ℕ → Option Run
+run_of_three_fields name first second =
     if is_word (codes "I") name then intervals_of first second
     else if is_word (codes "K") name then one events.Key (numbered_key first second)
     else None
 
 -- by the number of fields
-abbrev pub events_of_fields : List (List ℕ) → Option (List Event)
-events_of_fields [] = None
-events_of_fields (name ∷ []) = events_of_one_field name
-events_of_fields (name ∷ first ∷ []) = events_of_two_fields name first
-events_of_fields (name ∷ first ∷ second ∷ []) = events_of_three_fields name first second
-events_of_fields (name ∷ first ∷ second ∷ third ∷ more) = None
+abbrev pub run_of_fields : List (List ℕ) → Option Run
+run_of_fields [] = None
+run_of_fields (name ∷ []) = run_of_one_field name
+run_of_fields (name ∷ first ∷ []) = run_of_two_fields name first
+run_of_fields (name ∷ first ∷ second ∷ []) = run_of_three_fields name first second
+run_of_fields (name ∷ first ∷ second ∷ third ∷ more) = None
 
--- a line without its CR: nothing where it is empty or a comment, and else at most 80 bytes of fields, parted by one blank each
-unfoldable pub text_events : List ℕ → Option (List Event)
-text_events [] = Some []
-text_events (c ∷ cs) =
+-- a line without its CR: nothing where it is empty or a comment, and else at most 80 bytes of fields, parted by one
+-- blank each
+unfoldable pub text_runs : List ℕ → Option (List Run)
+text_runs [] = Some []
+text_runs (c ∷ cs) =
     if c == 35 then Some []
     else if nat_lt 80 (length (c ∷ cs)) then None
-    else events_of_fields (slice_split (λ b. b == 32) (c ∷ cs))
+    else option_map (λ run. run ∷ []) (run_of_fields (slice_split (λ b. b == 32) (c ∷ cs)))
 
--- what a whole line without its LF means, where it is a line of a drive
-abbrev pub line_events : List ℕ → Option (List Event)
-line_events line = text_events (strip_carriage_return line)
+-- the runs that a whole line without its LF gives, where it is a line of a drive
+abbrev pub line_runs : List ℕ → Option (List Run)
+line_runs line = text_runs (strip_carriage_return line)

@@ -1,8 +1,10 @@
 pub mod Drive
 pub mod Fields
 pub mod Lines
+pub mod Part
 pub mod Ranges
 pub mod Reading
 pub mod Runs
 pub mod Table
+pub mod Whole
 pub mod Written

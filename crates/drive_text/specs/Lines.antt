@@ -36,6 +36,10 @@ is_too_long line = nat_lt 80 (length (strip_carriage_return line)) && not (is_co
 abbrev pub text_of : List (List ℕ) → List ℕ → List ℕ
 text_of lines unfinished = flat_map (λ line. line ++ 10 ∷ []) lines ++ unfinished
 
+-- no byte of it is this one
+abbrev pub HasNone : ℕ → List ℕ → Type 0
+HasNone byte bytes = All (λ b. b ≢ byte) bytes
+
 -- it has no LF
 abbrev pub IsOneLine : List ℕ → Type 0
-IsOneLine line = All (λ b. b ≢ 10) line
+IsOneLine line = HasNone 10 line

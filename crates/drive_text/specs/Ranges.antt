@@ -1,15 +1,12 @@
 -- The numbers that a drive may have.
 use Rattle.std.specs.Prelude.{ℕ, ◌≤◌, ⊤}
+use Rattle.taxi_units.specs.Time.{IsSecond}
 use Rattle.taxi_units.specs.declared.event.Event.{Event}
 use Rattle.taxi_units.specs.declared.event.Event.TheVariants.{Up, Down, Pulses, Tick, Clock, Key}
 use Rattle.taxi_units.specs.declared.event.Key as keys
 use Rattle.taxi_units.specs.declared.event.Key.TheVariants.{Hire, Stop, Clear, Position, Zone, Extra}
 use Rattle.drive_text.specs.declared.run.Run.{Run}
 use Rattle.drive_text.specs.declared.run.Run.TheVariants.{One, Many}
-
--- a second of the years 2000 to 2199
-abbrev pub IsSecond : ℕ → Type 0
-IsSecond second = (946684800 ≤ second) × (second ≤ 7258118399)
 
 -- a key's number has at most two digits
 abbrev pub IsKeyInRange : keys.Key → Type 0

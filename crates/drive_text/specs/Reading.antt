@@ -1,12 +1,11 @@
 -- What a reader of a drive keeps, and what it says of the bytes that it has taken.
-use Rattle.std.specs.Prelude.{◌≡◌, ℕ, ◌+◌, List, [], ◌++◌, length, Bool, true, false, if◌then◌else◌, ◌==◌, MatchOption, All, flat_map}
+use Rattle.std.specs.Prelude.{◌≡◌, ◌⊎◌, ℕ, ◌+◌, ◌<◌, ◌≤◌, List, [], ◌++◌, length, take, Bool, true, false, if◌then◌else◌, ◌==◌, None, Some, MatchOption}
 use Rattle.drive_text.specs.declared.run.Run.{Run}
-use Rattle.drive_text.specs.Runs.{run_events}
-use Rattle.drive_text.specs.Ranges.{IsRunInRange}
 use Rattle.drive_text.specs.Lines.{ended_lines, unfinished_line, is_comment}
-use Rattle.drive_text.specs.Drive.{first_bad_of, events_in}
+use Rattle.drive_text.specs.Drive.{first_bad_of, first_bad, runs_after}
 
--- how many lines were begun, the bytes of an unfinished line that isn't a comment, whether the unfinished line is a comment, and whether a bad line came
+-- how many lines were begun, the bytes of an unfinished line that isn't a comment, whether the unfinished line is a
+-- comment, and whether a bad line came
 pub record Reading : Type 0 where
   pub begun : ℕ
   pub kept : List ℕ
@@ -20,10 +19,12 @@ pub record StandsIn (reading : Reading) (lines : List (List ℕ)) (unfinished : 
   pub comment : reading.comment ≡ is_comment unfinished
   pub kept : reading.kept ≡ (if is_comment unfinished then [] else unfinished)
 
--- the reader has failed at the line of this number
+-- the reader has failed at the line of this number, and keeps nothing
 pub record HasFailed (reading : Reading) (line : ℕ) : Type 0 where
   pub failed : reading.failed ≡ true
   pub begun : reading.begun ≡ line
+  pub kept : reading.kept ≡ []
+  pub comment : reading.comment ≡ false
 
 -- the reader has taken these lines: it stands in the unfinished one, or has failed at the first bad one
 abbrev pub HasTakenLines : Reading → List (List ℕ) → List ℕ → Type 0
@@ -34,9 +35,21 @@ HasTakenLines reading lines unfinished =
 abbrev pub HasTaken : Reading → List ℕ → Type 0
 HasTaken reading bytes = HasTakenLines reading (ended_lines bytes) (unfinished_line bytes)
 
--- where the reader takes these bytes, the runs get those of the lines that end in them
-pub record AddsRuns (reading : Reading) (bytes : List ℕ) (old new : List Run) : Type 0 where
-  pub runs : List Run
-  pub added : new ≡ old ++ runs
-  pub in_range : All IsRunInRange runs
-  pub events : (before : List ℕ) → HasTaken reading before → events_in (before ++ bytes) ≡ events_in before ++ flat_map run_events runs
+-- after other bytes a piece is taken up to a place: no line is bad up to there, the runs are appended, and it is the
+-- first place where the list is full, or the end of the piece
+pub record TakesTo (before piece : List ℕ) (old new : List Run) (place : ℕ) : Type 0 where
+  pub within : place ≤ length piece
+  pub good : first_bad (before ++ take place piece) ≡ None
+  pub runs : new ≡ old ++ runs_after before (take place piece)
+  pub ends : (place ≡ length piece) ⊎ (length new ≡ 64)
+  pub not_before : (sooner : ℕ) → sooner < place → length (old ++ runs_after before (take sooner piece)) < 64
+
+-- a bad line comes in a piece, and the runs of the lines before it don't fill the list
+pub record BreaksIn (before piece : List ℕ) (old new : List Run) (line : ℕ) : Type 0 where
+  pub bad : first_bad (before ++ piece) ≡ Some line
+  pub runs : new ≡ old ++ runs_after before piece
+  pub room : length new < 64
+
+-- some bytes were taken
+abbrev pub HasSense : Reading → Type 0
+HasSense reading = (bytes : List ℕ) × HasTaken reading bytes

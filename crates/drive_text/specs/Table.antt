@@ -1,11 +1,12 @@
 -- The lines of a drive, as a table.
 use Rattle.std.specs.Prelude.{◌≡◌, ℕ, ◌≤◌, List, [], ◌∷◌, ◌++◌, length, codes}
 use Rattle.std.specs.Str.Parse.{IsNumeral, digits_value}
-use Rattle.taxi_units.specs.declared.event.Event.{Event}
+use Rattle.taxi_units.specs.Time.{first_second, last_second}
 use Rattle.taxi_units.specs.declared.event.Event.TheVariants.{Up, Down, Pulses, Tick, Clock}
 use Rattle.taxi_units.specs.declared.event.Event.TheVariants as events
 use Rattle.taxi_units.specs.declared.event.Key.TheVariants.{Hire, Stop, Clear, Position, Zone, Extra}
-use Rattle.drive_text.specs.Runs.{intervals_events}
+use Rattle.drive_text.specs.declared.run.Run.{Run}
+use Rattle.drive_text.specs.declared.run.Run.TheVariants.{One, Many}
 
 -- these 1 to 12 digits write a number of this range
 pub record IsNumberIn (low high : ℕ) (digits : List ℕ) (number : ℕ) : Type 0 where
@@ -15,19 +16,25 @@ pub record IsNumberIn (low high : ℕ) (digits : List ℕ) (number : ℕ) : Type
   pub above : low ≤ number
   pub below : number ≤ high
 
--- what a line without its line end means
-pub data Means : List ℕ → List Event → Type 0 where
+-- what a line without its line end gives: none or one run
+pub data Means : List ℕ → List Run → Type 0 where
   empty : Means [] []
   comment : (text : List ℕ) → Means (codes "#" ++ text) []
-  up : (s : ℕ) (digits : List ℕ) → IsNumberIn 946684800 7258118399 digits s → Means (codes "U " ++ digits) (Up s ∷ [])
-  down : Means (codes "D") (Down ∷ [])
-  clock : (s : ℕ) (digits : List ℕ) → IsNumberIn 946684800 7258118399 digits s → Means (codes "C " ++ digits) (Clock s ∷ [])
-  pulses : (p : ℕ) (digits : List ℕ) → IsNumberIn 1 65535 digits p → Means (codes "P " ++ digits) (Pulses p ∷ [])
-  tick : Means (codes "T") (Tick ∷ [])
-  intervals : (p n : ℕ) (first second : List ℕ) → IsNumberIn 0 65535 first p → IsNumberIn 1 36000 second n → Means (codes "I " ++ (first ++ (codes " " ++ second))) (intervals_events p n)
-  hire : Means (codes "K H") (events.Key Hire ∷ [])
-  stop : Means (codes "K S") (events.Key Stop ∷ [])
-  clear : Means (codes "K C") (events.Key Clear ∷ [])
-  position : (n : ℕ) (digits : List ℕ) → IsNumberIn 0 99 digits n → Means (codes "K P " ++ digits) (events.Key (Position n) ∷ [])
-  zone : (n : ℕ) (digits : List ℕ) → IsNumberIn 0 99 digits n → Means (codes "K Z " ++ digits) (events.Key (Zone n) ∷ [])
-  extra : (n : ℕ) (digits : List ℕ) → IsNumberIn 0 99 digits n → Means (codes "K E " ++ digits) (events.Key (Extra n) ∷ [])
+  up : (s : ℕ) (digits : List ℕ) → IsNumberIn first_second last_second digits s
+      → Means (codes "U " ++ digits) (One (Up s) ∷ [])
+  down : Means (codes "D") (One Down ∷ [])
+  clock : (s : ℕ) (digits : List ℕ) → IsNumberIn first_second last_second digits s
+      → Means (codes "C " ++ digits) (One (Clock s) ∷ [])
+  pulses : (p : ℕ) (digits : List ℕ) → IsNumberIn 1 65535 digits p → Means (codes "P " ++ digits) (One (Pulses p) ∷ [])
+  tick : Means (codes "T") (One Tick ∷ [])
+  intervals : (p n : ℕ) (first second : List ℕ) → IsNumberIn 0 65535 first p → IsNumberIn 1 36000 second n
+      → Means (codes "I " ++ (first ++ (codes " " ++ second))) (Many p n ∷ [])
+  hire : Means (codes "K H") (One (events.Key Hire) ∷ [])
+  stop : Means (codes "K S") (One (events.Key Stop) ∷ [])
+  clear : Means (codes "K C") (One (events.Key Clear) ∷ [])
+  position : (n : ℕ) (digits : List ℕ) → IsNumberIn 0 99 digits n
+      → Means (codes "K P " ++ digits) (One (events.Key (Position n)) ∷ [])
+  zone : (n : ℕ) (digits : List ℕ) → IsNumberIn 0 99 digits n
+      → Means (codes "K Z " ++ digits) (One (events.Key (Zone n)) ∷ [])
+  extra : (n : ℕ) (digits : List ℕ) → IsNumberIn 0 99 digits n
+      → Means (codes "K E " ++ digits) (One (events.Key (Extra n)) ∷ [])

@@ -1,15 +1,17 @@
-//! What one line of a drive means.
-ghost use Rattle.std.specs.Prelude.{◌≡◌, ◌≤◌, ◌∷◌, [], ◌==◌, IfSome, flat_map, option_to_list, All};
-ghost use Rattle.std.specs.Option.{option_map_or};
+//! What one line of a drive gives.
+ghost use Rattle.std.specs.Prelude.{◌≡◌, ◌≤◌, ◌∷◌, [], ◌==◌, nat_lt, length, IfSome, option_to_list};
+ghost use Rattle.std.specs.Str.Lines.{strip_carriage_return};
 ghost use Rattle.std.specs.List.{slice_split};
+ghost use Rattle.std.specs.Option.{option_map_or};
 ghost use Rattle.taxi_units.specs.Reading.{Gives};
+ghost use Rattle.taxi_units.specs.Time.{IsSecond};
 ghost use Rattle.drive_text.specs.Fields as spec;
-ghost use Rattle.drive_text.specs.Fields.{one, events_of_one_field, events_of_two_fields, events_of_three_fields, events_of_fields, text_events, line_events};
-ghost use Rattle.drive_text.specs.Ranges.{IsKeyInRange, IsRunInRange};
-ghost use Rattle.drive_text.specs.Runs.{run_events};
+ghost use Rattle.drive_text.specs.Lines as lines;
+ghost use Rattle.drive_text.specs.Fields.{text_runs, line_runs};
 
+use crate::parting::part_at;
 use crate::run::Run;
-use taxi_units::{Event, Key, number_at};
+use taxi_units::{Event, FIRST_SECOND, Key, LAST_SECOND, number_at};
 
 /// The number that a field of 1 to 12 digits is, where it lies in the range.
 #[tactic(auto, using(crate::proofs::Numbers::in_none))]
@@ -29,10 +31,9 @@ fn number_in(field: &[u8], low: u64, high: u64) -> Option<u64>
 /// A second that the clock may show.
 fn second_in(field: &[u8]) -> Option<u64>
     ensures value { result ≡ spec.second_in field.now }
-    ensures low { IfSome result (λ n. 946684800 ≤ n) }
-    ensures high { IfSome result (λ n. n ≤ 7258118399) }
+    ensures range { IfSome result IsSecond }
 {
-    number_in(field, 946_684_800, 7_258_118_399)
+    number_in(field, FIRST_SECOND, LAST_SECOND)
 }
 
 /// Whether a field is this word.
@@ -45,8 +46,7 @@ fn is_word(field: &[u8], word: &[u8]) -> bool
 /// A key without a number.
 #[tactic(auto, unfolding(crate::specs::Fields::plain_key))]
 fn plain_key(name: &[u8]) -> Option<Key>
-    ensures value { result ≡ spec.plain_key name.now }
-    ensures range { IfSome result IsKeyInRange }
+    ensures { result ≡ spec.plain_key name.now }
 {
     if is_word(name, b"H") {
         Some(Key::Hire)
@@ -62,8 +62,7 @@ fn plain_key(name: &[u8]) -> Option<Key>
 /// A key and its number.
 #[tactic(auto, unfolding(crate::specs::Fields::numbered_key))]
 fn numbered_key(name: &[u8], number: &[u8]) -> Option<Key>
-    ensures value { result ≡ spec.numbered_key name.now number.now }
-    ensures range { IfSome result IsKeyInRange }
+    ensures { result ≡ spec.numbered_key name.now number.now }
 {
     if is_word(name, b"P") {
         Some(Key::Position(number_in(number, 0, 99)? as u8))
@@ -77,10 +76,9 @@ fn numbered_key(name: &[u8], number: &[u8]) -> Option<Key>
 }
 
 /// A line of one field.
-#[tactic(auto, unfolding(crate::specs::Fields::events_of_one_field))]
+#[tactic(auto, unfolding(crate::specs::Fields::run_of_one_field))]
 fn run_of_one_field(name: &[u8]) -> Option<Run>
-    ensures value { Gives run_events result (events_of_one_field name.now) }
-    ensures range { IfSome result IsRunInRange }
+    ensures { result ≡ spec.run_of_one_field name.now }
 {
     if is_word(name, b"D") {
         Some(Run::One(Event::Down))
@@ -92,10 +90,9 @@ fn run_of_one_field(name: &[u8]) -> Option<Run>
 }
 
 /// A line of two fields.
-#[tactic(auto, unfolding(crate::specs::Fields::events_of_two_fields))]
+#[tactic(auto, unfolding(crate::specs::Fields::run_of_two_fields))]
 fn run_of_two_fields(name: &[u8], field: &[u8]) -> Option<Run>
-    ensures value { Gives run_events result (events_of_two_fields name.now field.now) }
-    ensures range { IfSome result IsRunInRange }
+    ensures { result ≡ spec.run_of_two_fields name.now field.now }
 {
     if is_word(name, b"U") {
         Some(Run::One(Event::Up(second_in(field)?)))
@@ -112,8 +109,7 @@ fn run_of_two_fields(name: &[u8], field: &[u8]) -> Option<Run>
 
 /// Intervals.
 fn intervals(first: &[u8], second: &[u8]) -> Option<Run>
-    ensures value { Gives run_events result (spec.intervals_of first.now second.now) }
-    ensures range { IfSome result IsRunInRange }
+    ensures { result ≡ spec.intervals_of first.now second.now }
 {
     let pulses = number_in(first, 0, 65535)?;
     let count = number_in(second, 1, 36000)?;
@@ -124,10 +120,9 @@ fn intervals(first: &[u8], second: &[u8]) -> Option<Run>
 }
 
 /// A line of three fields.
-#[tactic(auto, unfolding(crate::specs::Fields::events_of_three_fields))]
+#[tactic(auto, unfolding(crate::specs::Fields::run_of_three_fields))]
 fn run_of_three_fields(name: &[u8], first: &[u8], second: &[u8]) -> Option<Run>
-    ensures value { Gives run_events result (events_of_three_fields name.now first.now second.now) }
-    ensures range { IfSome result IsRunInRange }
+    ensures { result ≡ spec.run_of_three_fields name.now first.now second.now }
 {
     if is_word(name, b"I") {
         intervals(first, second)
@@ -139,22 +134,16 @@ fn run_of_three_fields(name: &[u8], first: &[u8], second: &[u8]) -> Option<Run>
 }
 
 /// The field at the front, and what stands after its blank, where it has one.
-#[tactic(auto, using(crate::proofs::Blanks::field_at))]
 fn first_field(bytes: &[u8]) -> (&[u8], Option<&[u8]>)
-    ensures { slice_split (λ b. b == 32) bytes.now ≡ result.0.now ∷ option_map_or (λ rest. slice_split (λ b. b == 32) rest.now) result.1 [] }
+    ensures { slice_split (λ b. b == 32) bytes.now
+        ≡ result.0.now ∷ option_map_or (λ rest. slice_split (λ b. b == 32) rest.now) result.1 [] }
 {
-    for (at, byte) in bytes.iter().enumerate() {
-        if *byte == b' ' {
-            return (&bytes[..at], Some(&bytes[at + 1..]));
-        }
-    }
-    (bytes, None)
+    part_at(bytes, b' ')
 }
 
 /// A line's fields, parted by one blank each.
 fn run_of_fields(bytes: &[u8]) -> Option<Run>
-    ensures value { Gives run_events result (events_of_fields (slice_split (λ b. b == 32) bytes.now)) }
-    ensures range { IfSome result IsRunInRange }
+    ensures { result ≡ spec.run_of_fields (slice_split (λ b. b == 32) bytes.now) }
 {
     let (name, rest) = first_field(bytes);
     let Some(rest) = rest else {
@@ -171,36 +160,58 @@ fn run_of_fields(bytes: &[u8]) -> Option<Run>
     }
 }
 
+/// Whether a line is a comment.
+pub(crate) fn is_comment(line: &[u8]) -> bool
+    ensures { result ≡ lines.is_comment line.now }
+{
+    match line.split_first() {
+        None => false,
+        Some((first, _)) => *first == b'#',
+    }
+}
+
+/// Whether a line without its CR is too long, where it is no comment.
+pub(crate) fn is_long(text: &[u8]) -> bool
+    ensures { result ≡ nat_lt 80 (length text.now) }
+{
+    text.len() > 80
+}
+
+/// A line without a CR at its end.
+pub(crate) fn without_carriage_return(line: &[u8]) -> &[u8]
+    ensures { result.now ≡ strip_carriage_return line.now }
+{
+    match line.strip_suffix(b"\r") {
+        None => line,
+        Some(text) => text,
+    }
+}
+
 /// The run of a whole line without its LF and its CR: none where the line is empty or a comment.
 ///
 /// `None` where it is no line of a drive.
-#[tactic(auto, unfolding(crate::specs::Fields::text_events))]
-fn run_of_text(line: &[u8]) -> Option<Option<Run>>
-    ensures value { Gives (λ run. flat_map run_events (option_to_list run)) result (text_events line.now) }
-    ensures range { IfSome result (λ run. IfSome run IsRunInRange) }
+#[tactic(auto, unfolding(crate::specs::Fields::text_runs))]
+fn run_of_text(text: &[u8]) -> Option<Option<Run>>
+    ensures { Gives option_to_list result (text_runs text.now) }
 {
-    let Some((first, _)) = line.split_first() else {
+    let Some((first, _)) = text.split_first() else {
         return Some(None);
     };
     if *first == b'#' {
         return Some(None);
     }
-    if line.len() > 80 {
+    if is_long(text) {
         return None;
     }
-    let run = run_of_fields(line)?;
+    let run = run_of_fields(text)?;
     Some(Some(run))
 }
 
 /// The run of a whole line without its LF: none where the line is empty or a comment.
 ///
 /// `None` where it is no line of a drive.
-pub fn run_of_line(line: &[u8]) -> Option<Option<Run>>
-    ensures value { Gives (λ run. flat_map run_events (option_to_list run)) result (line_events line.now) }
-    ensures range { IfSome result (λ run. IfSome run IsRunInRange) }
+pub(crate) fn run_of_line(line: &[u8]) -> Option<Option<Run>>
+    ensures { Gives option_to_list result (line_runs line.now) }
 {
-    match line.strip_suffix(b"\r") {
-        None => run_of_text(line),
-        Some(text) => run_of_text(text),
-    }
+    run_of_text(without_carriage_return(line))
 }

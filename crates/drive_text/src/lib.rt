@@ -2,16 +2,19 @@
 #![tactic(auto)]
 
 mod fields;
-mod laws;
+mod meaning;
+mod parting;
 mod reader;
 mod run;
+mod state;
 #[cfg(test)]
 mod tests;
 mod written;
 
-pub use laws::{
-    a_reader_fails_at_the_first_bad_line, cutting_changes_nothing, lines_make_the_text,
-    lines_mean_what_the_table_says, written_lines_read_back,
+pub use meaning::{
+    a_reader_is_known_by_its_bytes, drives_mean_what_their_lines_say,
+    lines_give_what_the_table_says, lines_make_the_text, more_bytes_add_runs,
+    pieces_give_the_runs_of_all_bytes, written_lines_read_back,
 };
 pub use reader::{BadLine, Reader};
 pub use run::Run;

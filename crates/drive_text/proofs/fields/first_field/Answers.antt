@@ -1,8 +1,5 @@
-use Rattle.drive_text.proofs.Blanks.{one_field, no_blank_more}
+use Rattle.drive_text.proofs.Blanks.{first_field_by}
 use Rattle.drive_text.proofs.fields.first_field.Goals as goal
 
-pub loop-at-preserved : goal.loop-at-preserved
-loop-at-preserved c = no_blank_more c.args.bytes.now c.loop-at.at c.loop-at-test.true c.if-byte-eq32.false c.loop-at.invariant
-
 pub returns : goal.returns
-returns c = one_field c.args.bytes.now c.loop-at.at c.loop-at-test.false c.loop-at.invariant
+returns c = first_field_by (λ r. r.now) c.args.bytes.now c.part_at.result.0.now c.part_at.result.1 c.part_at.ensures.before c.part_at.ensures.after

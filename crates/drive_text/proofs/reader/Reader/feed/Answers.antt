@@ -1,56 +1,92 @@
-use Rattle.std.proofs.Common.{◌++◌, take, length-append, Some, sym, ◌∙◌, ap, arith}
-use Rattle.std.proofs.lemmas.List.{length-take-le}
+use Rattle.std.proofs.Common.{rules, ◌≡◌, ◌⊎◌, inl, inr, ◌+◌, ◌-◌, ◌<◌, ◌++◌, List, ℕ, [], length, refl, ap, sym, ◌∙◌, subst, arith, length-append, false, true, eqb, ◌≤◌, All}
+use Rattle.std.proofs.lemmas.Bool.{eqb-false}
+use Rattle.std.proofs.lemmas.List.Elements.{All-append}
 use Rattle.std.proofs.lemmas.Result.{err_from_is_err_and}
-use Rattle.drive_text.specs.Reading.{Reading}
-use Rattle.drive_text.proofs.Feeding.{Stops, goes_on, failed_stops, begun_fits, feeds_bad, feeds_more}
+use Rattle.drive_text.specs.declared.run.Run.{Run}
+use Rattle.drive_text.specs.Part.{reading_of}
+use Rattle.drive_text.specs.Ranges.{IsRunInRange}
+use Rattle.drive_text.specs.Reading.{Reading, HasTaken}
+use Rattle.drive_text.proofs.Feeding.{Feeds, feeds_none, feeds_more, takes_to, feeds_reader, breaks_in, breaks_reader, some_taken}
+use Rattle.drive_text.proofs.Standing.{failed_stays}
 use Rattle.drive_text.proofs.reader.Reader.feed.Goals as goal
 
-pub returns-then-self-clause-bad : goal.returns-then-self-clause-bad
-returns-then-self-clause-bad c =
-    let begun = ap (λ (r : Reading). r.begun) c.self.view_is in
-    rw begun (failed_stops c.args.self.now c.args.piece.now c.args.out.now.items (sym (ap (λ (r : Reading). r.failed) c.self.view_is) ∙ c.if-self.true)).bad
+the_range : (old runs new : List Run) → new ≡ old ++ runs → All IsRunInRange runs → All IsRunInRange old → All IsRunInRange new
+the_range old runs new is range before = subst (All IsRunInRange) (sym is) (All-append IsRunInRange old runs before range)
 
-pub returns-then-self-clause-bad_runs : goal.returns-then-self-clause-bad_runs
-returns-then-self-clause-bad_runs c = (failed_stops c.args.self.now c.args.piece.now c.args.out.now.items (sym (ap (λ (r : Reading). r.failed) c.self.view_is) ∙ c.if-self.true)).runs
+not_full : (n : ℕ) → eqb n 64 ≡ false → n ≤ 64 → n < 64
+not_full n other few = let e = eqb-false n 64 other in omega (arith, e, few)
+
+left : (piece done rest : List ℕ) → piece ≡ done ++ rest → length piece - length rest + length rest ≡ length piece
+left piece done rest split = omega (arith, ap length split, length-append done rest)
 
 pub returns-then-self-clause-failed : goal.returns-then-self-clause-failed
-returns-then-self-clause-failed c = (failed_stops c.args.self.now c.args.piece.now c.args.out.now.items (sym (ap (λ (r : Reading). r.failed) c.self.view_is) ∙ c.if-self.true)).reader
+returns-then-self-clause-failed c = λ b h. failed_stays c.args.self.now b c.args.piece.now h (sym (ap (λ (r : Reading). r.failed) c.self.view_is) ∙ c.if-self.true)
 
-pub take_byte-requires-clause-few : goal.take_byte-requires-clause-few
-take_byte-requires-clause-few c =
-    let so_far = take c.loop-taken.taken c.args.piece.now in
-    let taken = c.loop-taken.invariant.feeds.reader c.requires.few.0 c.requires.few.1 in
-    let begun = begun_fits c.loop-taken.self (c.requires.few.0 ++ so_far) taken c.loop-taken.invariant.feeds.going in
-    omega (arith, begun, length-append c.requires.few.0 so_far, length-take-le c.loop-taken.taken c.args.piece.now c.loop-taken.invariant.within)
+pub loop-rest-init : goal.loop-rest-init
+loop-rest-init c =
+    let going : c.args.self.now.failed ≡ false = sym (ap (λ (r : Reading). r.failed) c.self.view_is) ∙ c.if-self.false in
+    subst (λ (r : Reading). Feeds c.args.self.now r c.args.piece.now c.args.piece.now c.args.out.now.items c.args.out.now.items) (sym c.self.view_is) (feeds_none c.args.self.now c.args.piece.now c.args.out.now.items going)
 
-pub returns-else-not-is_full-clause-good : goal.returns-else-not-is_full-clause-good
-returns-else-not-is_full-clause-good c = λ b h. goes_on c.loop-taken.self (b ++ take c.loop-taken.taken c.args.piece.now) (c.loop-taken.invariant.feeds.reader b h) c.loop-taken.invariant.feeds.going
+pub returns-then-is_full-clause-taken : goal.returns-then-is_full-clause-taken
+returns-then-is_full-clause-taken c = λ b h.
+    let f = c.loop-rest.invariant in
+    feeds_reader c.args.self.now _ c.args.piece.now c.loop-rest.rest.now c.args.out.now.items c.loop-rest.out.items _ f (left c.args.piece.now f.done c.loop-rest.rest.now f.split) b h
 
-pub returns-after-loop-taken-clause-good : goal.returns-after-loop-taken-clause-good
-returns-after-loop-taken-clause-good c = λ b h. goes_on c.loop-taken.self (b ++ take c.loop-taken.taken c.args.piece.now) (c.loop-taken.invariant.feeds.reader b h) c.loop-taken.invariant.feeds.going
+pub returns-then-is_full-clause-runs : goal.returns-then-is_full-clause-runs
+returns-then-is_full-clause-runs c = λ b h.
+    let f = c.loop-rest.invariant in
+    let full : length c.loop-rest.out.items ≡ 64 = search rules in
+    takes_to c.args.self.now _ c.args.piece.now c.loop-rest.rest.now c.args.out.now.items c.loop-rest.out.items _ f (left c.args.piece.now f.done c.loop-rest.rest.now f.split) (inr full) b h
 
--- where the byte at this place fails
-stops : (c : goal.After-from_residual) → Stops c.args.self.now c.take_byte.new.self c.args.piece.now c.args.out.now.items c.take_byte.new.out.items
-stops c = feeds_bad c.args.self.now c.loop-taken.self c.take_byte.new.self c.args.piece.now c.loop-taken.taken c.args.out.now.items c.loop-taken.out.items c.take_byte.new.out.items c.loop-taken-test.true c.loop-taken.invariant.feeds c.in_err-take_byte.ensures.taken c.in_err-take_byte.ensures.failed.0 c.in_err-take_byte.ensures.runs
+pub returns-then-is_full-clause-some : goal.returns-then-is_full-clause-some
+returns-then-is_full-clause-some c = λ room piece.
+    let full : length c.loop-rest.out.items ≡ 64 = search rules in
+    some_taken c.args.self.now _ c.args.piece.now c.loop-rest.rest.now c.args.out.now.items c.loop-rest.out.items c.loop-rest.invariant full room
 
-pub returns-in_err-take_byte-clause-bad : goal.returns-in_err-take_byte-clause-bad
-returns-in_err-take_byte-clause-bad c =
+pub returns-then-is_full-clause-range : goal.returns-then-is_full-clause-range
+returns-then-is_full-clause-range c = the_range c.args.out.now.items c.loop-rest.invariant.runs c.loop-rest.out.items c.loop-rest.invariant.added c.loop-rest.invariant.in_range
+
+-- some bytes that were taken
+sense : (c : goal.After-from_residual) → (b : List ℕ) × HasTaken c.args.self.now b
+sense c = (c.self.invariant.0, subst (λ (r : Reading). HasTaken r c.self.invariant.0) c.self.view_is c.self.invariant.1)
+
+pub invariant_of-self-in_err-rest : goal.invariant_of-self-in_err-rest
+invariant_of-self-in_err-rest c =
+    let b = sense c in
+    let f = c.loop-rest.invariant in
+    (b.0 ++ c.args.piece.now, breaks_reader c.args.self.now _ _ c.args.piece.now c.loop-rest.rest.now c.args.out.now.items c.loop-rest.out.items _ f c.in_err-rest.ensures.err b.0 b.1)
+
+pub returns-in_err-rest-clause-failed : goal.returns-in_err-rest-clause-failed
+returns-in_err-rest-clause-failed c =
     let p = err_from_is_err_and c.from_residual.result c.from_residual.ensures.1 in
-    rw (p.1, p.2) (λ b h. (stops c).bad b h ∙ ap Some (sym c.in_err-take_byte.ensures.failed.1))
+    rw (p.1) (λ b h. breaks_reader c.args.self.now _ _ c.args.piece.now c.loop-rest.rest.now c.args.out.now.items c.loop-rest.out.items _ c.loop-rest.invariant c.in_err-rest.ensures.err b h)
 
-pub returns-in_err-take_byte-clause-bad_runs : goal.returns-in_err-take_byte-clause-bad_runs
-returns-in_err-take_byte-clause-bad_runs c =
+pub returns-in_err-rest-clause-bad : goal.returns-in_err-rest-clause-bad
+returns-in_err-rest-clause-bad c =
     let p = err_from_is_err_and c.from_residual.result c.from_residual.ensures.1 in
-    rw (p.1) (stops c).runs
+    let same = c.in_err-rest.ensures.out in
+    let room : length c.loop-rest.out.items < 64 = not_full (length c.loop-rest.out.items) (sym c.is_full.ensures.value ∙ c.if-is_full.false) c.is_full.ensures.fits in
+    rw (p.1, p.2, same) (λ going b h. breaks_in c.args.self.now _ _ c.args.piece.now c.loop-rest.rest.now c.args.out.now.items c.loop-rest.out.items _ c.loop-rest.invariant c.in_err-rest.ensures.err room b h)
 
-pub returns-in_err-take_byte-clause-failed : goal.returns-in_err-take_byte-clause-failed
-returns-in_err-take_byte-clause-failed c =
-    let p = err_from_is_err_and c.from_residual.result c.from_residual.ensures.1 in
-    rw (p.1) (stops c).reader
+pub returns-in_err-rest-clause-range : goal.returns-in_err-rest-clause-range
+returns-in_err-rest-clause-range c =
+    let same = c.in_err-rest.ensures.out in
+    rw same (the_range c.args.out.now.items c.loop-rest.invariant.runs c.loop-rest.out.items c.loop-rest.invariant.added c.loop-rest.invariant.in_range)
 
-pub loop-taken-preserved : goal.loop-taken-preserved
-loop-taken-preserved c = record {
-  within = omega arith;
-  start = λ e. absurd (omega arith);
-  feeds = feeds_more c.args.self.now c.loop-taken.self c.take_byte.new.self c.args.piece.now c.loop-taken.taken c.args.out.now.items c.loop-taken.out.items c.take_byte.new.out.items c.loop-taken-test.true c.loop-taken.invariant.feeds c.in_ok-take_byte.ensures.taken c.in_ok-take_byte.ensures.going c.in_ok-take_byte.ensures.runs;
-}
+pub loop-rest-preserved : goal.loop-rest-preserved
+loop-rest-preserved c =
+    let room : length c.loop-rest.out.items < 64 = not_full (length c.loop-rest.out.items) (sym c.is_full.ensures.value ∙ c.if-is_full.false) c.is_full.ensures.fits in
+    feeds_more c.args.self.now _ _ c.args.piece.now c.loop-rest.rest.now c.in_ok-rest.rest.now c.args.out.now.items c.loop-rest.out.items c.take.new.out.items room c.loop-rest.invariant (search rules)
+
+none_left : (rest : List ℕ) → length rest ≡ 0 → (n : ℕ) → n + length rest ≡ n
+none_left rest none n = omega arith
+
+pub returns-clause-taken : goal.returns-clause-taken
+returns-clause-taken c = λ b h.
+    let none : length c.loop-rest.rest.now ≡ 0 = search rules in
+    feeds_reader c.args.self.now _ c.args.piece.now c.loop-rest.rest.now c.args.out.now.items c.loop-rest.out.items _ c.loop-rest.invariant (none_left c.loop-rest.rest.now none (length c.args.piece.now)) b h
+
+pub returns-clause-runs : goal.returns-clause-runs
+returns-clause-runs c = λ b h.
+    let none : length c.loop-rest.rest.now ≡ 0 = search rules in
+    takes_to c.args.self.now _ c.args.piece.now c.loop-rest.rest.now c.args.out.now.items c.loop-rest.out.items _ c.loop-rest.invariant (none_left c.loop-rest.rest.now none (length c.args.piece.now)) (inl none) b h

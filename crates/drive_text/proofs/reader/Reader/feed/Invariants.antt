@@ -1,13 +1,10 @@
-use Rattle.std.proofs.Common.{length, take, ◌-◌, ◌≡◌, ◌≤◌}
+use Rattle.std.proofs.Common.{length}
+use Rattle.drive_text.specs.Part.{reading_of}
 use Rattle.drive_text.proofs.Feeding.{Feeds}
 use Rattle.drive_text.proofs.reader.Reader.feed.Given as goal
 
-abbrev pub invariant-loop-taken : goal.invariant-loop-taken
-invariant-loop-taken l = record {
-  within : l.taken ≤ length l.piece;
-  start : l.taken ≡ 0 → l.out ≡ l.fn.out;
-  feeds : Feeds l.fn.self l.self (take l.taken l.piece) l.fn.out.items l.out.items;
-}
+abbrev pub invariant-loop-rest : goal.invariant-loop-rest
+invariant-loop-rest l = Feeds l.fn.self (reading_of l.self-inside.state) l.piece l.rest l.fn.out.items l.out.items
 
-abbrev pub decreases-loop-taken : goal.decreases-loop-taken
-decreases-loop-taken l = length l.piece - l.taken
+abbrev pub decreases-loop-rest : goal.decreases-loop-rest
+decreases-loop-rest l = length l.rest

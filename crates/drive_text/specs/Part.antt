@@ -1,0 +1,34 @@
+-- What becomes of one part of a piece: a line with its LF, or what is left of the piece where no LF comes.
+use Rattle.std.specs.Prelude.{◌≡◌, ℕ, ◌+◌, ◌<◌, ◌≤◌, List, ◌++◌, length, take, true, false, All}
+use Rattle.drive_text.specs.declared.run.Run.{Run}
+use Rattle.drive_text.specs.declared.state.State.{State}
+use Rattle.drive_text.specs.Drive.{runs_in}
+use Rattle.drive_text.specs.Ranges.{IsRunInRange}
+use Rattle.drive_text.specs.Reading.{Reading, HasTaken}
+
+-- what contracts see of a state
+abbrev pub reading_of : State → Reading
+reading_of state =
+    record { begun = state.begun; kept = state.kept.items; comment = state.comment; failed = state.failed }
+
+-- the part in front of the rest is taken, and its runs are appended; before its end it gives none
+pub record TakesPart (old new : Reading) (piece rest : List ℕ) (before after : List Run) : Type 0 where
+  pub part : List ℕ
+  pub split : piece ≡ part ++ rest
+  pub some : 0 < length part
+  pub going : new.failed ≡ false
+  pub counted : new.begun ≤ old.begun + 1
+  pub reader : (bytes : List ℕ) → HasTaken old bytes → HasTaken new (bytes ++ part)
+  pub runs : List Run
+  pub added : after ≡ before ++ runs
+  pub in_range : All IsRunInRange runs
+  pub read : (bytes : List ℕ) → HasTaken old bytes → runs_in (bytes ++ part) ≡ runs_in bytes ++ runs
+  pub quiet : (bytes : List ℕ) (count : ℕ) → count < length part → runs_in (bytes ++ take count part) ≡ runs_in bytes
+
+-- the reader fails in the piece, at this line
+pub record FailsIn (old new : Reading) (piece : List ℕ) (line : ℕ) : Type 0 where
+  pub failed : new.failed ≡ true
+  pub number : new.begun ≡ line
+  pub counted : new.begun ≤ old.begun + 1
+  pub reader : (bytes : List ℕ) → HasTaken old bytes → HasTaken new (bytes ++ piece)
+  pub read : (bytes : List ℕ) → HasTaken old bytes → runs_in (bytes ++ piece) ≡ runs_in bytes

@@ -1,0 +1,197 @@
+//! Where a reader stands, and what one part of a piece changes of it.
+ghost use Rattle.std.specs.Prelude.{◌≡◌, ◌∷◌, ◌++◌, ◌+◌, ◌<◌, ◌^◌, [], List, length, true, false, if◌then◌else◌, ◌==◌, IfOk, IfErr, OnErr, option_to_list};
+ghost use Rattle.arrayvec.specs.ArrayVec.{array_vec_len};
+ghost use Rattle.taxi_units.specs.Reading.{Gives};
+ghost use Rattle.drive_text.specs.declared.run.Run.{Run};
+ghost use Rattle.drive_text.specs.Fields.{line_runs};
+ghost use Rattle.drive_text.specs.Lines.{is_comment, IsOneLine};
+ghost use Rattle.drive_text.specs.Reading.{HasTaken, HasFailed, HasSense};
+
+use crate::fields;
+use crate::fields::{is_long, run_of_line, without_carriage_return};
+use crate::parting::part_at;
+use crate::reader::BadLine;
+use crate::run::Run;
+use arrayvec::ArrayVec;
+
+/// How many lines were begun, the bytes of an unfinished line that is no comment, whether the
+/// unfinished line is a comment, and whether a bad line came.
+#[derive(Drop)]
+pub(crate) struct State {
+    pub(crate) begun: u64,
+    pub(crate) kept: ArrayVec<u8, 81>,
+    pub(crate) comment: bool,
+    pub(crate) failed: bool,
+}
+
+impl State {
+    ghost use Rattle.drive_text.specs.Part.{reading_of, TakesPart, FailsIn};
+
+    /// Before the first byte.
+    pub(crate) fn new() -> State
+        ensures new { reading_of result ≡ record { begun = 0; kept = []; comment = false; failed = false } }
+        ensures taken { HasTaken (reading_of result) [] }
+    {
+        State {
+            begun: 0,
+            kept: ArrayVec::new(),
+            comment: false,
+            failed: false,
+        }
+    }
+
+    /// Takes the first line of a piece with its LF, or the whole piece where it has no LF. Answers
+    /// what is left of the piece.
+    pub(crate) fn take<'a>(
+        &mut self,
+        piece: &'a [u8],
+        out: &mut ArrayVec<Run, 64>,
+    ) -> Result<&'a [u8], BadLine>
+        requires sense { HasSense (reading_of self.old) }
+        requires going { self.old.failed ≡ false }
+        requires few { self.old.begun + 1 < 2 ^ 64 }
+        requires some { 0 < length piece.now }
+        requires room { array_vec_len out.old < 64 }
+        ensures ok { IfOk result (λ rest.
+            TakesPart (reading_of self.old) (reading_of self.new) piece.now rest.now out.old.items out.new.items) }
+        ensures err { IfErr result (λ e. FailsIn (reading_of self.old) (reading_of self.new) piece.now e.line) }
+        ensures out { OnErr result (out.new ≡ out.old) }
+    {
+        let (line, rest) = part_at(piece, b'\n');
+        match rest {
+            Some(rest) => {
+                self.end_line(line, out)?;
+                Ok(rest)
+            }
+            None => {
+                self.keep(line)?;
+                Ok(&line[line.len()..])
+            }
+        }
+    }
+
+    /// Takes the last bytes of a line and its LF, and appends the run of the line, where it has one.
+    fn end_line(&mut self, line: &[u8], out: &mut ArrayVec<Run, 64>) -> Result<(), BadLine>
+        requires sense { HasSense (reading_of self.old) }
+        requires going { self.old.failed ≡ false }
+        requires few { self.old.begun + 1 < 2 ^ 64 }
+        requires one { IsOneLine line.now }
+        requires room { array_vec_len out.old < 64 }
+        ensures ok { IfOk result (λ _.
+            TakesPart (reading_of self.old) (reading_of self.new) (line.now ++ 10 ∷ []) [] out.old.items out.new.items) }
+        ensures err { IfErr result (λ e.
+            FailsIn (reading_of self.old) (reading_of self.new) (line.now ++ 10 ∷ []) e.line) }
+        ensures out { OnErr result (out.new ≡ out.old) }
+    {
+        if self.comment {
+            self.comment = false;
+            return Ok(());
+        }
+        let number = self.number();
+        match self.run_with(line) {
+            None => Err(self.fail(number)),
+            Some(None) => {
+                self.begun = number;
+                Ok(())
+            }
+            Some(Some(run)) => {
+                self.begun = number;
+                out.push(run);
+                Ok(())
+            }
+        }
+    }
+
+    /// Takes bytes of a line that doesn't end in them.
+    fn keep(&mut self, part: &[u8]) -> Result<(), BadLine>
+        requires sense { HasSense (reading_of self.old) }
+        requires going { self.old.failed ≡ false }
+        requires few { self.old.begun + 1 < 2 ^ 64 }
+        requires one { IsOneLine part.now }
+        requires some { 0 < length part.now }
+        ensures ok { IfOk result (λ _. (runs : List Run)
+            → TakesPart (reading_of self.old) (reading_of self.new) part.now [] runs runs) }
+        ensures err { IfErr result (λ e. FailsIn (reading_of self.old) (reading_of self.new) part.now e.line) }
+    {
+        if self.comment {
+            return Ok(());
+        }
+        let number = self.number();
+        if self.begins_comment(part) {
+            self.begun = number;
+            self.comment = true;
+            return Ok(());
+        }
+        match self.kept.try_extend_from_slice(part) {
+            Err(_) => Err(self.fail(number)),
+            Ok(()) => {
+                if is_long(without_carriage_return(self.kept.as_slice())) {
+                    return Err(self.fail(number));
+                }
+                self.begun = number;
+                Ok(())
+            }
+        }
+    }
+
+    /// Whether these bytes begin a comment.
+    fn begins_comment(&self, part: &[u8]) -> bool
+        requires { is_comment self.now.kept.items ≡ false }
+        ensures { result ≡ is_comment (self.now.kept.items ++ part.now) }
+    {
+        if self.kept.is_empty() {
+            fields::is_comment(part)
+        } else {
+            false
+        }
+    }
+
+    /// The number of the line in which the next byte stands.
+    fn number(&self) -> u64
+        requires { self.now.begun + 1 < 2 ^ 64 }
+        ensures { result ≡ (if length self.now.kept.items == 0 then self.now.begun + 1 else self.now.begun) }
+    {
+        if self.kept.is_empty() {
+            self.begun + 1
+        } else {
+            self.begun
+        }
+    }
+
+    /// The run of the line that these bytes end, where it has one. Nothing of the line is kept.
+    ///
+    /// `None` where it is no line of a drive.
+    fn run_with(&mut self, line: &[u8]) -> Option<Option<Run>>
+        requires { is_comment self.old.kept.items ≡ false }
+        ensures run { Gives option_to_list result (line_runs (self.old.kept.items ++ line.now)) }
+        ensures state { reading_of self.new
+            ≡ record { begun = self.old.begun; kept = []; comment = self.old.comment; failed = self.old.failed } }
+    {
+        if self.kept.is_empty() {
+            return run_of_line(line);
+        }
+        match self.kept.try_extend_from_slice(line) {
+            Ok(()) => {
+                let run = run_of_line(self.kept.as_slice());
+                self.kept.clear();
+                run
+            }
+            Err(_) => {
+                self.kept.clear();
+                None
+            }
+        }
+    }
+
+    /// Fails at the line of this number, and keeps nothing.
+    fn fail(&mut self, number: u64) -> BadLine
+        ensures line { result.line ≡ number }
+        ensures failed { HasFailed (reading_of self.new) number }
+    {
+        self.begun = number;
+        self.kept.clear();
+        self.comment = false;
+        self.failed = true;
+        BadLine { line: number }
+    }
+}
