@@ -1,18 +1,17 @@
 -- Atoms are read from their forms.
-use Rattle.std.proofs.Common.{◌≡◌, ◌⊎◌, inl, inr, ℕ, ◌≤◌, true, List, [], ◌∷◌, ◌++◌, Option, Some, None, refl, ap, sym, ◌∙◌, subst, arith, codes}
+use Rattle.std.proofs.Common.{◌≡◌, inl, inr, ℕ, zero, suc, ◌≤◌, true, List, [], ◌∷◌, ◌++◌, Option, Some, None, refl, ap, sym, ◌∙◌, subst, arith, codes}
 use Rattle.std.specs.Str.{bytes_eq}
-use Rattle.std.proofs.lemmas.Bool.{cases_eq}
-use Rattle.tariff_syntax.specs.Atom.{weekday_of, weekday_first, numbered_first, time_first, until_weekday, days_first, dates_first, by_unit, after_first, atom_named}
+use Rattle.tariff_syntax.specs.Atom.{weekday_read, weekday_first, numbered_first, time_first, until_weekday, days_first, dates_first, by_unit, after_first, atom_named}
 use Rattle.tariff_syntax.specs.Condition.{Condition, and, or, not, position, zone, time, day, date, holiday, after_distance, after_time}
-use Rattle.tariff_syntax.specs.Figure.{small_number, amount_of, minute_of, date_of, number_first, amount_first, minute_first, date_first}
+use Rattle.tariff_syntax.specs.Figure.{small_number, amount_read, minute_read, date_read, number_first, amount_first, minute_first, date_first}
 use Rattle.tariff_syntax.specs.Forms.{IsNumber, IsDate, IsMinute, IsAmount, IsWeekday, AreWeekdays, IsAtom}
 use Rattle.tariff_syntax.specs.Grammar.{Reader, factor_by}
 use Rattle.tariff_syntax.specs.Weight.{weight}
-use Rattle.tariff_syntax.specs.PrintedCondition.{day_word}
+use Rattle.tariff_syntax.specs.Weekdays.{day_word}
 use Rattle.tariff_syntax.specs.Token.{Token, word, figure, sign}
 use Rattle.tariff_syntax.specs.Words.{after_word, after_sign, word_first}
 use Rattle.tariff_syntax.proofs.FigureLaws.{small_is, small_again, pair_is, date_again, minute_is, minute_again, amount_is, amount_again, figure_as_is, figure_as_here}
-use Rattle.tariff_syntax.proofs.Tools.{bind_some, chosen, same_text, after_word_is, after_word_here, after_sign_is, after_sign_here, word_first_is, word_first_here, some_same}
+use Rattle.tariff_syntax.proofs.Tools.{bind_some, by_word, after_word_is, after_word_here, after_sign_is, after_sign_here, word_first_is, word_first_here, some_same}
 
 pub number_is : (least most : ℕ) (ts : List Token) (x : ℕ × List Token) → number_first least most ts ≡ Some x → (f : List ℕ) × (ts ≡ figure f ∷ x.1) × IsNumber least most f x.0
 unfolding number_first
@@ -24,86 +23,66 @@ number_here least most f n rest h = figure_as_here (small_number least most) f n
 
 pub amounts_are : (decimals : ℕ) (ts : List Token) (x : ℕ × List Token) → amount_first decimals ts ≡ Some x → (f : List ℕ) × (ts ≡ figure f ∷ x.1) × IsAmount decimals f x.0
 unfolding amount_first
-amounts_are decimals ts x e = let is = figure_as_is (amount_of decimals) ts x e in (is.0, is.1, amount_is decimals is.0 x.0 is.2)
+amounts_are decimals ts x e = let is = figure_as_is (amount_read decimals) ts x e in (is.0, is.1, amount_is decimals is.0 x.0 is.2)
 
 pub amount_here : (decimals : ℕ) (f : List ℕ) (n : ℕ) (rest : List Token) → IsAmount decimals f n → amount_first decimals (figure f ∷ rest) ≡ Some (n, rest)
 unfolding amount_first
-amount_here decimals f n rest h = figure_as_here (amount_of decimals) f n rest (amount_again decimals f n h)
+amount_here decimals f n rest h = figure_as_here (amount_read decimals) f n rest (amount_again decimals f n h)
 
 minutes_are : (ts : List Token) (x : ℕ × List Token) → minute_first ts ≡ Some x → (f : List ℕ) × (ts ≡ figure f ∷ x.1) × IsMinute f x.0
 unfolding minute_first
-minutes_are ts x e = let is = figure_as_is minute_of ts x e in (is.0, is.1, minute_is is.0 x.0 is.2)
+minutes_are ts x e = let is = figure_as_is minute_read ts x e in (is.0, is.1, minute_is is.0 x.0 is.2)
 
 minute_here : (f : List ℕ) (n : ℕ) (rest : List Token) → IsMinute f n → minute_first (figure f ∷ rest) ≡ Some (n, rest)
 unfolding minute_first
-minute_here f n rest h = figure_as_here minute_of f n rest (minute_again f n h)
+minute_here f n rest h = figure_as_here minute_read f n rest (minute_again f n h)
 
 dates_are : (ts : List Token) (x : (ℕ × ℕ) × List Token) → date_first ts ≡ Some x → (f : List ℕ) × (ts ≡ figure f ∷ x.1) × IsDate f x.0.0 x.0.1
 unfolding date_first
-dates_are ts x e = let is = figure_as_is date_of ts x e in (is.0, is.1, pair_is (codes "-") is.0 x.0.0 x.0.1 is.2)
+dates_are ts x e = let is = figure_as_is date_read ts x e in (is.0, is.1, pair_is (codes "-") is.0 x.0.0 x.0.1 is.2)
 
 date_here : (f : List ℕ) (m n : ℕ) (rest : List Token) → IsDate f m n → date_first (figure f ∷ rest) ≡ Some ((m, n), rest)
 unfolding date_first
-date_here f m n rest h = figure_as_here date_of f (m, n) rest (date_again f m n h)
+date_here f m n rest h = figure_as_here date_read f (m, n) rest (date_again f m n h)
 
-pub seven : (n : ℕ) → 1 ≤ n → n ≤ 7 → (n ≡ 1) ⊎ ((n ≡ 2) ⊎ ((n ≡ 3) ⊎ ((n ≡ 4) ⊎ ((n ≡ 5) ⊎ ((n ≡ 6) ⊎ (n ≡ 7))))))
-seven n low high = elim (cases_eq n 1) [ inl e ↦ inl e | inr a ↦ inr (elim (cases_eq n 2) [ inl e ↦ inl e | inr b ↦ inr (elim (cases_eq n 3) [ inl e ↦ inl e | inr c ↦ inr (elim (cases_eq n 4) [ inl e ↦ inl e | inr d ↦ inr (elim (cases_eq n 5) [ inl e ↦ inl e | inr f ↦ inr (elim (cases_eq n 6) [ inl e ↦ inl e | inr g ↦ inr (let last : n ≡ 7 = omega arith in last) ]) ]) ]) ]) ]) ]
+-- what is so of the seven weekdays is so of each
+pub each_day : (P : ℕ → Type 0) → P 1 → P 2 → P 3 → P 4 → P 5 → P 6 → P 7 → (n : ℕ) → 1 ≤ n → n ≤ 7 → P n
+each_day P a b c d e f g zero low high = absurd (omega arith)
+each_day P a b c d e f g (suc zero) low high = a
+each_day P a b c d e f g (suc (suc zero)) low high = b
+each_day P a b c d e f g (suc (suc (suc zero))) low high = c
+each_day P a b c d e f g (suc (suc (suc (suc zero)))) low high = d
+each_day P a b c d e f g (suc (suc (suc (suc (suc zero))))) low high = e
+each_day P a b c d e f g (suc (suc (suc (suc (suc (suc zero)))))) low high = f
+each_day P a b c d e f g (suc (suc (suc (suc (suc (suc (suc zero))))))) low high = g
+each_day P a b c d e f g (suc (suc (suc (suc (suc (suc (suc (suc n)))))))) low high = absurd (omega arith)
 
-named_day : (name text : List ℕ) (k n : ℕ) → 1 ≤ k → k ≤ 7 → text ≡ day_word k → bytes_eq name text ≡ true → Some k ≡ Some n → IsWeekday name n
-named_day name text k n low high is e same =
-    let number : k ≡ n = cc in
-    subst (IsWeekday name) number (low, high, same_text name text e ∙ is)
+named_day : (name : List ℕ) (k n : ℕ) → 1 ≤ k → k ≤ 7 → name ≡ day_word k → Some k ≡ Some n → IsWeekday name n
+named_day name k n low high is e = subst (IsWeekday name) (some_same k n e) (low, high, is)
 
-pub weekday_is : (name : List ℕ) (n : ℕ) → weekday_of name ≡ Some n → IsWeekday name n
-weekday_is name n e = elim (chosen (bytes_eq name (codes "mon")) (Some 1) _ (Some n) e) [
-  | inl a ↦ named_day name (codes "mon") 1 n (omega arith) (omega arith) refl a.0 a.1
-  | inr a ↦ elim (chosen (bytes_eq name (codes "tue")) (Some 2) _ (Some n) a.1) [
-    | inl b ↦ named_day name (codes "tue") 2 n (omega arith) (omega arith) refl b.0 b.1
-    | inr b ↦ elim (chosen (bytes_eq name (codes "wed")) (Some 3) _ (Some n) b.1) [
-      | inl c ↦ named_day name (codes "wed") 3 n (omega arith) (omega arith) refl c.0 c.1
-      | inr c ↦ elim (chosen (bytes_eq name (codes "thu")) (Some 4) _ (Some n) c.1) [
-        | inl d ↦ named_day name (codes "thu") 4 n (omega arith) (omega arith) refl d.0 d.1
-        | inr d ↦ elim (chosen (bytes_eq name (codes "fri")) (Some 5) _ (Some n) d.1) [
-          | inl f ↦ named_day name (codes "fri") 5 n (omega arith) (omega arith) refl f.0 f.1
-          | inr f ↦ elim (chosen (bytes_eq name (codes "sat")) (Some 6) _ (Some n) f.1) [
-            | inl g ↦ named_day name (codes "sat") 6 n (omega arith) (omega arith) refl g.0 g.1
-            | inr g ↦ elim (chosen (bytes_eq name (codes "sun")) (Some 7) None (Some n) g.1) [
-              | inl h ↦ named_day name (codes "sun") 7 n (omega arith) (omega arith) refl h.0 h.1
-              | inr h ↦ absurd (let e : None ≡ Some n = h.1 in cc)
-            ]
-          ]
-        ]
-      ]
-    ]
-  ]
-]
+pub weekday_is : (name : List ℕ) (n : ℕ) → weekday_read name ≡ Some n → IsWeekday name n
+weekday_is name n e =
+    let P : List ℕ → Type 0 = λ w. IsWeekday w n in
+    by_word P name (codes "mon") _ _ n e (named_day (codes "mon") 1 n (omega arith) (omega arith) refl) (
+    λ e. by_word P name (codes "tue") _ _ n e (named_day (codes "tue") 2 n (omega arith) (omega arith) refl) (
+    λ e. by_word P name (codes "wed") _ _ n e (named_day (codes "wed") 3 n (omega arith) (omega arith) refl) (
+    λ e. by_word P name (codes "thu") _ _ n e (named_day (codes "thu") 4 n (omega arith) (omega arith) refl) (
+    λ e. by_word P name (codes "fri") _ _ n e (named_day (codes "fri") 5 n (omega arith) (omega arith) refl) (
+    λ e. by_word P name (codes "sat") _ _ n e (named_day (codes "sat") 6 n (omega arith) (omega arith) refl) (
+    λ e. by_word P name (codes "sun") _ _ n e (named_day (codes "sun") 7 n (omega arith) (omega arith) refl) (
+    λ e. absurd (let none : None ≡ Some n = e in cc))))))))
 
-day_again : (n : ℕ) → 1 ≤ n → n ≤ 7 → weekday_of (day_word n) ≡ Some n
-day_again n low high = elim (seven n low high) [
-  | inl e ↦ rw e refl
-  | inr a ↦ elim a [
-    | inl e ↦ rw e refl
-    | inr b ↦ elim b [
-      | inl e ↦ rw e refl
-      | inr c ↦ elim c [
-        | inl e ↦ rw e refl
-        | inr d ↦ elim d [
-          | inl e ↦ rw e refl
-          | inr f ↦ elim f [ inl e ↦ rw e refl | inr e ↦ rw e refl ]
-        ]
-      ]
-    ]
-  ]
-]
+day_again : (n : ℕ) → 1 ≤ n → n ≤ 7 → weekday_read (day_word n) ≡ Some n
+day_again = each_day (λ (n : ℕ). weekday_read (day_word n) ≡ Some n) refl refl refl refl refl refl refl
 
-weekday_again : (name : List ℕ) (n : ℕ) → IsWeekday name n → weekday_of name ≡ Some n
-weekday_again name n h = ap weekday_of h.2 ∙ day_again n h.0 h.1
+weekday_again : (name : List ℕ) (n : ℕ) → IsWeekday name n → weekday_read name ≡ Some n
+weekday_again name n h = ap weekday_read h.2 ∙ day_again n h.0 h.1
 
 weekdays_are : (ts : List Token) (x : ℕ × List Token) → weekday_first ts ≡ Some x → (name : List ℕ) × (ts ≡ word name ∷ x.1) × IsWeekday name x.0
 unfolding weekday_first
 weekdays_are ts x e =
     let one = bind_some (word_first ts) _ x e in
-    let two = bind_some (weekday_of one.0.0) _ x one.2 in
+    let two = bind_some (weekday_read one.0.0) _ x one.2 in
     let found = some_same (two.0, one.0.1) x two.2 in
     let value : two.0 ≡ x.0 = ap (λ (p : ℕ × List Token). p.0) found in
     let rest : one.0.1 ≡ x.1 = ap (λ (p : ℕ × List Token). p.1) found in
@@ -198,34 +177,19 @@ after_is ts x e =
     let is = unit_is one.0.0 a.0 one.0.1 (after_word (codes "m") one.0.1) x a.2 refl one.2 in
     (is.0, a.1 ∙ is.1, is.2)
 
-named : (name text : List ℕ) (ts : List Token) (x : Condition × List Token) → bytes_eq name text ≡ true → Used text ts x → Used name ts x
-named name text ts x same h = subst (λ (w : List ℕ). Used w ts x) (sym (same_text name text same)) h
-
 -- an atom that is read has the form of one
 pub atom_is : (name : List ℕ) (ts : List Token) (x : Condition × List Token) → atom_named name ts ≡ Some x → (used : List Token) × (ts ≡ used ++ x.1) × IsAtom (word name ∷ used) x.0
 unfolding atom_named
-atom_is name ts x e = elim (chosen (bytes_eq name (codes "position")) (numbered_first position ts) _ (Some x) e) [
-  | inl a ↦ named name (codes "position") ts x a.0 (position_is ts x a.1)
-  | inr a ↦ elim (chosen (bytes_eq name (codes "zone")) (numbered_first zone ts) _ (Some x) a.1) [
-    | inl b ↦ named name (codes "zone") ts x b.0 (zone_is ts x b.1)
-    | inr b ↦ elim (chosen (bytes_eq name (codes "time")) (time_first ts) _ (Some x) b.1) [
-      | inl c ↦ named name (codes "time") ts x c.0 (time_is ts x c.1)
-      | inr c ↦ elim (chosen (bytes_eq name (codes "day")) (days_first ts) _ (Some x) c.1) [
-        | inl d ↦ named name (codes "day") ts x d.0 (days_are ts x d.1)
-        | inr d ↦ elim (chosen (bytes_eq name (codes "date")) (dates_first ts) _ (Some x) d.1) [
-          | inl f ↦ named name (codes "date") ts x f.0 (date_is ts x f.1)
-          | inr f ↦ elim (chosen (bytes_eq name (codes "holiday")) (Some (holiday, ts)) _ (Some x) f.1) [
-            | inl g ↦ named name (codes "holiday") ts x g.0 (subst (Used (codes "holiday") ts) (some_same (holiday, ts) x g.1) ([], refl, refl))
-            | inr g ↦ elim (chosen (bytes_eq name (codes "after")) (after_first ts) None (Some x) g.1) [
-              | inl h ↦ named name (codes "after") ts x h.0 (after_is ts x h.1)
-              | inr h ↦ absurd (let e : None ≡ Some x = h.1 in cc)
-            ]
-          ]
-        ]
-      ]
-    ]
-  ]
-]
+atom_is name ts x e =
+    let P : List ℕ → Type 0 = λ w. Used w ts x in
+    by_word P name (codes "position") _ _ x e (position_is ts x) (
+    λ e. by_word P name (codes "zone") _ _ x e (zone_is ts x) (
+    λ e. by_word P name (codes "time") _ _ x e (time_is ts x) (
+    λ e. by_word P name (codes "day") _ _ x e (days_are ts x) (
+    λ e. by_word P name (codes "date") _ _ x e (date_is ts x) (
+    λ e. by_word P name (codes "holiday") _ _ x e (λ e. subst (Used (codes "holiday") ts) (some_same (holiday, ts) x e) ([], refl, refl)) (
+    λ e. by_word P name (codes "after") _ _ x e (after_is ts x) (
+    λ e. absurd (let none : None ≡ Some x = e in cc))))))))
 
 days_again : (days : List Token) (from to : ℕ) (rest : List Token) → after_sign (codes "..") rest ≡ None → AreWeekdays days from to → days_first (days ++ rest) ≡ Some (day from to, rest)
 unfolding days_first
@@ -256,16 +220,27 @@ atom_again factors conditions ts (and left right) rest stops h = absurd h
 atom_again factors conditions ts (or left right) rest stops h = absurd h
 atom_again factors conditions ts (not inner) rest stops h = absurd h
 
--- an atom counts
-pub atom_counts : (ts : List Token) (c : Condition) → IsAtom ts c → 1 ≤ weight ts
-atom_counts ts (position n) h = rw h.1 (omega arith)
-atom_counts ts (zone n) h = rw h.1 (omega arith)
-atom_counts ts (time from to) h = rw h.2 (omega arith)
-atom_counts ts (day from to) h = rw h.1 (omega arith)
-atom_counts ts (date from_month from_date to_month to_date) h = rw h.2 (omega arith)
-atom_counts ts holiday h = rw h (omega arith)
-atom_counts ts (after_distance n) h = rw h.1 (omega arith)
-atom_counts ts (after_time n) h = rw h.1 (omega arith)
-atom_counts ts (and left right) h = absurd h
-atom_counts ts (or left right) h = absurd h
-atom_counts ts (not inner) h = absurd h
+-- the name of a weekday doesn't count
+pub day_light : (n : ℕ) → 1 ≤ n → n ≤ 7 → weight (word (day_word n) ∷ []) ≡ 0
+day_light = each_day (λ (n : ℕ). weight (word (day_word n) ∷ []) ≡ 0) refl refl refl refl refl refl refl
+
+weekday_light : (name : List ℕ) (n : ℕ) → IsWeekday name n → weight (word name ∷ []) ≡ 0
+weekday_light name n h = rw h.2 (day_light n h.0 h.1)
+
+weekdays_light : (ts : List Token) (from to : ℕ) → AreWeekdays ts from to → weight ts ≡ 0
+weekdays_light ts from to (inl h) = rw h.1 (weekday_light h.0 from h.2)
+weekdays_light ts from to (inr h) = rw h.2 (omega (arith, weekday_light h.0 from h.3, weekday_light h.1 to h.4))
+
+-- an atom counts once
+pub atom_weighs : (ts : List Token) (c : Condition) → IsAtom ts c → weight ts ≡ 1
+atom_weighs ts (position n) h = rw h.1 (omega arith)
+atom_weighs ts (zone n) h = rw h.1 (omega arith)
+atom_weighs ts (time from to) h = rw h.2 (omega arith)
+atom_weighs ts (day from to) h = rw h.1 (omega (arith, weekdays_light h.0 from to h.2))
+atom_weighs ts (date from_month from_date to_month to_date) h = rw h.2 (omega arith)
+atom_weighs ts holiday h = rw h (omega arith)
+atom_weighs ts (after_distance n) h = rw h.1 (omega arith)
+atom_weighs ts (after_time n) h = rw h.1 (omega arith)
+atom_weighs ts (and left right) h = absurd h
+atom_weighs ts (or left right) h = absurd h
+atom_weighs ts (not inner) h = absurd h

@@ -1,20 +1,32 @@
 -- What is a condition is read.
-use Rattle.std.proofs.Common.{◌≡◌, ℕ, ◌+◌, ◌-◌, ◌≤◌, List, [], ◌∷◌, ◌++◌, Some, None, refl, ap, ◌∙◌, arith, codes, append_assoc}
+use Rattle.std.proofs.Common.{◌≡◌, ℕ, ◌+◌, ◌-◌, ◌≤◌, List, [], ◌∷◌, ◌++◌, Some, None, refl, ap, sym, ◌∙◌, arith, codes, append_assoc}
 use Rattle.tariff_syntax.specs.Condition as tree
 use Rattle.tariff_syntax.specs.Condition.{Condition}
 use Rattle.tariff_syntax.specs.Grammar.{chain_on, and_joined, or_joined, term_by, condition_by, factor_first}
 use Rattle.tariff_syntax.specs.Weight.{weight}
-use Rattle.tariff_syntax.specs.IsCondition.{IsCondition, atom, negation, parentheses, one_factor, conjunction, one_term, disjunction}
+use Rattle.tariff_syntax.specs.IsCondition.{IsCondition, atom, negation, parentheses, one_factor, conjunction, one_term, disjunction, size_of}
 use Rattle.tariff_syntax.specs.PrintedCondition.{Place, whole, term, factor}
 use Rattle.tariff_syntax.specs.Token.{Token, word, sign}
 use Rattle.tariff_syntax.specs.Words.{after_word, after_sign}
-use Rattle.tariff_syntax.proofs.AtomLaws.{atom_again, atom_counts}
+use Rattle.tariff_syntax.proofs.AtomLaws.{atom_again, atom_weighs}
 use Rattle.tariff_syntax.proofs.GrammarSteps.{chain_ends, chain_goes, factor_step}
 use Rattle.tariff_syntax.proofs.Tools.{after_word_here, after_sign_here}
 
 pub weight-append : (xs ys : List Token) → weight (xs ++ ys) ≡ weight xs + weight ys
 weight-append [] ys = omega arith
 weight-append (x ∷ xs) ys = omega (arith, weight-append xs ys)
+
+-- the reader counts, before it reads, what a condition is made of
+pub size_is : (place : Place) (ts : List Token) (c : Condition) (h : IsCondition place ts c) → size_of place ts c h ≡ weight ts
+size_is factor ts c (atom ts' c' h) = sym (atom_weighs ts' c' h)
+size_is factor ts c (negation ts' c' h) = omega (arith, size_is factor ts' c' h)
+size_is factor ts c (parentheses ts' c' h) = omega (arith, weight-append ts' (sign (codes ")") ∷ []), size_is whole ts' c' h)
+size_is term ts c (one_factor ts' c' h) = size_is factor ts' c' h
+size_is term ts c (conjunction left right p q h g) =
+    omega (arith, weight-append left (word (codes "and") ∷ right), size_is term left p h, size_is factor right q g)
+size_is whole ts c (one_term ts' c' h) = size_is term ts' c' h
+size_is whole ts c (disjunction left right p q h g) =
+    omega (arith, weight-append left (word (codes "or") ∷ right), size_is whole left p h, size_is term right q g)
 
 -- nothing follows that a condition of the place goes on with
 abbrev pub Free : Place → List Token → Type 0
@@ -84,8 +96,8 @@ parentheses_read depth ts c rest some e =
 
 claimed : (place : Place) (ts : List Token) (c : Condition) → IsCondition place ts c → (depth : ℕ) → weight ts ≤ depth → depth ≤ 64 → Claim place depth ts c
 claimed factor ts c (atom ts' c' h) depth few deep =
-    let counts = atom_counts ts' c' h in
-    (counts, λ rest free. factor_step depth (depth - 1) (ts' ++ rest) (omega arith) ∙ atom_again (factor_first (depth - 1)) (condition_by (factor_first (depth - 1))) ts' c' rest free h)
+    let counts = atom_weighs ts' c' h in
+    (omega (arith, counts), λ rest free. factor_step depth (depth - 1) (ts' ++ rest) (omega arith) ∙ atom_again (factor_first (depth - 1)) (condition_by (factor_first (depth - 1))) ts' c' rest free h)
 claimed factor ts c (negation ts' c' h) depth few deep =
     let inner = claimed factor ts' c' h (depth - 1) (omega arith) (omega arith) in
     (omega arith, λ rest free. negation_read depth ts' c' rest (omega arith) (inner.1 rest free))

@@ -3,7 +3,7 @@ use Rattle.std.proofs.Common.{◌≡◌, ℕ, ◌+◌, ◌<◌, ◌^◌, List, l
 use Rattle.std.proofs.lemmas.Int.Digits.{digits_value-lt}
 use Rattle.std.specs.Str.Parse.{digits_value}
 use Rattle.taxi_units.specs.Number.{number_at}
-use Rattle.taxi_units.proofs.Numbers.{numbers_are_read_by_their_digits}
+use Rattle.taxi_units.proofs.Laws.{numbers_are_read_by_their_digits}
 
 -- a number of so many digits is small
 pub few_digits : (text rest : List ℕ) (value width : ℕ) → number_at text ≡ Some (value, rest) → length text ≡ width + length rest → value < 10 ^ width

@@ -5,9 +5,8 @@ use Rattle.std.proofs.lemmas.Bool.{and_parts, leb-true, le-leb, eqb-true, eq-eqb
 use Rattle.taxi_units.specs.Number.{number_at, decimal_read, NoDigitFirst}
 use Rattle.taxi_units.specs.Reading.{word_at}
 use Rattle.taxi_units.specs.declared.decimal.NumberFault.{NumberFault}
-use Rattle.taxi_units.proofs.Numbers.{numbers_are_read_by_their_digits}
-use Rattle.taxi_units.proofs.Words.{words_are_read_by_their_text, word_again}
-use Rattle.tariff_syntax.specs.Figure.{where_small, small_number, where_wide, digits_at, pair_of, date_of, year_date_of, where_of_a_day, minute_of, amount_or_none, amount_of, figure_as}
+use Rattle.taxi_units.proofs.Laws.{decimals_are_read_by_their_form, numbers_are_read_by_their_digits, words_are_read_by_their_text}
+use Rattle.tariff_syntax.specs.Figure.{where_small, small_number, where_wide, digits_at, pair_read, date_read, year_date_read, where_of_a_day, minute_read, amount_or_none, amount_read, figure_as}
 use Rattle.tariff_syntax.specs.Forms.{IsNumber, IsDigits, IsPair, IsDate, IsYearDate, IsMinute, IsAmount}
 use Rattle.tariff_syntax.specs.Token.{Token, figure}
 use Rattle.tariff_syntax.specs.Words.{figure_first}
@@ -40,6 +39,9 @@ small_again least most text n h =
     let read : number_at text ≡ Some (n, []) = (numbers_are_read_by_their_digits text [] n).1 (text, sym (append_none text), h.0, omega (arith, h.1), h.2, tt) in
     rw (read, le-leb _ _ h.1, le-leb _ _ h.3, le-leb _ _ h.4) refl
 
+word_again : (word rest : List ℕ) → word_at word (word ++ rest) ≡ Some rest
+word_again word rest = (words_are_read_by_their_text word (word ++ rest) rest).1 refl
+
 -- digits at the front
 abbrev IsFront : (width : ℕ) → List ℕ → ℕ → List ℕ → Type 0
 IsFront width text n rest = (x : List ℕ) × (text ≡ x ++ rest) × IsDigits width x n × NoDigitFirst rest
@@ -63,8 +65,8 @@ digits_again width x rest n few h stops =
     let wide : length (x ++ rest) ≡ width + length rest = omega (arith, length-append x rest, h.1) in
     rw (read, eq-eqb _ _ wide) refl
 
-pub pair_is : (between text : List ℕ) (first second : ℕ) → pair_of between text ≡ Some (first, second) → IsPair between text first second
-unfolding pair_of
+pub pair_is : (between text : List ℕ) (first second : ℕ) → pair_read between text ≡ Some (first, second) → IsPair between text first second
+unfolding pair_read
 pair_is between text first second e =
     let one = bind_some (digits_at 2 text) _ (first, second) e in
     let two = bind_some (word_at between one.0.1) _ (first, second) one.2 in
@@ -78,8 +80,8 @@ pair_is between text first second e =
     let second_is : three.0.0 ≡ second = ap (λ (p : ℕ × ℕ). p.1) end.1 in
     (a.0, b.0, a.1 ∙ ap (λ (ys : List ℕ). a.0 ++ ys) (between_is ∙ ap (λ (ys : List ℕ). between ++ ys) last), subst (IsDigits 2 a.0) first_is a.2, subst (IsDigits 2 b.0) second_is b.2)
 
-pub pair_again : (between text : List ℕ) (first second : ℕ) → ((y : List ℕ) → NoDigitFirst (between ++ y)) → IsPair between text first second → pair_of between text ≡ Some (first, second)
-unfolding pair_of
+pub pair_again : (between text : List ℕ) (first second : ℕ) → ((y : List ℕ) → NoDigitFirst (between ++ y)) → IsPair between text first second → pair_read between text ≡ Some (first, second)
+unfolding pair_read
 pair_again between text first second stops h =
     let x = h.0 in
     let y = h.1 in
@@ -92,15 +94,15 @@ dash_stops y = omega arith
 colon_stops : (y : List ℕ) → NoDigitFirst (codes ":" ++ y)
 colon_stops y = omega arith
 
-pub date_again : (text : List ℕ) (month number : ℕ) → IsDate text month number → date_of text ≡ Some (month, number)
+pub date_again : (text : List ℕ) (month number : ℕ) → IsDate text month number → date_read text ≡ Some (month, number)
 date_again text month number h = pair_again (codes "-") text month number dash_stops h
 
-pub year_date_is : (text : List ℕ) (year month number : ℕ) → year_date_of text ≡ Some (year, month, number) → IsYearDate text year month number
-unfolding year_date_of
+pub year_date_is : (text : List ℕ) (year month number : ℕ) → year_date_read text ≡ Some (year, month, number) → IsYearDate text year month number
+unfolding year_date_read
 year_date_is text year month number e =
     let one = bind_some (digits_at 4 text) _ (year, month, number) e in
     let two = bind_some (word_at (codes "-") one.0.1) _ (year, month, number) one.2 in
-    let three = bind_some (date_of two.0) _ (year, month, number) two.2 in
+    let three = bind_some (date_read two.0) _ (year, month, number) two.2 in
     let a = digits_are 4 text one.0.1 one.0.0 one.1 in
     let dash : one.0.1 ≡ codes "-" ++ two.0 = (words_are_read_by_their_text (codes "-") one.0.1 two.0).0 two.1 in
     let found = some_same (one.0.0, three.0.0, three.0.1) (year, month, number) three.2 in
@@ -108,21 +110,21 @@ year_date_is text year month number e =
     let date_is : three.0 ≡ (month, number) = ap (λ (p : ℕ × ℕ × ℕ). (p.1, p.2)) found in
     (a.0, two.0, a.1 ∙ ap (λ (ys : List ℕ). a.0 ++ ys) dash, subst (IsDigits 4 a.0) year_is a.2, pair_is (codes "-") two.0 month number (three.1 ∙ ap Some date_is))
 
-pub year_date_again : (text : List ℕ) (year month number : ℕ) → IsYearDate text year month number → year_date_of text ≡ Some (year, month, number)
-unfolding year_date_of
+pub year_date_again : (text : List ℕ) (year month number : ℕ) → IsYearDate text year month number → year_date_read text ≡ Some (year, month, number)
+unfolding year_date_read
 year_date_again text year month number h =
     rw (h.2, digits_again 4 h.0 (codes "-" ++ h.1) year (omega arith) h.3 (dash_stops h.1), word_again (codes "-") h.1, date_again h.1 month number h.4) refl
 
-pub minute_is : (text : List ℕ) (minute : ℕ) → minute_of text ≡ Some minute → IsMinute text minute
-unfolding minute_of
+pub minute_is : (text : List ℕ) (minute : ℕ) → minute_read text ≡ Some minute → IsMinute text minute
+unfolding minute_read
 minute_is text minute e =
-    let read = bind_some (pair_of (codes ":") text) where_of_a_day minute e in
+    let read = bind_some (pair_read (codes ":") text) where_of_a_day minute e in
     let test = passed _ (60 * read.0.0 + read.0.1) minute read.2 in
     let parts = and_parts _ _ test.0 in
     (read.0.0, read.0.1, pair_is (codes ":") text read.0.0 read.0.1 read.1, leb-true _ _ parts.0, leb-true _ _ parts.1, sym test.1)
 
-pub minute_again : (text : List ℕ) (minute : ℕ) → IsMinute text minute → minute_of text ≡ Some minute
-unfolding minute_of
+pub minute_again : (text : List ℕ) (minute : ℕ) → IsMinute text minute → minute_read text ≡ Some minute
+unfolding minute_read
 minute_again text minute h =
     rw (pair_again (codes ":") text h.0 h.1 colon_stops h.2, le-leb _ _ h.3, le-leb _ _ h.4) (ap Some (sym h.5))
 
@@ -130,13 +132,13 @@ amount_by : (r : Result ℕ NumberFault) (n : ℕ) → amount_or_none r ≡ Some
 amount_by (Ok m) n e = cc
 amount_by (Err fault) n e = absurd cc
 
-pub amount_is : (decimals : ℕ) (text : List ℕ) (n : ℕ) → amount_of decimals text ≡ Some n → IsAmount decimals text n
-unfolding amount_of
-amount_is decimals text n e = amount_by (decimal_read decimals text) n e
+pub amount_is : (decimals : ℕ) (text : List ℕ) (n : ℕ) → amount_read decimals text ≡ Some n → IsAmount decimals text n
+unfolding amount_read
+amount_is decimals text n e = (decimals_are_read_by_their_form decimals text (Ok n)).0 (amount_by (decimal_read decimals text) n e)
 
-pub amount_again : (decimals : ℕ) (text : List ℕ) (n : ℕ) → IsAmount decimals text n → amount_of decimals text ≡ Some n
-unfolding amount_of
-amount_again decimals text n h = rw h refl
+pub amount_again : (decimals : ℕ) (text : List ℕ) (n : ℕ) → IsAmount decimals text n → amount_read decimals text ≡ Some n
+unfolding amount_read
+amount_again decimals text n h = rw ((decimals_are_read_by_their_form decimals text (Ok n)).1 h) refl
 
 -- a figure that reads as a value stands first
 pub figure_as_is : {A : Type 0} (read : List ℕ → Option A) (ts : List Token) (x : A × List Token) → figure_as read ts ≡ Some x → (f : List ℕ) × (ts ≡ figure f ∷ x.1) × (read f ≡ Some x.0)

@@ -1,19 +1,23 @@
-pub mod AtomLaws
-pub mod ConditionAgain
-pub mod ConditionLaws
-pub mod FigureForms
-pub mod FigureLaws
-pub mod GrammarSteps
-pub mod ItemLaws
-pub mod LineOrder
-pub mod Measures
-pub mod Ranges
-pub mod ReadsLaws
-pub mod ShownConditions
-pub mod ShownFigures
-pub mod ShownGrammar
-pub mod ShownLines
-pub mod Shows
-pub mod TokenLaws
-pub mod TokenOrder
-pub mod Tools
+mod AtomLaws
+mod ConditionAgain
+mod ConditionLaws
+mod FigureForms
+mod FigureLaws
+mod GrammarSteps
+mod ItemLaws
+pub mod Laws
+mod LineOrder
+mod NumberLaws
+mod ParenthesesLaws
+mod PlaceLaws
+mod Ranges
+mod ReadsLaws
+mod ShownConditions
+mod ShownFigures
+mod ShownGrammar
+mod ShownLines
+mod Shows
+mod TextLaws
+mod TokenLaws
+mod TokenOrder
+mod Tools

@@ -77,6 +77,7 @@ entry_small decimals ts (entries.initial amount covers when) h =
     (amount_small decimals h.0 amount h.4, covers_small decimals h.1 covers h.5, when_small h.2 when h.6)
 entry_small decimals ts (entries.rate a b c e when) h =
     (amount_small decimals h.4.0 a h.4.3, amount_small 1 h.4.1 b h.4.4, amount_small decimals h.5.0 c h.5.3, amount_small 1 h.5.1 e h.5.4, when_small h.2 when h.6)
+entry_small decimals ts (entries.minimum amount when) h = (amount_small decimals h.0 amount h.3, when_small h.1 when h.4)
 
 abbrev Small : Line → Type 0
 Small l = IsWritableEntry l.entry

@@ -8,9 +8,10 @@ use Rattle.tariff_syntax.specs.Condition.{Condition, position, zone, time, day, 
 use Rattle.tariff_syntax.specs.Forms.{IsNumber, IsDate, IsMinute, IsAmount, AreWeekdays, IsAtom}
 use Rattle.tariff_syntax.specs.Weight.{weight}
 use Rattle.tariff_syntax.specs.IsCondition.{IsCondition, atom, negation, parentheses, one_factor, conjunction, one_term, disjunction}
-use Rattle.tariff_syntax.specs.PrintedCondition.{Place, whole, term, factor, and_is_closed, or_is_closed, condition_at, day_word, days_text, minute_text, date_text}
+use Rattle.tariff_syntax.specs.PrintedCondition.{Place, whole, term, factor, and_is_closed, or_is_closed, condition_at, days_text, minute_text, date_text}
 use Rattle.tariff_syntax.specs.Token.{Token, word, figure, sign}
-use Rattle.tariff_syntax.proofs.AtomLaws.{atom_counts, seven}
+use Rattle.tariff_syntax.specs.Weekdays.{day_word}
+use Rattle.tariff_syntax.proofs.AtomLaws.{atom_weighs, day_light, each_day}
 use Rattle.tariff_syntax.proofs.ConditionAgain.{weight-append}
 use Rattle.tariff_syntax.proofs.ShownFigures.{decimal_text, money_is_text, amount_small, amount_again, number_again, pair_figure, date_shown, minute_shown}
 use Rattle.tariff_syntax.proofs.Shows.{Shows, Ready, blank, shown_word, letters_test, figure_shows, IsFigureText, dots}
@@ -88,7 +89,7 @@ as_whole (after_time n) w h = h
 
 -- a condition has no more of them printed than where it stands
 pub fits : (place : Place) (ts : List Token) (c : Condition) → IsCondition place ts c → Fits place c (weight ts)
-fits factor ts c (atom ts' c' h) = atom_fits ts' c' h (atom_counts ts' c' h)
+fits factor ts c (atom ts' c' h) = atom_fits ts' c' h (omega (arith, atom_weighs ts' c' h))
 fits factor ts c (negation ts' c' h) = (weight ts', fits factor ts' c' h, omega arith)
 fits factor ts c (parentheses ts' c' h) = closes c' (weight ts') _ (omega (arith, weight-append ts' (sign (codes ")") ∷ []))) (fits whole ts' c' h)
 fits term ts c (one_factor ts' c' h) = as_term c' (weight ts') (fits factor ts' c' h)
@@ -116,22 +117,7 @@ lift term ts c h = one_factor ts c h
 lift whole ts c h = one_term ts c (one_factor ts c h)
 
 day_letters : (n : ℕ) → 1 ≤ n → n ≤ 7 → letters_test (day_word n) ≡ true
-day_letters n low high = elim (seven n low high) [
-  | inl e ↦ rw e refl
-  | inr a ↦ elim a [
-    | inl e ↦ rw e refl
-    | inr b ↦ elim b [
-      | inl e ↦ rw e refl
-      | inr c ↦ elim c [
-        | inl e ↦ rw e refl
-        | inr d ↦ elim d [
-          | inl e ↦ rw e refl
-          | inr f ↦ elim f [ inl e ↦ rw e refl | inr e ↦ rw e refl ]
-        ]
-      ]
-    ]
-  ]
-]
+day_letters = each_day (λ (n : ℕ). letters_test (day_word n) ≡ true) refl refl refl refl refl refl refl
 
 days_range : (ts : List Token) (from to : ℕ) → AreWeekdays ts from to → (1 ≤ from) × (from ≤ 7) × (1 ≤ to) × (to ≤ 7)
 days_range ts from to (inl h) = (h.2.0, h.2.1, omega (arith, h.2.0, h.3), omega (arith, h.2.1, h.3))
@@ -141,11 +127,11 @@ days_range ts from to (inr h) = (h.3.0, h.3.1, h.4.0, h.4.1)
 abbrev DaysShown : (from to : ℕ) → Bool → Type 0
 DaysShown from to same = (days : List Token) × AreWeekdays days from to × (weight days ≤ 0) × Show (λ rest. day_word from ++ cond same rest (codes ".." ++ (day_word to ++ rest))) days
 
-days_by : (same : Bool) (from to : ℕ) → (from == to) ≡ same → 1 ≤ from → from ≤ 7 → 1 ≤ to → to ≤ 7 → weight (word (day_word from) ∷ []) ≤ 0 → weight (word (day_word to) ∷ []) ≤ 0 → DaysShown from to same
+days_by : (same : Bool) (from to : ℕ) → (from == to) ≡ same → 1 ≤ from → from ≤ 7 → 1 ≤ to → to ≤ 7 → weight (word (day_word from) ∷ []) ≡ 0 → weight (word (day_word to) ∷ []) ≡ 0 → DaysShown from to same
 days_by true from to e a b c d light lighter = (
   word (day_word from) ∷ [],
   inl (day_word from, refl, (a, b, refl), sym (eqb-true from to e)),
-  light,
+  omega (arith, light),
   λ more ts texts ready. shown_word (day_word from) more ts texts (day_letters from a b) ready,
 )
 days_by false from to e a b c d light lighter = (
@@ -154,24 +140,6 @@ days_by false from to e a b c d light lighter = (
   omega (arith, light, lighter),
   λ more ts texts ready. shown_word (day_word from) (46 ∷ 46 ∷ (day_word to ++ more)) (sign (codes "..") ∷ word (day_word to) ∷ ts) texts (day_letters from a b) (dots (day_word to ++ more) (word (day_word to) ∷ ts) texts (shown_word (day_word to) more ts texts (day_letters to c d) ready)),
 )
-
-day_light : (n : ℕ) → 1 ≤ n → n ≤ 7 → weight (word (day_word n) ∷ []) ≤ 0
-day_light n low high = elim (seven n low high) [
-  | inl e ↦ rw e (omega arith)
-  | inr a ↦ elim a [
-    | inl e ↦ rw e (omega arith)
-    | inr b ↦ elim b [
-      | inl e ↦ rw e (omega arith)
-      | inr c ↦ elim c [
-        | inl e ↦ rw e (omega arith)
-        | inr d ↦ elim d [
-          | inl e ↦ rw e (omega arith)
-          | inr f ↦ elim f [ inl e ↦ rw e (omega arith) | inr e ↦ rw e (omega arith) ]
-        ]
-      ]
-    ]
-  ]
-]
 
 -- an atom is shown
 abbrev pub AtomShown : Condition → Type 0

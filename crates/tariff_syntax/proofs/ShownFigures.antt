@@ -10,9 +10,7 @@ use Rattle.std.proofs.lemmas.Int.Digits.{digits_value-lt}
 use Rattle.std.proofs.lemmas.List.{length-replicate}
 use Rattle.std.proofs.lemmas.Str.Parse.{digit_from_value}
 use Rattle.taxi_units.specs.Number.{money_text, padded_text}
-use Rattle.taxi_units.proofs.Amounts.{amounts_read_back}
-use Rattle.taxi_units.proofs.Form.{decimals_are_read_by_their_form}
-use Rattle.taxi_units.proofs.Written.{digits_of_padded}
+use Rattle.taxi_units.proofs.Laws.{amounts_read_back, decimals_are_read_by_their_form, padded_numbers_are_written_by_their_digits}
 use Rattle.tariff_syntax.specs.Forms.{IsNumber, IsDigits, IsPair, IsDate, IsYearDate, IsMinute, IsAmount}
 use Rattle.tariff_syntax.specs.Token.{begins_with_digit, goes_on}
 use Rattle.tariff_syntax.proofs.Shows.{Goes, IsFigureText}
@@ -58,6 +56,11 @@ joined_text xs ys c h g on = record {
 numeral_of : (n : ℕ) → n ≤ 10 ^ 12 → IsNumeral 10 (decimal n)
 numeral_of n h = (decimal_is_IsNumeral_wide n (omega arith)).0
 
+digits_of_padded : (width n : ℕ) → n < 2 ^ 128 → IsNumeral 10 (padded_text width n) × (digits_value 10 (padded_text width n) ≡ n)
+digits_of_padded width n h =
+    let written = (padded_numbers_are_written_by_their_digits width n (padded_text width n) h).0 refl in
+    (written.digits, written.value_is)
+
 padded_numeral : (width n : ℕ) → n ≤ 10 ^ 12 → IsNumeral 10 (padded_text width n)
 padded_numeral width n h = (digits_of_padded width n (omega arith)).0
 
@@ -73,10 +76,10 @@ money_is_text (suc d) n h =
 
 -- an amount is at most 10^12
 pub amount_small : (d : ℕ) (f : List ℕ) (n : ℕ) → IsAmount d f n → n ≤ 10 ^ 12
-amount_small d f n h = ((decimals_are_read_by_their_form d f (Ok n)).0 h).5
+amount_small d f n h = h.5
 
 pub amount_again : (d n : ℕ) → n ≤ 10 ^ 12 → IsAmount d (money_text d n) n
-amount_again d n h = amounts_read_back d n h
+amount_again d n h = (decimals_are_read_by_their_form d (money_text d n) (Ok n)).0 (amounts_read_back d n h)
 
 pub number_says : (least most n : ℕ) → most ≤ 99 → least ≤ n → n ≤ most → IsNumber least most (decimal n) n
 number_says least most n few low high =

@@ -10,12 +10,13 @@ use Rattle.tariff_syntax.specs.Forms.{IsNumber, IsYearDate}
 use Rattle.tariff_syntax.specs.Weight.{weight}
 use Rattle.tariff_syntax.specs.IsItem.{IsCovers, IsWhen, IsItem, IsDecimals}
 use Rattle.tariff_syntax.specs.TextLines.{lines_of}
-use Rattle.tariff_syntax.specs.Printed.{rounding_word, number_line, step_line, holiday_line, supplement_line, when_text, initial_line, per_text, rate_line, entry_line, lines_text, printed}
+use Rattle.tariff_syntax.specs.Printed.{rounding_word, number_line, step_line, holiday_line, supplement_line, when_text, initial_line, per_text, rate_line, minimum_line, entry_line, lines_text, printed}
 use Rattle.tariff_syntax.specs.PrintedCondition.{whole, condition_at, condition_text}
 use Rattle.tariff_syntax.specs.Reads.{SayLines, SayTariff, Reads}
 use Rattle.tariff_syntax.specs.Renumbered.{renumbered_from, renumbered}
 use Rattle.tariff_syntax.specs.Token.{Token, word, figure, sign}
-use Rattle.tariff_syntax.specs.Tree.{Tree, Line, Entry, step, positions, zones, holiday, supplement, initial, rate}
+use Rattle.tariff_syntax.specs.Tree.{Tree, Line, Entry, step, positions, zones, holiday, supplement, initial, rate, minimum}
+use Rattle.tariff_syntax.proofs.ConditionAgain.{size_is}
 use Rattle.tariff_syntax.proofs.ShownConditions.{fits}
 use Rattle.tariff_syntax.proofs.ShownFigures.{decimal_text, money_is_text, amount_small, amount_again, number_again, number_says, pair_figure, year_figure, year_shown}
 use Rattle.tariff_syntax.proofs.ShownGrammar.{shown}
@@ -57,7 +58,7 @@ when_shown (Some c) ws rest h =
     let texts = lines_of rest in
     let behind = condition_at whole c (codes "\n" ++ rest) in
     let last = subst (λ (us : List Token). Shows behind us texts) (nothing is.used) (is.show (codes "\n" ++ rest) [] texts (line_feed rest)) in
-    (word (codes "when") ∷ is.used, (is.used, refl, is.is, omega (arith, is.few, h.3)), blank (codes "when " ++ behind) (word (codes "when") ∷ is.used) texts (spaced (codes "when") behind is.used texts refl last))
+    (word (codes "when") ∷ is.used, (is.used, refl, is.is, omega (arith, size_is whole is.used c is.is, is.few, size_is whole h.0 c h.2, h.3)), blank (codes "when " ++ behind) (word (codes "when") ∷ is.used) texts (spaced (codes "when") behind is.used texts refl last))
 
 step_shown : (d amount : ℕ) (r : Rounding) (ts : List Token) (rest : List ℕ) → IsItem d ts (step amount r) → LineShown d (step amount r) rest
 unfolding step_line
@@ -167,6 +168,17 @@ rate_shown d a b c e when ts rest h =
       spaced (codes "rate") (per_text d a b (codes " m, " ++ time)) (xs ++ sign (codes ",") ∷ (ys ++ end.0)) texts refl first,
     )
 
+minimum_shown : (d amount : ℕ) (when : Option Condition) (ts : List Token) (rest : List ℕ) → IsItem d ts (minimum amount when) → LineShown d (minimum amount when) rest
+unfolding minimum_line
+minimum_shown d amount when ts rest h =
+    let texts = lines_of rest in
+    let small = amount_small d h.0 amount h.3 in
+    let x = money_text d amount in
+    let end = when_shown when h.1 rest h.4 in
+    let tail = when_text when rest in
+    let first = money_shows d amount tail end.0 texts small end.2 in
+    (word (codes "minimum") ∷ figure x ∷ end.0, (x, end.0, refl, amount_again d amount small, end.1), spaced (codes "minimum") (x ++ tail) (figure x ∷ end.0) texts refl first)
+
 line_shown : (d : ℕ) (x : Entry) (ts : List Token) (rest : List ℕ) → IsItem d ts x → LineShown d x rest
 line_shown d (step amount r) ts rest h = step_shown d amount r ts rest h
 line_shown d (positions n) ts rest h = positions_shown d n h.0 rest h.2
@@ -175,6 +187,7 @@ line_shown d (holiday y m n) ts rest h = holiday_shown d y m n h.0 rest h.2
 line_shown d (supplement number amount most) ts rest h = supplement_shown d number amount most ts rest h
 line_shown d (initial amount covers when) ts rest h = initial_shown d amount covers when ts rest h
 line_shown d (rate a b c e when) ts rest h = rate_shown d a b c e when ts rest h
+line_shown d (minimum amount when) ts rest h = minimum_shown d amount when ts rest h
 
 -- each line of a tariff has the form of an entry somewhere
 abbrev AllSaid : (d : ℕ) → List Line → Type 0

@@ -27,7 +27,7 @@ pub record Ready (more : List ℕ) (ts : List Token) (texts : List (List ℕ)) :
 pub line_feed : (rest : List ℕ) → Ready (10 ∷ rest) [] (lines_of rest)
 line_feed rest = record { shows = record { text = []; cut = refl; spelled = ([], [], refl, tt, tt) }; no_letter = tt; no_figure = tt }
 
-cut_front : (c : ℕ) (more text : List ℕ) (texts : List (List ℕ)) → (c == 10) ≡ false → lines_of more ≡ text ∷ texts → lines_of (c ∷ more) ≡ (c ∷ text) ∷ texts
+pub cut_front : (c : ℕ) (more text : List ℕ) (texts : List (List ℕ)) → (c == 10) ≡ false → lines_of more ≡ text ∷ texts → lines_of (c ∷ more) ≡ (c ∷ text) ∷ texts
 cut_front c more text texts other e = rw (other, e) refl
 
 spelled_blank : (text : List ℕ) (ts : List Token) → IsSpelled text ts → IsSpelled (32 ∷ text) ts

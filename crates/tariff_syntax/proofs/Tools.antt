@@ -1,5 +1,5 @@
 -- Tools for reading that may fail.
-use Rattle.std.proofs.Common.{◌≡◌, ◌⊎◌, inl, inr, ℕ, Bool, true, false, cond, List, [], ◌∷◌, ◌++◌, Option, Some, None, refl, ap}
+use Rattle.std.proofs.Common.{◌≡◌, ◌⊎◌, inl, inr, ℕ, Bool, true, false, cond, List, [], ◌∷◌, ◌++◌, Option, Some, None, refl, ap, sym, subst}
 use Rattle.std.specs.Str.{bytes_eq}
 use Rattle.std.proofs.lemmas.Slice.Eq.{bytes_eq-Decides}
 use Rattle.taxi_units.specs.Reading.{◌>>=◌}
@@ -26,6 +26,13 @@ same_text a b e = (bytes_eq-Decides a b).0 e
 
 pub text_same : (a : List ℕ) → bytes_eq a a ≡ true
 text_same a = (bytes_eq-Decides a a).1 refl
+
+-- what was read is read behind this word, or behind another
+pub by_word : {A : Type 0} (P : List ℕ → Type 0) (name text : List ℕ) (read other : Option A) (x : A) → cond (bytes_eq name text) read other ≡ Some x → (read ≡ Some x → P text) → (other ≡ Some x → P name) → P name
+by_word P name text read other x e here others = elim (chosen (bytes_eq name text) read other (Some x) e) [
+  | inl a ↦ subst P (sym (same_text name text a.0)) (here a.1)
+  | inr a ↦ others a.1
+]
 
 pub ended_is : {A B : Type 0} (ts : List B) (x y : A) → ended ts x ≡ Some y → (ts ≡ []) × (x ≡ y)
 ended_is [] x y e = (refl, cc)

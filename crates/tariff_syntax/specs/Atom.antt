@@ -8,8 +8,8 @@ use Rattle.tariff_syntax.specs.Token.{Token}
 use Rattle.tariff_syntax.specs.Words.{after_word, after_sign, word_first}
 
 -- the weekday that a word names, from 1 for Monday
-abbrev pub weekday_of : List ℕ → Option ℕ
-weekday_of name =
+abbrev pub weekday_read : List ℕ → Option ℕ
+weekday_read name =
     if bytes_eq name (codes "mon") then Some 1
     else (if bytes_eq name (codes "tue") then Some 2
     else (if bytes_eq name (codes "wed") then Some 3
@@ -23,7 +23,7 @@ weekday_of name =
 unfoldable pub weekday_first : List Token → Option (ℕ × List Token)
 weekday_first ts = do
   name ← word_first ts
-  number ← weekday_of name.0
+  number ← weekday_read name.0
   Some (number, name.1)
 
 -- a number from 1 to 9, which makes a condition

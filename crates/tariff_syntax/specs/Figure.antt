@@ -8,7 +8,8 @@ use Rattle.tariff_syntax.specs.Words.{figure_first, ended}
 
 -- a number at the front of a text, where it is the whole text, has at most two digits and is in a range
 abbrev pub where_small : (least most : ℕ) → (text : List ℕ) → ℕ × List ℕ → Option ℕ
-where_small least most text x = if (length x.1 == 0 && (nat_le (length text) 2 && (nat_le least x.0 && nat_le x.0 most))) then Some x.0 else None
+where_small least most text x =
+    if (length x.1 == 0 && (nat_le (length text) 2 && (nat_le least x.0 && nat_le x.0 most))) then Some x.0 else None
 
 -- a number of one or two digits in a range
 unfoldable pub small_number : (least most : ℕ) → List ℕ → Option ℕ
@@ -23,23 +24,23 @@ unfoldable pub digits_at : (width : ℕ) → List ℕ → Option (ℕ × List �
 digits_at width text = number_at text >>= where_wide width text
 
 -- two numbers of two digits with a byte between them
-unfoldable pub pair_of : (between : List ℕ) → List ℕ → Option (ℕ × ℕ)
-pair_of between text = do
+unfoldable pub pair_read : (between : List ℕ) → List ℕ → Option (ℕ × ℕ)
+pair_read between text = do
   first ← digits_at 2 text
   rest ← word_at between first.1
   second ← digits_at 2 rest
   ended second.1 (first.0, second.0)
 
 -- a date of any year: month and date
-abbrev pub date_of : List ℕ → Option (ℕ × ℕ)
-date_of text = pair_of (codes "-") text
+abbrev pub date_read : List ℕ → Option (ℕ × ℕ)
+date_read text = pair_read (codes "-") text
 
 -- a date: year, month and date
-unfoldable pub year_date_of : List ℕ → Option (ℕ × ℕ × ℕ)
-year_date_of text = do
+unfoldable pub year_date_read : List ℕ → Option (ℕ × ℕ × ℕ)
+year_date_read text = do
   year ← digits_at 4 text
   rest ← word_at (codes "-") year.1
-  date ← date_of rest
+  date ← date_read rest
   Some (year.0, date.0, date.1)
 
 -- hours and minutes of a day, as a minute of the day
@@ -47,8 +48,8 @@ abbrev pub where_of_a_day : ℕ × ℕ → Option ℕ
 where_of_a_day x = if (nat_le x.0 23 && nat_le x.1 59) then Some (60 * x.0 + x.1) else None
 
 -- a minute of the day
-unfoldable pub minute_of : List ℕ → Option ℕ
-minute_of text = pair_of (codes ":") text >>= where_of_a_day
+unfoldable pub minute_read : List ℕ → Option ℕ
+minute_read text = pair_read (codes ":") text >>= where_of_a_day
 
 -- an amount, where it was read
 abbrev pub amount_or_none : Result ℕ NumberFault → Option ℕ
@@ -56,8 +57,8 @@ amount_or_none (Ok n) = Some n
 amount_or_none (Err fault) = None
 
 -- an amount of so many decimals
-unfoldable pub amount_of : (decimals : ℕ) → List ℕ → Option ℕ
-amount_of decimals text = amount_or_none (decimal_read decimals text)
+unfoldable pub amount_read : (decimals : ℕ) → List ℕ → Option ℕ
+amount_read decimals text = amount_or_none (decimal_read decimals text)
 
 -- a figure that reads as a value, and what stands after it
 abbrev pub figure_as : {A : Type 0} → (List ℕ → Option A) → List Token → Option (A × List Token)
@@ -72,16 +73,16 @@ number_first least most ts = figure_as (small_number least most) ts
 
 -- an amount of so many decimals, and what stands after it
 unfoldable pub amount_first : (decimals : ℕ) → List Token → Option (ℕ × List Token)
-amount_first decimals ts = figure_as (amount_of decimals) ts
+amount_first decimals ts = figure_as (amount_read decimals) ts
 
 -- a minute of the day, and what stands after it
 unfoldable pub minute_first : List Token → Option (ℕ × List Token)
-minute_first ts = figure_as minute_of ts
+minute_first ts = figure_as minute_read ts
 
 -- a date of any year, and what stands after it
 unfoldable pub date_first : List Token → Option ((ℕ × ℕ) × List Token)
-date_first ts = figure_as date_of ts
+date_first ts = figure_as date_read ts
 
 -- a date, and what stands after it
 unfoldable pub year_date_first : List Token → Option ((ℕ × ℕ × ℕ) × List Token)
-year_date_first ts = figure_as year_date_of ts
+year_date_first ts = figure_as year_date_read ts

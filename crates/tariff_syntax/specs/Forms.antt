@@ -1,14 +1,15 @@
 -- The forms of figures and atoms, for a person to read.
 use Rattle.std.specs.Prelude.{◌≡◌, ℕ, ◌+◌, ◌*◌, ◌≤◌, ◌⊎◌, List, [], ◌∷◌, ◌++◌, length, Ok, codes}
 use Rattle.std.specs.Str.Parse.{IsNumeral, digits_value}
-use Rattle.taxi_units.specs.Number.{decimal_read}
+use Rattle.taxi_units.specs.Decimal.{IsReadAs}
 use Rattle.tariff_syntax.specs.Condition.{Condition, and, or, not, position, zone, time, day, date, holiday, after_distance, after_time}
-use Rattle.tariff_syntax.specs.PrintedCondition.{day_word}
 use Rattle.tariff_syntax.specs.Token.{Token, word, figure, sign}
+use Rattle.tariff_syntax.specs.Weekdays.{day_word}
 
 -- a number of one or two digits in a range
 abbrev pub IsNumber : (least most : ℕ) → List ℕ → ℕ → Type 0
-IsNumber least most text n = IsNumeral 10 text × (length text ≤ 2) × (n ≡ digits_value 10 text) × (least ≤ n) × (n ≤ most)
+IsNumber least most text n =
+    IsNumeral 10 text × (length text ≤ 2) × (n ≡ digits_value 10 text) × (least ≤ n) × (n ≤ most)
 
 -- a number of so many digits
 abbrev pub IsDigits : (width : ℕ) → List ℕ → ℕ → Type 0
@@ -31,11 +32,12 @@ IsYearDate text year month number =
 -- hours to 23 and minutes to 59 of two digits with a `:` between them, as a minute of the day
 abbrev pub IsMinute : List ℕ → ℕ → Type 0
 IsMinute text minute =
-    (hours : ℕ) × (minutes : ℕ) × IsPair (codes ":") text hours minutes × (hours ≤ 23) × (minutes ≤ 59) × (minute ≡ 60 * hours + minutes)
+    (hours : ℕ) × (minutes : ℕ) × IsPair (codes ":") text hours minutes × (hours ≤ 23) × (minutes ≤ 59)
+    × (minute ≡ 60 * hours + minutes)
 
 -- an amount of so many decimals
 abbrev pub IsAmount : (decimals : ℕ) → List ℕ → ℕ → Type 0
-IsAmount decimals text n = decimal_read decimals text ≡ Ok n
+IsAmount decimals text n = IsReadAs decimals text (Ok n)
 
 -- a weekday, by its short name
 abbrev pub IsWeekday : List ℕ → ℕ → Type 0
@@ -45,20 +47,25 @@ IsWeekday name n = (1 ≤ n) × (n ≤ 7) × (name ≡ day_word n)
 abbrev pub AreWeekdays : List Token → ℕ → ℕ → Type 0
 AreWeekdays ts from to =
     ((name : List ℕ) × (ts ≡ word name ∷ []) × IsWeekday name from × (to ≡ from))
-    ⊎ ((first : List ℕ) × (second : List ℕ) × (ts ≡ word first ∷ sign (codes "..") ∷ word second ∷ []) × IsWeekday first from × IsWeekday second to)
+    ⊎ ((first : List ℕ) × (second : List ℕ) × (ts ≡ word first ∷ sign (codes "..") ∷ word second ∷ [])
+    × IsWeekday first from × IsWeekday second to)
 
 -- the tokens of an atom
 abbrev pub IsAtom : List Token → Condition → Type 0
 IsAtom ts (position n) = (f : List ℕ) × (ts ≡ word (codes "position") ∷ figure f ∷ []) × IsNumber 1 9 f n
 IsAtom ts (zone n) = (f : List ℕ) × (ts ≡ word (codes "zone") ∷ figure f ∷ []) × IsNumber 1 9 f n
 IsAtom ts (time from to) =
-    (f : List ℕ) × (g : List ℕ) × (ts ≡ word (codes "time") ∷ figure f ∷ sign (codes "..") ∷ figure g ∷ []) × IsMinute f from × IsMinute g to
+    (f : List ℕ) × (g : List ℕ) × (ts ≡ word (codes "time") ∷ figure f ∷ sign (codes "..") ∷ figure g ∷ [])
+    × IsMinute f from × IsMinute g to
 IsAtom ts (day from to) = (days : List Token) × (ts ≡ word (codes "day") ∷ days) × AreWeekdays days from to
 IsAtom ts (date from_month from_date to_month to_date) =
-    (f : List ℕ) × (g : List ℕ) × (ts ≡ word (codes "date") ∷ figure f ∷ sign (codes "..") ∷ figure g ∷ []) × IsDate f from_month from_date × IsDate g to_month to_date
+    (f : List ℕ) × (g : List ℕ) × (ts ≡ word (codes "date") ∷ figure f ∷ sign (codes "..") ∷ figure g ∷ [])
+    × IsDate f from_month from_date × IsDate g to_month to_date
 IsAtom ts holiday = ts ≡ word (codes "holiday") ∷ []
-IsAtom ts (after_distance n) = (f : List ℕ) × (ts ≡ word (codes "after") ∷ figure f ∷ word (codes "m") ∷ []) × IsAmount 1 f n
-IsAtom ts (after_time n) = (f : List ℕ) × (ts ≡ word (codes "after") ∷ figure f ∷ word (codes "s") ∷ []) × IsAmount 1 f n
+IsAtom ts (after_distance n) =
+    (f : List ℕ) × (ts ≡ word (codes "after") ∷ figure f ∷ word (codes "m") ∷ []) × IsAmount 1 f n
+IsAtom ts (after_time n) =
+    (f : List ℕ) × (ts ≡ word (codes "after") ∷ figure f ∷ word (codes "s") ∷ []) × IsAmount 1 f n
 IsAtom ts (and left right) = ⊥
 IsAtom ts (or left right) = ⊥
 IsAtom ts (not inner) = ⊥

@@ -24,7 +24,8 @@ closed_after inner = inner >>= λ x. (after_sign (codes ")") x.1 >>= λ rest. So
 -- `not` and a factor, a condition in parentheses, or an atom
 abbrev pub factor_by : (factors conditions : Reader) → Reader
 factor_by factors conditions [] = None
-factor_by factors conditions (word name ∷ ts) = if bytes_eq name (codes "not") then negated (factors ts) else atom_named name ts
+factor_by factors conditions (word name ∷ ts) =
+    if bytes_eq name (codes "not") then negated (factors ts) else atom_named name ts
 factor_by factors conditions (figure text ∷ ts) = None
 factor_by factors conditions (sign text ∷ ts) = if bytes_eq text (codes "(") then closed_after (conditions ts) else None
 
@@ -32,7 +33,10 @@ factor_by factors conditions (sign text ∷ ts) = if bytes_eq text (codes "(") t
 unfoldable pub chain_on : (joint : List ℕ) → (joined : Condition → Reader) → (most : ℕ) → Condition → Reader
 chain_on joint joined zero left ts = None
 chain_on joint joined (suc most) left ts =
-    elim (after_word joint ts) [ None ↦ Some (left, ts) | Some rest ↦ joined left rest >>= λ x. chain_on joint joined most x.0 x.1 ]
+    elim (after_word joint ts) [
+      | None ↦ Some (left, ts)
+      | Some rest ↦ joined left rest >>= λ x. chain_on joint joined most x.0 x.1
+    ]
 
 -- a factor, joined by `and` to what stands to the left
 abbrev pub and_joined : (factors : Reader) → Condition → Reader
@@ -64,6 +68,6 @@ unfoldable pub bounded_condition : List Token → Option Condition
 bounded_condition ts = if nat_le (weight ts) 64 then condition_alone ts else None
 
 -- the end of a line that may have a condition
-unfoldable pub when_of : List Token → Option (Option Condition)
-when_of [] = Some None
-when_of (t ∷ ts) = after_word (codes "when") (t ∷ ts) >>= λ rest. (bounded_condition rest >>= λ c. Some (Some c))
+unfoldable pub when_read : List Token → Option (Option Condition)
+when_read [] = Some None
+when_read (t ∷ ts) = after_word (codes "when") (t ∷ ts) >>= λ rest. (bounded_condition rest >>= λ c. Some (Some c))

@@ -1,5 +1,5 @@
 -- The grammar of conditions, for a person to read.
-use Rattle.std.specs.Prelude.{List, [], ◌∷◌, ◌++◌, codes}
+use Rattle.std.specs.Prelude.{ℕ, ◌+◌, List, [], ◌∷◌, ◌++◌, codes}
 use Rattle.tariff_syntax.specs.Condition as tree
 use Rattle.tariff_syntax.specs.Condition.{Condition}
 use Rattle.tariff_syntax.specs.Forms.{IsAtom}
@@ -10,9 +10,23 @@ use Rattle.tariff_syntax.specs.Token.{Token, word, sign}
 -- factor; a whole condition is a term, or a condition, `or` and a term
 pub data IsCondition : Place → List Token → Condition → Type 0 where
   atom : (ts : List Token) (c : Condition) → IsAtom ts c → IsCondition factor ts c
-  negation : (ts : List Token) (c : Condition) → IsCondition factor ts c → IsCondition factor (word (codes "not") ∷ ts) (tree.not c)
-  parentheses : (ts : List Token) (c : Condition) → IsCondition whole ts c → IsCondition factor (sign (codes "(") ∷ (ts ++ sign (codes ")") ∷ [])) c
+  negation : (ts : List Token) (c : Condition) → IsCondition factor ts c
+      → IsCondition factor (word (codes "not") ∷ ts) (tree.not c)
+  parentheses : (ts : List Token) (c : Condition) → IsCondition whole ts c
+      → IsCondition factor (sign (codes "(") ∷ (ts ++ sign (codes ")") ∷ [])) c
   one_factor : (ts : List Token) (c : Condition) → IsCondition factor ts c → IsCondition term ts c
-  conjunction : (left right : List Token) (p q : Condition) → IsCondition term left p → IsCondition factor right q → IsCondition term (left ++ word (codes "and") ∷ right) (tree.and p q)
+  conjunction : (left right : List Token) (p q : Condition) → IsCondition term left p → IsCondition factor right q
+      → IsCondition term (left ++ word (codes "and") ∷ right) (tree.and p q)
   one_term : (ts : List Token) (c : Condition) → IsCondition term ts c → IsCondition whole ts c
-  disjunction : (left right : List Token) (p q : Condition) → IsCondition whole left p → IsCondition term right q → IsCondition whole (left ++ word (codes "or") ∷ right) (tree.or p q)
+  disjunction : (left right : List Token) (p q : Condition) → IsCondition whole left p → IsCondition term right q
+      → IsCondition whole (left ++ word (codes "or") ∷ right) (tree.or p q)
+
+-- how many atoms, `not` and `(` a condition is made of
+abbrev pub size_of : (place : Place) (ts : List Token) (c : Condition) → IsCondition place ts c → ℕ
+size_of factor ts c (atom ts' c' h) = 1
+size_of factor ts c (negation ts' c' h) = 1 + size_of factor ts' c' h
+size_of factor ts c (parentheses ts' c' h) = 1 + size_of whole ts' c' h
+size_of term ts c (one_factor ts' c' h) = size_of factor ts' c' h
+size_of term ts c (conjunction left right p q h g) = size_of term left p h + size_of factor right q g
+size_of whole ts c (one_term ts' c' h) = size_of term ts' c' h
+size_of whole ts c (disjunction left right p q h g) = size_of whole left p h + size_of term right q g

@@ -4,12 +4,11 @@ use Rattle.drive_modes.specs.declared.meterage.Rounding.{Rounding}
 use Rattle.drive_modes.specs.declared.meterage.Rounding.TheVariants.{Behind}
 use Rattle.tariff_syntax.specs.Condition.{Condition}
 use Rattle.tariff_syntax.specs.Forms.{IsNumber, IsYearDate, IsAmount}
-use Rattle.tariff_syntax.specs.Weight.{weight}
-use Rattle.tariff_syntax.specs.IsCondition.{IsCondition}
+use Rattle.tariff_syntax.specs.IsCondition.{IsCondition, size_of}
 use Rattle.tariff_syntax.specs.Printed.{rounding_word}
 use Rattle.tariff_syntax.specs.PrintedCondition.{whole}
 use Rattle.tariff_syntax.specs.Token.{Token, word, figure, sign}
-use Rattle.tariff_syntax.specs.Tree.{Entry, step, positions, zones, holiday, supplement, initial, rate}
+use Rattle.tariff_syntax.specs.Tree.{Entry, step, positions, zones, holiday, supplement, initial, rate, minimum}
 
 -- a rounding word; without it the rounding is `behind`
 abbrev pub IsRounding : List Token → Rounding → Type 0
@@ -23,29 +22,39 @@ IsCovers decimals ts n =
 -- nothing, or `when` and a condition with at most 64 atoms, `not` and `(` together
 abbrev pub IsWhen : List Token → Option Condition → Type 0
 IsWhen ts None = ts ≡ []
-IsWhen ts (Some c) = (rest : List Token) × (ts ≡ word (codes "when") ∷ rest) × IsCondition whole rest c × (weight rest ≤ 64)
+IsWhen ts (Some c) =
+    (rest : List Token) × (ts ≡ word (codes "when") ∷ rest) × (is : IsCondition whole rest c)
+    × (size_of whole rest c is ≤ 64)
 
 -- an amount, `per`, a measure with one decimal, and its unit
 abbrev pub IsPer : (decimals : ℕ) (unit : List ℕ) → List Token → ℕ → ℕ → Type 0
 IsPer decimals unit ts amount measure =
-    (f : List ℕ) × (g : List ℕ) × (ts ≡ figure f ∷ word (codes "per") ∷ figure g ∷ word unit ∷ []) × IsAmount decimals f amount × IsAmount 1 g measure
+    (f : List ℕ) × (g : List ℕ) × (ts ≡ figure f ∷ word (codes "per") ∷ figure g ∷ word unit ∷ [])
+    × IsAmount decimals f amount × IsAmount 1 g measure
 
 -- the tokens of an entry
 abbrev pub IsItem : (decimals : ℕ) → List Token → Entry → Type 0
 IsItem decimals ts (step amount rounding) =
-    (f : List ℕ) × (rs : List Token) × (ts ≡ word (codes "step") ∷ figure f ∷ rs) × IsAmount decimals f amount × IsRounding rs rounding
+    (f : List ℕ) × (rs : List Token) × (ts ≡ word (codes "step") ∷ figure f ∷ rs) × IsAmount decimals f amount
+    × IsRounding rs rounding
 IsItem decimals ts (positions n) = (f : List ℕ) × (ts ≡ word (codes "positions") ∷ figure f ∷ []) × IsNumber 1 9 f n
 IsItem decimals ts (zones n) = (f : List ℕ) × (ts ≡ word (codes "zones") ∷ figure f ∷ []) × IsNumber 1 9 f n
-IsItem decimals ts (holiday year month date) = (f : List ℕ) × (ts ≡ word (codes "holiday") ∷ figure f ∷ []) × IsYearDate f year month date
+IsItem decimals ts (holiday year month date) =
+    (f : List ℕ) × (ts ≡ word (codes "holiday") ∷ figure f ∷ []) × IsYearDate f year month date
 IsItem decimals ts (supplement number amount most) =
-    (f : List ℕ) × (g : List ℕ) × (h : List ℕ) × (ts ≡ word (codes "supplement") ∷ figure f ∷ figure g ∷ word (codes "max") ∷ figure h ∷ [])
+    (f : List ℕ) × (g : List ℕ) × (h : List ℕ)
+    × (ts ≡ word (codes "supplement") ∷ figure f ∷ figure g ∷ word (codes "max") ∷ figure h ∷ [])
     × IsNumber 1 16 f number × IsAmount decimals g amount × IsNumber 1 99 h most
 IsItem decimals ts (initial amount covers when) =
     (f : List ℕ) × (cs : List Token) × (ws : List Token) × (ts ≡ word (codes "initial") ∷ figure f ∷ (cs ++ ws))
     × IsAmount decimals f amount × IsCovers decimals cs covers × IsWhen ws when
 IsItem decimals ts (rate a b c e when) =
-    (xs : List Token) × (ys : List Token) × (ws : List Token) × (ts ≡ word (codes "rate") ∷ (xs ++ sign (codes ",") ∷ (ys ++ ws)))
+    (xs : List Token) × (ys : List Token) × (ws : List Token)
+    × (ts ≡ word (codes "rate") ∷ (xs ++ sign (codes ",") ∷ (ys ++ ws)))
     × IsPer decimals (codes "m") xs a b × IsPer decimals (codes "s") ys c e × IsWhen ws when
+IsItem decimals ts (minimum amount when) =
+    (f : List ℕ) × (ws : List Token) × (ts ≡ word (codes "minimum") ∷ figure f ∷ ws) × IsAmount decimals f amount
+    × IsWhen ws when
 
 -- the tokens of a line of decimals
 abbrev pub IsDecimals : List Token → ℕ → Type 0

@@ -5,14 +5,14 @@ use Rattle.drive_modes.specs.declared.meterage.Rounding.{Rounding}
 use Rattle.drive_modes.specs.declared.meterage.Rounding.TheVariants.{Behind, Ahead}
 use Rattle.taxi_units.specs.Reading.{◌>>=◌}
 use Rattle.tariff_syntax.specs.Figure.{number_first, amount_first, year_date_first}
-use Rattle.tariff_syntax.specs.Grammar.{when_of}
+use Rattle.tariff_syntax.specs.Grammar.{when_read}
 use Rattle.tariff_syntax.specs.Token.{Token}
-use Rattle.tariff_syntax.specs.Tree.{Entry, step, positions, zones, holiday, supplement, initial, rate}
+use Rattle.tariff_syntax.specs.Tree.{Entry, step, positions, zones, holiday, supplement, initial, rate, minimum}
 use Rattle.tariff_syntax.specs.Words.{after_word, after_sign, word_first, ended}
 
 -- the rounding that a word names
-abbrev pub rounding_of : List ℕ → Option Rounding
-rounding_of name =
+abbrev pub rounding_read : List ℕ → Option Rounding
+rounding_read name =
     if bytes_eq name (codes "behind") then Some Behind
     else (if bytes_eq name (codes "ahead") then Some Ahead else None)
 
@@ -21,39 +21,39 @@ unfoldable pub rounding_end : List Token → Option Rounding
 rounding_end [] = Some Behind
 rounding_end (t ∷ ts) = do
   name ← word_first (t ∷ ts)
-  rounding ← rounding_of name.0
+  rounding ← rounding_read name.0
   ended name.1 rounding
 
 -- a display step
-unfoldable pub step_of : (decimals : ℕ) → List Token → Option Entry
-step_of decimals ts = do
+unfoldable pub step_read : (decimals : ℕ) → List Token → Option Entry
+step_read decimals ts = do
   amount ← amount_first decimals ts
   rounding ← rounding_end amount.1
   Some (step amount.0 rounding)
 
 -- a number from 1 to 9, of positions or zones
-unfoldable pub count_of : List Token → Option ℕ
-count_of ts = do
+unfoldable pub count_read : List Token → Option ℕ
+count_read ts = do
   number ← number_first 1 9 ts
   ended number.1 number.0
 
 -- how many positions there are
-abbrev pub positions_of : List Token → Option Entry
-positions_of ts = count_of ts >>= λ number. Some (positions number)
+abbrev pub positions_read : List Token → Option Entry
+positions_read ts = count_read ts >>= λ number. Some (positions number)
 
 -- how many zones there are
-abbrev pub zones_of : List Token → Option Entry
-zones_of ts = count_of ts >>= λ number. Some (zones number)
+abbrev pub zones_read : List Token → Option Entry
+zones_read ts = count_read ts >>= λ number. Some (zones number)
 
 -- a holiday
-unfoldable pub holiday_of : List Token → Option Entry
-holiday_of ts = do
+unfoldable pub holiday_read : List Token → Option Entry
+holiday_read ts = do
   date ← year_date_first ts
   ended date.1 (holiday date.0.0 date.0.1 date.0.2)
 
 -- a supplement
-unfoldable pub supplement_of : (decimals : ℕ) → List Token → Option Entry
-supplement_of decimals ts = do
+unfoldable pub supplement_read : (decimals : ℕ) → List Token → Option Entry
+supplement_read decimals ts = do
   number ← number_first 1 16 ts
   amount ← amount_first decimals number.1
   rest ← after_word (codes "max") amount.1
@@ -70,11 +70,11 @@ unfoldable pub covers_first : (decimals : ℕ) → List Token → Option (ℕ ×
 covers_first decimals ts = covers_after decimals ts (after_word (codes "covers") ts)
 
 -- an initial hire fee
-unfoldable pub initial_of : (decimals : ℕ) → List Token → Option Entry
-initial_of decimals ts = do
+unfoldable pub initial_read : (decimals : ℕ) → List Token → Option Entry
+initial_read decimals ts = do
   amount ← amount_first decimals ts
   covers ← covers_first decimals amount.1
-  when ← when_of covers.1
+  when ← when_read covers.1
   Some (initial amount.0 covers.0 when)
 
 -- an amount for each measure
@@ -87,33 +87,46 @@ per_first decimals unit ts = do
   Some ((amount.0, measure.0), rest)
 
 -- a rate
-unfoldable pub rate_of : (decimals : ℕ) → List Token → Option Entry
-rate_of decimals ts = do
+unfoldable pub rate_read : (decimals : ℕ) → List Token → Option Entry
+rate_read decimals ts = do
   distance ← per_first decimals (codes "m") ts
   comma ← after_sign (codes ",") distance.1
   time ← per_first decimals (codes "s") comma
-  when ← when_of time.1
+  when ← when_read time.1
   Some (rate distance.0.0 distance.0.1 time.0.0 time.0.1 when)
 
+-- a minimum fare
+unfoldable pub minimum_read : (decimals : ℕ) → List Token → Option Entry
+minimum_read decimals ts = do
+  amount ← amount_first decimals ts
+  when ← when_read amount.1
+  Some (minimum amount.0 when)
+
+-- an entry that has no condition, after its first word
+unfoldable pub plain_named : (decimals : ℕ) (name : List ℕ) → List Token → Option Entry
+plain_named decimals name ts =
+    if bytes_eq name (codes "step") then step_read decimals ts
+    else (if bytes_eq name (codes "positions") then positions_read ts
+    else (if bytes_eq name (codes "zones") then zones_read ts
+    else (if bytes_eq name (codes "holiday") then holiday_read ts
+    else (if bytes_eq name (codes "supplement") then supplement_read decimals ts
+    else None))))
+
 -- an entry, after its first word
-abbrev pub item_named : (decimals : ℕ) (name : List ℕ) → List Token → Option Entry
+unfoldable pub item_named : (decimals : ℕ) (name : List ℕ) → List Token → Option Entry
 item_named decimals name ts =
-    if bytes_eq name (codes "step") then step_of decimals ts
-    else (if bytes_eq name (codes "positions") then positions_of ts
-    else (if bytes_eq name (codes "zones") then zones_of ts
-    else (if bytes_eq name (codes "holiday") then holiday_of ts
-    else (if bytes_eq name (codes "supplement") then supplement_of decimals ts
-    else (if bytes_eq name (codes "initial") then initial_of decimals ts
-    else (if bytes_eq name (codes "rate") then rate_of decimals ts
-    else None))))))
+    if bytes_eq name (codes "initial") then initial_read decimals ts
+    else (if bytes_eq name (codes "rate") then rate_read decimals ts
+    else (if bytes_eq name (codes "minimum") then minimum_read decimals ts
+    else plain_named decimals name ts))
 
 -- the entry of a line
-unfoldable pub item_of : (decimals : ℕ) → List Token → Option Entry
-item_of decimals ts = word_first ts >>= λ name. item_named decimals name.0 name.1
+unfoldable pub item_read : (decimals : ℕ) → List Token → Option Entry
+item_read decimals ts = word_first ts >>= λ name. item_named decimals name.0 name.1
 
 -- the decimals of a line of decimals
-unfoldable pub decimals_of : List Token → Option ℕ
-decimals_of ts = do
+unfoldable pub decimals_read : List Token → Option ℕ
+decimals_read ts = do
   rest ← after_word (codes "decimals") ts
   number ← number_first 0 3 rest
   ended number.1 number.0

@@ -1,3 +1,4 @@
+pub mod Appends
 pub mod Atom
 pub mod Condition
 pub mod Faults
@@ -8,9 +9,10 @@ pub mod IsCondition
 pub mod IsItem
 pub mod Items
 pub mod Meaning
-pub mod Measure
+pub mod Parentheses
 pub mod Parsed
 pub mod Parses
+pub mod Parts
 pub mod Printed
 pub mod PrintedCondition
 pub mod Reads
@@ -20,6 +22,7 @@ pub mod TextLines
 pub mod Token
 pub mod TokenReading
 pub mod Tree
+pub mod Weekdays
 pub mod Weight
 pub mod Words
 pub mod Writable

@@ -1,6 +1,6 @@
 -- The tariff of a text, line after line.
 use Rattle.std.specs.Prelude.{ℕ, ◌+◌, List, [], ◌∷◌, ◌++◌, Option, Some, None, Result, Ok, Err}
-use Rattle.tariff_syntax.specs.Items.{item_of, decimals_of}
+use Rattle.tariff_syntax.specs.Items.{item_read, decimals_read}
 use Rattle.tariff_syntax.specs.Token.{Token}
 use Rattle.tariff_syntax.specs.TokenReading.{tokens_of}
 use Rattle.tariff_syntax.specs.Tree.{Tree, Line, Entry}
@@ -13,23 +13,28 @@ put_entry number (t ∷ ts) None below = Err number
 put_entry number (t ∷ ts) (Some entry) (Ok lines) = Ok (record { line = number; entry = entry } ∷ lines)
 put_entry number (t ∷ ts) (Some entry) (Err bad) = Err bad
 
+-- the entry of the text of a line before the lines below it
+abbrev pub line_read : (decimals number : ℕ) → List ℕ → Result (List Line) ℕ → Result (List Line) ℕ
+line_read decimals number text below = put_entry number (tokens_of text) (item_read decimals (tokens_of text)) below
+
 -- the lines of a tariff, from lines that are numbered on from a number, or the first bad line
-unfoldable pub entries_of : (decimals number : ℕ) → List (List ℕ) → Result (List Line) ℕ
-entries_of decimals number [] = Ok []
-entries_of decimals number (text ∷ texts) =
-    put_entry number (tokens_of text) (item_of decimals (tokens_of text)) (entries_of decimals (number + 1) texts)
+unfoldable pub entries_read : (decimals number : ℕ) → List (List ℕ) → Result (List Line) ℕ
+entries_read decimals number [] = Ok []
+entries_read decimals number (text ∷ texts) =
+    line_read decimals number text (entries_read decimals (number + 1) texts)
 
 -- the decimals, the number of the next line, and the lines from there on, by the first line that has tokens
-abbrev pub heading_by : (number : ℕ) (text : List ℕ) (texts : List (List ℕ)) → List Token → Option ℕ → ℕ × ℕ × List (List ℕ) → ℕ × ℕ × List (List ℕ)
+abbrev pub heading_by : (number : ℕ) (text : List ℕ) (texts : List (List ℕ)) → List Token → Option ℕ
+    → ℕ × ℕ × List (List ℕ) → ℕ × ℕ × List (List ℕ)
 heading_by number text texts [] decimals below = below
 heading_by number text texts (t ∷ ts) (Some decimals) below = (decimals, number + 1, texts)
 heading_by number text texts (t ∷ ts) None below = (2, number, text ∷ texts)
 
 -- the same, of lines that are numbered on from a number
-unfoldable pub heading_of : (number : ℕ) → List (List ℕ) → ℕ × ℕ × List (List ℕ)
-heading_of number [] = (2, number, [])
-heading_of number (text ∷ texts) =
-    heading_by number text texts (tokens_of text) (decimals_of (tokens_of text)) (heading_of (number + 1) texts)
+unfoldable pub heading_read : (number : ℕ) → List (List ℕ) → ℕ × ℕ × List (List ℕ)
+heading_read number [] = (2, number, [])
+heading_read number (text ∷ texts) =
+    heading_by number text texts (tokens_of text) (decimals_read (tokens_of text)) (heading_read (number + 1) texts)
 
 -- a tariff of decimals and lines
 abbrev pub tree_with : (decimals : ℕ) → Result (List Line) ℕ → Result Tree ℕ
@@ -38,11 +43,11 @@ tree_with decimals (Err bad) = Err bad
 
 -- the tariff of a heading
 abbrev pub tree_below : ℕ × ℕ × List (List ℕ) → Result Tree ℕ
-tree_below heading = tree_with heading.0 (entries_of heading.0 heading.1 heading.2)
+tree_below heading = tree_with heading.0 (entries_read heading.0 heading.1 heading.2)
 
 -- the tariff of a text, or its first bad line
 unfoldable pub tree_parsed : List ℕ → Result Tree ℕ
-tree_parsed text = tree_below (heading_of 1 (lines_of text))
+tree_parsed text = tree_below (heading_read 1 (lines_of text))
 
 -- lines before others
 abbrev pub before : List Line → Result (List Line) ℕ → Result (List Line) ℕ

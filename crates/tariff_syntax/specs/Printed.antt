@@ -6,7 +6,7 @@ use Rattle.drive_modes.specs.declared.meterage.Rounding.{Rounding}
 use Rattle.drive_modes.specs.declared.meterage.Rounding.TheVariants.{Behind, Ahead}
 use Rattle.tariff_syntax.specs.Condition.{Condition}
 use Rattle.tariff_syntax.specs.PrintedCondition.{condition_text}
-use Rattle.tariff_syntax.specs.Tree.{Tree, Line, Entry, step, positions, zones, holiday, supplement, initial, rate}
+use Rattle.tariff_syntax.specs.Tree.{Tree, Line, Entry, step, positions, zones, holiday, supplement, initial, rate, minimum}
 
 -- how the fare is rounded to the display step
 abbrev pub rounding_word : Rounding → List ℕ
@@ -25,12 +25,14 @@ step_line decimals amount rounding rest =
 -- the line of a holiday
 unfoldable pub holiday_line : (year month date : ℕ) → List ℕ → List ℕ
 holiday_line year month date rest =
-    codes "holiday " ++ (padded_text 4 year ++ (codes "-" ++ (padded_text 2 month ++ (codes "-" ++ (padded_text 2 date ++ (codes "\n" ++ rest))))))
+    codes "holiday " ++ (padded_text 4 year ++ (codes "-" ++ (padded_text 2 month
+    ++ (codes "-" ++ (padded_text 2 date ++ (codes "\n" ++ rest))))))
 
 -- the line of a supplement
 unfoldable pub supplement_line : (decimals number amount most : ℕ) → List ℕ → List ℕ
 supplement_line decimals number amount most rest =
-    codes "supplement " ++ (decimal number ++ (codes " " ++ (money_text decimals amount ++ (codes " max " ++ (decimal most ++ (codes "\n" ++ rest))))))
+    codes "supplement " ++ (decimal number ++ (codes " " ++ (money_text decimals amount
+    ++ (codes " max " ++ (decimal most ++ (codes "\n" ++ rest))))))
 
 -- the end of a line that may have a condition
 abbrev pub when_text : Option Condition → List ℕ → List ℕ
@@ -40,7 +42,8 @@ when_text (Some when) rest = codes " when " ++ condition_text when (codes "\n" +
 -- the line of an initial hire fee
 unfoldable pub initial_line : (decimals amount covers : ℕ) → Option Condition → List ℕ → List ℕ
 initial_line decimals amount covers when rest =
-    codes "initial " ++ (money_text decimals amount ++ (codes " covers " ++ (money_text decimals covers ++ when_text when rest)))
+    codes "initial " ++ (money_text decimals amount ++ (codes " covers "
+    ++ (money_text decimals covers ++ when_text when rest)))
 
 -- an amount for each measure, a number of tenths
 unfoldable pub per_text : (decimals amount measure : ℕ) → List ℕ → List ℕ
@@ -51,6 +54,10 @@ unfoldable pub rate_line : (decimals a b c e : ℕ) → Option Condition → Lis
 rate_line decimals a b c e when rest =
     codes "rate " ++ per_text decimals a b (codes " m, " ++ per_text decimals c e (codes " s" ++ when_text when rest))
 
+-- the line of a minimum fare
+unfoldable pub minimum_line : (decimals amount : ℕ) → Option Condition → List ℕ → List ℕ
+minimum_line decimals amount when rest = codes "minimum " ++ (money_text decimals amount ++ when_text when rest)
+
 -- the line of an entry
 abbrev pub entry_line : (decimals : ℕ) → Entry → List ℕ → List ℕ
 entry_line decimals (step amount rounding) rest = step_line decimals amount rounding rest
@@ -60,6 +67,7 @@ entry_line decimals (holiday year month date) rest = holiday_line year month dat
 entry_line decimals (supplement number amount most) rest = supplement_line decimals number amount most rest
 entry_line decimals (initial amount covers when) rest = initial_line decimals amount covers when rest
 entry_line decimals (rate a b c e when) rest = rate_line decimals a b c e when rest
+entry_line decimals (minimum amount when) rest = minimum_line decimals amount when rest
 
 -- lines in their order
 abbrev pub lines_text : (decimals : ℕ) → List Line → List ℕ

@@ -1,12 +1,9 @@
 -- The printed form of a condition. Each part is spelled in front of what follows it, its rest.
-use Rattle.std.specs.Prelude.{ℕ, ◌-◌, ◌*◌, ◌/◌, ◌%◌, List, ◌++◌, Bool, true, false, if◌then◌else◌, ◌==◌, codes, take, drop}
+use Rattle.std.specs.Prelude.{ℕ, ◌/◌, ◌%◌, List, ◌++◌, Bool, true, false, if◌then◌else◌, ◌==◌, codes}
 use Rattle.std.specs.Fmt.{decimal}
 use Rattle.taxi_units.specs.Number.{money_text, padded_text}
 use Rattle.tariff_syntax.specs.Condition.{Condition, and, or, not, position, zone, time, day, date, holiday, after_distance, after_time}
-
--- the short name of a weekday, from 1 for Monday
-abbrev pub day_word : (weekday : ℕ) → List ℕ
-day_word weekday = take 3 (drop (3 * (weekday - 1)) (codes "montuewedthufrisatsun"))
+use Rattle.tariff_syntax.specs.Weekdays.{day_word}
 
 -- one weekday, or two of them
 abbrev pub days_text : (from to : ℕ) → List ℕ → List ℕ

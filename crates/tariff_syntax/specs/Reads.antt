@@ -1,6 +1,7 @@
--- What a text says, for a person to read: it is cut into lines; the first line that has tokens may say the decimals; each
--- further one says an entry.
+-- What a text says, for a person to read: it is cut into lines; the first line that has tokens may say the decimals;
+-- each further one says an entry.
 use Rattle.std.specs.Prelude.{◌≡◌, ℕ, ◌+◌, ◌<◌, ◌≤◌, ◌⊎◌, List, [], ◌∷◌, length, Result, Ok, Err}
+use Rattle.std.specs.List.{AllPairs}
 use Rattle.tariff_syntax.specs.IsItem.{IsItem, IsDecimals}
 use Rattle.tariff_syntax.specs.TextLines.{lines_of}
 use Rattle.tariff_syntax.specs.Spelled.{IsSpelled}
@@ -30,7 +31,8 @@ SayLines decimals number (text ∷ texts) lines =
     ⊎ ((entry : Entry) × (more : List Line) × (lines ≡ record { line = number; entry = entry } ∷ more)
     × Says decimals text entry × SayLines decimals (number + 1) texts more)
 
--- texts, which are numbered on from a number, say this tariff: the decimals are 2 where the first that isn't empty doesn't say them
+-- texts, which are numbered on from a number, say this tariff: the decimals are 2 where the first that isn't empty
+-- doesn't say them
 abbrev pub SayTariff : (number : ℕ) → List (List ℕ) → Tree → Type 0
 SayTariff number [] t = (t.decimals ≡ 2) × (t.lines ≡ [])
 SayTariff number (text ∷ texts) t =
@@ -60,6 +62,10 @@ FirstBadBelow number (text ∷ texts) bad =
 -- this is the first bad line of a text
 abbrev pub IsFirstBadLine : List ℕ → (bad : ℕ) → Type 0
 IsFirstBadLine text bad = FirstBadBelow 1 (lines_of text) bad
+
+-- each line has a greater number than those above it
+abbrev pub RiseInNumber : List Line → Type 0
+RiseInNumber lines = AllPairs (λ (above below : Line). above.line < below.line) lines
 
 -- why a text gives no tariff: it is too long, or this is its first bad line, or memory ran out
 abbrev pub IsRefused : List ℕ → ParseFault → Type 0

@@ -17,7 +17,9 @@ NoDots c (d ∷ rest) = (c == 46 && d == 46) ≡ false
 -- `..`, or one byte that is no blank, letter or digit, no `#`, and not the first of `..`
 abbrev pub IsSign : (text rest : List ℕ) → Type 0
 IsSign [] rest = ⊥
-IsSign (c ∷ []) rest = (is_blank c rest ≡ false) × ((c == 35) ≡ false) × (is_letter c rest ≡ false) × (is_ascii_digit c ≡ false) × NoDots c rest
+IsSign (c ∷ []) rest =
+    (is_blank c rest ≡ false) × ((c == 35) ≡ false) × (is_letter c rest ≡ false) × (is_ascii_digit c ≡ false)
+    × NoDots c rest
 IsSign (c ∷ d ∷ []) rest = (c ≡ 46) × (d ≡ 46)
 IsSign (c ∷ d ∷ e ∷ text) rest = ⊥
 
@@ -40,6 +42,8 @@ IsEnd (c ∷ rest) = c ≡ 35
 
 -- a line is these tokens, with blanks between them, and perhaps a comment at its end
 abbrev pub IsSpelled : List ℕ → List Token → Type 0
-IsSpelled text [] = (blanks : List ℕ) × (rest : List ℕ) × (text ≡ blanks ++ rest) × IsRun is_blank blanks rest × IsEnd rest
+IsSpelled text [] =
+    (blanks : List ℕ) × (rest : List ℕ) × (text ≡ blanks ++ rest) × IsRun is_blank blanks rest × IsEnd rest
 IsSpelled text (t ∷ ts) =
-    (blanks : List ℕ) × (rest : List ℕ) × (text ≡ blanks ++ (text_of t ++ rest)) × IsRun is_blank blanks (text_of t ++ rest) × IsToken t rest × IsSpelled rest ts
+    (blanks : List ℕ) × (rest : List ℕ) × (text ≡ blanks ++ (text_of t ++ rest))
+    × IsRun is_blank blanks (text_of t ++ rest) × IsToken t rest × IsSpelled rest ts

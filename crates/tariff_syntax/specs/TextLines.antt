@@ -1,5 +1,5 @@
 -- The lines of a text.
-use Rattle.std.specs.Prelude.{ℕ, List, [], ◌∷◌, Bool, not, if◌then◌else◌, ◌==◌}
+use Rattle.std.specs.Prelude.{◌≡◌, ◌≢◌, ℕ, ◌⊎◌, List, [], ◌∷◌, ◌++◌, All, Bool, not, if◌then◌else◌, ◌==◌}
 
 -- a byte at the front of lines: it begins the first of them
 abbrev pub in_front : ℕ → List (List ℕ) → List (List ℕ)
@@ -14,3 +14,15 @@ lines_of (c ∷ cs) = if c == 10 then [] ∷ lines_of cs else in_front c (lines_
 -- a byte within a line
 abbrev pub is_inner : ℕ → List ℕ → Bool
 is_inner c rest = not (c == 10)
+
+-- no byte is a line feed
+abbrev pub IsLine : List ℕ → Type 0
+IsLine text = All (λ (c : ℕ). c ≢ 10) text
+
+-- a text is these lines, each followed by a line feed; the last may end with the text instead, where it isn't empty
+abbrev pub AreLines : (text : List ℕ) → List (List ℕ) → Type 0
+AreLines text [] = text ≡ []
+AreLines text (line ∷ lines) =
+    IsLine line
+    × (((text ≡ line) × (line ≢ []) × (lines ≡ []))
+    ⊎ ((rest : List ℕ) × (text ≡ line ++ 10 ∷ rest) × AreLines rest lines))

@@ -17,7 +17,8 @@ sign_end c (d ∷ ds) = if c == 46 && d == 46 then 2 else 1
 abbrev pub cut_token : (List ℕ → Token) → List ℕ → ℕ → Token × List ℕ
 cut_token kind text end = (kind (take end text), drop end text)
 
--- the token that a text begins with, which begins with no blank, and what stands after it; none at its end and before a comment
+-- the token that a text begins with, which begins with no blank, and what stands after it; none at its end and before
+-- a comment
 abbrev pub token_here : List ℕ → Option (Token × List ℕ)
 token_here [] = None
 token_here (c ∷ cs) =

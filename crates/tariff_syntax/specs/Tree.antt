@@ -3,7 +3,7 @@ use Rattle.std.specs.Prelude.{ℕ, List, map, Option}
 use Rattle.drive_modes.specs.declared.meterage.Rounding.{Rounding}
 use Rattle.tariff_syntax.specs.Condition.{Condition, condition_if}
 use Rattle.tariff_syntax.specs.declared.tariff.Item.{Item}
-use Rattle.tariff_syntax.specs.declared.tariff.Item.TheVariants.{Step, Positions, Zones, Holiday, Supplement, Initial, Rate}
+use Rattle.tariff_syntax.specs.declared.tariff.Item.TheVariants.{Step, Positions, Zones, Holiday, Supplement, Initial, Rate, Minimum}
 use Rattle.tariff_syntax.specs.declared.tariff.Tariff.{Tariff}
 use Rattle.tariff_syntax.specs.declared.tariff.TariffLine.{TariffLine}
 
@@ -16,6 +16,7 @@ pub data Entry : Type 0 where
   supplement : (number amount most : ℕ) → Entry
   initial : (amount covers : ℕ) (when : Option Condition) → Entry
   rate : (a b c e : ℕ) (when : Option Condition) → Entry
+  minimum : (amount : ℕ) (when : Option Condition) → Entry
 
 -- a line: its number in the text, from 1, and what it says
 pub record Line : Type 0 where
@@ -36,6 +37,7 @@ entry_of (Holiday year month date) = holiday year month date
 entry_of (Supplement number amount max) = supplement number amount max
 entry_of (Initial i) = initial i.amount i.covers (condition_if i.cond)
 entry_of (Rate r) = rate r.a r.b r.c r.e (condition_if r.cond)
+entry_of (Minimum m) = minimum m.amount (condition_if m.cond)
 
 -- a line of the program
 abbrev pub line_of : TariffLine → Line

@@ -1,4 +1,4 @@
--- How many atoms, `not` and `(` a condition has.
+-- How the reader counts a condition, before it reads it: by the words and signs with which its parts begin.
 use Rattle.std.specs.Prelude.{ℕ, ◌+◌, List, [], ◌∷◌, Bool, if◌then◌else◌, ◌||◌, codes}
 use Rattle.std.specs.Str.{bytes_eq}
 use Rattle.tariff_syntax.specs.Token.{Token, word, figure, sign}
@@ -6,8 +6,10 @@ use Rattle.tariff_syntax.specs.Token.{Token, word, figure, sign}
 -- a word with which an atom or a `not` begins
 abbrev pub is_counted : List ℕ → Bool
 is_counted name =
-    bytes_eq name (codes "not") || (bytes_eq name (codes "position") || (bytes_eq name (codes "zone") || (bytes_eq name (codes "time")
-    || (bytes_eq name (codes "day") || (bytes_eq name (codes "date") || (bytes_eq name (codes "holiday") || bytes_eq name (codes "after")))))))
+    bytes_eq name (codes "not")
+    || (bytes_eq name (codes "position") || (bytes_eq name (codes "zone") || (bytes_eq name (codes "time")
+    || (bytes_eq name (codes "day")
+    || (bytes_eq name (codes "date") || (bytes_eq name (codes "holiday") || bytes_eq name (codes "after")))))))
 
 -- 1 for the beginning of an atom, a `not` or a `(`, and 0 for other tokens
 abbrev pub token_weight : Token → ℕ

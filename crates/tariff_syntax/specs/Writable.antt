@@ -2,7 +2,7 @@
 use Rattle.std.specs.Prelude.{ℕ, ◌^◌, ◌≤◌, Option, Some, None, All}
 use Rattle.tariff_syntax.specs.Condition as tree
 use Rattle.tariff_syntax.specs.Condition.{Condition}
-use Rattle.tariff_syntax.specs.Tree.{Tree, Line, Entry, step, positions, zones, holiday, supplement, initial, rate}
+use Rattle.tariff_syntax.specs.Tree.{Tree, Line, Entry, step, positions, zones, holiday, supplement, initial, rate, minimum}
 
 -- a number from the least to the most
 abbrev pub IsFromTo : (least most n : ℕ) → Type 0
@@ -21,7 +21,8 @@ IsWritableCondition (tree.position number) = IsFromTo 1 9 number
 IsWritableCondition (tree.zone number) = IsFromTo 1 9 number
 IsWritableCondition (tree.time from to) = (from ≤ 1439) × (to ≤ 1439)
 IsWritableCondition (tree.day from to) = IsFromTo 1 7 from × IsFromTo 1 7 to
-IsWritableCondition (tree.date from_month from_date to_month to_date) = (from_month ≤ 99) × (from_date ≤ 99) × (to_month ≤ 99) × (to_date ≤ 99)
+IsWritableCondition (tree.date from_month from_date to_month to_date) =
+    (from_month ≤ 99) × (from_date ≤ 99) × (to_month ≤ 99) × (to_date ≤ 99)
 IsWritableCondition tree.holiday = Unit {0}
 IsWritableCondition (tree.after_distance decimetres) = decimetres ≤ greatest
 IsWritableCondition (tree.after_time tenths) = tenths ≤ greatest
@@ -39,7 +40,9 @@ IsWritableEntry (zones number) = IsFromTo 1 9 number
 IsWritableEntry (holiday year month date) = (year ≤ 9999) × (month ≤ 99) × (date ≤ 99)
 IsWritableEntry (supplement number amount most) = IsFromTo 1 16 number × (amount ≤ greatest) × IsFromTo 1 99 most
 IsWritableEntry (initial amount covers when) = (amount ≤ greatest) × (covers ≤ greatest) × IsWritableIf when
-IsWritableEntry (rate a b c e when) = (a ≤ greatest) × (b ≤ greatest) × (c ≤ greatest) × (e ≤ greatest) × IsWritableIf when
+IsWritableEntry (rate a b c e when) =
+    (a ≤ greatest) × (b ≤ greatest) × (c ≤ greatest) × (e ≤ greatest) × IsWritableIf when
+IsWritableEntry (minimum amount when) = (amount ≤ greatest) × IsWritableIf when
 
 -- a tariff whose numbers are all such as a text can have
 pub record IsWritable (t : Tree) : Type 0 where

@@ -13,7 +13,8 @@ use crate::words::{after_sign, after_word, is_text, word_first};
 /// An atom, after its first word, and what stands after it.
 #[tactic(auto, unfolding(crate::specs::Atom::atom_named))]
 pub fn atom_named<'a>(name: &[u8], line: &'a [u8]) -> Option<(Cond, &'a [u8])>
-    ensures { Gives (λ x. (condition_of x.0, tokens_of x.1.now)) result (spec.atom_named name.now (tokens_of line.now)) }
+    ensures { Gives (λ x. (condition_of x.0, tokens_of x.1.now)) result
+        (spec.atom_named name.now (tokens_of line.now)) }
 {
     if is_text(name, b"position") {
         return position(line);
@@ -42,7 +43,8 @@ pub fn atom_named<'a>(name: &[u8], line: &'a [u8]) -> Option<(Cond, &'a [u8])>
 /// A tariff position.
 #[tactic(auto, unfolding(crate::specs::Atom::numbered_first))]
 fn position(line: &[u8]) -> Option<(Cond, &[u8])>
-    ensures { Gives (λ x. (condition_of x.0, tokens_of x.1.now)) result (spec.numbered_first tree.position (tokens_of line.now)) }
+    ensures { Gives (λ x. (condition_of x.0, tokens_of x.1.now)) result
+        (spec.numbered_first tree.position (tokens_of line.now)) }
 {
     let (number, rest) = number_first(line, 1, 9)?;
     Some((Cond::Position(number), rest))
@@ -51,7 +53,8 @@ fn position(line: &[u8]) -> Option<(Cond, &[u8])>
 /// A zone.
 #[tactic(auto, unfolding(crate::specs::Atom::numbered_first))]
 fn zone(line: &[u8]) -> Option<(Cond, &[u8])>
-    ensures { Gives (λ x. (condition_of x.0, tokens_of x.1.now)) result (spec.numbered_first tree.zone (tokens_of line.now)) }
+    ensures { Gives (λ x. (condition_of x.0, tokens_of x.1.now)) result
+        (spec.numbered_first tree.zone (tokens_of line.now)) }
 {
     let (number, rest) = number_first(line, 1, 9)?;
     Some((Cond::Zone(number), rest))
@@ -121,7 +124,7 @@ fn weekday_first(line: &[u8]) -> Option<(u8, &[u8])>
 
 /// The weekday that a word names, from 1 for Monday.
 fn weekday(name: &[u8]) -> Option<u8>
-    ensures { Gives (λ n. n) result (spec.weekday_of name.now) }
+    ensures { Gives (λ n. n) result (spec.weekday_read name.now) }
 {
     if is_text(name, b"mon") {
         return Some(1);

@@ -1,6 +1,6 @@
-//! The condition of a rate or of an initial hire fee.
+//! The condition of a rate, an initial hire fee or a minimum fare.
 
-/// When a rate or an initial hire fee holds. What it asks is asked at the beginning of a measuring
+/// When a rate, an initial hire fee or a minimum fare holds. What it asks is asked at the beginning of a measuring
 /// interval, in local time. The conditions are this project's own.
 #[derive(Debug, Drop)]
 pub enum Cond {

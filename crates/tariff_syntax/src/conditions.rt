@@ -1,12 +1,11 @@
 //! Reads conditions.
 ghost use Rattle.std.specs.Prelude.{◌≡◌, ◌+◌, ◌≤◌, codes, length, Some, IfOk, if◌then◌else◌};
-ghost use Rattle.tariff_syntax.specs.Atom as atoms;
 ghost use Rattle.tariff_syntax.specs.Condition as tree;
 ghost use Rattle.tariff_syntax.specs.Condition.{condition_of, condition_if};
 ghost use Rattle.tariff_syntax.specs.Faults.{GivesOrFails};
 ghost use Rattle.tariff_syntax.specs.Grammar as spec;
 ghost use Rattle.tariff_syntax.specs.Weight as weights;
-ghost use Rattle.tariff_syntax.specs.Grammar.{condition_by, term_by, factor_by, factor_first, chain_on, negated, closed_after, when_of};
+ghost use Rattle.tariff_syntax.specs.Grammar.{condition_by, term_by, factor_by, factor_first, chain_on, negated, closed_after, when_read};
 ghost use Rattle.tariff_syntax.specs.Weight.{token_weight};
 ghost use Rattle.tariff_syntax.specs.Token.{token_of};
 ghost use Rattle.tariff_syntax.specs.TokenReading.{tokens_of};
@@ -30,7 +29,8 @@ pub enum LineFault {
 #[cycle(conditions)]
 #[tactic(auto, unfolding(crate::specs::Grammar::condition_by))]
 fn condition(alloc: Global, depth: u8, line: &[u8]) -> Result<(Cond, &[u8]), LineFault>
-    ensures { GivesOrFails (λ x. (condition_of x.0, tokens_of x.1.now)) result (condition_by (factor_first depth) (tokens_of line.now)) }
+    ensures { GivesOrFails (λ x. (condition_of x.0, tokens_of x.1.now)) result
+        (condition_by (factor_first depth) (tokens_of line.now)) }
 {
     let (first, rest) = term(alloc, depth, line)?;
     more_terms(alloc, depth, 64, first, rest)
@@ -45,7 +45,8 @@ fn more_terms(
     left: Cond,
     line: &[u8],
 ) -> Result<(Cond, &[u8]), LineFault>
-    ensures { GivesOrFails (λ x. (condition_of x.0, tokens_of x.1.now)) result (chain_on (codes "or") (spec.or_joined (factor_first depth)) most (condition_of left) (tokens_of line.now)) }
+    ensures { GivesOrFails (λ x. (condition_of x.0, tokens_of x.1.now)) result
+        (chain_on (codes "or") (spec.or_joined (factor_first depth)) most (condition_of left) (tokens_of line.now)) }
 {
     if most == 0 {
         return Err(LineFault::Bad);
@@ -62,7 +63,8 @@ fn more_terms(
 /// A term, joined by `or` to what stands to the left, and what stands after it.
 #[cycle(conditions)]
 fn or_joined(alloc: Global, depth: u8, left: Cond, line: &[u8]) -> Result<(Cond, &[u8]), LineFault>
-    ensures { GivesOrFails (λ x. (condition_of x.0, tokens_of x.1.now)) result (spec.or_joined (factor_first depth) (condition_of left) (tokens_of line.now)) }
+    ensures { GivesOrFails (λ x. (condition_of x.0, tokens_of x.1.now)) result
+        (spec.or_joined (factor_first depth) (condition_of left) (tokens_of line.now)) }
 {
     let (right, rest) = term(alloc, depth, line)?;
     let either = or(alloc, left, right)?;
@@ -73,7 +75,8 @@ fn or_joined(alloc: Global, depth: u8, left: Cond, line: &[u8]) -> Result<(Cond,
 #[cycle(conditions)]
 #[tactic(auto, unfolding(crate::specs::Grammar::term_by))]
 fn term(alloc: Global, depth: u8, line: &[u8]) -> Result<(Cond, &[u8]), LineFault>
-    ensures { GivesOrFails (λ x. (condition_of x.0, tokens_of x.1.now)) result (term_by (factor_first depth) (tokens_of line.now)) }
+    ensures { GivesOrFails (λ x. (condition_of x.0, tokens_of x.1.now)) result
+        (term_by (factor_first depth) (tokens_of line.now)) }
 {
     let (first, rest) = factor(alloc, depth, line)?;
     more_factors(alloc, depth, 64, first, rest)
@@ -88,7 +91,8 @@ fn more_factors(
     left: Cond,
     line: &[u8],
 ) -> Result<(Cond, &[u8]), LineFault>
-    ensures { GivesOrFails (λ x. (condition_of x.0, tokens_of x.1.now)) result (chain_on (codes "and") (spec.and_joined (factor_first depth)) most (condition_of left) (tokens_of line.now)) }
+    ensures { GivesOrFails (λ x. (condition_of x.0, tokens_of x.1.now)) result
+        (chain_on (codes "and") (spec.and_joined (factor_first depth)) most (condition_of left) (tokens_of line.now)) }
 {
     if most == 0 {
         return Err(LineFault::Bad);
@@ -105,7 +109,8 @@ fn more_factors(
 /// A factor, joined by `and` to what stands to the left, and what stands after it.
 #[cycle(conditions)]
 fn and_joined(alloc: Global, depth: u8, left: Cond, line: &[u8]) -> Result<(Cond, &[u8]), LineFault>
-    ensures { GivesOrFails (λ x. (condition_of x.0, tokens_of x.1.now)) result (spec.and_joined (factor_first depth) (condition_of left) (tokens_of line.now)) }
+    ensures { GivesOrFails (λ x. (condition_of x.0, tokens_of x.1.now)) result
+        (spec.and_joined (factor_first depth) (condition_of left) (tokens_of line.now)) }
 {
     let (right, rest) = factor(alloc, depth, line)?;
     let both = and(alloc, left, right)?;
@@ -115,7 +120,8 @@ fn and_joined(alloc: Global, depth: u8, left: Cond, line: &[u8]) -> Result<(Cond
 /// A factor, and what stands after it.
 #[cycle(conditions)]
 fn factor(alloc: Global, depth: u8, line: &[u8]) -> Result<(Cond, &[u8]), LineFault>
-    ensures { GivesOrFails (λ x. (condition_of x.0, tokens_of x.1.now)) result (factor_first depth (tokens_of line.now)) }
+    ensures { GivesOrFails (λ x. (condition_of x.0, tokens_of x.1.now)) result
+        (factor_first depth (tokens_of line.now)) }
 {
     if depth == 0 {
         return Err(LineFault::Bad);
@@ -126,7 +132,8 @@ fn factor(alloc: Global, depth: u8, line: &[u8]) -> Result<(Cond, &[u8]), LineFa
 /// A factor, with one more `not` or `(` around it than a number.
 #[cycle(conditions)]
 fn factor_above(alloc: Global, depth: u8, line: &[u8]) -> Result<(Cond, &[u8]), LineFault>
-    ensures { GivesOrFails (λ x. (condition_of x.0, tokens_of x.1.now)) result (factor_by (factor_first depth) (condition_by (factor_first depth)) (tokens_of line.now)) }
+    ensures { GivesOrFails (λ x. (condition_of x.0, tokens_of x.1.now)) result
+        (factor_by (factor_first depth) (condition_by (factor_first depth)) (tokens_of line.now)) }
 {
     let Some((token, rest)) = first_token(line) else {
         return Err(LineFault::Bad);
@@ -136,7 +143,10 @@ fn factor_above(alloc: Global, depth: u8, line: &[u8]) -> Result<(Cond, &[u8]), 
             if is_text(name, b"not") {
                 return negation(alloc, depth, rest);
             }
-            atom(name, rest)
+            match atom_named(name, rest) {
+                Some(atom) => Ok(atom),
+                None => Err(LineFault::Bad),
+            }
         }
         Token::Sign(text) => {
             if is_text(text, b"(") {
@@ -151,7 +161,8 @@ fn factor_above(alloc: Global, depth: u8, line: &[u8]) -> Result<(Cond, &[u8]), 
 /// The negation of the factor that stands first.
 #[cycle(conditions)]
 fn negation(alloc: Global, depth: u8, line: &[u8]) -> Result<(Cond, &[u8]), LineFault>
-    ensures { GivesOrFails (λ x. (condition_of x.0, tokens_of x.1.now)) result (negated (factor_first depth (tokens_of line.now))) }
+    ensures { GivesOrFails (λ x. (condition_of x.0, tokens_of x.1.now)) result
+        (negated (factor_first depth (tokens_of line.now))) }
 {
     let (inner, rest) = factor(alloc, depth, line)?;
     let cond = not(alloc, inner)?;
@@ -161,23 +172,14 @@ fn negation(alloc: Global, depth: u8, line: &[u8]) -> Result<(Cond, &[u8]), Line
 /// A condition before a closing parenthesis.
 #[cycle(conditions)]
 fn in_parentheses(alloc: Global, depth: u8, line: &[u8]) -> Result<(Cond, &[u8]), LineFault>
-    ensures { GivesOrFails (λ x. (condition_of x.0, tokens_of x.1.now)) result (closed_after (condition_by (factor_first depth) (tokens_of line.now))) }
+    ensures { GivesOrFails (λ x. (condition_of x.0, tokens_of x.1.now)) result
+        (closed_after (condition_by (factor_first depth) (tokens_of line.now))) }
 {
     let (inner, rest) = condition(alloc, depth, line)?;
     let Some(rest) = after_sign(rest, b")") else {
         return Err(LineFault::Bad);
     };
     Ok((inner, rest))
-}
-
-/// An atom, after its first word, and what stands after it.
-fn atom<'a>(name: &[u8], line: &'a [u8]) -> Result<(Cond, &'a [u8]), LineFault>
-    ensures { GivesOrFails (λ x. (condition_of x.0, tokens_of x.1.now)) result (atoms.atom_named name.now (tokens_of line.now)) }
-{
-    match atom_named(name, line) {
-        Some(atom) => Ok(atom),
-        None => Err(LineFault::Bad),
-    }
 }
 
 /// That both hold.
@@ -217,9 +219,9 @@ fn not(alloc: Global, inner: Cond) -> Result<Cond, LineFault>
 }
 
 /// The end of a line that may have a condition.
-#[tactic(auto, unfolding(crate::specs::Grammar::when_of))]
+#[tactic(auto, unfolding(crate::specs::Grammar::when_read))]
 pub fn when(alloc: Global, line: &[u8]) -> Result<Option<Cond>, LineFault>
-    ensures { GivesOrFails condition_if result (when_of (tokens_of line.now)) }
+    ensures { GivesOrFails condition_if result (when_read (tokens_of line.now)) }
 {
     if is_over(line) {
         return Ok(None);

@@ -73,10 +73,10 @@ fn small_number(text: &[u8], least: u8, most: u8) -> Option<u8>
 }
 
 /// An amount of so many decimals.
-#[tactic(auto, unfolding(crate::specs::Figure::amount_of))]
+#[tactic(auto, unfolding(crate::specs::Figure::amount_read))]
 fn amount(text: &[u8], decimals: u8) -> Option<u64>
     requires { decimals ≤ 3 }
-    ensures { Gives (λ n. n) result (spec.amount_of decimals text.now) }
+    ensures { Gives (λ n. n) result (spec.amount_read decimals text.now) }
 {
     match read_decimal(text, decimals) {
         Ok(amount) => Some(amount),
@@ -85,9 +85,9 @@ fn amount(text: &[u8], decimals: u8) -> Option<u64>
 }
 
 /// A minute of the day, from its hours and minutes.
-#[tactic(auto, unfolding(crate::specs::Figure::minute_of))]
+#[tactic(auto, unfolding(crate::specs::Figure::minute_read))]
 fn minute(text: &[u8]) -> Option<u16>
-    ensures { Gives (λ n. n) result (spec.minute_of text.now) }
+    ensures { Gives (λ n. n) result (spec.minute_read text.now) }
 {
     let (hours, minutes) = pair(text, b":")?;
     if hours <= 23 && minutes <= 59 {
@@ -97,9 +97,9 @@ fn minute(text: &[u8]) -> Option<u16>
 }
 
 /// A year of four digits, a month and a date of two.
-#[tactic(auto, unfolding(crate::specs::Figure::year_date_of))]
+#[tactic(auto, unfolding(crate::specs::Figure::year_date_read))]
 fn year_date(text: &[u8]) -> Option<(u16, u8, u8)>
-    ensures { Gives (λ x. x) result (spec.year_date_of text.now) }
+    ensures { Gives (λ x. x) result (spec.year_date_read text.now) }
 {
     let (year, rest) = digits(text, 4)?;
     let rest = word(rest, b"-")?;
@@ -108,9 +108,9 @@ fn year_date(text: &[u8]) -> Option<(u16, u8, u8)>
 }
 
 /// Two numbers of two digits, with a byte between them.
-#[tactic(auto, unfolding(crate::specs::Figure::pair_of))]
+#[tactic(auto, unfolding(crate::specs::Figure::pair_read))]
 fn pair(text: &[u8], between: &[u8]) -> Option<(u8, u8)>
-    ensures { Gives (λ x. x) result (spec.pair_of between.now text.now) }
+    ensures { Gives (λ x. x) result (spec.pair_read between.now text.now) }
 {
     let (first, rest) = digits(text, 2)?;
     let rest = word(rest, between)?;

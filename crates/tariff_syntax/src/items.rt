@@ -3,22 +3,22 @@ ghost use Rattle.std.specs.Prelude.{◌≡◌, ◌≤◌, IfSome};
 ghost use Rattle.taxi_units.specs.Reading.{Gives};
 ghost use Rattle.tariff_syntax.specs.Faults.{GivesOrFails};
 ghost use Rattle.tariff_syntax.specs.Items as spec;
-ghost use Rattle.tariff_syntax.specs.Items.{step_of, count_of, positions_of, zones_of, holiday_of, supplement_of, item_of};
+ghost use Rattle.tariff_syntax.specs.Items.{step_read, count_read, positions_read, zones_read, holiday_read, supplement_read, item_read};
 ghost use Rattle.tariff_syntax.specs.TokenReading.{tokens_of};
 ghost use Rattle.tariff_syntax.specs.Tree.{entry_of};
 
 use crate::conditions::{LineFault, when};
 use crate::figures::{amount_first, number_first, year_date_first};
-use crate::tariff::{InitialLine, Item, RateLine};
+use crate::tariff::{InitialLine, Item, MinimumLine, RateLine};
 use crate::words::{after_sign, after_word, is_over, is_text, word_first};
 use drive_modes::Rounding;
 use std::alloc::Global;
 
 /// What a line says, whose money has so many decimals.
-#[tactic(auto, unfolding(crate::specs::Items::item_of))]
+#[tactic(auto, unfolding(crate::specs::Items::item_read))]
 pub fn item(alloc: Global, decimals: u8, line: &[u8]) -> Result<Item, LineFault>
     requires { decimals ≤ 3 }
-    ensures { GivesOrFails entry_of result (item_of decimals (tokens_of line.now)) }
+    ensures { GivesOrFails entry_of result (item_read decimals (tokens_of line.now)) }
 {
     let Some((name, rest)) = word_first(line) else {
         return Err(LineFault::Bad);
@@ -27,49 +27,55 @@ pub fn item(alloc: Global, decimals: u8, line: &[u8]) -> Result<Item, LineFault>
 }
 
 /// What a line says, after its first word.
+#[tactic(auto, unfolding(crate::specs::Items::item_named))]
 fn item_named(alloc: Global, decimals: u8, name: &[u8], line: &[u8]) -> Result<Item, LineFault>
     requires { decimals ≤ 3 }
     ensures { GivesOrFails entry_of result (spec.item_named decimals name.now (tokens_of line.now)) }
 {
-    if is_text(name, b"step") {
-        return found(step(decimals, line));
-    }
-    if is_text(name, b"positions") {
-        return found(positions(line));
-    }
-    if is_text(name, b"zones") {
-        return found(zones(line));
-    }
-    if is_text(name, b"holiday") {
-        return found(holiday(line));
-    }
-    if is_text(name, b"supplement") {
-        return found(supplement(decimals, line));
-    }
     if is_text(name, b"initial") {
         return initial(alloc, decimals, line);
     }
     if is_text(name, b"rate") {
         return rate(alloc, decimals, line);
     }
-    Err(LineFault::Bad)
-}
-
-/// What was found, and else a bad line.
-fn found(item: Option<Item>) -> Result<Item, LineFault>
-    ensures { GivesOrFails (λ x. x) result item }
-{
-    match item {
+    if is_text(name, b"minimum") {
+        return minimum(alloc, decimals, line);
+    }
+    match plain_named(decimals, name, line) {
         Some(item) => Ok(item),
         None => Err(LineFault::Bad),
     }
 }
 
+/// What a line says that has no condition, after its first word.
+#[tactic(auto, unfolding(crate::specs::Items::plain_named))]
+fn plain_named(decimals: u8, name: &[u8], line: &[u8]) -> Option<Item>
+    requires { decimals ≤ 3 }
+    ensures { Gives entry_of result (spec.plain_named decimals name.now (tokens_of line.now)) }
+{
+    if is_text(name, b"step") {
+        return step(decimals, line);
+    }
+    if is_text(name, b"positions") {
+        return positions(line);
+    }
+    if is_text(name, b"zones") {
+        return zones(line);
+    }
+    if is_text(name, b"holiday") {
+        return holiday(line);
+    }
+    if is_text(name, b"supplement") {
+        return supplement(decimals, line);
+    }
+    None
+}
+
 /// A display step.
-#[tactic(auto, unfolding(crate::specs::Items::step_of))]
+#[tactic(auto, unfolding(crate::specs::Items::step_read))]
 fn step(decimals: u8, line: &[u8]) -> Option<Item>
     requires { decimals ≤ 3 }
-    ensures { Gives entry_of result (step_of decimals (tokens_of line.now)) }
+    ensures { Gives entry_of result (step_read decimals (tokens_of line.now)) }
 {
     let (amount, rest) = amount_first(line, decimals)?;
     let rounding = rounding_end(rest)?;
@@ -94,7 +100,7 @@ fn rounding_end(line: &[u8]) -> Option<Rounding>
 
 /// The rounding that a word names.
 fn rounding(name: &[u8]) -> Option<Rounding>
-    ensures { Gives (λ x. x) result (spec.rounding_of name.now) }
+    ensures { Gives (λ x. x) result (spec.rounding_read name.now) }
 {
     if is_text(name, b"behind") {
         return Some(Rounding::Behind);
@@ -107,7 +113,7 @@ fn rounding(name: &[u8]) -> Option<Rounding>
 
 /// How many positions there are.
 fn positions(line: &[u8]) -> Option<Item>
-    ensures { Gives entry_of result (positions_of (tokens_of line.now)) }
+    ensures { Gives entry_of result (positions_read (tokens_of line.now)) }
 {
     let number = count(line)?;
     Some(Item::Positions(number))
@@ -115,16 +121,16 @@ fn positions(line: &[u8]) -> Option<Item>
 
 /// How many zones there are.
 fn zones(line: &[u8]) -> Option<Item>
-    ensures { Gives entry_of result (zones_of (tokens_of line.now)) }
+    ensures { Gives entry_of result (zones_read (tokens_of line.now)) }
 {
     let number = count(line)?;
     Some(Item::Zones(number))
 }
 
 /// A number from 1 to 9 at the end of a line.
-#[tactic(auto, unfolding(crate::specs::Items::count_of))]
+#[tactic(auto, unfolding(crate::specs::Items::count_read))]
 fn count(line: &[u8]) -> Option<u8>
-    ensures { Gives (λ n. n) result (count_of (tokens_of line.now)) }
+    ensures { Gives (λ n. n) result (count_read (tokens_of line.now)) }
 {
     let (number, rest) = number_first(line, 1, 9)?;
     if !is_over(rest) {
@@ -134,9 +140,9 @@ fn count(line: &[u8]) -> Option<u8>
 }
 
 /// A holiday.
-#[tactic(auto, unfolding(crate::specs::Items::holiday_of))]
+#[tactic(auto, unfolding(crate::specs::Items::holiday_read))]
 fn holiday(line: &[u8]) -> Option<Item>
-    ensures { Gives entry_of result (holiday_of (tokens_of line.now)) }
+    ensures { Gives entry_of result (holiday_read (tokens_of line.now)) }
 {
     let ((year, month, date), rest) = year_date_first(line)?;
     if !is_over(rest) {
@@ -146,10 +152,10 @@ fn holiday(line: &[u8]) -> Option<Item>
 }
 
 /// A supplement.
-#[tactic(auto, unfolding(crate::specs::Items::supplement_of))]
+#[tactic(auto, unfolding(crate::specs::Items::supplement_read))]
 fn supplement(decimals: u8, line: &[u8]) -> Option<Item>
     requires { decimals ≤ 3 }
-    ensures { Gives entry_of result (supplement_of decimals (tokens_of line.now)) }
+    ensures { Gives entry_of result (supplement_read decimals (tokens_of line.now)) }
 {
     let (number, rest) = number_first(line, 1, 16)?;
     let (amount, rest) = amount_first(rest, decimals)?;
@@ -166,10 +172,10 @@ fn supplement(decimals: u8, line: &[u8]) -> Option<Item>
 }
 
 /// An initial hire fee.
-#[tactic(auto, unfolding(crate::specs::Items::initial_of))]
+#[tactic(auto, unfolding(crate::specs::Items::initial_read))]
 fn initial(alloc: Global, decimals: u8, line: &[u8]) -> Result<Item, LineFault>
     requires { decimals ≤ 3 }
-    ensures { GivesOrFails entry_of result (spec.initial_of decimals (tokens_of line.now)) }
+    ensures { GivesOrFails entry_of result (spec.initial_read decimals (tokens_of line.now)) }
 {
     let Some((amount, rest)) = amount_first(line, decimals) else {
         return Err(LineFault::Bad);
@@ -198,10 +204,10 @@ fn covers_first(decimals: u8, line: &[u8]) -> Option<(u64, &[u8])>
 }
 
 /// A rate.
-#[tactic(auto, unfolding(crate::specs::Items::rate_of))]
+#[tactic(auto, unfolding(crate::specs::Items::rate_read))]
 fn rate(alloc: Global, decimals: u8, line: &[u8]) -> Result<Item, LineFault>
     requires { decimals ≤ 3 }
-    ensures { GivesOrFails entry_of result (spec.rate_of decimals (tokens_of line.now)) }
+    ensures { GivesOrFails entry_of result (spec.rate_read decimals (tokens_of line.now)) }
 {
     let Some(((a, b), rest)) = per_first(decimals, line, b"m") else {
         return Err(LineFault::Bad);
@@ -229,10 +235,23 @@ fn per_first<'a>(decimals: u8, line: &'a [u8], unit: &[u8]) -> Option<((u64, u64
     Some(((amount, measure), rest))
 }
 
+/// A minimum fare.
+#[tactic(auto, unfolding(crate::specs::Items::minimum_read))]
+fn minimum(alloc: Global, decimals: u8, line: &[u8]) -> Result<Item, LineFault>
+    requires { decimals ≤ 3 }
+    ensures { GivesOrFails entry_of result (spec.minimum_read decimals (tokens_of line.now)) }
+{
+    let Some((amount, rest)) = amount_first(line, decimals) else {
+        return Err(LineFault::Bad);
+    };
+    let cond = when(alloc, rest)?;
+    Ok(Item::Minimum(MinimumLine { amount, cond }))
+}
+
 /// The decimals of a line of decimals.
-#[tactic(auto, unfolding(crate::specs::Items::decimals_of))]
+#[tactic(auto, unfolding(crate::specs::Items::decimals_read))]
 pub fn decimals(line: &[u8]) -> Option<u8>
-    ensures value { Gives (λ n. n) result (spec.decimals_of (tokens_of line.now)) }
+    ensures value { Gives (λ n. n) result (spec.decimals_read (tokens_of line.now)) }
     ensures small { IfSome result (λ n. n ≤ 3) }
 {
     let rest = after_word(line, b"decimals")?;

@@ -7,22 +7,24 @@ mod conditions;
 mod context;
 mod figures;
 mod items;
-mod laws;
 mod meaning;
-mod measure;
 mod parsing;
 mod printing;
 mod spelling;
 mod tariff;
+mod theorems;
 mod tokens;
 mod words;
 mod writing;
 
 pub use condition::Cond;
 pub use context::Context;
-pub use laws::{printed_forms_read_back, texts_have_their_numbers, texts_read_as_one_tariff};
-pub use meaning::{initial_of, month_day, rate_of, sat};
-pub use measure::{common_measure, common_measures_are_least};
+pub use meaning::{initial_of, minimum_of, rate_of, sat};
 pub use parsing::{ParseFault, parse};
-pub use tariff::{InitialLine, Item, Lines, RateLine, Tariff, TariffLine};
+pub use tariff::{InitialLine, Item, Lines, MinimumLine, RateLine, Tariff, TariffLine};
+pub use theorems::{
+    first_lines_hold, lines_rise_in_number, parentheses_are_needed, printed_forms_read_back,
+    texts_are_cut_at_their_line_feeds, texts_are_parsed_as_they_read, texts_have_their_numbers,
+    texts_read_as_one_tariff,
+};
 pub use writing::print;

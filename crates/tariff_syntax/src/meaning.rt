@@ -1,16 +1,21 @@
-//! Whether a condition holds, and which rate and which initial hire fee hold first.
-ghost use Rattle.std.specs.Prelude.{◌≡◌, ◌≤◌, ◌-◌, sum, take};
+//! Whether a condition holds, and which rate, which initial hire fee and which minimum fare hold first.
+ghost use Rattle.std.specs.List.{position_from};
+ghost use Rattle.std.specs.Prelude.{◌≡◌, map};
+ghost use Rattle.taxi_units.specs.Reading.{Gives};
 ghost use Rattle.tariff_syntax.specs.Condition.{condition_of, condition_if};
-ghost use Rattle.tariff_syntax.specs.Meaning.{holds, holds_if, is_within, is_in_time, month_day_of, month_lengths, rate_place, initial_place, at_hiring};
-ghost use Rattle.tariff_syntax.specs.Tree.{tree_of};
+ghost use Rattle.tariff_syntax.specs.Meaning.{holds, holds_if, is_by, is_in_dates, is_in_time, is_on, is_within, rate_place, initial_place, minimum_place, at_hiring};
+ghost use Rattle.tariff_syntax.specs.Parts.{parts, when_of};
+ghost use Rattle.tariff_syntax.specs.Tree.{entry_of, line_of, tree_of};
 
 use crate::condition::Cond;
 use crate::context::Context;
-use crate::tariff::{Item, Tariff};
+use crate::tariff::{Item, Tariff, TariffLine};
 use pulse_input::reached;
+use taxi_units::date_of_place;
 
-/// Whether a condition holds in a context. Its dates are compared by their places in a leap year. The
-/// right part is asked first: conditions join from the left, so a long one is no deep recursion.
+/// Whether a condition holds in a context. Dates are compared by month and date, also ones that no year
+/// has; a context whose place is above 365 has no date, and no range of dates holds in it. The right part
+/// is asked first: conditions join from the left, so a long one is no deep recursion.
 pub fn sat(cond: &Cond, x: &Context) -> bool
     ensures { result ≡ holds (condition_of cond.now) x.now }
 {
@@ -22,13 +27,7 @@ pub fn sat(cond: &Cond, x: &Context) -> bool
         Cond::Zone(number) => x.zone == *number,
         Cond::Time { from, to } => is_in_time(*from, *to, x.minute),
         Cond::Day { from, to } => is_within(*from as u16, *to as u16, x.weekday as u16),
-        Cond::Date { from, to } => {
-            is_within(
-                month_day(from.0, from.1),
-                month_day(to.0, to.1),
-                x.month_day,
-            )
-        }
+        Cond::Date { from, to } => is_on(*from, *to, date_of_place(x.month_day)),
         Cond::Holiday => x.holiday,
         Cond::AfterDistance(decimetres) => reached(x.constant, x.pulses, *decimetres),
         Cond::AfterTime(tenths) => *tenths <= x.ticks as u64,
@@ -40,16 +39,7 @@ pub fn sat(cond: &Cond, x: &Context) -> bool
 pub fn rate_of(tariff: &Tariff, x: &Context) -> Option<usize>
     ensures { result ≡ rate_place (tree_of tariff.now) x.now }
 {
-    let mut rates = 0;
-    for line in tariff.lines.as_slice() {
-        if let Item::Rate(rate) = &line.item {
-            if sat_if(&rate.cond, x) {
-                return Some(rates);
-            }
-            rates += 1;
-        }
-    }
-    None
+    first_of(Kind::Rate, tariff.lines.as_slice(), x)
 }
 
 /// The initial hire fee of a context: the first initial line that has no condition or whose condition
@@ -58,17 +48,53 @@ pub fn rate_of(tariff: &Tariff, x: &Context) -> Option<usize>
 pub fn initial_of(tariff: &Tariff, x: &Context) -> Option<usize>
     ensures { result ≡ initial_place (tree_of tariff.now) x.now }
 {
-    let hiring = hiring(x);
-    let mut initials = 0;
-    for line in tariff.lines.as_slice() {
-        if let Item::Initial(initial) = &line.item {
-            if sat_if(&initial.cond, &hiring) {
-                return Some(initials);
+    first_of(Kind::Initial, tariff.lines.as_slice(), &hiring(x))
+}
+
+/// The minimum fare of a context: the first minimum line that has no condition or whose condition holds
+/// with no pulse and no tick of the trip, by its place among the minimum lines, from 0. `None` exactly
+/// where there is none.
+pub fn minimum_of(tariff: &Tariff, x: &Context) -> Option<usize>
+    ensures { result ≡ minimum_place (tree_of tariff.now) x.now }
+{
+    first_of(Kind::Minimum, tariff.lines.as_slice(), &hiring(x))
+}
+
+/// A kind of lines, of which the first that holds is the one that counts.
+#[derive(Clone, Copy, Debug, PartialEq, Eq)]
+enum Kind {
+    Rate,
+    Initial,
+    Minimum,
+}
+
+/// The first line of a kind that holds, by its place among the lines of that kind, from 0.
+fn first_of(kind: Kind, lines: &[TariffLine], x: &Context) -> Option<usize>
+    ensures { result ≡ position_from (holds_if x.now) 0 (parts (when_of kind) (map line_of lines.now)) }
+{
+    let mut place = 0;
+    let mut first = None;
+    for line in lines {
+        if let Some(cond) = when(kind, &line.item) {
+            if first.is_none() && sat_if(cond, x) {
+                first = Some(place);
             }
-            initials += 1;
+            place += 1;
         }
     }
-    None
+    first
+}
+
+/// The condition of a line of a kind, which may have none. `None` where the line is of another kind.
+fn when(kind: Kind, item: &Item) -> Option<&Option<Cond>>
+    ensures { Gives (λ cond. condition_if cond.now) result (when_of kind (entry_of item.now)) }
+{
+    match (kind, item) {
+        (Kind::Rate, Item::Rate(rate)) => Some(&rate.cond),
+        (Kind::Initial, Item::Initial(initial)) => Some(&initial.cond),
+        (Kind::Minimum, Item::Minimum(minimum)) => Some(&minimum.cond),
+        _ => None,
+    }
 }
 
 /// The same context at the hiring, with no pulse and no tick of the trip.
@@ -76,15 +102,9 @@ fn hiring(x: &Context) -> Context
     ensures { result ≡ at_hiring x.now }
 {
     Context {
-        constant: x.constant,
-        position: x.position,
-        zone: x.zone,
-        weekday: x.weekday,
-        month_day: x.month_day,
-        holiday: x.holiday,
-        minute: x.minute,
         pulses: 0,
         ticks: 0,
+        ..*x
     }
 }
 
@@ -120,34 +140,34 @@ fn is_within(from: u16, to: u16, n: u16) -> bool
     }
 }
 
-/// The place of a month and date in a leap year, from 0 for 1 January to 365 for 31 December. The places
-/// of what no leap year has mean nothing.
-pub fn month_day(month: u8, date: u8) -> u16
-    ensures { result ≡ month_day_of month date }
+/// Whether a date is from one to the other, both of them too, over the year's end where the first is the
+/// later one. Without a date it isn't.
+fn is_on(from: (u8, u8), to: (u8, u8), date: Option<(u8, u8)>) -> bool
+    ensures { result ≡ is_on from to date }
 {
-    (days_before(month) + date as u16).saturating_sub(1)
+    match date {
+        Some(date) => is_in_dates(from, to, date),
+        None => false,
+    }
 }
 
-/// How many days of a leap year are before a month.
-fn days_before(month: u8) -> u16
-    ensures value { result ≡ sum (take (month - 1) month_lengths) }
-    ensures most { result ≤ 366 }
+/// Whether a month and date is from one to the other, over the year's end where the first is the later
+/// one.
+fn is_in_dates(from: (u8, u8), to: (u8, u8), date: (u8, u8)) -> bool
+    ensures { result ≡ is_in_dates from to date }
 {
-    match month {
-        0 | 1 => 0,
-        2 => 31,
-        3 => 60,
-        4 => 91,
-        5 => 121,
-        6 => 152,
-        7 => 182,
-        8 => 213,
-        9 => 244,
-        10 => 274,
-        11 => 305,
-        12 => 335,
-        _ => 366,
+    if is_by(from, to) {
+        is_by(from, date) && is_by(date, to)
+    } else {
+        is_by(from, date) || is_by(date, to)
     }
+}
+
+/// Whether a month and date comes before another in the year, or is that one.
+fn is_by(first: (u8, u8), second: (u8, u8)) -> bool
+    ensures { result ≡ is_by first second }
+{
+    first.0 < second.0 || (first.0 == second.0 && first.1 <= second.1)
 }
 
 #[cfg(test)]

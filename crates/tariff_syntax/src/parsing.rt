@@ -1,7 +1,7 @@
 //! Reads a whole tariff.
 ghost use Rattle.std.specs.Prelude.{◌≡◌, ◌+◌, ◌<◌, ◌≤◌, ◌^◌, ◌∷◌, [], ℕ, List, Result, length, map, MatchOption, IfOk, OnOk, Err, drop};
-ghost use Rattle.tariff_syntax.specs.Items.{item_of};
-ghost use Rattle.tariff_syntax.specs.Parsed.{before, put_entry, entries_of, heading_of};
+ghost use Rattle.tariff_syntax.specs.Items.{item_read};
+ghost use Rattle.tariff_syntax.specs.Parsed.{before, line_read, entries_read, heading_read};
 ghost use Rattle.tariff_syntax.specs.TextLines.{lines_of, is_inner};
 ghost use Rattle.tariff_syntax.specs.Parses.{AreRead, IsAnswer};
 ghost use Rattle.tariff_syntax.specs.Reads.{IsParsed};
@@ -43,6 +43,7 @@ pub enum ParseFault {
 /// supplement N MONEY max N
 /// initial MONEY [covers MONEY] [when CONDITION]
 /// rate MONEY per TENTHS m , MONEY per TENTHS s [when CONDITION]
+/// minimum MONEY [when CONDITION]
 /// ```
 ///
 /// `decimals` stands in the first filled line alone, with a number from 0 to 3, and is 2 without that
@@ -80,10 +81,10 @@ fn parse_text(alloc: Global, text: &[u8]) -> Result<Tariff, ParseFault>
 
 /// The decimals of a text, the number of the line from which its other lines are read, and the text
 /// from there on: behind a line of decimals, where it is the first that has tokens.
-#[tactic(auto, unfolding(crate::specs::Parsed::heading_of))]
+#[tactic(auto, unfolding(crate::specs::Parsed::heading_read))]
 fn heading(text: &[u8]) -> (u8, u32, &[u8])
     requires { length text.now ≤ 65536 }
-    ensures value { heading_of 1 (lines_of text.now) ≡ (result.0, result.1, lines_of result.2.now) }
+    ensures value { heading_read 1 (lines_of text.now) ≡ (result.0, result.1, lines_of result.2.now) }
     ensures decimals { result.0 ≤ 3 }
     ensures room { result.1 + length result.2.now ≤ 1 + length text.now }
 {
@@ -103,11 +104,11 @@ fn heading(text: &[u8]) -> (u8, u32, &[u8])
 }
 
 /// The lines of a tariff, from the lines of a text, which are numbered on from a number.
-#[tactic(auto, unfolding(crate::specs::Parsed::entries_of))]
+#[tactic(auto, unfolding(crate::specs::Parsed::entries_read))]
 fn lines(alloc: Global, decimals: u8, first: u32, text: &[u8]) -> Result<Lines, ParseFault>
     requires decimals { decimals ≤ 3 }
     requires room { first + length text.now < 2 ^ 32 }
-    ensures { AreRead (entries_of decimals first (lines_of text.now)) result }
+    ensures { AreRead (entries_read decimals first (lines_of text.now)) result }
 {
     let mut lines = Lines::new(alloc);
     let mut rest = text;
@@ -132,9 +133,12 @@ fn put_line(
     lines: &mut Lines,
 ) -> Result<(), ParseFault>
     requires { decimals ≤ 3 }
-    ensures ok { OnOk result ((below : Result (List Line) ℕ) → before (map line_of lines.old) (put_entry number (tokens_of line.now) (item_of decimals (tokens_of line.now)) below) ≡ before (map line_of lines.new) below) }
+    ensures ok { OnOk result ((below : Result (List Line) ℕ)
+        → before (map line_of lines.old) (line_read decimals number line.now below)
+        ≡ before (map line_of lines.new) below) }
     ensures long { result ≡ Err ParseFault.TooLong → ⊥ }
-    ensures bad { (n : ℕ) → result ≡ Err (ParseFault.Syntax n) → (below : Result (List Line) ℕ) → put_entry number (tokens_of line.now) (item_of decimals (tokens_of line.now)) below ≡ Err n }
+    ensures bad { (n : ℕ) → result ≡ Err (ParseFault.Syntax n)
+        → (below : Result (List Line) ℕ) → line_read decimals number line.now below ≡ Err n }
 {
     if is_over(line) {
         return Ok(());
@@ -151,7 +155,8 @@ fn put_line(
 
 /// The first line of a text, without its line feed, and what stands after it. `None` at the end.
 fn first_line(text: &[u8]) -> Option<(&[u8], &[u8])>
-    ensures { MatchOption result (lines_of text.now ≡ []) (λ x. (lines_of text.now ≡ x.0.now ∷ lines_of x.1.now) × (length x.1.now < length text.now)) }
+    ensures { MatchOption result (lines_of text.now ≡ [])
+        (λ x. (lines_of text.now ≡ x.0.now ∷ lines_of x.1.now) × (length x.1.now < length text.now)) }
 {
     if text.is_empty() {
         return None;

@@ -1,6 +1,7 @@
 //! Writes the parts that lines of a tariff share.
 ghost use Rattle.std.specs.Prelude.{◌≡◌, ◌≤◌, ◌++◌, List, ℕ, OnOk};
 ghost use Rattle.taxi_units.specs.Number.{money_text};
+ghost use Rattle.tariff_syntax.specs.Appends.{Appends};
 ghost use Rattle.tariff_syntax.specs.Printed.{rounding_word, per_text};
 
 use drive_modes::Rounding;
@@ -17,7 +18,8 @@ pub fn push_per(
     unit: &[u8],
 ) -> Result<(), AllocError>
     requires { decimals ≤ 3 }
-    ensures { OnOk result ((rest : List ℕ) → text.new.items ++ rest ≡ text.old.items ++ per_text decimals amount measure (unit.now ++ rest)) }
+    ensures { OnOk result (Appends text.old.items text.new.items
+        (λ rest. per_text decimals amount measure (unit.now ++ rest))) }
 {
     push_money(text, amount, decimals)?;
     text.extend_from_slice(b" per ")?;

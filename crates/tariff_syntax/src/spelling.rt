@@ -2,8 +2,10 @@
 ghost use Rattle.std.specs.Prelude.{◌≡◌, ◌++◌, ◌/◌, ◌%◌, List, ℕ, OnOk, codes, true};
 ghost use Rattle.std.specs.Fmt.{decimal};
 ghost use Rattle.taxi_units.specs.Number.{padded_text, money_text};
+ghost use Rattle.tariff_syntax.specs.Appends.{Appends};
 ghost use Rattle.tariff_syntax.specs.Condition.{condition_of};
-ghost use Rattle.tariff_syntax.specs.PrintedCondition.{condition_at, closed, whole, term, factor, day_word, days_text, minute_text, date_text};
+ghost use Rattle.tariff_syntax.specs.PrintedCondition.{condition_at, closed, whole, term, factor, days_text, minute_text, date_text};
+ghost use Rattle.tariff_syntax.specs.Weekdays.{day_word};
 
 use crate::condition::Cond;
 use crate::printing::push_money;
@@ -13,7 +15,7 @@ use taxi_units::{Line, put_padded};
 /// A whole condition, or one before an `or`.
 #[cycle(spelling)]
 pub fn push_condition(text: &mut Vec<u8>, cond: &Cond) -> Result<(), AllocError>
-    ensures { OnOk result ((rest : List ℕ) → text.new.items ++ rest ≡ text.old.items ++ condition_at whole (condition_of cond.now) rest) }
+    ensures { OnOk result (Appends text.old.items text.new.items (condition_at whole (condition_of cond.now))) }
 {
     match cond {
         Cond::And(left, right) => {
@@ -44,7 +46,7 @@ pub fn push_condition(text: &mut Vec<u8>, cond: &Cond) -> Result<(), AllocError>
 /// A condition behind an `or` or before an `and`.
 #[cycle(spelling)]
 fn push_term(text: &mut Vec<u8>, cond: &Cond) -> Result<(), AllocError>
-    ensures { OnOk result ((rest : List ℕ) → text.new.items ++ rest ≡ text.old.items ++ condition_at term (condition_of cond.now) rest) }
+    ensures { OnOk result (Appends text.old.items text.new.items (condition_at term (condition_of cond.now))) }
 {
     match cond {
         Cond::Or(_, _) => push_closed(text, cond),
@@ -55,7 +57,7 @@ fn push_term(text: &mut Vec<u8>, cond: &Cond) -> Result<(), AllocError>
 /// A condition behind an `and` or a `not`.
 #[cycle(spelling)]
 fn push_factor(text: &mut Vec<u8>, cond: &Cond) -> Result<(), AllocError>
-    ensures { OnOk result ((rest : List ℕ) → text.new.items ++ rest ≡ text.old.items ++ condition_at factor (condition_of cond.now) rest) }
+    ensures { OnOk result (Appends text.old.items text.new.items (condition_at factor (condition_of cond.now))) }
 {
     match cond {
         Cond::And(_, _) | Cond::Or(_, _) => push_closed(text, cond),
@@ -66,7 +68,8 @@ fn push_factor(text: &mut Vec<u8>, cond: &Cond) -> Result<(), AllocError>
 /// A condition in parentheses.
 #[cycle(spelling)]
 fn push_closed(text: &mut Vec<u8>, cond: &Cond) -> Result<(), AllocError>
-    ensures { OnOk result ((rest : List ℕ) → text.new.items ++ rest ≡ text.old.items ++ closed true (condition_at whole (condition_of cond.now)) rest) }
+    ensures { OnOk result (Appends text.old.items text.new.items
+        (closed true (condition_at whole (condition_of cond.now)))) }
 {
     text.push(b'(')?;
     push_condition(text, cond)?;
@@ -76,7 +79,7 @@ fn push_closed(text: &mut Vec<u8>, cond: &Cond) -> Result<(), AllocError>
 
 /// A word and a number.
 pub fn push_named(text: &mut Vec<u8>, name: &[u8], number: u8) -> Result<(), AllocError>
-    ensures { OnOk result ((rest : List ℕ) → text.new.items ++ rest ≡ text.old.items ++ (name.now ++ (decimal number ++ rest))) }
+    ensures { OnOk result (Appends text.old.items text.new.items (λ rest. name.now ++ (decimal number ++ rest))) }
 {
     text.extend_from_slice(name)?;
     push_money(text, number as u64, 0)
@@ -84,7 +87,8 @@ pub fn push_named(text: &mut Vec<u8>, name: &[u8], number: u8) -> Result<(), All
 
 /// A range of minutes.
 fn push_time(text: &mut Vec<u8>, from: u16, to: u16) -> Result<(), AllocError>
-    ensures { OnOk result ((rest : List ℕ) → text.new.items ++ rest ≡ text.old.items ++ (codes "time " ++ minute_text from (codes ".." ++ minute_text to rest))) }
+    ensures { OnOk result (Appends text.old.items text.new.items
+        (λ rest. codes "time " ++ minute_text from (codes ".." ++ minute_text to rest))) }
 {
     text.extend_from_slice(b"time ")?;
     push_minute(text, from)?;
@@ -94,7 +98,7 @@ fn push_time(text: &mut Vec<u8>, from: u16, to: u16) -> Result<(), AllocError>
 
 /// A minute of the day.
 fn push_minute(text: &mut Vec<u8>, minute: u16) -> Result<(), AllocError>
-    ensures { OnOk result ((rest : List ℕ) → text.new.items ++ rest ≡ text.old.items ++ minute_text minute rest) }
+    ensures { OnOk result (Appends text.old.items text.new.items (minute_text minute)) }
 {
     push_padded(text, (minute / 60) as u64, 2)?;
     text.push(b':')?;
@@ -103,7 +107,7 @@ fn push_minute(text: &mut Vec<u8>, minute: u16) -> Result<(), AllocError>
 
 /// One weekday, or a range of them.
 fn push_days(text: &mut Vec<u8>, from: u8, to: u8) -> Result<(), AllocError>
-    ensures { OnOk result ((rest : List ℕ) → text.new.items ++ rest ≡ text.old.items ++ (codes "day " ++ days_text from to rest)) }
+    ensures { OnOk result (Appends text.old.items text.new.items (λ rest. codes "day " ++ days_text from to rest)) }
 {
     text.extend_from_slice(b"day ")?;
     text.extend_from_slice(weekday(from))?;
@@ -132,7 +136,8 @@ fn weekday(number: u8) -> &'static [u8]
 
 /// A range of dates.
 fn push_dates(text: &mut Vec<u8>, from: (u8, u8), to: (u8, u8)) -> Result<(), AllocError>
-    ensures { OnOk result ((rest : List ℕ) → text.new.items ++ rest ≡ text.old.items ++ (codes "date " ++ date_text from.0 from.1 (codes ".." ++ date_text to.0 to.1 rest))) }
+    ensures { OnOk result (Appends text.old.items text.new.items
+        (λ rest. codes "date " ++ date_text from.0 from.1 (codes ".." ++ date_text to.0 to.1 rest))) }
 {
     text.extend_from_slice(b"date ")?;
     push_date(text, from.0, from.1)?;
@@ -142,7 +147,7 @@ fn push_dates(text: &mut Vec<u8>, from: (u8, u8), to: (u8, u8)) -> Result<(), Al
 
 /// A date of any year.
 pub fn push_date(text: &mut Vec<u8>, month: u8, date: u8) -> Result<(), AllocError>
-    ensures { OnOk result ((rest : List ℕ) → text.new.items ++ rest ≡ text.old.items ++ date_text month date rest) }
+    ensures { OnOk result (Appends text.old.items text.new.items (date_text month date)) }
 {
     push_padded(text, month as u64, 2)?;
     text.push(b'-')?;
@@ -151,7 +156,8 @@ pub fn push_date(text: &mut Vec<u8>, month: u8, date: u8) -> Result<(), AllocErr
 
 /// A measure and its unit.
 fn push_after(text: &mut Vec<u8>, measure: u64, unit: &[u8]) -> Result<(), AllocError>
-    ensures { OnOk result ((rest : List ℕ) → text.new.items ++ rest ≡ text.old.items ++ (codes "after " ++ (money_text 1 measure ++ (unit.now ++ rest)))) }
+    ensures { OnOk result (Appends text.old.items text.new.items
+        (λ rest. codes "after " ++ (money_text 1 measure ++ (unit.now ++ rest)))) }
 {
     text.extend_from_slice(b"after ")?;
     push_money(text, measure, 1)?;

@@ -27,6 +27,14 @@ pub struct InitialLine {
     pub cond: Option<Cond>,
 }
 
+/// A minimum fare: what a trip costs at the least, without its supplements. Without a condition it holds
+/// always.
+#[derive(Debug, Drop)]
+pub struct MinimumLine {
+    pub amount: u64,
+    pub cond: Option<Cond>,
+}
+
 /// What a line of a tariff says.
 #[derive(Debug, Drop)]
 pub enum Item {
@@ -44,6 +52,8 @@ pub enum Item {
     Initial(InitialLine),
     /// A rate.
     Rate(RateLine),
+    /// A minimum fare.
+    Minimum(MinimumLine),
 }
 
 /// A line of a tariff, with its number in the text, from 1.

@@ -17,7 +17,8 @@ pub enum Token<'a> {
 /// The first token of a line, and what stands after it. `None` where the line has no more: at its end,
 /// and before a comment.
 pub fn first_token(line: &[u8]) -> Option<(Token<'_>, &[u8])>
-    ensures { MatchOption result (tokens_of line.now ≡ []) (λ x. (tokens_of line.now ≡ token_of x.0 ∷ tokens_of x.1.now) × (length x.1.now < length line.now)) }
+    ensures { MatchOption result (tokens_of line.now ≡ [])
+        (λ x. (tokens_of line.now ≡ token_of x.0 ∷ tokens_of x.1.now) × (length x.1.now < length line.now)) }
 {
     token_after_blanks(line)
 }

@@ -2,15 +2,16 @@
 ghost use Rattle.std.specs.Prelude.{◌≡◌, ◌≤◌, ◌++◌, List, ℕ, IfOk, OnOk, codes, map};
 ghost use Rattle.std.specs.Fmt.{decimal};
 ghost use Rattle.taxi_units.specs.Number.{money_text};
+ghost use Rattle.tariff_syntax.specs.Appends.{Appends};
 ghost use Rattle.tariff_syntax.specs.Condition.{condition_of, condition_if};
 ghost use Rattle.tariff_syntax.specs.PrintedCondition.{condition_text};
-ghost use Rattle.tariff_syntax.specs.Printed.{printed, number_line, step_line, holiday_line, supplement_line, initial_line, rate_line, entry_line, lines_text, when_text};
+ghost use Rattle.tariff_syntax.specs.Printed.{printed, number_line, step_line, holiday_line, supplement_line, initial_line, rate_line, minimum_line, entry_line, lines_text, when_text};
 ghost use Rattle.tariff_syntax.specs.Tree.{tree_of, entry_of, line_of};
 
 use crate::condition::Cond;
 use crate::printing::{push_money, push_per, push_rounding};
 use crate::spelling::{push_condition, push_date, push_named, push_padded};
-use crate::tariff::{InitialLine, Item, RateLine, Tariff, TariffLine};
+use crate::tariff::{InitialLine, Item, MinimumLine, RateLine, Tariff, TariffLine};
 use drive_modes::Rounding;
 use std::alloc::{AllocError, Global};
 use taxi_units::NoMemory;
@@ -54,7 +55,7 @@ fn push_lines(text: &mut Vec<u8>, decimals: u8, lines: &[TariffLine]) -> Result<
 /// A line.
 fn push_item(text: &mut Vec<u8>, decimals: u8, item: &Item) -> Result<(), AllocError>
     requires { decimals ≤ 3 }
-    ensures { OnOk result ((rest : List ℕ) → text.new.items ++ rest ≡ text.old.items ++ entry_line decimals (entry_of item.now) rest) }
+    ensures { OnOk result (Appends text.old.items text.new.items (entry_line decimals (entry_of item.now))) }
 {
     match item {
         Item::Step { amount, rounding } => push_step(text, decimals, *amount, *rounding),
@@ -68,13 +69,14 @@ fn push_item(text: &mut Vec<u8>, decimals: u8, item: &Item) -> Result<(), AllocE
         } => { push_supplement(text, decimals, *number, *amount, *max) }
         Item::Initial(initial) => push_initial(text, decimals, initial),
         Item::Rate(rate) => push_rate(text, decimals, rate),
+        Item::Minimum(minimum) => push_minimum(text, decimals, minimum),
     }
 }
 
 /// A line of a word and a number.
 #[tactic(auto, unfolding(crate::specs::Printed::number_line))]
 fn push_number(text: &mut Vec<u8>, name: &[u8], number: u8) -> Result<(), AllocError>
-    ensures { OnOk result ((rest : List ℕ) → text.new.items ++ rest ≡ text.old.items ++ number_line name.now number rest) }
+    ensures { OnOk result (Appends text.old.items text.new.items (number_line name.now number)) }
 {
     text.extend_from_slice(name)?;
     push_money(text, number as u64, 0)?;
@@ -91,7 +93,7 @@ fn push_step(
     rounding: Rounding,
 ) -> Result<(), AllocError>
     requires { decimals ≤ 3 }
-    ensures { OnOk result ((rest : List ℕ) → text.new.items ++ rest ≡ text.old.items ++ step_line decimals amount rounding rest) }
+    ensures { OnOk result (Appends text.old.items text.new.items (step_line decimals amount rounding)) }
 {
     text.extend_from_slice(b"step ")?;
     push_money(text, amount, decimals)?;
@@ -104,7 +106,7 @@ fn push_step(
 /// The line of a holiday.
 #[tactic(auto, unfolding(crate::specs::Printed::holiday_line))]
 fn push_holiday(text: &mut Vec<u8>, year: u16, month: u8, date: u8) -> Result<(), AllocError>
-    ensures { OnOk result ((rest : List ℕ) → text.new.items ++ rest ≡ text.old.items ++ holiday_line year month date rest) }
+    ensures { OnOk result (Appends text.old.items text.new.items (holiday_line year month date)) }
 {
     text.extend_from_slice(b"holiday ")?;
     push_padded(text, year as u64, 4)?;
@@ -124,7 +126,7 @@ fn push_supplement(
     max: u8,
 ) -> Result<(), AllocError>
     requires { decimals ≤ 3 }
-    ensures { OnOk result ((rest : List ℕ) → text.new.items ++ rest ≡ text.old.items ++ supplement_line decimals number amount max rest) }
+    ensures { OnOk result (Appends text.old.items text.new.items (supplement_line decimals number amount max)) }
 {
     push_named(text, b"supplement ", number)?;
     push_most(text, decimals, amount, max)
@@ -133,7 +135,9 @@ fn push_supplement(
 /// The amount of a supplement, and how often it may be had, at the end of its line.
 fn push_most(text: &mut Vec<u8>, decimals: u8, amount: u64, max: u8) -> Result<(), AllocError>
     requires { decimals ≤ 3 }
-    ensures { OnOk result ((rest : List ℕ) → text.new.items ++ rest ≡ text.old.items ++ (codes " " ++ (money_text decimals amount ++ (codes " max " ++ (decimal max ++ (codes "\n" ++ rest)))))) }
+    ensures { OnOk result (Appends text.old.items text.new.items
+        (λ rest. codes " " ++ (money_text decimals amount
+        ++ (codes " max " ++ (decimal max ++ (codes "\n" ++ rest)))))) }
 {
     text.push(b' ')?;
     push_money(text, amount, decimals)?;
@@ -147,7 +151,8 @@ fn push_most(text: &mut Vec<u8>, decimals: u8, amount: u64, max: u8) -> Result<(
 #[tactic(auto, unfolding(crate::specs::Printed::initial_line))]
 fn push_initial(text: &mut Vec<u8>, decimals: u8, initial: &InitialLine) -> Result<(), AllocError>
     requires { decimals ≤ 3 }
-    ensures { let i = initial.now in OnOk result ((rest : List ℕ) → text.new.items ++ rest ≡ text.old.items ++ initial_line decimals i.amount i.covers (condition_if i.cond) rest) }
+    ensures { OnOk result (Appends text.old.items text.new.items
+        (initial_line decimals initial.now.amount initial.now.covers (condition_if initial.now.cond))) }
 {
     text.extend_from_slice(b"initial ")?;
     push_money(text, initial.amount, decimals)?;
@@ -160,7 +165,8 @@ fn push_initial(text: &mut Vec<u8>, decimals: u8, initial: &InitialLine) -> Resu
 #[tactic(auto, unfolding(crate::specs::Printed::rate_line))]
 fn push_rate(text: &mut Vec<u8>, decimals: u8, rate: &RateLine) -> Result<(), AllocError>
     requires { decimals ≤ 3 }
-    ensures { let r = rate.now in OnOk result ((rest : List ℕ) → text.new.items ++ rest ≡ text.old.items ++ rate_line decimals r.a r.b r.c r.e (condition_if r.cond) rest) }
+    ensures { OnOk result (Appends text.old.items text.new.items
+        (rate_line decimals rate.now.a rate.now.b rate.now.c rate.now.e (condition_if rate.now.cond))) }
 {
     text.extend_from_slice(b"rate ")?;
     push_per(text, decimals, rate.a, rate.b, b" m, ")?;
@@ -168,9 +174,21 @@ fn push_rate(text: &mut Vec<u8>, decimals: u8, rate: &RateLine) -> Result<(), Al
     push_when(text, &rate.cond)
 }
 
+/// The line of a minimum fare.
+#[tactic(auto, unfolding(crate::specs::Printed::minimum_line))]
+fn push_minimum(text: &mut Vec<u8>, decimals: u8, minimum: &MinimumLine) -> Result<(), AllocError>
+    requires { decimals ≤ 3 }
+    ensures { OnOk result (Appends text.old.items text.new.items
+        (minimum_line decimals minimum.now.amount (condition_if minimum.now.cond))) }
+{
+    text.extend_from_slice(b"minimum ")?;
+    push_money(text, minimum.amount, decimals)?;
+    push_when(text, &minimum.cond)
+}
+
 /// The end of a line that may have a condition.
 fn push_when(text: &mut Vec<u8>, cond: &Option<Cond>) -> Result<(), AllocError>
-    ensures { OnOk result ((rest : List ℕ) → text.new.items ++ rest ≡ text.old.items ++ when_text (condition_if cond.now) rest) }
+    ensures { OnOk result (Appends text.old.items text.new.items (when_text (condition_if cond.now))) }
 {
     match cond {
         None => {
@@ -184,7 +202,8 @@ fn push_when(text: &mut Vec<u8>, cond: &Option<Cond>) -> Result<(), AllocError>
 /// A condition at the end of a line.
 #[tactic(auto, unfolding(crate::specs::PrintedCondition::condition_text))]
 fn push_condition_line(text: &mut Vec<u8>, cond: &Cond) -> Result<(), AllocError>
-    ensures { OnOk result ((rest : List ℕ) → text.new.items ++ rest ≡ text.old.items ++ (codes " when " ++ condition_text (condition_of cond.now) (codes "\n" ++ rest))) }
+    ensures { OnOk result (Appends text.old.items text.new.items
+        (λ rest. codes " when " ++ condition_text (condition_of cond.now) (codes "\n" ++ rest))) }
 {
     text.extend_from_slice(b" when ")?;
     push_condition(text, cond)?;

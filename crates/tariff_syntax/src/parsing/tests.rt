@@ -12,7 +12,7 @@ fn outcome(alloc: Global, text: &[u8]) -> Result<usize, u32> {
 }
 
 /// Texts, and how many lines they have or which line of theirs is bad.
-const TEXTS: [(&str, Result<usize, u32>); 58] = [
+const TEXTS: [(&str, Result<usize, u32>); 65] = [
     ("", Ok(0)),
     ("\n\r\n \t\n# none\n", Ok(0)),
     ("decimals 0", Ok(0)),
@@ -83,6 +83,13 @@ const TEXTS: [(&str, Result<usize, u32>); 58] = [
     ("rate 1 per 2.5 m 3 per 4.5 s", Err(1)),
     ("rate 1 per 2.5 m,, 3 per 4.5 s", Err(1)),
     ("rate 1 per 2.5 m, 3 per 4.5 s,", Err(1)),
+    ("minimum 6\nminimum 0.00 when holiday", Ok(2)),
+    ("minimum", Err(1)),
+    ("minimum 6.005", Err(1)),
+    ("minimum 6 covers 1", Err(1)),
+    ("minimum 6 when", Err(1)),
+    ("minimum 6 holiday", Err(1)),
+    ("minimums 6", Err(1)),
 ];
 
 #[test]
@@ -93,7 +100,7 @@ fn reads_each_form_of_a_line(rt: HostRuntime) {
 }
 
 /// Conditions, and whether they are read.
-const CONDITIONS: [(&str, bool); 37] = [
+const CONDITIONS: [(&str, bool); 44] = [
     ("position 1", true),
     ("position 9", true),
     ("position 0", false),
@@ -131,17 +138,79 @@ const CONDITIONS: [(&str, bool); 37] = [
     ("holiday)", false),
     ("()", false),
     ("holiday holiday", false),
+    ("night", false),
+    ("not night", false),
+    ("holidays", false),
+    ("zone 1 and night", false),
+    ("zone 1 or night", false),
+    ("(night)", false),
+    ("7", false),
 ];
 
 #[test]
 fn reads_each_form_of_a_condition(rt: HostRuntime) -> Result<(), Fail> {
     for (condition, want) in CONDITIONS {
-        let text = format!(in rt.alloc(); "initial 1 when {condition}")?;
-        assert_eq!(rt;
-            outcome(rt.alloc(), text.as_bytes()).is_ok(),
-            want,
-            "{condition}"
-        );
+        for line in ["initial 1", "rate 1 per 1 m, 1 per 1 s", "minimum 1"] {
+            let text = format!(in rt.alloc(); "step 1\n{line} when {condition}")?;
+            let outcome = outcome(rt.alloc(), text.as_bytes());
+            assert_eq!(rt; outcome, if want { Ok(2) } else { Err(2) }, "{text}");
+        }
+    }
+    Ok(())
+}
+
+/// Texts, and the tariffs that they are.
+const TREES: [(&str, &str); 3] = [
+    ("", "Tariff { decimals: 2, lines: Lines { lines: [] } }"),
+    (
+        "
+# by day
+decimals 1 # of ten
+
+step 0.2 ahead
+step 1
+positions 2
+zones 3
+\t
+holiday 2026-01-06
+supplement 2 1.5 max 4",
+        "Tariff { decimals: 1, lines: Lines { lines: [\
+        TariffLine { line: 5, item: Step { amount: 2, rounding: Ahead } }, \
+        TariffLine { line: 6, item: Step { amount: 10, rounding: Behind } }, \
+        TariffLine { line: 7, item: Positions(2) }, \
+        TariffLine { line: 8, item: Zones(3) }, \
+        TariffLine { line: 10, item: Holiday { year: 2026, month: 1, date: 6 } }, \
+        TariffLine { line: 11, item: Supplement { number: 2, amount: 15, max: 4 } }] } }",
+    ),
+    (
+        "initial 3.8 covers 0.4 when not (position 2 or zone 3 and holiday)
+initial 3 when zone 1 or zone 2 or zone 3
+rate 0.2 per 117.4 m, 0.3 per 25.2 s when time 22:00..06:05 and day sat..mon
+
+rate 1 per 2 m, 3 per 4 s when (day sun)
+minimum 6 when date 02-28..03-01 and after 1.5 m or after 2.5 s
+minimum 0",
+        "Tariff { decimals: 2, lines: Lines { lines: [\
+        TariffLine { line: 1, item: Initial(InitialLine { amount: 380, covers: 40, \
+        cond: Some(Not(Or(Position(2), And(Zone(3), Holiday)))) }) }, \
+        TariffLine { line: 2, item: Initial(InitialLine { amount: 300, covers: 0, \
+        cond: Some(Or(Or(Zone(1), Zone(2)), Zone(3))) }) }, \
+        TariffLine { line: 3, item: Rate(RateLine { a: 20, b: 1174, c: 30, e: 252, \
+        cond: Some(And(Time { from: 1320, to: 365 }, Day { from: 6, to: 1 })) }) }, \
+        TariffLine { line: 5, item: Rate(RateLine { a: 100, b: 20, c: 300, e: 40, \
+        cond: Some(Day { from: 7, to: 7 }) }) }, \
+        TariffLine { line: 6, item: Minimum(MinimumLine { amount: 600, \
+        cond: Some(Or(And(Date { from: (2, 28), to: (3, 1) }, AfterDistance(15)), AfterTime(25))) }) }, \
+        TariffLine { line: 7, item: Minimum(MinimumLine { amount: 0, cond: None }) }] } }",
+    ),
+];
+
+#[test]
+fn reads_what_each_line_says(rt: HostRuntime) -> Result<(), Fail> {
+    for (text, want) in TREES {
+        let tariff = parse(rt.alloc(), text.as_bytes())?;
+        let found = format!(in rt.alloc(); "{tariff:?}")?;
+        assert!(rt; found.as_str() == want, "{found}");
     }
     Ok(())
 }

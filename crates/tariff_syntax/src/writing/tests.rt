@@ -19,14 +19,20 @@ rate 0.20 per 80.0 m, 0.20 per 20.0 s when position 2 or zone 2
 rate 0.20 per 90.0 m, 0.20 per 20.0 s when time 22:00..06:00 or day sun or holiday
 rate 0.20 per 100.0 m, 0.20 per 20.0 s when after 5000.0 m
 rate 0.20 per 125.0 m, 0.20 per 25.0 s
+minimum 8.00 when time 22:00..06:00
+minimum 0.00
 ";
 
 /// Tariffs, and their printed forms.
-const TEXTS: [(&str, &str); 10] = [
+const TEXTS: [(&str, &str); 11] = [
     (CITY, CITY),
     ("", "decimals 2\n"),
     ("step 0.2 # day\n", "decimals 2\nstep 0.20 behind\n"),
     ("decimals 0\nstep 007", "decimals 0\nstep 7 behind\n"),
+    (
+        "minimum 6\nminimum 0.5 when (zone 1)",
+        "decimals 2\nminimum 6.00\nminimum 0.50 when zone 1\n",
+    ),
     (
         "decimals 3\ninitial 1.5",
         "decimals 3\ninitial 1.500 covers 0.000\n",
@@ -45,7 +51,10 @@ const TEXTS: [(&str, &str); 10] = [
     ),
     (
         "initial 1 when zone 1 or (zone 2 or holiday)\ninitial 1 when (after 0.5 s or holiday) or day mon..fri",
-        "decimals 2\ninitial 1.00 covers 0.00 when zone 1 or (zone 2 or holiday)\ninitial 1.00 covers 0.00 when after 0.5 s or holiday or day mon..fri\n",
+        "decimals 2
+initial 1.00 covers 0.00 when zone 1 or (zone 2 or holiday)
+initial 1.00 covers 0.00 when after 0.5 s or holiday or day mon..fri
+",
     ),
     (
         "initial 1 when date 02-28 .. 03-01 and time 00:05..23:59",

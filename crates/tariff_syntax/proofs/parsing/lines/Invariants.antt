@@ -1,5 +1,5 @@
 use Rattle.std.proofs.Common.{◌≡◌, ◌+◌, ◌≤◌, length, map}
-use Rattle.tariff_syntax.specs.Parsed.{before, entries_of}
+use Rattle.tariff_syntax.specs.Parsed.{before, entries_read}
 use Rattle.tariff_syntax.specs.TextLines.{lines_of}
 use Rattle.tariff_syntax.specs.Tree.{line_of}
 use Rattle.tariff_syntax.proofs.parsing.lines.Given as goal
@@ -7,7 +7,7 @@ use Rattle.tariff_syntax.proofs.parsing.lines.Given as goal
 abbrev pub invariant-loop-line : goal.invariant-loop-line
 invariant-loop-line l = record {
   room : l.number + length l.rest ≤ l.fn.first + length l.text;
-  same : before (map line_of l.lines) (entries_of l.decimals l.number (lines_of l.rest)) ≡ entries_of l.decimals l.fn.first (lines_of l.text);
+  same : before (map line_of l.lines) (entries_read l.decimals l.number (lines_of l.rest)) ≡ entries_read l.decimals l.fn.first (lines_of l.text);
 }
 
 abbrev pub decreases-loop-line : goal.decreases-loop-line

@@ -1,0 +1,23 @@
+-- The parentheses of a printed condition.
+use Rattle.std.specs.Prelude.{◌≡◌, ℕ, List, [], ◌∷◌, ◌++◌, codes}
+use Rattle.tariff_syntax.specs.Condition.{Condition}
+use Rattle.tariff_syntax.specs.IsCondition.{IsCondition}
+use Rattle.tariff_syntax.specs.PrintedCondition.{whole, condition_text}
+use Rattle.tariff_syntax.specs.Spelled.{IsSpelled}
+use Rattle.tariff_syntax.specs.TextLines.{lines_of}
+use Rattle.tariff_syntax.specs.Token.{Token, sign}
+
+-- a line that is a condition's printed form
+abbrev pub IsPrinted : Condition → (line : List ℕ) → Type 0
+IsPrinted c line = lines_of (condition_text c (codes "\n")) ≡ line ∷ []
+
+-- tokens with a `(` and a `)` behind it among them
+abbrev pub with_pair : (before inside behind : List Token) → List Token
+with_pair before inside behind = before ++ sign (codes "(") ∷ (inside ++ sign (codes ")") ∷ behind)
+
+-- no pair of parentheses of its printed form could go: without it the tokens don't read as the condition
+abbrev pub NeedsParentheses : Condition → Type 0
+NeedsParentheses c =
+    (line : List ℕ) (before inside behind : List Token)
+    → IsPrinted c line → IsSpelled line (with_pair before inside behind)
+    → ¬ (IsCondition whole (before ++ (inside ++ behind)) c)

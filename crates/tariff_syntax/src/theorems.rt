@@ -1,0 +1,75 @@
+//! What the tariff language means. The relations of texts share with the parser the classes of bytes (blanks,
+//! letters, the bytes of a figure), which are tables, and the cutting into lines, which has its law here;
+//! with the printed form they share the names of weekdays and of roundings, which are tables.
+ghost use Rattle.std.specs.Prelude.{◌≡◌, ◌↔◌, ◌⊎◌, ℕ, List, Option, Ok, Err};
+ghost use Rattle.tariff_syntax.specs.Condition.{Condition};
+ghost use Rattle.tariff_syntax.specs.Meaning.{IsFirstPlace, at_hiring, holds_if, initial_place, minimum_place, rate_place};
+ghost use Rattle.tariff_syntax.specs.Parts.{initial_conditions, minimum_conditions, rate_conditions};
+ghost use Rattle.tariff_syntax.specs.Parentheses.{NeedsParentheses};
+ghost use Rattle.tariff_syntax.specs.Parsed.{tree_parsed};
+ghost use Rattle.tariff_syntax.specs.Printed.{printed};
+ghost use Rattle.tariff_syntax.specs.Reads.{Reads, IsFirstBadLine, RiseInNumber};
+ghost use Rattle.tariff_syntax.specs.Renumbered.{renumbered};
+ghost use Rattle.tariff_syntax.specs.TextLines.{AreLines, lines_of};
+ghost use Rattle.tariff_syntax.specs.Tree.{Tree};
+ghost use Rattle.tariff_syntax.specs.Writable.{IsWritable};
+ghost use Rattle.tariff_syntax.specs.declared.context.Context.{Context};
+
+/// The law of texts: a text either reads as a tariff, and as no other, or it has a first bad line, and
+/// no other.
+pub fn texts_read_as_one_tariff()
+    ensures either { (text : List ℕ) → ((t : Tree) × Reads text t) ⊎ ((line : ℕ) × IsFirstBadLine text line) }
+    ensures not_both { (text : List ℕ) (t : Tree) (line : ℕ) → Reads text t → IsFirstBadLine text line → ⊥ }
+    ensures one_tariff { (text : List ℕ) (t u : Tree) → Reads text t → Reads text u → t ≡ u }
+    ensures one_line { (text : List ℕ) (line other : ℕ)
+        → IsFirstBadLine text line → IsFirstBadLine text other → line ≡ other }
+{}
+
+/// The law of parsing: what a text is parsed as, line after line, is what it reads as, and the line at
+/// which parsing ends is its first bad line.
+pub fn texts_are_parsed_as_they_read()
+    ensures tariff { (text : List ℕ) (t : Tree) → Reads text t ↔ (tree_parsed text ≡ Ok t) }
+    ensures bad_line { (text : List ℕ) (line : ℕ) → IsFirstBadLine text line ↔ (tree_parsed text ≡ Err line) }
+{}
+
+/// The law of printed forms: the printed form of a tariff that a text reads as reads as that tariff, but
+/// for the numbers of its lines.
+pub fn printed_forms_read_back()
+    ensures { (text : List ℕ) (t : Tree) → Reads text t → Reads (printed t) (renumbered t) }
+{}
+
+/// The law of numbers: each number of a tariff that a text reads as is in the range that its place in a
+/// text has.
+pub fn texts_have_their_numbers()
+    ensures { (text : List ℕ) (t : Tree) → Reads text t → IsWritable t }
+{}
+
+/// The law of lines: none of the lines of a text has a line feed, and the text is each of them, followed
+/// by a line feed, but perhaps for the last.
+pub fn texts_are_cut_at_their_line_feeds()
+    ensures { (text : List ℕ) (lines : List (List ℕ)) → AreLines text lines ↔ (lines_of text ≡ lines) }
+{}
+
+/// The law of line numbers: each line of a tariff that a text reads as has a greater number than those
+/// above it.
+pub fn lines_rise_in_number()
+    ensures { (text : List ℕ) (t : Tree) → Reads text t → RiseInNumber t.lines }
+{}
+
+/// The law of parentheses: a printed condition has no pair of them that could go. Without it the tokens
+/// don't read as that condition.
+pub fn parentheses_are_needed()
+    ensures { (c : Condition) → NeedsParentheses c }
+{}
+
+/// The law of places: the rate of a context is the one at which a condition holds or there is none, and
+/// before which no rate holds; there is none exactly where no rate holds. The same is so of the initial
+/// hire fee and of the minimum fare at the hiring.
+pub fn first_lines_hold()
+    ensures rate { (t : Tree) (x : Context) (place : Option ℕ)
+        → (rate_place t x ≡ place) ↔ IsFirstPlace (holds_if x) (rate_conditions t.lines) place }
+    ensures initial { (t : Tree) (x : Context) (place : Option ℕ)
+        → (initial_place t x ≡ place) ↔ IsFirstPlace (holds_if (at_hiring x)) (initial_conditions t.lines) place }
+    ensures minimum { (t : Tree) (x : Context) (place : Option ℕ)
+        → (minimum_place t x ≡ place) ↔ IsFirstPlace (holds_if (at_hiring x)) (minimum_conditions t.lines) place }
+{}
