@@ -1,18 +1,17 @@
 -- The common measure is the least common multiple of all measures.
-use Rattle.std.proofs.Common.{◌≡◌, ℕ, ◌<◌, List, [], ◌∷◌, None, All, subst, arith}
+use Rattle.std.proofs.Common.{◌≡◌, ℕ, ◌<◌, List, [], ◌∷◌, Some, None, All, subst, arith}
 use Prim.Native.Nat.{◌∣◌}
 use Rattle.std.proofs.lemmas.Nat.Gcd.{le_of_dvd}
 use Rattle.std.proofs.lemmas.List.Elements.{All-nil, All-cons, All-head, All-tail}
 use Rattle.std.proofs.Math.Nat.{div-mul_cancel, dvd_trans, dvd_refl, one-dvd}
-use Rattle.tariff_syntax.proofs.Measures.{divides, lcm_divides, lcm_is_least}
-use Rattle.tariff_syntax.specs.Measure.{lcm_of}
-use Rattle.tariff_syntax.specs.Tree.{Tree}
-use Rattle.tariff_syntax.specs.Writable.{IsWritable}
-use Rattle.tariff_check.specs.Faults.{IsSound}
-use Rattle.tariff_check.specs.Measure.{IsLeastCommonMultiple, measures_of, measure_of, common_with}
+use Rattle.tariff_check.proofs.LeastMultiples.{divides, lcm_divides, lcm_is_least}
+use Rattle.tariff_syntax.specs.Tree.{Tree, Line}
+use Rattle.tariff_check.specs.Faults.{IsSound, fault_of}
+use Rattle.tariff_check.specs.Measure.{IsLeastCommonMultiple, lcm_of, measures_of, common_with}
 use Rattle.tariff_check.proofs.MeasureLaws.{IsSome, common_grows, lcm_some, measures_some}
-use Rattle.tariff_check.proofs.Staging.{none_if_sound, or_parts, staged, measured_if}
+use Rattle.tariff_check.proofs.Staging.{no_early_fault, none_if_sound, or_parts, staged, measured_if}
 use Rattle.tariff_check.specs.Stages.{early_fault, late_fault}
+use Rattle.tariff_check.specs.declared.fault.CheckFault.TheVariants.{NoCommonMeasure}
 
 -- the first number, and each further one, divides it
 first_divides : (first : ℕ) (ns : List ℕ) → 0 < first → All IsSome ns → first ∣ common_with first ns
@@ -47,9 +46,14 @@ least_of_some ns all = record {
   least = λ (n : ℕ) (some : 0 < n) each. le_of_dvd some (divides_all 1 ns n (omega arith) all (one-dvd n) (λ (k d : ℕ) within. divides n _ (each k d within)));
 }
 
+-- without a fault of lines the measures are above 0
+early_measures : (ls : List Line) → early_fault ls ≡ None → All IsSome (measures_of ls)
+early_measures ls h = measures_some ls (measured_if ls h)
+
 -- a sound tariff's measures are above 0
 pub sound_measures : (t : Tree) → IsSound t → All IsSome (measures_of t.lines)
-sound_measures t h = measures_some t.lines (measured_if t.lines (or_parts (early_fault t.lines) (late_fault t.lines) (subst (λ o. o ≡ None) (staged t.lines) (none_if_sound t h))).0)
+sound_measures t h = early_measures t.lines (or_parts (early_fault t.lines) (late_fault t.lines) (subst (λ o. o ≡ None) (staged t.lines) (none_if_sound t h))).0
 
-pub measure_is_least : (t : Tree) → IsWritable t → IsSound t → IsLeastCommonMultiple (measures_of t.lines) (measure_of t.lines)
-measure_is_least t w h = least_of_some (measures_of t.lines) (sound_measures t h)
+-- and those of a tariff whose common measure is refused
+pub refused_measures : (t : Tree) → fault_of t ≡ Some NoCommonMeasure → All IsSome (measures_of t.lines)
+refused_measures t h = early_measures t.lines (no_early_fault t h)

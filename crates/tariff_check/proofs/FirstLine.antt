@@ -1,8 +1,9 @@
 -- The first line that is so.
-use Rattle.std.proofs.Common.{◌≡◌, ◌⊎◌, inl, inr, ◌↔◌, ℕ, Bool, true, false, cond, List, [], ◌∷◌, ◌++◌, Option, Some, None, All, refl, ap, sym, ◌∙◌, subst, append_assoc}
+use Rattle.std.proofs.Common.{◌≡◌, ◌⊎◌, inl, inr, ◌↔◌, ℕ, suc, ◌<◌, ◌≤◌, Bool, true, false, cond, List, [], ◌∷◌, ◌++◌, Option, Some, None, All, refl, ap, sym, ◌∙◌, subst, append_assoc, length, length-append, get_or, arith}
 use Rattle.std.proofs.lemmas.List.Elements.{All-nil, All-cons}
+use Rattle.tariff_syntax.specs.Reads.{RiseInNumber}
 use Rattle.tariff_syntax.specs.Tree.{Line, Entry}
-use Rattle.tariff_check.specs.Lines.{LineTest, IsFirstLine, first_line, first_after}
+use Rattle.tariff_check.specs.Lines.{LineTest, IsFirstLine, IsNowhere, first_line, first_after}
 
 -- the test of a line decides how the search goes on
 found : (b : Bool) (line number : ℕ) (rest : Option ℕ) → cond b (Some line) rest ≡ Some number → ((b ≡ true) × (line ≡ number)) ⊎ ((b ≡ false) × (rest ≡ Some number))
@@ -90,6 +91,27 @@ first_after_is test front ls number (l ∷ before) line after split named so non
     (λ (xs ys : List Line) (m : Line) (e : before ≡ xs ++ m ∷ ys). subst (λ (ks : List Line). test ks m.entry ≡ false) (sym (append_assoc front (l ∷ []) xs)) (none (l ∷ xs) ys m (ap (λ (ks : List Line). l ∷ ks) e))) in
     rw (split, first) rest
 
+-- where none is found, no line is so
+nowhere_after : (test : LineTest) (front ls : List Line) → first_after test front ls ≡ None → (xs ys : List Line) (m : Line) → ls ≡ xs ++ m ∷ ys → test (front ++ xs) m.entry ≡ false
+nowhere_after test front [] none xs ys m e = no_split xs ys m e
+nowhere_after test front (l ∷ ls) none xs ys m e =
+    let here = passed_by (test front l.entry) l.line (first_after test (front ++ l ∷ []) ls) none in
+    earlier test front l ls here.0 (nowhere_after test (front ++ l ∷ []) ls here.1) xs ys m e
+
+none_after : (test : LineTest) (front ls : List Line) → ((xs ys : List Line) (m : Line) → ls ≡ xs ++ m ∷ ys → test (front ++ xs) m.entry ≡ false) → first_after test front ls ≡ None
+none_after test front [] nowhere = refl
+none_after test front (l ∷ ls) nowhere =
+    let first : test front l.entry ≡ false = rw (append_none front) at (nowhere [] ls l refl) in
+    let rest = none_after test (front ++ l ∷ []) ls
+    (λ (xs ys : List Line) (m : Line) (e : ls ≡ xs ++ m ∷ ys). subst (λ (ks : List Line). test ks m.entry ≡ false) (sym (append_assoc front (l ∷ []) xs)) (nowhere (l ∷ xs) ys m (ap (λ (ks : List Line). l ∷ ks) e))) in
+    rw first rest
+
+pub nowhere_is : (test : LineTest) (lines : List Line) → (first_line test lines ≡ None) ↔ IsNowhere test lines
+nowhere_is test lines = (
+  λ (h : first_line test lines ≡ None). nowhere_after test [] lines h,
+  λ (h : IsNowhere test lines). none_after test [] lines h,
+)
+
 -- the number that is found is that of the first line that is so
 pub first_line_is : (test : LineTest) (lines : List Line) (number : ℕ) → (first_line test lines ≡ Some number) ↔ IsFirstLine test lines number
 first_line_is test lines number = (
@@ -104,3 +126,41 @@ first_line_is test lines number = (
   },
   λ (h : IsFirstLine test lines number). first_after_is test [] lines number h.before h.line h.after h.split h.number_is h.is_so h.none_earlier,
 )
+
+-- where numbers rise, the first line's is below those of the lines after it
+at_split : (before : List Line) (line : Line) (after : List Line) (d : Line) → get_or (before ++ line ∷ after) (length before) d ≡ line
+at_split [] line after d = refl
+at_split (x ∷ xs) line after d = at_split xs line after d
+
+rise_here : (l : Line) (ls before after : List Line) (line : Line) → RiseInNumber (l ∷ ls) → ls ≡ before ++ line ∷ after → l.line < line.line
+rise_here l ls before after line rising split =
+    let within : length before < length ls = rw split (omega (arith, length-append before (line ∷ after))) in
+    let at : get_or ls (length before) l ≡ line = rw split (at_split before line after l) in
+    subst (λ (m : Line). l.line < m.line) at (rising 0 (suc (length before)) l (omega arith) (omega arith))
+
+rise_rest : (l : Line) (ls : List Line) → RiseInNumber (l ∷ ls) → RiseInNumber ls
+rise_rest l ls rising = λ i j d lt within. rising (suc i) (suc j) d (omega arith) (omega arith)
+
+-- so no line that is so has a smaller number
+smallest_after : (test : LineTest) (front ls : List Line) (number : ℕ) → RiseInNumber ls → first_after test front ls ≡ Some number
+    → (before after : List Line) (line : Line) → ls ≡ before ++ line ∷ after → test (front ++ before) line.entry ≡ true → number ≤ line.line
+smallest_after test front [] number rising h before after line split so = absurd cc
+smallest_after test front (l ∷ ls) number rising h [] after line split so =
+    let same : l ≡ line = cc in
+    let here : test front l.entry ≡ true = subst (λ (m : Line). test front m.entry ≡ true) (sym same) (rw (append_none front) at so) in
+    let named : Some l.line ≡ Some number = rw here at h in
+    let number_is : l.line ≡ number = cc in
+    let line_is : l.line ≡ line.line = ap (λ (m : Line). m.line) same in
+    omega arith
+smallest_after test front (l ∷ ls) number rising h (x ∷ xs) after line split so =
+    let rest : ls ≡ xs ++ line ∷ after = cc in
+    let same : x ≡ l = cc in
+    elim (found (test front l.entry) l.line number (first_after test (front ++ l ∷ []) ls) h) [
+      | inl here ↦ omega (arith, here.1, rise_here l ls xs after line rising rest)
+      | inr later ↦ smallest_after test (front ++ l ∷ []) ls number (rise_rest l ls rising) later.1 xs after line rest
+          (subst (λ (ks : List Line). test ks line.entry ≡ true) (ap (λ (k : Line). front ++ k ∷ xs) same ∙ sym (append_assoc front (l ∷ []) xs)) so)
+    ]
+
+pub smallest_line : (test : LineTest) (lines : List Line) (number : ℕ) → RiseInNumber lines → first_line test lines ≡ Some number
+    → (before after : List Line) (line : Line) → lines ≡ before ++ line ∷ after → test before line.entry ≡ true → number ≤ line.line
+smallest_line test lines number rising h before after line split so = smallest_after test [] lines number rising h before after line split so

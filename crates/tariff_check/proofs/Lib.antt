@@ -1,10 +1,12 @@
-pub mod CommonMeasure
-pub mod CutLaws
-pub mod CutOrder
-pub mod DefaultLines
-pub mod FirstLine
-pub mod LineFacts
-pub mod MeasureLaws
-pub mod PartLaws
-pub mod SoundParts
-pub mod Staging
+mod CommonMeasure
+mod CutLaws
+mod CutOrder
+mod DefaultLines
+mod FirstLine
+pub mod Laws
+mod LineFacts
+mod MeasureLaws
+mod LeastMultiples
+mod PartLaws
+mod SoundParts
+mod Staging

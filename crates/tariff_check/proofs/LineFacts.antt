@@ -6,10 +6,10 @@ use Rattle.std.specs.List.{list_any}
 use Rattle.drive_modes.specs.declared.meterage.Rounding.{Rounding}
 use Rattle.tariff_syntax.specs.Condition as tree
 use Rattle.tariff_syntax.specs.Condition.{Condition}
-use Rattle.tariff_syntax.specs.Tree.{Entry, step, positions, zones, holiday, supplement, initial, rate}
+use Rattle.tariff_syntax.specs.Tree.{Entry, step, positions, zones, holiday, supplement, initial, rate, minimum}
 use Rattle.tariff_syntax.specs.Writable.{IsFromTo, IsWritableCondition, IsWritableIf, IsWritableEntry}
 use Rattle.tariff_check.specs.Lines.{atoms_if, atoms_in, atoms_of, is_after_nothing, is_for_nothing, is_great, is_no_holiday, is_undated}
-use Rattle.tariff_check.specs.Parts.{DateNumbers, InitialNumbers, RateNumbers, SupplementNumbers, holiday_part, initial_part, positions_part, rate_part, step_part, supplement_part, zones_part}
+use Rattle.tariff_check.specs.Parts.{DateNumbers, InitialNumbers, RateNumbers, SupplementNumbers, holiday_part, initial_part, minimum_part, positions_part, rate_part, step_part, supplement_part, zones_part}
 use Rattle.tariff_check.specs.Sound.{IsGoodAtom, IsSoundAtom, IsSoundHoliday, IsSoundInitial, IsSoundRate, IsSoundSupplement}
 use Rattle.tariff_check.proofs.MeasureLaws.{both_some}
 use Rattle.tariff_check.proofs.Staging.{or_false}
@@ -70,6 +70,13 @@ initial_fact (initial amount covers when) good i h =
     subst IsSoundInitial same (record { amount = ltb-false 99999999 amount amounts.0; covers = ltb-false 99999999 covers amounts.1 })
 initial_fact x good i h = absurd cc
 
+pub minimum_fact : (x : Entry) → IsGoodEntry x → (n : ℕ) → minimum_part x ≡ Some n → n ≤ 99999999
+minimum_fact (minimum amount when) good n h =
+    let same : amount ≡ n = cc in
+    let most = ltb-false 99999999 amount good.moderate in
+    omega arith
+minimum_fact x good n h = absurd cc
+
 pub supplement_fact : (number : ℕ) (x : Entry) → IsGoodEntry x → (s : SupplementNumbers) → supplement_part number x ≡ Some s → IsSoundSupplement s
 supplement_fact number (supplement n amount most) good s h =
     let same = some_same (number == n) (record { amount = amount; most = most }) s h in
@@ -105,6 +112,7 @@ if_writable (Some c) h = atoms_writable c h
 entry_writable : (x : Entry) → IsWritableEntry x → All IsWritableCondition (atoms_in x)
 entry_writable (initial amount covers when) h = if_writable when h.2
 entry_writable (rate a b c e when) h = if_writable when h.4
+entry_writable (minimum amount when) h = if_writable when h.1
 entry_writable x h = All-nil IsWritableCondition
 
 none_any : {A : Type 0} (p : A → Bool) (xs : List A) → list_any p xs ≡ false → All (λ (x : A). p x ≡ false) xs

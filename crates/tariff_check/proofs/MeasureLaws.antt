@@ -4,14 +4,13 @@ use Rattle.std.proofs.lemmas.Nat.Gcd.{le_of_dvd}
 use Rattle.std.proofs.lemmas.Bool.Decides.{nat_tests}
 use Rattle.std.proofs.lemmas.List.{get_or-map, length-map, drop-map}
 use Rattle.std.proofs.lemmas.List.Elements.{All-nil, All-cons, All-head, All-tail, All-drop, All-same}
-use Rattle.tariff_syntax.proofs.Measures.{divides, lcm_is_least}
-use Rattle.tariff_syntax.specs.Measure.{lcm_of}
-use Rattle.tariff_syntax.specs.Tree.{Line, Entry, step, positions, zones, holiday, supplement, initial, rate, entry_of, line_of}
+use Rattle.tariff_check.proofs.LeastMultiples.{divides, lcm_is_least}
+use Rattle.tariff_syntax.specs.Tree.{Line, Entry, rate, entry_of, line_of}
 use Rattle.tariff_syntax.specs.declared.tariff.Item.TheVariants.{Rate}
 use Rattle.tariff_syntax.specs.declared.tariff.RateLine.{RateLine}
 use Rattle.tariff_syntax.specs.declared.tariff.TariffLine.{TariffLine}
 use Rattle.tariff_check.specs.Lines.{is_for_nothing}
-use Rattle.tariff_check.specs.Measure.{measures_of, common_with}
+use Rattle.tariff_check.specs.Measure.{lcm_of, measures_of, common_with}
 
 -- a line is no rate with a measure of 0
 abbrev pub IsMeasured : Line → Type 0
@@ -44,15 +43,10 @@ both_some b e h = grind (arith, nat_tests)
 
 -- the measures of such lines are above 0
 measures_by : (number : ℕ) (x : Entry) (ls : List Line) → is_for_nothing x ≡ false → All IsSome (measures_of ls) → All IsSome (measures_of (record { line = number; entry = x } ∷ ls))
-measures_by number (step amount rounding) ls h rest = rest
-measures_by number (positions n) ls h rest = rest
-measures_by number (zones n) ls h rest = rest
-measures_by number (holiday year month date) ls h rest = rest
-measures_by number (supplement n amount most) ls h rest = rest
-measures_by number (initial amount covers when) ls h rest = rest
 measures_by number (rate a b c e when) ls h rest =
     let some = both_some b e h in
     All-cons IsSome b (e ∷ measures_of ls) some.0 (All-cons IsSome e (measures_of ls) some.1 rest)
+measures_by number x ls h rest = rest
 
 pub measures_some : (ls : List Line) → All IsMeasured ls → All IsSome (measures_of ls)
 measures_some [] all = All-nil IsSome

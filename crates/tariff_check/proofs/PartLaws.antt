@@ -1,14 +1,16 @@
 -- What holds of the lines of a tariff holds of its parts.
-use Rattle.std.proofs.Common.{◌≡◌, ℕ, ◌+◌, ◌≤◌, false, cond, List, [], ◌∷◌, ◌++◌, Option, Some, None, All, length, refl, ◌∙◌, subst, append_assoc, arith}
+use Rattle.std.proofs.Common.{◌≡◌, ℕ, ◌+◌, ◌≤◌, Bool, false, cond, List, [], ◌∷◌, ◌++◌, Option, Some, None, All, length, refl, ◌∙◌, subst, append_assoc, arith}
 use Rattle.std.proofs.lemmas.Bool.{leb-false}
 use Rattle.std.proofs.lemmas.List.{append-nil, length-append}
 use Rattle.std.proofs.lemmas.List.Elements.{All-nil, All-cons, All-head, All-tail, filter_map-append}
 use Rattle.std.proofs.lemmas.List.Sums.{sum_by-cons}
 use Rattle.std.specs.List.{cons_option, count_by, slice_get}
+use Rattle.std.specs.Option.{is_some}
 use Rattle.tariff_syntax.specs.Condition.{Condition}
-use Rattle.tariff_syntax.specs.Tree.{Line, Entry, step, positions, zones, holiday, supplement, initial, rate}
+use Rattle.tariff_syntax.specs.Parts.{parts}
+use Rattle.tariff_syntax.specs.Tree.{Line, Entry, holiday, initial, rate, minimum}
 use Rattle.tariff_check.specs.Lines.{first_after, first_line, is_alike, is_one_too_many, most_alike}
-use Rattle.tariff_check.specs.Parts.{first_part, holiday_part, initial_part, parts, rate_part}
+use Rattle.tariff_check.specs.Parts.{first_part, holiday_part, initial_part, minimum_part, rate_part}
 use Rattle.tariff_check.proofs.FirstLine.{passed_by}
 
 parts_by : {A : Type 0} (P : A → Type 0) (o : Option A) (rest : List A) → ((y : A) → o ≡ Some y → P y) → All P rest → All P (cons_option o rest)
@@ -52,65 +54,57 @@ few part most counts before (l ∷ ls) h none =
     let next : length (parts part (before ++ l ∷ [])) ≤ most = rw filter_map-append (rw length-append more) in
     rw (← append_assoc before (l ∷ []) ls) (few part most counts (before ++ l ∷ []) ls next here.1)
 
-rates_by : (a b c e : ℕ) (when : Option Condition) (number : ℕ) (x : Entry) (ls : List Line) → count_by (λ (l : Line). is_alike (rate a b c e when) l.entry) ls ≡ length (parts rate_part ls) → count_by (λ (l : Line). is_alike (rate a b c e when) l.entry) (record { line = number; entry = x } ∷ ls) ≡ length (parts rate_part (record { line = number; entry = x } ∷ ls))
-rates_by a b c e when number (step amount₂ rounding₂) ls h = sum_by-cons (λ (l : Line). cond (is_alike (rate a b c e when) l.entry) 1 0) (record { line = number; entry = step amount₂ rounding₂ }) ls ∙ omega arith
-rates_by a b c e when number (positions n₂) ls h = sum_by-cons (λ (l : Line). cond (is_alike (rate a b c e when) l.entry) 1 0) (record { line = number; entry = positions n₂ }) ls ∙ omega arith
-rates_by a b c e when number (zones n₂) ls h = sum_by-cons (λ (l : Line). cond (is_alike (rate a b c e when) l.entry) 1 0) (record { line = number; entry = zones n₂ }) ls ∙ omega arith
-rates_by a b c e when number (holiday year₂ month₂ date₂) ls h = sum_by-cons (λ (l : Line). cond (is_alike (rate a b c e when) l.entry) 1 0) (record { line = number; entry = holiday year₂ month₂ date₂ }) ls ∙ omega arith
-rates_by a b c e when number (supplement n₂ amount₂ most₂) ls h = sum_by-cons (λ (l : Line). cond (is_alike (rate a b c e when) l.entry) 1 0) (record { line = number; entry = supplement n₂ amount₂ most₂ }) ls ∙ omega arith
-rates_by a b c e when number (initial amount₂ covers₂ when₂) ls h = sum_by-cons (λ (l : Line). cond (is_alike (rate a b c e when) l.entry) 1 0) (record { line = number; entry = initial amount₂ covers₂ when₂ }) ls ∙ omega arith
-rates_by a b c e when number (rate a₂ b₂ c₂ e₂ when₂) ls h = sum_by-cons (λ (l : Line). cond (is_alike (rate a b c e when) l.entry) 1 0) (record { line = number; entry = rate a₂ b₂ c₂ e₂ when₂ }) ls ∙ omega arith
+-- where lines are like one exactly where they have such a part, as many are
+count_like : {A : Type 0} (part : Entry → Option A) (like : Entry → Bool) → ((y : Entry) → like y ≡ is_some (part y)) → (ls : List Line) → count_by (λ (l : Line). like l.entry) ls ≡ length (parts part ls)
+count_like part like same [] = refl
+count_like part like same (l ∷ ls) =
+    sum_by-cons (λ (m : Line). cond (like m.entry) 1 0) l ls ∙ counted (part l.entry) (like l.entry) (same l.entry) (parts part ls) _ (count_like part like same ls)
+  where
+    counted : {A : Type 0} (o : Option A) (b : Bool) → b ≡ is_some o → (rest : List A) (n : ℕ) → n ≡ length rest → cond b 1 0 + n ≡ length (cons_option o rest)
+    counted None b e rest n h = rw e (omega arith)
+    counted (Some y) b e rest n h = rw e (omega arith)
 
-count_rates : (a b c e : ℕ) (when : Option Condition) (ls : List Line) → count_by (λ (l : Line). is_alike (rate a b c e when) l.entry) ls ≡ length (parts rate_part ls)
-count_rates a b c e when [] = refl
-count_rates a b c e when (l ∷ ls) = rates_by a b c e when l.line l.entry ls (count_rates a b c e when ls)
+rate_like : (a b c e : ℕ) (when : Option Condition) (y : Entry) → is_alike (rate a b c e when) y ≡ is_some (rate_part y)
+rate_like a b c e when (rate a₂ b₂ c₂ e₂ when₂) = refl
+rate_like a b c e when y = refl
+
+initial_like : (amount covers : ℕ) (when : Option Condition) (y : Entry) → is_alike (initial amount covers when) y ≡ is_some (initial_part y)
+initial_like amount covers when (initial amount₂ covers₂ when₂) = refl
+initial_like amount covers when y = refl
+
+minimum_like : (amount : ℕ) (when : Option Condition) (y : Entry) → is_alike (minimum amount when) y ≡ is_some (minimum_part y)
+minimum_like amount when (minimum amount₂ when₂) = refl
+minimum_like amount when y = refl
+
+holiday_like : (year month date : ℕ) (y : Entry) → is_alike (holiday year month date) y ≡ is_some (holiday_part y)
+holiday_like year month date (holiday year₂ month₂ date₂) = refl
+holiday_like year month date y = refl
 
 known_rates : CountsParts rate_part 64
-known_rates (rate a b c e when) y h = (refl, count_rates a b c e when)
+known_rates (rate a b c e when) y h = (refl, count_like rate_part (is_alike (rate a b c e when)) (rate_like a b c e when))
 known_rates x y h = absurd cc
+
+known_initials : CountsParts initial_part 64
+known_initials (initial amount covers when) y h = (refl, count_like initial_part (is_alike (initial amount covers when)) (initial_like amount covers when))
+known_initials x y h = absurd cc
+
+known_minimums : CountsParts minimum_part 64
+known_minimums (minimum amount when) y h = (refl, count_like minimum_part (is_alike (minimum amount when)) (minimum_like amount when))
+known_minimums x y h = absurd cc
+
+known_holidays : CountsParts holiday_part 255
+known_holidays (holiday year month date) y h = (refl, count_like holiday_part (is_alike (holiday year month date)) (holiday_like year month date))
+known_holidays x y h = absurd cc
 
 -- a tariff without too many lines has few such lines
 pub few_rates : (ls : List Line) → first_line is_one_too_many ls ≡ None → length (parts rate_part ls) ≤ 64
 few_rates ls h = few rate_part 64 known_rates [] ls (omega arith) h
 
-initials_by : (amount covers : ℕ) (when : Option Condition) (number : ℕ) (x : Entry) (ls : List Line) → count_by (λ (l : Line). is_alike (initial amount covers when) l.entry) ls ≡ length (parts initial_part ls) → count_by (λ (l : Line). is_alike (initial amount covers when) l.entry) (record { line = number; entry = x } ∷ ls) ≡ length (parts initial_part (record { line = number; entry = x } ∷ ls))
-initials_by amount covers when number (step amount₂ rounding₂) ls h = sum_by-cons (λ (l : Line). cond (is_alike (initial amount covers when) l.entry) 1 0) (record { line = number; entry = step amount₂ rounding₂ }) ls ∙ omega arith
-initials_by amount covers when number (positions n₂) ls h = sum_by-cons (λ (l : Line). cond (is_alike (initial amount covers when) l.entry) 1 0) (record { line = number; entry = positions n₂ }) ls ∙ omega arith
-initials_by amount covers when number (zones n₂) ls h = sum_by-cons (λ (l : Line). cond (is_alike (initial amount covers when) l.entry) 1 0) (record { line = number; entry = zones n₂ }) ls ∙ omega arith
-initials_by amount covers when number (holiday year₂ month₂ date₂) ls h = sum_by-cons (λ (l : Line). cond (is_alike (initial amount covers when) l.entry) 1 0) (record { line = number; entry = holiday year₂ month₂ date₂ }) ls ∙ omega arith
-initials_by amount covers when number (supplement n₂ amount₂ most₂) ls h = sum_by-cons (λ (l : Line). cond (is_alike (initial amount covers when) l.entry) 1 0) (record { line = number; entry = supplement n₂ amount₂ most₂ }) ls ∙ omega arith
-initials_by amount covers when number (initial amount₂ covers₂ when₂) ls h = sum_by-cons (λ (l : Line). cond (is_alike (initial amount covers when) l.entry) 1 0) (record { line = number; entry = initial amount₂ covers₂ when₂ }) ls ∙ omega arith
-initials_by amount covers when number (rate a₂ b₂ c₂ e₂ when₂) ls h = sum_by-cons (λ (l : Line). cond (is_alike (initial amount covers when) l.entry) 1 0) (record { line = number; entry = rate a₂ b₂ c₂ e₂ when₂ }) ls ∙ omega arith
-
-count_initials : (amount covers : ℕ) (when : Option Condition) (ls : List Line) → count_by (λ (l : Line). is_alike (initial amount covers when) l.entry) ls ≡ length (parts initial_part ls)
-count_initials amount covers when [] = refl
-count_initials amount covers when (l ∷ ls) = initials_by amount covers when l.line l.entry ls (count_initials amount covers when ls)
-
-known_initials : CountsParts initial_part 64
-known_initials (initial amount covers when) y h = (refl, count_initials amount covers when)
-known_initials x y h = absurd cc
-
--- a tariff without too many lines has few such lines
 pub few_initials : (ls : List Line) → first_line is_one_too_many ls ≡ None → length (parts initial_part ls) ≤ 64
 few_initials ls h = few initial_part 64 known_initials [] ls (omega arith) h
 
-holidays_by : (year month date : ℕ) (number : ℕ) (x : Entry) (ls : List Line) → count_by (λ (l : Line). is_alike (holiday year month date) l.entry) ls ≡ length (parts holiday_part ls) → count_by (λ (l : Line). is_alike (holiday year month date) l.entry) (record { line = number; entry = x } ∷ ls) ≡ length (parts holiday_part (record { line = number; entry = x } ∷ ls))
-holidays_by year month date number (step amount₂ rounding₂) ls h = sum_by-cons (λ (l : Line). cond (is_alike (holiday year month date) l.entry) 1 0) (record { line = number; entry = step amount₂ rounding₂ }) ls ∙ omega arith
-holidays_by year month date number (positions n₂) ls h = sum_by-cons (λ (l : Line). cond (is_alike (holiday year month date) l.entry) 1 0) (record { line = number; entry = positions n₂ }) ls ∙ omega arith
-holidays_by year month date number (zones n₂) ls h = sum_by-cons (λ (l : Line). cond (is_alike (holiday year month date) l.entry) 1 0) (record { line = number; entry = zones n₂ }) ls ∙ omega arith
-holidays_by year month date number (holiday year₂ month₂ date₂) ls h = sum_by-cons (λ (l : Line). cond (is_alike (holiday year month date) l.entry) 1 0) (record { line = number; entry = holiday year₂ month₂ date₂ }) ls ∙ omega arith
-holidays_by year month date number (supplement n₂ amount₂ most₂) ls h = sum_by-cons (λ (l : Line). cond (is_alike (holiday year month date) l.entry) 1 0) (record { line = number; entry = supplement n₂ amount₂ most₂ }) ls ∙ omega arith
-holidays_by year month date number (initial amount₂ covers₂ when₂) ls h = sum_by-cons (λ (l : Line). cond (is_alike (holiday year month date) l.entry) 1 0) (record { line = number; entry = initial amount₂ covers₂ when₂ }) ls ∙ omega arith
-holidays_by year month date number (rate a₂ b₂ c₂ e₂ when₂) ls h = sum_by-cons (λ (l : Line). cond (is_alike (holiday year month date) l.entry) 1 0) (record { line = number; entry = rate a₂ b₂ c₂ e₂ when₂ }) ls ∙ omega arith
+pub few_minimums : (ls : List Line) → first_line is_one_too_many ls ≡ None → length (parts minimum_part ls) ≤ 64
+few_minimums ls h = few minimum_part 64 known_minimums [] ls (omega arith) h
 
-count_holidays : (year month date : ℕ) (ls : List Line) → count_by (λ (l : Line). is_alike (holiday year month date) l.entry) ls ≡ length (parts holiday_part ls)
-count_holidays year month date [] = refl
-count_holidays year month date (l ∷ ls) = holidays_by year month date l.line l.entry ls (count_holidays year month date ls)
-
-known_holidays : CountsParts holiday_part 255
-known_holidays (holiday year month date) y h = (refl, count_holidays year month date)
-known_holidays x y h = absurd cc
-
--- a tariff without too many lines has few such lines
 pub few_holidays : (ls : List Line) → first_line is_one_too_many ls ≡ None → length (parts holiday_part ls) ≤ 255
 few_holidays ls h = few holiday_part 255 known_holidays [] ls (omega arith) h

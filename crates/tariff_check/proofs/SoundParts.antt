@@ -1,5 +1,5 @@
 -- A sound tariff has its parts in their ranges.
-use Rattle.std.proofs.Common.{◌≡◌, ℕ, ◌^◌, ◌<◌, ◌≤◌, Bool, true, false, cond, List, [], Option, Some, None, All, refl, arith}
+use Rattle.std.proofs.Common.{◌≡◌, ℕ, ◌^◌, ◌<◌, ◌≤◌, Bool, true, false, cond, List, [], Option, Some, None, All, refl, subst, arith}
 use Rattle.std.proofs.lemmas.Bool.{ltb-false, eqb-false}
 use Rattle.std.proofs.Math.Nat.{mul-pos}
 use Rattle.std.specs.List.{list_any}
@@ -8,22 +8,24 @@ use Rattle.drive_modes.specs.declared.meterage.Rounding.{Rounding}
 use Rattle.tariff_syntax.specs.Tree.{Tree, Line, Entry}
 use Rattle.tariff_syntax.specs.Writable.{IsFromTo, IsWritable}
 use Rattle.tariff_check.specs.Cells.{bands_between, cells_of}
+use Rattle.tariff_check.specs.Counted.{HasNumbers}
 use Rattle.tariff_check.specs.Cuts.{count_of, most_cuts}
 use Rattle.tariff_check.specs.Faults.{IsSound, cuts_fault, is_step_zero}
 use Rattle.tariff_check.specs.Lines.{atoms_in, first_line, has_bad_date, has_great_amount, has_measure_zero, is_after_nothing, is_for_nothing, is_great, is_no_holiday, is_one_too_many, is_undated}
 use Rattle.tariff_check.specs.Measure.{measure_of, measures_of}
-use Rattle.tariff_check.specs.Parts.{SupplementNumbers, first_part, has_holidays, holiday_part, initial_part, positions_of, positions_part, rate_part, step_of, step_part, supplement_part, zones_of, zones_part}
+use Rattle.tariff_check.specs.Parts.{SupplementNumbers, first_part, has_holidays, holiday_part, initial_part, minimum_part, positions_of, positions_part, rate_part, step_of, step_part, supplement_part, zones_of, zones_part}
 use Rattle.tariff_check.specs.Sound.{HasSoundParts, IsSoundHoliday, IsSoundInitial, IsSoundRate, IsSoundSupplement}
 use Rattle.tariff_check.specs.declared.fault.CheckFault.TheVariants.{AmountTooBig, BadDate, MeasureZero, TooManyLines}
 use Rattle.tariff_check.specs.declared.fault.Dimension.{Dimension}
 use Rattle.tariff_check.specs.declared.fault.Dimension.TheVariants.{MonthDay, Minute, Distance, Time}
+use Rattle.tariff_check.specs.declared.numbers.Numbers.{Numbers}
 use Rattle.tariff_check.proofs.CommonMeasure.{sound_measures}
 use Rattle.tariff_check.proofs.DefaultLines.{default_initial, default_rate}
 use Rattle.tariff_check.proofs.FirstLine.{never}
-use Rattle.tariff_check.proofs.LineFacts.{IsGoodEntry, good_atoms, holiday_fact, initial_fact, positions_fact, rate_fact, step_fact, supplement_fact, zones_fact}
+use Rattle.tariff_check.proofs.LineFacts.{IsGoodEntry, good_atoms, holiday_fact, initial_fact, minimum_fact, positions_fact, rate_fact, step_fact, supplement_fact, zones_fact}
 use Rattle.tariff_check.proofs.MeasureLaws.{common_grows}
-use Rattle.tariff_check.proofs.PartLaws.{Gives, few_holidays, few_initials, few_rates, first_part_has, parts_all}
-use Rattle.tariff_check.proofs.Staging.{not_if, nowhere, or_false}
+use Rattle.tariff_check.proofs.PartLaws.{Gives, few_holidays, few_initials, few_minimums, few_rates, first_part_has, parts_all}
+use Rattle.tariff_check.proofs.Staging.{not_if, nowhere, or_false, sound_if_none}
 
 -- each line is good
 abbrev IsGoodLine : Line → Type 0
@@ -102,6 +104,8 @@ sound_parts t w h =
       initials = parts_all initial_part IsSoundInitial ls (given initial_part IsSoundInitial ls initial_fact good);
       initial_count = few_initials ls many;
       default_initial = default_initial t h;
+      minimums = parts_all minimum_part (λ amount. amount ≤ 99999999) ls (given minimum_part (λ amount. amount ≤ 99999999) ls minimum_fact good);
+      minimum_count = few_minimums ls many;
       supplements = λ (number : ℕ) (s : SupplementNumbers) e. first_part_has (supplement_part number) IsSoundSupplement ls s (given (supplement_part number) IsSoundSupplement ls (supplement_fact number) good) e;
       holidays = parts_all holiday_part IsSoundHoliday ls (given holiday_part IsSoundHoliday ls holiday_fact good);
       holiday_count = few_holidays ls many;
@@ -110,3 +114,15 @@ sound_parts t w h =
       cuts = all_cuts_few t h;
       cells = (cells_some ls positions.0 zones.0, ltb-false 64512 (cells_of ls) (not_if _ _ (h 16 None (omega arith))));
     }
+
+-- and so has one whose numbers are known
+pub numbered_parts : (t : Tree) (n : Numbers) → IsWritable t → HasNumbers t.lines n → HasSoundParts t
+numbered_parts t n w h = sound_parts t w (sound_if_none t h.sound)
+
+pub step_range : (t : Tree) (n : Numbers) → IsWritable t → HasNumbers t.lines n → IsFromTo 1 (10 ^ 6) n.step
+step_range t n w h =
+    let step = (numbered_parts t n w h).step in
+    let found : step_of t.lines ≡ Some step.0 = step.1 in
+    let read : step_of t.lines ≡ Some (n.step, n.rounding) = h.step in
+    let same : step.0 ≡ (n.step, n.rounding) = cc in
+    subst (λ (s : ℕ × Rounding). IsFromTo 1 (10 ^ 6) s.0) same step.2

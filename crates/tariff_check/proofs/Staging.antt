@@ -1,14 +1,14 @@
 -- The first fault, stage by stage.
-use Rattle.std.proofs.Common.{◌≡◌, ℕ, ◌≤◌, ◌^◌, ◌||◌, Bool, true, false, List, [], ◌∷◌, Option, Some, None, All, refl, ap, sym, ◌∙◌}
+use Rattle.std.proofs.Common.{◌≡◌, ℕ, ◌≤◌, ◌^◌, ◌||◌, Bool, true, false, List, [], ◌∷◌, Option, Some, None, All, refl, ap, sym, subst, ◌∙◌}
 use Rattle.std.proofs.lemmas.List.Elements.{All-nil, All-cons, All-head, All-tail}
 use Rattle.std.specs.Option.{option_or}
 use Rattle.tariff_syntax.specs.Tree.{Tree, Line}
-use Rattle.tariff_check.specs.Faults.{faults_of, fault_of, first_some, fault_if, fault_at, IsSound}
+use Rattle.tariff_check.specs.Faults.{HasNone, faults_before_cuts, faults_of, fault_of, first_some, fault_if, fault_at, IsSound}
 use Rattle.tariff_check.specs.Cells.{cells_of}
 use Rattle.tariff_check.specs.Lines.{first_line, has_bad_date, has_great_amount, has_measure_zero, is_for_nothing}
 use Rattle.tariff_check.specs.Measure.{measure_of}
 use Rattle.tariff_check.specs.Stages.{step_fault, line_fault, default_fault, number_fault, cut_fault, early_fault, late_fault}
-use Rattle.tariff_check.specs.declared.fault.CheckFault.TheVariants.{BadDate, AmountTooBig, MeasureZero, TooManyCells}
+use Rattle.tariff_check.specs.declared.fault.CheckFault.TheVariants.{NoStep, StepZero, Duplicate, TooManyLines, UnknownNumber, NoDefaultRate, NoDefaultInitial, LineAfterDefault, BadDate, AmountTooBig, MeasureZero, NoCommonMeasure, TooManyCells, NoMemory}
 use Rattle.tariff_check.proofs.FirstLine.{never}
 use Rattle.tariff_check.proofs.MeasureLaws.{IsMeasured}
 use Rattle.std.proofs.lemmas.Bool.{le-ltb}
@@ -79,9 +79,71 @@ measured_if ls h =
 pub early_is_first : (ls : List Line) (fault : CheckFault) → Some fault ≡ early_fault ls → first_some (faults_of ls) ≡ Some fault
 early_is_first ls fault h = staged ls ∙ ap (λ (o : Option CheckFault). option_or o (late_fault ls)) (sym h)
 
+-- or, before them, one of the display step
+pub step_is_first : (ls : List Line) (fault : CheckFault) → step_fault ls ≡ Some fault → first_some (faults_of ls) ≡ Some fault
+step_is_first ls fault h =
+    let early : Some fault ≡ early_fault ls = rw h refl in
+    early_is_first ls fault early
+
 -- or else too many cuts
 pub cuts_are_first : (ls : List Line) (fault : CheckFault) → None ≡ early_fault ls → measure_of ls ≤ 10 ^ 18 → cut_fault ls ≡ Some fault → first_some (faults_of ls) ≡ Some fault
 cuts_are_first ls fault early common h =
     let late : late_fault ls ≡ option_or (cut_fault ls) (fault_if (nat_lt 64512 (cells_of ls)) (TooManyCells (cells_of ls))) = rw (le-ltb (10 ^ 18) (measure_of ls) common) refl in
     staged ls ∙ (ap (λ (o : Option CheckFault). option_or o (late_fault ls)) (sym early)
     ∙ (late ∙ ap (λ (o : Option CheckFault). option_or o (fault_if (nat_lt 64512 (cells_of ls)) (TooManyCells (cells_of ls)))) h))
+
+-- a fault that isn't one of lines
+abbrev is_late : CheckFault → Bool
+is_late NoCommonMeasure = true
+is_late NoMemory = true
+is_late fault = false
+
+-- what is there is one of lines
+abbrev IsEarly : Option CheckFault → Type 0
+IsEarly o = (fault : CheckFault) → o ≡ Some fault → is_late fault ≡ false
+
+early_or : (x y : Option CheckFault) → IsEarly x → IsEarly y → IsEarly (option_or x y)
+early_or None y first second = second
+early_or (Some f) y first second = first
+
+early_if : (b : Bool) (f : CheckFault) → is_late f ≡ false → IsEarly (fault_if b f)
+early_if true f early = λ fault e. let same : f ≡ fault = cc in subst (λ g. is_late g ≡ false) same early
+early_if false f early = λ fault e. absurd cc
+
+early_at : (f : ℕ → CheckFault) (line : Option ℕ) → ((n : ℕ) → is_late (f n) ≡ false) → IsEarly (fault_at f line)
+early_at f None early = λ fault e. absurd cc
+early_at f (Some n) early = λ fault e. let same : f n ≡ fault = cc in subst (λ g. is_late g ≡ false) same (early n)
+
+step_is_early : (ls : List Line) → IsEarly (step_fault ls)
+step_is_early ls = early_or _ _ (early_if _ NoStep refl) (early_if _ StepZero refl)
+
+early_is_early : (ls : List Line) → IsEarly (early_fault ls)
+early_is_early ls =
+    early_or _ _ (step_is_early ls)
+    (early_or _ _ (early_or _ _ (early_at Duplicate _ (λ n. refl)) (early_or _ _ (early_at TooManyLines _ (λ n. refl)) (early_at UnknownNumber _ (λ n. refl))))
+    (early_or _ _ (early_or _ _ (early_if _ NoDefaultRate refl) (early_or _ _ (early_if _ NoDefaultInitial refl) (early_at LineAfterDefault _ (λ n. refl))))
+    (early_or _ _ (early_at BadDate _ (λ n. refl)) (early_or _ _ (early_at AmountTooBig _ (λ n. refl)) (early_at MeasureZero _ (λ n. refl))))))
+
+late_false : (fault late : CheckFault) → is_late fault ≡ false → is_late late ≡ true → fault ≡ late → ⊥
+late_false fault late early is same = absurd (cc (subst (λ f. is_late f ≡ false) same early))
+
+-- want of memory is no fault of lines
+pub step_no_memory : (ls : List Line) (fault : CheckFault) → step_fault ls ≡ Some fault → fault ≡ NoMemory → ⊥
+step_no_memory ls fault is same = late_false fault NoMemory (step_is_early ls fault is) refl same
+
+pub early_no_memory : (ls : List Line) (fault : CheckFault) → early_fault ls ≡ Some fault → fault ≡ NoMemory → ⊥
+early_no_memory ls fault is same = late_false fault NoMemory (early_is_early ls fault is) refl same
+
+no_fault_first : (x y : Option CheckFault) → IsEarly x → option_or x y ≡ Some NoCommonMeasure → x ≡ None
+no_fault_first None y early h = refl
+no_fault_first (Some f) y early h = absurd (late_false f NoCommonMeasure (early f refl) refl cc)
+
+-- and where the common measure is refused, no fault of lines is there
+pub no_early_fault : (t : Tree) → fault_of t ≡ Some NoCommonMeasure → early_fault t.lines ≡ None
+no_early_fault t h = no_fault_first (early_fault t.lines) (late_fault t.lines) (early_is_early t.lines) (sym (staged t.lines) ∙ h)
+
+-- without a fault of lines, and with a common measure, none is there before those of cuts
+pub none_before_cuts : (ls : List Line) → early_fault ls ≡ None → measure_of ls ≤ 10 ^ 18 → HasNone (faults_before_cuts ls)
+none_before_cuts ls early common =
+    let before : first_some (faults_before_cuts ls) ≡ option_or (early_fault ls) (fault_if (nat_lt (10 ^ 18) (measure_of ls)) NoCommonMeasure) = simp (or_assoc, or_none) in
+    none_each (faults_before_cuts ls) (before ∙ rw (early, le-ltb (10 ^ 18) (measure_of ls) common) refl)

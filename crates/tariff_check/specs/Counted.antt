@@ -1,11 +1,13 @@
 -- The numbers of a tariff, as the code has them.
-use Rattle.std.specs.Prelude.{◌≡◌, ℕ, ◌≤◌, List, None}
+use Rattle.std.specs.Prelude.{◌≡◌, ◌≤◌, List, Some, None}
 use Rattle.tariff_syntax.specs.Tree.{Line}
 use Rattle.tariff_check.specs.Cells.{cells_of}
 use Rattle.tariff_check.specs.Cuts.{count_of}
 use Rattle.tariff_check.specs.Faults.{faults_of, first_some}
 use Rattle.tariff_check.specs.Measure.{measure_of}
+use Rattle.tariff_check.specs.Parts.{positions_of, step_of, zones_of}
 use Rattle.tariff_check.specs.declared.cells.Counts.{Counts}
+use Rattle.tariff_check.specs.declared.numbers.Numbers.{Numbers}
 use Rattle.tariff_check.specs.declared.fault.Dimension.TheVariants.{MonthDay, Minute, Distance, Time}
 
 -- these are how many cuts there are in each dimension, and they aren't too many
@@ -15,8 +17,11 @@ pub record HasCounts (lines : List Line) (counts : Counts) : Type 0 where
   pub distance : (counts.distance ≡ count_of Distance lines) × (counts.distance ≤ 15)
   pub time : (counts.time ≡ count_of Time lines) × (counts.time ≤ 15)
 
--- lines have no fault, and these are their cells and their common measure
-pub record HasNumbers (lines : List Line) (cells measure : ℕ) : Type 0 where
+-- lines have no fault, and these are their numbers
+pub record HasNumbers (lines : List Line) (n : Numbers) : Type 0 where
   pub sound : first_some (faults_of lines) ≡ None
-  pub cells_are : cells ≡ cells_of lines
-  pub measure_is : measure ≡ measure_of lines
+  pub step : step_of lines ≡ Some (n.step, n.rounding)
+  pub positions : n.positions ≡ positions_of lines
+  pub zones : n.zones ≡ zones_of lines
+  pub cells : n.cells ≡ cells_of lines
+  pub measure : n.measure ≡ measure_of lines

@@ -3,9 +3,9 @@ use Rattle.std.specs.Prelude.{ℕ, ◌+◌, ◌<◌, ◌||◌, ◌==◌, if◌th
 use Rattle.std.specs.BTreeSet.{insert_key}
 use Rattle.std.specs.List.{flat_map}
 use Rattle.std.specs.Ordering.{nat_cmp}
+use Rattle.taxi_units.specs.Calendar.{date_place}
 use Rattle.tariff_syntax.specs.Condition as tree
 use Rattle.tariff_syntax.specs.Condition.{Condition}
-use Rattle.tariff_syntax.specs.Meaning.{month_day_of}
 use Rattle.tariff_syntax.specs.Tree.{Line}
 use Rattle.tariff_check.specs.Lines.{atoms_in}
 use Rattle.tariff_check.specs.declared.fault.Dimension.{Dimension}
@@ -22,7 +22,7 @@ minute_cut minute = if minute == 0 then [] else minute ∷ []
 -- the cuts of an atom: a range of days is cut before its first day and after its last
 abbrev pub atom_cuts : Dimension → Condition → List ℕ
 atom_cuts MonthDay (tree.date from_month from_date to_month to_date) =
-    day_cut (month_day_of from_month from_date) ++ day_cut (month_day_of to_month to_date + 1)
+    day_cut (date_place from_month from_date) ++ day_cut (date_place to_month to_date + 1)
 atom_cuts Minute (tree.time from to) = minute_cut from ++ minute_cut to
 atom_cuts Distance (tree.after_distance decimetres) = decimetres ∷ []
 atom_cuts Time (tree.after_time tenths) = tenths ∷ []

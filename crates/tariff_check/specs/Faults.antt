@@ -1,10 +1,10 @@
 -- The faults of a tariff, in their order.
-use Rattle.std.specs.Prelude.{◌≡◌, ℕ, ◌^◌, Bool, true, false, not, ◌==◌, nat_lt, List, [], ◌∷◌, Option, Some, None, is_none, All}
+use Rattle.std.specs.Prelude.{◌≡◌, ℕ, ◌^◌, Bool, true, false, not, ◌==◌, nat_lt, List, [], ◌∷◌, ◌++◌, Option, Some, None, is_none, All}
 use Rattle.std.specs.List.{list_any}
 use Rattle.std.specs.Option.{option_or}
 use Rattle.drive_modes.specs.declared.meterage.Rounding.{Rounding}
 use Rattle.tariff_syntax.specs.Condition.{Condition}
-use Rattle.tariff_syntax.specs.Meaning.{rate_conditions, initial_conditions}
+use Rattle.tariff_syntax.specs.Parts.{rate_conditions, initial_conditions}
 use Rattle.tariff_syntax.specs.Tree.{Tree, Line}
 use Rattle.tariff_check.specs.Cells.{cells_of}
 use Rattle.tariff_check.specs.Cuts.{count_of, most_cuts}
@@ -39,9 +39,9 @@ cuts_fault lines dimension = fault_if (nat_lt (most_cuts dimension) (count_of di
 abbrev pub has_default : List (Option Condition) → Bool
 has_default conditions = list_any is_none conditions
 
--- each fault where its condition holds, in their order
-abbrev pub faults_of : List Line → List (Option CheckFault)
-faults_of ls =
+-- the faults of lines and of their common measure where their conditions hold, in their order
+abbrev pub faults_before_cuts : List Line → List (Option CheckFault)
+faults_before_cuts ls =
     fault_if (is_none (step_of ls)) NoStep
     ∷ fault_if (is_step_zero (step_of ls)) StepZero
     ∷ fault_at Duplicate (first_line is_duplicate ls)
@@ -54,12 +54,25 @@ faults_of ls =
     ∷ fault_at AmountTooBig (first_line has_great_amount ls)
     ∷ fault_at MeasureZero (first_line has_measure_zero ls)
     ∷ fault_if (nat_lt (10 ^ 18) (measure_of ls)) NoCommonMeasure
-    ∷ cuts_fault ls MonthDay
+    ∷ []
+
+-- those of cuts and cells
+abbrev pub faults_from_cuts : List Line → List (Option CheckFault)
+faults_from_cuts ls =
+    cuts_fault ls MonthDay
     ∷ cuts_fault ls Minute
     ∷ cuts_fault ls Distance
     ∷ cuts_fault ls Time
     ∷ fault_if (nat_lt 64512 (cells_of ls)) (TooManyCells (cells_of ls))
     ∷ []
+
+-- each fault where its condition holds, in their order
+abbrev pub faults_of : List Line → List (Option CheckFault)
+faults_of ls = faults_before_cuts ls ++ faults_from_cuts ls
+
+-- none of some faults is there
+abbrev pub HasNone : List (Option CheckFault) → Type 0
+HasNone faults = All (λ (f : Option CheckFault). f ≡ None) faults
 
 -- the first that is there
 abbrev pub first_some : {A : Type 0} → List (Option A) → Option A
@@ -72,4 +85,4 @@ fault_of t = first_some (faults_of t.lines)
 
 -- a tariff is sound where none of the faults is there
 abbrev pub IsSound : Tree → Type 0
-IsSound t = All (λ (f : Option CheckFault). f ≡ None) (faults_of t.lines)
+IsSound t = HasNone (faults_of t.lines)

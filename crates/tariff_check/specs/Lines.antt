@@ -1,10 +1,10 @@
 -- What may be wrong with a line, where the lines before it are known.
 use Rattle.std.specs.Prelude.{◌≡◌, ℕ, ◌^◌, Bool, true, false, not, ◌&&◌, ◌||◌, ◌==◌, if◌then◌else◌, nat_le, nat_lt, List, [], ◌∷◌, ◌++◌, Option, Some, None}
 use Rattle.std.specs.List.{list_any, count_by}
-use Rattle.interval_clock.specs.Calendar.{is_date}
+use Rattle.taxi_units.specs.Calendar.{is_date}
 use Rattle.tariff_syntax.specs.Condition as tree
 use Rattle.tariff_syntax.specs.Condition.{Condition}
-use Rattle.tariff_syntax.specs.Tree.{Line, Entry, step, positions, zones, holiday, supplement, initial, rate}
+use Rattle.tariff_syntax.specs.Tree.{Line, Entry, step, positions, zones, holiday, supplement, initial, rate, minimum}
 use Rattle.tariff_check.specs.Parts.{when_part}
 
 -- the atoms of a condition, in order
@@ -39,14 +39,15 @@ excludes (supplement number amount most) (supplement other amount₂ most₂) = 
 excludes (holiday year month date) (holiday year₂ month₂ date₂) = (year == year₂) && ((month == month₂) && (date == date₂))
 excludes entry other = false
 
--- two rates, two initial hire fees or two holidays
+-- two rates, two initial hire fees, two minimum fares or two holidays
 abbrev pub is_alike : Entry → Entry → Bool
 is_alike (rate a b c e when) (rate a₂ b₂ c₂ e₂ when₂) = true
 is_alike (initial amount covers when) (initial amount₂ covers₂ when₂) = true
+is_alike (minimum amount when) (minimum amount₂ when₂) = true
 is_alike (holiday year month date) (holiday year₂ month₂ date₂) = true
 is_alike entry other = false
 
--- how many rates, initial hire fees or holidays there may be
+-- how many rates, initial hire fees, minimum fares or holidays there may be
 abbrev pub most_alike : Entry → ℕ
 most_alike (holiday year month date) = 255
 most_alike entry = 64
@@ -55,6 +56,7 @@ most_alike entry = 64
 abbrev pub is_default_for : Entry → Entry → Bool
 is_default_for (rate a b c e when) (rate a₂ b₂ c₂ e₂ None) = true
 is_default_for (initial amount covers when) (initial amount₂ covers₂ None) = true
+is_default_for (minimum amount when) (minimum amount₂ None) = true
 is_default_for entry other = false
 
 -- an atom that names a position or a zone above the highest
@@ -79,12 +81,13 @@ abbrev pub is_no_holiday : Entry → Bool
 is_no_holiday (holiday year month date) = not (nat_le 2000 year && (nat_le year 2199 && is_date year month date))
 is_no_holiday entry = false
 
--- a step, an amount of a rate or a supplement above 1,000,000, or an initial hire fee or its cover above 99,999,999
+-- a step, an amount of a rate or a supplement above 1,000,000, or an initial hire fee, its cover or a minimum fare above 99,999,999
 abbrev pub is_great : Entry → Bool
 is_great (step amount rounding) = nat_lt (10 ^ 6) amount
 is_great (supplement number amount most) = nat_lt (10 ^ 6) amount
 is_great (rate a b c e when) = nat_lt (10 ^ 6) a || nat_lt (10 ^ 6) c
 is_great (initial amount covers when) = nat_lt 99999999 amount || nat_lt 99999999 covers
+is_great (minimum amount when) = nat_lt 99999999 amount
 is_great entry = false
 
 -- a rate with a measure of 0
@@ -133,6 +136,10 @@ first_after test before (l ∷ ls) = if test before l.entry then Some l.line els
 abbrev pub first_line : LineTest → List Line → Option ℕ
 first_line test lines = first_after test [] lines
 
+-- no line is so, after the lines before it
+abbrev pub IsNowhere : LineTest → List Line → Type 0
+IsNowhere test lines = (before after : List Line) (line : Line) → lines ≡ before ++ line ∷ after → test before line.entry ≡ false
+
 -- the same in words: this is a line's number, the line is so, and no line before it is
 pub record IsFirstLine (test : LineTest) (lines : List Line) (number : ℕ) : Type 0 where
   pub before : List Line
@@ -141,4 +148,4 @@ pub record IsFirstLine (test : LineTest) (lines : List Line) (number : ℕ) : Ty
   pub split : lines ≡ before ++ line ∷ after
   pub number_is : line.line ≡ number
   pub is_so : test before line.entry ≡ true
-  pub none_earlier : (xs ys : List Line) (l : Line) → before ≡ xs ++ l ∷ ys → test xs l.entry ≡ false
+  pub none_earlier : IsNowhere test before

@@ -1,13 +1,25 @@
 -- The common measure of a tariff.
-use Rattle.std.specs.Prelude.{◌≡◌, ℕ, ◌*◌, ◌/◌, ◌<◌, ◌≤◌, List, [], ◌∷◌, All}
+use Rattle.std.specs.Prelude.{◌≡◌, ℕ, zero, suc, ◌+◌, ◌*◌, ◌/◌, ◌%◌, ◌<◌, ◌≤◌, List, [], ◌∷◌, All}
 use Rattle.std.specs.List.{flat_map}
-use Rattle.tariff_syntax.specs.Measure.{lcm_of}
 use Rattle.tariff_syntax.specs.Tree.{Line}
 use Rattle.tariff_check.specs.Parts.{RateNumbers, rates_of}
 
 -- the measures of the rates: decimetres and tenths of a second
 abbrev pub measures_of : List Line → List ℕ
 measures_of lines = flat_map (λ (r : RateNumbers). r.b ∷ r.e ∷ []) (rates_of lines)
+
+-- the greatest number that divides both, by Euclid's remainders, of which b + 1 are enough
+unfoldable pub gcd_in : (fuel a b : ℕ) → ℕ
+gcd_in zero a b = a
+gcd_in (suc fuel) a zero = a
+gcd_in (suc fuel) a (suc b) = gcd_in fuel (suc b) (a % suc b)
+
+unfoldable pub gcd_of : (a b : ℕ) → ℕ
+gcd_of a b = gcd_in (b + 1) a b
+
+-- the least common multiple of two numbers
+abbrev pub lcm_of : (a b : ℕ) → ℕ
+lcm_of a b = a / gcd_of a b * b
 
 -- the least common multiple of a number and more numbers
 abbrev pub common_with : (first : ℕ) → List ℕ → ℕ

@@ -1,14 +1,11 @@
 -- The parts of a tariff, from its lines.
 use Rattle.std.specs.Prelude.{ℕ, Bool, true, ◌==◌, if◌then◌else◌, List, Option, Some, None}
-use Rattle.std.specs.List.{filter_map, slice_get, list_any}
+use Rattle.std.specs.List.{slice_get, list_any}
 use Rattle.std.specs.Option.{unwrap_or}
 use Rattle.drive_modes.specs.declared.meterage.Rounding.{Rounding}
 use Rattle.tariff_syntax.specs.Condition.{Condition}
-use Rattle.tariff_syntax.specs.Tree.{Line, Entry, step, positions, zones, holiday, supplement, initial, rate}
-
--- what those lines have that have such a part, in order
-abbrev pub parts : {A : Type 0} → (Entry → Option A) → List Line → List A
-parts part lines = filter_map (λ (l : Line). part l.entry) lines
+use Rattle.tariff_syntax.specs.Parts.{parts}
+use Rattle.tariff_syntax.specs.Tree.{Line, Entry, step, positions, zones, holiday, supplement, initial, rate, minimum}
 
 -- what the first such line has
 abbrev pub first_part : {A : Type 0} → (Entry → Option A) → List Line → Option A
@@ -65,10 +62,16 @@ abbrev pub rate_part : Entry → Option RateNumbers
 rate_part (rate a b c e when) = Some (record { a = a; b = b; c = c; e = e })
 rate_part _ = None
 
+-- the amount of a minimum fare
+abbrev pub minimum_part : Entry → Option ℕ
+minimum_part (minimum amount when) = Some amount
+minimum_part _ = None
+
 -- the condition of a line
 abbrev pub when_part : Entry → Option Condition
 when_part (initial amount covers when) = when
 when_part (rate a b c e when) = when
+when_part (minimum amount when) = when
 when_part _ = None
 
 -- the display step, and how the fare is rounded to it
@@ -102,3 +105,7 @@ initials_of lines = parts initial_part lines
 -- the rates
 abbrev pub rates_of : List Line → List RateNumbers
 rates_of lines = parts rate_part lines
+
+-- the amounts of the minimum fares
+abbrev pub minimums_of : List Line → List ℕ
+minimums_of lines = parts minimum_part lines

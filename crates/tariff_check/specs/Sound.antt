@@ -1,10 +1,10 @@
 -- What a sound tariff is made of.
 use Rattle.std.specs.Prelude.{◌≡◌, ℕ, ◌^◌, ◌≤◌, true, Some, length, All, IsTrue}
 use Rattle.drive_modes.specs.declared.meterage.Rounding.{Rounding}
-use Rattle.interval_clock.specs.Calendar.{is_date}
+use Rattle.taxi_units.specs.Calendar.{is_date}
 use Rattle.tariff_syntax.specs.Condition as tree
 use Rattle.tariff_syntax.specs.Condition.{Condition}
-use Rattle.tariff_syntax.specs.Meaning.{rate_conditions, initial_conditions}
+use Rattle.tariff_syntax.specs.Parts.{rate_conditions, initial_conditions}
 use Rattle.tariff_syntax.specs.Tree.{Tree, Line}
 use Rattle.tariff_syntax.specs.Writable.{IsFromTo, IsWritableCondition}
 use Rattle.tariff_check.specs.Cells.{cells_of}
@@ -12,7 +12,7 @@ use Rattle.tariff_check.specs.Cuts.{count_of, most_cuts}
 use Rattle.tariff_check.specs.Faults.{has_default}
 use Rattle.tariff_check.specs.Lines.{atoms_in}
 use Rattle.tariff_check.specs.Measure.{measure_of}
-use Rattle.tariff_check.specs.Parts.{RateNumbers, InitialNumbers, SupplementNumbers, DateNumbers, step_of, positions_of, zones_of, holidays_of, supplement_of, initials_of, rates_of}
+use Rattle.tariff_check.specs.Parts.{RateNumbers, InitialNumbers, SupplementNumbers, DateNumbers, step_of, positions_of, zones_of, holidays_of, supplement_of, initials_of, minimums_of, rates_of}
 use Rattle.tariff_check.specs.declared.fault.Dimension.{Dimension}
 
 -- the numbers of a rate
@@ -60,6 +60,8 @@ pub record HasSoundParts (t : Tree) : Type 0 where
   pub initials : All IsSoundInitial (initials_of t.lines)
   pub initial_count : length (initials_of t.lines) ≤ 64
   pub default_initial : has_default (initial_conditions t.lines) ≡ true
+  pub minimums : All (λ amount. amount ≤ 99999999) (minimums_of t.lines)
+  pub minimum_count : length (minimums_of t.lines) ≤ 64
   pub supplements : (number : ℕ) (s : SupplementNumbers) → supplement_of t.lines number ≡ Some s → IsSoundSupplement s
   pub holidays : All IsSoundHoliday (holidays_of t.lines)
   pub holiday_count : length (holidays_of t.lines) ≤ 255

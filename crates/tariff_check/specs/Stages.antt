@@ -1,7 +1,7 @@
 -- The faults of a tariff in two stages: those of its lines, and those of their numbers together.
 use Rattle.std.specs.Prelude.{◌^◌, not, nat_lt, List, Option, is_none}
 use Rattle.std.specs.Option.{option_or}
-use Rattle.tariff_syntax.specs.Meaning.{rate_conditions, initial_conditions}
+use Rattle.tariff_syntax.specs.Parts.{rate_conditions, initial_conditions}
 use Rattle.tariff_syntax.specs.Tree.{Line}
 use Rattle.tariff_check.specs.Cells.{cells_of}
 use Rattle.tariff_check.specs.Faults.{fault_if, fault_at, is_step_zero, cuts_fault, has_default}

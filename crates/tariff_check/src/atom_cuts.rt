@@ -6,7 +6,8 @@ ghost use Rattle.tariff_check.specs.declared.fault.Dimension.TheVariants.{Distan
 ghost use Rattle.tariff_syntax.specs.Condition.{condition_of};
 
 use crate::fault::Dimension;
-use tariff_syntax::{Cond, month_day};
+use tariff_syntax::Cond;
+use taxi_units::date_place;
 
 /// The cuts of an atom in a dimension, at most two. What is no atom has none.
 pub(crate) fn atom_cuts(dimension: Dimension, cond: &Cond) -> (Option<u64>, Option<u64>)
@@ -27,8 +28,8 @@ fn days(cond: &Cond) -> (Option<u64>, Option<u64>)
     match cond {
         Cond::Date { from, to } => {
             (
-                day_cut(month_day(from.0, from.1) as u64),
-                day_cut(month_day(to.0, to.1) as u64 + 1),
+                day_cut(date_place(from.0, from.1) as u64),
+                day_cut(date_place(to.0, to.1) as u64 + 1),
             )
         }
         _ => (None, None),

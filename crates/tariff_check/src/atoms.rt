@@ -1,14 +1,14 @@
 //! The rules for the atoms of conditions.
 ghost use Rattle.std.specs.List.{list_any};
-ghost use Rattle.std.specs.Prelude.{◌≡◌, ◌≤◌};
-ghost use Rattle.interval_clock.specs.Calendar.{is_date};
-ghost use Rattle.tariff_check.specs.Lines.{atoms_of, atoms_if, atoms_in, is_unknown, is_undated, is_after_nothing};
+ghost use Rattle.std.specs.Prelude.{◌≡◌};
+ghost use Rattle.tariff_check.specs.Lines.{atoms_of, atoms_in, is_unknown, is_undated, is_after_nothing};
 ghost use Rattle.tariff_check.specs.Rules.{breaks_atom_rule};
-ghost use Rattle.tariff_syntax.specs.Condition.{condition_of, condition_if};
+ghost use Rattle.tariff_syntax.specs.Condition.{condition_of};
 ghost use Rattle.tariff_syntax.specs.Tree.{entry_of};
 
-use interval_clock::day_number;
+use crate::parts::condition;
 use tariff_syntax::{Cond, Item};
+use taxi_units::is_date;
 
 /// What is asked of the atoms of a condition.
 #[derive(Clone, Copy, Debug)]
@@ -25,18 +25,7 @@ pub(crate) enum AtomRule {
 pub(crate) fn item_breaks(rule: AtomRule, item: &Item) -> bool
     ensures { result ≡ list_any (breaks_atom_rule rule) (atoms_in (entry_of item.now)) }
 {
-    match item {
-        Item::Initial(initial) => cond_breaks_if(rule, &initial.cond),
-        Item::Rate(rate) => cond_breaks_if(rule, &rate.cond),
-        _ => false,
-    }
-}
-
-/// The same, of a condition that may not be there.
-fn cond_breaks_if(rule: AtomRule, cond: &Option<Cond>) -> bool
-    ensures { result ≡ list_any (breaks_atom_rule rule) (atoms_if (condition_if cond.now)) }
-{
-    match cond {
+    match condition(item) {
         Some(cond) => cond_breaks(rule, cond),
         None => false,
     }
@@ -95,13 +84,4 @@ fn is_after_nothing(cond: &Cond) -> bool
         Cond::AfterTime(tenths) => *tenths == 0,
         _ => false,
     }
-}
-
-/// Whether the calendar has a date of a year of 2000 to 2199.
-pub(crate) fn is_date(year: u16, month: u8, date: u8) -> bool
-    requires from { 2000 ≤ year }
-    requires to { year ≤ 2199 }
-    ensures { result ≡ is_date year month date }
-{
-    day_number(year, month, date).is_some()
 }

@@ -16,7 +16,8 @@ pub(crate) fn cells(positions: u8, zones: u8, holidays: bool, counts: &Counts) -
     requires minute { counts.now.minute ≤ 63 }
     requires distance { counts.now.distance ≤ 15 }
     requires time { counts.now.time ≤ 15 }
-    ensures { result ≡ positions * zones * 7 * (if holidays then 2 else 1) * ((counts.now.month_day + 1) * (counts.now.minute + 1) * (counts.now.distance + 1) * (counts.now.time + 1)) }
+    ensures { result ≡ positions * zones * 7 * (if holidays then 2 else 1) * ((counts.now.month_day + 1)
+        * (counts.now.minute + 1) * (counts.now.distance + 1) * (counts.now.time + 1)) }
 {
     let kinds = if holidays { 2 } else { 1 };
     days(positions, zones, kinds) * bands(counts)
@@ -37,7 +38,8 @@ fn bands(counts: &Counts) -> u64
     requires minute { counts.now.minute ≤ 63 }
     requires distance { counts.now.distance ≤ 15 }
     requires time { counts.now.time ≤ 15 }
-    ensures value { result ≡ (counts.now.month_day + 1) * (counts.now.minute + 1) * (counts.now.distance + 1) * (counts.now.time + 1) }
+    ensures value { result ≡ (counts.now.month_day + 1) * (counts.now.minute + 1) * (counts.now.distance + 1)
+        * (counts.now.time + 1) }
     ensures most { result ≤ 1048576 }
 {
     let days = counts.month_day as u64 + 1;

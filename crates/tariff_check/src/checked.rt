@@ -1,28 +1,27 @@
 //! A tariff that was found to be sound.
-ghost use Rattle.std.specs.Prelude.{◌≡◌};
+ghost use Rattle.std.specs.Prelude.{◌≡◌, ◌^◌, ◌≤◌, Some};
 ghost use Rattle.tariff_check.specs.Cells.{cells_of};
 ghost use Rattle.tariff_check.specs.Faults.{IsSound};
 ghost use Rattle.tariff_check.specs.Measure.{measure_of};
+ghost use Rattle.tariff_check.specs.Parts.{positions_of, step_of, zones_of};
 ghost use Rattle.tariff_syntax.specs.Tree.{tree_of};
-ghost use Rattle.tariff_syntax.specs.Writable.{IsWritable};
+ghost use Rattle.tariff_syntax.specs.Writable.{IsFromTo, IsWritable};
 
+use crate::numbers::Numbers;
+use drive_modes::Rounding;
 use std::marker::Model;
 use tariff_syntax::Tariff;
 
-/// A sound tariff, with the number of its cells and its common measure.
+/// A sound tariff, with its numbers.
 #[derive(Debug, Drop)]
 pub struct Checked {
     pub(crate) tariff: Tariff,
-    pub(crate) cells: u64,
-    pub(crate) measure: u64,
+    pub(crate) numbers: Numbers,
 }
 
 impl Model for Checked {
     ghost use Rattle.std.specs.Coded.{codes};
-    ghost use Rattle.std.specs.Prelude.{◌≡◌};
-    ghost use Rattle.tariff_check.specs.Cells.{cells_of};
-    ghost use Rattle.tariff_check.specs.Faults.{IsSound};
-    ghost use Rattle.tariff_check.specs.Measure.{measure_of};
+    ghost use Rattle.tariff_check.specs.Counted.{HasNumbers};
     ghost use Rattle.tariff_syntax.specs.Tree.{tree_of};
     ghost use Rattle.tariff_syntax.specs.Writable.{IsWritable};
     ghost use Rattle.tariff_syntax.specs.contracts.condition.Cond as condition;
@@ -34,7 +33,7 @@ impl Model for Checked {
 
     ghost view = { λ c. c.tariff };
 
-    ghost invariant = { λ c. IsWritable (tree_of c.tariff) × IsSound (tree_of c.tariff) × (c.cells ≡ cells_of (tree_of c.tariff).lines) × (c.measure ≡ measure_of (tree_of c.tariff).lines) };
+    ghost invariant = { λ c. IsWritable (tree_of c.tariff) × HasNumbers (tree_of c.tariff).lines c.numbers };
 }
 
 impl Checked {
@@ -47,19 +46,45 @@ impl Checked {
         &self.tariff
     }
 
+    /// The display step, 1 to 1,000,000 units, and how the fare is rounded to it.
+    pub fn step(&self) -> (u64, Rounding)
+        ensures value { step_of (tree_of self.now).lines ≡ Some result }
+        ensures range { IsFromTo 1 (10 ^ 6) result.0 }
+    {
+        (self.numbers.step, self.numbers.rounding)
+    }
+
+    /// How many tariff positions there are, 1 to 9.
+    pub fn positions(&self) -> u8
+        ensures value { result ≡ positions_of (tree_of self.now).lines }
+        ensures range { IsFromTo 1 9 result }
+    {
+        self.numbers.positions
+    }
+
+    /// How many zones there are, 1 to 9.
+    pub fn zones(&self) -> u8
+        ensures value { result ≡ zones_of (tree_of self.now).lines }
+        ensures range { IsFromTo 1 9 result }
+    {
+        self.numbers.zones
+    }
+
     /// How many cells it has: the product of its positions, its zones, the seven weekdays, 2 where it has
     /// a holiday, and the bands between its cuts in each dimension. At most 64,512.
     pub fn cells(&self) -> u64
-        ensures { result ≡ cells_of (tree_of self.now).lines }
+        ensures value { result ≡ cells_of (tree_of self.now).lines }
+        ensures range { IsFromTo 1 64512 result }
     {
-        self.cells
+        self.numbers.cells
     }
 
     /// The least common multiple of the measures of its rates, in decimetres and tenths of a second. At
     /// most 10^18.
     pub fn measure(&self) -> u64
-        ensures { result ≡ measure_of (tree_of self.now).lines }
+        ensures value { result ≡ measure_of (tree_of self.now).lines }
+        ensures range { IsFromTo 1 (10 ^ 18) result }
     {
-        self.measure
+        self.numbers.measure
     }
 }

@@ -1,7 +1,7 @@
 //! Whether a tariff is sound.
 ghost use Rattle.std.specs.Prelude.{◌≡◌, ◌⊎◌, Some, None, IfOk, IfErr, map};
 ghost use Rattle.tariff_check.specs.Counted.{HasNumbers};
-ghost use Rattle.tariff_check.specs.Faults.{IsSound, faults_of, fault_of, first_some};
+ghost use Rattle.tariff_check.specs.Faults.{HasNone, IsSound, faults_before_cuts, faults_of, fault_of, first_some};
 ghost use Rattle.tariff_check.specs.declared.fault.CheckFault.TheVariants.{NoMemory};
 ghost use Rattle.tariff_syntax.specs.Tree.{line_of, tree_of};
 ghost use Rattle.tariff_syntax.specs.Writable.{IsWritable};
@@ -12,25 +12,24 @@ use crate::counts::counts;
 use crate::early::early_fault;
 use crate::fault::CheckFault;
 use crate::measure::measure;
-use crate::parts::{has_holidays, positions, zones};
+use crate::numbers::Numbers;
+use crate::parts::{has_holidays, positions, step, zones};
 use std::alloc::Global;
 use tariff_syntax::{Tariff, TariffLine};
 
 /// Whether a tariff, whose numbers are ones that a text can have, is sound: it is where it has none of
 /// the faults. Otherwise its first fault in the order of `CheckFault`. The tariff is given up on a
 /// refusal. `NoMemory` where memory runs out, and where a dimension has more cuts than 32 bits count,
-/// which no text has. That these are the faults is this project's own.
+/// which no text has; but only once none of the faults before those of cuts is there. That these are the
+/// faults is this project's own.
 pub fn check(alloc: Global, tariff: Tariff) -> Result<Checked, CheckFault>
     requires { IsWritable (tree_of tariff) }
     ensures sound { IfOk result (λ c. (c ≡ tariff) × IsSound (tree_of tariff)) }
     ensures fault { IfErr result (λ f. (f ≡ NoMemory) ⊎ (fault_of (tree_of tariff) ≡ Some f)) }
+    ensures memory { IfErr result (λ f. f ≡ NoMemory → HasNone (faults_before_cuts (tree_of tariff).lines)) }
 {
     match numbers(alloc, tariff.lines.as_slice()) {
-        Ok((cells, measure)) => Ok(Checked {
-            tariff,
-            cells,
-            measure,
-        }),
+        Ok(numbers) => Ok(Checked { tariff, numbers }),
         Err(fault) => Err(fault),
     }
 }
@@ -38,22 +37,32 @@ pub fn check(alloc: Global, tariff: Tariff) -> Result<Checked, CheckFault>
 /// The most cells that a tariff may have.
 const MOST_CELLS: u64 = 64_512;
 
-/// The cells and the common measure of lines, or their first fault. Nothing is counted on lines that have
-/// an earlier fault.
-fn numbers(alloc: Global, lines: &[TariffLine]) -> Result<(u64, u64), CheckFault>
-    ensures numbers { IfOk result (λ n. HasNumbers (map line_of lines.now) n.0 n.1) }
+/// The numbers of lines, or their first fault. Nothing is counted on lines that have an earlier fault.
+fn numbers(alloc: Global, lines: &[TariffLine]) -> Result<Numbers, CheckFault>
+    ensures numbers { IfOk result (HasNumbers (map line_of lines.now)) }
     ensures fault { IfErr result (λ f. (f ≡ NoMemory) ⊎ (first_some (faults_of (map line_of lines.now)) ≡ Some f)) }
+    ensures memory { IfErr result (λ f. f ≡ NoMemory → HasNone (faults_before_cuts (map line_of lines.now))) }
 {
-    if let Some(fault) = early_fault(lines) {
+    let (step, rounding) = step(lines)?;
+    let positions = positions(lines);
+    let zones = zones(lines);
+    if let Some(fault) = early_fault(lines, positions, zones) {
         return Err(fault);
     }
     let Some(measure) = measure(lines) else {
         return Err(CheckFault::NoCommonMeasure);
     };
     let counts = counts(alloc, lines)?;
-    let cells = cells(positions(lines), zones(lines), has_holidays(lines), &counts);
+    let cells = cells(positions, zones, has_holidays(lines), &counts);
     if cells > MOST_CELLS {
         return Err(CheckFault::TooManyCells(cells));
     }
-    Ok((cells, measure))
+    Ok(Numbers {
+        step,
+        rounding,
+        positions,
+        zones,
+        cells,
+        measure,
+    })
 }

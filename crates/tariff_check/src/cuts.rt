@@ -4,13 +4,14 @@ ghost use Rattle.std.specs.List.{flat_map};
 ghost use Rattle.std.specs.Ordering.{nat_cmp};
 ghost use Rattle.std.specs.Prelude.{◌≡◌, IfOk, OnOk, map};
 ghost use Rattle.tariff_check.specs.Cuts.{atom_cuts, cuts_of, with_each};
-ghost use Rattle.tariff_check.specs.Lines.{atoms_if, atoms_in, atoms_of};
-ghost use Rattle.tariff_syntax.specs.Condition.{condition_if, condition_of};
+ghost use Rattle.tariff_check.specs.Lines.{atoms_in, atoms_of};
+ghost use Rattle.tariff_syntax.specs.Condition.{condition_of};
 ghost use Rattle.tariff_syntax.specs.Tree.{entry_of, line_of, tree_of};
 
 use crate::atom_cuts::atom_cuts;
 use crate::checked::Checked;
 use crate::fault::Dimension;
+use crate::parts::condition;
 use std::alloc::{AllocError, Global};
 use std::collections::BTreeSet;
 use tariff_syntax::{Cond, Item, TariffLine};
@@ -50,24 +51,10 @@ pub(crate) fn cuts(
 
 /// Puts the cuts of a line among others.
 fn add_line(cuts: &mut BTreeSet<u64>, dimension: Dimension, item: &Item) -> Result<(), NoMemory>
-    ensures { OnOk result (cuts.new.keys ≡ with_each cuts.old.keys (flat_map (atom_cuts dimension) (atoms_in (entry_of item.now)))) }
+    ensures { OnOk result (cuts.new.keys ≡ with_each cuts.old.keys (flat_map (atom_cuts dimension) (atoms_in
+        (entry_of item.now)))) }
 {
-    match item {
-        Item::Initial(initial) => add_if(cuts, dimension, &initial.cond),
-        Item::Rate(rate) => add_if(cuts, dimension, &rate.cond),
-        _ => Ok(()),
-    }
-}
-
-/// Puts the cuts of a condition that may not be there among others.
-fn add_if(
-    cuts: &mut BTreeSet<u64>,
-    dimension: Dimension,
-    cond: &Option<Cond>,
-) -> Result<(), NoMemory>
-    ensures { OnOk result (cuts.new.keys ≡ with_each cuts.old.keys (flat_map (atom_cuts dimension) (atoms_if (condition_if cond.now)))) }
-{
-    match cond {
+    match condition(item) {
         Some(cond) => add_condition(cuts, dimension, cond),
         None => Ok(()),
     }
@@ -79,7 +66,8 @@ fn add_condition(
     dimension: Dimension,
     cond: &Cond,
 ) -> Result<(), NoMemory>
-    ensures { OnOk result (cuts.new.keys ≡ with_each cuts.old.keys (flat_map (atom_cuts dimension) (atoms_of (condition_of cond.now)))) }
+    ensures { OnOk result (cuts.new.keys ≡ with_each cuts.old.keys (flat_map (atom_cuts dimension) (atoms_of
+        (condition_of cond.now)))) }
 {
     match cond {
         Cond::And(left, right) => {

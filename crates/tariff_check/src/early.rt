@@ -1,24 +1,25 @@
 //! The faults of the lines of a tariff.
-ghost use Rattle.std.specs.Prelude.{◌≡◌, map};
+ghost use Rattle.std.specs.Prelude.{◌≡◌, None, map};
 ghost use Rattle.tariff_check.specs.Faults.{fault_at};
 ghost use Rattle.tariff_check.specs.Lines.{first_line};
+ghost use Rattle.tariff_check.specs.Parts.{positions_of, zones_of};
 ghost use Rattle.tariff_check.specs.Rules.{breaks_rule, fault_of_rule};
-ghost use Rattle.tariff_check.specs.Stages.{default_fault, early_fault, line_fault, number_fault};
+ghost use Rattle.tariff_check.specs.Stages.{default_fault, early_fault, line_fault, number_fault, step_fault};
 ghost use Rattle.tariff_syntax.specs.Tree.{line_of};
 
 use crate::fault::CheckFault;
-use crate::parts::{has_default_initial, has_default_rate, positions, step_fault, zones};
+use crate::parts::{has_default_initial, has_default_rate};
 use crate::rules::{LineRule, first_line};
 use tariff_syntax::TariffLine;
 
-/// The first fault of lines.
-pub(crate) fn early_fault(lines: &[TariffLine]) -> Option<CheckFault>
+/// The first fault of lines that have this many positions and zones, and whose display step is right.
+pub(crate) fn early_fault(lines: &[TariffLine], positions: u8, zones: u8) -> Option<CheckFault>
+    requires step { step_fault (map line_of lines.now) ≡ None }
+    requires positions { positions ≡ positions_of (map line_of lines.now) }
+    requires zones { zones ≡ zones_of (map line_of lines.now) }
     ensures { result ≡ early_fault (map line_of lines.now) }
 {
-    if let Some(fault) = step_fault(lines) {
-        return Some(fault);
-    }
-    if let Some(fault) = line_fault(lines) {
+    if let Some(fault) = line_fault(lines, positions, zones) {
         return Some(fault);
     }
     if let Some(fault) = default_fault(lines) {
@@ -28,7 +29,9 @@ pub(crate) fn early_fault(lines: &[TariffLine]) -> Option<CheckFault>
 }
 
 /// A line that is there too often, or that names what isn't there.
-fn line_fault(lines: &[TariffLine]) -> Option<CheckFault>
+fn line_fault(lines: &[TariffLine], positions: u8, zones: u8) -> Option<CheckFault>
+    requires positions { positions ≡ positions_of (map line_of lines.now) }
+    requires zones { zones ≡ zones_of (map line_of lines.now) }
     ensures { result ≡ line_fault (map line_of lines.now) }
 {
     if let Some(fault) = fault_at(LineRule::Once, lines) {
@@ -37,7 +40,7 @@ fn line_fault(lines: &[TariffLine]) -> Option<CheckFault>
     if let Some(fault) = fault_at(LineRule::Few, lines) {
         return Some(fault);
     }
-    fault_at(LineRule::Known(positions(lines), zones(lines)), lines)
+    fault_at(LineRule::Known(positions, zones), lines)
 }
 
 /// A default that isn't there, or a line after it.

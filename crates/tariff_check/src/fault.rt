@@ -21,7 +21,7 @@ pub enum CheckFault {
     /// A second `step`, `positions` or `zones` line, or a supplement's number or a holiday's date that an
     /// earlier line has.
     Duplicate(u32),
-    /// The 65th rate, the 65th initial hire fee or the 256th holiday.
+    /// The 65th rate, the 65th initial hire fee, the 65th minimum fare or the 256th holiday.
     TooManyLines(u32),
     /// A condition names a tariff position or a zone that the tariff doesn't have.
     UnknownNumber(u32),
@@ -29,12 +29,12 @@ pub enum CheckFault {
     NoDefaultRate,
     /// Each initial hire fee has a condition.
     NoDefaultInitial,
-    /// A rate after one without a condition, or an initial hire fee after one without a condition.
+    /// A rate, an initial hire fee or a minimum fare after one of its kind without a condition.
     LineAfterDefault(u32),
     /// A holiday that is no date of the years 2000 to 2199, or a month and date that no leap year has.
     BadDate(u32),
-    /// A step, an amount of a rate or a supplement above 1,000,000 units, or an amount or a cover of an
-    /// initial hire fee above 99,999,999.
+    /// A step, an amount of a rate or a supplement above 1,000,000 units, or an initial hire fee, its cover
+    /// or a minimum fare above 99,999,999.
     AmountTooBig(u32),
     /// A measure of a rate or of an `after` is 0.
     MeasureZero(u32),

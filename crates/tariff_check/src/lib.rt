@@ -10,20 +10,24 @@ mod counts;
 mod cuts;
 mod early;
 mod fault;
-mod laws;
 mod measure;
+mod multiples;
+mod numbers;
 mod pairs;
 mod parts;
 mod rules;
+mod theorems;
 
 pub use checked::Checked;
 pub use checking::check;
 pub use cuts::cut_values;
 pub use fault::{CheckFault, Dimension};
-pub use laws::{
-    cuts_are_in_order, faults_name_the_first_line, measures_are_least, some_line_always_holds,
+pub use theorems::{
+    cuts_are_in_order, faults_name_the_first_line, lines_that_hold_are_there, measures_are_least,
     sound_tariffs_have_sound_parts,
 };
 
+#[cfg(test)]
+mod limit_tests;
 #[cfg(test)]
 mod tests;

@@ -1,11 +1,11 @@
 //! The common measure of a tariff.
 ghost use Rattle.std.specs.Prelude.{◌≡◌, ◌^◌, ◌<◌, ◌≤◌, All, MatchOption, false, map};
 ghost use Rattle.tariff_check.specs.Lines.{is_for_nothing};
-ghost use Rattle.tariff_check.specs.Measure.{measure_of};
-ghost use Rattle.tariff_syntax.specs.Measure.{lcm_of};
+ghost use Rattle.tariff_check.specs.Measure.{lcm_of, measure_of};
 ghost use Rattle.tariff_syntax.specs.Tree.{Line, line_of};
 
-use tariff_syntax::{Item, RateLine, TariffLine, common_measure};
+use crate::multiples::common_measure;
+use tariff_syntax::{Item, RateLine, TariffLine};
 
 /// The greatest common measure that a tariff may have.
 const MOST: u128 = 1_000_000_000_000_000_000;
@@ -13,7 +13,8 @@ const MOST: u128 = 1_000_000_000_000_000_000;
 /// The least common multiple of the measures of all rates, which are above 0, where it is at most 10^18.
 pub(crate) fn measure(lines: &[TariffLine]) -> Option<u64>
     requires { All (λ (l : Line). is_for_nothing l.entry ≡ false) (map line_of lines.now) }
-    ensures { MatchOption result (10 ^ 18 < measure_of (map line_of lines.now)) (λ m. (m ≡ measure_of (map line_of lines.now)) × (m ≤ 10 ^ 18)) }
+    ensures { MatchOption result (10 ^ 18 < measure_of (map line_of lines.now))
+        (λ m. (m ≡ measure_of (map line_of lines.now)) × (m ≤ 10 ^ 18)) }
 {
     let mut common = 1;
     for line in lines {
@@ -29,7 +30,8 @@ fn with_both(common: u64, rate: &RateLine) -> Option<u64>
     requires common { 0 < common }
     requires distance { 0 < rate.now.b }
     requires time { 0 < rate.now.e }
-    ensures { MatchOption result (10 ^ 18 < lcm_of (lcm_of common rate.now.b) rate.now.e) (λ m. (m ≡ lcm_of (lcm_of common rate.now.b) rate.now.e) × (0 < m) × (m ≤ 10 ^ 18)) }
+    ensures { MatchOption result (10 ^ 18 < lcm_of (lcm_of common rate.now.b) rate.now.e)
+        (λ m. (m ≡ lcm_of (lcm_of common rate.now.b) rate.now.e) × (0 < m) × (m ≤ 10 ^ 18)) }
 {
     with_one(with_one(common, rate.b)?, rate.e)
 }
@@ -38,7 +40,8 @@ fn with_both(common: u64, rate: &RateLine) -> Option<u64>
 fn with_one(common: u64, measure: u64) -> Option<u64>
     requires common { 0 < common }
     requires measure { 0 < measure }
-    ensures { MatchOption result (10 ^ 18 < lcm_of common measure) (λ m. (m ≡ lcm_of common measure) × (0 < m) × (m ≤ 10 ^ 18)) }
+    ensures { MatchOption result (10 ^ 18 < lcm_of common measure) (λ m. (m ≡ lcm_of common measure) × (0 < m)
+        × (m ≤ 10 ^ 18)) }
 {
     let joined = common_measure(common, measure);
     if joined > MOST {

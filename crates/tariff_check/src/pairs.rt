@@ -1,6 +1,6 @@
 //! What a line has to do with the lines before it.
 ghost use Rattle.std.specs.List.{list_any, count_by};
-ghost use Rattle.std.specs.Prelude.{◌≡◌, map, None};
+ghost use Rattle.std.specs.Prelude.{◌≡◌, map};
 ghost use Rattle.tariff_check.specs.Lines.{excludes, is_alike, is_default_for, most_alike};
 ghost use Rattle.tariff_syntax.specs.Tree as Tree;
 ghost use Rattle.tariff_syntax.specs.Tree.{Line, entry_of, line_of};
@@ -31,7 +31,7 @@ pub(crate) fn some_is_default_for(item: &Item, before: &[TariffLine]) -> bool
     false
 }
 
-/// How many of some lines are rates, initial hire fees or holidays, as an item is.
+/// How many of some lines are rates, initial hire fees, minimum fares or holidays, as an item is.
 pub(crate) fn count_alike(item: &Item, before: &[TariffLine]) -> usize
     ensures { result ≡ count_by (λ (l : Line). is_alike (entry_of item.now) l.entry) (map line_of before.now) }
 {
@@ -66,6 +66,7 @@ fn excludes(item: &Item, other: &Item) -> bool
         Item::Holiday { year, month, date } => is_holiday(*year, *month, *date, other),
         Item::Initial(_) => false,
         Item::Rate(_) => false,
+        Item::Minimum(_) => false,
     }
 }
 
@@ -91,13 +92,14 @@ fn is_holiday(wanted_year: u16, wanted_month: u8, wanted_date: u8, item: &Item) 
     }
 }
 
-/// Whether two lines are both rates, both initial hire fees or both holidays.
+/// Whether two lines are both rates, both initial hire fees, both minimum fares or both holidays.
 fn is_alike(item: &Item, other: &Item) -> bool
     ensures { result ≡ is_alike (entry_of item.now) (entry_of other.now) }
 {
     match item {
         Item::Rate(_) => matches!(other, Item::Rate(_)),
         Item::Initial(_) => matches!(other, Item::Initial(_)),
+        Item::Minimum(_) => matches!(other, Item::Minimum(_)),
         Item::Holiday { .. } => matches!(other, Item::Holiday { .. }),
         _ => false,
     }
@@ -107,29 +109,10 @@ fn is_alike(item: &Item, other: &Item) -> bool
 fn is_default_for(item: &Item, other: &Item) -> bool
     ensures { result ≡ is_default_for (entry_of item.now) (entry_of other.now) }
 {
-    match item {
-        Item::Rate(_) => is_default_rate(other),
-        Item::Initial(_) => is_default_initial(other),
-        _ => false,
-    }
-}
-
-/// Whether an item is a rate without a condition.
-fn is_default_rate(item: &Item) -> bool
-    ensures { result ≡ is_default_for (Tree.rate 0 0 0 0 None) (entry_of item.now) }
-{
-    match item {
-        Item::Rate(rate) => rate.cond.is_none(),
-        _ => false,
-    }
-}
-
-/// Whether an item is an initial hire fee without a condition.
-fn is_default_initial(item: &Item) -> bool
-    ensures { result ≡ is_default_for (Tree.initial 0 0 None) (entry_of item.now) }
-{
-    match item {
-        Item::Initial(initial) => initial.cond.is_none(),
+    match (item, other) {
+        (Item::Rate(_), Item::Rate(rate)) => rate.cond.is_none(),
+        (Item::Initial(_), Item::Initial(initial)) => initial.cond.is_none(),
+        (Item::Minimum(_), Item::Minimum(minimum)) => minimum.cond.is_none(),
         _ => false,
     }
 }

@@ -1,28 +1,33 @@
 //! The parts of a tariff, from its lines.
-ghost use Rattle.std.specs.Prelude.{◌≡◌, map};
+ghost use Rattle.std.specs.Prelude.{◌≡◌, Some, None, IfOk, IfErr, OnOk, map};
+ghost use Rattle.taxi_units.specs.Reading.{Gives};
 ghost use Rattle.tariff_check.specs.Faults.{has_default};
-ghost use Rattle.tariff_check.specs.Parts.{has_holidays, positions_of, zones_of};
+ghost use Rattle.tariff_check.specs.Parts.{has_holidays, positions_of, step_of, when_part, zones_of};
 ghost use Rattle.tariff_check.specs.Stages.{step_fault};
-ghost use Rattle.tariff_syntax.specs.Meaning.{initial_conditions, rate_conditions};
-ghost use Rattle.tariff_syntax.specs.Tree.{line_of};
+ghost use Rattle.tariff_syntax.specs.Condition.{condition_of};
+ghost use Rattle.tariff_syntax.specs.Parts.{initial_conditions, rate_conditions};
+ghost use Rattle.tariff_syntax.specs.Tree.{entry_of, line_of};
 
 use crate::fault::CheckFault;
-use tariff_syntax::{Item, TariffLine};
+use drive_modes::Rounding;
+use tariff_syntax::{Cond, Item, TariffLine};
 
-/// What is wrong with the display step.
-pub(crate) fn step_fault(lines: &[TariffLine]) -> Option<CheckFault>
-    ensures { result ≡ step_fault (map line_of lines.now) }
+/// The display step, and how the fare is rounded to it, of the first such line; or what is wrong with it.
+pub(crate) fn step(lines: &[TariffLine]) -> Result<(u64, Rounding), CheckFault>
+    ensures step { IfOk result (λ s. step_of (map line_of lines.now) ≡ Some s) }
+    ensures none { OnOk result (step_fault (map line_of lines.now) ≡ None) }
+    ensures fault { IfErr result (λ f. step_fault (map line_of lines.now) ≡ Some f) }
 {
     for line in lines {
-        if let Item::Step { amount, .. } = &line.item {
+        if let Item::Step { amount, rounding } = &line.item {
             return if *amount == 0 {
-                Some(CheckFault::StepZero)
+                Err(CheckFault::StepZero)
             } else {
-                None
+                Ok((*amount, *rounding))
             };
         }
     }
-    Some(CheckFault::NoStep)
+    Err(CheckFault::NoStep)
 }
 
 /// How many tariff positions there are.
@@ -87,4 +92,16 @@ pub(crate) fn has_default_initial(lines: &[TariffLine]) -> bool
         }
     }
     false
+}
+
+/// The condition of a line, where it has one.
+pub(crate) fn condition(item: &Item) -> Option<&Cond>
+    ensures { Gives (λ cond. condition_of cond.now) result (when_part (entry_of item.now)) }
+{
+    match item {
+        Item::Rate(rate) => rate.cond.as_ref(),
+        Item::Initial(initial) => initial.cond.as_ref(),
+        Item::Minimum(minimum) => minimum.cond.as_ref(),
+        _ => None,
+    }
 }

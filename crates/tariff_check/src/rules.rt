@@ -1,20 +1,21 @@
 //! The rules for lines, and the first line that breaks one.
 ghost use Rattle.std.specs.Prelude.{◌≡◌, ◌&&◌, nat_le, map};
-ghost use Rattle.interval_clock.specs.Calendar.{is_date};
+ghost use Rattle.taxi_units.specs.Calendar.{is_date};
 ghost use Rattle.tariff_check.specs.Lines.{first_line, is_great, is_for_nothing, is_no_holiday};
 ghost use Rattle.tariff_check.specs.Rules.{breaks_rule};
 ghost use Rattle.tariff_syntax.specs.Tree.{entry_of, line_of};
 
-use crate::atoms::{AtomRule, is_date, item_breaks};
+use crate::atoms::{AtomRule, item_breaks};
 use crate::pairs::{count_alike, most_alike, some_excludes, some_is_default_for};
 use tariff_syntax::{Item, TariffLine};
+use taxi_units::is_date;
 
 /// What is asked of a line.
 #[derive(Clone, Copy, Debug)]
 pub(crate) enum LineRule {
     /// No earlier line excludes it.
     Once,
-    /// It is no 65th rate, 65th initial hire fee or 256th holiday.
+    /// It is no 65th rate, initial hire fee or minimum fare, and no 256th holiday.
     Few,
     /// Its condition names no position and no zone above the highest.
     Known(u8, u8),
@@ -75,7 +76,7 @@ fn is_date_of_meter(year: u16, month: u8, date: u8) -> bool
 /// The most units of a step, of an amount of a rate and of a supplement.
 const MOST_AMOUNT: u64 = 1_000_000;
 
-/// The most units of an initial hire fee and of what it covers.
+/// The most units of an initial hire fee, of what it covers and of a minimum fare.
 const MOST_INITIAL: u64 = 99_999_999;
 
 /// Whether an item has an amount that is too big.
@@ -87,6 +88,7 @@ fn is_great(item: &Item) -> bool
         Item::Supplement { amount, .. } => *amount > MOST_AMOUNT,
         Item::Rate(rate) => rate.a > MOST_AMOUNT || rate.c > MOST_AMOUNT,
         Item::Initial(initial) => initial.amount > MOST_INITIAL || initial.covers > MOST_INITIAL,
+        Item::Minimum(minimum) => minimum.amount > MOST_INITIAL,
         _ => false,
     }
 }

@@ -1,12 +1,13 @@
 //! Which texts are sound tariffs, and their cuts.
 use super::*;
 use std::alloc::Global;
-use tariff_syntax::parse;
+use tariff_syntax::{parse, texts_have_their_numbers};
 
 /// The cells and the measure of a text's tariff, or its fault; `NoMemory` where it is none.
 fn outcome(alloc: Global, text: &str) -> Result<(u64, u64), CheckFault> {
     match parse(alloc, text.as_bytes()) {
         Ok(tariff) => {
+            texts_have_their_numbers();
             let checked = check(alloc, tariff)?;
             Ok((checked.cells(), checked.measure()))
         }
@@ -78,12 +79,20 @@ rate 0.20 per 125.0 m, 0.20 per 25.0 s
 ";
 
 /// Sound tariffs, with their cells and their measures.
-const SOUND: [(&str, (u64, u64)); 4] = [
+const SOUND: [(&str, (u64, u64)); 6] = [
     (FULL, (64_512, 1000)),
     (CITY, (336, 180_000)),
     (
         "decimals 2\nstep 0.20 ahead\ninitial 3.80 covers 0.40\nrate 0.20 per 117.4 m, 0.20 per 25.2 s\n",
         (7, 147_924),
+    ),
+    (
+        "decimals 2\nstep 0.20 ahead\ninitial 3.80 covers 0.40\nrate 0.20 per 117.4 m, 0.20 per 25.2 s\nminimum 6.00 when time 22:00..06:00\n",
+        (21, 147_924),
+    ),
+    (
+        "decimals 0\nstep 1\ninitial 1\nminimum 0 when holiday\nminimum 99999999\nrate 1 per 1 m, 1 per 1 s\n",
+        (7, 10),
     ),
     (
         "step 0.10\ninitial 4\nrate 0.10 per 100000000.0 m, 0.10 per 99999999.9 s\n",
@@ -92,7 +101,7 @@ const SOUND: [(&str, (u64, u64)); 4] = [
 ];
 
 /// Texts, and the fault of each. Those that have two faults have the one that is looked for first.
-const FAULTY: [(&str, CheckFault); 24] = [
+const FAULTY: [(&str, CheckFault); 31] = [
     ("", CheckFault::NoStep),
     ("initial 1\nzones 2\nzones 2\n", CheckFault::NoStep),
     ("step 0\nstep 1\n", CheckFault::StepZero),
@@ -172,6 +181,34 @@ const FAULTY: [(&str, CheckFault); 24] = [
     ),
     (OVER, CheckFault::TooManyCells(129_024)),
     (DAYS, CheckFault::TooManyCells(64_575)),
+    (
+        "step 1\nminimum 1 when zone 2\n",
+        CheckFault::UnknownNumber(2),
+    ),
+    (
+        "decimals 2\nstep 0.20 ahead\ninitial 3.80 covers 0.40\nrate 0.20 per 117.4 m, 0.20 per 25.2 s\nminimum 6.00\nminimum 7.00\n",
+        CheckFault::LineAfterDefault(6),
+    ),
+    (
+        "step 1\nminimum 1\ninitial 1\nminimum 1 when holiday\nrate 1 per 1 m, 1 per 1 s\n",
+        CheckFault::LineAfterDefault(4),
+    ),
+    (
+        "step 1\ninitial 1\nminimum 1 when date 02-30..03-01\nrate 1 per 1 m, 1 per 1 s\n",
+        CheckFault::BadDate(3),
+    ),
+    (
+        "step 1\ninitial 1\nminimum 1000000.00\nrate 1 per 1 m, 1 per 1 s\n",
+        CheckFault::AmountTooBig(3),
+    ),
+    (
+        "step 1\ninitial 1\nminimum 999999.99 when after 0.0 m\nrate 1 per 1 m, 1 per 1 s\n",
+        CheckFault::MeasureZero(3),
+    ),
+    (
+        "step 1\nminimum 1\nrate 1 per 1 m, 1 per 1 s\n",
+        CheckFault::NoDefaultInitial,
+    ),
     ("step 1 step\n", CheckFault::NoMemory),
 ];
 
@@ -197,6 +234,7 @@ fn lines_and_cuts(
 ) -> Result<(usize, Vec<u64>), CheckFault> {
     match parse(alloc, text.as_bytes()) {
         Ok(tariff) => {
+            texts_have_their_numbers();
             let checked = check(alloc, tariff)?;
             let lines = checked.tariff().lines.as_slice().len();
             match cut_values(alloc, &checked, dimension) {

@@ -1,5 +1,5 @@
 use Rattle.std.proofs.Common.{arith}
-use Rattle.tariff_syntax.specs.Measure.{lcm_of}
+use Rattle.tariff_check.specs.Measure.{lcm_of}
 use Rattle.tariff_check.proofs.MeasureLaws.{lcm_grows, lcm_some}
 use Rattle.tariff_check.proofs.measure.with_both.Goals as goal
 

@@ -1,6 +1,6 @@
 use Rattle.std.proofs.Common.{◌≡◌, map, drop}
 use Rattle.tariff_check.specs.Faults.{has_default}
-use Rattle.tariff_syntax.specs.Meaning.{initial_conditions}
+use Rattle.tariff_syntax.specs.Parts.{initial_conditions}
 use Rattle.tariff_syntax.specs.Tree.{line_of}
 use Rattle.tariff_check.proofs.parts.has_default_initial.Given as goal
 

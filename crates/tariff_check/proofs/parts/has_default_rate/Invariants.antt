@@ -1,6 +1,6 @@
 use Rattle.std.proofs.Common.{◌≡◌, map, drop}
 use Rattle.tariff_check.specs.Faults.{has_default}
-use Rattle.tariff_syntax.specs.Meaning.{rate_conditions}
+use Rattle.tariff_syntax.specs.Parts.{rate_conditions}
 use Rattle.tariff_syntax.specs.Tree.{line_of}
 use Rattle.tariff_check.proofs.parts.has_default_rate.Given as goal
 

@@ -1,0 +1,58 @@
+-- The laws of the public empty functions.
+use Rattle.std.proofs.Common.{◌≡◌, ◌↔◌, ℕ, ◌<◌, ◌≤◌, ◌∷◌, ◌++◌, true, List, Some, None, All, length}
+use Rattle.tariff_syntax.specs.Meaning.{initial_place, minimum_place, rate_place}
+use Rattle.tariff_syntax.specs.Reads.{RiseInNumber}
+use Rattle.tariff_syntax.specs.Tree.{Tree, Line}
+use Rattle.tariff_syntax.specs.Writable.{IsWritable}
+use Rattle.tariff_syntax.specs.declared.context.Context.{Context}
+use Rattle.tariff_check.specs.Cuts.{IsInOrder, all_cuts, cuts_of}
+use Rattle.tariff_check.specs.Faults.{IsSound, fault_of}
+use Rattle.tariff_check.specs.Lines.{LineTest, IsFirstLine, IsNowhere, first_line}
+use Rattle.tariff_check.specs.Measure.{IsLeastCommonMultiple, measures_of, measure_of}
+use Rattle.tariff_check.specs.Parts.{initials_of, minimums_of, rates_of}
+use Rattle.tariff_check.specs.Sound.{HasSoundParts}
+use Rattle.tariff_check.specs.declared.fault.CheckFault.TheVariants.{NoCommonMeasure}
+use Rattle.tariff_check.specs.declared.fault.Dimension.{Dimension}
+use Rattle.tariff_check.proofs.CommonMeasure.{least_of_some, refused_measures, sound_measures}
+use Rattle.tariff_check.proofs.CutOrder.{cuts_in_order}
+use Rattle.tariff_check.proofs.DefaultLines.{initial_always, minimum_there, rate_always}
+use Rattle.tariff_check.proofs.FirstLine.{first_line_is, nowhere_is, smallest_line}
+use Rattle.tariff_check.proofs.SoundParts.{sound_parts}
+use Rattle.tariff_check.proofs.Staging.{none_if_sound, sound_if_none}
+
+pub faults_name_the_first_line-named : (test : LineTest) (lines : List Line) (number : ℕ) → (first_line test lines ≡ Some number) ↔ IsFirstLine test lines number
+faults_name_the_first_line-named = first_line_is
+
+pub faults_name_the_first_line-smallest : (test : LineTest) (lines : List Line) (number : ℕ) → RiseInNumber lines → first_line test lines ≡ Some number
+    → (before after : List Line) (line : Line) → lines ≡ before ++ line ∷ after → test before line.entry ≡ true → number ≤ line.line
+faults_name_the_first_line-smallest = smallest_line
+
+pub faults_name_the_first_line-none : (test : LineTest) (lines : List Line) → (first_line test lines ≡ None) ↔ IsNowhere test lines
+faults_name_the_first_line-none = nowhere_is
+
+pub cuts_are_in_order : (dimension : Dimension) (lines : List Line) → IsInOrder (all_cuts dimension lines) (cuts_of dimension lines)
+cuts_are_in_order = cuts_in_order
+
+pub sound_tariffs_have_sound_parts-none : (t : Tree) → (fault_of t ≡ None) ↔ IsSound t
+sound_tariffs_have_sound_parts-none t = (sound_if_none t, none_if_sound t)
+
+pub sound_tariffs_have_sound_parts-parts : (t : Tree) → IsWritable t → IsSound t → HasSoundParts t
+sound_tariffs_have_sound_parts-parts = sound_parts
+
+pub measures_are_least-least : (lines : List Line) → All (λ n. 0 < n) (measures_of lines) → IsLeastCommonMultiple (measures_of lines) (measure_of lines)
+measures_are_least-least lines some = least_of_some (measures_of lines) some
+
+pub measures_are_least-sound : (t : Tree) → IsSound t → All (λ n. 0 < n) (measures_of t.lines)
+measures_are_least-sound = sound_measures
+
+pub measures_are_least-refused : (t : Tree) → fault_of t ≡ Some NoCommonMeasure → All (λ n. 0 < n) (measures_of t.lines)
+measures_are_least-refused = refused_measures
+
+pub lines_that_hold_are_there-rate : (t : Tree) (x : Context) → IsSound t → (place : ℕ) × (rate_place t x ≡ Some place) × (place < length (rates_of t.lines))
+lines_that_hold_are_there-rate = rate_always
+
+pub lines_that_hold_are_there-initial : (t : Tree) (x : Context) → IsSound t → (place : ℕ) × (initial_place t x ≡ Some place) × (place < length (initials_of t.lines))
+lines_that_hold_are_there-initial = initial_always
+
+pub lines_that_hold_are_there-minimum : (t : Tree) (x : Context) (place : ℕ) → minimum_place t x ≡ Some place → place < length (minimums_of t.lines)
+lines_that_hold_are_there-minimum = minimum_there

@@ -1,0 +1,61 @@
+//! What the definitions of faults and cuts come to.
+ghost use Rattle.std.specs.Prelude.{◌≡◌, ℕ, ◌<◌, ◌≤◌, ◌↔◌, ◌∷◌, ◌++◌, true, List, Some, None, All, length};
+ghost use Rattle.tariff_check.specs.Cuts.{IsInOrder, all_cuts, cuts_of};
+ghost use Rattle.tariff_check.specs.Faults.{IsSound, fault_of};
+ghost use Rattle.tariff_check.specs.Lines.{LineTest, IsFirstLine, IsNowhere, first_line};
+ghost use Rattle.tariff_check.specs.Measure.{IsLeastCommonMultiple, measures_of, measure_of};
+ghost use Rattle.tariff_check.specs.Parts.{initials_of, minimums_of, rates_of};
+ghost use Rattle.tariff_check.specs.Sound.{HasSoundParts};
+ghost use Rattle.tariff_check.specs.declared.fault.CheckFault.TheVariants.{NoCommonMeasure};
+ghost use Rattle.tariff_check.specs.declared.fault.Dimension.{Dimension};
+ghost use Rattle.tariff_syntax.specs.Meaning.{initial_place, minimum_place, rate_place};
+ghost use Rattle.tariff_syntax.specs.Reads.{RiseInNumber};
+ghost use Rattle.tariff_syntax.specs.Tree.{Tree, Line};
+ghost use Rattle.tariff_syntax.specs.Writable.{IsWritable};
+ghost use Rattle.tariff_syntax.specs.declared.context.Context.{Context};
+
+/// The law of the faults of lines: the number that is named is that of the first line that is so, and none
+/// is named exactly where no line is so. Where numbers rise, as those of a text do, no line that is so has
+/// a smaller one.
+pub fn faults_name_the_first_line()
+    ensures named { (test : LineTest) (lines : List Line) (number : ℕ)
+        → (first_line test lines ≡ Some number) ↔ IsFirstLine test lines number }
+    ensures smallest { (test : LineTest) (lines : List Line) (number : ℕ) → RiseInNumber lines
+        → first_line test lines ≡ Some number
+        → (before after : List Line) (line : Line) → lines ≡ before ++ line ∷ after
+        → test before line.entry ≡ true → number ≤ line.line }
+    ensures none { (test : LineTest) (lines : List Line) → (first_line test lines ≡ None) ↔ IsNowhere test lines }
+{}
+
+/// The law of cuts: they are the numbers with which conditions compare, in order and each once.
+pub fn cuts_are_in_order()
+    ensures { (dimension : Dimension) (lines : List Line)
+        → IsInOrder (all_cuts dimension lines) (cuts_of dimension lines) }
+{}
+
+/// The law of sound tariffs: a tariff without a first fault is sound, and a sound one has its parts in
+/// their ranges.
+pub fn sound_tariffs_have_sound_parts()
+    ensures none { (t : Tree) → (fault_of t ≡ None) ↔ IsSound t }
+    ensures parts { (t : Tree) → IsWritable t → IsSound t → HasSoundParts t }
+{}
+
+/// The law of the common measure: wherever the measures of the rates are above 0 it is their least common
+/// multiple. They are in a sound tariff, and where the common measure is refused.
+pub fn measures_are_least()
+    ensures least { (lines : List Line) → All (λ n. 0 < n) (measures_of lines)
+        → IsLeastCommonMultiple (measures_of lines) (measure_of lines) }
+    ensures sound { (t : Tree) → IsSound t → All (λ n. 0 < n) (measures_of t.lines) }
+    ensures refused { (t : Tree) → fault_of t ≡ Some NoCommonMeasure → All (λ n. 0 < n) (measures_of t.lines) }
+{}
+
+/// The law of lines that hold: in a sound tariff a rate and an initial hire fee hold in each context, and
+/// the line that holds first is one of the tariff's.
+pub fn lines_that_hold_are_there()
+    ensures rate { (t : Tree) (x : Context) → IsSound t
+        → (place : ℕ) × (rate_place t x ≡ Some place) × (place < length (rates_of t.lines)) }
+    ensures initial { (t : Tree) (x : Context) → IsSound t
+        → (place : ℕ) × (initial_place t x ≡ Some place) × (place < length (initials_of t.lines)) }
+    ensures minimum { (t : Tree) (x : Context) (place : ℕ) → minimum_place t x ≡ Some place
+        → place < length (minimums_of t.lines) }
+{}
