@@ -4,13 +4,16 @@ use Rattle.std.proofs.lemmas.Bool.{cases_lt, cases_eq, le-leb, lt-leb, lt-ltb, l
 use Rattle.std.proofs.lemmas.List.Concat.{flat_map-append}
 use Rattle.std.proofs.lemmas.List.Elements.{All-head, All-tail, All-cons, All-nil}
 use Rattle.std.specs.List.{All, flat_map}
+use Rattle.taxi_units.specs.Calendar.{date_place}
+use Rattle.tariff_calendar.proofs.Dates.{has_date, on_places}
 use Rattle.tariff_calendar.specs.Lists.{pulses_for}
 use Rattle.tariff_check.specs.Cuts.{atom_cuts, day_cut, minute_cut}
 use Rattle.tariff_check.specs.Lines.{atoms_of}
+use Rattle.tariff_check.specs.Sound.{IsGoodAtom}
 use Rattle.tariff_check.specs.declared.fault.Dimension.TheVariants.{MonthDay, Minute, Distance, Time}
 use Rattle.tariff_syntax.specs.Condition as tree
 use Rattle.tariff_syntax.specs.Condition.{Condition}
-use Rattle.tariff_syntax.specs.Meaning.{holds, is_within, is_in_time, month_day_of}
+use Rattle.tariff_syntax.specs.Meaning.{holds, is_within, is_in_time}
 use Rattle.tariff_syntax.specs.declared.context.Context.{Context}
 
 -- a cut compares alike with two values
@@ -134,34 +137,41 @@ date_alike from to v w begins ends =
     rw (begins, same) refl
 
 -- a condition holds in both contexts or in neither
-pub holds_alike : (c : Condition) (k : ℕ) (x y : Context) → HaveAlike k x y → CompareAlike k x y (atoms_of c) → holds c x ≡ holds c y
-holds_alike (tree.and left right) k x y have alike =
+pub holds_alike : (c : Condition) (k : ℕ) (x y : Context) → All IsGoodAtom (atoms_of c) → HaveAlike k x y → CompareAlike k x y (atoms_of c) → holds c x ≡ holds c y
+holds_alike (tree.and left right) k x y good have alike =
+    let both = All-parts IsGoodAtom (atoms_of left) (atoms_of right) good in
     let parts = CompareAlike-parts k x y (atoms_of left) (atoms_of right) alike in
-    rw (holds_alike left k x y have parts.0, holds_alike right k x y have parts.1) refl
-holds_alike (tree.or left right) k x y have alike =
+    rw (holds_alike left k x y both.0 have parts.0, holds_alike right k x y both.1 have parts.1) refl
+holds_alike (tree.or left right) k x y good have alike =
+    let both = All-parts IsGoodAtom (atoms_of left) (atoms_of right) good in
     let parts = CompareAlike-parts k x y (atoms_of left) (atoms_of right) alike in
-    rw (holds_alike left k x y have parts.0, holds_alike right k x y have parts.1) refl
-holds_alike (tree.not inner) k x y have alike = rw (holds_alike inner k x y have alike) refl
-holds_alike (tree.position number) k x y have alike = rw have.position refl
-holds_alike (tree.zone number) k x y have alike = rw have.zone refl
-holds_alike (tree.time from to) k x y have alike =
+    rw (holds_alike left k x y both.0 have parts.0, holds_alike right k x y both.1 have parts.1) refl
+holds_alike (tree.not inner) k x y good have alike = rw (holds_alike inner k x y good have alike) refl
+holds_alike (tree.position number) k x y good have alike = rw have.position refl
+holds_alike (tree.zone number) k x y good have alike = rw have.zone refl
+holds_alike (tree.time from to) k x y good have alike =
     let cuts = All-of_atom (IsAlike x.minute y.minute) (atom_cuts Minute) (tree.time from to) alike.minute in
     let parts = All-parts (IsAlike x.minute y.minute) (minute_cut from) (minute_cut to) cuts in
     time_alike from to x.minute y.minute (minute_alike from x.minute y.minute parts.0) (minute_alike to x.minute y.minute parts.1)
-holds_alike (tree.day from to) k x y have alike = rw have.weekday refl
-holds_alike (tree.date from_month from_date to_month to_date) k x y have alike =
-    let from = month_day_of from_month from_date in
-    let to = month_day_of to_month to_date in
+holds_alike (tree.day from to) k x y good have alike = rw have.weekday refl
+holds_alike (tree.date from_month from_date to_month to_date) k x y good have alike =
+    let from = date_place from_month from_date in
+    let to = date_place to_month to_date in
     let P = IsAlike x.month_day y.month_day in
     let cuts = All-of_atom P (atom_cuts MonthDay) (tree.date from_month from_date to_month to_date) alike.month_day in
     let parts = All-parts P (day_cut from) (day_cut (to + 1)) cuts in
-    date_alike from to x.month_day y.month_day
+    let dates = (All-head IsGoodAtom (tree.date from_month from_date to_month to_date) [] good).1 in
+    let first = has_date 2000 from_month from_date dates.0 in
+    let last = has_date 2000 to_month to_date dates.1 in
+    on_places from_month from_date to_month to_date x.month_day first last have.month_day.0
+    ∙ (date_alike from to x.month_day y.month_day
     (day_alike from x.month_day y.month_day have.month_day.0 have.month_day.1 parts.0)
     (day_alike (to + 1) x.month_day y.month_day have.month_day.0 have.month_day.1 parts.1)
-holds_alike tree.holiday k x y have alike = have.holiday
-holds_alike (tree.after_distance decimetres) k x y have alike =
+    ∙ sym (on_places from_month from_date to_month to_date y.month_day first last have.month_day.1))
+holds_alike tree.holiday k x y good have alike = have.holiday
+holds_alike (tree.after_distance decimetres) k x y good have alike =
     let cut = All-of_atom (IsAlikeInPulses k x.pulses y.pulses) (atom_cuts Distance) (tree.after_distance decimetres) alike.distance in
     let same = All-head (IsAlikeInPulses k x.pulses y.pulses) decimetres [] cut in
     rw (have.constant.0, have.constant.1) (reached-pulses_for k decimetres x.pulses ∙ same ∙ sym (reached-pulses_for k decimetres y.pulses))
-holds_alike (tree.after_time tenths) k x y have alike =
+holds_alike (tree.after_time tenths) k x y good have alike =
     All-head (IsAlike x.ticks y.ticks) tenths [] (All-of_atom (IsAlike x.ticks y.ticks) (atom_cuts Time) (tree.after_time tenths) alike.time)

@@ -97,38 +97,6 @@ count_at_most-above v (x ∷ xs) (suc i) ordered le within =
       | inr counted ↦ count_at_most-above v xs i (IsNotFalling-rest x xs ordered) (omega (arith, count_at_most-counted v x xs counted)) (omega arith)
     ]
 
--- the beginning of the band of a value: the last cut that is at most it, or 0
-abbrev pub beginning : (v : ℕ) → List ℕ → ℕ
-beginning v xs = get_or (0 ∷ xs) (count_at_most v xs) 0
-
--- a cut stands in its own band
-count_at_most-own : (v n : ℕ) (xs : List ℕ) → IsNotFalling xs → count_at_most v xs ≡ suc n → get_or xs n 0 ≤ v → count_at_most (get_or xs n 0) xs ≡ suc n
-count_at_most-own v n xs ordered is le =
-    let few : suc n ≤ length xs = omega (arith, count_at_most-le-length v xs) in
-    count_at_most-at (get_or xs n 0) (suc n) xs few
-    (λ i lt.
-    elim (cases_lt i n) [
-      | inl before ↦ ordered i n before (omega arith)
-      | inr same ↦ let is_n : i ≡ n = omega arith in rw is_n (omega arith)
-    ])
-    (λ i from within.
-    let after : v < get_or xs i 0 = count_at_most-above v xs i ordered (omega arith) within in
-    omega arith)
-
-beginning-by : (v n : ℕ) (xs : List ℕ) → IsNotFalling xs → count_at_most v xs ≡ n → (get_or (0 ∷ xs) n 0 ≤ v) × (count_at_most (get_or (0 ∷ xs) n 0) xs ≡ n)
-beginning-by v zero xs ordered is = (omega arith, omega (arith, count_at_most-le 0 v xs (omega arith)))
-beginning-by v (suc n) xs ordered is =
-    let le : get_or xs n 0 ≤ v = count_at_most-below v xs n ordered (omega arith) in
-    (le, count_at_most-own v n xs ordered is le)
-
--- it is at most the value
-pub beginning-le : (v : ℕ) (xs : List ℕ) → IsNotFalling xs → beginning v xs ≤ v
-beginning-le v xs ordered = (beginning-by v (count_at_most v xs) xs ordered refl).0
-
--- and as many cuts are at most it
-pub count_at_most-beginning : (v : ℕ) (xs : List ℕ) → IsNotFalling xs → count_at_most (beginning v xs) xs ≡ count_at_most v xs
-count_at_most-beginning v xs ordered = (beginning-by v (count_at_most v xs) xs ordered refl).1
-
 -- where no number is 0, none is at most 0
 pub count_at_most-zero : (xs : List ℕ) → ((i : ℕ) → i < length xs → 0 < get_or xs i 0) → count_at_most 0 xs ≡ 0
 count_at_most-zero xs above = count_at_most-at 0 0 xs (omega arith) (λ i lt. absurd (omega arith)) (λ i le within. above i within)

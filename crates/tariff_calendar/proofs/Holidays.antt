@@ -1,19 +1,22 @@
 -- Holidays by their day numbers.
-use Rattle.std.proofs.Common.{leb, ◌==◌, zero, suc, length, get_or, Option, Some, None, ◌≡◌, ◌∙◌, ℕ, ◌+◌, ◌<◌, ◌≤◌, Bool, true, false, ◌&&◌, eqb, List, [], ◌∷◌, map, ℤ, pos, ◌<ℤ◌, arith, refl, ap, subst}
-use Rattle.std.proofs.lemmas.Bool.{and_parts, leb-true, eqb-true, eq-eqb, false_from_ne_true}
+use Rattle.std.proofs.Common.{ltb, ◌==◌, zero, suc, length, get_or, Option, Some, None, ◌≡◌, ◌∙◌, ℕ, ◌<◌, Bool, true, false, ◌&&◌, eqb, List, [], ◌∷◌, map, ℤ, pos, ◌<ℤ◌, arith, refl, ap, subst}
+use Rattle.std.proofs.lemmas.Bool.{and_parts, lt-ltb, eqb-true, eq-eqb, false_from_ne_true}
 use Rattle.std.proofs.lemmas.Bool.Decides.{Decides-int_eq, same_from_decides}
 use Rattle.std.proofs.lemmas.Int.{ints}
 use Rattle.std.proofs.lemmas.List.Elements.{All-head, All-tail}
 use Rattle.std.specs.List.{All, list_any, cons_option}
 use Rattle.std.specs.Option.{IfSome}
 use Rattle.std.specs.Ordering.{int_eq}
-use Rattle.interval_clock.proofs.CalendarDays.{IsDateOf-only, days_of_years-later}
-use Rattle.interval_clock.specs.Calendar.{CalendarDate, IsDateOf, days_of_month, days_of_years, place_in_year}
-use Rattle.tariff_calendar.proofs.Insertions.{list_any-with_each}
-use Rattle.tariff_calendar.specs.Lists.{day_of, has_day, is_holiday, lists_of}
-use Rattle.tariff_check.proofs.SoundParts.{sound_parts}
+use Rattle.interval_clock.proofs.Laws.{IsDateOf-only, is_date_of_number}
+use Rattle.interval_clock.specs.declared.day_numbers.CalendarDate.{CalendarDate}
+use Rattle.interval_clock.specs.Calendar.{IsDateOf}
+use Rattle.tariff_calendar.proofs.Dates.{has_date}
+use Rattle.tariff_calendar.proofs.Insertions.{list_any-with_each, with_each-some}
+use Rattle.tariff_calendar.specs.Lists.{day_of, has_day, has_days, is_holiday, lists_of}
+use Rattle.tariff_check.proofs.Laws.{sound_tariffs_have_sound_parts-parts}
+use Rattle.tariff_check.specs.Cuts.{with_each}
 use Rattle.tariff_check.specs.Faults.{IsSound}
-use Rattle.tariff_check.specs.Parts.{DateNumbers, holiday_part, holidays_of}
+use Rattle.tariff_check.specs.Parts.{DateNumbers, has_holidays, holiday_part, holidays_of}
 use Rattle.tariff_check.specs.Sound.{HasSoundParts, IsSoundHoliday}
 use Rattle.tariff_syntax.specs.Tree.{Tree, entry_of, line_of}
 use Rattle.tariff_syntax.specs.Writable.{IsWritable}
@@ -38,17 +41,7 @@ holiday_at P (l ∷ ls) (suc i) d within all = holiday_at P ls i d (omega arith)
 
 -- a date of the calendar from 2000 on is that of its day number
 IsDateOf-day_of : (d : DateNumbers) → IsSoundHoliday d → IsDateOf (pos (day_of d)) d.year d.month d.date
-IsDateOf-day_of d sound =
-    let months = and_parts (leb 1 d.month) (leb d.month 12 && (leb 1 d.date && leb d.date (days_of_month d.year d.month))) sound.date in
-    let more = and_parts (leb d.month 12) (leb 1 d.date && leb d.date (days_of_month d.year d.month)) months.1 in
-    let dates = and_parts (leb 1 d.date) (leb d.date (days_of_month d.year d.month)) more.1 in
-    let earlier : days_of_years 1970 ≤ days_of_years d.year = omega (arith, days_of_years-later 1970 d.year (omega (arith, sound.year))) in
-    let counted : day_of d + days_of_years 1970 ≡ days_of_years d.year + place_in_year d.year d.month d.date = omega arith in
-    record {
-      month_in = (leb-true 1 d.month months.0, leb-true d.month 12 more.0);
-      date_in = (leb-true 1 d.date dates.0, leb-true d.date (days_of_month d.year d.month) dates.1);
-      count = ap pos counted;
-    }
+IsDateOf-day_of d sound = is_date_of_number d.year d.month d.date (omega (arith, sound.year)) (has_date d.year d.month d.date sound.date)
 
 -- two days of one date are the same
 same_day : (day other : ℤ) (year month date : ℕ) → IsDateOf day year month date → IsDateOf other year month date → day ≡ other
@@ -105,4 +98,12 @@ days_are_dates_in t k day year month date parts is =
 
 -- the same of a tariff whose numbers a text can have
 pub days_are_dates : (t : Tree) (k : ℕ) (day : ℤ) (year month date : ℕ) → IsWritable t → IsSound t → IsDateOf day year month date → has_day (lists_of t k).holidays day ≡ is_holiday t.lines year month date
-days_are_dates t k day year month date writable sound is = days_are_dates_in t k day year month date (sound_parts t writable sound) is
+days_are_dates t k day year month date writable sound is = days_are_dates_in t k day year month date (sound_tariffs_have_sound_parts-parts t writable sound) is
+
+-- there is a holiday where there is a holiday line
+some_days_of : (ds : List DateNumbers) → ltb 0 (length (with_each [] (map day_of ds))) ≡ list_any (λ (d : DateNumbers). true) ds
+some_days_of [] = refl
+some_days_of (d ∷ ds) = lt-ltb 0 (length (with_each [] (map day_of (d ∷ ds)))) (with_each-some (day_of d ∷ []) (map day_of ds) (omega arith))
+
+pub some_days : (t : Tree) (k : ℕ) → has_days (lists_of t k) ≡ has_holidays t.lines
+some_days t k = some_days_of (holidays_of t.lines)

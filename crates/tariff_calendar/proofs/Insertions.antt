@@ -124,6 +124,20 @@ IsRising-with_each xs (n ∷ ns) rising = IsRising-with_each (insert_key nat_cmp
 pub IsRising-none : IsRising []
 IsRising-none = λ i j lt within. absurd (omega arith)
 
+-- some are there, as where some were before
+insert_key-some : (xs : List ℕ) (n : ℕ) → 0 < length (insert_key nat_cmp xs n)
+insert_key-some [] n = omega arith
+insert_key-some (x ∷ xs) n =
+    elim (cases_order n x) [
+      | inl same ↦ rw (insert_key-there x n xs same) (omega arith)
+      | inr (inl lt) ↦ rw (insert_key-before x n xs lt) (omega arith)
+      | inr (inr gt) ↦ rw (insert_key-after x n xs gt) (omega arith)
+    ]
+
+pub with_each-some : (xs ns : List ℕ) → 0 < length xs → 0 < length (with_each xs ns)
+with_each-some xs [] some = some
+with_each-some xs (n ∷ ns) some = with_each-some (insert_key nat_cmp xs n) ns (insert_key-some xs n)
+
 -- no more numbers are there than were and were put in
 insert_key-length : (xs : List ℕ) (n : ℕ) → length (insert_key nat_cmp xs n) ≤ suc (length xs)
 insert_key-length [] n = omega arith

@@ -1,7 +1,9 @@
-pub mod Comparisons
-pub mod Counts
-pub mod Halvings
-pub mod Holidays
-pub mod Insertions
-pub mod Lists
-pub mod SameCell
+mod Comparisons
+mod Counts
+mod Dates
+mod Found
+mod Holidays
+mod Insertions
+pub mod Laws
+mod Lists
+mod SameCell

@@ -7,7 +7,7 @@ use Rattle.std.specs.List.{All, flat_map}
 use Rattle.tariff_calendar.specs.Lists.{AreOrdered, IsNotFalling, count_at_most, day_of, list_in, lists_of, pulses_for}
 use Rattle.tariff_calendar.proofs.Counts.{count_at_most-zero}
 use Rattle.tariff_calendar.proofs.Insertions.{All-with_each, IsRising-none, IsRising-with_each, length-with_each}
-use Rattle.tariff_check.proofs.SoundParts.{sound_parts}
+use Rattle.tariff_check.proofs.Laws.{sound_tariffs_have_sound_parts-parts}
 use Rattle.tariff_check.specs.Faults.{IsSound}
 use Rattle.tariff_check.specs.Cuts.{IsRising, all_cuts, atom_cuts, cuts_of}
 use Rattle.tariff_check.specs.Lines.{atoms_in}
@@ -80,7 +80,7 @@ AreOrdered-same t k month_days minutes distances times holidays parts a b c d e 
 
 -- the same of a tariff whose numbers a text can have
 pub lists_ordered : (t : Tree) (k : ℕ) → IsWritable t → IsSound t → AreOrdered (lists_of t k)
-lists_ordered t k writable sound = AreOrdered-lists_of t k (sound_parts t writable sound)
+lists_ordered t k writable sound = AreOrdered-lists_of t k (sound_tariffs_have_sound_parts-parts t writable sound)
 
 -- what holds of all that is made of each element holds of all that is made of the list
 All-flat_map : {X : Type 0} (P : ℕ → Type 0) (f : X → List ℕ) (xs : List X) → All (λ x. All P (f x)) xs → All P (flat_map f xs)

@@ -1,7 +1,7 @@
 -- Two contexts of one cell: the conditions of the tariff hold in both or in neither, and the same lines hold first.
 use Rattle.std.proofs.Common.{◌≡◌, ℕ, ◌+◌, List, [], ◌∷◌, get_or, map, Option, Some, None, refl, subst}
 use Rattle.std.proofs.lemmas.List.Elements.{All-head, All-tail, All-cons, All-nil, All-contains, All-from_get_or, Contains-get_or}
-use Rattle.std.specs.List.{All, Contains, flat_map}
+use Rattle.std.specs.List.{All, Contains, cons_option, flat_map, position_from}
 use Rattle.tariff_calendar.specs.Lists.{CutLists, count_at_most, lists_of, pulses_for}
 use Rattle.tariff_calendar.specs.Range.{IsInRangeOf, IsSameCell}
 use Rattle.tariff_calendar.proofs.Comparisons.{IsAlike, IsAlikeInPulses, CompareAlike, HaveAlike, All-parts, holds_alike}
@@ -11,11 +11,14 @@ use Rattle.tariff_check.specs.Cuts.{all_cuts, atom_cuts, cuts_of}
 use Rattle.tariff_check.specs.Faults.{IsSound}
 use Rattle.tariff_check.specs.Lines.{atoms_in, atoms_if}
 use Rattle.tariff_check.specs.Parts.{when_part}
+use Rattle.tariff_check.specs.Sound.{HasSoundParts, IsGoodAtom}
+use Rattle.tariff_check.proofs.Laws.{sound_tariffs_have_sound_parts-parts}
 use Rattle.tariff_check.specs.declared.fault.Dimension.{Dimension}
 use Rattle.tariff_check.specs.declared.fault.Dimension.TheVariants.{MonthDay, Minute, Distance, Time}
 use Rattle.tariff_syntax.specs.Condition.{Condition}
-use Rattle.tariff_syntax.specs.Meaning.{holds, holds_if, at_hiring, first_from, rate_conditions, initial_conditions, rate_place, initial_place}
-use Rattle.tariff_syntax.specs.Tree.{Tree, Line, Entry, step, positions, zones, holiday, supplement, initial, rate}
+use Rattle.tariff_syntax.specs.Meaning.{holds, holds_if, at_hiring, rate_place, initial_place, minimum_place}
+use Rattle.tariff_syntax.specs.Parts.{initial_conditions, initial_when, minimum_conditions, minimum_when, parts, rate_conditions, rate_when}
+use Rattle.tariff_syntax.specs.Tree.{Tree, Line, Entry, initial, rate, minimum}
 use Rattle.tariff_syntax.specs.Writable.{IsWritable}
 use Rattle.tariff_syntax.specs.declared.context.Context.{Context}
 
@@ -61,13 +64,14 @@ same_cell_has t k x y x_in y_in same = record {
   month_day = (x_in.month_day, y_in.month_day);
 }
 
-line_holds : (t : Tree) (k : ℕ) (x y : Context) → HaveAlike k x y → IsSameCell (lists_of t k) x y → (l : Line) (c : Condition) → Contains t.lines l → when_part l.entry ≡ Some c → holds c x ≡ holds c y
-line_holds t k x y have same l c within has =
-    holds_alike c k x y have (subst (λ when. CompareAlike k x y (atoms_if when)) has (same_cell_compares t k x y l same within))
+line_holds : (t : Tree) (k : ℕ) (x y : Context) → HasSoundParts t → HaveAlike k x y → IsSameCell (lists_of t k) x y → (l : Line) (c : Condition) → Contains t.lines l → when_part l.entry ≡ Some c → holds c x ≡ holds c y
+line_holds t k x y parts have same l c within has =
+    let good = All-contains (λ (l : Line). All IsGoodAtom (atoms_in l.entry)) t.lines l parts.atoms within in
+    holds_alike c k x y (subst (λ when. All IsGoodAtom (atoms_if when)) has good) have (subst (λ when. CompareAlike k x y (atoms_if when)) has (same_cell_compares t k x y l same within))
 
 -- each condition of a tariff holds in both or in neither
 pub same_cell_holds : (t : Tree) (k : ℕ) (x y : Context) → IsWritable t → IsSound t → IsInRangeOf t k x → IsInRangeOf t k y → IsSameCell (lists_of t k) x y → (l : Line) (c : Condition) → Contains t.lines l → when_part l.entry ≡ Some c → holds c x ≡ holds c y
-same_cell_holds t k x y writable sound x_in y_in same = line_holds t k x y (same_cell_has t k x y x_in y_in same) same
+same_cell_holds t k x y writable sound x_in y_in same = line_holds t k x y (sound_tariffs_have_sound_parts-parts t writable sound) (same_cell_has t k x y x_in y_in same) same
 
 -- a line's condition that may not be there holds in both or in neither
 abbrev IsWhenAlike : (x y : Context) → Option Condition → Type 0
@@ -77,55 +81,50 @@ when_alike : (x y : Context) (when : Option Condition) → ((c : Condition) → 
 when_alike x y None alike = refl
 when_alike x y (Some c) alike = alike c refl
 
--- what holds of each line's condition holds of those of the rates
-rate_step : (P : Option Condition → Type 0) (number : ℕ) (entry : Entry) (ls : List Line) → P (when_part entry) → All P (rate_conditions ls) → All P (rate_conditions (record { line = number; entry = entry } ∷ ls))
-rate_step P number (step amount rounding) ls here rest = rest
-rate_step P number (positions count) ls here rest = rest
-rate_step P number (zones count) ls here rest = rest
-rate_step P number (holiday year month date) ls here rest = rest
-rate_step P number (supplement which amount most) ls here rest = rest
-rate_step P number (initial amount covers when) ls here rest = rest
-rate_step P number (rate a b c e when) ls here rest = All-cons P when (rate_conditions ls) here rest
+-- what a kind of line gives is the line's condition
+abbrev GivesWhen : (Entry → Option (Option Condition)) → Type 0
+GivesWhen part = (x : Entry) (when : Option Condition) → part x ≡ Some when → when_part x ≡ when
 
-pub All-rate_conditions : (P : Option Condition → Type 0) (lines : List Line) → All (λ (l : Line). P (when_part l.entry)) lines → All P (rate_conditions lines)
-All-rate_conditions P [] all = All-nil P
-All-rate_conditions P (l ∷ ls) all =
+rate_gives : GivesWhen rate_when
+rate_gives (rate a b c e own) when h = cc
+rate_gives x when h = absurd cc
+
+initial_gives : GivesWhen initial_when
+initial_gives (initial amount covers own) when h = cc
+initial_gives x when h = absurd cc
+
+minimum_gives : GivesWhen minimum_when
+minimum_gives (minimum amount own) when h = cc
+minimum_gives x when h = absurd cc
+
+-- so what holds of each line's condition holds of those of a kind
+All-conditions : (P : Option Condition → Type 0) (part : Entry → Option (Option Condition)) → GivesWhen part → (lines : List Line) → All (λ (l : Line). P (when_part l.entry)) lines → All P (parts part lines)
+All-conditions P part gives [] all = All-nil P
+All-conditions P part gives (l ∷ ls) all =
     let Q = λ (l : Line). P (when_part l.entry) in
-    rate_step P l.line l.entry ls (All-head Q l ls all) (All-rate_conditions P ls (All-tail Q l ls all))
-
--- and of those of the initial hire fees
-initial_step : (P : Option Condition → Type 0) (number : ℕ) (entry : Entry) (ls : List Line) → P (when_part entry) → All P (initial_conditions ls) → All P (initial_conditions (record { line = number; entry = entry } ∷ ls))
-initial_step P number (step amount rounding) ls here rest = rest
-initial_step P number (positions count) ls here rest = rest
-initial_step P number (zones count) ls here rest = rest
-initial_step P number (holiday year month date) ls here rest = rest
-initial_step P number (supplement which amount most) ls here rest = rest
-initial_step P number (initial amount covers when) ls here rest = All-cons P when (initial_conditions ls) here rest
-initial_step P number (rate a b c e when) ls here rest = rest
-
-pub All-initial_conditions : (P : Option Condition → Type 0) (lines : List Line) → All (λ (l : Line). P (when_part l.entry)) lines → All P (initial_conditions lines)
-All-initial_conditions P [] all = All-nil P
-All-initial_conditions P (l ∷ ls) all =
-    let Q = λ (l : Line). P (when_part l.entry) in
-    initial_step P l.line l.entry ls (All-head Q l ls all) (All-initial_conditions P ls (All-tail Q l ls all))
+    one_more (part l.entry) (gives l.entry) (All-head Q l ls all) (All-conditions P part gives ls (All-tail Q l ls all))
+  where
+    one_more : (o : Option (Option Condition)) → ((when : Option Condition) → o ≡ Some when → when_part l.entry ≡ when) → P (when_part l.entry) → All P (parts part ls) → All P (cons_option o (parts part ls))
+    one_more None given here rest = rest
+    one_more (Some when) given here rest = All-cons P when (parts part ls) (subst P (given when refl) here) rest
 
 -- where conditions hold in both or in neither, the first that holds is the same
-first_alike : (x y : Context) (place : ℕ) (conditions : List (Option Condition)) → All (IsWhenAlike x y) conditions → first_from x place conditions ≡ first_from y place conditions
+first_alike : (x y : Context) (place : ℕ) (conditions : List (Option Condition)) → All (IsWhenAlike x y) conditions → position_from (holds_if x) place conditions ≡ position_from (holds_if y) place conditions
 first_alike x y place [] all = refl
 first_alike x y place (when ∷ more) all =
     rw (All-head (IsWhenAlike x y) when more all, first_alike x y (place + 1) more (All-tail (IsWhenAlike x y) when more all)) refl
 
 -- the conditions of all lines hold in both or in neither
-lines_alike : (t : Tree) (k : ℕ) (x y : Context) → HaveAlike k x y → IsSameCell (lists_of t k) x y → All (λ (l : Line). IsWhenAlike x y (when_part l.entry)) t.lines
-lines_alike t k x y have same = λ place d within.
+lines_alike : (t : Tree) (k : ℕ) (x y : Context) → HasSoundParts t → HaveAlike k x y → IsSameCell (lists_of t k) x y → All (λ (l : Line). IsWhenAlike x y (when_part l.entry)) t.lines
+lines_alike t k x y parts have same = λ place d within.
     let l = get_or t.lines place d in
-    when_alike x y (when_part l.entry) (λ c has. line_holds t k x y have same l c (Contains-get_or t.lines place d within) has)
+    when_alike x y (when_part l.entry) (λ c has. line_holds t k x y parts have same l c (Contains-get_or t.lines place d within) has)
 
 -- the same rate holds first
 pub same_cell_rate : (t : Tree) (k : ℕ) (x y : Context) → IsWritable t → IsSound t → IsInRangeOf t k x → IsInRangeOf t k y → IsSameCell (lists_of t k) x y → rate_place t x ≡ rate_place t y
 same_cell_rate t k x y writable sound x_in y_in same =
     first_alike x y 0 (rate_conditions t.lines)
-    (All-rate_conditions (IsWhenAlike x y) t.lines (lines_alike t k x y (same_cell_has t k x y x_in y_in same) same))
+    (All-conditions (IsWhenAlike x y) rate_when rate_gives t.lines (lines_alike t k x y (sound_tariffs_have_sound_parts-parts t writable sound) (same_cell_has t k x y x_in y_in same) same))
 
 -- at the hiring they are in one cell too
 hiring_has : (k : ℕ) (x y : Context) → HaveAlike k x y → HaveAlike k (at_hiring x) (at_hiring y)
@@ -150,9 +149,19 @@ hiring_same lists x y same = record {
   time = refl;
 }
 
+-- so what holds at the hiring holds alike
+hiring_alike : (t : Tree) (k : ℕ) (x y : Context) → IsWritable t → IsSound t → IsInRangeOf t k x → IsInRangeOf t k y → IsSameCell (lists_of t k) x y → All (λ (l : Line). IsWhenAlike (at_hiring x) (at_hiring y) (when_part l.entry)) t.lines
+hiring_alike t k x y writable sound x_in y_in same =
+    lines_alike t k (at_hiring x) (at_hiring y) (sound_tariffs_have_sound_parts-parts t writable sound) (hiring_has k x y (same_cell_has t k x y x_in y_in same)) (hiring_same (lists_of t k) x y same)
+
 -- the same initial hire fee holds first
 pub same_cell_initial : (t : Tree) (k : ℕ) (x y : Context) → IsWritable t → IsSound t → IsInRangeOf t k x → IsInRangeOf t k y → IsSameCell (lists_of t k) x y → initial_place t x ≡ initial_place t y
 same_cell_initial t k x y writable sound x_in y_in same =
-    let have = hiring_has k x y (same_cell_has t k x y x_in y_in same) in
     first_alike (at_hiring x) (at_hiring y) 0 (initial_conditions t.lines)
-    (All-initial_conditions (IsWhenAlike (at_hiring x) (at_hiring y)) t.lines (lines_alike t k (at_hiring x) (at_hiring y) have (hiring_same (lists_of t k) x y same)))
+    (All-conditions (IsWhenAlike (at_hiring x) (at_hiring y)) initial_when initial_gives t.lines (hiring_alike t k x y writable sound x_in y_in same))
+
+-- and the same minimum fare
+pub same_cell_minimum : (t : Tree) (k : ℕ) (x y : Context) → IsWritable t → IsSound t → IsInRangeOf t k x → IsInRangeOf t k y → IsSameCell (lists_of t k) x y → minimum_place t x ≡ minimum_place t y
+same_cell_minimum t k x y writable sound x_in y_in same =
+    first_alike (at_hiring x) (at_hiring y) 0 (minimum_conditions t.lines)
+    (All-conditions (IsWhenAlike (at_hiring x) (at_hiring y)) minimum_when minimum_gives t.lines (hiring_alike t k x y writable sound x_in y_in same))

@@ -1,5 +1,5 @@
 -- The cuts and the holidays of a tariff under a constant.
-use Rattle.std.specs.Prelude.{ℕ, ◌+◌, ◌*◌, ◌/◌, ◌<◌, ◌≤◌, Bool, ◌&&◌, ◌==◌, nat_le, List, [], map, length, get_or, ℤ, pos}
+use Rattle.std.specs.Prelude.{ℕ, ◌+◌, ◌*◌, ◌/◌, ◌<◌, ◌≤◌, Bool, ◌&&◌, ◌==◌, nat_le, nat_lt, List, [], map, length, get_or, ℤ, pos}
 use Rattle.std.specs.List.{list_any, count_by}
 use Rattle.std.specs.Ordering.{int_eq}
 use Rattle.interval_clock.specs.Calendar.{day_number_of}
@@ -75,6 +75,10 @@ most_reads Time = 4
 -- a day number is that of a holiday
 abbrev pub has_day : List ℕ → ℤ → Bool
 has_day holidays day = list_any (λ holiday. int_eq (pos holiday) day) holidays
+
+-- whether there is a holiday
+abbrev pub has_days : CutLists → Bool
+has_days lists = nat_lt 0 (length lists.holidays)
 
 -- a date stands in a holiday line
 abbrev pub is_holiday : List Line → (year month date : ℕ) → Bool

@@ -1,14 +1,11 @@
 -- Contexts that a trip may have, and those between the same cuts.
 use Rattle.std.specs.Prelude.{◌≡◌, ℕ, ◌*◌, ◌^◌, ◌≤◌, Bool, true}
+use Rattle.taxi_units.specs.Time.{longest_trip}
 use Rattle.tariff_syntax.specs.Tree.{Tree}
 use Rattle.tariff_syntax.specs.Writable.{IsFromTo}
 use Rattle.tariff_syntax.specs.declared.context.Context.{Context}
 use Rattle.tariff_check.specs.Parts.{positions_of, zones_of, has_holidays}
 use Rattle.tariff_calendar.specs.Lists.{CutLists, count_at_most}
-
--- a trip has at most so many ticks, which are ten days
-abbrev pub longest : ℕ
-longest = 8640000
 
 -- a context that a trip may have, where there are so many positions and zones, and holidays or none
 pub record IsInRange (k positions zones : ℕ) (holidays : Bool) (x : Context) : Type 0 where
@@ -20,7 +17,7 @@ pub record IsInRange (k positions zones : ℕ) (holidays : Bool) (x : Context) :
   pub minute : x.minute ≤ 1439
   pub holiday : x.holiday ≡ true → holidays ≡ true
   pub pulses : x.pulses ≤ 5 * 10 ^ 18
-  pub ticks : x.ticks ≤ longest
+  pub ticks : x.ticks ≤ longest_trip
 
 -- a context that a trip under a tariff may have
 abbrev pub IsInRangeOf : Tree → (k : ℕ) → Context → Type 0

@@ -66,7 +66,8 @@ fn different_days(alloc: Global, lines: &[TariffLine]) -> Result<BTreeSet<u64>, 
 /// Puts the day of a line among others, if the line has a holiday.
 fn add(days: &mut BTreeSet<u64>, item: &Item) -> Result<(), NoMemory>
     requires { IfSome (holiday_part (entry_of item.now)) IsSoundHoliday }
-    ensures { OnOk result (days.new.keys ≡ with_each days.old.keys (map day_of (option_to_list (holiday_part (entry_of item.now))))) }
+    ensures { OnOk result (days.new.keys ≡ with_each days.old.keys (map day_of (option_to_list (holiday_part
+        (entry_of item.now))))) }
 {
     if let Item::Holiday { year, month, date } = item {
         let day = day_number(*year, *month, *date).unwrap();

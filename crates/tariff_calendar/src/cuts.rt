@@ -1,11 +1,11 @@
 //! The lists of cuts and of holidays.
-ghost use Rattle.std.specs.Prelude.{◌≡◌, ◌+◌, ◌≤◌, IfOk};
-ghost use Rattle.tariff_calendar.specs.Lists.{IsOrdered, count_at_most, has_day, list_in, lists_of, most_reads};
+ghost use Rattle.std.specs.Prelude.{◌≡◌, ◌+◌, ◌<◌, ◌≤◌, ◌≤ℤ◌, pos, length, min, IfOk};
+ghost use Rattle.tariff_calendar.specs.Lists.{IsOrdered, count_at_most, has_day, has_days, list_in, lists_of, most_reads};
 ghost use Rattle.tariff_check.specs.Cuts.{most_cuts};
 ghost use Rattle.tariff_syntax.specs.Tree.{tree_of};
 
 use crate::collecting::{holiday_days, in_pulses};
-use crate::halving::{count, has};
+use crate::lookups::{count, has};
 use pulse_input::Constant;
 use std::alloc::Global;
 use std::marker::Model;
@@ -57,24 +57,33 @@ impl Cuts {
     }
 
     /// How many cuts of a dimension are at most a value. Each cut that is read is one step: at most 6 for
-    /// days and minutes, 4 for distances and times.
+    /// days and minutes, 4 for distances and times, and one at least where there is a cut.
     pub fn find<L: Ledger>(&self, dimension: Dimension, value: u64, steps: &mut Steps<L>) -> usize
         ensures value { result ≡ count_at_most value (list_in self.now dimension) }
-        ensures steps { steps.new ≤ steps.old + most_reads dimension }
+        ensures most { steps.new ≤ steps.old + most_reads dimension }
+        ensures least { steps.old + min 1 (length (list_in self.now dimension)) ≤ steps.new }
     {
         count(self.ordered(dimension), value, steps)
     }
 
-    /// Whether a day, by its number since 1970-01-01, is a holiday. Each day that is read is one step, and
-    /// they are at most 8.
+    /// Whether a day, by its number since 1970-01-01, is a holiday. Each day that is read is one step: they
+    /// are at most 8, and for a day from 1970 on one at least where there is a holiday.
     pub fn holiday<L: Ledger>(&self, day: i32, steps: &mut Steps<L>) -> bool
         ensures value { result ≡ has_day self.now.holidays day }
-        ensures steps { steps.new ≤ steps.old + 8 }
+        ensures most { steps.new ≤ steps.old + 8 }
+        ensures least { pos 0 ≤ℤ day → steps.old + min 1 (length self.now.holidays) ≤ steps.new }
     {
         if day < 0 {
             return false;
         }
         has(self.holidays.as_slice(), day as u64, steps)
+    }
+
+    /// Whether there is a holiday. No steps.
+    pub fn has_holidays(&self) -> bool
+        ensures { result ≡ has_days self.now }
+    {
+        self.holidays.len() > 0
     }
 
     /// The cuts of a dimension, in order. No steps: the tables are filled from it, and no look-up uses it.

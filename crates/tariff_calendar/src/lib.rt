@@ -3,10 +3,11 @@
 
 mod collecting;
 mod cuts;
-mod halving;
-mod laws;
+mod lookups;
+mod theorems;
 
 pub use cuts::Cuts;
-pub use laws::{
-    cuts_are_the_fewest_pulses, cuts_decide_conditions, holidays_are_dates, lists_are_ordered,
+pub use theorems::{
+    counts_are_places, cuts_are_the_fewest_pulses, cuts_decide_conditions, holidays_are_dates,
+    lists_are_ordered,
 };

@@ -145,3 +145,43 @@ fn looks_up(rt: HostRuntime) {
         }
     }
 }
+
+/// As many holidays as there may be: the dates 10 to 28 of October, November and December.
+fn most_holidays(alloc: Global) -> Result<String, Fail> {
+    let mut text = String::new(alloc);
+    text.push_str("step 1\ninitial 1\nrate 1 per 1 m, 1 per 1 s\n")?;
+    for place in 0..255u16 {
+        let year = 2000 + place / 57;
+        let month = 10 + place / 19 % 3;
+        let date = 10 + place % 19;
+        let line = format!(in alloc; "holiday {year}-{month}-{date}\n")?;
+        text.push_str(line.as_str())?;
+    }
+    Ok(text)
+}
+
+#[test]
+fn looks_up_among_the_most_holidays(rt: HostRuntime) -> Result<(), Fail> {
+    let text = most_holidays(rt.alloc())?;
+    let cuts = collected(rt.alloc(), text.as_str(), 10_000);
+    assert!(rt; cuts.is_some());
+    if let Some(cuts) = cuts {
+        assert!(rt; cuts.has_holidays());
+        for (day, want) in [
+            (11_239, false),
+            (11_240, true),
+            (11_258, true),
+            (11_259, false),
+            (12_049, true),
+            (12_739, true),
+            (12_740, false),
+        ] {
+            assert_eq!(rt;
+                is_holiday::<Brand>(Blank::new(1), &cuts, day),
+                want,
+                "day {day}"
+            );
+        }
+    }
+    Ok(())
+}

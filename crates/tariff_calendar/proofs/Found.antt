@@ -1,0 +1,51 @@
+-- What a look-up finds in numbers that don't fall.
+use Rattle.std.proofs.Common.{◌≡◌, ◌∙◌, sym, ℕ, zero, suc, ◌+◌, ◌-◌, min, ◌<◌, ◌≤◌, ◌^◌, false, leb, eqb, List, length, get_or, inl, inr, arith}
+use Rattle.std.proofs.lemmas.Bool.{cases_lt, cases_eq, eq-eqb, ne_eqb}
+use Rattle.std.proofs.lemmas.List.Elements.{All-from_get_or}
+use Rattle.std.proofs.lemmas.List.Folds.{list_any_at, list_any_none}
+use Rattle.std.proofs.lemmas.List.Sorted.{IsNonDecreasingBy-from_default, IsPartitionedBy-leb}
+use Rattle.std.specs.List.{list_any}
+use Rattle.std.specs.List.Sorted.{IsPartitionedBy}
+use Rattle.tariff_calendar.specs.Lists.{IsNotFalling, count_at_most, most_reads}
+use Rattle.tariff_calendar.proofs.Counts.{IsNotFalling-le, count_at_most-above, count_at_most-below, count_at_most-le-length}
+use Rattle.tariff_check.specs.Cuts.{most_cuts}
+use Rattle.tariff_check.specs.declared.fault.Dimension.{Dimension}
+use Rattle.tariff_check.specs.declared.fault.Dimension.TheVariants.{MonthDay, Minute, Distance, Time}
+
+-- a value parts them
+pub parted : (v : ℕ) (xs : List ℕ) → IsNotFalling xs → IsPartitionedBy (λ x. leb x v) xs
+parted v xs ordered = IsPartitionedBy-leb (λ x. x) xs v (IsNonDecreasingBy-from_default (λ x. x) xs 0 (λ i j le within. IsNotFalling-le xs i j ordered le within))
+
+-- where none is at most the value, it isn't among them
+pub none_found : (v : ℕ) (xs : List ℕ) → IsNotFalling xs → count_at_most v xs ≡ 0 → list_any (λ x. eqb x v) xs ≡ false
+none_found v xs ordered none =
+    list_any_none (λ x. eqb x v) xs (All-from_get_or (λ x. eqb x v ≡ false) xs 0
+    (λ i within. ne_eqb (get_or xs i 0) v (λ same. let after = count_at_most-above v xs i ordered (omega arith) within in omega arith)))
+
+-- and where some are, it is among them where the last of them is it
+pub last_found : (v last : ℕ) (xs : List ℕ) → IsNotFalling xs → 0 < count_at_most v xs → last ≡ get_or xs (count_at_most v xs - 1) 0 → eqb last v ≡ list_any (λ x. eqb x v) xs
+last_found v last xs ordered some is =
+    let place = count_at_most v xs - 1 in
+    let within : place < length xs = omega (arith, count_at_most-le-length v xs) in
+    let at_most : get_or xs place 0 ≤ v = count_at_most-below v xs place ordered (omega arith) in
+    elim (cases_eq last v) [
+      | inl same ↦ eq-eqb last v same ∙ sym (list_any_at (λ x. eqb x v) xs place 0 within (eq-eqb (get_or xs place 0) v (sym is ∙ same)))
+      | inr other ↦ ne_eqb last v other ∙ sym (list_any_none (λ x. eqb x v) xs (All-from_get_or (λ x. eqb x v ≡ false) xs 0
+          (λ i inside.
+          elim (cases_lt place i) [
+            | inl later ↦ let after = count_at_most-above v xs i ordered (omega arith) inside in ne_eqb (get_or xs i 0) v (λ same. omega arith)
+            | inr earlier ↦ let before = IsNotFalling-le xs i place ordered (omega arith) within in ne_eqb (get_or xs i 0) v (λ same. other (omega arith))
+          ])))
+    ]
+
+-- the reads of a look-up are enough for as many cuts as there may be
+pub enough_reads : (dimension : Dimension) (width : ℕ) → width ≤ most_cuts dimension → width < 2 ^ most_reads dimension
+enough_reads MonthDay width few = omega arith
+enough_reads Minute width few = omega arith
+enough_reads Distance width few = omega arith
+enough_reads Time width few = omega arith
+
+-- a look-up that reads a list at all reads once at least where there is something to read
+pub at_least : (n old new : ℕ) → old ≤ new → (0 < n → old + 1 ≤ new) → old + min 1 n ≤ new
+at_least zero old new kept least = omega arith
+at_least (suc n) old new kept least = let read = least (omega arith) in omega arith

@@ -1,0 +1,29 @@
+//! Look-ups in numbers that don't fall.
+ghost use Rattle.std.specs.List.{list_any};
+ghost use Rattle.std.specs.Prelude.{◌≡◌, ◌==◌, length};
+ghost use Rattle.tariff_calendar.specs.Lists.{IsNotFalling, count_at_most};
+ghost use Rattle.taxi_units.specs.Counted.{HalvesIn};
+
+use std::sync::ledger::Ledger;
+use taxi_units::{Counted, Steps};
+
+/// How many numbers are at most a value. Each number that is read is one step.
+pub fn count<L: Ledger>(list: &[u64], value: u64, steps: &mut Steps<L>) -> usize
+    requires { IsNotFalling list.now }
+    ensures value { result ≡ count_at_most value list.now }
+    ensures steps { HalvesIn (length list.now) steps.old steps.new }
+{
+    Counted::of(list).at_most(value, steps).count
+}
+
+/// Whether a number is among the numbers, with as many steps: whether the last that is at most it is it.
+pub fn has<L: Ledger>(list: &[u64], number: u64, steps: &mut Steps<L>) -> bool
+    requires { IsNotFalling list.now }
+    ensures value { result ≡ list_any (λ other. other == number) list.now }
+    ensures steps { HalvesIn (length list.now) steps.old steps.new }
+{
+    match Counted::of(list).at_most(number, steps).last {
+        Some(last) => last == number,
+        None => false,
+    }
+}

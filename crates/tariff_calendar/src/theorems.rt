@@ -1,0 +1,62 @@
+//! Why cuts are enough: contexts between the same cuts mean the same.
+ghost use Rattle.std.specs.Prelude.{◌≡◌, ℕ, ◌*◌, ◌<◌, ◌≤◌, ◌↔◌, ℤ, List, Some, Contains, length, slice_index};
+ghost use Rattle.interval_clock.specs.Calendar.{IsDateOf};
+ghost use Rattle.tariff_calendar.specs.Lists.{AreOrdered, IsNotFalling, count_at_most, has_day, has_days, is_holiday, lists_of, pulses_for};
+ghost use Rattle.tariff_calendar.specs.Range.{IsInRangeOf, IsSameCell};
+ghost use Rattle.tariff_check.specs.Faults.{IsSound};
+ghost use Rattle.tariff_check.specs.Parts.{has_holidays, when_part};
+ghost use Rattle.tariff_syntax.specs.Condition.{Condition};
+ghost use Rattle.tariff_syntax.specs.Meaning.{holds, initial_place, minimum_place, rate_place};
+ghost use Rattle.tariff_syntax.specs.Tree.{Tree, Line};
+ghost use Rattle.tariff_syntax.specs.Writable.{IsWritable};
+ghost use Rattle.tariff_syntax.specs.declared.context.Context.{Context};
+
+/// The law of cuts: in two contexts of one cell, each condition of a sound tariff holds alike, and so the
+/// same rate, the same initial hire fee and the same minimum fare hold first. A condition compares with the
+/// cuts of its tariff alone, and how many cuts are at most a value decides each such comparison.
+pub fn cuts_decide_conditions()
+    ensures condition { (t : Tree) (k : ℕ) (x y : Context) → IsWritable t → IsSound t → IsInRangeOf t k x
+        → IsInRangeOf t k y → IsSameCell (lists_of t k) x y
+        → (l : Line) (c : Condition) → Contains t.lines l → when_part l.entry ≡ Some c → holds c x ≡ holds c y }
+    ensures rate { (t : Tree) (k : ℕ) (x y : Context) → IsWritable t → IsSound t → IsInRangeOf t k x
+        → IsInRangeOf t k y → IsSameCell (lists_of t k) x y
+        → rate_place t x ≡ rate_place t y }
+    ensures minimum { (t : Tree) (k : ℕ) (x y : Context) → IsWritable t → IsSound t → IsInRangeOf t k x
+        → IsInRangeOf t k y → IsSameCell (lists_of t k) x y
+        → minimum_place t x ≡ minimum_place t y }
+    ensures initial { (t : Tree) (k : ℕ) (x y : Context) → IsWritable t → IsSound t → IsInRangeOf t k x
+        → IsInRangeOf t k y → IsSameCell (lists_of t k) x y
+        → initial_place t x ≡ initial_place t y }
+{}
+
+/// The law of distances: the pulses at which a distance is cut are the fewest that are as far.
+pub fn cuts_are_the_fewest_pulses()
+    ensures { (k decimetres pulses : ℕ) → (k * decimetres ≤ 10000 * pulses) ↔ (pulses_for k decimetres ≤ pulses) }
+{}
+
+/// The law of counts: no more numbers are at most a value than there are, and where they don't fall, those
+/// before the place of that number are at most it, and those from there on are greater.
+pub fn counts_are_places()
+    ensures few { (value : ℕ) (xs : List ℕ) → count_at_most value xs ≤ length xs }
+    ensures before { (value : ℕ) (xs : List ℕ) (i : ℕ) → IsNotFalling xs → i < count_at_most value xs
+        → slice_index xs i ≤ value }
+    ensures after { (value : ℕ) (xs : List ℕ) (i : ℕ) → IsNotFalling xs → count_at_most value xs ≤ i
+        → i < length xs → value < slice_index xs i }
+{}
+
+/// The law of lists: the numbers of a sound tariff's lists don't fall, and no list is longer than a look-up
+/// by halving reaches. No distance and no time is cut at the hiring.
+pub fn lists_are_ordered()
+    ensures hiring { (t : Tree) (k : ℕ) → IsWritable t → IsSound t → 0 < k
+        → (count_at_most 0 (lists_of t k).distances ≡ 0) × (count_at_most 0 (lists_of t k).times ≡ 0) }
+    ensures ordered { (t : Tree) (k : ℕ) → IsWritable t → IsSound t → AreOrdered (lists_of t k) }
+{}
+
+/// The law of holidays: the day numbers of a sound tariff's holidays are those of the dates in its
+/// holiday lines, and there is one exactly where there is such a line.
+pub fn holidays_are_dates()
+    ensures some { (t : Tree) (k : ℕ) → has_days (lists_of t k) ≡ has_holidays t.lines }
+    ensures dates { (t : Tree) (k : ℕ) (day : ℤ) (year month date : ℕ) → IsWritable t → IsSound t
+        → IsDateOf day year month date
+        → has_day (lists_of t k).holidays day ≡ is_holiday t.lines year month date }
+{}
