@@ -1,43 +1,46 @@
 -- What compiled tables have: the ranges of their numbers, and what is looked up in them.
-use Rattle.std.proofs.Common.{◌≡◌, ◌∙◌, ap, sym, subst, ℕ, ◌+◌, ◌-◌, ◌*◌, ◌^◌, ◌<◌, ◌≤◌, ℤ, Bool, true, false, if◌then◌else◌, length, get_or, List, [], ◌∷◌, Option, None, map, All, refl, arith}
+use Rattle.std.proofs.Common.{◌≡◌, ◌∙◌, ap, sym, subst, add-one, ltb, ℕ, zero, suc, ◌+◌, ◌-◌, ◌*◌, ◌^◌, ◌<◌, ◌≤◌, ℤ, Bool, true, false, if◌then◌else◌, length, get_or, List, [], ◌∷◌, Option, Some, None, MatchOption, All, refl, arith}
 use Rattle.std.proofs.Math.Nat.{mul-pos, mul_assoc}
-use Rattle.std.proofs.lemmas.List.{get_or_default, length-map}
-use Rattle.std.proofs.lemmas.List.Elements.{All-map, All-weaker}
+use Rattle.std.proofs.lemmas.Bool.{lt-ltb}
+use Rattle.std.proofs.lemmas.List.{get_or-map, get_or_default, length-map}
+use Rattle.std.proofs.lemmas.List.Elements.{All-head, All-map, All-tail, All-weaker}
 use Rattle.std.proofs.lemmas.List.FromFn.{get_or-map-range_with_len, length-map-range_with_len}
 use Rattle.std.proofs.lemmas.Nat.{mul-le}
-use Rattle.std.specs.List.{list_any}
+use Rattle.std.proofs.lemmas.Option.{slice_get-get_or}
+use Rattle.std.specs.List.{slice_get}
 use Rattle.std.specs.Option.{option_map}
 use Rattle.drive_modes.specs.declared.charges.Weights.{Weights}
 use Rattle.interval_clock.specs.Calendar.{IsDateOf}
-use Rattle.tariff_calendar.specs.Lists.{day_of, has_day, is_holiday, lists_of, pulses_for}
-use Rattle.tariff_calendar.specs.Range.{IsInRangeOf}
-use Rattle.tariff_calendar.proofs.Holidays.{days_are_dates}
+use Rattle.tariff_calendar.specs.Lists.{count_at_most, has_day, has_days, is_holiday, lists_of, pulses_for}
+use Rattle.tariff_calendar.specs.Range.{IsInRange, IsInRangeOf}
+use Rattle.tariff_calendar.proofs.Laws.{holidays_are_dates-dates, holidays_are_dates-some, lists_are_ordered-hiring}
 use Rattle.tariff_check.specs.Cells.{cells_of, day_kinds}
-use Rattle.tariff_check.specs.Cuts.{count_of, cuts_of, with_each}
+use Rattle.tariff_check.specs.Cuts.{count_of, cuts_of}
 use Rattle.tariff_check.specs.Faults.{IsSound}
 use Rattle.tariff_check.specs.Measure.{measure_of}
-use Rattle.tariff_check.specs.Parts.{DateNumbers, has_holidays, holidays_of, initials_of, positions_of, rates_of, zones_of}
+use Rattle.tariff_check.specs.Parts.{InitialNumbers, RateNumbers, has_holidays, initials_of, minimums_of, positions_of, rates_of, zones_of}
 use Rattle.tariff_check.specs.Sound.{HasSoundParts, IsSoundInitial, IsSoundRate}
 use Rattle.tariff_check.specs.declared.fault.Dimension.TheVariants.{MonthDay, Minute, Distance, Time}
+use Rattle.tariff_syntax.specs.Meaning.{at_hiring, minimum_place}
 use Rattle.tariff_syntax.specs.Tree.{Tree}
 use Rattle.tariff_syntax.specs.Writable.{IsFromTo, IsWritable}
 use Rattle.tariff_syntax.specs.declared.context.Context.{Context}
-use Rattle.tariff_compile.specs.Cells.{IsBelow, IsNarrow, bands_at, bands_of, cell_count, sizes_of}
-use Rattle.tariff_compile.specs.Tables.{AreFit, IsCompiled, IsFit, IsFitInitial, IsTablesOf, TableParts, all_cells, all_initials, all_weights, cell_of, context_of, initial_by, initial_of, lines_at, rate_by, sizes_in, supplement_at, supplement_in, weights_of}
+use Rattle.taxi_units.specs.Counted.{IsElement}
+use Rattle.tariff_compile.specs.Cells.{IsBelow, IsNarrow, bands_at, bands_of, cell_count, cell_number, sizes_of}
+use Rattle.tariff_compile.specs.Tables.{AreFit, HasAmountsOf, HasWeightsOf, IsCompiled, IsFit, IsInRangeFor, IsTablesOf, TableParts, all_cells, all_initials, all_weights, context_of, fee_of, initial_by, lines_at, number_of, rate_by, sizes_for, sizes_in, supplement_at, supplement_in, tables_of, weights_of}
 use Rattle.tariff_compile.specs.declared.parts.Bands.{Bands}
 use Rattle.tariff_compile.specs.declared.parts.CellLines.{CellLines}
-use Rattle.tariff_compile.specs.declared.parts.Initial.{Initial}
+use Rattle.tariff_compile.specs.declared.parts.Fee.{Fee}
 use Rattle.tariff_compile.specs.declared.parts.Supplement.{Supplement}
-use Rattle.tariff_check.proofs.DefaultLines.{initial_always, rate_always}
-use Rattle.tariff_check.proofs.SoundParts.{sound_parts}
+use Rattle.tariff_check.proofs.Laws.{lines_that_hold_are_there-initial, lines_that_hold_are_there-minimum, lines_that_hold_are_there-rate, sound_tariffs_have_sound_parts-parts}
 use Rattle.tariff_compile.proofs.Fits.{weights_of-fit}
-use Rattle.tariff_compile.proofs.Looked.{cell_has_lines, cell_of-below}
+use Rattle.tariff_compile.proofs.Looked.{bands_at-below, cell_has_lines}
 use Rattle.tariff_compile.proofs.Numbering.{bands_of-below}
 use Rattle.tariff_compile.proofs.Supplements.{supplement_of-none}
 
 -- the parts of the tariff of which these are the tables
 pub parts_of_tree : (t : Tree) (tables : TableParts) → IsTablesOf t tables → HasSoundParts t
-parts_of_tree t tables is = sound_parts t is.writable is.sound
+parts_of_tree t tables is = sound_tariffs_have_sound_parts-parts t is.writable is.sound
 
 pub measure_range : (tables : TableParts) → IsCompiled tables → (0 < tables.measure) × (tables.measure ≤ 2 * 10 ^ 23)
 measure_range tables (t, is) =
@@ -83,7 +86,7 @@ cell_count-cells_of t k =
     rw (length-map (cuts_of Distance t.lines) (pulses_for k)) (together (positions_of t.lines * zones_of t.lines * 7 * day_kinds t.lines) (count_of MonthDay t.lines + 1) (count_of Minute t.lines + 1) (count_of Distance t.lines + 1) (count_of Time t.lines + 1))
 
 pub cell_count-most : (t : Tree) (k : ℕ) → IsWritable t → IsSound t → cell_count (sizes_in t k) ≤ 64512
-cell_count-most t k writable sound = rw (cell_count-cells_of t k) (sound_parts t writable sound).cells.1
+cell_count-most t k writable sound = rw (cell_count-cells_of t k) (sound_tariffs_have_sound_parts-parts t writable sound).cells.1
 
 pub length-all_cells : (t : Tree) (k : ℕ) → length (all_cells t k) ≡ cell_count (sizes_in t k)
 length-all_cells t k = length-map-range_with_len (λ (cell : ℕ). lines_at t (context_of t k cell)) 0 (cell_count (sizes_in t k))
@@ -105,38 +108,70 @@ bands_in-narrow t k cell parts below =
     }
 
 -- the sizes of the tables' dimensions are those of the tariff
-sizes_of_tables : (t : Tree) (tables : TableParts) → IsTablesOf t tables → sizes_of tables.positions tables.zones (day_kinds t.lines) tables.cuts ≡ sizes_in t tables.constant
-sizes_of_tables t tables is = ap (λ (p : TableParts). sizes_of p.positions p.zones (day_kinds t.lines) p.cuts) is.parts
+sizes_of_tree : (t : Tree) (k : ℕ) → sizes_for (tables_of t k) ≡ sizes_in t k
+sizes_of_tree t k = ap (λ (holidays : Bool). sizes_of (positions_of t.lines) (zones_of t.lines) (if holidays then 2 else 1) (lists_of t k)) (holidays_are_dates-some t k)
 
--- and there are as many cells
-length-cells : (t : Tree) (tables : TableParts) → IsTablesOf t tables → length tables.cells ≡ cell_count (sizes_of tables.positions tables.zones (day_kinds t.lines) tables.cuts)
-length-cells t tables is =
+pub sizes_of_tables : (t : Tree) (tables : TableParts) → IsTablesOf t tables → sizes_for tables ≡ sizes_in t tables.constant
+sizes_of_tables t tables is = ap sizes_for is.parts ∙ sizes_of_tree t tables.constant
+
+-- a context that the tables' numbers allow is one that the tariff allows
+pub in_range_of : (t : Tree) (tables : TableParts) (x : Context) → IsTablesOf t tables → IsInRangeFor tables x → IsInRangeOf t tables.constant x
+in_range_of t tables x is x_in =
+    subst (λ (holidays : Bool). IsInRange tables.constant (positions_of t.lines) (zones_of t.lines) holidays x) (holidays_are_dates-some t tables.constant)
+    (subst (λ (p : TableParts). IsInRange tables.constant p.positions p.zones (has_days p.cuts) x) is.parts x_in)
+
+-- and so is it at the hiring
+pub in_range-hiring : (tables : TableParts) (x : Context) → IsInRangeFor tables x → IsInRangeFor tables (at_hiring x)
+in_range-hiring tables x x_in = record {
+  constant = x_in.constant;
+  position = x_in.position;
+  zone = x_in.zone;
+  weekday = x_in.weekday;
+  month_day = x_in.month_day;
+  minute = x_in.minute;
+  holiday = x_in.holiday;
+  pulses = omega arith;
+  ticks = omega arith;
+}
+
+-- its cell is there
+pub bands-below : (tables : TableParts) (x : Context) → IsInRangeFor tables x → IsBelow (sizes_for tables) (bands_at tables.cuts x)
+bands-below tables x x_in = bands_at-below tables.constant tables.positions tables.zones (has_days tables.cuts) tables.cuts x x_in
+
+pub sizes_for-most : (tables : TableParts) → IsCompiled tables → cell_count (sizes_for tables) ≤ 64512
+sizes_for-most tables (t, is) = subst (λ (s : Bands). cell_count s ≤ 64512) (sym (sizes_of_tables t tables is)) (cell_count-most t tables.constant is.writable is.sound)
+
+pub length-cells : (tables : TableParts) → IsCompiled tables → length tables.cells ≡ cell_count (sizes_for tables)
+length-cells tables (t, is) =
     ap (λ (p : TableParts). length p.cells) is.parts ∙ (length-all_cells t tables.constant ∙ ap cell_count (sym (sizes_of_tables t tables is)))
 
--- so that many cells give these sizes
-pub sizes_by_count : (t : Tree) (tables : TableParts) (count : ℕ) (sizes : Bands) → IsTablesOf t tables → count ≡ length tables.cells
-    → ((kinds : ℕ) → count ≡ cell_count (sizes_of tables.positions tables.zones kinds tables.cuts) → sizes ≡ sizes_of tables.positions tables.zones kinds tables.cuts)
-    → sizes ≡ sizes_in t tables.constant
-sizes_by_count t tables count sizes is all found = found (day_kinds t.lines) (all ∙ length-cells t tables is) ∙ sizes_of_tables t tables is
-
-pub bands_of_tables : (t : Tree) (tables : TableParts) (x : Context) → IsTablesOf t tables → bands_at tables.cuts x ≡ bands_at (lists_of t tables.constant) x
-bands_of_tables t tables x is = ap (λ (p : TableParts). bands_at p.cuts x) is.parts
-
--- a context's cell is there
-pub cell-below : (t : Tree) (tables : TableParts) (x : Context) → IsTablesOf t tables → IsInRangeOf t tables.constant x → cell_of t tables.constant x < length tables.cells
-cell-below t tables x is x_in =
-    rw (ap (λ (p : TableParts). length p.cells) is.parts ∙ length-all_cells t tables.constant) (cell_of-below t tables.constant x x_in)
-
 -- with the lines that hold first
-pub cell-lines : (t : Tree) (tables : TableParts) (x : Context) (d : CellLines) → IsTablesOf t tables → IsInRangeOf t tables.constant x → get_or tables.cells (cell_of t tables.constant x) d ≡ lines_at t x
-cell-lines t tables x d is x_in =
-    ap (λ (p : TableParts). get_or p.cells (cell_of t tables.constant x) d) is.parts ∙ cell_has_lines t tables.constant x d is.writable is.sound x_in
+pub lines-found : (t : Tree) (tables : TableParts) (x : Context) (lines : CellLines) → IsTablesOf t tables → IsInRangeFor tables x → IsElement tables.cells (cell_number (sizes_for tables) (bands_at tables.cuts x)) lines → lines ≡ lines_at t x
+lines-found t tables x lines is x_in found =
+    let k = tables.constant in
+    found lines
+    ∙ (ap (λ (p : TableParts). get_or p.cells (cell_number (sizes_for p) (bands_at p.cuts x)) lines) is.parts
+    ∙ (ap (λ (s : Bands). get_or (all_cells t k) (cell_number s (bands_at (lists_of t k) x)) lines) (sizes_of_tree t k)
+    ∙ cell_has_lines t k x lines is.writable is.sound (in_range_of t tables x is x_in)))
+
+pub lines-found_at : (t : Tree) (tables : TableParts) (x : Context) (bands : Bands) (lines : CellLines) → IsTablesOf t tables → IsInRangeFor tables x → bands ≡ bands_at tables.cuts x
+    → IsElement tables.cells (cell_number (sizes_for tables) bands) lines → lines ≡ lines_at t x
+lines-found_at t tables x bands lines is x_in same found =
+    lines-found t tables x lines is x_in (subst (λ (b : Bands). IsElement tables.cells (cell_number (sizes_for tables) b) lines) same found)
+
+-- at the hiring no distance and no time is cut
+pub nothing_at_hiring : (tables : TableParts) → IsCompiled tables → (count_at_most 0 tables.cuts.distances ≡ 0) × (count_at_most 0 tables.cuts.times ≡ 0)
+nothing_at_hiring tables (t, is) =
+    let none = lists_are_ordered-hiring t tables.constant is.writable is.sound (omega (arith, is.constant.0)) in (
+      ap (λ (p : TableParts). count_at_most 0 p.cuts.distances) is.parts ∙ none.0,
+      ap (λ (p : TableParts). count_at_most 0 p.cuts.times) is.parts ∙ none.1,
+    )
 
 pub rate_place-below : (t : Tree) (x : Context) → IsSound t → (lines_at t x).rate < length (rates_of t.lines)
-rate_place-below t x sound = let always = rate_always t x sound in rw always.1 always.2
+rate_place-below t x sound = let always = lines_that_hold_are_there-rate t x sound in rw always.1 always.2
 
 pub initial_place-below : (t : Tree) (x : Context) → IsSound t → (lines_at t x).initial < length (initials_of t.lines)
-initial_place-below t x sound = let always = initial_always t x sound in rw always.1 always.2
+initial_place-below t x sound = let always = lines_that_hold_are_there-initial t x sound in rw always.1 always.2
 
 length-all_weights : (t : Tree) (k : ℕ) → length (all_weights t k) ≡ length (rates_of t.lines)
 length-all_weights t k = length-map (rates_of t.lines) (weights_of k (measure_of t.lines))
@@ -163,7 +198,7 @@ weights-fit tables (t, is) =
     subst (λ (p : TableParts). All (AreFit p.measure) p.weights) (sym is.parts) all
 
 length-all_initials : (t : Tree) → length (all_initials t) ≡ length (initials_of t.lines)
-length-all_initials t = length-map (initials_of t.lines) initial_of
+length-all_initials t = length-map (initials_of t.lines) fee_of
 
 -- the initial hire fee of a context is there
 pub initial-below : (t : Tree) (tables : TableParts) (x : Context) → IsTablesOf t tables → (lines_at t x).initial < length tables.initials
@@ -171,18 +206,51 @@ initial-below t tables x is =
     rw (ap (λ (p : TableParts). length p.initials) is.parts ∙ length-all_initials t) (initial_place-below t x is.sound)
 
 -- and is the one that holds first
-pub initial-amounts : (t : Tree) (tables : TableParts) (x : Context) (d : Initial) → IsTablesOf t tables → get_or tables.initials (lines_at t x).initial d ≡ initial_by t x
+pub initial-amounts : (t : Tree) (tables : TableParts) (x : Context) (d : Fee) → IsTablesOf t tables → get_or tables.initials (lines_at t x).initial d ≡ get_or (all_initials t) (lines_at t x).initial (record { amount = 0; covers = 0 })
 initial-amounts t tables x d is =
     get_or_default tables.initials (lines_at t x).initial d (record { amount = 0; covers = 0 }) (initial-below t tables x is)
     ∙ ap (λ (p : TableParts). get_or p.initials (lines_at t x).initial (record { amount = 0; covers = 0 })) is.parts
 
+-- how large an initial hire fee and its cover are
+pub record IsFitFee (fee : Fee) : Type 0 where
+  pub amount : fee.amount ≤ 99999999
+  pub covers : fee.covers ≤ 99999999
+
 -- all initial hire fees are fit
-pub initials-fit : (tables : TableParts) → IsCompiled tables → All IsFitInitial tables.initials
-initials-fit tables (t, is) =
+pub fees-fit : (tables : TableParts) → IsCompiled tables → All IsFitFee tables.initials
+fees-fit tables (t, is) =
     let parts = parts_of_tree t tables is in
-    let all : All IsFitInitial (all_initials t) = All-map IsFitInitial initial_of (initials_of t.lines)
-    (All-weaker IsSoundInitial (λ i. IsFitInitial (initial_of i)) (λ i sound. record { amount = sound.amount; covers = sound.covers }) (initials_of t.lines) parts.initials) in
-    subst (λ (p : TableParts). All IsFitInitial p.initials) (sym is.parts) all
+    let all : All IsFitFee (all_initials t) = All-map IsFitFee fee_of (initials_of t.lines)
+    (All-weaker IsSoundInitial (λ i. IsFitFee (fee_of i)) (λ i sound. record { amount = sound.amount; covers = sound.covers }) (initials_of t.lines) parts.initials) in
+    subst (λ (p : TableParts). All IsFitFee p.initials) (sym is.parts) all
+
+-- and so are all minimum fares
+pub minimums-fit : (tables : TableParts) → IsCompiled tables → All (λ amount. amount ≤ 99999999) tables.minimums
+minimums-fit tables (t, is) =
+    subst (λ (p : TableParts). All (λ amount. amount ≤ 99999999) p.minimums) (sym is.parts) (parts_of_tree t tables is).minimums
+
+pub number_few : (minimums : List ℕ) (o : Option ℕ) → ((place : ℕ) → o ≡ Some place → place < length minimums) → number_of o ≤ length minimums
+number_few minimums None there = omega arith
+number_few minimums (Some place) there = omega (arith, there place refl)
+
+-- the minimum fare of a context is there, if it has one
+pub minimum-few : (t : Tree) (tables : TableParts) (x : Context) → IsTablesOf t tables → (lines_at t x).minimum ≤ length tables.minimums
+minimum-few t tables x is =
+    rw (ap (λ (p : TableParts). length p.minimums) is.parts) (number_few (minimums_of t.lines) (minimum_place t x) (lines_that_hold_are_there-minimum t x))
+
+-- and is the one that holds first
+pub minimum-amount : (t : Tree) (tables : TableParts) (x : Context) → IsTablesOf t tables → get_or (0 ∷ tables.minimums) (lines_at t x).minimum 0 ≡ get_or (0 ∷ minimums_of t.lines) (number_of (minimum_place t x)) 0
+minimum-amount t tables x is = ap (λ (p : TableParts). get_or (0 ∷ p.minimums) (lines_at t x).minimum 0) is.parts
+
+pub all_fit : (amounts : List ℕ) (n : ℕ) → All (λ amount. amount ≤ 99999999) amounts → get_or amounts n 0 ≤ 99999999
+all_fit [] n all = omega arith
+all_fit (m ∷ ms) zero all = All-head (λ amount. amount ≤ 99999999) m ms all
+all_fit (m ∷ ms) (suc n) all = all_fit ms n (All-tail (λ amount. amount ≤ 99999999) m ms all)
+
+-- an amount of the minimum fares, or 0, is fit
+pub minimum-fit : (minimums : List ℕ) (number : ℕ) → All (λ amount. amount ≤ 99999999) minimums → get_or (0 ∷ minimums) number 0 ≤ 99999999
+minimum-fit minimums zero all = omega arith
+minimum-fit minimums (suc n) all = all_fit minimums n all
 
 -- a supplement is at the place before its number
 pub supplement-there : (t : Tree) (tables : TableParts) (number : ℕ) (d : Option Supplement) → IsTablesOf t tables → IsFromTo 1 16 number → get_or tables.supplements (number - 1) d ≡ supplement_at t number
@@ -198,13 +266,44 @@ supplement-none t tables number is out = sym (ap (option_map supplement_in) (sup
 -- a day is a holiday where its date is in a holiday line
 pub holiday-dates : (t : Tree) (tables : TableParts) (day : ℤ) (year month date : ℕ) → IsTablesOf t tables → IsDateOf day year month date → has_day tables.cuts.holidays day ≡ is_holiday t.lines year month date
 holiday-dates t tables day year month date is of =
-    ap (λ (p : TableParts). has_day p.cuts.holidays day) is.parts ∙ days_are_dates t tables.constant day year month date is.writable is.sound of
+    ap (λ (p : TableParts). has_day p.cuts.holidays day) is.parts ∙ holidays_are_dates-dates t tables.constant day year month date is.writable is.sound of
 
-some_day : (dates : List DateNumbers) (day : ℤ) → has_day (with_each [] (map day_of dates)) day ≡ true → list_any (λ (d : DateNumbers). true) dates ≡ true
+some_day : (days : List ℕ) (day : ℤ) → has_day days day ≡ true → ltb 0 (length days) ≡ true
 some_day [] day is = cc
-some_day (d ∷ ds) day is = refl
+some_day (d ∷ ds) day is = lt-ltb 0 (length (d ∷ ds)) (omega arith)
 
--- a day is a holiday only where the tariff has one
-pub holiday-some : (t : Tree) (tables : TableParts) (day : ℤ) → IsTablesOf t tables → has_day tables.cuts.holidays day ≡ true → has_holidays t.lines ≡ true
-holiday-some t tables day is holiday =
-    some_day (holidays_of t.lines) day (sym (ap (λ (p : TableParts). has_day p.cuts.holidays day) is.parts) ∙ holiday)
+-- a day is a holiday only where there is one
+pub holiday-some : (tables : TableParts) (day : ℤ) → has_day tables.cuts.holidays day ≡ true → has_days tables.cuts ≡ true
+holiday-some tables day holiday = some_day tables.cuts.holidays day holiday
+
+-- what is looked up is what the lines that hold first say
+pub has_weights : (t : Tree) (k : ℕ) (x : Context) → IsSound t → HasWeightsOf t k x (rate_by t k x)
+has_weights t k x sound =
+    let always = lines_that_hold_are_there-rate t x sound in
+    let none : RateNumbers = record { a = 0; b = 0; c = 0; e = 0 } in
+    record {
+      place = always.0;
+      rate = get_or (rates_of t.lines) always.0 none;
+      first = always.1;
+      there = slice_get-get_or (rates_of t.lines) always.0 none always.2;
+      weights = rw always.1 (get_or-map (weights_of k (measure_of t.lines)) (rates_of t.lines) always.0 none _ always.2);
+    }
+
+minimum_said : (minimums : List ℕ) (o : Option ℕ) → ((place : ℕ) → o ≡ Some place → place < length minimums)
+    → MatchOption o (get_or (0 ∷ minimums) (number_of o) 0 ≡ 0) (λ n. slice_get minimums n ≡ Some (get_or (0 ∷ minimums) (number_of o) 0))
+minimum_said minimums None there = refl
+minimum_said minimums (Some place) there = rw add-one (slice_get-get_or minimums place 0 (there place refl))
+
+pub has_amounts : (t : Tree) (x : Context) → IsSound t → HasAmountsOf t x (initial_by t x)
+has_amounts t x sound =
+    let always = lines_that_hold_are_there-initial t x sound in
+    let none : InitialNumbers = record { amount = 0; covers = 0 } in
+    record {
+      place = always.0;
+      fee = get_or (initials_of t.lines) always.0 none;
+      first = always.1;
+      there = slice_get-get_or (initials_of t.lines) always.0 none always.2;
+      amount = rw always.1 (ap (λ (f : Fee). f.amount) (get_or-map fee_of (initials_of t.lines) always.0 none (record { amount = 0; covers = 0 }) always.2));
+      covers = rw always.1 (ap (λ (f : Fee). f.covers) (get_or-map fee_of (initials_of t.lines) always.0 none (record { amount = 0; covers = 0 }) always.2));
+      minimum = minimum_said (minimums_of t.lines) (minimum_place t x) (lines_that_hold_are_there-minimum t x);
+    }

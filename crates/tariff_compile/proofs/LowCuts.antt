@@ -2,17 +2,19 @@
 use Rattle.std.proofs.Common.{ℕ, ◌+◌, ◌-◌, ◌^◌, ◌<◌, ◌≤◌, Bool, true, false, ◌||◌, ◌==◌, if◌then◌else◌, List, [], ◌∷◌, All, arith}
 use Rattle.std.proofs.lemmas.List.Elements.{All-append, All-cons, All-head, All-nil, All-tail, All-weaker}
 use Rattle.std.proofs.lemmas.List.Sums.{sum_by-take-le}
+use Rattle.std.proofs.lemmas.Map.Views.{All-insert_key}
+use Rattle.std.specs.BTreeSet.{insert_key}
 use Rattle.std.specs.List.{flat_map}
+use Rattle.std.specs.Ordering.{nat_cmp}
 use Rattle.tariff_calendar.specs.Lists.{lists_of}
-use Rattle.tariff_calendar.proofs.Insertions.{All-with_each}
-use Rattle.tariff_check.specs.Cuts.{all_cuts, atom_cuts, cuts_of, day_cut, minute_cut}
+use Rattle.tariff_check.specs.Cuts.{all_cuts, atom_cuts, cuts_of, day_cut, minute_cut, with_each}
 use Rattle.tariff_check.specs.Lines.{atoms_in}
 use Rattle.tariff_check.specs.Sound.{HasSoundParts, IsGoodAtom}
 use Rattle.tariff_check.specs.declared.fault.Dimension.{Dimension}
 use Rattle.tariff_check.specs.declared.fault.Dimension.TheVariants.{MonthDay, Minute}
 use Rattle.tariff_syntax.specs.Condition as tree
 use Rattle.tariff_syntax.specs.Condition.{Condition}
-use Rattle.tariff_syntax.specs.Meaning.{month_day_of, month_lengths}
+use Rattle.taxi_units.specs.Calendar.{date_place, month_lengths}
 use Rattle.tariff_syntax.specs.Tree.{Tree, Line}
 use Rattle.tariff_compile.specs.Cells.{HasLowCuts}
 
@@ -30,15 +32,15 @@ low_minute : (minute : ℕ) → minute ≤ 1439 → All IsLow (minute_cut minute
 low_minute minute most = low_if (minute == 0) minute (omega arith)
 
 -- a place of a year that a text can name
-low_place : (month date : ℕ) → date ≤ 99 → month_day_of month date ≤ 465
-low_place month date small = let days = sum_by-take-le (λ (n : ℕ). n) month_lengths (month - 1) in omega arith
+low_place : (month date : ℕ) → date ≤ 99 → date_place month date ≤ 465
+low_place month date small = let days = sum_by-take-le (λ (n : ℕ). n) (month_lengths true) (month - 1) in omega arith
 
 day_cuts : (atom : Condition) → IsGoodAtom atom → All IsLow (atom_cuts MonthDay atom)
 day_cuts (tree.date from_month from_date to_month to_date) good =
     let from = low_place from_month from_date good.0.1 in
     let to = low_place to_month to_date good.0.3 in
-    All-append IsLow (day_cut (month_day_of from_month from_date)) (day_cut (month_day_of to_month to_date + 1))
-    (low_day (month_day_of from_month from_date) (omega arith)) (low_day (month_day_of to_month to_date + 1) (omega arith))
+    All-append IsLow (day_cut (date_place from_month from_date)) (day_cut (date_place to_month to_date + 1))
+    (low_day (date_place from_month from_date) (omega arith)) (low_day (date_place to_month to_date + 1) (omega arith))
 day_cuts atom good = All-nil IsLow
 
 minute_cuts : (atom : Condition) → IsGoodAtom atom → All IsLow (atom_cuts Minute atom)
@@ -51,9 +53,15 @@ all_made {X = X} f (x ∷ xs) all =
     let P = λ (x : X). All IsLow (f x) in
     All-append IsLow (f x) (flat_map f xs) (All-head P x xs all) (all_made f xs (All-tail P x xs all))
 
+-- numbers that are put in their places one by one
+low_each : (xs ns : List ℕ) → All IsLow xs → All IsLow ns → All IsLow (with_each xs ns)
+low_each xs [] all more = all
+low_each xs (n ∷ ns) all more =
+    low_each (insert_key nat_cmp xs n) ns (All-insert_key nat_cmp n IsLow xs all (All-head IsLow n ns more)) (All-tail IsLow n ns more)
+
 low_cuts_of : (dimension : Dimension) (t : Tree) → ((atom : Condition) → IsGoodAtom atom → All IsLow (atom_cuts dimension atom)) → HasSoundParts t → All IsLow (cuts_of dimension t.lines)
 low_cuts_of dimension t of_atom parts =
-    All-with_each IsLow [] (all_cuts dimension t.lines) (All-nil IsLow)
+    low_each [] (all_cuts dimension t.lines) (All-nil IsLow)
     (all_made (λ (l : Line). flat_map (atom_cuts dimension) (atoms_in l.entry)) t.lines
     (All-weaker (λ (l : Line). All IsGoodAtom (atoms_in l.entry)) (λ (l : Line). All IsLow (flat_map (atom_cuts dimension) (atoms_in l.entry)))
     (λ l good. all_made (atom_cuts dimension) (atoms_in l.entry) (All-weaker IsGoodAtom (λ atom. All IsLow (atom_cuts dimension atom)) of_atom (atoms_in l.entry) good))

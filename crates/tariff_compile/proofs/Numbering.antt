@@ -1,8 +1,8 @@
 -- The numbers of cells: the bands of a cell give its number back, and a number its bands.
-use Rattle.std.proofs.Common.{◌≡◌, ℕ, ◌+◌, ◌*◌, ◌/◌, ◌<◌, ◌≤◌, arith}
-use Rattle.std.proofs.Math.Nat.{mul_comm, mul-div_cancel, mul-div_cancel_left, mul-pos, le-mul_of_pos_right}
+use Rattle.std.proofs.Common.{◌≡◌, ◌∙◌, ◌⊎◌, inl, inr, ap, refl, ℕ, zero, suc, ◌+◌, ◌*◌, ◌/◌, ◌%◌, ◌<◌, ◌≤◌, arith}
+use Rattle.std.proofs.Math.Nat.{div-add-mod, le-mul_of_pos_right, mul-le-mul_right, mul-zero, mul_comm, suc-mul, zero-mul}
 use Rattle.std.proofs.lemmas.Nat.{div-mul-add, mod-mul-add, mul-add-lt, div_below, mod_below}
-use Rattle.tariff_compile.specs.Cells.{IsBelow, cell_count, cell_number, bands_of}
+use Rattle.tariff_compile.specs.Cells.{IsBefore, IsBelow, cell_count, cell_number, bands_of, places_of}
 use Rattle.tariff_compile.specs.declared.parts.Bands.{Bands}
 
 -- one dimension more
@@ -60,18 +60,72 @@ bands_of-below s n zone weekday holiday month_day minute distance time h = recor
   time = mod_below _ s.time time;
 }
 
--- where cells are counted over all other dimensions, the days are of so many kinds
-pub kinds_of_day : (position zone holiday month_day minute distance time : ℕ) → 0 < position → 0 < zone → 0 < month_day → 0 < minute → 0 < distance → 0 < time
-    → position * zone * 7 * holiday * month_day * minute * distance * time / time / distance / minute / month_day / (position * zone * 7) ≡ holiday
-kinds_of_day position zone holiday month_day minute distance time some_position some_zone some_month_day some_minute some_distance some_time =
-    let some : 0 < position * zone * 7 = mul-pos (mul-pos some_position some_zone) (omega arith) in
+-- a number with one digit apart is that number
+digit_back : (n size : ℕ) → n / size * size + n % size ≡ n
+digit_back n size = ap (λ m. m + n % size) (mul_comm (n / size) size) ∙ div-add-mod n size
+
+-- the number of the bands of a cell is the cell's
+pub cell_number-bands_of : (s : Bands) (n : ℕ) → cell_number s (bands_of s n) ≡ n
+cell_number-bands_of s n =
+    let distances = n / s.time in
+    let minutes = distances / s.distance in
+    let month_days = minutes / s.minute in
+    let holidays = month_days / s.month_day in
+    let weekdays = holidays / s.holiday in
+    let zones = weekdays / s.weekday in
     rw (
-      mul-div_cancel (position * zone * 7 * holiday * month_day * minute * distance) some_time,
-      mul-div_cancel (position * zone * 7 * holiday * month_day * minute) some_distance,
-      mul-div_cancel (position * zone * 7 * holiday * month_day) some_minute,
-      mul-div_cancel (position * zone * 7 * holiday) some_month_day,
-      mul-div_cancel_left holiday some,
+      digit_back zones s.zone,
+      digit_back weekdays s.weekday,
+      digit_back holidays s.holiday,
+      digit_back month_days s.month_day,
+      digit_back minutes s.minute,
+      digit_back distances s.distance,
+      digit_back n s.time,
     )
+
+-- a product above a number has no factor of 0
+factor_some : (n a b : ℕ) → n < a * b → (0 < a) × (0 < b)
+factor_some n a zero h = absurd (omega (arith, mul-zero a))
+factor_some n zero (suc b) h = absurd (omega (arith, zero-mul (suc b)))
+factor_some n (suc a) (suc b) h = (omega arith, omega arith)
+
+-- each cell has a place
+pub bands_of-place : (s : Bands) (n : ℕ) → n < cell_count s → IsBelow s (bands_of s n)
+bands_of-place s n h =
+    let time = factor_some n _ s.time h in
+    let distance = factor_some 0 _ s.distance time.0 in
+    let minute = factor_some 0 _ s.minute distance.0 in
+    let month_day = factor_some 0 _ s.month_day minute.0 in
+    let holiday = factor_some 0 _ s.holiday month_day.0 in
+    let weekday = factor_some 0 _ s.weekday holiday.0 in
+    let zone = factor_some 0 s.position s.zone weekday.0 in
+    bands_of-below s n zone.1 weekday.1 holiday.1 month_day.1 minute.1 distance.1 time.1 h
+
+-- one digit more keeps the order
+digit_order : (n m size d e : ℕ) → n < m → d < size → n * size + d < m * size + e
+digit_order n m size d e lt below =
+    let up : suc n * size ≤ m * size = mul-le-mul_right size lt in
+    omega (arith, suc-mul n size)
+
+next_order : (n m size d e : ℕ) (rest : Type 0) → d < size → (n < m) ⊎ ((n ≡ m) × ((d < e) ⊎ ((d ≡ e) × rest))) → (n * size + d < m * size + e) ⊎ ((n * size + d ≡ m * size + e) × rest)
+next_order n m size d e rest below (inl lt) = inl (digit_order n m size d e lt below)
+next_order n m size d e rest below (inr (same, inl lt)) = inl (rw same (omega arith))
+next_order n m size d e rest below (inr (same, inr (also, more))) = inr (rw (same, also) refl, more)
+
+is_lower : (n m : ℕ) → (n < m) ⊎ ((n ≡ m) × ⊥) → n < m
+is_lower n m (inl lt) = lt
+is_lower n m (inr (same, none)) = absurd none
+
+-- an earlier place has a lower number
+pub cell_number-order : (s b c : Bands) → IsBelow s b → IsBefore (places_of b) (places_of c) → cell_number s b < cell_number s c
+cell_number-order s b c h before =
+    let zones = next_order b.position c.position s.zone b.zone c.zone _ h.zone before in
+    let weekdays = next_order _ _ s.weekday b.weekday c.weekday _ h.weekday zones in
+    let holidays = next_order _ _ s.holiday b.holiday c.holiday _ h.holiday weekdays in
+    let month_days = next_order _ _ s.month_day b.month_day c.month_day _ h.month_day holidays in
+    let minutes = next_order _ _ s.minute b.minute c.minute _ h.minute month_days in
+    let distances = next_order _ _ s.distance b.distance c.distance _ h.distance minutes in
+    is_lower (cell_number s b) (cell_number s c) (next_order _ _ s.time b.time c.time ⊥ h.time distances)
 
 -- each number on the way to a cell's number is below a bound
 pub record FitsOnTheWay (s b : Bands) (bound : ℕ) : Type 0 where

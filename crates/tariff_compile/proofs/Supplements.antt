@@ -2,20 +2,16 @@
 use Rattle.std.proofs.Common.{◌≡◌, ℕ, ◌==◌, List, [], ◌∷◌, None, false, All, refl}
 use Rattle.std.proofs.lemmas.Bool.{ne_eqb}
 use Rattle.std.proofs.lemmas.List.Elements.{All-head, All-tail}
-use Rattle.tariff_check.specs.Parts.{parts, supplement_of, supplement_part}
-use Rattle.tariff_syntax.specs.Tree.{Tree, Line, Entry, step, positions, zones, holiday, supplement, initial, rate}
+use Rattle.tariff_check.specs.Parts.{supplement_of, supplement_part}
+use Rattle.tariff_syntax.specs.Parts.{parts}
+use Rattle.tariff_syntax.specs.Tree.{Tree, Line, Entry, supplement}
 use Rattle.tariff_syntax.specs.Writable.{IsFromTo, IsWritable, IsWritableEntry}
 
 no_such_line : (n : ℕ) (entry : Entry) → (IsFromTo 1 16 n → ⊥) → IsWritableEntry entry → supplement_part n entry ≡ None
-no_such_line n (step amount rounding) out writable = refl
-no_such_line n (positions number) out writable = refl
-no_such_line n (zones number) out writable = refl
-no_such_line n (holiday year month date) out writable = refl
 no_such_line n (supplement number amount most) out writable =
     let other : n == number ≡ false = ne_eqb n number (λ same. out (rw same writable.0)) in
     rw other refl
-no_such_line n (initial amount covers when) out writable = refl
-no_such_line n (rate a b c e when) out writable = refl
+no_such_line n entry out writable = refl
 
 no_such_lines : (n : ℕ) (lines : List Line) → (IsFromTo 1 16 n → ⊥) → All (λ (l : Line). IsWritableEntry l.entry) lines → parts (supplement_part n) lines ≡ []
 no_such_lines n [] out writable = refl

@@ -1,8 +1,8 @@
 -- The cells of a tariff: how they are numbered, and a context of each.
-use Rattle.std.specs.Prelude.{ℕ, ◌+◌, ◌-◌, ◌*◌, ◌/◌, ◌%◌, ◌^◌, ◌<◌, ◌==◌, if◌then◌else◌, List, ◌∷◌, length, get_or, min, All}
+use Rattle.std.specs.Prelude.{◌≡◌, ◌⊎◌, ℕ, ◌+◌, ◌-◌, ◌*◌, ◌/◌, ◌%◌, ◌^◌, ◌<◌, ◌==◌, if◌then◌else◌, List, [], ◌∷◌, length, get_or, min, All}
 use Rattle.tariff_syntax.specs.declared.context.Context.{Context}
 use Rattle.tariff_calendar.specs.Lists.{CutLists, count_at_most}
-use Rattle.tariff_calendar.specs.Range.{longest}
+use Rattle.taxi_units.specs.Time.{longest_trip}
 use Rattle.tariff_compile.specs.declared.parts.Bands.{Bands}
 
 -- how many numbers each dimension has
@@ -29,6 +29,16 @@ pub record IsBelow (sizes b : Bands) : Type 0 where
   pub minute : b.minute < sizes.minute
   pub distance : b.distance < sizes.distance
   pub time : b.time < sizes.time
+
+-- the numbers of a cell one after another
+abbrev pub places_of : Bands → List ℕ
+places_of b =
+    b.position ∷ b.zone ∷ b.weekday ∷ b.holiday ∷ b.month_day ∷ b.minute ∷ b.distance ∷ b.time ∷ []
+
+-- the first numbers that differ are lower in the one than in the other
+abbrev pub IsBefore : List ℕ → List ℕ → Type 0
+IsBefore (x ∷ xs) (y ∷ ys) = (x < y) ⊎ ((x ≡ y) × IsBefore xs ys)
+IsBefore xs ys = ⊥
 
 -- how many cells there are
 abbrev pub cell_count : (sizes : Bands) → ℕ
@@ -91,7 +101,7 @@ context_in k lists b =
       holiday = b.holiday == 1;
       minute = beginning lists.minutes b.minute;
       pulses = beginning lists.distances b.distance;
-      ticks = min longest (beginning lists.times b.time);
+      ticks = min longest_trip (beginning lists.times b.time);
     }
 
 -- numbers of a cell that a tariff may have in the dimensions without cuts

@@ -7,10 +7,11 @@ abbrev pub parts_of : Inside → TableParts
 parts_of t =
     record {
       cuts = t.cuts;
-      weights = t.weights.items.items;
-      initials = t.initials.items.items;
-      cells = t.cells.items.items;
-      supplements = t.supplements.items.items;
+      weights = t.weights.items;
+      initials = t.initials.items;
+      minimums = t.minimums.items;
+      cells = t.cells.items;
+      supplements = t.supplements.items;
       constant = t.constant;
       measure = t.measure;
       step = t.step;

@@ -1,22 +1,24 @@
 -- The tables of a tariff under a constant, and what they are looked up for.
-use Rattle.std.specs.Prelude.{◌≡◌, ℕ, ◌+◌, ◌*◌, ◌/◌, ◌^◌, ◌<◌, ◌≤◌, List, map, get_or, Option, Some}
-use Rattle.std.specs.List.{range_with_len}
+use Rattle.std.specs.Prelude.{◌≡◌, ℕ, ◌+◌, ◌*◌, ◌/◌, ◌^◌, ◌<◌, ◌≤◌, if◌then◌else◌, List, ◌∷◌, map, get_or, Option, Some, None, MatchOption}
+use Rattle.std.specs.List.{range_with_len, slice_get}
 use Rattle.std.specs.Option.{unwrap_or, option_map}
 use Rattle.drive_modes.specs.declared.charges.Weights.{Weights}
 use Rattle.drive_modes.specs.declared.meterage.Rounding.{Rounding}
 use Rattle.drive_modes.specs.declared.meterage.Rounding.TheVariants.{Behind}
-use Rattle.tariff_syntax.specs.Meaning.{rate_place, initial_place}
+use Rattle.tariff_syntax.specs.Meaning.{rate_place, initial_place, minimum_place}
 use Rattle.tariff_syntax.specs.Tree.{Tree}
 use Rattle.tariff_syntax.specs.Writable.{IsFromTo, IsWritable}
 use Rattle.tariff_syntax.specs.declared.context.Context.{Context}
 use Rattle.tariff_check.specs.Cells.{day_kinds}
 use Rattle.tariff_check.specs.Faults.{IsSound}
 use Rattle.tariff_check.specs.Measure.{measure_of}
-use Rattle.tariff_check.specs.Parts.{RateNumbers, InitialNumbers, SupplementNumbers, step_of, positions_of, zones_of, supplement_of, initials_of, rates_of}
-use Rattle.tariff_calendar.specs.Lists.{CutLists, lists_of}
+use Rattle.tariff_check.specs.Parts.{RateNumbers, InitialNumbers, SupplementNumbers, step_of, positions_of, zones_of, supplement_of, initials_of, minimums_of, rates_of}
+use Rattle.tariff_calendar.specs.Lists.{CutLists, has_days, lists_of}
+use Rattle.tariff_calendar.specs.Range.{IsInRange}
 use Rattle.tariff_compile.specs.Cells.{sizes_of, cell_count, cell_number, bands_of, bands_at, context_in}
 use Rattle.tariff_compile.specs.declared.parts.Bands.{Bands}
 use Rattle.tariff_compile.specs.declared.parts.CellLines.{CellLines}
+use Rattle.tariff_compile.specs.declared.parts.Fee.{Fee}
 use Rattle.tariff_compile.specs.declared.parts.Initial.{Initial}
 use Rattle.tariff_compile.specs.declared.parts.Supplement.{Supplement}
 
@@ -24,7 +26,8 @@ use Rattle.tariff_compile.specs.declared.parts.Supplement.{Supplement}
 pub record TableParts : Type 0 where
   pub cuts : CutLists
   pub weights : List Weights
-  pub initials : List Initial
+  pub initials : List Fee
+  pub minimums : List ℕ
   pub cells : List CellLines
   pub supplements : List (Option Supplement)
   pub constant : ℕ
@@ -40,8 +43,8 @@ abbrev pub weights_of : (k common : ℕ) → RateNumbers → Weights
 weights_of k common r = record { per_pulse = 10000 * r.a * (common / r.b); per_tick = r.c * k * (common / r.e) }
 
 -- an initial hire fee in the tables
-abbrev pub initial_of : InitialNumbers → Initial
-initial_of i = record { amount = i.amount; covers = i.covers }
+abbrev pub fee_of : InitialNumbers → Fee
+fee_of i = record { amount = i.amount; covers = i.covers }
 
 -- a supplement in the tables
 abbrev pub supplement_in : SupplementNumbers → Supplement
@@ -52,16 +55,26 @@ abbrev pub all_weights : Tree → (k : ℕ) → List Weights
 all_weights t k = map (weights_of k (measure_of t.lines)) (rates_of t.lines)
 
 -- the initial hire fees
-abbrev pub all_initials : Tree → List Initial
-all_initials t = map initial_of (initials_of t.lines)
+abbrev pub all_initials : Tree → List Fee
+all_initials t = map fee_of (initials_of t.lines)
 
 -- the supplement of a number, where the tariff has it
 abbrev pub supplement_at : Tree → (number : ℕ) → Option Supplement
 supplement_at t number = option_map supplement_in (supplement_of t.lines number)
 
+-- the number of a place, from 1; 0 where there is none
+abbrev pub number_of : Option ℕ → ℕ
+number_of None = 0
+number_of (Some place) = place + 1
+
 -- the lines that hold first in a context
 abbrev pub lines_at : Tree → Context → CellLines
-lines_at t x = record { rate = unwrap_or (rate_place t x) 0; initial = unwrap_or (initial_place t x) 0 }
+lines_at t x =
+    record {
+      rate = unwrap_or (rate_place t x) 0;
+      initial = unwrap_or (initial_place t x) 0;
+      minimum = number_of (minimum_place t x);
+    }
 
 -- the numbers that each dimension of a tariff's cells has
 abbrev pub sizes_in : Tree → (k : ℕ) → Bands
@@ -79,6 +92,7 @@ cell_of t k x = cell_number (sizes_in t k) (bands_at (lists_of t k) x)
 pub record HasLinesOf (t : Tree) (x : Context) (lines : CellLines) : Type 0 where
   pub rate : rate_place t x ≡ Some lines.rate
   pub initial : initial_place t x ≡ Some lines.initial
+  pub minimum : number_of (minimum_place t x) ≡ lines.minimum
 
 -- the lines of each cell
 abbrev pub all_cells : Tree → (k : ℕ) → List CellLines
@@ -95,6 +109,7 @@ tables_of t k =
       cuts = lists_of t k;
       weights = all_weights t k;
       initials = all_initials t;
+      minimums = minimums_of t.lines;
       cells = all_cells t k;
       supplements = map (λ place. supplement_at t (place + 1)) (range_with_len 0 16);
       constant = k;
@@ -105,6 +120,14 @@ tables_of t k =
       positions = positions_of t.lines;
       zones = zones_of t.lines;
     }
+
+-- the numbers that each dimension of the tables' cells has
+abbrev pub sizes_for : TableParts → Bands
+sizes_for tables = sizes_of tables.positions tables.zones (if has_days tables.cuts then 2 else 1) tables.cuts
+
+-- a context that a trip under these tables may have
+abbrev pub IsInRangeFor : TableParts → Context → Type 0
+IsInRangeFor tables x = IsInRange tables.constant tables.positions tables.zones (has_days tables.cuts) x
 
 -- these are the tables of a sound tariff
 pub record IsTablesOf (t : Tree) (tables : TableParts) : Type 0 where
@@ -121,9 +144,33 @@ IsCompiled tables = (t : Tree) × IsTablesOf t tables
 abbrev pub rate_by : Tree → (k : ℕ) → Context → Weights
 rate_by t k x = get_or (all_weights t k) (unwrap_or (rate_place t x) 0) (record { per_pulse = 0; per_tick = 0 })
 
--- the initial hire fee that holds first in a context at the hiring
+-- what is looked up by the lines that hold first in a context at the hiring
+abbrev pub initial_with : Fee → (minimum : ℕ) → Initial
+initial_with fee minimum = record { amount = fee.amount; covers = fee.covers; minimum = minimum }
+
+-- the initial hire fee and the minimum fare that hold first in a context at the hiring
 abbrev pub initial_by : Tree → Context → Initial
-initial_by t x = get_or (all_initials t) (unwrap_or (initial_place t x) 0) (record { amount = 0; covers = 0 })
+initial_by t x =
+    initial_with (get_or (all_initials t) (unwrap_or (initial_place t x) 0) (record { amount = 0; covers = 0 }))
+    (get_or (0 ∷ minimums_of t.lines) (number_of (minimum_place t x)) 0)
+
+-- the same in words: these are the weights of the rate that holds first
+pub record HasWeightsOf (t : Tree) (k : ℕ) (x : Context) (w : Weights) : Type 0 where
+  pub place : ℕ
+  pub rate : RateNumbers
+  pub first : rate_place t x ≡ Some place
+  pub there : slice_get (rates_of t.lines) place ≡ Some rate
+  pub weights : w ≡ weights_of k (measure_of t.lines) rate
+
+-- and these are the amounts of the initial hire fee that holds first at the hiring, and of the minimum fare, if one holds
+pub record HasAmountsOf (t : Tree) (x : Context) (i : Initial) : Type 0 where
+  pub place : ℕ
+  pub fee : InitialNumbers
+  pub first : initial_place t x ≡ Some place
+  pub there : slice_get (initials_of t.lines) place ≡ Some fee
+  pub amount : i.amount ≡ fee.amount
+  pub covers : i.covers ≡ fee.covers
+  pub minimum : MatchOption (minimum_place t x) (i.minimum ≡ 0) (λ n. slice_get (minimums_of t.lines) n ≡ Some i.minimum)
 
 -- how large the weights of a rate are: a pulse is at most 20,000,000 units of money, a tick at most 1,000,000
 pub record AreFit (measure : ℕ) (w : Weights) : Type 0 where
@@ -132,10 +179,11 @@ pub record AreFit (measure : ℕ) (w : Weights) : Type 0 where
   pub pulse_units : w.per_pulse ≤ 2 * 10 ^ 7 * measure
   pub tick_units : w.per_tick ≤ 10 ^ 6 * measure
 
--- how large an initial hire fee is
+-- how large an initial hire fee, its cover and a minimum fare are
 pub record IsFitInitial (i : Initial) : Type 0 where
   pub amount : i.amount ≤ 99999999
   pub covers : i.covers ≤ 99999999
+  pub minimum : i.minimum ≤ 99999999
 
 -- how large the numbers of tables are
 pub record IsFit (tables : TableParts) : Type 0 where

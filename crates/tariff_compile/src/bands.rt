@@ -1,34 +1,26 @@
 //! How cells are numbered over the dimensions.
-ghost use Rattle.std.specs.Prelude.{◌≡◌, ℕ, ◌+◌, ◌*◌, ◌^◌, ◌<◌, ◌≤◌};
+ghost use Rattle.std.specs.Prelude.{◌≡◌, ◌+◌, ◌*◌, ◌^◌, ◌<◌, ◌≤◌, if◌then◌else◌};
+ghost use Rattle.tariff_calendar.specs.Lists.{has_days};
 ghost use Rattle.tariff_compile.specs.Cells.{IsBelow, bands_of, cell_count, cell_number, sizes_of};
 
 use crate::parts::Bands;
 use tariff_calendar::Cuts;
 use tariff_check::Dimension;
 
-/// How many numbers each dimension has, where there are so many positions, zones, cuts and cells. Where
-/// holidays are told from other days, there are twice as many cells.
-pub(crate) fn sizes_of(positions: u8, zones: u8, cuts: &Cuts, cells: usize) -> Bands
-    requires positions { 0 < positions }
-    requires zones { 0 < zones }
-    ensures { (kinds : ℕ) → cells ≡ cell_count (sizes_of positions zones kinds cuts.now) → result ≡ sizes_of positions zones kinds cuts.now }
+/// How many numbers each dimension has, where there are so many positions and zones, and these cuts. Days
+/// are of two kinds where there is a holiday.
+pub(crate) fn sizes_of(positions: u8, zones: u8, cuts: &Cuts) -> Bands
+    ensures { result ≡ sizes_of positions zones (if has_days cuts.now then 2 else 1) cuts.now }
 {
-    let position = positions as usize;
-    let zone = zones as usize;
-    let month_day = cuts.list(Dimension::MonthDay).len() + 1;
-    let minute = cuts.list(Dimension::Minute).len() + 1;
-    let distance = cuts.list(Dimension::Distance).len() + 1;
-    let time = cuts.list(Dimension::Time).len() + 1;
-    let days = cells / time / distance / minute / month_day;
     Bands {
-        position,
-        zone,
+        position: positions as usize,
+        zone: zones as usize,
         weekday: 7,
-        holiday: days / (position * zone * 7),
-        month_day,
-        minute,
-        distance,
-        time,
+        holiday: if cuts.has_holidays() { 2 } else { 1 },
+        month_day: cuts.list(Dimension::MonthDay).len() + 1,
+        minute: cuts.list(Dimension::Minute).len() + 1,
+        distance: cuts.list(Dimension::Distance).len() + 1,
+        time: cuts.list(Dimension::Time).len() + 1,
     }
 }
 

@@ -1,22 +1,21 @@
 //! Makes the tables.
+ghost use Rattle.std.specs.Option.{ForSome};
 ghost use Rattle.std.specs.Prelude.{◌≡◌, ◌<◌, IfOk};
 ghost use Rattle.tariff_calendar.specs.Lists.{lists_of};
 ghost use Rattle.tariff_check.specs.Cells.{cells_of};
-ghost use Rattle.tariff_compile.specs.Tables.{IsFit, IsTablesOf, all_cells, context_of, lines_at, sizes_in, tables_of};
+ghost use Rattle.tariff_compile.specs.Tables.{IsFit, IsTablesOf, all_cells, context_of, lines_at, number_of, sizes_in, tables_of};
 ghost use Rattle.tariff_syntax.specs.Tree.{tree_of};
 
 use crate::bands::{bands_of, sizes_of};
 use crate::contexts::context_in;
-use crate::counted::Counted;
-use crate::lines::{all_initials, all_supplements, all_weights, positions_of, step_of, zones_of};
+use crate::lines::{all_initials, all_minimums, all_supplements, all_weights};
 use crate::parts::{Bands, CellLines};
 use crate::tables::Tables;
-use drive_modes::Rounding;
 use pulse_input::Constant;
 use std::alloc::Global;
 use tariff_calendar::Cuts;
 use tariff_check::Checked;
-use tariff_syntax::{initial_of, rate_of};
+use tariff_syntax::{initial_of, minimum_of, rate_of};
 use taxi_units::NoMemory;
 
 /// The tables of a tariff under a constant of the taximeter. Each cell has the lines that hold first in a
@@ -31,22 +30,24 @@ pub fn compile(alloc: Global, checked: &Checked, k: Constant) -> Result<Tables, 
     let cuts = Cuts::collect(alloc, checked, k)?;
     let weights = all_weights(alloc, lines, k, checked.measure())?;
     let initials = all_initials(alloc, lines)?;
+    let minimums = all_minimums(alloc, lines)?;
     let cells = all_cells(alloc, checked, &cuts, k)?;
     let supplements = all_supplements(alloc, lines)?;
-    let (step, rounding) = step_of(lines).unwrap_or((0, Rounding::Behind));
+    let (step, rounding) = checked.step();
     Ok(Tables {
         cuts,
-        weights: Counted::new(weights),
-        initials: Counted::new(initials),
-        cells: Counted::new(cells),
-        supplements: Counted::new(supplements),
+        weights,
+        initials,
+        minimums,
+        cells,
+        supplements,
         constant: k,
         measure: k.get() as u128 * checked.measure() as u128,
         step,
         rounding,
         decimals: tariff.decimals,
-        positions: positions_of(lines),
-        zones: zones_of(lines),
+        positions: checked.positions(),
+        zones: checked.zones(),
     })
 }
 
@@ -78,13 +79,7 @@ fn sizes_in(checked: &Checked, cuts: &Cuts, k: Constant) -> Bands
     requires { cuts.now ≡ lists_of (tree_of checked.now) k }
     ensures { result ≡ sizes_in (tree_of checked.now) k }
 {
-    let lines = checked.tariff().lines.as_slice();
-    sizes_of(
-        positions_of(lines),
-        zones_of(lines),
-        cuts,
-        checked.cells() as usize,
-    )
+    sizes_of(checked.positions(), checked.zones(), cuts)
 }
 
 /// The lines of a cell, by evaluating the tariff's conditions in a context of the cell.
@@ -99,5 +94,17 @@ fn cell_lines(checked: &Checked, cuts: &Cuts, k: Constant, sizes: &Bands, cell: 
     CellLines {
         rate: rate_of(tariff, &x).unwrap_or(0) as u8,
         initial: initial_of(tariff, &x).unwrap_or(0) as u8,
+        minimum: number_of(minimum_of(tariff, &x)),
+    }
+}
+
+/// The number of a place, from 1; 0 where there is none.
+fn number_of(place: Option<usize>) -> u8
+    requires { ForSome place (λ p. p < 255) }
+    ensures { result ≡ number_of place }
+{
+    match place {
+        Some(place) => place as u8 + 1,
+        None => 0,
     }
 }

@@ -1,6 +1,8 @@
 //! A context of each cell.
 ghost use Rattle.std.specs.Prelude.{◌≡◌, ◌+◌, ◌≤◌};
+ghost use Rattle.tariff_calendar.specs.Lists.{count_at_most};
 ghost use Rattle.tariff_compile.specs.Cells.{HasLowCuts, IsNarrow, bands_at, beginning, context_in};
+ghost use Rattle.tariff_syntax.specs.Meaning.{at_hiring};
 
 use crate::parts::Bands;
 use pulse_input::Constant;
@@ -8,10 +10,7 @@ use std::sync::ledger::Ledger;
 use tariff_calendar::Cuts;
 use tariff_check::Dimension;
 use tariff_syntax::Context;
-use taxi_units::Steps;
-
-/// No trip has more ticks, which are ten days.
-const LONGEST: u64 = 8_640_000;
+use taxi_units::{LONGEST_TRIP, Steps};
 
 /// A context of a cell: it is at the beginning of each band.
 pub(crate) fn context_in(k: Constant, cuts: &Cuts, bands: &Bands) -> Context
@@ -31,7 +30,7 @@ pub(crate) fn context_in(k: Constant, cuts: &Cuts, bands: &Bands) -> Context
         holiday: bands.holiday == 1,
         minute: minute as u16,
         pulses: beginning(cuts.list(Dimension::Distance), bands.distance),
-        ticks: ticks.min(LONGEST) as u32,
+        ticks: ticks.min(LONGEST_TRIP as u64) as u32,
     }
 }
 
@@ -46,13 +45,41 @@ fn beginning(cuts: &[u64], band: usize) -> u64
     }
 }
 
+/// The numbers of the cell in which a context is at the hiring. No distance and no time is cut there, so no
+/// such cut is read. At most 12 steps.
+pub(crate) fn bands_at_hiring<L: Ledger>(cuts: &Cuts, x: &Context, steps: &mut Steps<L>) -> Bands
+    requires position { 1 ≤ x.now.position }
+    requires zone { 1 ≤ x.now.zone }
+    requires weekday { 1 ≤ x.now.weekday }
+    requires distance { count_at_most 0 cuts.now.distances ≡ 0 }
+    requires time { count_at_most 0 cuts.now.times ≡ 0 }
+    ensures value { result ≡ bands_at cuts.now (at_hiring x.now) }
+    ensures steps { (steps.old ≤ steps.new) × (steps.new ≤ steps.old + 12) }
+{
+    first_bands(cuts, x, steps)
+}
+
 /// The numbers of the cell in which a context is. At most 20 steps.
 pub(crate) fn bands_at<L: Ledger>(cuts: &Cuts, x: &Context, steps: &mut Steps<L>) -> Bands
     requires position { 1 ≤ x.now.position }
     requires zone { 1 ≤ x.now.zone }
     requires weekday { 1 ≤ x.now.weekday }
     ensures value { result ≡ bands_at cuts.now x.now }
-    ensures steps { steps.new ≤ steps.old + 20 }
+    ensures steps { (steps.old ≤ steps.new) × (steps.new ≤ steps.old + 20) }
+{
+    let mut bands = first_bands(cuts, x, steps);
+    bands.distance = cuts.find(Dimension::Distance, x.pulses, steps);
+    bands.time = cuts.find(Dimension::Time, x.ticks as u64, steps);
+    bands
+}
+
+/// The same, of a context that lies before each cut of distance and time. At most 12 steps.
+fn first_bands<L: Ledger>(cuts: &Cuts, x: &Context, steps: &mut Steps<L>) -> Bands
+    requires position { 1 ≤ x.now.position }
+    requires zone { 1 ≤ x.now.zone }
+    requires weekday { 1 ≤ x.now.weekday }
+    ensures value { result ≡ record (bands_at cuts.now x.now) { distance = 0; time = 0 } }
+    ensures steps { (steps.old ≤ steps.new) × (steps.new ≤ steps.old + 12) }
 {
     Bands {
         position: x.position as usize - 1,
@@ -61,7 +88,7 @@ pub(crate) fn bands_at<L: Ledger>(cuts: &Cuts, x: &Context, steps: &mut Steps<L>
         holiday: if x.holiday { 1 } else { 0 },
         month_day: cuts.find(Dimension::MonthDay, x.month_day as u64, steps),
         minute: cuts.find(Dimension::Minute, x.minute as u64, steps),
-        distance: cuts.find(Dimension::Distance, x.pulses, steps),
-        time: cuts.find(Dimension::Time, x.ticks as u64, steps),
+        distance: 0,
+        time: 0,
     }
 }

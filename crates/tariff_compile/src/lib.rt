@@ -1,17 +1,17 @@
-//! The compiler of tariffs: tables in which the rate and the initial hire fee of a context are looked up.
+//! The compiler of tariffs: tables in which the rate, the initial hire fee and the minimum fare of a context
+//! are looked up.
 #![tactic(auto)]
 
 mod bands;
 mod compiling;
 mod contexts;
-mod counted;
-mod laws;
 mod lines;
 mod parts;
 mod rows;
 mod tables;
+mod theorems;
 
 pub use compiling::compile;
-pub use laws::tables_equal_the_tree;
 pub use parts::{Initial, Supplement};
 pub use tables::Tables;
+pub use theorems::{cells_are_numbered_in_order, rows_are_in_order, tables_equal_the_tree};

@@ -2,53 +2,17 @@
 ghost use Rattle.std.specs.Prelude.{◌≡◌, ◌+◌, ◌^◌, ◌≤◌, All, IfOk, map};
 ghost use Rattle.std.specs.List.{range_with_len};
 ghost use Rattle.std.specs.Option.{option_map};
-ghost use Rattle.tariff_check.specs.Parts.{initials_of, positions_of, rates_of, step_of, supplement_of, zones_of};
+ghost use Rattle.tariff_check.specs.Parts.{initials_of, minimums_of, rates_of, supplement_of};
 ghost use Rattle.tariff_check.specs.Sound.{IsSoundRate};
-ghost use Rattle.tariff_compile.specs.Tables.{initial_of, supplement_in, weights_of};
+ghost use Rattle.tariff_compile.specs.Tables.{fee_of, supplement_in, weights_of};
 ghost use Rattle.tariff_syntax.specs.Tree.{line_of};
 
-use crate::parts::{Initial, Supplement};
-use drive_modes::{Rounding, Weights};
+use crate::parts::{Fee, Supplement};
+use drive_modes::Weights;
 use pulse_input::Constant;
 use std::alloc::Global;
 use tariff_syntax::{Item, RateLine, TariffLine};
 use taxi_units::NoMemory;
-
-/// The display step, and how the fare is rounded to it, of the first such line.
-pub(crate) fn step_of(lines: &[TariffLine]) -> Option<(u64, Rounding)>
-    ensures { result ≡ step_of (map line_of lines.now) }
-{
-    for line in lines {
-        if let Item::Step { amount, rounding } = &line.item {
-            return Some((*amount, *rounding));
-        }
-    }
-    None
-}
-
-/// How many tariff positions there are; without such a line 1.
-pub(crate) fn positions_of(lines: &[TariffLine]) -> u8
-    ensures { result ≡ positions_of (map line_of lines.now) }
-{
-    for line in lines {
-        if let Item::Positions(number) = &line.item {
-            return *number;
-        }
-    }
-    1
-}
-
-/// How many zones there are; without such a line 1.
-pub(crate) fn zones_of(lines: &[TariffLine]) -> u8
-    ensures { result ≡ zones_of (map line_of lines.now) }
-{
-    for line in lines {
-        if let Item::Zones(number) = &line.item {
-            return *number;
-        }
-    }
-    1
-}
 
 /// The supplement of a number, of the first such line.
 pub(crate) fn supplement_of(lines: &[TariffLine], wanted: u8) -> Option<Supplement>
@@ -77,7 +41,9 @@ pub(crate) fn all_supplements(
     alloc: Global,
     lines: &[TariffLine],
 ) -> Result<Vec<Option<Supplement>>, NoMemory>
-    ensures { IfOk result (λ all. all.items ≡ map (λ place. option_map supplement_in (supplement_of (map line_of lines.now) (place + 1))) (range_with_len 0 16)) }
+    ensures { IfOk result (λ all. all.items ≡ map
+        (λ place. option_map supplement_in (supplement_of (map line_of lines.now) (place + 1)))
+        (range_with_len 0 16)) }
 {
     let mut all = Vec::new(alloc);
     for place in 0..16u8 {
@@ -89,17 +55,32 @@ pub(crate) fn all_supplements(
 }
 
 /// The initial hire fees, in their order.
-pub(crate) fn all_initials(alloc: Global, lines: &[TariffLine]) -> Result<Vec<Initial>, NoMemory>
-    ensures { IfOk result (λ all. all.items ≡ map initial_of (initials_of (map line_of lines.now))) }
+pub(crate) fn all_initials(alloc: Global, lines: &[TariffLine]) -> Result<Vec<Fee>, NoMemory>
+    ensures { IfOk result (λ all. all.items ≡ map fee_of (initials_of (map line_of lines.now))) }
 {
     let mut all = Vec::new(alloc);
     for line in lines {
         if let Item::Initial(initial) = &line.item {
-            let kept = Initial {
+            let fee = Fee {
                 amount: initial.amount,
                 covers: initial.covers,
             };
-            if all.push(kept).is_err() {
+            if all.push(fee).is_err() {
+                return Err(NoMemory);
+            }
+        }
+    }
+    Ok(all)
+}
+
+/// The amounts of the minimum fares, in their order.
+pub(crate) fn all_minimums(alloc: Global, lines: &[TariffLine]) -> Result<Vec<u64>, NoMemory>
+    ensures { IfOk result (λ all. all.items ≡ minimums_of (map line_of lines.now)) }
+{
+    let mut all = Vec::new(alloc);
+    for line in lines {
+        if let Item::Minimum(minimum) = &line.item {
+            if all.push(minimum.amount).is_err() {
                 return Err(NoMemory);
             }
         }
@@ -133,7 +114,8 @@ pub(crate) fn all_weights(
 fn weights_of(rate: &RateLine, k: Constant, measure: u64) -> Weights
     requires rate { IsSoundRate (record { a = rate.now.a; b = rate.now.b; c = rate.now.c; e = rate.now.e }) }
     requires measure { measure ≤ 10 ^ 18 }
-    ensures { result ≡ weights_of k measure (record { a = rate.now.a; b = rate.now.b; c = rate.now.c; e = rate.now.e }) }
+    ensures { result ≡ weights_of k measure
+        (record { a = rate.now.a; b = rate.now.b; c = rate.now.c; e = rate.now.e }) }
 {
     Weights {
         per_pulse: 10_000 * rate.a as u128 * (measure / rate.b) as u128,

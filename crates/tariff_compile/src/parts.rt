@@ -1,11 +1,20 @@
 //! The parts of the tables that are plain numbers.
 
-/// An initial hire fee and the amount of charges that it covers, in units of the last decimal: each at
-/// most 99,999,999.
+/// What a hiring begins with, in units of the last decimal: the initial hire fee, the amount of charges
+/// that it covers, and the minimum fare, which is 0 where no minimum line holds. Each is at most
+/// 99,999,999.
 #[derive(Clone, Copy, Debug, PartialEq, Eq)]
 pub struct Initial {
     pub amount: u64,
     pub covers: u64,
+    pub minimum: u64,
+}
+
+/// An initial hire fee of the tables, and the amount of charges that it covers.
+#[derive(Clone, Copy, Debug, PartialEq, Eq)]
+pub(crate) struct Fee {
+    pub(crate) amount: u64,
+    pub(crate) covers: u64,
 }
 
 /// A supplement, in units of the last decimal, and how often a hiring may have it: at most 1,000,000, and
@@ -16,11 +25,13 @@ pub struct Supplement {
     pub max: u8,
 }
 
-/// The lines of a cell, by their places from 0 among the rates and among the initial hire fees.
+/// The lines of a cell: by their places from 0 the rate and the initial hire fee, and by its number from
+/// 1 the minimum fare, 0 where it has none.
 #[derive(Clone, Copy, Debug, PartialEq, Eq)]
 pub(crate) struct CellLines {
     pub(crate) rate: u8,
     pub(crate) initial: u8,
+    pub(crate) minimum: u8,
 }
 
 /// The number of a cell in each dimension, from 0; or how many numbers each dimension has.

@@ -2,9 +2,9 @@
 ghost use Rattle.std.specs.Prelude.{◌≡◌, [], ◌+◌, ◌≤◌, ◌++◌, ◌↔◌, length, codes, decimal, IsOk, OnOk};
 ghost use Rattle.arrayvec.specs.ArrayVec.{array_vec_len};
 ghost use Rattle.taxi_units.specs.Number.{money_text};
-ghost use Rattle.tariff_compile.specs.Rows.{cell_row, initial_row, measure_row, rate_row};
+ghost use Rattle.tariff_compile.specs.Rows.{cell_row, initial_row, measure_row, minimum_field, minimum_row, rate_row};
 
-use crate::parts::{CellLines, Initial};
+use crate::parts::{CellLines, Fee};
 use drive_modes::Weights;
 use taxi_units::{Line, LineFull, put_bytes, put_money, put_number};
 
@@ -35,28 +35,62 @@ pub(crate) fn initial_row(
     row: &mut Line,
     decimals: u8,
     number: u64,
-    initial: Initial,
+    fee: Fee,
 ) -> Result<(), LineFull>
     requires empty { row.old.items ≡ [] }
     requires decimals { decimals ≤ 3 }
-    ensures variant { IsOk result ↔ (length (initial_row decimals number initial) ≤ 512) }
-    ensures ok { OnOk result (row.new.items ≡ initial_row decimals number initial) }
+    ensures variant { IsOk result ↔ (length (initial_row decimals number fee) ≤ 512) }
+    ensures ok { OnOk result (row.new.items ≡ initial_row decimals number fee) }
 {
     put_field(row, b"INITIAL ", number as u128)?;
-    put_amount(row, decimals, initial.amount)?;
-    put_amount(row, decimals, initial.covers)?;
+    put_amount(row, decimals, fee.amount)?;
+    put_amount(row, decimals, fee.covers)?;
     put_bytes(row, b"\n")
 }
 
-/// The row of a cell, with the numbers of its rate and its initial hire fee from 1.
-pub(crate) fn cell_row(row: &mut Line, cell: u64, lines: CellLines) -> Result<(), LineFull>
+/// The row of a minimum fare, by its number from 1, with so many decimals of money.
+pub(crate) fn minimum_row(
+    row: &mut Line,
+    decimals: u8,
+    number: u64,
+    amount: u64,
+) -> Result<(), LineFull>
+    requires empty { row.old.items ≡ [] }
+    requires decimals { decimals ≤ 3 }
+    ensures variant { IsOk result ↔ (length (minimum_row decimals number amount) ≤ 512) }
+    ensures ok { OnOk result (row.new.items ≡ minimum_row decimals number amount) }
+{
+    put_field(row, b"MINIMUM ", number as u128)?;
+    put_amount(row, decimals, amount)?;
+    put_bytes(row, b"\n")
+}
+
+/// The row of a cell, with the numbers of its lines from 1; that of its minimum fare where the tariff has
+/// minimum fares.
+pub(crate) fn cell_row(
+    row: &mut Line,
+    minimums: bool,
+    cell: u64,
+    lines: CellLines,
+) -> Result<(), LineFull>
     requires { row.old.items ≡ [] }
-    ensures variant { IsOk result ↔ (length (cell_row cell lines) ≤ 512) }
-    ensures ok { OnOk result (row.new.items ≡ cell_row cell lines) }
+    ensures variant { IsOk result ↔ (length (cell_row minimums cell lines) ≤ 512) }
+    ensures ok { OnOk result (row.new.items ≡ cell_row minimums cell lines) }
 {
     put_field(row, b"CELL ", cell as u128)?;
     put_field(row, b" ", lines.rate as u128 + 1)?;
     put_field(row, b" ", lines.initial as u128 + 1)?;
+    put_minimum(row, minimums, lines.minimum)
+}
+
+/// Ends the row of a cell, where there are minimum fares with the number of the cell's.
+fn put_minimum(row: &mut Line, minimums: bool, number: u8) -> Result<(), LineFull>
+    ensures variant { IsOk result ↔ (array_vec_len row.old + length (minimum_field minimums number) ≤ 512) }
+    ensures ok { OnOk result (row.new.items ≡ row.old.items ++ minimum_field minimums number) }
+{
+    if minimums {
+        put_field(row, b" ", number as u128)?;
+    }
     put_bytes(row, b"\n")
 }
 

@@ -1,37 +1,37 @@
 //! The tables and their look-ups.
-ghost use Rattle.std.specs.Prelude.{◌≡◌, ℕ, [], ◌+◌, ◌*◌, ◌^◌, ◌<◌, ◌≤◌, ◌++◌, ◌↔◌, true, length, IsOk, OnOk, OnErr};
+ghost use Rattle.std.specs.Prelude.{◌≡◌, ℕ, [], ◌∷◌, ◌+◌, ◌*◌, ◌^◌, ◌<◌, ◌≤◌, ◌≤ℤ◌, ◌++◌, ◌↔◌, true, pos, length, min, slice_index, IsOk, OnOk, OnErr};
 ghost use Rattle.arrayvec.specs.ArrayVec.{array_vec_len};
 ghost use Rattle.interval_clock.specs.Calendar.{IsDateOf};
-ghost use Rattle.tariff_calendar.specs.Lists.{is_holiday};
-ghost use Rattle.tariff_calendar.specs.Range.{IsInRangeOf};
-ghost use Rattle.tariff_check.specs.Parts.{has_holidays};
+ghost use Rattle.tariff_calendar.specs.Lists.{has_day, has_days, is_holiday};
+ghost use Rattle.tariff_compile.specs.Cells.{IsBelow, cell_number};
 ghost use Rattle.tariff_compile.specs.Rows.{row_count, row_text};
-ghost use Rattle.tariff_compile.specs.Tables.{AreFit, IsCompiled, IsFitInitial, IsTablesOf, cell_of, initial_by, lines_at, rate_by, supplement_at};
+ghost use Rattle.tariff_compile.specs.Tables.{AreFit, IsCompiled, IsFit, IsFitInitial, IsInRangeFor, IsTablesOf, initial_by, rate_by, sizes_for, supplement_at};
 ghost use Rattle.tariff_syntax.specs.Tree.{Tree};
+ghost use Rattle.taxi_units.specs.Counted.{IsElement};
 
 use crate::bands::{cell_number, sizes_of};
-use crate::contexts::bands_at;
-use crate::counted::Counted;
-use crate::parts::{CellLines, Initial, Supplement};
-use crate::rows::{cell_row, initial_row, measure_row, rate_row};
+use crate::contexts::{bands_at, bands_at_hiring};
+use crate::parts::{Bands, CellLines, Fee, Initial, Supplement};
+use crate::rows::{cell_row, initial_row, measure_row, minimum_row, rate_row};
 use drive_modes::{Rounding, Weights};
 use pulse_input::Constant;
 use std::marker::Model;
 use std::sync::ledger::Ledger;
 use tariff_calendar::Cuts;
 use tariff_syntax::Context;
-use taxi_units::{Line, LineFull, Steps, put_bytes};
+use taxi_units::{Counted, Line, LineFull, Steps, put_bytes};
 
-/// The tables of a sound tariff under a constant: its cuts, what each rate weighs, its initial hire fees
-/// and supplements, and for each cell the places of its lines. Of a condition, a line or a text they keep
+/// The tables of a sound tariff under a constant: its cuts, what each rate weighs, its initial hire fees,
+/// minimum fares and supplements, and for each cell its lines. Of a condition, a line or a text they keep
 /// nothing. Tables of cells are this project's own.
 #[derive(Drop)]
 pub struct Tables {
     pub(crate) cuts: Cuts,
-    pub(crate) weights: Counted<Weights>,
-    pub(crate) initials: Counted<Initial>,
-    pub(crate) cells: Counted<CellLines>,
-    pub(crate) supplements: Counted<Option<Supplement>>,
+    pub(crate) weights: Vec<Weights>,
+    pub(crate) initials: Vec<Fee>,
+    pub(crate) minimums: Vec<u64>,
+    pub(crate) cells: Vec<CellLines>,
+    pub(crate) supplements: Vec<Option<Supplement>>,
     pub(crate) constant: Constant,
     pub(crate) measure: u128,
     pub(crate) step: u64,
@@ -55,59 +55,79 @@ impl Model for Tables {
 
 impl Tables {
     /// The weights of the rate that holds first in a context, which a trip may have and which has the
-    /// tables' constant. A step is the read of a cut, of a cell or of the weights, and they are at most 22.
+    /// tables' constant. A step is the read of a cut, of a cell or of the weights: they are at least 2 and
+    /// at most 22.
     pub fn rate_at<L: Ledger>(&self, x: &Context, steps: &mut Steps<L>) -> Weights
-        requires range { (t : Tree) → IsTablesOf t self.now → IsInRangeOf t self.now.constant x.now }
+        requires range { IsInRangeFor self.now x.now }
         ensures tree { (t : Tree) → IsTablesOf t self.now → result ≡ rate_by t self.now.constant x.now }
         ensures fit { AreFit self.now.measure result }
-        ensures steps { steps.new ≤ steps.old + 22 }
-    {
-        let lines = self.lines_at(x, steps);
-        self.weights.read(lines.rate as usize, steps)
-    }
-
-    /// The initial hire fee that holds first in a context at the hiring, which a trip may have and which
-    /// has the tables' constant. A step is the read of a cut, of a cell or of the fee, and they are at most
-    /// 22.
-    pub fn initial_at<L: Ledger>(&self, x: &Context, steps: &mut Steps<L>) -> Initial
-        requires range { (t : Tree) → IsTablesOf t self.now → IsInRangeOf t self.now.constant x.now }
-        ensures tree { (t : Tree) → IsTablesOf t self.now → result ≡ initial_by t x.now }
-        ensures fit { IsFitInitial result }
-        ensures steps { steps.new ≤ steps.old + 22 }
-    {
-        let lines = self.lines_at(x, steps);
-        self.initials.read(lines.initial as usize, steps)
-    }
-
-    /// The lines of a context's cell. At most 21 steps.
-    fn lines_at<L: Ledger>(&self, x: &Context, steps: &mut Steps<L>) -> CellLines
-        requires range { (t : Tree) → IsTablesOf t self.now → IsInRangeOf t self.now.constant x.now }
-        ensures tree { (t : Tree) → IsTablesOf t self.now → result ≡ lines_at t x.now }
-        ensures compiled { IsCompiled self.now }
-        ensures steps { steps.new ≤ steps.old + 21 }
-    {
-        let cell = self.cell_of(x, steps);
-        self.cells.read(cell, steps)
-    }
-
-    /// The number of a context's cell. At most 20 steps.
-    fn cell_of<L: Ledger>(&self, x: &Context, steps: &mut Steps<L>) -> usize
-        requires range { (t : Tree) → IsTablesOf t self.now → IsInRangeOf t self.now.constant x.now }
-        ensures tree { (t : Tree) → IsTablesOf t self.now → result ≡ cell_of t self.now.constant x.now }
-        ensures compiled { IsCompiled self.now }
-        ensures steps { steps.new ≤ steps.old + 20 }
+        ensures most { steps.new ≤ steps.old + 22 }
+        ensures least { steps.old + 2 ≤ steps.new }
     {
         let bands = bands_at(&self.cuts, x, steps);
-        let count = self.cells.as_slice().len();
-        let sizes = sizes_of(self.positions, self.zones, &self.cuts, count);
-        cell_number(&sizes, &bands)
+        let lines = self.lines_of(&bands, steps);
+        Counted::of(self.weights.as_slice()).read(lines.rate as usize, steps)
     }
 
-    /// Whether a day, by its number since 1970-01-01, is a holiday of the tariff. At most 8 steps.
+    /// The initial hire fee and the minimum fare that hold first in a context at the hiring, which a trip
+    /// may have and which has the tables' constant. A step is the read of a cut of days or minutes, of a
+    /// cell, of the fee or of the minimum fare: they are at least 2 and at most 15.
+    pub fn initial_at<L: Ledger>(&self, x: &Context, steps: &mut Steps<L>) -> Initial
+        requires range { IsInRangeFor self.now x.now }
+        ensures tree { (t : Tree) → IsTablesOf t self.now → result ≡ initial_by t x.now }
+        ensures fit { IsFitInitial result }
+        ensures most { steps.new ≤ steps.old + 15 }
+        ensures least { steps.old + 2 ≤ steps.new }
+    {
+        let bands = bands_at_hiring(&self.cuts, x, steps);
+        let lines = self.lines_of(&bands, steps);
+        let fee = Counted::of(self.initials.as_slice()).read(lines.initial as usize, steps);
+        Initial {
+            amount: fee.amount,
+            covers: fee.covers,
+            minimum: self.minimum(lines.minimum, steps),
+        }
+    }
+
+    /// The lines of the cell with these numbers. One step.
+    fn lines_of<L: Ledger>(&self, bands: &Bands, steps: &mut Steps<L>) -> CellLines
+        requires below { IsBelow (sizes_for self.now) bands.now }
+        ensures value { IsElement self.now.cells (cell_number (sizes_for self.now) bands.now) result }
+        ensures compiled { IsCompiled self.now }
+        ensures step { steps.new ≡ steps.old + 1 }
+    {
+        let sizes = sizes_of(self.positions, self.zones, &self.cuts);
+        Counted::of(self.cells.as_slice()).read(cell_number(&sizes, bands), steps)
+    }
+
+    /// The amount of the minimum fare of a number from 1, one step; 0, without a step, where the number is 0.
+    fn minimum<L: Ledger>(&self, number: u8, steps: &mut Steps<L>) -> u64
+        requires { number ≤ length self.now.minimums }
+        ensures value { result ≡ slice_index (0 ∷ self.now.minimums) number }
+        ensures steps { (steps.old ≤ steps.new) × (steps.new ≤ steps.old + 1) }
+    {
+        if number == 0 {
+            return 0;
+        }
+        Counted::of(self.minimums.as_slice()).read(number as usize - 1, steps)
+    }
+
+    /// What is known of each value of the type: how large its numbers are.
+    pub fn are_fit(&self)
+        ensures { IsFit self.now }
+    {
+        let _ = &self.measure;
+    }
+
+    /// Whether a day, by its number since 1970-01-01, is a holiday of the tariff. At most 8 steps, and one
+    /// at least for a day from 1970 on where there is a holiday.
     pub fn holiday<L: Ledger>(&self, day: i32, steps: &mut Steps<L>) -> bool
-        ensures tree { (t : Tree) (year month date : ℕ) → IsTablesOf t self.now → IsDateOf day year month date → result ≡ is_holiday t.lines year month date }
-        ensures some { (t : Tree) → IsTablesOf t self.now → result ≡ true → has_holidays t.lines ≡ true }
-        ensures steps { steps.new ≤ steps.old + 8 }
+        ensures value { result ≡ has_day self.now.cuts.holidays day }
+        ensures tree { (t : Tree) (year month date : ℕ) → IsTablesOf t self.now → IsDateOf day year month date
+            → result ≡ is_holiday t.lines year month date }
+        ensures some { result ≡ true → has_days self.now.cuts ≡ true }
+        ensures most { steps.new ≤ steps.old + 8 }
+        ensures least { pos 0 ≤ℤ day → steps.old + min 1 (length self.now.cuts.holidays) ≤ steps.new }
     {
         self.cuts.holiday(day, steps)
     }
@@ -122,7 +142,7 @@ impl Tables {
             steps.spend();
             return None;
         }
-        self.supplements.read(number as usize - 1, steps)
+        Counted::of(self.supplements.as_slice()).read(number as usize - 1, steps)
     }
 
     /// M, the constant times the common measure: a unit of charge is 1/M of the smallest money unit.
@@ -182,20 +202,23 @@ impl Tables {
         self.constant
     }
 
-    /// How many rows the tables have as a text.
+    /// How many rows the tables have as a text: one, and one for each rate, initial hire fee, minimum fare
+    /// and cell.
     pub fn rows(&self) -> u64
         ensures { result ≡ row_count self.now }
     {
         let rates = self.weights.as_slice().len() as u64;
         let initials = self.initials.as_slice().len() as u64;
+        let minimums = self.minimums.as_slice().len() as u64;
         let cells = self.cells.as_slice().len() as u64;
-        1 + rates + initials + cells
+        1 + rates + initials + minimums + cells
     }
 
     /// Appends a row, ended by a line feed: row 0 is `MEASURE M`; then comes `RATE i per_pulse per_tick`
-    /// for each rate, `INITIAL i amount covers` for each initial hire fee, both numbered from 1, and
-    /// `CELL c r i` for each cell, numbered from 0, with the numbers of its rate and its initial hire fee.
-    /// The form is this project's own.
+    /// for each rate, `INITIAL i amount covers` for each initial hire fee and `MINIMUM i amount` for each
+    /// minimum fare, all numbered from 1, and `CELL c r i` for each cell, numbered from 0, with the numbers
+    /// of its rate and its initial hire fee. Where there are minimum fares a cell is `CELL c r i m`, with
+    /// the number of its minimum fare or 0. The form is this project's own.
     ///
     /// `LineFull` where it doesn't fit; the line is then unchanged.
     pub fn put_row(&self, i: u64, line: &mut Line) -> Result<(), LineFull>
@@ -232,10 +255,22 @@ impl Tables {
         if initial < initials.len() {
             return initial_row(row, self.decimals, initial as u64 + 1, initials[initial]);
         }
-        let cell = initial - initials.len();
-        cell_row(row, cell as u64, self.cells.as_slice()[cell])
+        let minimum = initial - initials.len();
+        let minimums = self.minimums.as_slice();
+        if minimum < minimums.len() {
+            return minimum_row(row, self.decimals, minimum as u64 + 1, minimums[minimum]);
+        }
+        let cell = minimum - minimums.len();
+        cell_row(
+            row,
+            minimums.len() > 0,
+            cell as u64,
+            self.cells.as_slice()[cell],
+        )
     }
 }
 
+#[cfg(test)]
+mod limit_tests;
 #[cfg(test)]
 mod tests;

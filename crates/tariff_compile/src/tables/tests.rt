@@ -4,7 +4,6 @@ ghost use Rattle.tariff_syntax.specs.Writable.{IsFromTo};
 
 use super::*;
 use crate::compile;
-use crate::counted::tests::items_of;
 use std::alloc::Global;
 use std::marker::Brand;
 use std::sync::ledger::Blank;
@@ -125,6 +124,27 @@ CELL 19 2 2
 CELL 20 2 2
 ";
 
+/// A minimum fare by night, which isn't looked for at the end of the trip: no trip begins after a time.
+const LEAST: &str = "step 0.20 ahead
+initial 3.80 covers 0.40
+rate 0.20 per 117.4 m, 0.20 per 25.2 s
+minimum 9.00 when after 60.0 s
+minimum 6.00 when time 22:00..06:00
+";
+
+const LEAST_ROWS: &str = "MEASURE 1479240000
+RATE 1 25200000 117400000
+INITIAL 1 3.80 0.40
+MINIMUM 1 9.00
+MINIMUM 2 6.00
+CELL 0 1 1 2
+CELL 1 1 1 2
+CELL 2 1 1 0
+CELL 3 1 1 0
+CELL 4 1 1 2
+CELL 5 1 1 2
+";
+
 /// Texts, pulses a kilometre, and the rows. Memory is there for all of them.
 const TEXTS: [(&str, u32, &str); 3] = [
     (PLAIN, 10_000, PLAIN_ROWS),
@@ -140,6 +160,16 @@ fn writes_rows(rt: HostRuntime) {
     }
 }
 
+#[test]
+fn writes_rows_of_minimum_fares(rt: HostRuntime) {
+    let rows = rows_of(rt.alloc(), LEAST, 10_000).unwrap_or(Vec::new(rt.alloc()));
+    let wanted = LEAST_ROWS.as_bytes();
+    assert!(rt; rows.len() > wanted.len());
+    assert_eq!(rt; &rows[..wanted.len()], wanted);
+    let lines = rows.iter().filter(|b| **b == b'\n').count();
+    assert_eq!(rt; lines, 47);
+}
+
 /// What holds first at a minute of a day, with nothing driven, in the first position and zone. The day
 /// is given by its number since 1970-01-01, its weekday and its place in a leap year. Steps are counted
 /// from 0.
@@ -150,7 +180,7 @@ fn found<L: Ledger>(
     weekday: u8,
     month_day: u16,
     minute: u16,
-) -> (u128, u64)
+) -> (u128, u64, u64)
     requires name { blank.name ≡ L.name }
     requires parts { blank.parts ≡ L.parts }
     requires some { 0 < blank.parts }
@@ -159,6 +189,7 @@ fn found<L: Ledger>(
     requires minute { minute ≤ 1439 }
 {
     let mut steps: Steps<L> = Steps::open(blank);
+    tables.are_fit();
     let x = Context {
         constant: tables.constant(),
         position: 1,
@@ -172,7 +203,7 @@ fn found<L: Ledger>(
     };
     let weights = tables.rate_at(&x, &mut steps);
     let initial = tables.initial_at(&x, &mut steps);
-    (weights.per_pulse, initial.amount)
+    (weights.per_pulse, initial.amount, initial.minimum)
 }
 
 /// Rates of a holiday, of some days of a year, and of all others.
@@ -202,18 +233,21 @@ rate 0.20 per 100.0 m, 0.20 per 20.0 s when after 5000.0 m
 rate 0.20 per 125.0 m, 0.20 per 25.0 s
 ";
 
-/// Texts, a day, its weekday and its place in a leap year, a minute, and the weight of a pulse and the
-/// initial hire fee.
-const FOUND: [(&str, i32, u8, u16, u16, (u128, u64)); 9] = [
-    (DAYS, 20_459, 2, 5, 720, (300_000, 400)),
-    (DAYS, 21_243, 2, 59, 720, (200_000, 400)),
-    (DAYS, 20_454, 4, 0, 0, (100_000, 400)),
-    (DAYS, 20_460, 3, 6, 0, (100_000, 400)),
-    (CITY, 20_514, 1, 61, 600, (28_800_000, 420)),
-    (CITY, 20_514, 1, 61, 359, (40_000_000, 500)),
-    (CITY, 20_514, 1, 61, 1320, (40_000_000, 500)),
-    (CITY, 20_513, 7, 60, 600, (40_000_000, 500)),
-    (CITY, 20_454, 4, 0, 600, (40_000_000, 500)),
+/// Texts, a day, its weekday and its place in a leap year, a minute, and the weight of a pulse, the
+/// initial hire fee and the minimum fare.
+const FOUND: [(&str, i32, u8, u16, u16, (u128, u64, u64)); 12] = [
+    (DAYS, 20_459, 2, 5, 720, (300_000, 400, 0)),
+    (DAYS, 21_243, 2, 59, 720, (200_000, 400, 0)),
+    (DAYS, 20_454, 4, 0, 0, (100_000, 400, 0)),
+    (DAYS, 20_460, 3, 6, 0, (100_000, 400, 0)),
+    (CITY, 20_514, 1, 61, 600, (28_800_000, 420, 0)),
+    (CITY, 20_514, 1, 61, 359, (40_000_000, 500, 0)),
+    (CITY, 20_514, 1, 61, 1320, (40_000_000, 500, 0)),
+    (CITY, 20_513, 7, 60, 600, (40_000_000, 500, 0)),
+    (CITY, 20_454, 4, 0, 600, (40_000_000, 500, 0)),
+    (LEAST, 20_514, 1, 61, 600, (25_200_000, 380, 0)),
+    (LEAST, 20_514, 1, 61, 359, (25_200_000, 380, 600)),
+    (LEAST, 20_514, 1, 61, 1320, (25_200_000, 380, 600)),
 ];
 
 #[test]
@@ -294,6 +328,7 @@ fn keeps_numbers_alone(rt: HostRuntime) {
             cuts,
             weights,
             initials,
+            minimums,
             cells,
             supplements,
             constant,
@@ -305,22 +340,33 @@ fn keeps_numbers_alone(rt: HostRuntime) {
             zones,
         } = tables;
         let cuts: Cuts = cuts;
-        let weights: Vec<Weights> = items_of(weights);
-        let initials: Vec<Initial> = items_of(initials);
-        let cells: Vec<CellLines> = items_of(cells);
-        let supplements: Vec<Option<Supplement>> = items_of(supplements);
+        let weights: Vec<Weights> = weights;
+        let initials: Vec<Fee> = initials;
+        let minimums: Vec<u64> = minimums;
+        let cells: Vec<CellLines> = cells;
+        let supplements: Vec<Option<Supplement>> = supplements;
         let numbers: (Constant, u128, u64, Rounding, u8, u8, u8) = (
             constant, measure, step, rounding, decimals, positions, zones,
         );
         assert_eq!(rt; cuts.list(Dimension::Minute).len(), 0);
         assert_eq!(rt; weights.len(), 1);
         assert_eq!(rt; initials.len(), 1);
+        for fee in &initials {
+            let Fee { amount, covers } = *fee;
+            let amounts: (u64, u64) = (amount, covers);
+            assert_eq!(rt; amounts, (380, 40));
+        }
+        assert_eq!(rt; minimums.len(), 0);
         assert_eq!(rt; supplements.len(), 16);
         assert_eq!(rt; numbers.1, 1_479_240_000);
         for lines in &cells {
-            let CellLines { rate, initial } = *lines;
-            let places: (u8, u8) = (rate, initial);
-            assert_eq!(rt; places, (0, 0));
+            let CellLines {
+                rate,
+                initial,
+                minimum,
+            } = *lines;
+            let places: (u8, u8, u8) = (rate, initial, minimum);
+            assert_eq!(rt; places, (0, 0, 0));
         }
     }
 }

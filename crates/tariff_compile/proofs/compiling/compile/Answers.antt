@@ -1,5 +1,5 @@
 use Rattle.std.proofs.Common.{◌≡◌, ◌∙◌, ap, map}
-use Rattle.tariff_check.proofs.SoundParts.{sound_parts}
+use Rattle.tariff_check.proofs.Laws.{sound_tariffs_have_sound_parts-parts}
 use Rattle.tariff_syntax.specs.Tree.{line_of, tree_of}
 use Rattle.tariff_syntax.specs.declared.tariff.Tariff.{Tariff}
 use Rattle.tariff_compile.proofs.Compiled.{tables_fit}
@@ -8,14 +8,12 @@ use Rattle.tariff_compile.proofs.compiling.compile.Goals as goal
 pub all_weights-requires-clause-rates : goal.all_weights-requires-clause-rates
 all_weights-requires-clause-rates c =
     let t = tree_of c.args.checked.now in
-    let parts = sound_parts t c.tariff-tariff.ensures.writable c.tariff-tariff.ensures.sound in
+    let parts = sound_tariffs_have_sound_parts-parts t c.tariff-tariff.ensures.writable c.tariff-tariff.ensures.sound in
     rw (c.as_slice-lines.ensures, c.tariff-tariff.ensures.value) parts.rates
 
 pub all_weights-requires-clause-measure : goal.all_weights-requires-clause-measure
 all_weights-requires-clause-measure c =
-    let t = tree_of c.args.checked.now in
-    let parts = sound_parts t c.tariff-tariff.ensures.writable c.tariff-tariff.ensures.sound in
-    rw c.measure.ensures parts.measure.1
+    c.measure.ensures.range.1
 
 pub invariant_of-result : goal.invariant_of-result
 invariant_of-result c =
@@ -27,22 +25,18 @@ invariant_of-result c =
         sound = c.tariff-tariff.ensures.sound;
         constant = (rw (← c.get.ensures.value) c.get.ensures.least, rw (← c.get.ensures.value) c.get.ensures.most);
         parts = rw (
+          c.step-step.ensures.value,
           c.in_ok-cuts.ensures,
-          c.new.ensures,
           c.in_ok-weights.ensures,
-          c.new-2.ensures,
           c.in_ok-initials.ensures,
-          c.new-3.ensures,
+          c.in_ok-minimums.ensures,
           c.in_ok-cells.ensures,
-          c.new-4.ensures,
           c.in_ok-supplements.ensures,
           c.get.ensures.value,
-          c.measure.ensures,
-          c.measure-2.ensures,
-          c.unwrap_or-step.ensures,
-          c.step_of.ensures,
-          c.positions_of.ensures,
-          c.zones_of.ensures,
+          c.measure.ensures.value,
+          c.measure-2.ensures.value,
+          c.positions.ensures.value,
+          c.zones.ensures.value,
           c.tariff-tariff.ensures.value,
           lines,
         );

@@ -5,16 +5,16 @@ use Rattle.tariff_compile.specs.Tables.{TableParts}
 use Rattle.tariff_compile.proofs.Compiled.{holiday-dates, holiday-some}
 use Rattle.tariff_compile.proofs.tables.Tables.holiday.Goals as goal
 
-pub returns-clause-tree : goal.returns-clause-tree
-returns-clause-tree g c = λ t year month date is of.
+pub returns-clause-value : goal.returns-clause-value
+returns-clause-value g c =
     let fits : FitsSigned w32 c.args.day = search rules in
     c.holiday.ensures.value
     ∙ (ap (has_day c.self.inside.cuts.holidays) (to_z-of_z w32 c.args.day fits)
-    ∙ (ap (λ (p : TableParts). has_day p.cuts.holidays c.args.day) c.self.view_is
-    ∙ holiday-dates t c.args.self.now c.args.day year month date is of))
+    ∙ ap (λ (p : TableParts). has_day p.cuts.holidays c.args.day) c.self.view_is)
+
+pub returns-clause-tree : goal.returns-clause-tree
+returns-clause-tree g c = λ t year month date is of.
+    returns-clause-value g c ∙ holiday-dates t c.args.self.now c.args.day year month date is of
 
 pub returns-clause-some : goal.returns-clause-some
-returns-clause-some g c = λ t is holiday.
-    let fits : FitsSigned w32 c.args.day = search rules in
-    let read = c.holiday.ensures.value ∙ (ap (has_day c.self.inside.cuts.holidays) (to_z-of_z w32 c.args.day fits) ∙ ap (λ (p : TableParts). has_day p.cuts.holidays c.args.day) c.self.view_is) in
-    holiday-some t c.args.self.now c.args.day is (sym read ∙ holiday)
+returns-clause-some g c = λ holiday. holiday-some c.args.self.now c.args.day (sym (returns-clause-value g c) ∙ holiday)

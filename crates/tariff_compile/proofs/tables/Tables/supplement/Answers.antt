@@ -1,4 +1,5 @@
-use Rattle.std.proofs.Common.{◌∙◌, ap, get_or, ◌-◌, arith}
+use Rattle.std.proofs.Common.{List, Option, ◌∙◌, ap, get_or, ◌-◌, arith}
+use Rattle.tariff_compile.specs.declared.parts.Supplement.{Supplement}
 use Rattle.tariff_compile.specs.Tables.{TableParts}
 use Rattle.tariff_compile.proofs.Compiled.{supplement-none, supplement-there}
 use Rattle.tariff_compile.proofs.tables.Tables.supplement.Goals as goal
@@ -10,6 +11,6 @@ returns-then-number-lt1-clause-tree g c = λ t is. supplement-none t c.args.self
 
 pub returns-clause-tree : goal.returns-clause-tree
 returns-clause-tree g c = λ t is.
-    c.read.ensures.value
-    ∙ (ap (λ (p : TableParts). get_or p.supplements (c.args.number - 1) c.read.result) c.self.view_is
+    c.read.ensures.value c.read.result
+    ∙ (ap (λ (list : List (Option Supplement)). get_or list (c.args.number - 1) c.read.result) (c.of.ensures ∙ (c.as_slice.ensures.value ∙ ap (λ (p : TableParts). p.supplements) c.self.view_is))
     ∙ supplement-there t c.args.self.now c.args.number c.read.result is (omega arith, omega arith))

@@ -1,0 +1,29 @@
+use Rattle.std.proofs.Common.{◌∙◌, ap, subst, List, get_or, arith}
+use Rattle.tariff_compile.specs.Cells.{cell_number}
+use Rattle.tariff_compile.specs.Tables.{IsCompiled, TableParts, sizes_for}
+use Rattle.tariff_compile.specs.declared.parts.Bands.{Bands}
+use Rattle.tariff_compile.specs.declared.parts.CellLines.{CellLines}
+use Rattle.tariff_compile.proofs.Compiled.{length-cells, sizes_for-most}
+use Rattle.tariff_compile.proofs.tables.Tables.lines_of.Goals as goal
+
+pub cell_number-requires-clause-below : goal.cell_number-requires-clause-below
+cell_number-requires-clause-below g c = rw (c.sizes_of-sizes.ensures ∙ ap sizes_for c.self.view_is) c.requires.below
+
+pub cell_number-requires-clause-fits : goal.cell_number-requires-clause-fits
+cell_number-requires-clause-fits g c =
+    let compiled = subst IsCompiled c.self.view_is c.self.invariant in
+    rw (c.sizes_of-sizes.ensures ∙ ap sizes_for c.self.view_is) (omega (arith, sizes_for-most c.args.self.now compiled))
+
+pub read-requires : goal.read-requires
+read-requires g c =
+    let compiled = subst IsCompiled c.self.view_is c.self.invariant in
+    let below = rw (c.sizes_of-sizes.ensures ∙ ap sizes_for c.self.view_is) at c.cell_number.ensures.below in
+    rw (c.of.ensures ∙ (c.as_slice.ensures.value ∙ ap (λ (p : TableParts). p.cells) c.self.view_is), length-cells c.args.self.now compiled) below
+
+pub returns-clause-value : goal.returns-clause-value
+returns-clause-value g c = λ other.
+    let sizes = c.sizes_of-sizes.ensures ∙ ap sizes_for c.self.view_is in
+    let cells = c.of.ensures ∙ (c.as_slice.ensures.value ∙ ap (λ (p : TableParts). p.cells) c.self.view_is) in
+    c.read.ensures.value other
+    ∙ (ap (λ (list : List CellLines). get_or list c.cell_number.result other) cells
+    ∙ ap (λ place. get_or c.args.self.now.cells place other) (c.cell_number.ensures.value ∙ ap (λ (s : Bands). cell_number s c.args.bands.now) sizes))

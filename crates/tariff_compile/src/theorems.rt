@@ -1,0 +1,44 @@
+//! Why a look-up in the tables is enough.
+ghost use Rattle.std.specs.Prelude.{◌≡◌, ℕ, ◌<◌, Some, length};
+ghost use Rattle.std.specs.List.{slice_get};
+ghost use Rattle.tariff_calendar.specs.Range.{IsInRangeOf};
+ghost use Rattle.tariff_check.specs.Cells.{cells_of};
+ghost use Rattle.tariff_check.specs.Faults.{IsSound};
+ghost use Rattle.tariff_compile.specs.Cells.{IsBefore, IsBelow, bands_of, cell_count, cell_number, places_of};
+ghost use Rattle.tariff_compile.specs.Rows.{all_rows, row_count, row_text};
+ghost use Rattle.tariff_compile.specs.Tables.{HasAmountsOf, HasLinesOf, HasWeightsOf, TableParts, cell_of, initial_by, rate_by, tables_of};
+ghost use Rattle.tariff_compile.specs.declared.parts.Bands.{Bands};
+ghost use Rattle.tariff_compile.specs.declared.parts.CellLines.{CellLines};
+ghost use Rattle.tariff_syntax.specs.Tree.{Tree};
+ghost use Rattle.tariff_syntax.specs.Writable.{IsWritable};
+ghost use Rattle.tariff_syntax.specs.declared.context.Context.{Context};
+
+/// The law of tables: for each sound tariff, constant and context that a trip may have, the cell of the
+/// context is there, and its lines are those that hold first in the tariff's tree. What is looked up is
+/// what those lines say: weights, amounts, and 0 where no minimum fare holds.
+pub fn tables_equal_the_tree()
+    ensures cell { (t : Tree) (k : ℕ) (x : Context) → IsWritable t → IsSound t → IsInRangeOf t k x
+        → (lines : CellLines) × (slice_get (tables_of t k).cells (cell_of t k x) ≡ Some lines) × HasLinesOf t x lines }
+    ensures weights { (t : Tree) (k : ℕ) (x : Context) → IsSound t → HasWeightsOf t k x (rate_by t k x) }
+    ensures amounts { (t : Tree) (x : Context) → IsSound t → HasAmountsOf t x (initial_by t x) }
+{}
+
+/// The law of cells: there are as many as `check` says, each place has one number and each number one
+/// place, and the numbers are in the order of the places.
+pub fn cells_are_numbered_in_order()
+    ensures count { (t : Tree) (k : ℕ) → length (tables_of t k).cells ≡ cells_of t.lines }
+    ensures number { (sizes bands : Bands) → IsBelow sizes bands
+        → (cell_number sizes bands < cell_count sizes) × (bands_of sizes (cell_number sizes bands) ≡ bands) }
+    ensures place { (sizes : Bands) (cell : ℕ) → cell < cell_count sizes
+        → IsBelow sizes (bands_of sizes cell) × (cell_number sizes (bands_of sizes cell) ≡ cell) }
+    ensures order { (sizes bands later : Bands) → IsBelow sizes bands → IsBelow sizes later
+        → IsBefore (places_of bands) (places_of later) → cell_number sizes bands < cell_number sizes later }
+{}
+
+/// The law of rows: they are the measure, the rates, the initial hire fees and the minimum fares from 1, and
+/// the cells from 0, one after another, and each row stands at its place.
+pub fn rows_are_in_order()
+    ensures count { (tables : TableParts) → length (all_rows tables) ≡ row_count tables }
+    ensures row { (tables : TableParts) (i : ℕ) → i < row_count tables
+        → slice_get (all_rows tables) i ≡ Some (row_text tables i) }
+{}
