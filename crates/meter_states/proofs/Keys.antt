@@ -8,7 +8,8 @@ use Rattle.taxi_units.specs.declared.event.Key.TheVariants as keys
 use Rattle.taxi_units.specs.declared.event.Operating.{Operating}
 use Rattle.taxi_units.specs.declared.event.Operating.TheVariants.{Off, ForHire, Hired, Stopped}
 use Rattle.meter_states.specs.Setting.{Setting}
-use Rattle.meter_states.specs.Meter.{Meter, counted, context_of, parts_counted, with_part, pressed, keyed, keyed_by, acts_keyed, acts_pressed, unlatched, acted, expired, longest}
+use Rattle.taxi_units.specs.Time.{longest_trip}
+use Rattle.meter_states.specs.Meter.{Meter, counted, context_of, parts_counted, with_part, pressed, keyed, keyed_by, acts_keyed, acts_pressed, unlatched, acted, expired}
 
 -- the key that waits is the one that acts
 pub keyed-some : (s : Setting) (key : Key) (m : Meter) → m.latch ≡ Some key → keyed s m ≡ pressed s key m.operating (unlatched m)
@@ -44,7 +45,7 @@ shown-either s m true = refl
 shown-either s m false = shown-keyed s m.latch m
 
 pub shown-acted : (s : Setting) (m : Meter) → (acted s m).shown ≡ m.shown
-shown-acted s m = shown-either s m (leb longest (length m.parts))
+shown-acted s m = shown-either s m (leb longest_trip (length m.parts))
 
 -- an interval that ends in Hired, and one that ends in Stopped
 pub counted-hired : (s : Setting) (m : Meter) → m.operating ≡ Hired → counted s m ≡ with_part (InHired (sum m.taken) (context_of s m)) m
@@ -54,5 +55,5 @@ pub counted-stopped : (s : Setting) (m : Meter) → m.operating ≡ Stopped → 
 counted-stopped s m on = ap (λ (o : Operating). record m { taken = []; parts = parts_counted o m.parts (sum m.taken) (context_of s m) }) on
 
 -- a trip that has reached its longest time
-pub acted-expired : (s : Setting) (m : Meter) → longest ≤ length m.parts → acted s m ≡ expired m
-acted-expired s m long = ap (λ (b : Bool). cond b (expired m) (keyed s m)) (le-leb longest (length m.parts) long)
+pub acted-expired : (s : Setting) (m : Meter) → longest_trip ≤ length m.parts → acted s m ≡ expired m
+acted-expired s m long = ap (λ (b : Bool). cond b (expired m) (keyed s m)) (le-leb longest_trip (length m.parts) long)

@@ -1,3 +1,5 @@
-pub mod Keys
-pub mod Shows
-pub mod Speed
+mod Keys
+pub mod Laws
+mod Settings
+mod Shows
+mod Speed

@@ -15,7 +15,8 @@ use Rattle.meter_states.specs.declared.act.Act.{Act}
 use Rattle.meter_states.specs.declared.act.Act.TheVariants.{Show, Refuse}
 use Rattle.meter_states.specs.Setting.{Setting}
 use Rattle.meter_states.specs.Same.{is_shown}
-use Rattle.meter_states.specs.Meter.{Meter, powered, off_or, room, too_fast, counted, longest, expired, pressed, acts_pressed, keyed, keyed_by, acts_keyed, acts_expired, acted, acts_acted, unlatched, display_of, acts_shown, latched, acts_latched, acts_of}
+use Rattle.taxi_units.specs.Time.{longest_trip}
+use Rattle.meter_states.specs.Meter.{Meter, powered, off_or, room, too_fast, counted, expired, pressed, acts_pressed, keyed, keyed_by, acts_keyed, acts_expired, acted, acts_acted, unlatched, display_of, acts_shown, latched, acts_latched, acts_of}
 use Rattle.meter_states.specs.Showable.{IsShowable}
 
 abbrev Shows : List Act → Type 0
@@ -52,7 +53,7 @@ on_either s m true on = λ h. absurd cc
 on_either s m false on = on_keyed s m.latch m on
 
 on_acted : (s : Setting) (m : Meter) → m.operating ≢ Off → (acted s m).operating ≢ Off
-on_acted s m on = on_either s m (leb longest (length m.parts)) on
+on_acted s m on = on_either s m (leb longest_trip (length m.parts)) on
 
 refused : (key : Key) (operating : Operating) → Shows (acts_pressed key operating)
 refused keys.Hire Off = (tt, tt)
@@ -99,7 +100,7 @@ waiting (Some key) = (tt, tt)
 tick_shows : (s : Setting) (m : Meter) → s.tariff.decimals ≤ 3 → m.operating ≢ Off → Shows (acts_acted (counted s m) ++ acts_shown m.shown (display_of s (acted s (counted s m))))
 tick_shows s m few on =
     let next = acted s (counted s m) in
-    both (acts_acted (counted s m)) (acts_shown m.shown (display_of s next)) (either_refused (counted s m) (leb longest (length (counted s m).parts)))
+    both (acts_acted (counted s m)) (acts_shown m.shown (display_of s next)) (either_refused (counted s m) (leb longest_trip (length (counted s m).parts)))
     (shown (is_shown m.shown (display_of s next)) (display_of s next) (on_acted s (counted s m) on) few)
 
 by_position : (o : Operating) (x y : List Act) → Shows x → (o ≢ Off → Shows y) → Shows (off_or o x y)

@@ -17,9 +17,7 @@ use Rattle.tariff_check.specs.Faults.{IsSound}
 use Rattle.tariff_check.specs.Measure.{IsMultipleOfAll, measure_of, measures_of}
 use Rattle.tariff_check.specs.Parts.{RateNumbers, rates_of}
 use Rattle.tariff_check.specs.Sound.{HasSoundParts, IsSoundRate}
-use Rattle.tariff_check.proofs.CommonMeasure.{measure_is_least}
-use Rattle.tariff_check.proofs.DefaultLines.{rate_always}
-use Rattle.tariff_check.proofs.SoundParts.{sound_parts}
+use Rattle.tariff_check.proofs.Laws.{sound_tariffs_have_sound_parts-parts, measures_are_least-least, measures_are_least-sound, lines_that_hold_are_there-rate}
 use Rattle.tariff_compile.specs.Tables.{all_weights, rate_by, weights_of}
 use Rattle.meter_states.specs.Setting.{charge_by_speed, rate_at}
 
@@ -69,13 +67,13 @@ each_divides m (r ∷ rs) all (suc place) d h =
 pub charge-by_speed : (t : Tree) (k : ℕ) (x : Context) (p : ℕ) → IsWritable t → IsSound t
     → (place : ℕ) × (rate_place t x ≡ Some place) × (place < length (rates_of t.lines)) × (charge_of Single (rate_by t k x) p ≡ charge_by_speed k (measure_of t.lines) (rate_at t place) p)
 charge-by_speed t k x p writable sound =
-    let parts = sound_parts t writable sound in
-    let found = rate_always t x sound in
+    let parts = sound_tariffs_have_sound_parts-parts t writable sound in
+    let found = lines_that_hold_are_there-rate t x sound in
     let place = found.0 in
     let within = found.2 in
     let m = measure_of t.lines in
     let none : RateNumbers = record { a = 0; b = 0; c = 0; e = 0 } in
-    let least = measure_is_least t writable sound in
+    let least = measures_are_least-least t.lines (measures_are_least-sound t sound) in
     let r = rate_at t place in
     let numbers : IsSoundRate r = All-get_or IsSoundRate (rates_of t.lines) place none within parts.rates in
     let both = each_divides m (rates_of t.lines) least.multiple place none within in

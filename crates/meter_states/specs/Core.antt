@@ -1,7 +1,7 @@
 -- The core as plain data, which state of the meter it stands for, and which cores are lawful.
-use Rattle.std.specs.Prelude.{◌≡◌, ℕ, ◌*◌, ◌^◌, ◌<◌, ◌≤◌, Option, sum, length}
+use Rattle.std.specs.Prelude.{◌≡◌, ℕ, ◌-◌, ◌*◌, ◌^◌, ◌<◌, ◌≤◌, Option, sum, length}
 use Rattle.drive_modes.specs.declared.meterage.Meterage.{Meterage}
-use Rattle.interval_clock.specs.Offsets.{IsSecond}
+use Rattle.taxi_units.specs.Time.{IsSecond, longest_trip}
 use Rattle.taxi_units.specs.declared.event.Event.{Event}
 use Rattle.taxi_units.specs.declared.event.Event.TheVariants as events
 use Rattle.taxi_units.specs.declared.event.Key.{Key}
@@ -23,6 +23,7 @@ pub record Plain : Type 0 where
   pub pulses : ℕ
   pub ticks : ℕ
   pub initial : ℕ
+  pub minimum : ℕ
   pub meterage : Meterage
 
 -- the core stands for a state of the meter
@@ -35,6 +36,7 @@ pub record Stands (s : Setting) (core : Plain) (m : Meter) : Type 0 where
   pub pulses : core.pulses ≡ pulses_of m.parts
   pub ticks : core.ticks ≡ length m.parts
   pub initial : core.initial ≡ m.initial
+  pub minimum : core.minimum ≡ m.minimum
   pub meterage : core.meterage ≡ meterage_of s m.cover m.parts
 
 -- the counts of a core, of whose trip at most so many ticks have passed, are in their ranges
@@ -44,13 +46,14 @@ pub record IsLawfulTo (tables : TableParts) (most : ℕ) (core : Plain) : Type 0
   pub pulses : core.pulses ≤ 2000 * core.ticks
   pub ticks : core.ticks ≤ most
   pub initial : core.initial ≤ 99999999
+  pub minimum : core.minimum ≤ 99999999
   pub cover : core.meterage.cover_left ≤ 2 * 10 ^ 31
   pub rest : core.meterage.rest < tables.step * tables.measure
   pub steps : core.meterage.steps_full ≤ 41000000000 * core.ticks
 
--- what holds between two events: a trip is closed as it reaches 8,640,000 ticks
+-- what holds between two events: a trip is closed as it reaches its longest time
 abbrev pub IsLawful : TableParts → Plain → Type 0
-IsLawful tables core = IsLawfulTo tables 8639999 core
+IsLawful tables core = IsLawfulTo tables (longest_trip - 1) core
 
 -- an event's second is one of the years 2000 to 2199
 abbrev pub IsTimely : Event → Type 0

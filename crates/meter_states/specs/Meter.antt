@@ -1,5 +1,6 @@
 -- The meter: its states, and what each event does to them. It keeps each interval of a trip.
 use Rattle.std.specs.Prelude.{ℕ, ◌-◌, ◌*◌, pos, ℤ, List, [], ◌∷◌, ◌++◌, Option, Some, None, sum, length, min, if◌then◌else◌, nat_le, nat_lt}
+use Rattle.taxi_units.specs.Time.{first_second, longest_trip}
 use Rattle.taxi_units.specs.declared.event.Key.{Key}
 use Rattle.taxi_units.specs.declared.event.Key.TheVariants as keys
 use Rattle.taxi_units.specs.declared.event.Event.{Event}
@@ -20,7 +21,7 @@ use Rattle.meter_states.specs.Setting.{Setting, unit_of}
 use Rattle.meter_states.specs.Trip.{Part, InHired, InStopped, pulses_of, fare_of}
 use Rattle.meter_states.specs.Same.{is_shown}
 
--- a state of the meter: without a trip the hire fee and the cover are 0 and there are no parts
+-- a state of the meter: without a trip the hire fee, the cover and the minimum fare are 0 and there are no parts
 pub record Meter : Type 0 where
   pub operating : Operating
   -- the clock's second, at which the running interval began
@@ -29,19 +30,20 @@ pub record Meter : Type 0 where
   pub taken : List ℕ
   pub latch : Option Key
   pub shown : Option Display
-  -- of the trip: its initial hire fee, what that covers, in units of charge, and its intervals
+  -- of the trip: its initial hire fee, what that covers, in units of charge, its minimum fare, and its intervals
   pub initial : ℕ
   pub cover : ℕ
+  pub minimum : ℕ
   pub parts : List Part
 
 -- the meter without a trip, before anything was shown
 abbrev pub idle : Operating → (second : ℕ) → Meter
 idle operating second =
-    record { operating = operating; second = second; taken = []; latch = None; shown = None; initial = 0; cover = 0; parts = [] }
+    record { operating = operating; second = second; taken = []; latch = None; shown = None; initial = 0; cover = 0; minimum = 0; parts = [] }
 
 -- as it begins: before the clock is read it stands at the first second that it may show
 abbrev pub off : Meter
-off = idle Off 946684800
+off = idle Off first_second
 
 -- as it is powered
 abbrev pub powered : (second : ℕ) → Meter
@@ -72,7 +74,7 @@ too_fast left = if nat_lt 0 left then Refuse (TooFast left) ∷ [] else []
 
 -- the offsets from UTC that give local time: none
 abbrev pub offsets : List (ℕ × ℤ)
-offsets = (946684800, pos 0) ∷ []
+offsets = (first_second, pos 0) ∷ []
 
 -- the local time at a second
 abbrev pub local_at : (second : ℕ) → LocalTime
@@ -115,15 +117,11 @@ with_part part m = record m { taken = []; parts = m.parts ++ part ∷ [] }
 
 -- the trip is closed
 abbrev pub closed : Meter → Meter
-closed m = record m { operating = ForHire; initial = 0; cover = 0; parts = [] }
+closed m = record m { operating = ForHire; initial = 0; cover = 0; minimum = 0; parts = [] }
 
 -- the key leaves the latch
 abbrev pub unlatched : Meter → Meter
 unlatched m = record m { latch = None }
-
--- a trip ends after 8,640,000 ticks
-abbrev pub longest : ℕ
-longest = 8640000
 
 -- a key that waits as the trip expires is refused
 abbrev pub acts_expired : Option Key → List Act
@@ -133,11 +131,11 @@ acts_expired (Some key) = Refuse Expired ∷ []
 abbrev pub expired : Meter → Meter
 expired m = closed (unlatched m)
 
--- a trip begins with this hire fee
+-- a trip begins with this hire fee and minimum fare
 abbrev pub hired_with : Setting → Initial → Meter → Meter
-hired_with s fee m = record m { operating = Hired; initial = fee.amount; cover = fee.covers * unit_of s; parts = [] }
+hired_with s fee m = record m { operating = Hired; initial = fee.amount; cover = fee.covers * unit_of s; minimum = fee.minimum; parts = [] }
 
--- a trip begins, with the hire fee that the tariff's text names for the context
+-- a trip begins, with the hire fee and the minimum fare that the tariff's text names for the context
 abbrev pub hired : Setting → Meter → Meter
 hired s m = hired_with s (initial_by s.tariff (context_of s m)) m
 
@@ -171,18 +169,18 @@ acts_keyed (Some key) operating = acts_pressed key operating
 
 -- a trip that has reached its longest time expires; otherwise the key acts
 abbrev pub acted : Setting → Meter → Meter
-acted s m = if nat_le longest (length m.parts) then expired m else keyed s m
+acted s m = if nat_le longest_trip (length m.parts) then expired m else keyed s m
 
 abbrev pub acts_acted : Meter → List Act
-acts_acted m = if nat_le longest (length m.parts) then acts_expired m.latch else acts_keyed m.latch m.operating
+acts_acted m = if nat_le longest_trip (length m.parts) then acts_expired m.latch else acts_keyed m.latch m.operating
 
 -- ---- the display
 
 abbrev pub fare_shown : Setting → Meter → Operating → ℕ
 fare_shown s m Off = 0
 fare_shown s m ForHire = 0
-fare_shown s m Hired = fare_of s m.initial m.cover m.parts
-fare_shown s m Stopped = fare_of s m.initial m.cover m.parts
+fare_shown s m Hired = fare_of s m.initial m.minimum m.cover m.parts
+fare_shown s m Stopped = fare_of s m.initial m.minimum m.cover m.parts
 
 abbrev pub display_of : Setting → Meter → Display
 display_of s m = record { operating = m.operating; position = 1; zone = 1; fare = fare_shown s m m.operating; supplements = 0; decimals = s.tariff.decimals }

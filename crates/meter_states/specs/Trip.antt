@@ -3,7 +3,7 @@ use Rattle.std.specs.Prelude.{ℕ, List, map, sum}
 use Rattle.drive_modes.specs.declared.charges.Mode.TheVariants.{Single}
 use Rattle.drive_modes.specs.declared.meterage.Meterage.{Meterage}
 use Rattle.drive_modes.specs.Charge.{charge_of}
-use Rattle.drive_modes.specs.Fare.{above_cover, quotient, saved, shown_fare}
+use Rattle.drive_modes.specs.Fare.{Opening, saved, shown_fare, steps_above}
 use Rattle.tariff_syntax.specs.declared.context.Context.{Context}
 use Rattle.tariff_compile.specs.Tables.{rate_by}
 use Rattle.meter_states.specs.Setting.{Setting, step_of, rounding_of, modulus_of}
@@ -31,11 +31,16 @@ charge_in s (InStopped p) = 0
 abbrev pub charges_of : Setting → List Part → ℕ
 charges_of s parts = sum (map (charge_in s) parts)
 
--- the fare that is shown for a trip with this hire fee and cover: the fee, and the display steps above the cover
-abbrev pub fare_of : Setting → (initial cover : ℕ) → List Part → ℕ
-fare_of s initial cover parts =
-    shown_fare initial (step_of s) (quotient (rounding_of s) (above_cover cover 0 (charges_of s parts)) (modulus_of s))
+-- a trip begins with this cover, and nothing above it
+abbrev pub opening_of : Setting → (cover : ℕ) → Opening
+opening_of s cover = record { cover = cover; above = 0; modulus = modulus_of s }
+
+-- the fare that is shown for a trip with this hire fee, minimum fare and cover: the fee and the display steps above the
+-- cover, or the minimum fare where that is more
+abbrev pub fare_of : Setting → (initial minimum cover : ℕ) → List Part → ℕ
+fare_of s initial minimum cover parts =
+    shown_fare initial minimum (step_of s) (steps_above (rounding_of s) (opening_of s cover) (charges_of s parts))
 
 -- what the core keeps of a trip in place of its intervals
 abbrev pub meterage_of : Setting → (cover : ℕ) → List Part → Meterage
-meterage_of s cover parts = saved cover 0 (modulus_of s) (charges_of s parts)
+meterage_of s cover parts = saved (opening_of s cover) (charges_of s parts)

@@ -2,14 +2,14 @@
 #![tactic(auto)]
 
 mod act;
-mod laws;
 mod local;
 mod machine;
 mod shown;
+mod theorems;
 
 pub use act::{Act, Acts};
-pub use laws::{acts_are_showable, charges_follow_the_speed};
 pub use machine::Core;
+pub use theorems::{acts_are_showable, charges_follow_the_speed};
 
 #[cfg(test)]
 mod tests;

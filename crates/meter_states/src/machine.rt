@@ -1,6 +1,5 @@
 //! The core: the state of the meter, and what each event does to it.
 ghost use Rattle.std.specs.Prelude.{◌≡◌, ◌*◌, ◌^◌, ◌<◌, ◌≤◌};
-ghost use Rattle.tariff_compile.specs.Tables.{IsFit};
 
 use crate::act::{Act, Acts, refusal};
 use crate::local::local_at;
@@ -11,16 +10,11 @@ use std::marker::Model;
 use std::sync::ledger::Ledger;
 use tariff_compile::Tables;
 use tariff_syntax::Context;
-use taxi_units::{Display, Event, Key, Operating, Steps, Why};
-
-/// A trip ends after so many ticks, which are ten days. This project's own limit.
-const LONGEST: u32 = 8_640_000;
-
-/// The first second that a clock may show, 2000-01-01T00:00Z.
-const FIRST: u64 = 946_684_800;
+use taxi_units::{Display, Event, FIRST_SECOND, Key, LONGEST_TRIP, Operating, Steps, Why};
 
 /// The meter's state. It counts the intervals of a trip and keeps their sum, and never the intervals
-/// themselves, so it takes no memory. Without a trip `ticks` and `meterage` are zero.
+/// themselves, so it takes no memory. Without a trip its counts, its fees and its
+/// meterage are zero.
 #[derive(Debug, Drop)]
 pub struct Core {
     operating: Operating,
@@ -31,6 +25,7 @@ pub struct Core {
     pulses: u64,
     ticks: u32,
     initial: u64,
+    minimum: u64,
     meterage: Meterage,
 }
 
@@ -39,7 +34,7 @@ impl Model for Core {
 
     ghost Value = { Plain };
 
-    ghost view = { λ c. record { operating = c.operating; second = c.second; gate = c.gate; latch = c.latch; shown = c.shown; pulses = c.pulses; ticks = c.ticks; initial = c.initial; meterage = c.meterage } };
+    ghost view = { λ c. record { operating = c.operating; second = c.second; gate = c.gate; latch = c.latch; shown = c.shown; pulses = c.pulses; ticks = c.ticks; initial = c.initial; minimum = c.minimum; meterage = c.meterage } };
 }
 
 /// The meterage where there is no trip.
@@ -54,12 +49,10 @@ impl Core {
     ghost use Rattle.taxi_units.specs.declared.event.Operating.TheVariants.{Off, ForHire};
     ghost use Rattle.taxi_units.specs.declared.event.Why.TheVariants.{NotNow, Powered};
     ghost use Rattle.meter_states.specs.declared.act.Act.TheVariants.{Show, Refuse};
-    ghost use Rattle.tariff_compile.specs.Tables.{AreFit, IsFit, IsTablesOf, TableParts, rate_by};
-    ghost use Rattle.tariff_calendar.specs.Range.{IsInRangeOf};
-    ghost use Rattle.interval_clock.specs.Offsets.{IsSecond};
+    ghost use Rattle.tariff_compile.specs.Tables.{AreFit, IsFit, IsInRangeFor, TableParts, rate_by};
+    ghost use Rattle.taxi_units.specs.Time.{IsSecond, longest_trip};
     ghost use Rattle.meter_states.specs.Setting.{Setting, IsSettingOf};
-    ghost use Rattle.tariff_syntax.specs.Tree.{Tree};
-    ghost use Rattle.meter_states.specs.Meter.{Meter, idle, off, powered, off_or, room, taking, too_fast, context_of, counted, with_part, closed, longest, acts_expired, expired, hired, pressed, acts_pressed, unlatched, keyed, acts_keyed, acted, acts_acted, display_of, displayed, acts_shown, fare_shown, latched, acts_latched, after, acts_of};
+    ghost use Rattle.meter_states.specs.Meter.{Meter, idle, off, powered, off_or, room, taking, too_fast, context_of, counted, with_part, closed, acts_expired, expired, hired, pressed, acts_pressed, unlatched, keyed, acts_keyed, acted, acts_acted, display_of, displayed, acts_shown, fare_shown, latched, acts_latched, after, acts_of};
     ghost use Rattle.meter_states.specs.Core.{Plain, Stands, IsLawful, IsLawfulTo, IsTimely, charging_steps, hiring_steps};
     ghost use Rattle.meter_states.specs.Trip.{InHired, InStopped};
 
@@ -68,7 +61,7 @@ impl Core {
         ensures state { (s : Setting) → Stands s result off }
         ensures lawful { (t : TableParts) → IsFit t → IsLawful t result }
     {
-        Core::idle(Operating::Off, FIRST)
+        Core::idle(Operating::Off, FIRST_SECOND)
     }
 
     /// A core without a trip, before anything was shown.
@@ -86,6 +79,7 @@ impl Core {
             pulses: 0,
             ticks: 0,
             initial: 0,
+            minimum: 0,
             meterage: NONE,
         }
     }
@@ -101,7 +95,6 @@ impl Core {
     /// alone, and by the rule of mode S, is the measuring instruments directive's. An event that is
     /// refused changes nothing, but for pulses that are too fast: the gate takes those that it can.
     pub fn step<L: Ledger>(&mut self, tables: &Tables, event: Event, steps: &mut Steps<L>) -> Acts
-        requires fit { IsFit tables.now }
         requires lawful { IsLawful tables.now self.old }
         requires timely { IsTimely event }
         ensures lawful { IsLawful tables.now self.new }
@@ -121,7 +114,6 @@ impl Core {
 
     /// The supply comes.
     fn power_up(&mut self, tables: &Tables, second: u64) -> Acts
-        requires fit { IsFit tables.now }
         requires second { IsSecond second }
         requires lawful { IsLawful tables.now self.old }
         ensures lawful { IsLawful tables.now self.new }
@@ -136,12 +128,12 @@ impl Core {
 
     /// The meter begins, for hire.
     fn begin(&mut self, tables: &Tables, second: u64) -> Acts
-        requires fit { IsFit tables.now }
         requires second { IsSecond second }
         ensures lawful { IsLawful tables.now self.new }
         ensures state { (s : Setting) → IsSettingOf s tables.now → Stands s self.new (displayed s (powered second)) }
         ensures acts { (s : Setting) → IsSettingOf s tables.now → result.items ≡ Show (display_of s (powered second)) ∷ [] }
     {
+        tables.are_fit();
         *self = Core::idle(Operating::ForHire, second);
         let mut acts = Acts::new();
         self.show(tables, &mut acts);
@@ -182,7 +174,6 @@ impl Core {
 
     /// An interval ends.
     fn tick<L: Ledger>(&mut self, tables: &Tables, steps: &mut Steps<L>) -> Acts
-        requires fit { IsFit tables.now }
         requires lawful { IsLawful tables.now self.old }
         ensures lawful { IsLawful tables.now self.new }
         ensures state { (s : Setting) (m : Meter) → IsSettingOf s tables.now → Stands s self.old m → Stands s self.new (off_or m.operating m (displayed s (acted s (counted s m)))) }
@@ -199,7 +190,6 @@ impl Core {
 
     /// The interval is counted, a key acts, and the display is shown.
     fn end_interval<L: Ledger>(&mut self, tables: &Tables, steps: &mut Steps<L>) -> Acts
-        requires fit { IsFit tables.now }
         requires lawful { IsLawful tables.now self.old }
         ensures lawful { IsLawful tables.now self.new }
         ensures state { (s : Setting) (m : Meter) → IsSettingOf s tables.now → Stands s self.old m → Stands s self.new (displayed s (acted s (counted s m))) }
@@ -214,9 +204,8 @@ impl Core {
 
     /// The interval becomes a part of the trip, and is charged in Hired.
     fn count_interval<L: Ledger>(&mut self, tables: &Tables, steps: &mut Steps<L>)
-        requires fit { IsFit tables.now }
         requires lawful { IsLawful tables.now self.old }
-        ensures lawful { IsLawfulTo tables.now 8640000 self.new }
+        ensures lawful { IsLawfulTo tables.now longest_trip self.new }
         ensures state { (s : Setting) (m : Meter) → IsSettingOf s tables.now → Stands s self.old m → Stands s self.new (counted s m) }
         ensures operating { self.new.operating ≡ self.old.operating }
         ensures steps { steps.new ≤ steps.old + charging_steps self.old.operating }
@@ -232,13 +221,13 @@ impl Core {
 
     /// The interval becomes a part of the trip, and is charged.
     fn charge_interval<L: Ledger>(&mut self, tables: &Tables, steps: &mut Steps<L>)
-        requires fit { IsFit tables.now }
         requires lawful { IsLawful tables.now self.old }
-        ensures lawful { IsLawfulTo tables.now 8640000 self.new }
+        ensures lawful { IsLawfulTo tables.now longest_trip self.new }
         ensures state { (s : Setting) (m : Meter) → IsSettingOf s tables.now → Stands s self.old m → Stands s self.new (with_part (InHired (sum m.taken) (context_of s m)) m) }
         ensures operating { self.new.operating ≡ self.old.operating }
         ensures steps { steps.new ≤ steps.old + 36 }
     {
+        tables.are_fit();
         let weights = self.weights(tables, steps);
         let pulses = self.gate.take();
         let charged = charge(Mode::Single, weights, pulses);
@@ -252,7 +241,7 @@ impl Core {
         requires gate { self.old.gate ≤ 2000 }
         requires pulses { self.old.pulses ≤ 2000 * self.old.ticks }
         requires ticks { self.old.ticks ≤ 8639999 }
-        ensures lawful { (t : TableParts) → IsLawful t self.old → IsLawfulTo t 8640000 self.new }
+        ensures lawful { (t : TableParts) → IsLawful t self.old → IsLawfulTo t longest_trip self.new }
         ensures state { (s : Setting) (m : Meter) → Stands s self.old m → Stands s self.new (with_part (InStopped (sum m.taken)) m) }
         ensures operating { self.new.operating ≡ self.old.operating }
     {
@@ -263,7 +252,6 @@ impl Core {
 
     /// The weights of the rate that holds at the beginning of the running interval.
     fn weights<L: Ledger>(&self, tables: &Tables, steps: &mut Steps<L>) -> Weights
-        requires fit { IsFit tables.now }
         requires lawful { IsLawful tables.now self.now }
         ensures rate { (s : Setting) (m : Meter) → IsSettingOf s tables.now → Stands s self.now m → result ≡ rate_by s.tariff s.constant (context_of s m) }
         ensures fit { AreFit tables.now.measure result }
@@ -275,12 +263,12 @@ impl Core {
 
     /// The context at the beginning of the running interval. The tariff position and the zone are 1.
     fn context<L: Ledger>(&self, tables: &Tables, steps: &mut Steps<L>) -> Context
-        requires fit { IsFit tables.now }
         requires lawful { IsLawful tables.now self.now }
         ensures value { (s : Setting) (m : Meter) → IsSettingOf s tables.now → Stands s self.now m → result ≡ context_of s m }
-        ensures range { (t : Tree) → IsTablesOf t tables.now → IsInRangeOf t tables.now.constant result }
+        ensures range { IsInRangeFor tables.now result }
         ensures steps { steps.new ≤ steps.old + 14 }
     {
+        tables.are_fit();
         let local = local_at(self.second, steps);
         Context {
             constant: tables.constant(),
@@ -297,15 +285,15 @@ impl Core {
 
     /// The trip expires, or else the key that waits acts.
     fn act<L: Ledger>(&mut self, tables: &Tables, steps: &mut Steps<L>) -> Acts
-        requires fit { IsFit tables.now }
-        requires lawful { IsLawfulTo tables.now 8640000 self.old }
+        requires lawful { IsLawfulTo tables.now longest_trip self.old }
         ensures lawful { IsLawful tables.now self.new }
         ensures state { (s : Setting) (m : Meter) → IsSettingOf s tables.now → Stands s self.old m → Stands s self.new (acted s m) }
         ensures acts { (s : Setting) (m : Meter) → IsSettingOf s tables.now → Stands s self.old m → result.items ≡ acts_acted m }
         ensures few { length result.items ≤ 1 }
         ensures steps { steps.new ≤ steps.old + hiring_steps self.old.operating }
     {
-        if self.ticks >= LONGEST {
+        tables.are_fit();
+        if self.ticks >= LONGEST_TRIP {
             self.expire()
         } else {
             self.press(tables, steps)
@@ -314,7 +302,7 @@ impl Core {
 
     /// The trip has reached its longest time.
     fn expire(&mut self) -> Acts
-        ensures lawful { (t : TableParts) → IsFit t → IsLawfulTo t 8640000 self.old → IsLawful t self.new }
+        ensures lawful { (t : TableParts) → IsFit t → IsLawfulTo t longest_trip self.old → IsLawful t self.new }
         ensures state { (s : Setting) (m : Meter) → Stands s self.old m → Stands s self.new (expired m) }
         ensures acts { (s : Setting) (m : Meter) → Stands s self.old m → result.items ≡ acts_expired m.latch }
         ensures few { length result.items ≤ 1 }
@@ -339,12 +327,12 @@ impl Core {
         self.pulses = 0;
         self.ticks = 0;
         self.initial = 0;
+        self.minimum = 0;
         self.meterage = NONE;
     }
 
     /// The key that waits acts.
     fn press<L: Ledger>(&mut self, tables: &Tables, steps: &mut Steps<L>) -> Acts
-        requires fit { IsFit tables.now }
         requires lawful { IsLawful tables.now self.old }
         ensures lawful { IsLawful tables.now self.new }
         ensures state { (s : Setting) (m : Meter) → IsSettingOf s tables.now → Stands s self.old m → Stands s self.new (keyed s m) }
@@ -363,7 +351,6 @@ impl Core {
 
     /// A key acts, or is refused in this operating position.
     fn press_key<L: Ledger>(&mut self, key: Key, tables: &Tables, steps: &mut Steps<L>) -> Acts
-        requires fit { IsFit tables.now }
         requires lawful { IsLawful tables.now self.old }
         ensures lawful { IsLawful tables.now self.new }
         ensures state { (s : Setting) (m : Meter) → IsSettingOf s tables.now → Stands s self.old m → Stands s self.new (pressed s key m.operating m) }
@@ -385,6 +372,7 @@ impl Core {
                 Acts::new()
             }
             (Key::Clear, Operating::Stopped) => {
+                tables.are_fit();
                 self.close();
                 Acts::new()
             }
@@ -394,24 +382,24 @@ impl Core {
 
     /// A trip begins.
     fn hire<L: Ledger>(&mut self, tables: &Tables, steps: &mut Steps<L>)
-        requires fit { IsFit tables.now }
         requires lawful { IsLawful tables.now self.old }
         ensures lawful { IsLawful tables.now self.new }
         ensures state { (s : Setting) (m : Meter) → IsSettingOf s tables.now → Stands s self.old m → Stands s self.new (hired s m) }
         ensures steps { steps.new ≤ steps.old + 36 }
     {
+        tables.are_fit();
         let x = self.context(tables, steps);
         let fee = tables.initial_at(&x, steps);
         self.operating = Operating::Hired;
         self.pulses = 0;
         self.ticks = 0;
         self.initial = fee.amount;
+        self.minimum = fee.minimum;
         self.meterage = Meterage::start(fee.covers, tables.measure());
     }
 
     /// The display is shown where it differs from the one that was last shown.
     fn show(&mut self, tables: &Tables, acts: &mut Acts)
-        requires fit { IsFit tables.now }
         requires lawful { IsLawful tables.now self.old }
         requires room { length acts.old.items ≤ 1 }
         ensures lawful { IsLawful tables.now self.new }
@@ -427,7 +415,6 @@ impl Core {
 
     /// The display now.
     fn display(&self, tables: &Tables) -> Display
-        requires fit { IsFit tables.now }
         requires lawful { IsLawful tables.now self.now }
         ensures { (s : Setting) (m : Meter) → IsSettingOf s tables.now → Stands s self.now m → result ≡ display_of s m }
     {
@@ -443,15 +430,13 @@ impl Core {
 
     /// The fare that is shown, which is 0 without a trip.
     fn fare(&self, tables: &Tables) -> u64
-        requires fit { IsFit tables.now }
         requires lawful { IsLawful tables.now self.now }
         ensures { (s : Setting) (m : Meter) → IsSettingOf s tables.now → Stands s self.now m → result ≡ fare_shown s m m.operating }
     {
         match self.operating {
             Operating::Off | Operating::ForHire => 0,
             Operating::Hired | Operating::Stopped => {
-                self.meterage
-                    .shown(self.initial, tables.step(), tables.rounding())
+                self.meterage.shown(self.initial, self.minimum, tables.step(), tables.rounding())
             }
         }
     }
@@ -459,7 +444,6 @@ impl Core {
 
 /// What a display step takes, in units of charge.
 fn modulus(tables: &Tables) -> u128
-    requires { IsFit tables.now }
     ensures value { result ≡ tables.now.step * tables.now.measure }
     ensures range { (0 < result) × (result ≤ 2 * 10 ^ 29) }
 {
