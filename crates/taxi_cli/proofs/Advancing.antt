@@ -6,9 +6,9 @@ use Rattle.std.proofs.lemmas.List.{append-nil}
 use Rattle.taxi_units.specs.declared.event.Event.{Event}
 use Rattle.drive_text.specs.declared.run.Run.{Run}
 use Rattle.drive_text.specs.Runs.{run_events}
-use Rattle.drive_text.specs.Drive.{events_in, first_bad}
-use Rattle.drive_text.specs.Reading.{HasTaken, AddsRuns}
-use Rattle.drive_text.proofs.Cuts.{events_in-append}
+use Rattle.drive_text.specs.Drive.{events_in, runs_after, first_bad}
+use Rattle.drive_text.specs.Reading.{Reading, HasTaken}
+use Rattle.drive_text.proofs.Laws.{events_are_added}
 use Rattle.tariff_compile.specs.Tables.{TableParts}
 use Rattle.meter_states.specs.Core.{IsLawful}
 use Rattle.taxi_cli.specs.declared.pieces.PieceFault.{PieceFault}
@@ -28,32 +28,39 @@ advances-none told tables a lawful =
       bounded = omega arith;
     }
 
+-- these are the runs that a reader gave for bytes
+abbrev pub AreRunsOf : Reading → List ℕ → List Run → Type 0
+AreRunsOf reading bytes runs = (before : List ℕ) → HasTaken reading before → runs ≡ runs_after before bytes
+
+runs-mean : (reading : Reading) (bytes : List ℕ) (runs : List Run) → AreRunsOf reading bytes runs → (before : List ℕ) → HasTaken reading before → events_in (before ++ bytes) ≡ events_in before ++ flat_map run_events runs
+runs-mean reading bytes runs are before h = events_are_added before bytes ∙ ap (λ (rs : List Run). events_in before ++ flat_map run_events rs) (sym (are before h))
+
 -- the runs that a reader gave for bytes were carried out
-pub advances-runs : (told : Type 0) (tables : TableParts) (a b : Place) (bytes : List ℕ) (runs : List Run) → AddsRuns a.reading bytes [] runs
+pub advances-runs : (told : Type 0) (tables : TableParts) (a b : Place) (bytes : List ℕ) (runs : List Run) → AreRunsOf a.reading bytes runs
     → ((before : List ℕ) → HasTaken a.reading before → HasTaken b.reading (before ++ bytes))
     → Carries told tables a.core b.core (flat_map run_events runs) a.printed b.printed → IsBounded a.steps b.steps (flat_map run_events runs) → Advances told tables a b bytes
-advances-runs told tables a b bytes runs adds taken carried bounded =
+advances-runs told tables a b bytes runs are taken carried bounded =
     record {
       meaning = flat_map run_events runs;
       taken = taken;
-      events = λ before h. adds.events before h ∙ ap (λ (rs : List Run). events_in before ++ flat_map run_events rs) (sym adds.added);
+      events = runs-mean a.reading bytes runs are;
       carried = carried;
       bounded = bounded;
     }
 
 -- the board failed while the runs that a reader gave for bytes were carried out
-pub cut-runs : (told : Type 0) (tables : TableParts) (a b : Place) (bytes more : List ℕ) (runs : List Run) → AddsRuns a.reading bytes [] runs
+pub cut-runs : (told : Type 0) (tables : TableParts) (a b : Place) (bytes more : List ℕ) (runs : List Run) → AreRunsOf a.reading bytes runs
     → Stops told tables a.core (flat_map run_events runs) a.printed b.printed → IsBounded a.steps b.steps (flat_map run_events runs)
     → (before : List ℕ) → HasTaken a.reading before → IsCutWithin told tables a b before (bytes ++ more)
-cut-runs told tables a b bytes more runs adds stopped bounded before h =
-    let later = events_in-append (before ++ bytes) more in
+cut-runs told tables a b bytes more runs are stopped bounded before h =
     let es = flat_map run_events runs in
-    let here : events_in (before ++ bytes) ≡ events_in before ++ es = adds.events before h ∙ ap (λ (rs : List Run). events_in before ++ flat_map run_events rs) (sym adds.added) in
+    let later = flat_map run_events (runs_after (before ++ bytes) more) in
+    let here = runs-mean a.reading bytes runs are before h in
     record {
-      meaning = es ++ later.0;
-      events = ap events_in (sym (append_assoc before bytes more)) ∙ later.1 ∙ ap (λ (t : List Event). t ++ later.0) here ∙ append_assoc (events_in before) es later.0;
-      stopped = stops-longer told tables a.core es later.0 a.printed b.printed stopped;
-      bounded = bounded-more a.steps b.steps es later.0 bounded;
+      meaning = es ++ later;
+      events = ap events_in (sym (append_assoc before bytes more)) ∙ events_are_added (before ++ bytes) more ∙ ap (λ (t : List Event). t ++ later) here ∙ append_assoc (events_in before) es later;
+      stopped = stops-longer told tables a.core es later a.printed b.printed stopped;
+      bounded = bounded-more a.steps b.steps es later bounded;
     }
   where
     bounded-more : (x y : ℕ) (es fs : List Event) → IsBounded x y es → IsBounded x y (es ++ fs)

@@ -16,7 +16,7 @@ use Rattle.drive_text.specs.declared.run.Run.{Run}
 use Rattle.drive_text.specs.Runs.{interval_events, intervals_events, run_events}
 use Rattle.taxi_cli.specs.Texts.{acts_text}
 use Rattle.taxi_cli.specs.Running.{state_after, run_text, Carries, Stops, IsUnderWay, IsBounded}
-use Rattle.outside.proofs.Beginnings.{begins_after, begins_more, begins_whole}
+use Rattle.outside.proofs.Laws.{begins_after, begins_more, begins_whole}
 
 -- what holds of a result under a premise
 pub on_ok_under : {T E : Type 0} (told A : Type 0) (r : Result T E) → (told → OnOk r A) → OnOk r (told → A)

@@ -1,14 +1,15 @@
 -- A drive, from its first byte to its end.
-use Rattle.std.proofs.Common.{◌≡◌, ℕ, ◌+◌, ◌-◌, ◌≤◌, ◌<◌, Bool, true, false, List, [], ◌++◌, length, take, refl, sym, ap, subst, ◌∙◌, append_assoc, arith, Some, None, Option, Result, Err, length-append, ltb}
+use Rattle.std.proofs.Common.{◌≡◌, ℕ, ◌+◌, ◌-◌, ◌≤◌, ◌<◌, Bool, true, false, List, [], ◌++◌, length, take, refl, sym, ap, subst, ◌∙◌, append_assoc, arith, Some, None, Option, Result, Err, length-append, ltb, flat_map}
 use Rattle.std.proofs.lemmas.Bool.{lt-ltb, le-ltb}
 use Rattle.std.proofs.lemmas.List.{append-nil, take_all}
 use Rattle.std.proofs.Math.Seq.{take-append-add}
 use Rattle.outside.specs.Printing.{Begins}
-use Rattle.outside.proofs.Beginnings.{begins_after}
+use Rattle.outside.proofs.Laws.{begins_after}
 use Rattle.taxi_units.specs.declared.event.Event.{Event}
 use Rattle.drive_text.specs.Drive.{events_in, first_bad, bad_at_end}
 use Rattle.drive_text.specs.Reading.{Reading, HasTaken}
-use Rattle.drive_text.proofs.Cuts.{first_bad-append, events_in-append_bad}
+use Rattle.drive_text.specs.Runs.{run_events}
+use Rattle.drive_text.proofs.Laws.{bad_stays, bad_ends_runs}
 use Rattle.tariff_compile.specs.Tables.{TableParts, IsCompiled}
 use Rattle.meter_states.specs.Setting.{Setting, IsSettingOf}
 use Rattle.meter_states.specs.Meter.{Meter, off}
@@ -27,6 +28,7 @@ pub record IsSoFar (tells told : Type 0) (tables : TableParts) (core : Plain) (r
   pub taken : List ℕ
   pub split : tells → drive ≡ taken ++ rest
   pub read : HasTaken reading taken
+  pub going : reading.failed ≡ false
   pub lawful : IsLawful tables core
   pub compiled : IsCompiled tables
   pub stands : (w : Setting) → IsSettingOf w tables → Stands w core (state_after w off (events_in taken))
@@ -36,13 +38,14 @@ pub record IsSoFar (tells told : Type 0) (tables : TableParts) (core : Plain) (r
   pub count : length taken + left ≡ drive_limit
 
 -- the beginning
-pub so_far-none : (tells told : Type 0) (tables : TableParts) (core : Plain) (reading : Reading) (drive before : List ℕ) (steps : ℕ) → HasTaken reading [] → IsLawful tables core → IsCompiled tables → ((w : Setting) → Stands w core off)
+pub so_far-none : (tells told : Type 0) (tables : TableParts) (core : Plain) (reading : Reading) (drive before : List ℕ) (steps : ℕ) → HasTaken reading [] → reading.failed ≡ false → IsLawful tables core → IsCompiled tables → ((w : Setting) → Stands w core off)
     → IsSoFar tells told tables core reading drive drive before before steps steps drive_limit
-so_far-none tells told tables core reading drive before steps read lawful compiled stands =
+so_far-none tells told tables core reading drive before steps read going lawful compiled stands =
     record {
       taken = [];
       split = λ t. refl;
       read = read;
+      going = going;
       lawful = lawful;
       compiled = compiled;
       stands = λ w is. stands w;
@@ -67,14 +70,15 @@ under_way-so_far tells told tables core reading drive rest before now steps0 ste
 
 -- a piece further
 pub so_far-piece : (tells told : Type 0) (tables : TableParts) (a b : Place) (drive rest rest' before : List ℕ) (steps0 left left' : ℕ) (piece : List ℕ)
-    → (s : IsSoFar tells told tables a.core a.reading drive rest before a.printed steps0 a.steps left) → (tells → rest ≡ piece ++ rest') → Advances told tables a b piece → first_bad (s.taken ++ piece) ≡ None → left ≡ length piece + left'
+    → (s : IsSoFar tells told tables a.core a.reading drive rest before a.printed steps0 a.steps left) → (tells → rest ≡ piece ++ rest') → Advances told tables a b piece → b.reading.failed ≡ false → first_bad (s.taken ++ piece) ≡ None → left ≡ length piece + left'
     → IsSoFar tells told tables b.core b.reading drive rest' before b.printed steps0 b.steps left'
-so_far-piece tells told tables a b drive rest rest' before steps0 left left' piece s split next good count =
+so_far-piece tells told tables a b drive rest rest' before steps0 left left' piece s split next going good count =
     let e = next.events s.taken s.read in
     record {
       taken = s.taken ++ piece;
       split = λ t. s.split t ∙ ap (λ (xs : List ℕ). s.taken ++ xs) (split t) ∙ sym (append_assoc s.taken piece rest');
       read = next.taken s.taken s.read;
+      going = going;
       lawful = next.carried.lawful;
       compiled = s.compiled;
       stands = λ w is. subst (λ (m : Meter). Stands w b.core m) (sym (ap (state_after w off) e ∙ state_after-append w off (events_in s.taken) next.meaning)) (next.carried.state w (state_after w off (events_in s.taken)) is (s.stands w is));
@@ -119,13 +123,13 @@ end_either drive n false e whole front = rw (e, front) refl
 
 pub end-bad : (c left : List ℕ) (n : ℕ) → length c ≤ drive_limit → first_bad c ≡ Some n → drive_end (c ++ left) ≡ BadAt n
 end-bad c left n h bad =
-    end_either (c ++ left) n (ltb (length (c ++ left)) drive_limit) refl (first_bad-append c left n bad)
-    (ap first_bad (take-front c left h) ∙ first_bad-append c (take (drive_limit - length c) left) n bad)
+    end_either (c ++ left) n (ltb (length (c ++ left)) drive_limit) refl (bad_stays c left n bad)
+    (ap first_bad (take-front c left h) ∙ bad_stays c (take (drive_limit - length c) left) n bad)
 
 pub drive_text-bad : (w : Setting) (c left : List ℕ) (n : ℕ) → length c ≤ drive_limit → first_bad c ≡ Some n → drive_text w (c ++ left) ≡ run_text w off (events_in c)
 drive_text-bad w c left n h bad =
     ap (λ (d : List ℕ). run_text w off (events_in d)) (take-front c left h)
-    ∙ ap (run_text w off) (events_in-append_bad c (take (drive_limit - length c) left) n bad)
+    ∙ ap (run_text w off) (ap (flat_map run_events) (bad_ends_runs c (take (drive_limit - length c) left) n bad))
 
 -- as many bytes as may be taken, none of them in a bad line
 take-exact : (c left : List ℕ) → length c ≡ drive_limit → take drive_limit (c ++ left) ≡ c

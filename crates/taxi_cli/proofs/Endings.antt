@@ -3,7 +3,7 @@ use Rattle.std.proofs.Common.{◌≡◌, ◌≢◌, ◌+◌, ◌-◌, ◌≤◌,
 use Rattle.std.specs.Prelude.{◌⊎◌}
 use Rattle.std.proofs.lemmas.List.{append-nil}
 use Rattle.outside.specs.Printing.{Begins}
-use Rattle.outside.proofs.Beginnings.{begins_after, begins_more}
+use Rattle.outside.proofs.Laws.{begins_after, begins_more}
 use Rattle.tariff_syntax.specs.Tree.{Tree}
 use Rattle.tariff_compile.specs.Rows.{rows_text}
 use Rattle.tariff_compile.specs.Tables.{TableParts, tables_of}

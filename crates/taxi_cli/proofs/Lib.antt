@@ -5,5 +5,4 @@ pub mod Endings
 pub mod Lengths
 pub mod Printing
 pub mod Rows
-pub mod Stores
 pub mod Tariffs

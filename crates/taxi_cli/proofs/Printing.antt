@@ -4,7 +4,7 @@ use Rattle.std.specs.List.{flat_map}
 use Rattle.std.proofs.lemmas.List.{take-append-drop}
 use Rattle.std.proofs.lemmas.List.Concat.{flat_map-cons, flat_map-append}
 use Rattle.outside.specs.Printing.{Begins}
-use Rattle.outside.proofs.Beginnings.{begins_after, begins_more}
+use Rattle.outside.proofs.Laws.{begins_after, begins_more}
 use Rattle.meter_states.specs.declared.act.Act.{Act}
 use Rattle.taxi_cli.specs.Texts.{act_text, acts_text}
 

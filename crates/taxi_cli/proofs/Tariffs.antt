@@ -7,8 +7,7 @@ use Rattle.tariff_syntax.specs.Tree.{tree_of}
 use Rattle.tariff_syntax.specs.Writable.{IsWritable}
 use Rattle.tariff_syntax.specs.declared.parsing.ParseFault.TheVariants as faults
 use Rattle.tariff_syntax.specs.declared.tariff.Tariff.{Tariff}
-use Rattle.tariff_syntax.proofs.Ranges.{numbers_of_text}
-use Rattle.tariff_syntax.proofs.ReadsLaws.{reads_exactly, first_bad_exactly}
+use Rattle.tariff_syntax.proofs.Laws.{texts_are_parsed_as_they_read-tariff, texts_are_parsed_as_they_read-bad_line, texts_have_their_numbers}
 use Rattle.tariff_check.specs.Faults.{fault_of}
 use Rattle.tariff_check.specs.declared.fault.CheckFault.{CheckFault}
 use Rattle.tariff_check.specs.declared.fault.CheckFault.TheVariants as checks
@@ -20,14 +19,14 @@ use Rattle.taxi_cli.specs.Ending.{unsound_for}
 
 -- a text that reads as a tariff is answered by the tariff's first fault
 pub sound_of : (text : List ℕ) (t : Tariff) (fault : Option CheckFault) → IsParsed text (Ok t) → fault_of (tree_of t) ≡ fault → tariff_in text ≡ sound_in (tree_of t) fault
-sound_of text t fault h e = rw (le-ltb 65536 (length text) h.0, (reads_exactly text (tree_of t)).0 h.1, e) refl
+sound_of text t fault h e = rw (le-ltb 65536 (length text) h.0, (texts_are_parsed_as_they_read-tariff text (tree_of t)).0 h.1, e) refl
 
 -- and its numbers are such as a text can have
 pub writable_of : (text : List ℕ) (t : Tariff) → IsParsed text (Ok t) → IsWritable (tree_of t)
-writable_of text t h = numbers_of_text text (tree_of t) h.1
+writable_of text t h = texts_have_their_numbers text (tree_of t) h.1
 
 pub syntax_of : (text : List ℕ) (line : ℕ) → IsParsed text (Err (faults.Syntax line)) → tariff_in text ≡ Err (Syntax line)
-syntax_of text line h = rw (le-ltb 65536 (length text) h.0, (first_bad_exactly text line).0 h.1) refl
+syntax_of text line h = rw (le-ltb 65536 (length text) h.0, (texts_are_parsed_as_they_read-bad_line text line).0 h.1) refl
 
 -- a refusal for a fault names it, and is none for want of memory
 refusal_is : (fault : CheckFault) (why : Refusal) → unsound_for fault ≡ texts.Refused why → (why ≡ Unsound fault) × (fault ≢ checks.NoMemory)

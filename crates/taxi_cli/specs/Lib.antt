@@ -4,6 +4,5 @@ pub mod Ending
 pub mod LastLine
 pub mod Pieces
 pub mod Running
-pub mod Store
 pub mod Texts
 pub mod Words

@@ -1,11 +1,11 @@
 //! Carries out a drive, from its first byte to its end.
 ghost use Rattle.std.specs.Prelude.{◌≡◌, ◌≢◌, ℕ, ◌+◌, ◌*◌, ◌<◌, ◌≤◌, ◌^◌, ◌++◌, List, length, IfOk, IfErr, OnOk, Err};
 ghost use Rattle.outside.specs.Faults.{Rose};
-ghost use Rattle.tariff_compile.specs.Tables.{IsCompiled, IsFit};
+ghost use Rattle.tariff_compile.specs.Tables.{IsCompiled};
 ghost use Rattle.drive_text.specs.Drive.{bad_at_end};
 ghost use Rattle.drive_text.specs.Reading.{HasTaken};
 ghost use Rattle.taxi_cli.specs.Drive.{RunsDrive, IsBoundedBy, end_at, fault_of};
-ghost use Rattle.taxi_cli.specs.Store.{KeepsStore};
+ghost use Rattle.outside.specs.Runs.{KeepsStore};
 
 use crate::pieces::{PieceFault, carry_out_piece};
 use drive_text::Reader;
@@ -33,15 +33,14 @@ pub enum RunFault {
 
 /// Reads the drive of a word, carries out each event as soon as its line is read, and prints the
 /// displays and refusals. It takes no memory: it keeps one piece of 512 bytes and one unfinished line.
-#[tactic(auto, using(crate::proofs::Stores::keeps_none, crate::proofs::Stores::keeps_print, crate::proofs::Stores::keeps_then))]
-pub fn run_drive<F: Files, B: Board, L: Ledger>(
+#[tactic(auto, using(outside::proofs::Laws::keeps_none, outside::proofs::Laws::keeps_print, outside::proofs::Laws::keeps_then))]
+pub fn run_drive<F: Files, B: Board<L>, L: Ledger>(
     tables: &Tables,
     files: &mut F,
     word: usize,
     board: &mut B,
     steps: &mut Steps<L>,
 ) -> Result<(), RunFault>
-    requires fit { IsFit tables.now }
     requires compiled { IsCompiled tables.now }
     ensures ends { F.tells → RunsDrive B.tells_text tables.now (F.rest files.old word) (F.rest files.new word) result (B.printed board.old) (B.printed board.new) }
     ensures steps { F.tells → IsBoundedBy 0 (F.rest files.old word) (F.rest files.new word) steps.old steps.new }
@@ -50,8 +49,9 @@ pub fn run_drive<F: Files, B: Board, L: Ledger>(
     ensures board_fault { result ≡ Err RunFault.BoardFault → Rose (B.faults board.old) (B.faults board.new) }
     ensures counts { (other : ℕ) → F.faults files.old other ≤ F.faults files.new other }
     ensures count { B.faults board.old ≤ B.faults board.new }
-    ensures store { KeepsStore B.image B.in_flight B.moment B.left_since board.old board.new }
+    ensures store { KeepsStore B.Board board.old board.new }
 {
+    tables.are_fit();
     let mut core = Core::off();
     let mut reader = Reader::new();
     let mut piece = [0u8; 512];
@@ -84,7 +84,9 @@ fn fault_of_piece(fault: PieceFault) -> RunFault
 
 /// Whether a drive may end where its reader stands.
 fn end_of(reader: &Reader) -> Result<(), RunFault>
-    ensures { (drive : List ℕ) → HasTaken reader.now drive → result ≡ end_at (bad_at_end drive) }
+    ensures ends { (drive : List ℕ) → HasTaken reader.now drive → result ≡ end_at (bad_at_end drive) }
+    ensures not_read { result ≢ Err RunFault.ReadFault }
+    ensures not_board { result ≢ Err RunFault.BoardFault }
 {
     match reader.finish() {
         Ok(()) => Ok(()),

@@ -5,7 +5,7 @@ ghost use Rattle.outside.specs.Faults.{Rose};
 ghost use Rattle.outside.specs.Printing.{Begins};
 ghost use Rattle.taxi_cli.specs.Ending.{ended_for};
 ghost use Rattle.taxi_cli.specs.LastLine.{status_of, line_of, bad_tariff_line, bad_drive_line, fault_text, dimension_text, numbered};
-ghost use Rattle.taxi_cli.specs.Store.{KeepsStore};
+ghost use Rattle.outside.specs.Runs.{KeepsStore};
 
 use crate::tariff::{Refusal, TextFault};
 use crate::text::{push, push_number};
@@ -163,13 +163,13 @@ fn status(ended: Ended) -> u8
 }
 
 /// Prints the last line of an end, and gives its status, or 8 where the board fails.
-#[tactic(auto, using(crate::proofs::Stores::keeps_none, crate::proofs::Stores::keeps_print, crate::proofs::Stores::keeps_then))]
-pub fn finish<B: Board, L: Ledger>(ended: Ended, board: &mut B, steps: &mut Steps<L>) -> u8
+#[tactic(auto, using(outside::proofs::Laws::keeps_none, outside::proofs::Laws::keeps_print, outside::proofs::Laws::keeps_then))]
+pub fn finish<B: Board<L>, L: Ledger>(ended: Ended, board: &mut B, steps: &mut Steps<L>) -> u8
     ensures ends { ((result ≡ status_of ended) × (B.tells_text → B.printed board.new ≡ B.printed board.old ++ line_of ended))
         ⊎ ((result ≡ 8) × (B.tells_text → Begins (B.printed board.old) (B.printed board.new) (line_of ended)) × Rose (B.faults board.old) (B.faults board.new)) }
     ensures count { B.faults board.old ≤ B.faults board.new }
     ensures steps { steps.new ≤ steps.old + 1 }
-    ensures store { KeepsStore B.image B.in_flight B.moment B.left_since board.old board.new }
+    ensures store { KeepsStore B.Board board.old board.new }
 {
     let line = last_line(ended);
     if line.is_empty() {

@@ -2,12 +2,11 @@
 ghost use Rattle.std.specs.Prelude.{◌≡◌, ℕ, ◌+◌, ◌*◌, ◌<◌, ◌≤◌, ◌++◌, [], ◌∷◌, length, All, OnOk};
 ghost use Rattle.outside.specs.Faults.{HasCause};
 ghost use Rattle.outside.specs.Printing.{Begins};
-ghost use Rattle.tariff_compile.specs.Tables.{IsFit};
 ghost use Rattle.meter_states.specs.Showable.{IsShowable};
 ghost use Rattle.meter_states.specs.Core.{IsLawful, IsTimely};
 ghost use Rattle.taxi_cli.specs.Texts.{acts_text};
 ghost use Rattle.taxi_cli.specs.Running.{Carries, Stops, IsUnderWay};
-ghost use Rattle.taxi_cli.specs.Store.{KeepsStore};
+ghost use Rattle.outside.specs.Runs.{KeepsStore};
 
 use crate::text::text_of;
 use meter_states::{Act, Core};
@@ -17,8 +16,8 @@ use tariff_compile::Tables;
 use taxi_units::{Event, Steps};
 
 /// Prints the lines of acts, one after the other.
-#[tactic(auto, using(crate::proofs::Stores::keeps_none, crate::proofs::Stores::keeps_print, crate::proofs::Stores::keeps_then))]
-fn print_acts<B: Board, L: Ledger>(
+#[tactic(auto, using(outside::proofs::Laws::keeps_none, outside::proofs::Laws::keeps_print, outside::proofs::Laws::keeps_then))]
+fn print_acts<B: Board<L>, L: Ledger>(
     acts: &[Act],
     board: &mut B,
     steps: &mut Steps<L>,
@@ -28,7 +27,7 @@ fn print_acts<B: Board, L: Ledger>(
     ensures begun { B.tells_text → Begins (B.printed board.old) (B.printed board.new) (acts_text acts.now) }
     ensures cause { HasCause (B.faults board.old) (B.faults board.new) result }
     ensures steps { steps.new ≤ steps.old + length acts.now }
-    ensures store { KeepsStore B.image B.in_flight B.moment B.left_since board.old board.new }
+    ensures store { KeepsStore B.Board board.old board.new }
 {
     for act in acts {
         let line = text_of(act);
@@ -38,15 +37,14 @@ fn print_acts<B: Board, L: Ledger>(
 }
 
 /// Carries out one event.
-#[tactic(auto, using(crate::proofs::Stores::keeps_none, crate::proofs::Stores::keeps_print, crate::proofs::Stores::keeps_then))]
-pub fn carry_out<B: Board, L: Ledger>(
+#[tactic(auto, using(outside::proofs::Laws::keeps_none, outside::proofs::Laws::keeps_print, outside::proofs::Laws::keeps_then))]
+pub fn carry_out<B: Board<L>, L: Ledger>(
     tables: &Tables,
     core: &mut Core,
     event: Event,
     board: &mut B,
     steps: &mut Steps<L>,
 ) -> Result<(), Failed>
-    requires fit { IsFit tables.now }
     requires lawful { IsLawful tables.now core.old }
     requires stands { IsUnderWay tables.now core.old }
     requires timely { IsTimely event }
@@ -54,8 +52,9 @@ pub fn carry_out<B: Board, L: Ledger>(
     ensures stopped { Stops B.tells_text tables.now core.old (event ∷ []) (B.printed board.old) (B.printed board.new) }
     ensures cause { HasCause (B.faults board.old) (B.faults board.new) result }
     ensures steps { steps.new ≤ steps.old + 40 }
-    ensures store { KeepsStore B.image B.in_flight B.moment B.left_since board.old board.new }
+    ensures store { KeepsStore B.Board board.old board.new }
 {
+    tables.are_fit();
     let acts = core.step(tables, event, steps);
     print_acts(acts.as_slice(), board, steps)
 }

@@ -4,7 +4,7 @@ ghost use Rattle.outside.specs.Faults.{Rose};
 ghost use Rattle.taxi_cli.specs.Command.{fare_answer, shown_under, tariff_in};
 ghost use Rattle.taxi_cli.specs.Drive.{IsBoundedBy};
 ghost use Rattle.taxi_cli.specs.Ending.{EndsBefore, ended_by};
-ghost use Rattle.taxi_cli.specs.Store.{KeepsStore};
+ghost use Rattle.outside.specs.Runs.{KeepsStore};
 
 use crate::drive::{RunFault, run_drive};
 use crate::ending::{Ended, refused_by};
@@ -17,8 +17,8 @@ use tariff_compile::compile;
 use taxi_units::Steps;
 
 /// Reads the tariff of word 1, and carries out the drive of word 2 under it.
-#[tactic(auto, using(crate::proofs::Stores::keeps_none, crate::proofs::Stores::keeps_print, crate::proofs::Stores::keeps_then))]
-pub fn fare<F: Files, B: Board, L: Ledger>(
+#[tactic(auto, using(outside::proofs::Laws::keeps_none, outside::proofs::Laws::keeps_print, outside::proofs::Laws::keeps_then))]
+pub fn fare<F: Files, B: Board<L>, L: Ledger>(
     alloc: Global,
     constant: Constant,
     files: &mut F,
@@ -32,7 +32,7 @@ pub fn fare<F: Files, B: Board, L: Ledger>(
     ensures words { result ≢ Ended.BadWords }
     ensures count { B.faults board.old ≤ B.faults board.new }
     ensures counts { (other : ℕ) → F.faults files.old other ≤ F.faults files.new other }
-    ensures store { KeepsStore B.image B.in_flight B.moment B.left_since board.old board.new }
+    ensures store { KeepsStore B.Board board.old board.new }
 {
     let checked = match read_tariff(alloc, files, 1) {
         Ok(checked) => checked,

@@ -1,13 +1,12 @@
 //! Carries out the pieces of a drive as they are read.
-ghost use Rattle.std.specs.Prelude.{◌≡◌, ◌≢◌, ℕ, ◌+◌, ◌*◌, ◌<◌, ◌≤◌, ◌^◌, ◌++◌, List, length, take, None, Some, IfOk, IfErr, OnOk, Err};
+ghost use Rattle.std.specs.Prelude.{◌≡◌, ◌≢◌, ℕ, ◌+◌, ◌*◌, ◌<◌, ◌≤◌, ◌^◌, ◌++◌, List, length, take, false, None, Some, IfOk, IfErr, OnOk, Err};
 ghost use Rattle.outside.specs.Faults.{Rose};
-ghost use Rattle.tariff_compile.specs.Tables.{IsFit};
 ghost use Rattle.meter_states.specs.Core.{IsLawful};
 ghost use Rattle.drive_text.specs.Drive.{first_bad};
 ghost use Rattle.drive_text.specs.Reading.{HasTaken};
 ghost use Rattle.taxi_cli.specs.Pieces.{Advances, StopsAt};
 ghost use Rattle.taxi_cli.specs.Running.{IsUnderWay};
-ghost use Rattle.taxi_cli.specs.Store.{KeepsStore};
+ghost use Rattle.outside.specs.Runs.{KeepsStore};
 
 use crate::runs::carry_out_runs;
 use arrayvec::ArrayVec;
@@ -29,8 +28,8 @@ pub enum PieceFault {
 
 /// Carries out the lines that end in the beginning of a piece, as many as one list of runs holds, and
 /// answers how many bytes that are.
-#[tactic(auto, using(crate::proofs::Stores::keeps_none, crate::proofs::Stores::keeps_print, crate::proofs::Stores::keeps_then))]
-fn carry_out_beginning<B: Board, L: Ledger>(
+#[tactic(auto, using(outside::proofs::Laws::keeps_none, outside::proofs::Laws::keeps_print, outside::proofs::Laws::keeps_then))]
+fn carry_out_beginning<B: Board<L>, L: Ledger>(
     tables: &Tables,
     core: &mut Core,
     reader: &mut Reader,
@@ -38,18 +37,20 @@ fn carry_out_beginning<B: Board, L: Ledger>(
     board: &mut B,
     steps: &mut Steps<L>,
 ) -> Result<usize, PieceFault>
-    requires fit { IsFit tables.now }
     requires lawful { IsLawful tables.now core.old }
     requires stands { IsUnderWay tables.now core.old }
-    requires few { (b : List ℕ) × HasTaken reader.old b × (length b + length piece.now < 2 ^ 64) }
+    requires going { reader.old.failed ≡ false }
+    requires few { reader.old.begun + length piece.now < 2 ^ 64 }
     requires some { 0 < length piece.now }
+    ensures going { OnOk result (reader.new.failed ≡ false) }
+    ensures begun { IfOk result (λ n. reader.new.begun ≤ reader.old.begun + n) }
     ensures within { IfOk result (λ n. (0 < n) × (n ≤ length piece.now)) }
     ensures carried { IfOk result (λ n. Advances B.tells_text tables.now (record { core = core.old; reading = reader.old; printed = B.printed board.old; steps = steps.old }) (record { core = core.new; reading = reader.new; printed = B.printed board.new; steps = steps.new }) (take n piece.now)) }
     ensures good { IfOk result (λ n. (b : List ℕ) → HasTaken reader.old b → first_bad (b ++ take n piece.now) ≡ None) }
     ensures stopped { IfErr result (StopsAt B.tells_text tables.now (record { core = core.old; reading = reader.old; printed = B.printed board.old; steps = steps.old }) (record { core = core.new; reading = reader.new; printed = B.printed board.new; steps = steps.new }) piece.now) }
     ensures count { B.faults board.old ≤ B.faults board.new }
     ensures failed { result ≡ Err PieceFault.Board → Rose (B.faults board.old) (B.faults board.new) }
-    ensures store { KeepsStore B.image B.in_flight B.moment B.left_since board.old board.new }
+    ensures store { KeepsStore B.Board board.old board.new }
 {
     let mut runs: ArrayVec<Run, 64> = ArrayVec::new();
     match reader.feed(piece, &mut runs) {
@@ -65,8 +66,8 @@ fn carry_out_beginning<B: Board, L: Ledger>(
 }
 
 /// Carries out the lines that end in a piece.
-#[tactic(auto, using(crate::proofs::Stores::keeps_none, crate::proofs::Stores::keeps_print, crate::proofs::Stores::keeps_then))]
-pub fn carry_out_piece<B: Board, L: Ledger>(
+#[tactic(auto, using(outside::proofs::Laws::keeps_none, outside::proofs::Laws::keeps_print, outside::proofs::Laws::keeps_then))]
+pub fn carry_out_piece<B: Board<L>, L: Ledger>(
     tables: &Tables,
     core: &mut Core,
     reader: &mut Reader,
@@ -74,17 +75,18 @@ pub fn carry_out_piece<B: Board, L: Ledger>(
     board: &mut B,
     steps: &mut Steps<L>,
 ) -> Result<(), PieceFault>
-    requires fit { IsFit tables.now }
     requires lawful { IsLawful tables.now core.old }
     requires stands { IsUnderWay tables.now core.old }
-    requires few { (b : List ℕ) × HasTaken reader.old b × (length b + length piece.now < 2 ^ 64) }
+    requires going { reader.old.failed ≡ false }
+    requires few { reader.old.begun + length piece.now < 2 ^ 64 }
     requires some { 0 < length piece.now }
+    ensures going { OnOk result (reader.new.failed ≡ false) }
     ensures carried { OnOk result (Advances B.tells_text tables.now (record { core = core.old; reading = reader.old; printed = B.printed board.old; steps = steps.old }) (record { core = core.new; reading = reader.new; printed = B.printed board.new; steps = steps.new }) piece.now) }
     ensures good { OnOk result ((b : List ℕ) → HasTaken reader.old b → first_bad (b ++ piece.now) ≡ None) }
     ensures stopped { IfErr result (StopsAt B.tells_text tables.now (record { core = core.old; reading = reader.old; printed = B.printed board.old; steps = steps.old }) (record { core = core.new; reading = reader.new; printed = B.printed board.new; steps = steps.new }) piece.now) }
     ensures count { B.faults board.old ≤ B.faults board.new }
     ensures failed { result ≡ Err PieceFault.Board → Rose (B.faults board.old) (B.faults board.new) }
-    ensures store { KeepsStore B.image B.in_flight B.moment B.left_since board.old board.new }
+    ensures store { KeepsStore B.Board board.old board.new }
 {
     let mut rest = piece;
     while !rest.is_empty() {

@@ -6,7 +6,7 @@ ghost use Rattle.tariff_compile.specs.Rows.{row_count, row_text, rows_text};
 ghost use Rattle.tariff_syntax.specs.Tree.{tree_of};
 ghost use Rattle.taxi_cli.specs.Command.{check_answer, check_line, rows_under, tables_answer, tariff_in};
 ghost use Rattle.taxi_cli.specs.Ending.{EndsBefore};
-ghost use Rattle.taxi_cli.specs.Store.{KeepsStore};
+ghost use Rattle.outside.specs.Runs.{KeepsStore};
 
 use crate::ending::{Ended, refused_by};
 use crate::tariff::read_tariff;
@@ -20,8 +20,8 @@ use tariff_compile::{Tables, compile};
 use taxi_units::{Line, Steps};
 
 /// Reads the tariff of word 1, and prints how many cells it has and its common measure.
-#[tactic(auto, using(crate::proofs::Stores::keeps_none, crate::proofs::Stores::keeps_print, crate::proofs::Stores::keeps_then))]
-pub fn check_tariff<F: Files, B: Board, L: Ledger>(
+#[tactic(auto, using(outside::proofs::Laws::keeps_none, outside::proofs::Laws::keeps_print, outside::proofs::Laws::keeps_then))]
+pub fn check_tariff<F: Files, B: Board<L>, L: Ledger>(
     alloc: Global,
     files: &mut F,
     board: &mut B,
@@ -35,7 +35,7 @@ pub fn check_tariff<F: Files, B: Board, L: Ledger>(
     ensures words { result ≢ Ended.BadWords }
     ensures count { B.faults board.old ≤ B.faults board.new }
     ensures counts { (other : ℕ) → F.faults files.old other ≤ F.faults files.new other }
-    ensures store { KeepsStore B.image B.in_flight B.moment B.left_since board.old board.new }
+    ensures store { KeepsStore B.Board board.old board.new }
 {
     let checked = match read_tariff(alloc, files, 1) {
         Ok(checked) => checked,
@@ -62,8 +62,8 @@ fn line_of(checked: &Checked) -> Line
 }
 
 /// Reads the tariff of word 1, and prints all rows of its tables under a constant.
-#[tactic(auto, using(crate::proofs::Stores::keeps_none, crate::proofs::Stores::keeps_print, crate::proofs::Stores::keeps_then))]
-pub fn print_tables<F: Files, B: Board, L: Ledger>(
+#[tactic(auto, using(outside::proofs::Laws::keeps_none, outside::proofs::Laws::keeps_print, outside::proofs::Laws::keeps_then))]
+pub fn print_tables<F: Files, B: Board<L>, L: Ledger>(
     alloc: Global,
     constant: Constant,
     files: &mut F,
@@ -78,7 +78,7 @@ pub fn print_tables<F: Files, B: Board, L: Ledger>(
     ensures words { result ≢ Ended.BadWords }
     ensures count { B.faults board.old ≤ B.faults board.new }
     ensures counts { (other : ℕ) → F.faults files.old other ≤ F.faults files.new other }
-    ensures store { KeepsStore B.image B.in_flight B.moment B.left_since board.old board.new }
+    ensures store { KeepsStore B.Board board.old board.new }
 {
     let checked = match read_tariff(alloc, files, 1) {
         Ok(checked) => checked,
@@ -94,8 +94,8 @@ pub fn print_tables<F: Files, B: Board, L: Ledger>(
 }
 
 /// Prints the rows of tables, one after the other.
-#[tactic(auto, using(crate::proofs::Stores::keeps_none, crate::proofs::Stores::keeps_print, crate::proofs::Stores::keeps_then))]
-fn print_rows<B: Board, L: Ledger>(
+#[tactic(auto, using(outside::proofs::Laws::keeps_none, outside::proofs::Laws::keeps_print, outside::proofs::Laws::keeps_then))]
+fn print_rows<B: Board<L>, L: Ledger>(
     tables: &Tables,
     board: &mut B,
     steps: &mut Steps<L>,
@@ -104,7 +104,7 @@ fn print_rows<B: Board, L: Ledger>(
     ensures begun { B.tells_text → Begins (B.printed board.old) (B.printed board.new) (rows_text tables.now) }
     ensures cause { HasCause (B.faults board.old) (B.faults board.new) result }
     ensures steps { steps.new ≤ steps.old + row_count tables.now }
-    ensures store { KeepsStore B.image B.in_flight B.moment B.left_since board.old board.new }
+    ensures store { KeepsStore B.Board board.old board.new }
 {
     for i in 0..tables.rows() {
         let line = row_of(tables, i);

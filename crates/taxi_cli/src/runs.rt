@@ -2,12 +2,11 @@
 ghost use Rattle.std.specs.Prelude.{◌≡◌, ℕ, ◌+◌, ◌*◌, ◌≤◌, length, All, OnOk};
 ghost use Rattle.std.specs.List.{flat_map};
 ghost use Rattle.outside.specs.Faults.{HasCause};
-ghost use Rattle.tariff_compile.specs.Tables.{IsFit};
 ghost use Rattle.meter_states.specs.Core.{IsLawful};
 ghost use Rattle.drive_text.specs.Ranges.{IsRunInRange};
 ghost use Rattle.drive_text.specs.Runs.{interval_events, intervals_events, run_events};
 ghost use Rattle.taxi_cli.specs.Running.{Carries, Stops, IsBounded, IsUnderWay};
-ghost use Rattle.taxi_cli.specs.Store.{KeepsStore};
+ghost use Rattle.outside.specs.Runs.{KeepsStore};
 
 use crate::events::carry_out;
 use drive_text::Run;
@@ -18,22 +17,21 @@ use tariff_compile::Tables;
 use taxi_units::{Event, Steps};
 
 /// Carries out one measuring interval: its pulses, if it has any, and its end.
-#[tactic(auto, using(crate::proofs::Stores::keeps_none, crate::proofs::Stores::keeps_print, crate::proofs::Stores::keeps_then))]
-fn carry_out_interval<B: Board, L: Ledger>(
+#[tactic(auto, using(outside::proofs::Laws::keeps_none, outside::proofs::Laws::keeps_print, outside::proofs::Laws::keeps_then))]
+fn carry_out_interval<B: Board<L>, L: Ledger>(
     tables: &Tables,
     core: &mut Core,
     pulses: u32,
     board: &mut B,
     steps: &mut Steps<L>,
 ) -> Result<(), Failed>
-    requires fit { IsFit tables.now }
     requires lawful { IsLawful tables.now core.old }
     requires stands { IsUnderWay tables.now core.old }
     ensures carried { OnOk result (Carries B.tells_text tables.now core.old core.new (interval_events pulses) (B.printed board.old) (B.printed board.new)) }
     ensures stopped { Stops B.tells_text tables.now core.old (interval_events pulses) (B.printed board.old) (B.printed board.new) }
     ensures cause { HasCause (B.faults board.old) (B.faults board.new) result }
     ensures steps { IsBounded steps.old steps.new (interval_events pulses) }
-    ensures store { KeepsStore B.image B.in_flight B.moment B.left_since board.old board.new }
+    ensures store { KeepsStore B.Board board.old board.new }
 {
     if pulses == 0 {
         return carry_out(tables, core, Event::Tick, board, steps);
@@ -43,8 +41,8 @@ fn carry_out_interval<B: Board, L: Ledger>(
 }
 
 /// Carries out so many measuring intervals.
-#[tactic(auto, using(crate::proofs::Stores::keeps_none, crate::proofs::Stores::keeps_print, crate::proofs::Stores::keeps_then))]
-fn carry_out_intervals<B: Board, L: Ledger>(
+#[tactic(auto, using(outside::proofs::Laws::keeps_none, outside::proofs::Laws::keeps_print, outside::proofs::Laws::keeps_then))]
+fn carry_out_intervals<B: Board<L>, L: Ledger>(
     tables: &Tables,
     core: &mut Core,
     pulses: u32,
@@ -52,14 +50,13 @@ fn carry_out_intervals<B: Board, L: Ledger>(
     board: &mut B,
     steps: &mut Steps<L>,
 ) -> Result<(), Failed>
-    requires fit { IsFit tables.now }
     requires lawful { IsLawful tables.now core.old }
     requires stands { IsUnderWay tables.now core.old }
     ensures carried { OnOk result (Carries B.tells_text tables.now core.old core.new (intervals_events pulses count) (B.printed board.old) (B.printed board.new)) }
     ensures stopped { Stops B.tells_text tables.now core.old (intervals_events pulses count) (B.printed board.old) (B.printed board.new) }
     ensures cause { HasCause (B.faults board.old) (B.faults board.new) result }
     ensures steps { IsBounded steps.old steps.new (intervals_events pulses count) }
-    ensures store { KeepsStore B.image B.in_flight B.moment B.left_since board.old board.new }
+    ensures store { KeepsStore B.Board board.old board.new }
 {
     for _ in 0..count {
         carry_out_interval(tables, core, pulses, board, steps)?;
@@ -68,15 +65,14 @@ fn carry_out_intervals<B: Board, L: Ledger>(
 }
 
 /// Carries out a run.
-#[tactic(auto, using(crate::proofs::Stores::keeps_none, crate::proofs::Stores::keeps_print, crate::proofs::Stores::keeps_then))]
-fn carry_out_run<B: Board, L: Ledger>(
+#[tactic(auto, using(outside::proofs::Laws::keeps_none, outside::proofs::Laws::keeps_print, outside::proofs::Laws::keeps_then))]
+fn carry_out_run<B: Board<L>, L: Ledger>(
     tables: &Tables,
     core: &mut Core,
     run: Run,
     board: &mut B,
     steps: &mut Steps<L>,
 ) -> Result<(), Failed>
-    requires fit { IsFit tables.now }
     requires lawful { IsLawful tables.now core.old }
     requires stands { IsUnderWay tables.now core.old }
     requires range { IsRunInRange run }
@@ -84,7 +80,7 @@ fn carry_out_run<B: Board, L: Ledger>(
     ensures stopped { Stops B.tells_text tables.now core.old (run_events run) (B.printed board.old) (B.printed board.new) }
     ensures cause { HasCause (B.faults board.old) (B.faults board.new) result }
     ensures steps { IsBounded steps.old steps.new (run_events run) }
-    ensures store { KeepsStore B.image B.in_flight B.moment B.left_since board.old board.new }
+    ensures store { KeepsStore B.Board board.old board.new }
 {
     match run {
         Run::One(event) => carry_out(tables, core, event, board, steps),
@@ -95,15 +91,14 @@ fn carry_out_run<B: Board, L: Ledger>(
 }
 
 /// Carries out runs, one after the other.
-#[tactic(auto, using(crate::proofs::Stores::keeps_none, crate::proofs::Stores::keeps_print, crate::proofs::Stores::keeps_then))]
-pub fn carry_out_runs<B: Board, L: Ledger>(
+#[tactic(auto, using(outside::proofs::Laws::keeps_none, outside::proofs::Laws::keeps_print, outside::proofs::Laws::keeps_then))]
+pub fn carry_out_runs<B: Board<L>, L: Ledger>(
     tables: &Tables,
     core: &mut Core,
     runs: &[Run],
     board: &mut B,
     steps: &mut Steps<L>,
 ) -> Result<(), Failed>
-    requires fit { IsFit tables.now }
     requires lawful { IsLawful tables.now core.old }
     requires stands { IsUnderWay tables.now core.old }
     requires ranges { All IsRunInRange runs.now }
@@ -111,7 +106,7 @@ pub fn carry_out_runs<B: Board, L: Ledger>(
     ensures stopped { Stops B.tells_text tables.now core.old (flat_map run_events runs.now) (B.printed board.old) (B.printed board.new) }
     ensures cause { HasCause (B.faults board.old) (B.faults board.new) result }
     ensures steps { IsBounded steps.old steps.new (flat_map run_events runs.now) }
-    ensures store { KeepsStore B.image B.in_flight B.moment B.left_since board.old board.new }
+    ensures store { KeepsStore B.Board board.old board.new }
 {
     for run in runs {
         carry_out_run(tables, core, *run, board, steps)?;

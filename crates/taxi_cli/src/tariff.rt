@@ -5,7 +5,7 @@ ghost use Rattle.tariff_syntax.specs.Tree.{tree_of};
 ghost use Rattle.taxi_cli.specs.Command.{tariff_in};
 ghost use Rattle.taxi_cli.specs.Ending.{unsound_for};
 
-use outside::Files;
+use outside::{Files, read_text};
 use std::alloc::Global;
 use tariff_check::{CheckFault, Checked, check};
 use tariff_syntax::{ParseFault, parse};
@@ -36,26 +36,19 @@ pub enum TextFault {
 const MOST: usize = 65_536;
 
 /// Reads what is left of a word's file, where it has at most 65,536 bytes. `Refused` where it has more.
-fn read_text<F: Files>(alloc: Global, files: &mut F, word: usize) -> Result<Vec<u8>, TextFault>
+fn text_of_word<F: Files>(alloc: Global, files: &mut F, word: usize) -> Result<Vec<u8>, TextFault>
     ensures text { F.tells → IfOk result (λ text. text.items ≡ F.rest files.old word) }
     ensures refused { (why : Refusal) → F.tells → result ≡ Err (TextFault.Refused why) → tariff_in (F.rest files.old word) ≡ Err why }
     ensures read_fault { result ≡ Err TextFault.ReadFault → Rose (F.faults files.old word) (F.faults files.new word) }
     ensures others { (other : ℕ) → other ≢ word → F.rest files.new other ≡ F.rest files.old other }
     ensures counts { (other : ℕ) → F.faults files.old other ≤ F.faults files.new other }
 {
-    let mut text = Vec::new(alloc);
-    let mut piece = [0u8; 512];
-    while text.len() <= MOST {
-        let count = match files.read(word, &mut piece) {
-            Ok(0) => return Ok(text),
-            Ok(count) => count,
-            Err(_) => return Err(TextFault::ReadFault),
-        };
-        let Ok(()) = text.extend_from_slice(&piece[..count]) else {
-            return Err(TextFault::NoMemory);
-        };
+    match read_text(alloc, files, word, MOST) {
+        Ok(text) => Ok(text),
+        Err(outside::TextFault::TooLong) => Err(TextFault::Refused(Refusal::TooLong)),
+        Err(outside::TextFault::DeviceFailed) => Err(TextFault::ReadFault),
+        Err(outside::TextFault::NoMemory) => Err(TextFault::NoMemory),
     }
-    Err(TextFault::Refused(Refusal::TooLong))
 }
 
 /// Why a text whose tariff has this fault wasn't read.
@@ -98,7 +91,7 @@ pub fn read_tariff<F: Files>(
     ensures others { (other : ℕ) → other ≢ word → F.rest files.new other ≡ F.rest files.old other }
     ensures counts { (other : ℕ) → F.faults files.old other ≤ F.faults files.new other }
 {
-    let text = match read_text(alloc, files, word) {
+    let text = match text_of_word(alloc, files, word) {
         Ok(text) => text,
         Err(fault) => return Err(fault),
     };

@@ -197,6 +197,65 @@ fn tariffs(rt: HostRuntime) -> Result<(), Fail> {
     Ok(())
 }
 
+/// Midnight and noon of a day: the cover and eleven display steps by time, and one interval more.
+const MIDNIGHT: &str = "U 1767225600\nK H\nI 0 1\nI 0 3276\nI 0 1\n";
+
+const NOON: &str = "U 1767268800\nK H\nI 0 1\nI 0 3276\nI 0 1\n";
+
+/// What those show where no minimum fare is more than the fare.
+const EACH_STEP: &str =
+    "FOR HIRE T1 Z1\nHIRED T1 Z1 3.80 +0.00\nHIRED T1 Z1 4.00 +0.00\nHIRED T1 Z1 4.20 +0.00\nHIRED T1 Z1 4.40 +0.00\nHIRED T1 Z1 4.60 +0.00\nHIRED T1 Z1 4.80 +0.00\nHIRED T1 Z1 5.00 +0.00\nHIRED T1 Z1 5.20 +0.00\nHIRED T1 Z1 5.40 +0.00\nHIRED T1 Z1 5.60 +0.00\nHIRED T1 Z1 5.80 +0.00\nHIRED T1 Z1 6.00 +0.00\nHIRED T1 Z1 6.20 +0.00\n";
+
+/// What follows tariff A, a drive, what it prints under both, and its status.
+const MINIMUMS: [(&str, &str, &str, u8); 7] = [
+    (
+        "minimum 6.00\n",
+        NOON,
+        "FOR HIRE T1 Z1\nHIRED T1 Z1 6.00 +0.00\nHIRED T1 Z1 6.20 +0.00\n",
+        0,
+    ),
+    (
+        "minimum 6.00 when time 22:00..06:00\n",
+        MIDNIGHT,
+        "FOR HIRE T1 Z1\nHIRED T1 Z1 6.00 +0.00\nHIRED T1 Z1 6.20 +0.00\n",
+        0,
+    ),
+    ("minimum 6.00 when time 22:00..06:00\n", NOON, EACH_STEP, 0),
+    ("minimum 0.00\n", NOON, EACH_STEP, 0),
+    (
+        "minimum 999999.99\n",
+        NOON,
+        "FOR HIRE T1 Z1\nHIRED T1 Z1 999999.99 +0.00\n",
+        0,
+    ),
+    (
+        "minimum 1000000.00\n",
+        NOON,
+        "BAD TARIFF AmountTooBig 5\n",
+        2,
+    ),
+    (
+        "minimum 6.00\nminimum 7.00\n",
+        NOON,
+        "BAD TARIFF LineAfterDefault 6\n",
+        2,
+    ),
+];
+
+#[test]
+fn minimum_fares(rt: HostRuntime) -> Result<(), Fail> {
+    for (minimums, drive, output, status) in MINIMUMS {
+        let mut tariff = String::from_str(rt.alloc(), A)?;
+        tariff.push_str(minimums)?;
+        let mut board = MemoryBoard::new(rt.alloc(), &[0; 2048], &[])?;
+        let words = ["fare", "t", "d", "10000"];
+        let ended = call(rt.alloc(), &words, tariff.as_str(), drive, &[], &mut board)?;
+        assert_eq!(rt; ended, status, "{minimums}");
+        assert_eq!(rt; board.printed(), output.as_bytes(), "{minimums}");
+    }
+    Ok(())
+}
+
 /// Words that are no command, with a tariff and a drive that would be taken.
 const CALLS: [(&str, &str); 6] = [
     ("fare", "499"),
@@ -350,5 +409,13 @@ fn tables(rt: HostRuntime) -> Result<(), Fail> {
         assert_eq!(rt; ended, status, "{constant}");
         assert_eq!(rt; board.printed(), output.as_bytes(), "{constant}");
     }
+    let mut night = String::from_str(rt.alloc(), A)?;
+    night.push_str("minimum 6.00 when time 22:00..06:00\n")?;
+    let mut board = MemoryBoard::new(rt.alloc(), &[0; 2048], &[])?;
+    let words = ["tables", "t", "10000"];
+    call(rt.alloc(), &words, night.as_str(), "", &[], &mut board)?;
+    let rows =
+        b"MEASURE 1479240000\nRATE 1 25200000 117400000\nINITIAL 1 3.80 0.40\nMINIMUM 1 6.00\nCELL 0 1 1 1\nCELL 1 1 1 0\nCELL 2 1 1 1\nCELL 3 1 1 1\n";
+    assert!(rt; board.printed().starts_with(rows));
     Ok(())
 }

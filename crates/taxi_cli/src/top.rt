@@ -5,7 +5,7 @@ ghost use Rattle.taxi_cli.specs.Command.{ReadsDrive, bad_words, command, row_ans
 ghost use Rattle.taxi_cli.specs.Drive.{IsBoundedBy};
 ghost use Rattle.taxi_cli.specs.Ending.{EndsAs, EndsBefore, IsAnswered, IsCutShort};
 ghost use Rattle.taxi_cli.specs.Words.{row_of};
-ghost use Rattle.taxi_cli.specs.Store.{KeepsStore};
+ghost use Rattle.outside.specs.Runs.{KeepsStore};
 
 use crate::ending::{Ended, finish};
 use crate::fare::fare;
@@ -17,8 +17,8 @@ use std::sync::ledger::Ledger;
 use taxi_units::Steps;
 
 /// Carries out a command, but for its last line.
-#[tactic(auto, using(crate::proofs::Stores::keeps_none, crate::proofs::Stores::keeps_print, crate::proofs::Stores::keeps_then))]
-fn carry_out<F: Files, B: Board, L: Ledger>(
+#[tactic(auto, using(outside::proofs::Laws::keeps_none, outside::proofs::Laws::keeps_print, outside::proofs::Laws::keeps_then))]
+fn carry_out<F: Files, B: Board<L>, L: Ledger>(
     alloc: Global,
     row: Row,
     files: &mut F,
@@ -32,7 +32,7 @@ fn carry_out<F: Files, B: Board, L: Ledger>(
     ensures words { result ≢ Ended.BadWords }
     ensures count { B.faults board.old ≤ B.faults board.new }
     ensures counts { (other : ℕ) → F.faults files.old other ≤ F.faults files.new other }
-    ensures store { KeepsStore B.image B.in_flight B.moment B.left_since board.old board.new }
+    ensures store { KeepsStore B.Board board.old board.new }
 {
     match row {
         Row::Check => check_tariff(alloc, files, board, steps),
@@ -42,8 +42,8 @@ fn carry_out<F: Files, B: Board, L: Ledger>(
 }
 
 /// Carries out the words of a call.
-#[tactic(auto, using(crate::proofs::Stores::keeps_none, crate::proofs::Stores::keeps_print, crate::proofs::Stores::keeps_then))]
-fn answer<F: Files, B: Board, L: Ledger>(
+#[tactic(auto, using(outside::proofs::Laws::keeps_none, outside::proofs::Laws::keeps_print, outside::proofs::Laws::keeps_then))]
+fn answer<F: Files, B: Board<L>, L: Ledger>(
     alloc: Global,
     words: &[String],
     files: &mut F,
@@ -55,7 +55,7 @@ fn answer<F: Files, B: Board, L: Ledger>(
     ensures read_fault { result ≡ 7 → Rose (F.faults files.old 1) (F.faults files.new 1) ⊎ (ReadsDrive (row_of (map string_bytes words.now)) × Rose (F.faults files.old 2) (F.faults files.new 2)) }
     ensures board_fault { result ≡ 8 → Rose (B.faults board.old) (B.faults board.new) }
     ensures steps { F.tells → IsBoundedBy (row_steps (row_of (map string_bytes words.now)) (F.rest files.old 1)) (F.rest files.old 2) (F.rest files.new 2) steps.old steps.new }
-    ensures store { KeepsStore B.image B.in_flight B.moment B.left_since board.old board.new }
+    ensures store { KeepsStore B.Board board.old board.new }
 {
     match row_in(words) {
         None => finish(Ended::BadWords, board, steps),
@@ -86,8 +86,8 @@ fn answer<F: Files, B: Board, L: Ledger>(
 /// | 12 | `NO MEMORY` | free, before the first byte of the drive is taken and before anything is printed |
 ///
 /// The words, the statuses and the lines are this project's own.
-#[tactic(auto, using(crate::proofs::Stores::keeps_none, crate::proofs::Stores::keeps_print, crate::proofs::Stores::keeps_then))]
-pub fn taxi<F: Files, B: Board, L: Ledger>(
+#[tactic(auto, using(outside::proofs::Laws::keeps_none, outside::proofs::Laws::keeps_print, outside::proofs::Laws::keeps_then))]
+pub fn taxi<F: Files, B: Board<L>, L: Ledger>(
     alloc: Global,
     words: &[String],
     files: &mut F,
@@ -110,7 +110,7 @@ pub fn taxi<F: Files, B: Board, L: Ledger>(
 
     // At most 64 steps, 1 for each row of tables, and 64 for each event of the bytes of the drive that were taken.
     ensures steps { F.tells → IsBoundedBy (row_steps (row_of (map string_bytes words.now)) (F.rest files.old 1)) (F.rest files.old 2) (F.rest files.new 2) steps.old steps.new }
-    ensures store { KeepsStore B.image B.in_flight B.moment B.left_since board.old board.new }
+    ensures store { KeepsStore B.Board board.old board.new }
 {
     answer(alloc, words, files, board, steps)
 }

@@ -1,6 +1,6 @@
 use Rattle.std.proofs.Common.{◌≡◌, ◌≢◌, ◌≤◌, ℕ}
 use Rattle.taxi_cli.proofs.Driving.{IsSoFar}
-use Rattle.taxi_cli.specs.Store.{KeepsStore}
+use Rattle.outside.specs.Runs.{KeepsStore}
 use Rattle.taxi_cli.proofs.drive.run_drive.Given as goal
 
 -- so far the bytes that were taken were carried out, and none of their lines is bad
@@ -10,7 +10,7 @@ invariant-loop-left g l =
     × ((other : ℕ) → other ≢ l.word → g.F.Files.rest l.files other ≡ g.F.Files.rest l.fn.files other)
     × ((other : ℕ) → g.F.Files.faults l.fn.files other ≤ g.F.Files.faults l.files other)
     × (g.B.Board.faults l.fn.board ≤ g.B.Board.faults l.board)
-    × KeepsStore g.B.Board.image g.B.Board.in_flight g.B.Board.moment g.B.Board.left_since l.fn.board l.board
+    × KeepsStore g.B.Board l.fn.board l.board
 
 abbrev pub decreases-loop-left : goal.decreases-loop-left
 decreases-loop-left g l = l.left

@@ -5,7 +5,7 @@ use Rattle.outside.specs.Printing.{Begins}
 use Rattle.meter_states.specs.declared.act.Act.{Act}
 use Rattle.meter_states.specs.Meter.{acts_of}
 use Rattle.meter_states.specs.Showable.{IsShowable}
-use Rattle.meter_states.proofs.Shows.{acts-showable}
+use Rattle.meter_states.proofs.Laws.{acts_are_showable}
 use Rattle.tariff_compile.specs.Tables.{TableParts}
 use Rattle.taxi_cli.specs.Running.{Carries}
 use Rattle.taxi_cli.specs.Texts.{acts_text}
@@ -17,7 +17,7 @@ print_acts-requires g c =
     let way = c.requires.stands in
     let acts = c.step-acts.ensures.acts way.setting way.meter way.is way.stands in
     let decimals : c.args.tables.now.decimals ≡ way.setting.tariff.decimals = ap (λ (p : TableParts). p.decimals) way.is.tables.parts in
-    subst (λ (acts : List Act). All IsShowable acts) (sym (c.as_slice.ensures.value ∙ acts)) (acts-showable way.setting way.meter c.args.event (omega (arith, decimals, c.requires.fit.decimals)))
+    subst (λ (acts : List Act). All IsShowable acts) (sym (c.as_slice.ensures.value ∙ acts)) (acts_are_showable way.setting way.meter c.args.event (omega (arith, decimals, c.are_fit.ensures.decimals)))
 
 pub returns-clause-carried : goal.returns-clause-carried
 returns-clause-carried g c =

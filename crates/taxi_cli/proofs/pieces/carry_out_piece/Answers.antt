@@ -4,27 +4,18 @@ use Rattle.drive_text.specs.Drive.{first_bad}
 use Rattle.taxi_cli.specs.Pieces.{Place, Advances, StopsAt}
 use Rattle.taxi_cli.proofs.Advancing.{advances-none, advances-then, stops-at_more, empty-is}
 use Rattle.taxi_cli.proofs.Carrying.{under_way-then}
-use Rattle.taxi_cli.proofs.Stores.{keeps_none, keeps_then}
+use Rattle.outside.proofs.Laws.{keeps_none, keeps_then}
 use Rattle.taxi_cli.proofs.pieces.carry_out_piece.Goals as goal
 
 pub loop-rest-init : goal.loop-rest-init
 loop-rest-init g c =
     let a : Place = record { core = c.args.core.now; reading = c.args.reader.now; printed = g.B.Board.printed c.args.board.now; steps = c.args.steps.now } in
-    ([], refl, advances-none g.B.Board.tells_text c.args.tables.now a c.requires.lawful, λ b h some. absurd (omega arith), omega arith, keeps_none g.B.Board.image g.B.Board.in_flight g.B.Board.moment g.B.Board.left_since c.args.board.now)
+    ([], refl, advances-none g.B.Board.tells_text c.args.tables.now a c.requires.lawful, λ b h some. absurd (omega arith), omega arith, c.requires.going, omega arith, keeps_none g.B.Board c.args.board.now)
 
 pub carry_out_beginning-requires-clause-stands : goal.carry_out_beginning-requires-clause-stands
 carry_out_beginning-requires-clause-stands g c =
     let so_far = c.loop-rest.invariant.2 in
     under_way-then g.B.Board.tells_text c.args.tables.now c.args.core.now c.loop-rest.core so_far.meaning (g.B.Board.printed c.args.board.now) (g.B.Board.printed c.loop-rest.board) c.requires.stands so_far.carried
-
-pub carry_out_beginning-requires-clause-few : goal.carry_out_beginning-requires-clause-few
-carry_out_beginning-requires-clause-few g c =
-    let before = c.requires.few.0 in
-    let fed = c.loop-rest.invariant.0 in (
-      before ++ fed,
-      c.loop-rest.invariant.2.taken before c.requires.few.1,
-      omega (arith, c.requires.few.2, length-append before fed, ap length c.loop-rest.invariant.1, length-append fed c.loop-rest.rest.now),
-    )
 
 pub loop-rest-preserved : goal.loop-rest-preserved
 loop-rest-preserved g c =
@@ -40,7 +31,9 @@ loop-rest-preserved g c =
       advances-then g.B.Board.tells_text c.args.tables.now a b n fed front c.loop-rest.invariant.2 c.in-Ok.ensures.carried,
       λ before h some. ap first_bad (sym (append_assoc before fed front)) ∙ c.in-Ok.ensures.good (before ++ fed) (c.loop-rest.invariant.2.taken before h),
       omega (arith, c.loop-rest.invariant.4, c.carry_out_beginning.ensures.count),
-      keeps_then g.B.Board.image g.B.Board.in_flight g.B.Board.moment g.B.Board.left_since c.args.board.now c.loop-rest.board c.carry_out_beginning.new.board c.loop-rest.invariant.5 c.carry_out_beginning.ensures.store,
+      c.in-Ok.ensures.going,
+      omega (arith, c.loop-rest.invariant.6, c.in-Ok.ensures.begun, c.split_at.ensures.back_len),
+      keeps_then g.B.Board c.args.board.now c.loop-rest.board c.carry_out_beginning.new.board c.loop-rest.invariant.7 c.carry_out_beginning.ensures.store,
     )
 
 pub returns-in-Err-clause-stopped : goal.returns-in-Err-clause-stopped
@@ -70,4 +63,4 @@ returns-clause-good g c = λ before h.
     ap (λ (bytes : List ℕ). first_bad (before ++ bytes)) whole ∙ c.loop-rest.invariant.3 before h (omega (arith, c.requires.some, ap length whole))
 
 pub returns-in-Err-clause-store : goal.returns-in-Err-clause-store
-returns-in-Err-clause-store g c = keeps_then g.B.Board.image g.B.Board.in_flight g.B.Board.moment g.B.Board.left_since c.args.board.now c.loop-rest.board c.carry_out_beginning.new.board c.loop-rest.invariant.5 c.carry_out_beginning.ensures.store
+returns-in-Err-clause-store g c = keeps_then g.B.Board c.args.board.now c.loop-rest.board c.carry_out_beginning.new.board c.loop-rest.invariant.7 c.carry_out_beginning.ensures.store

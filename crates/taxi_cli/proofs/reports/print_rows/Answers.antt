@@ -1,9 +1,9 @@
 use Rattle.std.proofs.Common.{◌≡◌, ◌∙◌, ◌++◌, ℕ, List, append_assoc, sym, ap, arith}
 use Rattle.std.specs.List.{flat_map, range_with_len}
-use Rattle.outside.proofs.Beginnings.{begins_whole}
+use Rattle.outside.proofs.Laws.{begins_whole}
 use Rattle.tariff_compile.specs.Rows.{row_count, row_text, rows_text}
 use Rattle.taxi_cli.proofs.Rows.{rows-more, begins-row}
-use Rattle.taxi_cli.proofs.Stores.{keeps_print, keeps_then}
+use Rattle.outside.proofs.Laws.{keeps_print, keeps_then}
 use Rattle.taxi_cli.proofs.reports.print_rows.Goals as goal
 
 pub returns-in_err-print-clause-begun : goal.returns-in_err-print-clause-begun
@@ -25,7 +25,7 @@ loop-i-preserved g c =
           ∙ append_assoc (printed c.args.board.now) (flat_map row (range_with_len 0 i)) (row i)
           ∙ ap (λ (t : List ℕ). printed c.args.board.now ++ t) (sym (rows-more row i));
       faults = omega (arith, c.loop-i.invariant.faults, c.print.ensures.cause.later);
-      store = keeps_then g.B.Board.image g.B.Board.in_flight g.B.Board.moment g.B.Board.left_since c.args.board.now c.loop-i.board c.print.new.self c.loop-i.invariant.store (keeps_print g.B.Board.image g.B.Board.in_flight g.B.Board.moment g.B.Board.left_since c.loop-i.board c.print.new.self _ _ c.print.ensures.image c.print.ensures.flight c.print.ensures.time);
+      store = keeps_then g.B.Board c.args.board.now c.loop-i.board c.print.new.self c.loop-i.invariant.store (keeps_print g.B.Board c.loop-i.board c.print.new.self _ c.print.ensures.image c.print.ensures.flight c.print.ensures.time);
       steps = omega (arith, c.loop-i.invariant.steps, c.print.ensures.step);
     }
 
@@ -41,4 +41,4 @@ returns-clause-begun g c = λ tells.
     (whole_at (row_text c.args.tables.now) (row_count c.args.tables.now) c.loop-i.i (printed c.args.board.now) (printed c.loop-i.board) all (c.loop-i.invariant.printed tells))
 
 pub returns-in_err-print-clause-store : goal.returns-in_err-print-clause-store
-returns-in_err-print-clause-store g c = keeps_then g.B.Board.image g.B.Board.in_flight g.B.Board.moment g.B.Board.left_since c.args.board.now c.loop-i.board c.print.new.self c.loop-i.invariant.store (keeps_print g.B.Board.image g.B.Board.in_flight g.B.Board.moment g.B.Board.left_since c.loop-i.board c.print.new.self _ _ c.print.ensures.image c.print.ensures.flight c.print.ensures.time)
+returns-in_err-print-clause-store g c = keeps_then g.B.Board c.args.board.now c.loop-i.board c.print.new.self c.loop-i.invariant.store (keeps_print g.B.Board c.loop-i.board c.print.new.self _ c.print.ensures.image c.print.ensures.flight c.print.ensures.time)

@@ -1,7 +1,7 @@
 use Rattle.std.proofs.Common.{◌≡◌, ◌+◌, ◌≤◌, ◌++◌, ℕ, List}
 use Rattle.std.specs.List.{flat_map, range_with_len}
 use Rattle.tariff_compile.specs.Rows.{row_text}
-use Rattle.taxi_cli.specs.Store.{KeepsStore}
+use Rattle.outside.specs.Runs.{KeepsStore}
 use Rattle.taxi_cli.proofs.reports.print_rows.Given as goal
 
 -- the rows so far were printed
@@ -9,6 +9,6 @@ abbrev pub invariant-loop-i : goal.invariant-loop-i
 invariant-loop-i g l = record {
   printed : g.B.Board.tells_text → g.B.Board.printed l.board ≡ g.B.Board.printed l.fn.board ++ flat_map (row_text l.tables) (range_with_len 0 l.i);
   faults : g.B.Board.faults l.fn.board ≤ g.B.Board.faults l.board;
-  store : KeepsStore g.B.Board.image g.B.Board.in_flight g.B.Board.moment g.B.Board.left_since l.fn.board l.board;
+  store : KeepsStore g.B.Board l.fn.board l.board;
   steps : l.steps ≤ l.fn.steps + l.i;
 }

@@ -3,7 +3,7 @@ use Rattle.taxi_units.specs.declared.event.Event.{Event}
 use Rattle.drive_text.specs.Runs.{interval_events, intervals_events}
 use Rattle.taxi_cli.specs.Running.{Carries}
 use Rattle.taxi_cli.proofs.Carrying.{under_way-then, carries-then, stops-whole, intervals-more, stops-at_interval, bounded-at_interval}
-use Rattle.taxi_cli.proofs.Stores.{keeps_then}
+use Rattle.outside.proofs.Laws.{keeps_then}
 use Rattle.taxi_cli.proofs.runs.carry_out_intervals.Goals as goal
 
 pub returns-in_err-carry_out_interval-clause-stopped : goal.returns-in_err-carry_out_interval-clause-stopped
@@ -29,7 +29,7 @@ loop-preserved g c =
       carried = subst (λ (es : List Event). Carries told r c.args.core.now c.carry_out_interval.new.core es x z) (sym (intervals-more p i))
           (carries-then told r c.args.core.now c.loop.core c.carry_out_interval.new.core (intervals_events p i) (interval_events p) x (printed c.loop.board) z c.loop.invariant.carried c.in_ok-carry_out_interval.ensures.carried);
       faults = omega (arith, c.loop.invariant.faults, c.carry_out_interval.ensures.cause.later);
-      store = keeps_then g.B.Board.image g.B.Board.in_flight g.B.Board.moment g.B.Board.left_since c.args.board.now c.loop.board c.carry_out_interval.new.board c.loop.invariant.store c.carry_out_interval.ensures.store;
+      store = keeps_then g.B.Board c.args.board.now c.loop.board c.carry_out_interval.new.board c.loop.invariant.store c.carry_out_interval.ensures.store;
       steps = bounded-at_interval p i (i + 1) c.args.steps.now c.loop.steps c.carry_out_interval.new.steps (omega arith) c.loop.invariant.steps c.carry_out_interval.ensures.steps;
     }
 
@@ -50,4 +50,4 @@ carry_out_interval-requires-clause-stands g c =
     c.requires.stands c.loop.invariant.carried
 
 pub returns-in_err-carry_out_interval-clause-store : goal.returns-in_err-carry_out_interval-clause-store
-returns-in_err-carry_out_interval-clause-store g c = keeps_then g.B.Board.image g.B.Board.in_flight g.B.Board.moment g.B.Board.left_since c.args.board.now c.loop.board c.carry_out_interval.new.board c.loop.invariant.store c.carry_out_interval.ensures.store
+returns-in_err-carry_out_interval-clause-store g c = keeps_then g.B.Board c.args.board.now c.loop.board c.carry_out_interval.new.board c.loop.invariant.store c.carry_out_interval.ensures.store

@@ -2,7 +2,7 @@ use Rattle.std.proofs.Common.{take, arith}
 use Rattle.std.specs.List.{flat_map}
 use Rattle.drive_text.specs.Runs.{run_events}
 use Rattle.taxi_cli.proofs.Carrying.{under_way-then, carries-run, bounded-run, carries-all_runs, stops-whole, stops-at_run, bounded-at_run}
-use Rattle.taxi_cli.proofs.Stores.{keeps_then}
+use Rattle.outside.proofs.Laws.{keeps_then}
 use Rattle.taxi_cli.proofs.runs.carry_out_runs.Goals as goal
 
 pub returns-in_err-carry_out_run-clause-stopped : goal.returns-in_err-carry_out_run-clause-stopped
@@ -24,7 +24,7 @@ loop-run-preserved g c =
       carried = carries-run g.B.Board.tells_text c.args.tables.now c.args.core.now c.loop-run.core c.carry_out_run.new.core runs i _
           (printed c.args.board.now) (printed c.loop-run.board) (printed c.carry_out_run.new.board) c.loop-run-test.true c.loop-run.invariant.carried c.in_ok-carry_out_run.ensures.carried;
       faults = omega (arith, c.loop-run.invariant.faults, c.carry_out_run.ensures.cause.later);
-      store = keeps_then g.B.Board.image g.B.Board.in_flight g.B.Board.moment g.B.Board.left_since c.args.board.now c.loop-run.board c.carry_out_run.new.board c.loop-run.invariant.store c.carry_out_run.ensures.store;
+      store = keeps_then g.B.Board c.args.board.now c.loop-run.board c.carry_out_run.new.board c.loop-run.invariant.store c.carry_out_run.ensures.store;
       steps = bounded-run runs i _ c.args.steps.now c.loop-run.steps c.carry_out_run.new.steps c.loop-run-test.true c.loop-run.invariant.steps c.carry_out_run.ensures.steps;
     }
 
@@ -40,4 +40,4 @@ carry_out_run-requires-clause-stands g c =
     c.requires.stands c.loop-run.invariant.carried
 
 pub returns-in_err-carry_out_run-clause-store : goal.returns-in_err-carry_out_run-clause-store
-returns-in_err-carry_out_run-clause-store g c = keeps_then g.B.Board.image g.B.Board.in_flight g.B.Board.moment g.B.Board.left_since c.args.board.now c.loop-run.board c.carry_out_run.new.board c.loop-run.invariant.store c.carry_out_run.ensures.store
+returns-in_err-carry_out_run-clause-store g c = keeps_then g.B.Board c.args.board.now c.loop-run.board c.carry_out_run.new.board c.loop-run.invariant.store c.carry_out_run.ensures.store

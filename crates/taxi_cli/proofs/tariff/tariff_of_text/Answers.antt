@@ -1,7 +1,7 @@
 use Rattle.std.proofs.Common.{◌≡◌, ◌∙◌, None, Ok, Err, ap, sym}
 use Rattle.tariff_syntax.specs.Tree.{tree_of}
 use Rattle.tariff_syntax.specs.declared.tariff.Tariff.{Tariff}
-use Rattle.tariff_check.proofs.Staging.{none_if_sound}
+use Rattle.tariff_check.proofs.Laws.{sound_tariffs_have_sound_parts-none}
 use Rattle.taxi_cli.specs.declared.tariff.TextFault.TheVariants as TextFault
 use Rattle.taxi_cli.specs.Ending.{unsound_for}
 use Rattle.taxi_cli.proofs.Tariffs.{sound_of, unsound_of, unsound-read}
@@ -10,7 +10,7 @@ use Rattle.taxi_cli.proofs.tariff.tariff_of_text.Goals as goal
 pub returns-in-Ok-check-clause-found : goal.returns-in-Ok-check-clause-found
 returns-in-Ok-check-clause-found c =
     let t = c.in-Ok.tariff in
-    sound_of c.args.text.now t None c.in-Ok.ensures.answer (none_if_sound (tree_of t) c.in-Ok-check.ensures.sound.1) ∙ ap (λ (x : Tariff). Ok (tree_of x)) (sym c.in-Ok-check.ensures.sound.0)
+    sound_of c.args.text.now t None c.in-Ok.ensures.answer ((sound_tariffs_have_sound_parts-none (tree_of t)).1 c.in-Ok-check.ensures.sound.1) ∙ ap (λ (x : Tariff). Ok (tree_of x)) (sym c.in-Ok-check.ensures.sound.0)
 
 pub returns-in-Err-clause-refused : goal.returns-in-Err-clause-refused
 returns-in-Err-clause-refused c = λ why e.
