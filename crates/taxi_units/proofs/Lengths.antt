@@ -1,8 +1,8 @@
 -- How long texts of numbers and amounts are.
-use Rattle.std.proofs.Common.{◌≡◌, ◌∙◌, ℕ, zero, suc, ◌+◌, ◌-◌, ◌*◌, ◌/◌, ◌%◌, ◌^◌, ◌<◌, ◌≤◌, ◌∷◌, ◌++◌, length, max, ap, sym, subst, arith, length-append}
+use Rattle.std.proofs.Common.{◌≡◌, ◌∙◌, ℕ, zero, suc, ◌+◌, ◌-◌, ◌*◌, ◌/◌, ◌%◌, ◌^◌, ◌<◌, ◌≤◌, ◌∷◌, length, max, ap, sym, arith, length-append}
 use Rattle.std.specs.Fmt.{decimal}
 use Rattle.std.proofs.Math.Nat.{one-le-pow, pow-le-pow_right, div-lt_iff_lt-mul, mod-lt}
-use Rattle.std.proofs.lemmas.Nat.{div-add-mod', pow-add}
+use Rattle.std.proofs.lemmas.Nat.{pow-add}
 use Rattle.std.proofs.lemmas.Fmt.{decimal_is_IsNumeral_wide, length-decimal-le_wide}
 use Rattle.taxi_units.specs.Number.{padded_text, money_text}
 use Rattle.taxi_units.proofs.Written.{length_of_padded}
@@ -31,3 +31,11 @@ amounts_are_short (suc d) places units more few small =
     let part_small : units % one < one = mod-lt units some in
     let part = numbers_are_short (suc d) (units % one) (omega arith) (omega arith) part_small in
     omega (arith, length-append (decimal (units / one)) (46 ∷ padded_text (suc d) (units % one)), whole, part, length_of_padded (suc d) (units % one))
+
+-- a number of 128 bits fits into 39 bytes
+pub numbers_fit : (value : ℕ) → value < 2 ^ 128 → length (decimal value) ≤ 39
+numbers_fit value small = (numbers_are_short 39 value (omega arith) (omega arith) (omega arith)).1
+
+-- an amount of 128 bits fits into 40 bytes
+pub amounts_fit : (decimals units : ℕ) → decimals ≤ 3 → units < 2 ^ 128 → length (money_text decimals units) ≤ 40
+amounts_fit decimals units few small = (amounts_are_short decimals 39 units (omega arith) (omega arith) (omega arith)).1

@@ -1,5 +1,5 @@
 -- The dates of a leap year and their places.
-use Rattle.std.proofs.Common.{◌≡◌, ◌∙◌, ◌⊎◌, inl, inr, ℕ, zero, suc, ◌+◌, ◌-◌, ◌<◌, ◌≤◌, ◌↔◌, List, [], ◌∷◌, length, sum, take, get_or, refl, ap, sym, subst, arith, Option, Some, None, true}
+use Rattle.std.proofs.Common.{◌≡◌, ◌∙◌, ◌⊎◌, inl, inr, ℕ, zero, suc, ◌+◌, ◌-◌, ◌<◌, ◌≤◌, ◌↔◌, List, [], ◌∷◌, length, sum, take, get_or, refl, ap, sym, subst, arith, Some, None, true}
 use Rattle.std.proofs.lemmas.Bool.{cases_lt, le-ltb, lt-ltb}
 use Rattle.std.proofs.lemmas.List.Sums.{sum_by-cons}
 use Rattle.taxi_units.specs.Calendar.{IsLeapYearDate, date_from, date_of_place, date_place, month_lengths}

@@ -24,7 +24,8 @@ IsDate year month date = IsMonth month × (1 ≤ date) × (date ≤ days_of_mont
 
 -- the test whether it has
 abbrev pub is_date : (year month date : ℕ) → Bool
-is_date year month date = nat_le 1 month && (nat_le month 12 && (nat_le 1 date && nat_le date (days_of_month year month)))
+is_date year month date =
+    nat_le 1 month && (nat_le month 12 && (nat_le 1 date && nat_le date (days_of_month year month)))
 
 -- every leap year has a date of this month, as 2000 has
 abbrev pub IsLeapYearDate : (month date : ℕ) → Type 0

@@ -34,6 +34,12 @@ BreaksAt text place = IsBegun (take place text) × (EndsEarly text place ⊎ IsW
 abbrev pub IsReadAs : ℕ → List ℕ → Result ℕ NumberFault → Type 0
 IsReadAs decimals text (Err Empty) = text ≡ []
 IsReadAs decimals text (Err (BadDigit place)) = (text ≢ []) × BreaksAt text place
-IsReadAs decimals text (Err (TooManyDecimals place)) = (whole : List ℕ) × (parts : List ℕ) × IsDecimal text whole parts × (decimals < length parts) × (place ≡ length whole + 1 + decimals)
-IsReadAs decimals text (Err TooBig) = (whole : List ℕ) × (parts : List ℕ) × IsDecimal text whole parts × (length parts ≤ decimals) × (10 ^ 12 < units_of decimals whole parts)
-IsReadAs decimals text (Ok units) = (whole : List ℕ) × (parts : List ℕ) × IsDecimal text whole parts × (length parts ≤ decimals) × (units ≡ units_of decimals whole parts) × (units ≤ 10 ^ 12)
+IsReadAs decimals text (Err (TooManyDecimals place)) =
+    (whole : List ℕ) × (parts : List ℕ) × IsDecimal text whole parts × (decimals < length parts)
+    × (place ≡ length whole + 1 + decimals)
+IsReadAs decimals text (Err TooBig) =
+    (whole : List ℕ) × (parts : List ℕ) × IsDecimal text whole parts × (length parts ≤ decimals)
+    × (10 ^ 12 < units_of decimals whole parts)
+IsReadAs decimals text (Ok units) =
+    (whole : List ℕ) × (parts : List ℕ) × IsDecimal text whole parts × (length parts ≤ decimals)
+    × (units ≡ units_of decimals whole parts) × (units ≤ 10 ^ 12)

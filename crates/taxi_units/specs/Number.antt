@@ -45,7 +45,8 @@ parts_read decimals whole parts = counted_parts_read decimals whole parts (digit
 -- what stands after the digits before the point
 abbrev pub whole_read : ℕ → List ℕ → List ℕ → Result ℕ NumberFault
 whole_read decimals whole [] = units_read decimals whole []
-whole_read decimals whole (c ∷ parts) = if c == 46 then parts_read decimals whole parts else Err (BadDigit (length whole))
+whole_read decimals whole (c ∷ parts) =
+    if c == 46 then parts_read decimals whole parts else Err (BadDigit (length whole))
 
 -- a text that has so many digits at its front
 abbrev pub counted_read : ℕ → List ℕ → ℕ → Result ℕ NumberFault
@@ -73,4 +74,6 @@ NoDigitFirst (c ∷ cs) = 10 ≤ digit_value c
 
 -- the text begins with 1 to 12 digits, their number is value, and the rest doesn't go on with a digit
 abbrev pub IsNumberAt : List ℕ → ℕ → List ℕ → Type 0
-IsNumberAt text value rest = (digits : List ℕ) × (text ≡ digits ++ rest) × IsNumeral 10 digits × (length digits ≤ 12) × (value ≡ digits_value 10 digits) × NoDigitFirst rest
+IsNumberAt text value rest =
+    (digits : List ℕ) × (text ≡ digits ++ rest) × IsNumeral 10 digits × (length digits ≤ 12)
+    × (value ≡ digits_value 10 digits) × NoDigitFirst rest

@@ -121,7 +121,8 @@ impl<'a, T: Keyed> Counted<'a, T> {
     pub fn at_most<L: Ledger>(&self, key: T::Key, steps: &mut Steps<L>) -> AtMost<T>
         requires { IsPartitionedBy (λ element. T.at_most element key) self.now }
         ensures count { result.count ≡ count_by (λ element. T.at_most element key) self.now }
-        ensures point { IsPartitionPoint (λ element. T.at_most element key ≡ true) (λ element. T.at_most element key ≡ false) self.now result.count }
+        ensures point { IsPartitionPoint (λ element. T.at_most element key ≡ true)
+            (λ element. T.at_most element key ≡ false) self.now result.count }
         ensures last { MatchOption result.last (result.count ≡ 0) (IsLastOf self.now result.count) }
         ensures steps { HalvesIn (length self.now) steps.old steps.new }
     {

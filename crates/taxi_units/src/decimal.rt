@@ -151,7 +151,8 @@ fn scaled(number: u64, zeros: usize) -> Option<u64>
 fn number_from(start: u64, digits: &[u8]) -> Option<u64>
     requires start { start ≤ 10 ^ 12 }
     requires digits { digits_at_front digits.now ≡ length digits.now }
-    ensures { MatchOption result (10 ^ 12 < digits_value_after 10 start digits.now) (λ n. (n ≡ digits_value_after 10 start digits.now) × (n ≤ 10 ^ 12)) }
+    ensures { MatchOption result (10 ^ 12 < digits_value_after 10 start digits.now)
+        (λ n. (n ≡ digits_value_after 10 start digits.now) × (n ≤ 10 ^ 12)) }
 {
     let mut number = start;
     for byte in digits {

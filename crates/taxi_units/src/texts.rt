@@ -16,7 +16,8 @@ pub fn amounts_read_back()
 /// The answer to a text is the one that its form has: the amount where it is good, and else its
 /// fault.
 pub fn decimals_are_read_by_their_form()
-    ensures { (decimals : ℕ) (text : List ℕ) (answer : Result ℕ NumberFault) → (decimal_read decimals text ≡ answer) ↔ IsReadAs decimals text answer }
+    ensures { (decimals : ℕ) (text : List ℕ) (answer : Result ℕ NumberFault)
+        → (decimal_read decimals text ≡ answer) ↔ IsReadAs decimals text answer }
 {}
 
 /// A number at the front of a text is all of its first digits, where they are 1 to 12.
@@ -27,8 +28,10 @@ pub fn numbers_are_read_by_their_digits()
 /// What is written as a number below 10^12, with zeros in front up to 12 digits or without, is read
 /// as that number, where no digit follows it.
 pub fn numbers_read_back()
-    ensures plain { (value : ℕ) (rest : List ℕ) → value < 10 ^ 12 → NoDigitFirst rest → number_at (decimal value ++ rest) ≡ Some (value, rest) }
-    ensures padded { (width value : ℕ) (rest : List ℕ) → width ≤ 12 → value < 10 ^ 12 → NoDigitFirst rest → number_at (padded_text width value ++ rest) ≡ Some (value, rest) }
+    ensures plain { (value : ℕ) (rest : List ℕ) → value < 10 ^ 12 → NoDigitFirst rest
+        → number_at (decimal value ++ rest) ≡ Some (value, rest) }
+    ensures padded { (width value : ℕ) (rest : List ℕ) → width ≤ 12 → value < 10 ^ 12 → NoDigitFirst rest
+        → number_at (padded_text width value ++ rest) ≡ Some (value, rest) }
 {}
 
 /// A word is read where it stands at the front of a text, and the rest is what stands after it.
@@ -40,13 +43,15 @@ pub fn words_are_read_by_their_text()
 /// zeros in front up to a width.
 pub fn numbers_are_written_by_their_digits()
     ensures plain { (value : ℕ) (text : List ℕ) → value < 2 ^ 128 → (decimal value ≡ text) ↔ IsNumberText value text }
-    ensures padded { (width value : ℕ) (text : List ℕ) → value < 2 ^ 128 → (padded_text width value ≡ text) ↔ IsPaddedText width value text }
+    ensures padded { (width value : ℕ) (text : List ℕ) → value < 2 ^ 128
+        → (padded_text width value ≡ text) ↔ IsPaddedText width value text }
 {}
 
 /// An amount's text is the one that has its digits, exactly so many of them after the point, and
 /// before it no zero in front but a single one.
 pub fn amounts_are_written_by_their_digits()
-    ensures { (decimals units : ℕ) (text : List ℕ) → units < 2 ^ 128 → (money_text decimals units ≡ text) ↔ IsAmountText decimals units text }
+    ensures { (decimals units : ℕ) (text : List ℕ) → units < 2 ^ 128
+        → (money_text decimals units ≡ text) ↔ IsAmountText decimals units text }
 {}
 
 /// How long the texts of numbers are: no longer than a power of ten that is greater has zeros. With

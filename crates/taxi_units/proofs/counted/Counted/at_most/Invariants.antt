@@ -1,5 +1,4 @@
 use Rattle.std.proofs.Common.{◌≡◌, ℕ, ◌+◌, ◌-◌, ◌<◌, ◌≤◌, ◌^◌, ◌⊎◌, true, false, length, get_or, MatchOption}
-use Rattle.std.specs.List.Sorted.{IsPartitionedBy}
 use Rattle.taxi_units.specs.Counted.{IsLastOf}
 use Rattle.taxi_units.proofs.Halvings.{EndsWithin}
 use Rattle.taxi_units.proofs.counted.Counted.at_most.Given as goal
