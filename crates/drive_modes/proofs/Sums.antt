@@ -3,7 +3,6 @@ use Rattle.std.proofs.Common.{◌≡◌, ℕ, ◌+◌, ◌-◌, ◌*◌, ◌/◌
 use Rattle.std.specs.List.{fold}
 use Rattle.std.proofs.Math.Nat.{div-add-mod, mul-add-div, mul-add-mod_self_left}
 use Rattle.std.proofs.lemmas.Nat.{div-mul-add, mod-mul-add}
-use Rattle.std.proofs.lemmas.List.Sums.{sum_by_from}
 use Rattle.drive_modes.specs.declared.meterage.Meterage.{Meterage}
 use Rattle.drive_modes.specs.declared.meterage.Rounding.{Rounding}
 use Rattle.drive_modes.specs.Fare.{Opening, above_cover, added, opening_of, saved, shown_fare, steps_above, steps_of}

@@ -9,7 +9,8 @@ abbrev pub quotient : Rounding → ℕ → ℕ → ℕ
 quotient Behind x y = x / y
 quotient Ahead x y = (x + (y - 1)) / y
 
--- where charges begin: what the initial hire fee still covers, what was charged above it before, and the units of charge
+-- where charges begin: what the initial hire fee still covers, what was charged above it before, and the units of
+-- charge
 -- that make a display step
 pub record Opening : Type 0 where
   pub cover : ℕ

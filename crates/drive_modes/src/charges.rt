@@ -57,10 +57,13 @@ pub fn charge_by_crossover()
 /// interval are below the cross-over speed exactly where they cost less than the interval; there the
 /// charge is the time's, and from that speed on it is the distance's.
 pub fn mode_s_changes_over_at_the_cross_over()
-    ensures exactly { (rate : Rate) (k measure p : ℕ) (w : Weights) → AreWeightsOf rate k measure w → 0 < measure → 0 < rate.b * k * rate.e
+    ensures exactly { (rate : Rate) (k measure p : ℕ) (w : Weights) → AreWeightsOf rate k measure w → 0 < measure
+        → 0 < rate.b * k * rate.e
         → IsBelowCrossOver rate k p ↔ (p * w.per_pulse < w.per_tick) }
-    ensures time { (rate : Rate) (k measure p : ℕ) (w : Weights) → AreWeightsOf rate k measure w → 0 < measure → 0 < rate.b * k * rate.e
+    ensures time { (rate : Rate) (k measure p : ℕ) (w : Weights) → AreWeightsOf rate k measure w → 0 < measure
+        → 0 < rate.b * k * rate.e
         → IsBelowCrossOver rate k p → charge_of Mode.Single w p ≡ w.per_tick }
-    ensures distance { (rate : Rate) (k measure p : ℕ) (w : Weights) → AreWeightsOf rate k measure w → 0 < measure → 0 < rate.b * k * rate.e
+    ensures distance { (rate : Rate) (k measure p : ℕ) (w : Weights) → AreWeightsOf rate k measure w → 0 < measure
+        → 0 < rate.b * k * rate.e
         → ¬ (IsBelowCrossOver rate k p) → charge_of Mode.Single w p ≡ p * w.per_pulse }
 {}

@@ -32,7 +32,8 @@ impl Meterage {
         requires covers { covers ≤ 99999999 }
         requires measure { measure ≤ 2 * 10 ^ 23 }
         ensures exact { result ≡ record { cover_left = covers * measure; steps_full = 0; rest = 0 } }
-        ensures sum { (modulus : ℕ) → 0 < modulus → result ≡ saved (record { cover = covers * measure; above = 0; modulus = modulus }) 0 }
+        ensures sum { (modulus : ℕ) → 0 < modulus
+            → result ≡ saved (record { cover = covers * measure; above = 0; modulus = modulus }) 0 }
         ensures bound { result.cover_left ≤ 2 * 10 ^ 31 }
     {
         Meterage {
@@ -53,7 +54,8 @@ impl Meterage {
         requires cover { self.old.cover_left ≤ 2 * 10 ^ 31 }
         requires steps { self.old.steps_full + (self.old.rest + (charge - self.old.cover_left)) / modulus ≤ 4 * 10 ^ 17 }
         ensures exact { self.new ≡ added modulus self.old charge }
-        ensures sum { (cover above charged : ℕ) → let opening : Opening = record { cover = cover; above = above; modulus = modulus } in
+        ensures sum { (cover above charged : ℕ)
+            → let opening : Opening = record { cover = cover; above = above; modulus = modulus } in
             self.old ≡ saved opening charged → self.new ≡ saved opening (charged + charge) }
         ensures rest { self.new.rest < modulus }
         ensures cover { self.new.cover_left ≤ self.old.cover_left }
@@ -69,7 +71,8 @@ impl Meterage {
     pub fn steps(&self, rounding: Rounding) -> u64
         requires steps { self.now.steps_full ≤ 4 * 10 ^ 17 }
         ensures exact { result ≡ steps_of rounding self.now }
-        ensures sum { (cover above modulus charged : ℕ) → let opening : Opening = record { cover = cover; above = above; modulus = modulus } in
+        ensures sum { (cover above modulus charged : ℕ)
+            → let opening : Opening = record { cover = cover; above = above; modulus = modulus } in
             0 < modulus → self.now ≡ saved opening charged → result ≡ steps_above rounding opening charged }
     {
         match rounding {
@@ -93,8 +96,10 @@ impl Meterage {
         requires minimum { minimum ≤ 99999999 }
         requires step { step ≤ 1000000 }
         ensures exact { result ≡ shown_fare initial minimum step (steps_of rounding self.now) }
-        ensures sum { (cover above modulus charged : ℕ) → let opening : Opening = record { cover = cover; above = above; modulus = modulus } in
-            0 < modulus → self.now ≡ saved opening charged → result ≡ shown_fare initial minimum step (steps_above rounding opening charged) }
+        ensures sum { (cover above modulus charged : ℕ)
+            → let opening : Opening = record { cover = cover; above = above; modulus = modulus } in
+            0 < modulus → self.now ≡ saved opening charged
+            → result ≡ shown_fare initial minimum step (steps_above rounding opening charged) }
         ensures least { minimum ≤ result }
         ensures most { result ≤ 99999999 }
     {
@@ -109,10 +114,12 @@ pub fn fares_add_up()
     ensures sum { (opening : Opening) (charges : List ℕ) → 0 < opening.modulus
         → fold (added opening.modulus) (saved opening 0) charges ≡ saved opening (sum charges) }
     ensures any_state { (modulus : ℕ) (m : Meterage) → m.rest < modulus → m ≡ saved (opening_of modulus m) 0 }
-    ensures shown { (initial minimum step modulus : ℕ) (rounding : Rounding) (m : Meterage) (charges : List ℕ) → m.rest < modulus
+    ensures shown { (initial minimum step modulus : ℕ) (rounding : Rounding) (m : Meterage) (charges : List ℕ)
+        → m.rest < modulus
         → let n = steps_above rounding (opening_of modulus m) (sum charges) in
         let later = fold (added modulus) m charges in
-        (steps_of rounding later ≡ n) × (shown_fare initial minimum step (steps_of rounding later) ≡ shown_fare initial minimum step n) }
+        (steps_of rounding later ≡ n)
+        × (shown_fare initial minimum step (steps_of rounding later) ≡ shown_fare initial minimum step n) }
 {}
 
 /// A law: behind, the display steps of an amount are the most that it fills; ahead, they are the

@@ -1,7 +1,6 @@
 -- How the days of the calendar follow one another.
 use Rattle.std.proofs.Common.{◌≡◌, ◌∙◌, Bool, false, slice_index, if◌then◌else◌, sum, take, ap, rules, ℕ, zero, suc, ◌+◌, ◌-◌, ◌<◌, ◌≤◌, ℤ, pos, ◌+ℤ◌, refl, subst, sym, inl, inr, true, arith}
 use Rattle.std.proofs.lemmas.Bool.{cases_lt, le-ltb, lt-ltb}
-use Rattle.std.proofs.lemmas.Bool.Decides.{nat_tests}
 use Rattle.jiff.proofs.SpanFacts.{signed_arith}
 use Rattle.std.proofs.lemmas.List.Sums.{sum_by_more}
 use Rattle.interval_clock.specs.declared.day_numbers.CalendarDate.{CalendarDate}

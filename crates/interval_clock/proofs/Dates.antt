@@ -1,11 +1,11 @@
 -- The dates that jiff gives are those of the calendar.
-use Rattle.std.proofs.Common.{◌≡◌, ℕ, zero, suc, ◌+◌, ◌-◌, ◌≤◌, Bool, ◌==◌, ◌||◌, if◌then◌else◌, slice_index, ℤ, pos, negsuc, unsigned_abs, ◌+ℤ◌, ◌-ℤ◌, ◌≤ℤ◌, refl, ap, sym, arith, rules}
+use Rattle.std.proofs.Common.{◌≡◌, ℕ, zero, suc, ◌+◌, ◌-◌, ◌≤◌, Bool, ◌==◌, ◌||◌, if◌then◌else◌, slice_index, ℤ, pos, negsuc, unsigned_abs, ◌+ℤ◌, ◌-ℤ◌, ◌≤ℤ◌, refl, sym, arith, rules}
 use Rattle.std.proofs.lemmas.Int.{by_lt_z}
 use Rattle.jiff_core.specs.declared.civil.date.Date.{Date}
 use Rattle.jiff_core.specs.Calendar as jiff
 use Rattle.jiff_core.specs.Date.{epoch_day, IsYmd}
 use Rattle.jiff_core.proofs.SignedLemmas.{signed_arith}
-use Rattle.jiff_core.proofs.CalendarLemmas.{days_in_month_bounds, days_from_civil-day_count, day_count-epoch, day_count-lt_year, days_in_year_bounds, day_of_year_bound}
+use Rattle.jiff_core.proofs.CalendarLemmas.{days_in_month_bounds, days_from_civil-day_count, day_count-epoch, day_count-lt_year}
 use Rattle.jiff_core.proofs.MarchLemmas.{day_count-early}
 use Rattle.interval_clock.specs.Calendar.{days_of_years, days_of_months, days_of_month, is_leap_year, month_lengths, place_in_year, IsDateOf, weekday_of}
 use Rattle.interval_clock.proofs.CalendarDays.{days_of_months-none, days_of_months-suc, each_month}

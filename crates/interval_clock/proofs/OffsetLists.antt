@@ -1,5 +1,5 @@
 -- Lists of offsets: the pair in force.
-use Rattle.std.proofs.Common.{Option, Some, MatchOption, ap, subst, leb, pos, true, false, count_by, ◌≡◌, ℕ, zero, suc, ◌+◌, ◌-◌, ◌*◌, ◌/◌, ◌^◌, ◌<◌, ◌≤◌, ℤ, List, [], ◌∷◌, length, inl, inr, arith, refl}
+use Rattle.std.proofs.Common.{Option, Some, MatchOption, ap, subst, leb, pos, true, false, count_by, ◌≡◌, ℕ, zero, suc, ◌-◌, ◌<◌, ◌≤◌, ℤ, List, [], ◌∷◌, length, inl, inr, arith, refl}
 use Rattle.std.proofs.lemmas.Bool.{cases_lt, leb-true, leb-false}
 use Rattle.std.proofs.lemmas.List.Sums.{count_by-le-length}
 use Rattle.std.proofs.lemmas.List.Sorted.{IsNonDecreasingBy-from_default, IsPartitionedBy-leb}

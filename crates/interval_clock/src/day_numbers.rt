@@ -44,9 +44,12 @@ pub fn date_of_day(day: u32) -> CalendarDate
 
 /// A law: a date from 1970 on has one day number, and a day number one date.
 pub fn dates_have_day_numbers()
-    ensures there { (year month date : ℕ) → 1970 ≤ year → IsDate year month date → IsDateOf (pos (day_number_of year month date)) year month date }
-    ensures one_day { (day : ℤ) (year month date : ℕ) → 1970 ≤ year → IsDateOf day year month date → day ≡ pos (day_number_of year month date) }
-    ensures one_date { (day : ℤ) (a b : CalendarDate) → IsDateOf day a.year a.month a.date → IsDateOf day b.year b.month b.date → a ≡ b }
+    ensures there { (year month date : ℕ) → 1970 ≤ year → IsDate year month date
+        → IsDateOf (pos (day_number_of year month date)) year month date }
+    ensures one_day { (day : ℤ) (year month date : ℕ) → 1970 ≤ year → IsDateOf day year month date
+        → day ≡ pos (day_number_of year month date) }
+    ensures one_date { (day : ℤ) (a b : CalendarDate) → IsDateOf day a.year a.month a.date
+        → IsDateOf day b.year b.month b.date → a ≡ b }
 {}
 
 /// The number of days from 1970-01-01 to a date that isn't earlier.

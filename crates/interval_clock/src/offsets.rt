@@ -90,8 +90,10 @@ impl Offsets {
 /// A law: the offset at a second is that of the last pair that begins at or before it, in every list; and
 /// where none does it is 0.
 pub fn the_last_pair_begun_is_in_force()
-    ensures in_force { (pairs : List (ℕ × ℤ)) (second place : ℕ) → IsInForce pairs second place → offset_at pairs second ≡ offset_of pairs place }
-    ensures before { (pairs : List (ℕ × ℤ)) (second : ℕ) → EachPlace pairs (λ place. second < second_at pairs place) → offset_at pairs second ≡ pos 0 }
+    ensures in_force { (pairs : List (ℕ × ℤ)) (second place : ℕ) → IsInForce pairs second place
+        → offset_at pairs second ≡ offset_of pairs place }
+    ensures before { (pairs : List (ℕ × ℤ)) (second : ℕ) → EachPlace pairs (λ place. second < second_at pairs place)
+        → offset_at pairs second ≡ pos 0 }
 {}
 
 /// The first fault of a list.

@@ -14,7 +14,8 @@ pub record Kept : Type 0 where
   pub call : Call
   pub failed : Bool
 
--- what a read gives, the ranges that were written since the last good sync, as a place and a count each, and what was printed
+-- what a read gives, the ranges that were written since the last good sync, as a place and a count each, and what was
+-- printed
 pub record Contents : Type 0 where
   pub image : List ℕ
   pub ranges : List (ℕ × ℕ)
@@ -43,7 +44,8 @@ begun held (Print bytes) = held
 -- what a call that didn't fail leaves
 abbrev pub done : Contents → Call → Contents
 done held Read = held
-done held (Write at bytes) = record { image = overwrite at bytes held.image; ranges = (at, length bytes) ∷ held.ranges; text = held.text }
+done held (Write at bytes) =
+    record { image = overwrite at bytes held.image; ranges = (at, length bytes) ∷ held.ranges; text = held.text }
 done held Sync = record { image = held.image; ranges = []; text = held.text }
 done held (Print bytes) = record { image = held.image; ranges = held.ranges; text = held.text ++ bytes }
 

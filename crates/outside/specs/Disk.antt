@@ -34,13 +34,16 @@ pub record MayLeave (image : List ℕ) (in_flight : ℕ → Type 0) (printed lef
   pub text : left_text ≡ printed
 
 -- a cut while a piece is printed may leave these: a beginning of the piece stands behind what was printed
-pub record MayLeaveAmid (image : List ℕ) (in_flight : ℕ → Type 0) (printed piece left_image left_text : List ℕ) : Type 0 where
+pub record MayLeaveAmid (image : List ℕ) (in_flight : ℕ → Type 0)
+    (printed piece left_image left_text : List ℕ) : Type 0 where
   pub bytes : SameBut in_flight image left_image
   pub small : AreBytes left_image
   pub text : Begins printed left_text piece
 
--- time went on: a cut since any earlier moment might have left what it might have left before, and nothing else but an outcome of now
-pub record Elapses (before now : ℕ) (past since : ℕ → List ℕ → List ℕ → Type 0) (outcome : List ℕ → List ℕ → Type 0) : Type 0 where
+-- time went on: a cut since any earlier moment might have left what it might have left before, and nothing else but
+-- an outcome of now
+pub record Elapses (before now : ℕ) (past since : ℕ → List ℕ → List ℕ → Type 0)
+    (outcome : List ℕ → List ℕ → Type 0) : Type 0 where
   pub later : before ≤ now
   pub nothing_else : (moment : ℕ) (left_image left_text : List ℕ) → moment ≤ before
       → since moment left_image left_text → past moment left_image left_text ⊎ outcome left_image left_text

@@ -5,7 +5,8 @@ use Rattle.outside.specs.Disk.{Elapses, IsImage}
 use Rattle.outside.specs.Faults.{one_more}
 use Rattle.outside.specs.Moments.{LeftSince}
 
--- the image that the board opened with, the numbers of the calls that fail, the calls that were kept, and how many were refused for want of memory
+-- the image that the board opened with, the numbers of the calls that fail, the calls that were kept, and how many
+-- were refused for want of memory
 pub record BoardState : Type 0 where
   pub start : List ℕ
   pub fail : List ℕ
@@ -49,14 +50,16 @@ pub record Memory : Type 0 where
   pub state : BoardState
   pub is_image : IsImage 2048 (image_of state)
 
--- at moment 0 the store holds this image, nothing is in flight or printed, and there were no faults; a cut might have left that alone
+-- at moment 0 the store holds this image, nothing is in flight or printed, and there were no faults; a cut might have
+-- left that alone
 pub record IsNew (image : List ℕ) (board : BoardState) : Type 0 where
   pub image_is : image_of board ≡ image
   pub settled : (place : ℕ) → ¬ in_flight_of board place
   pub text_is : text_of board ≡ []
   pub faults_are : faults_of board ≡ 0
   pub moment_is : moment_of board ≡ 0
-  pub left : (left_image left_text : List ℕ) → left_since_of board 0 left_image left_text → (left_image ≡ image) × (left_text ≡ [])
+  pub left : (left_image left_text : List ℕ) → left_since_of board 0 left_image left_text
+      → (left_image ≡ image) × (left_text ≡ [])
 
 -- the next call fails by its number
 abbrev pub IsListedCall : BoardState → Type 0

@@ -19,7 +19,8 @@ IsListedRead state = Contains state.fail (one_more state.reads)
 
 -- the files after a read of so many bytes of a word's file
 abbrev pub read_from : FilesState → ℕ → ℕ → FilesState
-read_from state word count = record state { files = set state.files word (drop count (rest_of state word)); reads = one_more state.reads }
+read_from state word count =
+    record state { files = set state.files word (drop count (rest_of state word)); reads = one_more state.reads }
 
 -- the files after a read that failed
 abbrev pub failed_in : FilesState → FilesState

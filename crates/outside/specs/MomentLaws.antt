@@ -4,19 +4,24 @@ use Rattle.std.proofs.Common.{inr, arith}
 use Rattle.outside.specs.Calls.{Contents, Kept, after, after_all}
 use Rattle.outside.specs.Moments.{Leaves, LeftBy, LeftSince}
 
-left_behind : (held : Contents) (calls : List Kept) (left_image left_text : List ℕ) → Leaves (after_all held calls) left_image left_text → LeftBy held calls left_image left_text
+left_behind : (held : Contents) (calls : List Kept) (left_image left_text : List ℕ)
+    → Leaves (after_all held calls) left_image left_text → LeftBy held calls left_image left_text
 left_behind held [] left_image left_text now = now
-left_behind held (kept ∷ more) left_image left_text now = inr (inr (left_behind (after held kept) more left_image left_text now))
+left_behind held (kept ∷ more) left_image left_text now =
+    inr (inr (left_behind (after held kept) more left_image left_text now))
 
 -- what a cut leaves now is among what it might have left since an earlier moment
-pub counts_now : (held : Contents) (calls : List Kept) (start : ℕ) (left_image left_text : List ℕ) → start ≤ length calls
+pub counts_now : (held : Contents) (calls : List Kept) (start : ℕ) (left_image left_text : List ℕ)
+    → start ≤ length calls
     → Leaves (after_all held calls) left_image left_text → LeftSince held calls start left_image left_text
 counts_now held calls zero left_image left_text le now = left_behind held calls left_image left_text now
 counts_now held [] (suc start) left_image left_text le now = now
-counts_now held (kept ∷ more) (suc start) left_image left_text le now = counts_now (after held kept) more start left_image left_text (omega arith) now
+counts_now held (kept ∷ more) (suc start) left_image left_text le now =
+    counts_now (after held kept) more start left_image left_text (omega arith) now
 
 -- since this moment there is no other
-pub only_now : (held : Contents) (calls : List Kept) (left_image left_text : List ℕ) → LeftSince held calls (length calls) left_image left_text
+pub only_now : (held : Contents) (calls : List Kept) (left_image left_text : List ℕ)
+    → LeftSince held calls (length calls) left_image left_text
     → Leaves (after_all held calls) left_image left_text
 only_now held [] left_image left_text left = left
 only_now held (kept ∷ more) left_image left_text left = only_now (after held kept) more left_image left_text left

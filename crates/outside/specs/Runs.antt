@@ -16,19 +16,23 @@ module _ {D L : Type 0} (B : Ghosts D L) where
   -- whatever a cut at any moment since the old state might have left is of this kind
   pub record LeavesOnly (old new : D) (kind : List ℕ → List ℕ → Type 0) : Type 0 where
     pub later : B.moment old ≤ B.moment new
-    pub each : (left_image left_text : List ℕ) → B.left_since new (B.moment old) left_image left_text → kind left_image left_text
+    pub each : (left_image left_text : List ℕ) → B.left_since new (B.moment old) left_image left_text
+        → kind left_image left_text
     -- the same for a run that began earlier
     pub before : (start : ℕ) (left_image left_text : List ℕ) → start ≤ B.moment old
-        → B.left_since new start left_image left_text → B.left_since old start left_image left_text ⊎ kind left_image left_text
+        → B.left_since new start left_image left_text → B.left_since old start left_image left_text
+        ⊎ kind left_image left_text
 
-  -- the store holds what it held, and nothing more is in flight; a cut at a moment since any earlier one might have left
+  -- the store holds what it held, and nothing more is in flight; a cut at a moment since any earlier one might have
+  -- left
   -- what it might have left before, or an image that it might have left at the old state
   pub record KeepsStore (old new : D) : Type 0 where
     pub same : B.image new ≡ B.image old
     pub flight : (place : ℕ) → B.in_flight new place → B.in_flight old place
     pub later : B.moment old ≤ B.moment new
     pub before : (start : ℕ) (left_image left_text : List ℕ) → start ≤ B.moment old
-        → B.left_since new start left_image left_text → B.left_since old start left_image left_text ⊎ MayHold (B.image old) (B.in_flight old) left_image
+        → B.left_since new start left_image left_text → B.left_since old start left_image left_text
+        ⊎ MayHold (B.image old) (B.in_flight old) left_image
 
   -- a print of this piece took the time between these states
   abbrev pub PrintTakes : D → D → List ℕ → Type 0

@@ -62,7 +62,8 @@ fn zero_from(buf: &mut [u8], from: usize)
 /// Reads until the buffer is full or the reader is at its end, and fills the rest with zeros: so each place
 /// has the reader's byte, or zero behind its end.
 pub(crate) fn read_or_zeros<F: Read>(from: &mut F, buf: &mut [u8]) -> io::Result<()>
-    ensures bytes { OnOk result (IfSome (F.remaining from.old) (λ left. (k : ℕ) → k < length buf.old → slice_index buf.new k ≡ slice_index left k)) }
+    ensures bytes { OnOk result (IfSome (F.remaining from.old)
+        (λ left. (k : ℕ) → k < length buf.old → slice_index buf.new k ≡ slice_index left k)) }
 {
     let mut filled = 0;
     while filled < buf.len() {

@@ -1,5 +1,5 @@
 -- The laws that the public empty functions state.
-use Rattle.std.proofs.Common.{◌≡◌, ◌⊎◌, inl, inr, ◌↔◌, ℕ, ◌+◌, ◌-◌, ◌≤◌, List, Option, Some, None, Result, Ok, length, take, drop, arith, length-take, length-drop}
+use Rattle.std.proofs.Common.{◌≡◌, inl, inr, ◌↔◌, ℕ, ◌+◌, ◌≤◌, List, Option, Some, None, Result, Ok, length, take, drop, arith, length-take, length-drop}
 use Rattle.outside.specs.declared.board.Board.{Ghosts}
 use Rattle.outside.specs.Disk.{AreBytes, SameBut}
 use Rattle.outside.proofs.Laws.{slice_bytes}
@@ -8,9 +8,9 @@ use Rattle.slot_store.specs.declared.pair.Place.{Place}
 use Rattle.slot_store.specs.declared.found.Found.{Found}
 use Rattle.slot_store.specs.declared.found.Found.TheVariants.{Latest}
 use Rattle.slot_store.specs.declared.found.SlotFault.{SlotFault}
-use Rattle.slot_store.specs.Slots.{slot_at, IsQuiet, IsSamePair, IsBlank, IsOpen, IsAt, IsSettled, FliesNoMore, StandsFor, Shows}
+use Rattle.slot_store.specs.Slots.{IsQuiet, IsSamePair, IsBlank, IsOpen, IsAt, IsSettled, FliesNoMore, StandsFor, Shows}
 use Rattle.slot_store.specs.Scan.{found_at, IsAnswer}
-use Rattle.slot_store.specs.Stages.{kept_slot, spare_slot, spare_at, IsPair, IsReady, IsReadyAt}
+use Rattle.slot_store.specs.Stages.{spare_at, IsPair, IsReady, IsReadyAt}
 use Rattle.slot_store.specs.Writes.{IsApart, OrWithin, LeavesThroughout, WritesIn}
 use Rattle.slot_store.proofs.Findings as findings
 use Rattle.slot_store.proofs.Moments as moments

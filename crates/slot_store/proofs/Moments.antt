@@ -4,7 +4,7 @@ use Rattle.outside.specs.declared.board.Board.{Ghosts}
 use Rattle.outside.specs.Disk.{SameBut, MayLeave}
 use Rattle.outside.specs.Runs.{LeavesOnly}
 use Rattle.outside.proofs.Laws.{leaves_none, leaves_then, leaves_wider}
-use Rattle.slot_store.specs.Writes.{OrWithin, LeavesBeside, LeavesThroughout, WritesIn}
+use Rattle.slot_store.specs.Writes.{OrWithin, LeavesThroughout, WritesIn}
 
 -- what lies in a part lies in the whole
 pub in_whole : (in_flight : ℕ → Type 0) (part count start size : ℕ) (old new : List ℕ) → start ≤ part → part + count ≤ start + size → SameBut (OrWithin in_flight part count) old new → SameBut (OrWithin in_flight start size) old new

@@ -17,29 +17,35 @@ front bytes = from_be_bytes w64 (take 8 bytes)
 
 -- it is read where the bytes are its own
 abbrev pub reads : List ℕ → Option ℕ
-reads bytes = if nat_lt (front bytes) (2 ^ 64) && bytes_eq (spelling (front bytes)) bytes then Some (front bytes) else None
+reads bytes =
+    if nat_lt (front bytes) (2 ^ 64) && bytes_eq (spelling (front bytes)) bytes then Some (front bytes) else None
 
 pub size : (number : ℕ) → length (spelling number) ≡ 511
 size number = refl
 
 -- what a number that was read passed
-passed : (fits same : Bool) (number read : ℕ) → (if fits && same then Some number else None) ≡ Some read → (fits ≡ true) × (same ≡ true) × (number ≡ read)
+passed : (fits same : Bool) (number read : ℕ) → (if fits && same then Some number else None) ≡ Some read
+    → (fits ≡ true) × (same ≡ true) × (number ≡ read)
 passed true true number read is = (refl, refl, cc)
 passed true false number read is = absurd cc
 passed false same number read is = absurd cc
 
 pub nothing_else : (bytes : List ℕ) (number : ℕ) → reads bytes ≡ Some number → bytes ≡ spelling number
 nothing_else bytes number is =
-    let tests = passed (nat_lt (front bytes) (2 ^ 64)) (bytes_eq (spelling (front bytes)) bytes) (front bytes) number is in
+    let tests = passed (nat_lt (front bytes) (2 ^ 64)) (bytes_eq (spelling (front bytes)) bytes)
+    (front bytes) number is in
     sym ((bytes_eq-Decides (spelling (front bytes)) bytes).0 tests.1) ∙ ap spelling tests.2
 
 pub gives_valid : (bytes : List ℕ) (number : ℕ) → reads bytes ≡ Some number → number < 2 ^ 64
 gives_valid bytes number is =
-    let tests = passed (nat_lt (front bytes) (2 ^ 64)) (bytes_eq (spelling (front bytes)) bytes) (front bytes) number is in
+    let tests = passed (nat_lt (front bytes) (2 ^ 64)) (bytes_eq (spelling (front bytes)) bytes)
+    (front bytes) number is in
     omega (arith, tests.2, (Decides-ltb (front bytes) (2 ^ 64)).0 tests.0)
 
 pub reads_it : (number : ℕ) → number < 2 ^ 64 → reads (spelling number) ≡ Some number
 reads_it number fits =
-    ap (λ (n : ℕ). if nat_lt n (2 ^ 64) && bytes_eq (spelling n) (spelling number) then Some n else None) (from_be_bytes-to_be_bytes_8 number fits)
-    ∙ ap (λ (b : Bool). if b && bytes_eq (spelling number) (spelling number) then Some number else None) ((Decides-ltb number (2 ^ 64)).1 fits)
+    ap (λ (n : ℕ). if nat_lt n (2 ^ 64) && bytes_eq (spelling n) (spelling number) then Some n else None)
+    (from_be_bytes-to_be_bytes_8 number fits)
+    ∙ ap (λ (b : Bool). if b && bytes_eq (spelling number) (spelling number) then Some number else None)
+    ((Decides-ltb number (2 ^ 64)).1 fits)
     ∙ ap (λ (b : Bool). if b then Some number else None) ((bytes_eq-Decides (spelling number) (spelling number)).1 refl)

@@ -7,7 +7,8 @@ use Rattle.slot_store.specs.Stages.{IsBefore}
 -- the numbers rise, from the latest body on
 abbrev pub AreNewer : {T : Type 0} → (T → ℕ) → Option T → List T → Type 0
 AreNewer number_of latest [] = Unit {0}
-AreNewer number_of latest (body ∷ rest) = IsBefore number_of latest (number_of body) × AreNewer number_of (Some body) rest
+AreNewer number_of latest (body ∷ rest) =
+    IsBefore number_of latest (number_of body) × AreNewer number_of (Some body) rest
 
 -- the last of the bodies, and the latest where there is none
 abbrev pub last_of : {T : Type 0} → Option T → List T → Option T
@@ -23,14 +24,18 @@ module _ {T : Type 0} (reads : List ℕ → Option T) (number_of : T → ℕ) (a
   module _ {D L : Type 0} (B : Ghosts D L) where
     -- from a moment on a cut leaves the latest or one of the bodies
     abbrev pub LeavesFrom : D → ℕ → Option T → List T → Type 0
-    LeavesFrom board start latest bodies = (left_image left_text : List ℕ) → B.left_since board start left_image left_text → ShowsOne latest bodies left_image
+    LeavesFrom board start latest bodies =
+        (left_image left_text : List ℕ) → B.left_since board start left_image left_text
+        → ShowsOne latest bodies left_image
 
-    -- the pair got these bodies one after the other, and perhaps more were begun: each body has its moment, the moments rise
+    -- the pair got these bodies one after the other, and perhaps more were begun: each body has its moment, the
+    -- moments rise
     -- from the start to now, and from the moment of a body on a cut leaves that body or a later one
     abbrev pub GetsEach : D → ℕ → Option T → List T → List T → Type 0
     GetsEach board start latest [] begun = (start ≤ B.moment board) × LeavesFrom board start latest begun
     GetsEach board start latest (body ∷ rest) begun =
-        LeavesFrom board start latest (body ∷ rest ++ begun) × ((moment : ℕ) × ((start ≤ moment) × GetsEach board moment (Some body) rest begun))
+        LeavesFrom board start latest (body ∷ rest ++ begun)
+        × ((moment : ℕ) × ((start ≤ moment) × GetsEach board moment (Some body) rest begun))
 
     -- how far a list of bodies came since the old state: the first ones were stored, and perhaps the next one was begun
     pub record StoresSome (latest : Option T) (bodies : List T) (old new : D) : Type 0 where

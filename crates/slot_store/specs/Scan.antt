@@ -21,7 +21,8 @@ module _ {T : Type 0} (number_of : T → ℕ) where
   verdict (Some (Some first)) (Some None) = Err (BadBody 1)
   verdict (Some (Some first)) (Some (Some second)) =
       if number_of first == number_of second then Err (SameNumber (number_of first))
-      else if nat_lt (number_of first) (number_of second) then Ok (Latest (record { slot = 1; other_open = true }) second)
+      else if nat_lt (number_of first) (number_of second)
+      then Ok (Latest (record { slot = 1; other_open = true }) second)
       else Ok (Latest (record { slot = 0; other_open = true }) first)
 
 module _ {T : Type 0} (reads : List ℕ → Option T) (number_of : T → ℕ) where

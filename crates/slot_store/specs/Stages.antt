@@ -48,7 +48,8 @@ module _ {T : Type 0} (reads : List ℕ → Option T) where
   Keeps start image None = IsClosed start image
   Keeps start image (Some body) = IsOpen reads start image (Some body)
 
-  -- before the second stage: nothing of the pair is in flight, the slot that is written next is closed, and the other one keeps the latest body
+  -- before the second stage: nothing of the pair is in flight, the slot that is written next is closed, and the other
+  -- one keeps the latest body
   pub record IsShut (pair : Pair) (image : List ℕ) (in_flight : ℕ → Type 0) (latest : Option T) : Type 0 where
     pub known : is_some latest ≡ is_some pair.latest
     pub quiet : IsQuiet pair.at in_flight
@@ -68,7 +69,8 @@ module _ {T : Type 0} (reads : List ℕ → Option T) (number_of : T → ℕ) wh
   IsReady pair image in_flight latest = IsReadyAt pair.at pair.latest image in_flight latest
 
   -- before the third stage: the same, and the closed slot has the new body, which is newer
-  pub record IsWritten (pair : Pair) (image : List ℕ) (in_flight : ℕ → Type 0) (latest : Option T) (body : T) : Type 0 where
+  pub record IsWritten (pair : Pair) (image : List ℕ) (in_flight : ℕ → Type 0) (latest : Option T)
+      (body : T) : Type 0 where
     pub shut : IsShut reads pair image in_flight latest
     pub body_is : HasBody reads (spare_at pair) image (Some body)
     pub newer : IsBefore number_of latest (number_of body)
@@ -76,13 +78,16 @@ module _ {T : Type 0} (reads : List ℕ → Option T) (number_of : T → ℕ) wh
 -- the same of a pair on a board, over the meanings of the body and of the board as a whole
 module _ {T : Type 0} (meanings : BodyGhosts T) {D L : Type 0} (B : Ghosts D L) where
   abbrev pub IsReadyOn : Pair → D → Option T → Type 0
-  IsReadyOn pair board latest = IsReady meanings.reads meanings.number_of pair (B.image board) (B.in_flight board) latest
+  IsReadyOn pair board latest =
+      IsReady meanings.reads meanings.number_of pair (B.image board) (B.in_flight board) latest
 
   abbrev pub IsShutOn : Pair → D → Option T → Type 0
   IsShutOn pair board latest = IsShut meanings.reads pair (B.image board) (B.in_flight board) latest
 
   abbrev pub IsWrittenOn : Pair → D → Option T → T → Type 0
-  IsWrittenOn pair board latest body = IsWritten meanings.reads meanings.number_of pair (B.image board) (B.in_flight board) latest body
+  IsWrittenOn pair board latest body =
+      IsWritten meanings.reads meanings.number_of pair (B.image board) (B.in_flight board) latest body
 
   abbrev pub IsSettledOn : ℕ → Place → D → T → Type 0
-  IsSettledOn at place board body = IsSettled meanings.reads meanings.number_of at place (B.image board) (B.in_flight board) body
+  IsSettledOn at place board body =
+      IsSettled meanings.reads meanings.number_of at place (B.image board) (B.in_flight board) body

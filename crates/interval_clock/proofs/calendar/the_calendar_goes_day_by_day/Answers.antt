@@ -1,4 +1,4 @@
-use Rattle.std.proofs.Common.{refl, ◌-◌, arith}
+use Rattle.std.proofs.Common.{refl}
 use Rattle.interval_clock.proofs.CalendarDays.{IsDateOf-first, IsDateOf-next_date, IsDateOf-only, IsDateOf-date_after, places-leap}
 use Rattle.interval_clock.proofs.calendar.the_calendar_goes_day_by_day.Goals as goal
 

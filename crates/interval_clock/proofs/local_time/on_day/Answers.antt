@@ -1,4 +1,4 @@
-use Rattle.std.proofs.Common.{arith, ◌≡◌, rules}
+use Rattle.std.proofs.Common.{arith, ◌≡◌}
 use Rattle.jiff.specs.Words.{epoch_day}
 use Rattle.jiff.proofs.SpanFacts.{signed_arith}
 use Rattle.interval_clock.proofs.CalendarDays.{date_place-most}
