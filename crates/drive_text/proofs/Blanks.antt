@@ -1,5 +1,5 @@
 -- Bytes that are parted at a byte, and the fields of a line.
-use Rattle.std.proofs.Common.{◌≡◌, ◌≢◌, ℕ, ◌<◌, false, List, ◌∷◌, [], ◌++◌, length, All, eqb, sym, ap, ◌∙◌, Option, Some, None, MatchOption, refl, arith}
+use Rattle.std.proofs.Common.{◌≡◌, ℕ, ◌<◌, false, List, ◌∷◌, [], ◌++◌, length, All, eqb, ap, ◌∙◌, Option, Some, None, MatchOption, refl, arith}
 use Rattle.std.specs.List.{slice_split}
 use Rattle.std.specs.Option.{option_map_or}
 use Rattle.std.proofs.lemmas.Bool.{ne_eqb}

@@ -1,10 +1,11 @@
 -- The laws of this crate, as its public empty functions state them.
-use Rattle.std.proofs.Common.{◌≡◌, ◌↔◌, ℕ, ◌≤◌, ap, sym, ◌∙◌, List, [], ◌∷◌, ◌++◌, length, All, flat_map, Option, Some, None, true, false}
+use Rattle.std.proofs.Common.{◌≡◌, ◌↔◌, ℕ, ◌<◌, ◌≤◌, ap, sym, ◌∙◌, List, [], ◌∷◌, ◌++◌, length, All, flat_map, Option, Some, None, true, false}
 use Rattle.std.specs.Str.Lines.{strip_carriage_return}
 use Rattle.taxi_units.specs.declared.event.Event.{Event}
 use Rattle.drive_text.specs.declared.run.Run.{Run}
 use Rattle.drive_text.specs.declared.run.Run.TheVariants.{One}
 use Rattle.drive_text.specs.Drive.{first_bad, bad_at_end, runs_in, runs_after, events_in}
+use Rattle.drive_text.specs.Ending.{drive_limit, Whole, BadAt, Endless, ReachesEnd}
 use Rattle.drive_text.specs.Fields.{line_runs}
 use Rattle.drive_text.specs.Lines.{ended_lines, unfinished_line, text_of, IsOneLine}
 use Rattle.drive_text.specs.Ranges.{IsInRange}
@@ -14,6 +15,7 @@ use Rattle.drive_text.specs.Table.{Means}
 use Rattle.drive_text.specs.Whole.{IsReadAs, EndsWhole, given_by, bytes_of}
 use Rattle.drive_text.specs.Written.{event_text}
 use Rattle.drive_text.proofs.Cuts as cuts
+use Rattle.drive_text.proofs.Ends as ends
 use Rattle.drive_text.proofs.LineLaw as lines
 use Rattle.drive_text.proofs.ReadBack as back
 use Rattle.drive_text.proofs.Standing as standing
@@ -78,3 +80,16 @@ written_line_gives = back.runs_in-event_text
 
 pub written_line_is_good : (b : List ℕ) (event : Event) → IsInRange event → bad_at_end b ≡ None → bad_at_end (b ++ event_text event) ≡ None
 written_line_is_good = back.bad_at_end-event_text
+
+-- of bytes_tell_how_a_drive_ends
+pub whole_drive_ends : (drive : List ℕ) → length drive < drive_limit → bad_at_end drive ≡ None → ReachesEnd drive [] Whole (events_in drive)
+whole_drive_ends = ends.whole
+
+pub unfinished_drive_ends : (drive : List ℕ) (line : ℕ) → length drive < drive_limit → bad_at_end drive ≡ Some line → ReachesEnd drive [] (BadAt line) (events_in drive)
+unfinished_drive_ends = ends.unfinished
+
+pub bad_drive_ends : (taken left : List ℕ) (line : ℕ) → length taken ≤ drive_limit → first_bad taken ≡ Some line → ReachesEnd (taken ++ left) left (BadAt line) (events_in taken)
+bad_drive_ends = ends.bad
+
+pub endless_drive_ends : (taken left : List ℕ) → length taken ≡ drive_limit → first_bad taken ≡ None → ReachesEnd (taken ++ left) left Endless (events_in taken)
+endless_drive_ends = ends.endless

@@ -2,6 +2,7 @@ mod Blanks
 mod Cuts
 mod Decimals
 mod Endings
+mod Ends
 mod Feeding
 pub mod Laws
 mod LineLaw

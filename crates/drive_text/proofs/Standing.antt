@@ -1,6 +1,5 @@
 -- Where a reader stands after a part of a piece.
-use Rattle.std.proofs.Common.{◌≡◌, ◌≢◌, ℕ, ◌+◌, ◌<◌, ◌≤◌, Bool, true, false, cond, List, [], ◌∷◌, ◌++◌, length, refl, ap, sym, ◌∙◌, subst, arith, eqb, length-append, Option, Some, None, MatchOption}
-use Rattle.std.specs.Str.Lines.{strip_carriage_return}
+use Rattle.std.proofs.Common.{◌≡◌, ℕ, ◌+◌, ◌<◌, ◌≤◌, Bool, true, false, cond, List, [], ◌∷◌, ◌++◌, length, refl, ap, sym, ◌∙◌, subst, arith, eqb, length-append, Option, Some, None, MatchOption}
 use Rattle.std.proofs.lemmas.Bool.{ne_eqb}
 use Rattle.std.proofs.lemmas.List.{append-nil}
 use Rattle.drive_text.specs.declared.run.Run.{Run}

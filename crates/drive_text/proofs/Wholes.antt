@@ -1,14 +1,13 @@
 -- The first bad line and the runs of a text are those that its lines say.
-use Rattle.std.proofs.Common.{◌≡◌, ◌⊎◌, inl, inr, ◌↔◌, ℕ, ◌+◌, ◌<◌, Bool, true, false, cond, List, [], ◌∷◌, ◌++◌, length, refl, ap, sym, ◌∙◌, subst, arith, eqb, append_assoc, Option, Some, None, All, flat_map, is_none}
+use Rattle.std.proofs.Common.{◌≡◌, ◌⊎◌, inl, inr, ◌↔◌, ℕ, ◌+◌, Bool, true, false, cond, List, [], ◌∷◌, ◌++◌, length, refl, ap, sym, ◌∙◌, subst, arith, eqb, append_assoc, Option, Some, None, All, flat_map, is_none}
 use Rattle.std.specs.List.{position_from}
-use Rattle.std.specs.Str.Lines.{strip_carriage_return}
 use Rattle.std.proofs.Math.Seq.{take-append_seam, drop-append_seam}
 use Rattle.std.proofs.lemmas.Bool.{eqb-true}
 use Rattle.std.proofs.lemmas.List.{append-nil}
 use Rattle.std.proofs.lemmas.Grind.{flat_map-append}
 use Rattle.std.proofs.lemmas.List.Elements.{All-append, All-cons, All-head, All-nil, All-take, All-drop}
 use Rattle.drive_text.specs.declared.run.Run.{Run}
-use Rattle.drive_text.specs.Drive.{or_else, first_bad_line, first_bad_of, first_bad, bad_at_end, runs_of_lines, runs_in}
+use Rattle.drive_text.specs.Drive.{or_else, first_bad_line, first_bad, bad_at_end, runs_of_lines, runs_in}
 use Rattle.drive_text.specs.Fields.{line_runs}
 use Rattle.drive_text.specs.Lines.{ended_lines, unfinished_line, text_of, is_too_long, IsOneLine}
 use Rattle.drive_text.specs.Whole.{GiveAll, IsBad, IsGood, HasBadLine, BreaksAt, IsReadAs, EndsWhole}

@@ -1,4 +1,5 @@
 pub mod Drive
+pub mod Ending
 pub mod Fields
 pub mod Lines
 pub mod Part

@@ -1,5 +1,5 @@
 -- The numbers that a drive may have.
-use Rattle.std.specs.Prelude.{ℕ, ◌≤◌, ⊤}
+use Rattle.std.specs.Prelude.{◌≤◌, ⊤}
 use Rattle.taxi_units.specs.Time.{IsSecond}
 use Rattle.taxi_units.specs.declared.event.Event.{Event}
 use Rattle.taxi_units.specs.declared.event.Event.TheVariants.{Up, Down, Pulses, Tick, Clock, Key}

@@ -1,6 +1,7 @@
 //! The text of a drive: its lines, read in any pieces, and the line of one event.
 #![tactic(auto)]
 
+mod ending;
 mod fields;
 mod meaning;
 mod parting;
@@ -11,6 +12,7 @@ mod state;
 mod tests;
 mod written;
 
+pub use ending::bytes_tell_how_a_drive_ends;
 pub use meaning::{
     a_reader_is_known_by_its_bytes, drives_mean_what_their_lines_say,
     lines_give_what_the_table_says, lines_make_the_text, more_bytes_add_runs,

@@ -78,7 +78,8 @@ impl State {
         requires one { IsOneLine line.now }
         requires room { array_vec_len out.old < 64 }
         ensures ok { IfOk result (λ _.
-            TakesPart (reading_of self.old) (reading_of self.new) (line.now ++ 10 ∷ []) [] out.old.items out.new.items) }
+            TakesPart (reading_of self.old) (reading_of self.new)
+            (line.now ++ 10 ∷ []) [] out.old.items out.new.items) }
         ensures err { IfErr result (λ e.
             FailsIn (reading_of self.old) (reading_of self.new) (line.now ++ 10 ∷ []) e.line) }
         ensures out { OnErr result (out.new ≡ out.old) }

@@ -1,9 +1,8 @@
-use Rattle.std.proofs.Common.{rules, ◌≡◌, ◌⊎◌, inl, inr, ◌+◌, ◌-◌, ◌<◌, ◌++◌, List, ℕ, [], length, refl, ap, sym, ◌∙◌, subst, arith, length-append, false, true, eqb, ◌≤◌, All}
+use Rattle.std.proofs.Common.{rules, ◌≡◌, inl, inr, ◌+◌, ◌-◌, ◌<◌, ◌++◌, List, ℕ, length, ap, sym, ◌∙◌, subst, arith, length-append, false, eqb, ◌≤◌, All}
 use Rattle.std.proofs.lemmas.Bool.{eqb-false}
 use Rattle.std.proofs.lemmas.List.Elements.{All-append}
 use Rattle.std.proofs.lemmas.Result.{err_from_is_err_and}
 use Rattle.drive_text.specs.declared.run.Run.{Run}
-use Rattle.drive_text.specs.Part.{reading_of}
 use Rattle.drive_text.specs.Ranges.{IsRunInRange}
 use Rattle.drive_text.specs.Reading.{Reading, HasTaken}
 use Rattle.drive_text.proofs.Feeding.{Feeds, feeds_none, feeds_more, takes_to, feeds_reader, breaks_in, breaks_reader, some_taken}

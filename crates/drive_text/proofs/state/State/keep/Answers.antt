@@ -1,6 +1,5 @@
-use Rattle.std.proofs.Common.{rules, ◌≡◌, List, ℕ, ◌++◌, ◌+◌, ◌∙◌, sym, ap, refl, arith, length, length-append, true, false, ltb}
+use Rattle.std.proofs.Common.{◌≡◌, ◌++◌, ◌+◌, ◌∙◌, sym, refl, arith, length, length-append, true, false, ltb}
 use Rattle.std.specs.Str.Lines.{strip_carriage_return}
-use Rattle.drive_text.specs.declared.run.Run.{Run}
 use Rattle.drive_text.specs.Lines.{is_comment}
 use Rattle.drive_text.specs.Part.{reading_of}
 use Rattle.drive_text.proofs.Endings.{many_fail, long_by_test, short_by_test}

@@ -1,4 +1,4 @@
-use Rattle.std.proofs.Common.{rules, ◌≡◌, ◌++◌, ◌+◌, ◌∙◌, arith, length, length-append}
+use Rattle.std.proofs.Common.{rules, ◌++◌, ◌+◌, ◌∙◌, arith, length, length-append}
 use Rattle.drive_text.proofs.Endings.{many_fail, comment-append, line_runs-long}
 use Rattle.drive_text.proofs.Feeding.{refused_many}
 use Rattle.drive_text.proofs.state.State.run_with.Goals as goal
