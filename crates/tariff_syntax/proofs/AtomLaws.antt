@@ -1,6 +1,5 @@
 -- Atoms are read from their forms.
-use Rattle.std.proofs.Common.{◌≡◌, inl, inr, ℕ, zero, suc, ◌≤◌, true, List, [], ◌∷◌, ◌++◌, Option, Some, None, refl, ap, sym, ◌∙◌, subst, arith, codes}
-use Rattle.std.specs.Str.{bytes_eq}
+use Rattle.std.proofs.Common.{◌≡◌, inl, inr, ℕ, zero, suc, ◌≤◌, List, [], ◌∷◌, ◌++◌, Option, Some, None, refl, ap, ◌∙◌, subst, arith, codes}
 use Rattle.tariff_syntax.specs.Atom.{weekday_read, weekday_first, numbered_first, time_first, until_weekday, days_first, dates_first, by_unit, after_first, atom_named}
 use Rattle.tariff_syntax.specs.Condition.{Condition, and, or, not, position, zone, time, day, date, holiday, after_distance, after_time}
 use Rattle.tariff_syntax.specs.Figure.{small_number, amount_read, minute_read, date_read, number_first, amount_first, minute_first, date_first}

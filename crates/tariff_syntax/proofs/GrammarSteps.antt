@@ -1,10 +1,9 @@
 -- Reading a condition, a step at a time.
-use Rattle.std.proofs.Common.{◌≡◌, ℕ, zero, suc, ◌+◌, ◌<◌, List, Option, Some, None, refl, arith}
+use Rattle.std.proofs.Common.{◌≡◌, ℕ, zero, suc, ◌+◌, ◌<◌, List, Option, Some, None, refl, subst, arith}
 use Rattle.taxi_units.specs.Reading.{◌>>=◌}
+use Rattle.tariff_syntax.specs.Built.{IsBuilt, IsFront, Builds}
 use Rattle.tariff_syntax.specs.Condition.{Condition}
-use Rattle.tariff_syntax.specs.Faults.{IsFault}
-use Rattle.tariff_syntax.specs.declared.conditions.LineFault.{LineFault}
-use Rattle.tariff_syntax.specs.declared.conditions.LineFault.TheVariants.{Bad, NoMemory}
+use Rattle.tariff_syntax.specs.declared.condition.Cond.{Cond}
 use Rattle.tariff_syntax.specs.Grammar.{Reader, factor_by, condition_by, chain_on, factor_first}
 use Rattle.tariff_syntax.specs.Token.{Token}
 use Rattle.tariff_syntax.specs.Words.{after_word}
@@ -34,7 +33,7 @@ unfolding chain_on
 chain_goes joint joined zero less left ts rest h e = absurd (omega arith)
 chain_goes joint joined (suc most) less left ts rest h e = let same : less ≡ most = omega arith in rw same (rw (e, chain_on) refl)
 
--- what cannot be read has nothing after it
-pub fault_on : {Y Z : Type 0} (fault : LineFault) (read : Option Y) (f : Y → Option Z) → IsFault fault read → IsFault fault (read >>= f)
-fault_on Bad read f e = rw e refl
-fault_on NoMemory read f e = tt
+-- what is read behind something read is read behind what was built of it
+pub then_builds : {X : Type 0} (view : X → Option Cond × List Token) (found : Option X) (built : Option Cond) (ts : List Token) (read : Option (Condition × List Token)) (f : Condition × List Token → Option (Condition × List Token)) → IsFront (built, ts) read → ((c : Condition) → IsBuilt built c → Builds view found (f (c, ts))) → Builds view found (read >>= f)
+then_builds view found built ts None f h g = absurd h
+then_builds view found built ts (Some read) f h g = subst (λ (rest : List Token). Builds view found (f (read.0, rest))) h.1 (g read.0 h.0)

@@ -1,6 +1,5 @@
 -- What a line says is read from its form.
-use Rattle.std.proofs.Common.{◌≡◌, inl, inr, ℕ, ◌≤◌, true, List, [], ◌∷◌, ◌++◌, Option, Some, None, refl, ap, sym, ◌∙◌, subst, arith, codes, ◌↔◌}
-use Rattle.std.specs.Str.{bytes_eq}
+use Rattle.std.proofs.Common.{◌≡◌, inl, inr, ℕ, ◌≤◌, List, [], ◌∷◌, ◌++◌, Option, Some, None, refl, ap, sym, ◌∙◌, subst, arith, codes, ◌↔◌}
 use Rattle.std.proofs.lemmas.Bool.{leb-true, le-leb}
 use Rattle.drive_modes.specs.declared.meterage.Rounding.{Rounding}
 use Rattle.drive_modes.specs.declared.meterage.Rounding.TheVariants.{Behind, Ahead}
@@ -21,7 +20,7 @@ use Rattle.tariff_syntax.proofs.AtomLaws.{number_is, number_here, amounts_are, a
 use Rattle.tariff_syntax.proofs.ConditionAgain.{condition_again, size_is}
 use Rattle.tariff_syntax.proofs.ConditionLaws.{condition_found}
 use Rattle.tariff_syntax.proofs.FigureLaws.{year_date_is, year_date_again, figure_as_is, figure_as_here}
-use Rattle.tariff_syntax.proofs.Tools.{bind_some, by_word, chosen, same_text, ended_is, after_word_is, after_word_here, after_sign_is, after_sign_here, word_first_is, word_first_here, some_same, append_none}
+use Rattle.tariff_syntax.proofs.Tools.{bind_some, by_word, chosen, ended_is, after_word_is, after_word_here, after_sign_is, after_sign_here, word_first_is, word_first_here, some_same, append_none}
 
 nothing_behind : (w : List ℕ) → (after_sign w [] ≡ None) × (after_word w [] ≡ None)
 unfolding after_sign after_word

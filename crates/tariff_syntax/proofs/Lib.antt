@@ -6,6 +6,7 @@ mod FigureLaws
 mod GrammarSteps
 mod ItemLaws
 pub mod Laws
+mod LineFaults
 mod LineOrder
 mod NumberLaws
 mod ParenthesesLaws

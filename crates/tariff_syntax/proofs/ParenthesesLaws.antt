@@ -1,11 +1,10 @@
 -- No pair of parentheses of a printed form could go.
-use Rattle.std.proofs.Common.{◌≡◌, ℕ, ◌≤◌, List, [], ◌∷◌, ◌++◌, sym, ◌∙◌, ap, subst, arith, codes}
+use Rattle.std.proofs.Common.{◌≡◌, ℕ, List, [], ◌∷◌, ◌++◌, sym, ◌∙◌, ap, subst, arith, codes}
 use Rattle.tariff_syntax.specs.Condition.{Condition}
 use Rattle.tariff_syntax.specs.Parentheses.{NeedsParentheses, with_pair}
-use Rattle.tariff_syntax.specs.PrintedCondition.{whole, condition_at, condition_text}
+use Rattle.tariff_syntax.specs.PrintedCondition.{whole, condition_text}
 use Rattle.tariff_syntax.specs.Spelled.{IsSpelled}
-use Rattle.tariff_syntax.specs.TextLines.{lines_of}
-use Rattle.tariff_syntax.specs.Token.{Token, sign}
+use Rattle.tariff_syntax.specs.Token.{sign}
 use Rattle.tariff_syntax.specs.TokenReading.{tokens_of}
 use Rattle.tariff_syntax.specs.Weight.{weight}
 use Rattle.tariff_syntax.proofs.ConditionAgain.{weight-append}

@@ -1,10 +1,10 @@
 -- A text reads as the tariff that is parsed, and its first bad line is the one that is named.
-use Rattle.std.proofs.Common.{◌≡◌, ◌⊎◌, inl, inr, ℕ, ◌+◌, List, [], ◌∷◌, Option, Some, None, Result, Ok, Err, refl, ap, sym, ◌∙◌, subst, ◌↔◌}
+use Rattle.std.proofs.Common.{◌≡◌, ◌⊎◌, inl, inr, ℕ, ◌+◌, ◌<◌, List, length, arith, [], ◌∷◌, Option, Some, None, Result, Ok, Err, refl, ap, sym, ◌∙◌, subst, ◌↔◌}
 use Rattle.tariff_syntax.specs.IsItem.{IsItem}
 use Rattle.tariff_syntax.specs.Items.{item_read, decimals_read}
 use Rattle.tariff_syntax.specs.Parsed.{put_entry, entries_read, heading_by, heading_read, tree_with, tree_below, tree_parsed}
 use Rattle.tariff_syntax.specs.TextLines.{lines_of}
-use Rattle.tariff_syntax.specs.Parses.{IsAnswer}
+use Rattle.tariff_syntax.specs.Parses.{HasLines, IsFilled, IsAnswer}
 use Rattle.tariff_syntax.specs.Reads.{IsEmpty, SaysDecimals, Says, SayLines, SayTariff, Reads, FirstBad, FirstBadBelow, IsFirstBadLine, IsParsed}
 use Rattle.tariff_syntax.specs.Spelled.{IsSpelled}
 use Rattle.tariff_syntax.specs.Token.{Token}
@@ -255,9 +255,17 @@ either_by text (Err line) e = inr (line, (first_bad_exactly text line).1 e)
 pub reads_or_bad : (text : List ℕ) → ((t : Tree) × Reads text t) ⊎ ((line : ℕ) × IsFirstBadLine text line)
 reads_or_bad text = either_by text (tree_parsed text) refl
 
+some_line : (lines : List Line) → HasLines (Ok lines) → 0 < length lines
+some_line [] h = absurd h
+some_line (line ∷ lines) h = omega arith
+
+filled_by : (text : List ℕ) (r : Result Tree ℕ) → tree_parsed text ≡ r → IsFilled r → (t : Tree) × Reads text t × (0 < length t.lines)
+filled_by text (Ok t) e h = (t, (reads_exactly text t).1 e, some_line t.lines h)
+filled_by text (Err bad) e h = absurd h
+
 -- what the parser answers is said of the text
 pub parsed_is : (text : List ℕ) (answer : Result Tariff ParseFault) → IsAnswer text answer → IsParsed text answer
 parsed_is text (Ok t) h = (h.0, (reads_exactly text (tree_of t)).1 h.1)
 parsed_is text (Err TooLong) h = h
 parsed_is text (Err (Syntax line)) h = (h.0, (first_bad_exactly text line).1 h.1)
-parsed_is text (Err NoMemory) h = h
+parsed_is text (Err NoMemory) h = (h.0, filled_by text (tree_parsed text) refl h.1)

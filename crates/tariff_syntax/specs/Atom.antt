@@ -2,7 +2,8 @@
 use Rattle.std.specs.Prelude.{ℕ, List, Option, Some, None, if◌then◌else◌, codes}
 use Rattle.std.specs.Str.{bytes_eq}
 use Rattle.taxi_units.specs.Reading.{◌>>=◌}
-use Rattle.tariff_syntax.specs.Condition.{Condition, position, zone, time, day, date, holiday, after_distance, after_time}
+use Rattle.tariff_syntax.specs.Condition.{Condition, position, zone, time, day, date, holiday, after_distance}
+use Rattle.tariff_syntax.specs.Condition.{after_time}
 use Rattle.tariff_syntax.specs.Figure.{number_first, amount_first, minute_first, date_first}
 use Rattle.tariff_syntax.specs.Token.{Token}
 use Rattle.tariff_syntax.specs.Words.{after_word, after_sign, word_first}

@@ -1,6 +1,7 @@
 -- The condition of a line, without where it lies in memory.
 use Rattle.std.specs.Prelude.{ℕ, Option, Some, None}
-use Rattle.tariff_syntax.specs.declared.condition.Cond.{Cond, And', Or', Not', Position, Zone, Time, Day, Date, Holiday, AfterDistance, AfterTime}
+use Rattle.tariff_syntax.specs.declared.condition.Cond.{Cond, And', Or', Not', Position, Zone, Time, Day, Date, Holiday}
+use Rattle.tariff_syntax.specs.declared.condition.Cond.{AfterDistance, AfterTime}
 
 -- when a line holds: minutes of a day, weekdays from 1 for Monday, months and dates, decimetres, tenths of a second
 pub data Condition : Type 0 where

@@ -1,5 +1,6 @@
 -- What figures say: numbers of one or two digits, dates and minutes, amounts.
-use Rattle.std.specs.Prelude.{ℕ, ◌+◌, ◌*◌, List, length, Option, Some, None, Result, Ok, Err, if◌then◌else◌, ◌&&◌, ◌==◌, nat_le, codes}
+use Rattle.std.specs.Prelude.{ℕ, ◌+◌, ◌*◌, List, length, Option, Some, None, Result, Ok, Err, if◌then◌else◌, ◌&&◌, ◌==◌}
+use Rattle.std.specs.Prelude.{nat_le, codes}
 use Rattle.taxi_units.specs.Number.{number_at, decimal_read}
 use Rattle.taxi_units.specs.Reading.{◌>>=◌, word_at}
 use Rattle.taxi_units.specs.declared.decimal.NumberFault.{NumberFault}

@@ -2,7 +2,8 @@
 use Rattle.std.specs.Prelude.{◌≡◌, ℕ, ◌+◌, ◌*◌, ◌≤◌, ◌⊎◌, List, [], ◌∷◌, ◌++◌, length, Ok, codes}
 use Rattle.std.specs.Str.Parse.{IsNumeral, digits_value}
 use Rattle.taxi_units.specs.Decimal.{IsReadAs}
-use Rattle.tariff_syntax.specs.Condition.{Condition, and, or, not, position, zone, time, day, date, holiday, after_distance, after_time}
+use Rattle.tariff_syntax.specs.Condition.{Condition, and, or, not, position, zone, time, day, date, holiday}
+use Rattle.tariff_syntax.specs.Condition.{after_distance, after_time}
 use Rattle.tariff_syntax.specs.Token.{Token, word, figure, sign}
 use Rattle.tariff_syntax.specs.Weekdays.{day_word}
 

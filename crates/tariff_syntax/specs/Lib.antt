@@ -1,5 +1,6 @@
 pub mod Appends
 pub mod Atom
+pub mod Built
 pub mod Condition
 pub mod Faults
 pub mod Figure

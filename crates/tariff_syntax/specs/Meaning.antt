@@ -1,5 +1,6 @@
 -- When a condition holds, and which line of a tariff holds first.
-use Rattle.std.specs.Prelude.{◌≡◌, ℕ, ◌*◌, Bool, true, false, not, ◌&&◌, ◌||◌, ◌==◌, if◌then◌else◌, nat_le, nat_lt, List, All, Option, Some, None, take}
+use Rattle.std.specs.Prelude.{◌≡◌, ℕ, ◌*◌, Bool, true, false, not, ◌&&◌, ◌||◌, ◌==◌, if◌then◌else◌, nat_le, nat_lt}
+use Rattle.std.specs.Prelude.{List, All, Option, Some, None, take}
 use Rattle.std.specs.List.{position_from, slice_get}
 use Rattle.taxi_units.specs.Calendar.{date_of_place}
 use Rattle.tariff_syntax.specs.Condition as tree

@@ -2,7 +2,8 @@
 use Rattle.std.specs.Prelude.{ℕ, ◌/◌, ◌%◌, List, ◌++◌, Bool, true, false, if◌then◌else◌, ◌==◌, codes}
 use Rattle.std.specs.Fmt.{decimal}
 use Rattle.taxi_units.specs.Number.{money_text, padded_text}
-use Rattle.tariff_syntax.specs.Condition.{Condition, and, or, not, position, zone, time, day, date, holiday, after_distance, after_time}
+use Rattle.tariff_syntax.specs.Condition.{Condition, and, or, not, position, zone, time, day, date, holiday}
+use Rattle.tariff_syntax.specs.Condition.{after_distance, after_time}
 use Rattle.tariff_syntax.specs.Weekdays.{day_word}
 
 -- one weekday, or two of them

@@ -67,11 +67,11 @@ IsFirstBadLine text bad = FirstBadBelow 1 (lines_of text) bad
 abbrev pub RiseInNumber : List Line → Type 0
 RiseInNumber lines = AllPairs (λ (above below : Line). above.line < below.line) lines
 
--- why a text gives no tariff: it is too long, or this is its first bad line, or memory ran out
+-- why a text gives no tariff: it is too long, or this is its first bad line, or memory ran out for a tariff of lines
 abbrev pub IsRefused : List ℕ → ParseFault → Type 0
 IsRefused text TooLong = 65536 < length text
 IsRefused text (Syntax line) = (length text ≤ 65536) × IsFirstBadLine text line
-IsRefused text NoMemory = length text ≤ 65536
+IsRefused text NoMemory = (length text ≤ 65536) × ((t : Tree) × Reads text t × (0 < length t.lines))
 
 -- the answer to a text: the tariff that it reads as, or why it gives none
 abbrev pub IsParsed : List ℕ → Result Tariff ParseFault → Type 0

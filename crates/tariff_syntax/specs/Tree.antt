@@ -3,7 +3,8 @@ use Rattle.std.specs.Prelude.{ℕ, List, map, Option}
 use Rattle.drive_modes.specs.declared.meterage.Rounding.{Rounding}
 use Rattle.tariff_syntax.specs.Condition.{Condition, condition_if}
 use Rattle.tariff_syntax.specs.declared.tariff.Item.{Item}
-use Rattle.tariff_syntax.specs.declared.tariff.Item.TheVariants.{Step, Positions, Zones, Holiday, Supplement, Initial, Rate, Minimum}
+use Rattle.tariff_syntax.specs.declared.tariff.Item.TheVariants.{Step, Positions, Zones, Holiday, Supplement, Initial}
+use Rattle.tariff_syntax.specs.declared.tariff.Item.TheVariants.{Rate, Minimum}
 use Rattle.tariff_syntax.specs.declared.tariff.Tariff.{Tariff}
 use Rattle.tariff_syntax.specs.declared.tariff.TariffLine.{TariffLine}
 

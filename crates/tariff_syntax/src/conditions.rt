@@ -1,16 +1,18 @@
 //! Reads conditions.
-ghost use Rattle.std.specs.Prelude.{◌≡◌, ◌+◌, ◌≤◌, codes, length, Some, IfOk, if◌then◌else◌};
-ghost use Rattle.tariff_syntax.specs.Condition as tree;
-ghost use Rattle.tariff_syntax.specs.Condition.{condition_of, condition_if};
+ghost use Rattle.std.specs.Prelude.{◌≡◌, ◌+◌, ◌≤◌, codes, length, if◌then◌else◌};
+ghost use Rattle.tariff_syntax.specs.Built.{Builds, HasParts, HasPartsIf, IsBuilt};
+ghost use Rattle.tariff_syntax.specs.Condition.{Condition, condition_of, condition_if};
 ghost use Rattle.tariff_syntax.specs.Faults.{GivesOrFails};
 ghost use Rattle.tariff_syntax.specs.Grammar as spec;
 ghost use Rattle.tariff_syntax.specs.Weight as weights;
-ghost use Rattle.tariff_syntax.specs.Grammar.{condition_by, term_by, factor_by, factor_first, chain_on, negated, closed_after, when_read};
+ghost use Rattle.tariff_syntax.specs.Grammar.{condition_by, term_by, factor_by, factor_first, chain_on, negated};
+ghost use Rattle.tariff_syntax.specs.Grammar.{closed_after, when_read};
 ghost use Rattle.tariff_syntax.specs.Weight.{token_weight};
 ghost use Rattle.tariff_syntax.specs.Token.{token_of};
 ghost use Rattle.tariff_syntax.specs.TokenReading.{tokens_of};
 
 use crate::atoms::atom_named;
+use crate::building::{and, not, or};
 use crate::condition::Cond;
 use crate::tokens::{Token, first_token};
 use crate::words::{after_sign, after_word, is_over, is_text};
@@ -21,15 +23,16 @@ use std::alloc::Global;
 pub enum LineFault {
     /// It has none of the forms of a line.
     Bad,
-    /// Memory ran out.
+    /// Memory ran out for a condition that has parts, of a line that has one of the forms.
     NoMemory,
 }
 
-/// A condition, and what stands after it; with fewer `not` and `(` around each atom than a number.
+/// A condition, and what stands after it; with fewer `not` and `(` around each atom than a number. A line is
+/// read on where memory runs out: the condition is missing then, and what stands after it is known.
 #[cycle(conditions)]
 #[tactic(auto, unfolding(crate::specs::Grammar::condition_by))]
-fn condition(alloc: Global, depth: u8, line: &[u8]) -> Result<(Cond, &[u8]), LineFault>
-    ensures { GivesOrFails (λ x. (condition_of x.0, tokens_of x.1.now)) result
+fn condition(alloc: Global, depth: u8, line: &[u8]) -> Option<(Option<Cond>, &[u8])>
+    ensures { Builds (λ x. (x.0, tokens_of x.1.now)) result
         (condition_by (factor_first depth) (tokens_of line.now)) }
 {
     let (first, rest) = term(alloc, depth, line)?;
@@ -42,40 +45,42 @@ fn more_terms(
     alloc: Global,
     depth: u8,
     most: u8,
-    left: Cond,
+    left: Option<Cond>,
     line: &[u8],
-) -> Result<(Cond, &[u8]), LineFault>
-    ensures { GivesOrFails (λ x. (condition_of x.0, tokens_of x.1.now)) result
-        (chain_on (codes "or") (spec.or_joined (factor_first depth)) most (condition_of left) (tokens_of line.now)) }
+) -> Option<(Option<Cond>, &[u8])>
+    ensures { (c : Condition) → IsBuilt left c → Builds (λ x. (x.0, tokens_of x.1.now)) result
+        (chain_on (codes "or") (spec.or_joined (factor_first depth)) most c (tokens_of line.now)) }
 {
     if most == 0 {
-        return Err(LineFault::Bad);
+        return None;
     }
     let Some(rest) = after_word(line, b"or") else {
-        return Ok((left, line));
+        return Some((left, line));
     };
-    match or_joined(alloc, depth, left, rest) {
-        Ok((either, rest)) => more_terms(alloc, depth, most - 1, either, rest),
-        Err(fault) => Err(fault),
-    }
+    let (either, rest) = or_joined(alloc, depth, left, rest)?;
+    more_terms(alloc, depth, most - 1, either, rest)
 }
 
 /// A term, joined by `or` to what stands to the left, and what stands after it.
 #[cycle(conditions)]
-fn or_joined(alloc: Global, depth: u8, left: Cond, line: &[u8]) -> Result<(Cond, &[u8]), LineFault>
-    ensures { GivesOrFails (λ x. (condition_of x.0, tokens_of x.1.now)) result
-        (spec.or_joined (factor_first depth) (condition_of left) (tokens_of line.now)) }
+fn or_joined(
+    alloc: Global,
+    depth: u8,
+    left: Option<Cond>,
+    line: &[u8],
+) -> Option<(Option<Cond>, &[u8])>
+    ensures { (c : Condition) → IsBuilt left c → Builds (λ x. (x.0, tokens_of x.1.now)) result
+        (spec.or_joined (factor_first depth) c (tokens_of line.now)) }
 {
     let (right, rest) = term(alloc, depth, line)?;
-    let either = or(alloc, left, right)?;
-    Ok((either, rest))
+    Some((or(alloc, left, right), rest))
 }
 
 /// A term, and what stands after it.
 #[cycle(conditions)]
 #[tactic(auto, unfolding(crate::specs::Grammar::term_by))]
-fn term(alloc: Global, depth: u8, line: &[u8]) -> Result<(Cond, &[u8]), LineFault>
-    ensures { GivesOrFails (λ x. (condition_of x.0, tokens_of x.1.now)) result
+fn term(alloc: Global, depth: u8, line: &[u8]) -> Option<(Option<Cond>, &[u8])>
+    ensures { Builds (λ x. (x.0, tokens_of x.1.now)) result
         (term_by (factor_first depth) (tokens_of line.now)) }
 {
     let (first, rest) = factor(alloc, depth, line)?;
@@ -88,140 +93,99 @@ fn more_factors(
     alloc: Global,
     depth: u8,
     most: u8,
-    left: Cond,
+    left: Option<Cond>,
     line: &[u8],
-) -> Result<(Cond, &[u8]), LineFault>
-    ensures { GivesOrFails (λ x. (condition_of x.0, tokens_of x.1.now)) result
-        (chain_on (codes "and") (spec.and_joined (factor_first depth)) most (condition_of left) (tokens_of line.now)) }
+) -> Option<(Option<Cond>, &[u8])>
+    ensures { (c : Condition) → IsBuilt left c → Builds (λ x. (x.0, tokens_of x.1.now)) result
+        (chain_on (codes "and") (spec.and_joined (factor_first depth)) most c (tokens_of line.now)) }
 {
     if most == 0 {
-        return Err(LineFault::Bad);
+        return None;
     }
     let Some(rest) = after_word(line, b"and") else {
-        return Ok((left, line));
+        return Some((left, line));
     };
-    match and_joined(alloc, depth, left, rest) {
-        Ok((both, rest)) => more_factors(alloc, depth, most - 1, both, rest),
-        Err(fault) => Err(fault),
-    }
+    let (both, rest) = and_joined(alloc, depth, left, rest)?;
+    more_factors(alloc, depth, most - 1, both, rest)
 }
 
 /// A factor, joined by `and` to what stands to the left, and what stands after it.
 #[cycle(conditions)]
-fn and_joined(alloc: Global, depth: u8, left: Cond, line: &[u8]) -> Result<(Cond, &[u8]), LineFault>
-    ensures { GivesOrFails (λ x. (condition_of x.0, tokens_of x.1.now)) result
-        (spec.and_joined (factor_first depth) (condition_of left) (tokens_of line.now)) }
+fn and_joined(
+    alloc: Global,
+    depth: u8,
+    left: Option<Cond>,
+    line: &[u8],
+) -> Option<(Option<Cond>, &[u8])>
+    ensures { (c : Condition) → IsBuilt left c → Builds (λ x. (x.0, tokens_of x.1.now)) result
+        (spec.and_joined (factor_first depth) c (tokens_of line.now)) }
 {
     let (right, rest) = factor(alloc, depth, line)?;
-    let both = and(alloc, left, right)?;
-    Ok((both, rest))
+    Some((and(alloc, left, right), rest))
 }
 
 /// A factor, and what stands after it.
 #[cycle(conditions)]
-fn factor(alloc: Global, depth: u8, line: &[u8]) -> Result<(Cond, &[u8]), LineFault>
-    ensures { GivesOrFails (λ x. (condition_of x.0, tokens_of x.1.now)) result
+fn factor(alloc: Global, depth: u8, line: &[u8]) -> Option<(Option<Cond>, &[u8])>
+    ensures { Builds (λ x. (x.0, tokens_of x.1.now)) result
         (factor_first depth (tokens_of line.now)) }
 {
     if depth == 0 {
-        return Err(LineFault::Bad);
+        return None;
     }
     factor_above(alloc, depth - 1, line)
 }
 
 /// A factor, with one more `not` or `(` around it than a number.
 #[cycle(conditions)]
-fn factor_above(alloc: Global, depth: u8, line: &[u8]) -> Result<(Cond, &[u8]), LineFault>
-    ensures { GivesOrFails (λ x. (condition_of x.0, tokens_of x.1.now)) result
+fn factor_above(alloc: Global, depth: u8, line: &[u8]) -> Option<(Option<Cond>, &[u8])>
+    ensures { Builds (λ x. (x.0, tokens_of x.1.now)) result
         (factor_by (factor_first depth) (condition_by (factor_first depth)) (tokens_of line.now)) }
 {
-    let Some((token, rest)) = first_token(line) else {
-        return Err(LineFault::Bad);
-    };
+    let (token, rest) = first_token(line)?;
     match token {
         Token::Word(name) => {
             if is_text(name, b"not") {
                 return negation(alloc, depth, rest);
             }
-            match atom_named(name, rest) {
-                Some(atom) => Ok(atom),
-                None => Err(LineFault::Bad),
-            }
+            let (atom, rest) = atom_named(name, rest)?;
+            Some((Some(atom), rest))
         }
         Token::Sign(text) => {
             if is_text(text, b"(") {
                 return in_parentheses(alloc, depth, rest);
             }
-            Err(LineFault::Bad)
+            None
         }
-        Token::Figure(_) => Err(LineFault::Bad),
+        Token::Figure(_) => None,
     }
 }
 
 /// The negation of the factor that stands first.
 #[cycle(conditions)]
-fn negation(alloc: Global, depth: u8, line: &[u8]) -> Result<(Cond, &[u8]), LineFault>
-    ensures { GivesOrFails (λ x. (condition_of x.0, tokens_of x.1.now)) result
+fn negation(alloc: Global, depth: u8, line: &[u8]) -> Option<(Option<Cond>, &[u8])>
+    ensures { Builds (λ x. (x.0, tokens_of x.1.now)) result
         (negated (factor_first depth (tokens_of line.now))) }
 {
     let (inner, rest) = factor(alloc, depth, line)?;
-    let cond = not(alloc, inner)?;
-    Ok((cond, rest))
+    Some((not(alloc, inner), rest))
 }
 
 /// A condition before a closing parenthesis.
 #[cycle(conditions)]
-fn in_parentheses(alloc: Global, depth: u8, line: &[u8]) -> Result<(Cond, &[u8]), LineFault>
-    ensures { GivesOrFails (λ x. (condition_of x.0, tokens_of x.1.now)) result
+fn in_parentheses(alloc: Global, depth: u8, line: &[u8]) -> Option<(Option<Cond>, &[u8])>
+    ensures { Builds (λ x. (x.0, tokens_of x.1.now)) result
         (closed_after (condition_by (factor_first depth) (tokens_of line.now))) }
 {
     let (inner, rest) = condition(alloc, depth, line)?;
-    let Some(rest) = after_sign(rest, b")") else {
-        return Err(LineFault::Bad);
-    };
-    Ok((inner, rest))
-}
-
-/// That both hold.
-fn and(alloc: Global, left: Cond, right: Cond) -> Result<Cond, LineFault>
-    ensures { GivesOrFails condition_of result (Some (tree.and (condition_of left) (condition_of right))) }
-{
-    let Ok(left) = Box::new(alloc, left) else {
-        return Err(LineFault::NoMemory);
-    };
-    let Ok(right) = Box::new(alloc, right) else {
-        return Err(LineFault::NoMemory);
-    };
-    Ok(Cond::And(left, right))
-}
-
-/// That one of them holds.
-fn or(alloc: Global, left: Cond, right: Cond) -> Result<Cond, LineFault>
-    ensures { GivesOrFails condition_of result (Some (tree.or (condition_of left) (condition_of right))) }
-{
-    let Ok(left) = Box::new(alloc, left) else {
-        return Err(LineFault::NoMemory);
-    };
-    let Ok(right) = Box::new(alloc, right) else {
-        return Err(LineFault::NoMemory);
-    };
-    Ok(Cond::Or(left, right))
-}
-
-/// That it doesn't hold.
-fn not(alloc: Global, inner: Cond) -> Result<Cond, LineFault>
-    ensures { GivesOrFails condition_of result (Some (tree.not (condition_of inner))) }
-{
-    let Ok(inner) = Box::new(alloc, inner) else {
-        return Err(LineFault::NoMemory);
-    };
-    Ok(Cond::Not(inner))
+    let rest = after_sign(rest, b")")?;
+    Some((inner, rest))
 }
 
 /// The end of a line that may have a condition.
 #[tactic(auto, unfolding(crate::specs::Grammar::when_read))]
 pub fn when(alloc: Global, line: &[u8]) -> Result<Option<Cond>, LineFault>
-    ensures { GivesOrFails condition_if result (when_read (tokens_of line.now)) }
+    ensures { GivesOrFails condition_if HasPartsIf result (when_read (tokens_of line.now)) }
 {
     if is_over(line) {
         return Ok(None);
@@ -237,16 +201,21 @@ pub fn when(alloc: Global, line: &[u8]) -> Result<Option<Cond>, LineFault>
 /// `not` and `(` than that around an atom, and fewer parts joined.
 #[tactic(auto, unfolding(crate::specs::Grammar::bounded_condition))]
 fn bounded_condition(alloc: Global, line: &[u8]) -> Result<Cond, LineFault>
-    ensures { GivesOrFails condition_of result (spec.bounded_condition (tokens_of line.now)) }
+    ensures { GivesOrFails condition_of HasParts result (spec.bounded_condition (tokens_of line.now)) }
 {
     if weight(line) > 64 {
         return Err(LineFault::Bad);
     }
-    let (cond, rest) = condition(alloc, 64, line)?;
+    let Some((cond, rest)) = condition(alloc, 64, line) else {
+        return Err(LineFault::Bad);
+    };
     if !is_over(rest) {
         return Err(LineFault::Bad);
     }
-    Ok(cond)
+    match cond {
+        Some(cond) => Ok(cond),
+        None => Err(LineFault::NoMemory),
+    }
 }
 
 /// How many atoms, `not` and `(` begin in a line.

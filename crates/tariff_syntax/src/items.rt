@@ -1,9 +1,11 @@
 //! Reads what a line says.
 ghost use Rattle.std.specs.Prelude.{◌≡◌, ◌≤◌, IfSome};
 ghost use Rattle.taxi_units.specs.Reading.{Gives};
+ghost use Rattle.tariff_syntax.specs.Built.{EntryHasParts};
 ghost use Rattle.tariff_syntax.specs.Faults.{GivesOrFails};
 ghost use Rattle.tariff_syntax.specs.Items as spec;
-ghost use Rattle.tariff_syntax.specs.Items.{step_read, count_read, positions_read, zones_read, holiday_read, supplement_read, item_read};
+ghost use Rattle.tariff_syntax.specs.Items.{step_read, count_read, positions_read, zones_read, holiday_read};
+ghost use Rattle.tariff_syntax.specs.Items.{supplement_read, item_read};
 ghost use Rattle.tariff_syntax.specs.TokenReading.{tokens_of};
 ghost use Rattle.tariff_syntax.specs.Tree.{entry_of};
 
@@ -18,7 +20,7 @@ use std::alloc::Global;
 #[tactic(auto, unfolding(crate::specs::Items::item_read))]
 pub fn item(alloc: Global, decimals: u8, line: &[u8]) -> Result<Item, LineFault>
     requires { decimals ≤ 3 }
-    ensures { GivesOrFails entry_of result (item_read decimals (tokens_of line.now)) }
+    ensures { GivesOrFails entry_of EntryHasParts result (item_read decimals (tokens_of line.now)) }
 {
     let Some((name, rest)) = word_first(line) else {
         return Err(LineFault::Bad);
@@ -30,7 +32,7 @@ pub fn item(alloc: Global, decimals: u8, line: &[u8]) -> Result<Item, LineFault>
 #[tactic(auto, unfolding(crate::specs::Items::item_named))]
 fn item_named(alloc: Global, decimals: u8, name: &[u8], line: &[u8]) -> Result<Item, LineFault>
     requires { decimals ≤ 3 }
-    ensures { GivesOrFails entry_of result (spec.item_named decimals name.now (tokens_of line.now)) }
+    ensures { GivesOrFails entry_of EntryHasParts result (spec.item_named decimals name.now (tokens_of line.now)) }
 {
     if is_text(name, b"initial") {
         return initial(alloc, decimals, line);
@@ -175,7 +177,7 @@ fn supplement(decimals: u8, line: &[u8]) -> Option<Item>
 #[tactic(auto, unfolding(crate::specs::Items::initial_read))]
 fn initial(alloc: Global, decimals: u8, line: &[u8]) -> Result<Item, LineFault>
     requires { decimals ≤ 3 }
-    ensures { GivesOrFails entry_of result (spec.initial_read decimals (tokens_of line.now)) }
+    ensures { GivesOrFails entry_of EntryHasParts result (spec.initial_read decimals (tokens_of line.now)) }
 {
     let Some((amount, rest)) = amount_first(line, decimals) else {
         return Err(LineFault::Bad);
@@ -207,7 +209,7 @@ fn covers_first(decimals: u8, line: &[u8]) -> Option<(u64, &[u8])>
 #[tactic(auto, unfolding(crate::specs::Items::rate_read))]
 fn rate(alloc: Global, decimals: u8, line: &[u8]) -> Result<Item, LineFault>
     requires { decimals ≤ 3 }
-    ensures { GivesOrFails entry_of result (spec.rate_read decimals (tokens_of line.now)) }
+    ensures { GivesOrFails entry_of EntryHasParts result (spec.rate_read decimals (tokens_of line.now)) }
 {
     let Some(((a, b), rest)) = per_first(decimals, line, b"m") else {
         return Err(LineFault::Bad);
@@ -239,7 +241,7 @@ fn per_first<'a>(decimals: u8, line: &'a [u8], unit: &[u8]) -> Option<((u64, u64
 #[tactic(auto, unfolding(crate::specs::Items::minimum_read))]
 fn minimum(alloc: Global, decimals: u8, line: &[u8]) -> Result<Item, LineFault>
     requires { decimals ≤ 3 }
-    ensures { GivesOrFails entry_of result (spec.minimum_read decimals (tokens_of line.now)) }
+    ensures { GivesOrFails entry_of EntryHasParts result (spec.minimum_read decimals (tokens_of line.now)) }
 {
     let Some((amount, rest)) = amount_first(line, decimals) else {
         return Err(LineFault::Bad);

@@ -2,6 +2,7 @@
 #![tactic(auto)]
 
 mod atoms;
+mod building;
 mod condition;
 mod conditions;
 mod context;

@@ -3,7 +3,8 @@ ghost use Rattle.std.specs.List.{position_from};
 ghost use Rattle.std.specs.Prelude.{◌≡◌, map};
 ghost use Rattle.taxi_units.specs.Reading.{Gives};
 ghost use Rattle.tariff_syntax.specs.Condition.{condition_of, condition_if};
-ghost use Rattle.tariff_syntax.specs.Meaning.{holds, holds_if, is_by, is_in_dates, is_in_time, is_on, is_within, rate_place, initial_place, minimum_place, at_hiring};
+ghost use Rattle.tariff_syntax.specs.Meaning.{holds, holds_if, is_by, is_in_dates, is_in_time, is_on, is_within};
+ghost use Rattle.tariff_syntax.specs.Meaning.{rate_place, initial_place, minimum_place, at_hiring};
 ghost use Rattle.tariff_syntax.specs.Parts.{parts, when_of};
 ghost use Rattle.tariff_syntax.specs.Tree.{entry_of, line_of, tree_of};
 

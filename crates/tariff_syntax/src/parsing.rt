@@ -1,9 +1,9 @@
 //! Reads a whole tariff.
-ghost use Rattle.std.specs.Prelude.{◌≡◌, ◌+◌, ◌<◌, ◌≤◌, ◌^◌, ◌∷◌, [], ℕ, List, Result, length, map, MatchOption, IfOk, OnOk, Err, drop};
-ghost use Rattle.tariff_syntax.specs.Items.{item_read};
+ghost use Rattle.std.specs.Prelude.{◌≡◌, ◌+◌, ◌<◌, ◌≤◌, ◌^◌, ◌∷◌, [], ℕ, List, Result, length, map, MatchOption, IfOk};
+ghost use Rattle.std.specs.Prelude.{OnOk, OnErr, Err, Some, drop, if◌then◌else◌};
 ghost use Rattle.tariff_syntax.specs.Parsed.{before, line_read, entries_read, heading_read};
 ghost use Rattle.tariff_syntax.specs.TextLines.{lines_of, is_inner};
-ghost use Rattle.tariff_syntax.specs.Parses.{AreRead, IsAnswer};
+ghost use Rattle.tariff_syntax.specs.Parses.{AreRead, HasEntry, IsAnswer, IsFaultBelow, bad_in};
 ghost use Rattle.tariff_syntax.specs.Reads.{IsParsed};
 ghost use Rattle.tariff_syntax.specs.TokenReading.{run_end, tokens_of};
 ghost use Rattle.tariff_syntax.specs.Tree.{Line, line_of};
@@ -55,7 +55,7 @@ pub enum ParseFault {
 /// has at most 64 of these atoms, `not` and `(` together. This language is this project's own.
 ///
 /// `TooLong` for a text of more than 65,536 bytes. `Syntax` names the first filled line that has none of
-/// these forms. `NoMemory` where memory runs out.
+/// these forms, whatever memory there is. `NoMemory` where memory runs out for a tariff that has lines.
 pub fn parse(alloc: Global, text: &[u8]) -> Result<Tariff, ParseFault>
     ensures answer { IsParsed text.now result }
     ensures decimals { IfOk result (λ t. t.decimals ≤ 3) }
@@ -103,7 +103,8 @@ fn heading(text: &[u8]) -> (u8, u32, &[u8])
     (2, number, rest)
 }
 
-/// The lines of a tariff, from the lines of a text, which are numbered on from a number.
+/// The lines of a tariff, from the lines of a text, which are numbered on from a number. Where memory runs out,
+/// the lines below are still looked at: a bad one is named, whatever memory there is.
 #[tactic(auto, unfolding(crate::specs::Parsed::entries_read))]
 fn lines(alloc: Global, decimals: u8, first: u32, text: &[u8]) -> Result<Lines, ParseFault>
     requires decimals { decimals ≤ 3 }
@@ -116,7 +117,8 @@ fn lines(alloc: Global, decimals: u8, first: u32, text: &[u8]) -> Result<Lines, 
     while let Some((line, below)) = first_line(rest) {
         match put_line(alloc, decimals, number, line, &mut lines) {
             Ok(()) => {}
-            Err(fault) => return Err(fault),
+            Err(LineFault::Bad) => return Err(ParseFault::Syntax { line: number }),
+            Err(LineFault::NoMemory) => return Err(fault_below(alloc, decimals, number + 1, below)),
         }
         number += 1;
         rest = below;
@@ -131,14 +133,15 @@ fn put_line(
     number: u32,
     line: &[u8],
     lines: &mut Lines,
-) -> Result<(), ParseFault>
+) -> Result<(), LineFault>
     requires { decimals ≤ 3 }
     ensures ok { OnOk result ((below : Result (List Line) ℕ)
         → before (map line_of lines.old) (line_read decimals number line.now below)
         ≡ before (map line_of lines.new) below) }
-    ensures long { result ≡ Err ParseFault.TooLong → ⊥ }
-    ensures bad { (n : ℕ) → result ≡ Err (ParseFault.Syntax n)
-        → (below : Result (List Line) ℕ) → line_read decimals number line.now below ≡ Err n }
+    ensures bad { result ≡ Err LineFault.Bad
+        → (below : Result (List Line) ℕ) → line_read decimals number line.now below ≡ Err number }
+    ensures memory { result ≡ Err LineFault.NoMemory → HasEntry decimals (tokens_of line.now) }
+    ensures kept { OnErr result (lines.new ≡ lines.old) }
 {
     if is_over(line) {
         return Ok(());
@@ -146,10 +149,56 @@ fn put_line(
     match item(alloc, decimals, line) {
         Ok(item) => match lines.push(TariffLine { line: number, item }) {
             Ok(()) => Ok(()),
-            Err(_) => Err(ParseFault::NoMemory),
+            Err(_) => Err(LineFault::NoMemory),
         },
-        Err(LineFault::Bad) => Err(ParseFault::Syntax { line: number }),
-        Err(LineFault::NoMemory) => Err(ParseFault::NoMemory),
+        Err(fault) => Err(fault),
+    }
+}
+
+/// Why there is no tariff, where memory ran out above the lines of a text, which are numbered on from a number.
+fn fault_below(alloc: Global, decimals: u8, first: u32, text: &[u8]) -> ParseFault
+    requires decimals { decimals ≤ 3 }
+    requires room { first + length text.now < 2 ^ 32 }
+    ensures { IsFaultBelow (entries_read decimals first (lines_of text.now)) result }
+{
+    match first_bad(alloc, decimals, first, text) {
+        Some(line) => ParseFault::Syntax { line },
+        None => ParseFault::NoMemory,
+    }
+}
+
+/// The number of the first bad line, of lines which are numbered on from a number.
+#[tactic(auto, unfolding(crate::specs::Parsed::entries_read))]
+fn first_bad(alloc: Global, decimals: u8, first: u32, text: &[u8]) -> Option<u32>
+    requires decimals { decimals ≤ 3 }
+    requires room { first + length text.now < 2 ^ 32 }
+    ensures { result ≡ bad_in (entries_read decimals first (lines_of text.now)) }
+{
+    let mut rest = text;
+    let mut number = first;
+    while let Some((line, below)) = first_line(rest) {
+        if is_bad(alloc, decimals, line) {
+            return Some(number);
+        }
+        number += 1;
+        rest = below;
+    }
+    None
+}
+
+/// Whether a line has tokens and none of the forms of a line.
+fn is_bad(alloc: Global, decimals: u8, line: &[u8]) -> bool
+    requires { decimals ≤ 3 }
+    ensures { (number : ℕ) → (below : Result (List Line) ℕ)
+        → bad_in (line_read decimals number line.now below) ≡ (if result then Some number else bad_in below) }
+{
+    if is_over(line) {
+        return false;
+    }
+    match item(alloc, decimals, line) {
+        Ok(_) => false,
+        Err(LineFault::Bad) => true,
+        Err(LineFault::NoMemory) => false,
     }
 }
 

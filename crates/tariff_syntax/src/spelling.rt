@@ -4,7 +4,8 @@ ghost use Rattle.std.specs.Fmt.{decimal};
 ghost use Rattle.taxi_units.specs.Number.{padded_text, money_text};
 ghost use Rattle.tariff_syntax.specs.Appends.{Appends};
 ghost use Rattle.tariff_syntax.specs.Condition.{condition_of};
-ghost use Rattle.tariff_syntax.specs.PrintedCondition.{condition_at, closed, whole, term, factor, days_text, minute_text, date_text};
+ghost use Rattle.tariff_syntax.specs.PrintedCondition.{condition_at, closed, whole, term, factor, days_text};
+ghost use Rattle.tariff_syntax.specs.PrintedCondition.{minute_text, date_text};
 ghost use Rattle.tariff_syntax.specs.Weekdays.{day_word};
 
 use crate::condition::Cond;

@@ -3,7 +3,8 @@
 //! with the printed form they share the names of weekdays and of roundings, which are tables.
 ghost use Rattle.std.specs.Prelude.{◌≡◌, ◌↔◌, ◌⊎◌, ℕ, List, Option, Ok, Err};
 ghost use Rattle.tariff_syntax.specs.Condition.{Condition};
-ghost use Rattle.tariff_syntax.specs.Meaning.{IsFirstPlace, at_hiring, holds_if, initial_place, minimum_place, rate_place};
+ghost use Rattle.tariff_syntax.specs.Meaning.{IsFirstPlace, at_hiring, holds_if, initial_place, minimum_place};
+ghost use Rattle.tariff_syntax.specs.Meaning.{rate_place};
 ghost use Rattle.tariff_syntax.specs.Parts.{initial_conditions, minimum_conditions, rate_conditions};
 ghost use Rattle.tariff_syntax.specs.Parentheses.{NeedsParentheses};
 ghost use Rattle.tariff_syntax.specs.Parsed.{tree_parsed};

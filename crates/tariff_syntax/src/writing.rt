@@ -5,7 +5,8 @@ ghost use Rattle.taxi_units.specs.Number.{money_text};
 ghost use Rattle.tariff_syntax.specs.Appends.{Appends};
 ghost use Rattle.tariff_syntax.specs.Condition.{condition_of, condition_if};
 ghost use Rattle.tariff_syntax.specs.PrintedCondition.{condition_text};
-ghost use Rattle.tariff_syntax.specs.Printed.{printed, number_line, step_line, holiday_line, supplement_line, initial_line, rate_line, minimum_line, entry_line, lines_text, when_text};
+ghost use Rattle.tariff_syntax.specs.Printed.{printed, number_line, step_line, holiday_line, supplement_line};
+ghost use Rattle.tariff_syntax.specs.Printed.{initial_line, rate_line, minimum_line, entry_line, lines_text, when_text};
 ghost use Rattle.tariff_syntax.specs.Tree.{tree_of, entry_of, line_of};
 
 use crate::condition::Cond;
