@@ -23,7 +23,8 @@ pub record IsInRange (k positions zones : ℕ) (holidays : Bool) (x : Context) :
 abbrev pub IsInRangeOf : Tree → (k : ℕ) → Context → Type 0
 IsInRangeOf t k x = IsInRange k (positions_of t.lines) (zones_of t.lines) (has_holidays t.lines) x
 
--- two contexts in one cell: the same position, zone, weekday and kind of day, and in each dimension between the same cuts
+-- two contexts in one cell: the same position, zone, weekday and kind of day, and in each dimension between the same
+-- cuts
 pub record IsSameCell (lists : CutLists) (x y : Context) : Type 0 where
   pub position : x.position ≡ y.position
   pub zone : x.zone ≡ y.zone

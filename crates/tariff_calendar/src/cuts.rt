@@ -30,9 +30,21 @@ impl Model for Cuts {
 
     ghost Value = { CutLists };
 
-    ghost view = { λ c. record { month_days = c.month_days.items; minutes = c.minutes.items; distances = c.distances.items; times = c.times.items; holidays = c.holidays.items } };
+    ghost view = { λ c. record {
+      month_days = c.month_days.items;
+      minutes = c.minutes.items;
+      distances = c.distances.items;
+      times = c.times.items;
+      holidays = c.holidays.items;
+    } };
 
-    ghost invariant = { λ c. AreOrdered (record { month_days = c.month_days.items; minutes = c.minutes.items; distances = c.distances.items; times = c.times.items; holidays = c.holidays.items }) };
+    ghost invariant = { λ c. AreOrdered (record {
+      month_days = c.month_days.items;
+      minutes = c.minutes.items;
+      distances = c.distances.items;
+      times = c.times.items;
+      holidays = c.holidays.items;
+    }) };
 }
 
 impl Cuts {

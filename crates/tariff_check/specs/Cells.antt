@@ -12,7 +12,8 @@ day_kinds lines = if has_holidays lines then 2 else 1
 -- the bands between the cuts
 abbrev pub bands_between : List Line → ℕ
 bands_between lines =
-    (count_of MonthDay lines + 1) * (count_of Minute lines + 1) * (count_of Distance lines + 1) * (count_of Time lines + 1)
+    (count_of MonthDay lines + 1) * (count_of Minute lines + 1)
+    * (count_of Distance lines + 1) * (count_of Time lines + 1)
 
 -- position, zone, weekday, holiday or not, and the bands between the cuts of each dimension
 abbrev pub cells_of : List Line → ℕ

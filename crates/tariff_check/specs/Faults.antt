@@ -1,5 +1,6 @@
 -- The faults of a tariff, in their order.
-use Rattle.std.specs.Prelude.{◌≡◌, ℕ, ◌^◌, Bool, true, false, not, ◌==◌, nat_lt, List, [], ◌∷◌, ◌++◌, Option, Some, None, is_none, All}
+use Rattle.std.specs.Prelude.{◌≡◌, ℕ, ◌^◌, Bool, true, false, not, ◌==◌, nat_lt, List, [], ◌∷◌, ◌++◌, Option, Some}
+use Rattle.std.specs.Prelude.{None, is_none, All}
 use Rattle.std.specs.List.{list_any}
 use Rattle.std.specs.Option.{option_or}
 use Rattle.drive_modes.specs.declared.meterage.Rounding.{Rounding}
@@ -8,13 +9,18 @@ use Rattle.tariff_syntax.specs.Parts.{rate_conditions, initial_conditions}
 use Rattle.tariff_syntax.specs.Tree.{Tree, Line}
 use Rattle.tariff_check.specs.Cells.{cells_of}
 use Rattle.tariff_check.specs.Cuts.{count_of, most_cuts}
-use Rattle.tariff_check.specs.Lines.{first_line, is_duplicate, is_one_too_many, names_unknown, is_after_default, has_bad_date, has_great_amount, has_measure_zero}
+use Rattle.tariff_check.specs.Lines.{first_line, is_duplicate, is_one_too_many, names_unknown, is_after_default}
+use Rattle.tariff_check.specs.Lines.{has_bad_date, has_great_amount, has_measure_zero}
 use Rattle.tariff_check.specs.Measure.{measure_of}
 use Rattle.tariff_check.specs.Parts.{step_of, positions_of, zones_of}
 use Rattle.tariff_check.specs.declared.fault.Dimension.{Dimension}
 use Rattle.tariff_check.specs.declared.fault.Dimension.TheVariants.{MonthDay, Minute, Distance, Time}
 use Rattle.tariff_check.specs.declared.fault.CheckFault.{CheckFault}
-use Rattle.tariff_check.specs.declared.fault.CheckFault.TheVariants.{NoStep, StepZero, Duplicate, TooManyLines, UnknownNumber, NoDefaultRate, NoDefaultInitial, LineAfterDefault, BadDate, AmountTooBig, MeasureZero, NoCommonMeasure, TooManyCuts, TooManyCells}
+use Rattle.tariff_check.specs.declared.fault.CheckFault.TheVariants.{NoStep, StepZero, Duplicate, TooManyLines}
+use Rattle.tariff_check.specs.declared.fault.CheckFault.TheVariants.{UnknownNumber, NoDefaultRate, NoDefaultInitial}
+use Rattle.tariff_check.specs.declared.fault.CheckFault.TheVariants.{LineAfterDefault, BadDate, AmountTooBig}
+use Rattle.tariff_check.specs.declared.fault.CheckFault.TheVariants.{MeasureZero, NoCommonMeasure, TooManyCuts}
+use Rattle.tariff_check.specs.declared.fault.CheckFault.TheVariants.{TooManyCells}
 
 -- a fault where something is so
 abbrev pub fault_if : Bool → CheckFault → Option CheckFault
@@ -33,7 +39,9 @@ is_step_zero (Some s) = s.0 == 0
 
 -- too many cuts in a dimension
 abbrev pub cuts_fault : List Line → Dimension → Option CheckFault
-cuts_fault lines dimension = fault_if (nat_lt (most_cuts dimension) (count_of dimension lines)) (TooManyCuts dimension (count_of dimension lines))
+cuts_fault lines dimension =
+    fault_if (nat_lt (most_cuts dimension) (count_of dimension lines))
+    (TooManyCuts dimension (count_of dimension lines))
 
 -- whether a line without a condition is there
 abbrev pub has_default : List (Option Condition) → Bool

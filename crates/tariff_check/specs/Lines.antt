@@ -1,5 +1,6 @@
 -- What may be wrong with a line, where the lines before it are known.
-use Rattle.std.specs.Prelude.{◌≡◌, ℕ, ◌^◌, Bool, true, false, not, ◌&&◌, ◌||◌, ◌==◌, if◌then◌else◌, nat_le, nat_lt, List, [], ◌∷◌, ◌++◌, Option, Some, None}
+use Rattle.std.specs.Prelude.{◌≡◌, ℕ, ◌^◌, Bool, true, false, not, ◌&&◌, ◌||◌, ◌==◌, if◌then◌else◌, nat_le, nat_lt}
+use Rattle.std.specs.Prelude.{List, [], ◌∷◌, ◌++◌, Option, Some, None}
 use Rattle.std.specs.List.{list_any, count_by}
 use Rattle.taxi_units.specs.Calendar.{is_date}
 use Rattle.tariff_syntax.specs.Condition as tree
@@ -36,7 +37,8 @@ excludes (step amount rounding) (step other also) = true
 excludes (positions number) (positions other) = true
 excludes (zones number) (zones other) = true
 excludes (supplement number amount most) (supplement other amount₂ most₂) = number == other
-excludes (holiday year month date) (holiday year₂ month₂ date₂) = (year == year₂) && ((month == month₂) && (date == date₂))
+excludes (holiday year month date) (holiday year₂ month₂ date₂) =
+    (year == year₂) && ((month == month₂) && (date == date₂))
 excludes entry other = false
 
 -- two rates, two initial hire fees, two minimum fares or two holidays
@@ -67,7 +69,8 @@ is_unknown highest_position highest_zone atom = false
 
 -- an atom with a month and date that no leap year has
 abbrev pub is_undated : Condition → Bool
-is_undated (tree.date from_month from_date to_month to_date) = not (is_date 2000 from_month from_date && is_date 2000 to_month to_date)
+is_undated (tree.date from_month from_date to_month to_date) =
+    not (is_date 2000 from_month from_date && is_date 2000 to_month to_date)
 is_undated atom = false
 
 -- an `after` of 0
@@ -81,7 +84,8 @@ abbrev pub is_no_holiday : Entry → Bool
 is_no_holiday (holiday year month date) = not (nat_le 2000 year && (nat_le year 2199 && is_date year month date))
 is_no_holiday entry = false
 
--- a step, an amount of a rate or a supplement above 1,000,000, or an initial hire fee, its cover or a minimum fare above 99,999,999
+-- a step, an amount of a rate or a supplement above 1,000,000, or an initial hire fee, its cover
+-- or a minimum fare above 99,999,999
 abbrev pub is_great : Entry → Bool
 is_great (step amount rounding) = nat_lt (10 ^ 6) amount
 is_great (supplement number amount most) = nat_lt (10 ^ 6) amount
@@ -109,7 +113,8 @@ is_one_too_many before entry = nat_le (most_alike entry) (count_by (λ (l : Line
 
 -- its condition names a position or a zone that there isn't
 abbrev pub names_unknown : (highest_position highest_zone : ℕ) → LineTest
-names_unknown highest_position highest_zone before entry = list_any (is_unknown highest_position highest_zone) (atoms_in entry)
+names_unknown highest_position highest_zone before entry =
+    list_any (is_unknown highest_position highest_zone) (atoms_in entry)
 
 -- a line of its kind without a condition stands before it
 abbrev pub is_after_default : LineTest
@@ -138,7 +143,8 @@ first_line test lines = first_after test [] lines
 
 -- no line is so, after the lines before it
 abbrev pub IsNowhere : LineTest → List Line → Type 0
-IsNowhere test lines = (before after : List Line) (line : Line) → lines ≡ before ++ line ∷ after → test before line.entry ≡ false
+IsNowhere test lines =
+    (before after : List Line) (line : Line) → lines ≡ before ++ line ∷ after → test before line.entry ≡ false
 
 -- the same in words: this is a line's number, the line is so, and no line before it is
 pub record IsFirstLine (test : LineTest) (lines : List Line) (number : ℕ) : Type 0 where

@@ -51,7 +51,8 @@ holiday_part (holiday year month date) = Some (record { year = year; month = mon
 holiday_part _ = None
 
 abbrev pub supplement_part : (number : ℕ) → Entry → Option SupplementNumbers
-supplement_part n (supplement number amount most) = if n == number then Some (record { amount = amount; most = most }) else None
+supplement_part n (supplement number amount most) =
+    if n == number then Some (record { amount = amount; most = most }) else None
 supplement_part n _ = None
 
 abbrev pub initial_part : Entry → Option InitialNumbers

@@ -1,11 +1,14 @@
 -- The rules for a line and for an atom, as the code names them.
 use Rattle.std.specs.Prelude.{ℕ, Bool, List, [], ◌∷◌, Option, Some, None}
 use Rattle.tariff_syntax.specs.Condition.{Condition}
-use Rattle.tariff_check.specs.Lines.{LineTest, is_unknown, is_undated, is_after_nothing, is_duplicate, is_one_too_many, names_unknown, is_after_default, has_bad_date, has_great_amount, has_measure_zero}
+use Rattle.tariff_check.specs.Lines.{LineTest, is_unknown, is_undated, is_after_nothing, is_duplicate, is_one_too_many}
+use Rattle.tariff_check.specs.Lines.{names_unknown, is_after_default, has_bad_date, has_great_amount, has_measure_zero}
 use Rattle.tariff_check.specs.declared.atoms.AtomRule.{AtomRule}
 use Rattle.tariff_check.specs.declared.atoms.AtomRule.TheVariants as atom
 use Rattle.tariff_check.specs.declared.fault.CheckFault.{CheckFault}
-use Rattle.tariff_check.specs.declared.fault.CheckFault.TheVariants.{Duplicate, TooManyLines, UnknownNumber, LineAfterDefault, BadDate, AmountTooBig, MeasureZero}
+use Rattle.tariff_check.specs.declared.fault.CheckFault.TheVariants.{Duplicate, TooManyLines, UnknownNumber}
+use Rattle.tariff_check.specs.declared.fault.CheckFault.TheVariants.{LineAfterDefault, BadDate, AmountTooBig}
+use Rattle.tariff_check.specs.declared.fault.CheckFault.TheVariants.{MeasureZero}
 use Rattle.tariff_check.specs.declared.rules.LineRule.{LineRule}
 use Rattle.tariff_check.specs.declared.rules.LineRule.TheVariants as line
 

@@ -12,7 +12,8 @@ use Rattle.tariff_check.specs.Cuts.{count_of, most_cuts}
 use Rattle.tariff_check.specs.Faults.{has_default}
 use Rattle.tariff_check.specs.Lines.{atoms_in}
 use Rattle.tariff_check.specs.Measure.{measure_of}
-use Rattle.tariff_check.specs.Parts.{RateNumbers, InitialNumbers, SupplementNumbers, DateNumbers, step_of, positions_of, zones_of, holidays_of, supplement_of, initials_of, minimums_of, rates_of}
+use Rattle.tariff_check.specs.Parts.{RateNumbers, InitialNumbers, SupplementNumbers, DateNumbers, step_of, positions_of}
+use Rattle.tariff_check.specs.Parts.{zones_of, holidays_of, supplement_of, initials_of, minimums_of, rates_of}
 use Rattle.tariff_check.specs.declared.fault.Dimension.{Dimension}
 
 -- the numbers of a rate
@@ -39,7 +40,8 @@ pub record IsSoundHoliday (d : DateNumbers) : Type 0 where
 
 -- an atom: dates of a leap year, and an `after` of more than 0
 abbrev pub IsSoundAtom : Condition → Type 0
-IsSoundAtom (tree.date from_month from_date to_month to_date) = IsTrue (is_date 2000 from_month from_date) × IsTrue (is_date 2000 to_month to_date)
+IsSoundAtom (tree.date from_month from_date to_month to_date) =
+    IsTrue (is_date 2000 from_month from_date) × IsTrue (is_date 2000 to_month to_date)
 IsSoundAtom (tree.after_distance decimetres) = 1 ≤ decimetres
 IsSoundAtom (tree.after_time tenths) = 1 ≤ tenths
 IsSoundAtom atom = Unit {0}

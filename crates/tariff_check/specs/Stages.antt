@@ -5,12 +5,16 @@ use Rattle.tariff_syntax.specs.Parts.{rate_conditions, initial_conditions}
 use Rattle.tariff_syntax.specs.Tree.{Line}
 use Rattle.tariff_check.specs.Cells.{cells_of}
 use Rattle.tariff_check.specs.Faults.{fault_if, fault_at, is_step_zero, cuts_fault, has_default}
-use Rattle.tariff_check.specs.Lines.{first_line, is_duplicate, is_one_too_many, names_unknown, is_after_default, has_bad_date, has_great_amount, has_measure_zero}
+use Rattle.tariff_check.specs.Lines.{first_line, is_duplicate, is_one_too_many, names_unknown, is_after_default}
+use Rattle.tariff_check.specs.Lines.{has_bad_date, has_great_amount, has_measure_zero}
 use Rattle.tariff_check.specs.Measure.{measure_of}
 use Rattle.tariff_check.specs.Parts.{step_of, positions_of, zones_of}
 use Rattle.tariff_check.specs.declared.fault.Dimension.TheVariants.{MonthDay, Minute, Distance, Time}
 use Rattle.tariff_check.specs.declared.fault.CheckFault.{CheckFault}
-use Rattle.tariff_check.specs.declared.fault.CheckFault.TheVariants.{NoStep, StepZero, Duplicate, TooManyLines, UnknownNumber, NoDefaultRate, NoDefaultInitial, LineAfterDefault, BadDate, AmountTooBig, MeasureZero, NoCommonMeasure, TooManyCells}
+use Rattle.tariff_check.specs.declared.fault.CheckFault.TheVariants.{NoStep, StepZero, Duplicate, TooManyLines}
+use Rattle.tariff_check.specs.declared.fault.CheckFault.TheVariants.{UnknownNumber, NoDefaultRate, NoDefaultInitial}
+use Rattle.tariff_check.specs.declared.fault.CheckFault.TheVariants.{LineAfterDefault, BadDate, AmountTooBig}
+use Rattle.tariff_check.specs.declared.fault.CheckFault.TheVariants.{MeasureZero, NoCommonMeasure, TooManyCells}
 
 -- what is wrong with the display step
 abbrev pub step_fault : List Line → Option CheckFault
@@ -39,7 +43,9 @@ number_fault ls =
 
 -- too many cuts
 abbrev pub cut_fault : List Line → Option CheckFault
-cut_fault ls = option_or (cuts_fault ls MonthDay) (option_or (cuts_fault ls Minute) (option_or (cuts_fault ls Distance) (cuts_fault ls Time)))
+cut_fault ls =
+    option_or (cuts_fault ls MonthDay) (option_or (cuts_fault ls Minute)
+    (option_or (cuts_fault ls Distance) (cuts_fault ls Time)))
 
 -- the faults of lines
 abbrev pub early_fault : List Line → Option CheckFault

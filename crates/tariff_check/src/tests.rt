@@ -87,7 +87,8 @@ const SOUND: [(&str, (u64, u64)); 6] = [
         (7, 147_924),
     ),
     (
-        "decimals 2\nstep 0.20 ahead\ninitial 3.80 covers 0.40\nrate 0.20 per 117.4 m, 0.20 per 25.2 s\nminimum 6.00 when time 22:00..06:00\n",
+        "decimals 2\nstep 0.20 ahead\ninitial 3.80 covers 0.40\nrate 0.20 per 117.4 m, 0.20 per 25.2 s\n\
+         minimum 6.00 when time 22:00..06:00\n",
         (21, 147_924),
     ),
     (
@@ -134,7 +135,8 @@ const FAULTY: [(&str, CheckFault); 31] = [
         CheckFault::NoDefaultInitial,
     ),
     (
-        "decimals 2\nstep 0.20 ahead\ninitial 3.80 covers 0.40\nrate 0.20 per 117.4 m, 0.20 per 25.2 s\nrate 0.20 per 117.4 m, 0.20 per 25.2 s\n",
+        "decimals 2\nstep 0.20 ahead\ninitial 3.80 covers 0.40\nrate 0.20 per 117.4 m, 0.20 per 25.2 s\n\
+         rate 0.20 per 117.4 m, 0.20 per 25.2 s\n",
         CheckFault::LineAfterDefault(5),
     ),
     (
@@ -176,7 +178,8 @@ const FAULTY: [(&str, CheckFault); 31] = [
     (
         "step 1\ninitial 1\nrate 1 per 1 m, 1 per 1 s when after 1 s or after 2 s or after 3 s or after 4 s \
          or after 5 s or after 6 s or after 7 s or after 8 s or after 9 s or after 10 s or after 11 s \
-         or after 12 s or after 13 s or after 14 s or after 15 s or after 16 s or after 1 s\nrate 1 per 1 m, 1 per 1 s\n",
+         or after 12 s or after 13 s or after 14 s or after 15 s or after 16 s or after 1 s\n\
+         rate 1 per 1 m, 1 per 1 s\n",
         CheckFault::TooManyCuts(Dimension::Time, 16),
     ),
     (OVER, CheckFault::TooManyCells(129_024)),
@@ -186,7 +189,8 @@ const FAULTY: [(&str, CheckFault); 31] = [
         CheckFault::UnknownNumber(2),
     ),
     (
-        "decimals 2\nstep 0.20 ahead\ninitial 3.80 covers 0.40\nrate 0.20 per 117.4 m, 0.20 per 25.2 s\nminimum 6.00\nminimum 7.00\n",
+        "decimals 2\nstep 0.20 ahead\ninitial 3.80 covers 0.40\nrate 0.20 per 117.4 m, 0.20 per 25.2 s\n\
+         minimum 6.00\nminimum 7.00\n",
         CheckFault::LineAfterDefault(6),
     ),
     (
