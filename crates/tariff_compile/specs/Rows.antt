@@ -13,16 +13,22 @@ measure_row measure = codes "MEASURE " ++ (decimal measure ++ codes "\n")
 
 -- the row of a rate, by its number
 abbrev pub rate_row : (number : ℕ) → Weights → List ℕ
-rate_row number w = codes "RATE " ++ (decimal number ++ (codes " " ++ (decimal w.per_pulse ++ (codes " " ++ (decimal w.per_tick ++ codes "\n")))))
+rate_row number w =
+    codes "RATE " ++
+    (decimal number ++ (codes " " ++ (decimal w.per_pulse ++ (codes " " ++ (decimal w.per_tick ++ codes "\n")))))
 
 -- the row of an initial hire fee, by its number
 abbrev pub initial_row : (decimals number : ℕ) → Fee → List ℕ
 initial_row decimals number fee =
-    codes "INITIAL " ++ (decimal number ++ (codes " " ++ (money_text decimals fee.amount ++ (codes " " ++ (money_text decimals fee.covers ++ codes "\n")))))
+    codes "INITIAL " ++
+    (decimal number ++
+    (codes " " ++
+    (money_text decimals fee.amount ++ (codes " " ++ (money_text decimals fee.covers ++ codes "\n")))))
 
 -- the row of a minimum fare, by its number
 abbrev pub minimum_row : (decimals number amount : ℕ) → List ℕ
-minimum_row decimals number amount = codes "MINIMUM " ++ (decimal number ++ (codes " " ++ (money_text decimals amount ++ codes "\n")))
+minimum_row decimals number amount =
+    codes "MINIMUM " ++ (decimal number ++ (codes " " ++ (money_text decimals amount ++ codes "\n")))
 
 -- the end of the row of a cell: where the tariff has minimum fares, the number of the cell's
 abbrev pub minimum_field : (minimums : Bool) (number : ℕ) → List ℕ
@@ -31,7 +37,11 @@ minimum_field minimums number = if minimums then codes " " ++ (decimal number ++
 -- the row of a cell, by its number, with the numbers of its lines from 1
 abbrev pub cell_row : (minimums : Bool) (number : ℕ) → CellLines → List ℕ
 cell_row minimums number lines =
-    codes "CELL " ++ (decimal number ++ (codes " " ++ (decimal (lines.rate + 1) ++ (codes " " ++ (decimal (lines.initial + 1) ++ minimum_field minimums lines.minimum)))))
+    codes "CELL " ++
+    (decimal number ++
+    (codes " " ++
+    (decimal (lines.rate + 1) ++
+    (codes " " ++ (decimal (lines.initial + 1) ++ minimum_field minimums lines.minimum)))))
 
 -- the rows of the elements of a list, each by its number, which count on from the first
 abbrev pub numbered : {A : Type 0} → (row : ℕ → A → List ℕ) → (first : ℕ) → List A → List (List ℕ)
@@ -51,11 +61,14 @@ abbrev pub row_text : TableParts → (row : ℕ) → List ℕ
 row_text tables row =
     if row == 0 then measure_row tables.measure
     else (let rate = row - 1 in
-    if nat_lt rate (length tables.weights) then rate_row (rate + 1) (get_or tables.weights rate (record { per_pulse = 0; per_tick = 0 }))
+    if nat_lt rate (length tables.weights) then rate_row (rate + 1)
+    (get_or tables.weights rate (record { per_pulse = 0; per_tick = 0 }))
     else (let initial = rate - length tables.weights in
-    if nat_lt initial (length tables.initials) then initial_row tables.decimals (initial + 1) (get_or tables.initials initial (record { amount = 0; covers = 0 }))
+    if nat_lt initial (length tables.initials) then initial_row tables.decimals (initial + 1)
+    (get_or tables.initials initial (record { amount = 0; covers = 0 }))
     else (let minimum = initial - length tables.initials in
-    if nat_lt minimum (length tables.minimums) then minimum_row tables.decimals (minimum + 1) (get_or tables.minimums minimum 0)
+    if nat_lt minimum (length tables.minimums) then minimum_row tables.decimals (minimum + 1)
+    (get_or tables.minimums minimum 0)
     else (let cell = minimum - length tables.minimums in
     cell_row (has_minimums tables) cell (get_or tables.cells cell (record { rate = 0; initial = 0; minimum = 0 }))))))
 
@@ -63,7 +76,8 @@ row_text tables row =
 abbrev pub rows_text : TableParts → List ℕ
 rows_text tables = flat_map (row_text tables) (range_with_len 0 (row_count tables))
 
--- the same part by part: the measure, then the rates, the initial hire fees and the minimum fares from 1, then the cells from 0
+-- the same part by part: the measure, then the rates, the initial hire fees and the minimum fares from 1, then the
+-- cells from 0
 abbrev pub all_rows : TableParts → List (List ℕ)
 all_rows tables =
     measure_row tables.measure

@@ -162,7 +162,8 @@ pub record HasWeightsOf (t : Tree) (k : ℕ) (x : Context) (w : Weights) : Type 
   pub there : slice_get (rates_of t.lines) place ≡ Some rate
   pub weights : w ≡ weights_of k (measure_of t.lines) rate
 
--- and these are the amounts of the initial hire fee that holds first at the hiring, and of the minimum fare, if one holds
+-- and these are the amounts of the initial hire fee that holds first at the hiring, and of the minimum fare, if one
+-- holds
 pub record HasAmountsOf (t : Tree) (x : Context) (i : Initial) : Type 0 where
   pub place : ℕ
   pub fee : InitialNumbers
@@ -170,7 +171,8 @@ pub record HasAmountsOf (t : Tree) (x : Context) (i : Initial) : Type 0 where
   pub there : slice_get (initials_of t.lines) place ≡ Some fee
   pub amount : i.amount ≡ fee.amount
   pub covers : i.covers ≡ fee.covers
-  pub minimum : MatchOption (minimum_place t x) (i.minimum ≡ 0) (λ n. slice_get (minimums_of t.lines) n ≡ Some i.minimum)
+  pub minimum : MatchOption (minimum_place t x) (i.minimum ≡ 0)
+      (λ n. slice_get (minimums_of t.lines) n ≡ Some i.minimum)
 
 -- how large the weights of a rate are: a pulse is at most 20,000,000 units of money, a tick at most 1,000,000
 pub record AreFit (measure : ℕ) (w : Weights) : Type 0 where

@@ -2,10 +2,14 @@
 //! are looked up.
 #![tactic(auto)]
 
+mod alike;
 mod bands;
+mod cells;
 mod compiling;
 mod contexts;
 mod lines;
+mod marking;
+mod marks;
 mod parts;
 mod rows;
 mod tables;

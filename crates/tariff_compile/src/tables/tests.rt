@@ -349,17 +349,24 @@ fn keeps_numbers_alone(rt: HostRuntime) {
             constant, measure, step, rounding, decimals, positions, zones,
         );
         assert_eq!(rt; cuts.list(Dimension::Minute).len(), 0);
-        assert_eq!(rt; weights.len(), 1);
-        assert_eq!(rt; initials.len(), 1);
-        for fee in &initials {
+        assert_eq!(rt; (weights.len(), initials.len(), minimums.len()), (1, 1, 0));
+        assert_eq!(rt; (cells.len(), supplements.len()), (7, 16));
+        assert_eq!(rt; numbers.1, 1_479_240_000);
+    }
+}
+
+/// The same of each fee and each cell.
+#[test]
+fn keeps_numbers_alone_in_fees_and_cells(rt: HostRuntime) {
+    let tables = compiled(rt.alloc(), PLAIN, 10_000);
+    assert!(rt; tables.is_some());
+    if let Some(tables) = tables {
+        for fee in &tables.initials {
             let Fee { amount, covers } = *fee;
             let amounts: (u64, u64) = (amount, covers);
             assert_eq!(rt; amounts, (380, 40));
         }
-        assert_eq!(rt; minimums.len(), 0);
-        assert_eq!(rt; supplements.len(), 16);
-        assert_eq!(rt; numbers.1, 1_479_240_000);
-        for lines in &cells {
+        for lines in &tables.cells {
             let CellLines {
                 rate,
                 initial,

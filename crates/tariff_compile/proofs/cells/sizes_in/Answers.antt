@@ -4,7 +4,7 @@ use Rattle.tariff_calendar.specs.Lists.{lists_of}
 use Rattle.tariff_check.specs.Parts.{positions_of, zones_of}
 use Rattle.tariff_syntax.specs.Tree.{tree_of}
 use Rattle.tariff_compile.specs.Cells.{sizes_of}
-use Rattle.tariff_compile.proofs.compiling.sizes_in.Goals as goal
+use Rattle.tariff_compile.proofs.cells.sizes_in.Goals as goal
 
 pub returns : goal.returns
 returns c =

@@ -1,0 +1,5 @@
+use Rattle.tariff_compile.proofs.Agreeing.{AgreeBefore}
+use Rattle.tariff_compile.proofs.alike.Alike.of.Given as goal
+
+abbrev pub invariant-loop-place : goal.invariant-loop-place
+invariant-loop-place l = AgreeBefore l.alike l.contexts l.place

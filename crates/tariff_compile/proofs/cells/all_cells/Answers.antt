@@ -1,0 +1,38 @@
+use Rattle.std.proofs.Common.{◌≡◌, ◌∙◌, ◌++◌, ◌+◌, ◌-◌, ℕ, ap, List, map, arith}
+use Rattle.std.proofs.lemmas.List.FromFn.{length-map-range_with_len}
+use Rattle.tariff_syntax.specs.Tree.{tree_of}
+use Rattle.std.specs.List.{range_with_len}
+use Rattle.tariff_syntax.specs.declared.context.Context.{Context}
+use Rattle.tariff_compile.specs.Cells.{cell_count}
+use Rattle.tariff_compile.specs.Tables.{context_of, lines_at, sizes_in}
+use Rattle.tariff_compile.proofs.Blocks.{block_more}
+use Rattle.tariff_compile.proofs.Compiled.{cell_count-cells_of}
+use Rattle.tariff_compile.proofs.cells.all_cells.Goals as goal
+
+pub push_lines-requires : goal.push_lines-requires
+push_lines-requires c =
+    let long = length-map-range_with_len (context_of (tree_of c.args.checked.now) c.args.k) c.loop-first.first (c.min-end.result - c.loop-first.first) in
+    rw (c.as_slice.ensures.value, c.in_ok-contexts.ensures, long) (omega (arith, c.min-end.ensures))
+
+pub loop-first-preserved : goal.loop-first-preserved
+loop-first-preserved c =
+    let t = tree_of c.args.checked.now in
+    let k = c.args.k in
+    let first = c.loop-first.first in
+    let some = c.min-end.result - first in
+    let all = λ (n : ℕ). map (λ (cell : ℕ). lines_at t (context_of t k cell)) (range_with_len 0 n) in
+    let end : first + some ≡ c.min-end.result = omega (arith, c.min-end.ensures, c.loop-first-test.true) in
+    let block : c.as_slice.result.now ≡ map (context_of t k) (range_with_len first some) = c.as_slice.ensures.value ∙ c.in_ok-contexts.ensures in
+    record {
+      within = omega (arith, c.min-end.ensures);
+      so_far = c.in_ok-push_lines.ensures ∙ (ap (λ xs. xs ++ map (lines_at t) c.as_slice.result.now) c.loop-first.invariant.so_far
+          ∙ (ap (λ (xs : List Context). all first ++ map (lines_at t) xs) block
+          ∙ (block_more (context_of t k) (lines_at t) first some ∙ ap all end)));
+    }
+
+pub returns : goal.returns
+returns c =
+    let t = tree_of c.args.checked.now in
+    let k = c.args.k in
+    let whole : c.loop-first.first ≡ cell_count (sizes_in t k) = omega (arith, c.loop-first.invariant.within, c.loop-first-test.false, c.cells-count.ensures.value, cell_count-cells_of t k) in
+    c.loop-first.invariant.so_far ∙ ap (λ (n : ℕ). map (λ (cell : ℕ). lines_at t (context_of t k cell)) (range_with_len 0 n)) whole

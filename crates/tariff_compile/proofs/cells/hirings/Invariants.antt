@@ -1,0 +1,6 @@
+use Rattle.std.proofs.Common.{◌≡◌, map, take}
+use Rattle.tariff_syntax.specs.Meaning.{at_hiring}
+use Rattle.tariff_compile.proofs.cells.hirings.Given as goal
+
+abbrev pub invariant-loop-x : goal.invariant-loop-x
+invariant-loop-x l = l.hirings.items ≡ map at_hiring (take l.x-index l.contexts)

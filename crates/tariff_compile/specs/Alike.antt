@@ -1,0 +1,38 @@
+-- What contexts have in common.
+use Rattle.std.specs.Prelude.{◌≡◌, ℕ, Bool, true, false, List, Some}
+use Rattle.std.specs.List.{slice_get}
+use Rattle.tariff_syntax.specs.Condition as tree
+use Rattle.tariff_syntax.specs.Condition.{Condition}
+use Rattle.tariff_syntax.specs.declared.context.Context.{Context}
+use Rattle.tariff_compile.specs.declared.alike.Alike.{Alike}
+
+-- two contexts have these parts in common
+pub record Agree (alike : Alike) (x y : Context) : Type 0 where
+  pub position : alike.position ≡ true → x.position ≡ y.position
+  pub zone : alike.zone ≡ true → x.zone ≡ y.zone
+  pub weekday : alike.weekday ≡ true → x.weekday ≡ y.weekday
+  pub month_day : alike.month_day ≡ true → x.month_day ≡ y.month_day
+  pub holiday : alike.holiday ≡ true → x.holiday ≡ y.holiday
+  pub minute : alike.minute ≡ true → x.minute ≡ y.minute
+  pub distance : alike.distance ≡ true → (x.constant ≡ y.constant) × (x.pulses ≡ y.pulses)
+  pub time : alike.time ≡ true → x.ticks ≡ y.ticks
+
+-- each of these contexts has them in common with the first
+abbrev pub AllAgree : Alike → List Context → Type 0
+AllAgree alike xs =
+    (first : Context) → slice_get xs 0 ≡ Some first → (place : ℕ) (x : Context) → slice_get xs place ≡ Some x
+    → Agree alike first x
+
+-- a condition asks for one of these parts alone
+abbrev pub asks_alike : Alike → Condition → Bool
+asks_alike alike (tree.and left right) = false
+asks_alike alike (tree.or left right) = false
+asks_alike alike (tree.not inner) = false
+asks_alike alike (tree.position number) = alike.position
+asks_alike alike (tree.zone number) = alike.zone
+asks_alike alike (tree.time from to) = alike.minute
+asks_alike alike (tree.day from to) = alike.weekday
+asks_alike alike (tree.date from_month from_date to_month to_date) = alike.month_day
+asks_alike alike tree.holiday = alike.holiday
+asks_alike alike (tree.after_distance decimetres) = alike.distance
+asks_alike alike (tree.after_time tenths) = alike.time

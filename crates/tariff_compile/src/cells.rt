@@ -1,0 +1,161 @@
+//! The lines of each cell, by asking the tariff's conditions in contexts of 64 cells at a time.
+ghost use Rattle.std.specs.List.{range_with_len};
+ghost use Rattle.std.specs.Option.{ForSome, unwrap_or};
+ghost use Rattle.std.specs.Prelude.{◌≡◌, ◌-◌, ◌<◌, ◌≤◌, ◌++◌, IfOk, OnOk, length, map};
+ghost use Rattle.tariff_calendar.specs.Lists.{lists_of};
+ghost use Rattle.tariff_check.specs.Cells.{cells_of};
+ghost use Rattle.tariff_compile.specs.Tables.{all_cells, context_of, lines_at, number_of, sizes_in};
+ghost use Rattle.tariff_syntax.specs.Meaning.{at_hiring};
+ghost use Rattle.tariff_syntax.specs.Tree.{tree_of};
+
+use crate::bands::{bands_of, sizes_of};
+use crate::contexts::context_in;
+use crate::marking::{Kind, first_marked, marks_of_each};
+use crate::parts::{Bands, CellLines};
+use pulse_input::Constant;
+use std::alloc::Global;
+use tariff_calendar::Cuts;
+use tariff_check::Checked;
+use tariff_syntax::Context;
+use taxi_units::NoMemory;
+
+/// The lines of each cell. `NoMemory` where memory runs out.
+pub(crate) fn all_cells(
+    alloc: Global,
+    checked: &Checked,
+    cuts: &Cuts,
+    k: Constant,
+) -> Result<Vec<CellLines>, NoMemory>
+    requires { cuts.now ≡ lists_of (tree_of checked.now) k }
+    ensures { IfOk result (λ cells. cells.items ≡ all_cells (tree_of checked.now) k) }
+{
+    let sizes = sizes_in(checked, cuts, k);
+    let count = checked.cells() as usize;
+    let mut cells = Vec::new(alloc);
+    let mut first = 0;
+    while first < count {
+        let end = count.min(first + 64);
+        let contexts = contexts_of(alloc, checked, cuts, k, &sizes, first, end)?;
+        push_lines(alloc, checked, contexts.as_slice(), &mut cells)?;
+        first = end;
+    }
+    Ok(cells)
+}
+
+/// How many numbers each dimension has.
+fn sizes_in(checked: &Checked, cuts: &Cuts, k: Constant) -> Bands
+    requires { cuts.now ≡ lists_of (tree_of checked.now) k }
+    ensures { result ≡ sizes_in (tree_of checked.now) k }
+{
+    sizes_of(checked.positions(), checked.zones(), cuts)
+}
+
+/// A context of each cell from the first on and before the end.
+fn contexts_of(
+    alloc: Global,
+    checked: &Checked,
+    cuts: &Cuts,
+    k: Constant,
+    sizes: &Bands,
+    first: usize,
+    end: usize,
+) -> Result<Vec<Context>, NoMemory>
+    requires cuts { cuts.now ≡ lists_of (tree_of checked.now) k }
+    requires sizes { sizes.now ≡ sizes_in (tree_of checked.now) k }
+    requires order { first ≤ end }
+    requires cells { end ≤ cells_of (tree_of checked.now).lines }
+    ensures { IfOk result (λ contexts. contexts.items
+        ≡ map (context_of (tree_of checked.now) k) (range_with_len first (end - first))) }
+{
+    let mut contexts = Vec::new(alloc);
+    for cell in first..end {
+        let context = cell_context(checked, cuts, k, sizes, cell);
+        if contexts.push(context).is_err() {
+            return Err(NoMemory);
+        }
+    }
+    Ok(contexts)
+}
+
+/// A context of a cell.
+fn cell_context(checked: &Checked, cuts: &Cuts, k: Constant, sizes: &Bands, cell: usize) -> Context
+    requires cuts { cuts.now ≡ lists_of (tree_of checked.now) k }
+    requires sizes { sizes.now ≡ sizes_in (tree_of checked.now) k }
+    requires cell { cell < cells_of (tree_of checked.now).lines }
+    ensures { result ≡ context_of (tree_of checked.now) k cell }
+{
+    // Only a sound tariff is checked: this says that there are few positions and zones, and low cuts.
+    let _sound = checked.tariff();
+    context_in(k, cuts, &bands_of(sizes, cell))
+}
+
+/// The lines that hold first in each of up to 64 contexts, behind the others.
+fn push_lines(
+    alloc: Global,
+    checked: &Checked,
+    contexts: &[Context],
+    cells: &mut Vec<CellLines>,
+) -> Result<(), NoMemory>
+    requires { length contexts.now ≤ 64 }
+    ensures { OnOk result (cells.new.items ≡ cells.old.items ++ map (lines_at (tree_of checked.now)) contexts.now) }
+{
+    let lines = checked.tariff().lines.as_slice();
+    let hirings = hirings(alloc, contexts)?;
+    let rates = marks_of_each(alloc, Kind::Rate, lines, contexts)?;
+    let initials = marks_of_each(alloc, Kind::Initial, lines, hirings.as_slice())?;
+    let minimums = marks_of_each(alloc, Kind::Minimum, lines, hirings.as_slice())?;
+    for place in 0..contexts.len() {
+        let rate = first_marked(rates.as_slice(), place);
+        let initial = first_marked(initials.as_slice(), place);
+        let minimum = first_marked(minimums.as_slice(), place);
+        if cells.push(cell_lines(rate, initial, minimum)).is_err() {
+            return Err(NoMemory);
+        }
+    }
+    Ok(())
+}
+
+/// The same contexts at the hiring, with no pulse and no tick of the trip.
+fn hirings(alloc: Global, contexts: &[Context]) -> Result<Vec<Context>, NoMemory>
+    ensures { IfOk result (λ hirings. hirings.items ≡ map at_hiring contexts.now) }
+{
+    let mut hirings = Vec::new(alloc);
+    for x in contexts {
+        let hiring = Context {
+            pulses: 0,
+            ticks: 0,
+            ..*x
+        };
+        if hirings.push(hiring).is_err() {
+            return Err(NoMemory);
+        }
+    }
+    Ok(hirings)
+}
+
+/// The lines of a cell, by the places of those that hold first.
+fn cell_lines(rate: Option<usize>, initial: Option<usize>, minimum: Option<usize>) -> CellLines
+    requires rate { ForSome rate (λ p. p < 255) }
+    requires initial { ForSome initial (λ p. p < 255) }
+    requires minimum { ForSome minimum (λ p. p < 255) }
+    ensures rate { result.rate ≡ unwrap_or rate 0 }
+    ensures initial { result.initial ≡ unwrap_or initial 0 }
+    ensures minimum { result.minimum ≡ number_of minimum }
+{
+    CellLines {
+        rate: rate.unwrap_or(0) as u8,
+        initial: initial.unwrap_or(0) as u8,
+        minimum: number_of(minimum),
+    }
+}
+
+/// The number of a place, from 1; 0 where there is none.
+fn number_of(place: Option<usize>) -> u8
+    requires { ForSome place (λ p. p < 255) }
+    ensures { result ≡ number_of place }
+{
+    match place {
+        Some(place) => place as u8 + 1,
+        None => 0,
+    }
+}

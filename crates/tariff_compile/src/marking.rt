@@ -1,0 +1,128 @@
+//! In which of up to 64 contexts the conditions of a tariff hold: a condition is asked in all of them at
+//! once.
+ghost use Rattle.std.specs.List.{position_from};
+ghost use Rattle.std.specs.Prelude.{◌≡◌, ◌<◌, ◌≤◌, IfOk, length, map};
+ghost use Rattle.taxi_units.specs.Reading.{Gives};
+ghost use Rattle.tariff_compile.specs.Alike.{AllAgree};
+ghost use Rattle.tariff_compile.specs.Marks.{MarkEach, MarksThose, conditions_of, is_marked, when_of};
+ghost use Rattle.tariff_syntax.specs.Condition.{condition_if, condition_of};
+ghost use Rattle.tariff_syntax.specs.Meaning.{holds, holds_if};
+ghost use Rattle.tariff_syntax.specs.Tree.{entry_of, line_of};
+
+use crate::alike::Alike;
+use crate::marks::Marks;
+use std::alloc::Global;
+use tariff_syntax::{Cond, Context, Item, TariffLine, sat};
+use taxi_units::NoMemory;
+
+/// A kind of lines, of which the first that holds is the one that counts.
+#[derive(Clone, Copy, Debug, PartialEq, Eq)]
+pub(crate) enum Kind {
+    Rate,
+    Initial,
+    Minimum,
+}
+
+/// The marks of each line of a kind, in order: the contexts in which it holds.
+pub(crate) fn marks_of_each(
+    alloc: Global,
+    kind: Kind,
+    lines: &[TariffLine],
+    contexts: &[Context],
+) -> Result<Vec<Marks>, NoMemory>
+    requires { length contexts.now ≤ 64 }
+    ensures { IfOk result (λ all. MarkEach (conditions_of kind (map line_of lines.now)) contexts.now all.items) }
+{
+    let alike = Alike::of(contexts);
+    let mut all = Vec::new(alloc);
+    for line in lines {
+        if let Some(cond) = when(kind, &line.item) {
+            if all.push(marks_if(cond, alike, contexts)).is_err() {
+                return Err(NoMemory);
+            }
+        }
+    }
+    Ok(all)
+}
+
+/// The first marks that have a place, by their own place from 0.
+pub(crate) fn first_marked(all: &[Marks], place: usize) -> Option<usize>
+    requires { place < 64 }
+    ensures { result ≡ position_from (λ marks. is_marked marks place) 0 all.now }
+{
+    for i in 0..all.len() {
+        if all[i].is_marked(place) {
+            return Some(i);
+        }
+    }
+    None
+}
+
+/// The condition of a line of a kind, which may have none. `None` where the line is of another kind.
+fn when(kind: Kind, item: &Item) -> Option<&Option<Cond>>
+    ensures { Gives (λ cond. condition_if cond.now) result (when_of kind (entry_of item.now)) }
+{
+    match (kind, item) {
+        (Kind::Rate, Item::Rate(rate)) => Some(&rate.cond),
+        (Kind::Initial, Item::Initial(initial)) => Some(&initial.cond),
+        (Kind::Minimum, Item::Minimum(minimum)) => Some(&minimum.cond),
+        _ => None,
+    }
+}
+
+/// The contexts in which a line holds that may have a condition.
+fn marks_if(cond: &Option<Cond>, alike: Alike, contexts: &[Context]) -> Marks
+    requires few { length contexts.now ≤ 64 }
+    requires alike { AllAgree alike contexts.now }
+    ensures { MarksThose (λ x. holds_if x (condition_if cond.now)) contexts.now result }
+{
+    match cond {
+        Some(cond) => marks_of(cond, alike, contexts),
+        None => Marks::all_or_none(true),
+    }
+}
+
+/// The contexts in which a condition holds. The right part is asked first, as where it is asked alone.
+fn marks_of(cond: &Cond, alike: Alike, contexts: &[Context]) -> Marks
+    requires few { length contexts.now ≤ 64 }
+    requires alike { AllAgree alike contexts.now }
+    ensures { MarksThose (holds (condition_of cond.now)) contexts.now result }
+{
+    match cond {
+        Cond::And(left, right) => {
+            marks_of(right, alike, contexts).both(marks_of(left, alike, contexts))
+        }
+        Cond::Or(left, right) => {
+            marks_of(right, alike, contexts).either(marks_of(left, alike, contexts))
+        }
+        Cond::Not(inner) => marks_of(inner, alike, contexts).others(),
+        _ => marks_of_atom(cond, alike, contexts),
+    }
+}
+
+/// The same, by asking the condition once, where it asks for what the contexts have in common.
+fn marks_of_atom(cond: &Cond, alike: Alike, contexts: &[Context]) -> Marks
+    requires few { length contexts.now ≤ 64 }
+    requires alike { AllAgree alike contexts.now }
+    ensures { MarksThose (holds (condition_of cond.now)) contexts.now result }
+{
+    if !alike.is_asked(cond) {
+        return marks_one_by_one(cond, contexts);
+    }
+    match contexts.first() {
+        Some(first) => Marks::all_or_none(sat(cond, first)),
+        None => Marks::none(),
+    }
+}
+
+/// The same, by asking the condition in each context.
+fn marks_one_by_one(cond: &Cond, contexts: &[Context]) -> Marks
+    requires { length contexts.now ≤ 64 }
+    ensures { MarksThose (holds (condition_of cond.now)) contexts.now result }
+{
+    let mut marks = Marks::none();
+    for place in 0..contexts.len() {
+        marks = marks.and_at(place, sat(cond, &contexts[place]));
+    }
+    marks
+}
