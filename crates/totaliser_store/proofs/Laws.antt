@@ -1,0 +1,39 @@
+-- Laws that the crates above cite.
+use Rattle.std.proofs.Common.{◌≡◌, ◌≤◌, ◌+◌, ◌↔◌, ℕ, List, Some}
+use Rattle.totaliser_store.specs.declared.change.Change.TheVariants.{Enter, Hold}
+use Rattle.totaliser_store.specs.declared.trip.Trip.{Trip}
+use Rattle.totaliser_store.specs.declared.durable.Durable.{Durable}
+use Rattle.totaliser_store.specs.declared.change.Change.{Change}
+use Rattle.totaliser_store.specs.declared.entry.Entry.{Entry}
+use Rattle.totaliser_store.specs.declared.totals.Totals.{Totals}
+use Rattle.totaliser_store.specs.Ranges.{last_number, HasRoom, IsDurable, IsEntry, IsTrip}
+use Rattle.totaliser_store.specs.Reading.{reads}
+use Rattle.totaliser_store.specs.Spelling.{spelling}
+use Rattle.totaliser_store.specs.States.{after, after_all}
+use Rattle.totaliser_store.specs.Sums.{totals_of, AddsUp, Follows}
+use Rattle.totaliser_store.specs.BodyLaws.{reads_exactly}
+use Rattle.totaliser_store.proofs.Adding.{adds_up}
+use Rattle.totaliser_store.proofs.Keeping.{entry_keeps, trip_keeps}
+use Rattle.totaliser_store.proofs.Changing.{follows}
+
+-- bytes are read as a state exactly where it is in its ranges and they are its own
+pub states_are_read_by_their_table : (bytes : List ℕ) (durable : Durable) → (reads bytes ≡ Some durable) ↔ (IsDurable durable × (bytes ≡ spelling durable))
+states_are_read_by_their_table = reads_exactly
+
+-- totals with a list of entries more have grown by the sums over the list
+pub entries_add_up : (totals : Totals) (entries : List Entry) → AddsUp totals (totals_of totals entries) entries
+entries_add_up = adds_up
+
+-- the state after a list of commits
+pub changes_add_up : (opening : Durable) (changes : List Change) → Follows opening (after_all opening changes) changes
+changes_add_up = follows
+
+-- the ranges hold after an entry as the meter makes them
+pub entries_keep_the_ranges : (durable : Durable) (entry : Entry) → IsDurable durable → durable.number ≤ last_number → IsEntry entry → HasRoom durable entry
+    → IsDurable (after durable (Enter entry))
+entries_keep_the_ranges = entry_keeps
+
+-- and after a trip is held that is in its ranges
+pub held_trips_keep_the_ranges : (durable : Durable) (trip : Trip) → IsDurable durable → durable.number + 1 ≤ last_number → IsTrip (durable.number + 1) trip
+    → IsDurable (after durable (Hold trip))
+held_trips_keep_the_ranges = trip_keeps

@@ -1,0 +1,7 @@
+mod Adding
+mod Appends
+mod Changing
+mod Commits
+mod Keeping
+pub mod Laws
+mod Shares

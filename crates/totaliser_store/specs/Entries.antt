@@ -1,0 +1,78 @@
+-- What an entry adds to the totals.
+use Rattle.std.specs.Prelude.{ℕ, ◌+◌, Bool, true, false, ◌&&◌, ◌==◌, if◌then◌else◌, List, [], ◌∷◌}
+use Rattle.taxi_units.specs.declared.receipt.Kind.{Kind}
+use Rattle.taxi_units.specs.declared.receipt.Kind.TheVariants.{Closed, Aborted, Expired, Roam}
+use Rattle.totaliser_store.specs.declared.entry.Entry.{Entry}
+use Rattle.totaliser_store.specs.declared.totals.Share.{Share}
+use Rattle.totaliser_store.specs.declared.totals.Totals.{Totals}
+
+-- the kinds of a closed hiring: all but roaming
+abbrev pub is_of_hiring : Kind → Bool
+is_of_hiring Closed = true
+is_of_hiring Aborted = true
+is_of_hiring Expired = true
+is_of_hiring Roam = false
+
+-- the entry closes a hiring
+abbrev pub closes : Entry → Bool
+closes entry = is_of_hiring entry.kind
+
+-- the entry closes a hiring at this tariff position
+abbrev pub closes_at : ℕ → Entry → Bool
+closes_at position entry = closes entry && entry.position == position
+
+-- all distance of an entry
+abbrev pub distance_of : Entry → ℕ
+distance_of entry = entry.roam_mm + entry.hired_mm
+
+-- the distance when hired
+abbrev pub hired_of : Entry → ℕ
+hired_of entry = if closes entry then entry.hired_mm else 0
+
+-- a closed hiring counts as one
+abbrev pub hirings_of : Entry → ℕ
+hirings_of entry = if closes entry then 1 else 0
+
+-- the money charged as supplements
+abbrev pub supplements_of : Entry → ℕ
+supplements_of entry = if closes entry then entry.supplements else 0
+
+-- the money charged as fare
+abbrev pub fare_of : Entry → ℕ
+fare_of entry = if closes entry then entry.fare else 0
+
+-- a hiring that was closed at a tariff position counts there
+abbrev pub hirings_at : ℕ → Entry → ℕ
+hirings_at position entry = if closes_at position entry then 1 else 0
+
+-- and so does its fare
+abbrev pub fare_at : ℕ → Entry → ℕ
+fare_at position entry = if closes_at position entry then entry.fare else 0
+
+-- no hiring
+abbrev pub no_share : Share
+no_share = record { hirings = 0; fare = 0 }
+
+-- a share of this tariff position with an entry more
+abbrev pub share_with : Entry → ℕ → Share → Share
+share_with entry position share = record {
+  hirings = share.hirings + hirings_at position entry;
+  fare = share.fare + fare_at position entry;
+}
+
+-- shares of this tariff position and those behind it with an entry more
+abbrev pub shares_with : Entry → ℕ → List Share → List Share
+shares_with entry position [] = []
+shares_with entry position (share ∷ others) = share_with entry position share ∷ shares_with entry (position + 1) others
+
+-- the totals with an entry more
+abbrev pub totals_with : Totals → Entry → Totals
+totals_with totals entry = record {
+  distance_mm = totals.distance_mm + distance_of entry;
+  hired_mm = totals.hired_mm + hired_of entry;
+  hirings = totals.hirings + hirings_of entry;
+  supplements = totals.supplements + supplements_of entry;
+  fare = totals.fare + fare_of entry;
+  shares = shares_with entry 1 totals.shares;
+  before = totals.before;
+}

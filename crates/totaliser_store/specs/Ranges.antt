@@ -1,0 +1,75 @@
+-- The ranges of what a totals' slot holds, in the order of its table.
+use Rattle.std.specs.Prelude.{◌≡◌, ◌⊎◌, ℕ, ◌+◌, ◌*◌, ◌^◌, ◌<◌, ◌≤◌, true, false, length, replicate, is_some, IfSome}
+use Rattle.std.specs.List.{All, sum_by}
+use Rattle.totaliser_store.specs.declared.durable.Durable.{Durable}
+use Rattle.totaliser_store.specs.declared.entry.Entry.{Entry}
+use Rattle.totaliser_store.specs.declared.totals.Totals.{Totals}
+use Rattle.totaliser_store.specs.declared.trip.Trip.{Trip}
+use Rattle.taxi_units.specs.Time.{IsSecond, last_second}
+use Rattle.totaliser_store.specs.Entries.{closes, distance_of, no_share}
+
+-- the greatest number with which a trip may be held; a state has one more at most
+abbrev pub last_number : ℕ
+last_number = 2 * 10 ^ 15
+
+-- a held trip beside this number
+pub record IsTrip (number : ℕ) (trip : Trip) : Type 0 where
+  pub started : IsSecond trip.started
+  pub saved : (trip.started ≤ trip.saved) × (trip.saved ≤ last_second)
+  pub position : (1 ≤ trip.position) × (trip.position ≤ 9)
+  pub zone : (1 ≤ trip.zone) × (trip.zone ≤ 9)
+  pub roam : trip.roam ≤ 1001999
+  pub pulses : trip.pulses ≤ 2000 * (trip.ticks + number)
+  pub ticks : trip.ticks ≤ 8639999
+  pub initial : trip.initial ≤ 99999999
+  pub cover_left : trip.meterage.cover_left ≤ 2 * 10 ^ 31
+  pub steps_full : trip.meterage.steps_full ≤ 41000000000 * trip.ticks
+  pub rest : trip.meterage.rest < 2 * 10 ^ 29
+  pub extras : (length trip.extras ≡ 16) × All (λ count. count ≤ 99) trip.extras
+  pub extras_sum : trip.extras_sum ≤ 1584000000
+  pub minimum : trip.minimum ≤ 99999999
+
+-- a trip is held only beside a number that leaves room for its closing entry
+pub record IsHeld (number : ℕ) (trip : Trip) : Type 0 where
+  pub room : number ≤ last_number
+  pub ranges : IsTrip number trip
+
+-- hirings and fare are the sums of nine shares and of what was counted before; in layout 1 all was
+pub record AreShares (layout : ℕ) (totals : Totals) : Type 0 where
+  pub nine : length totals.shares ≡ 9
+  pub hirings : sum_by (λ share. share.hirings) totals.shares + totals.before.hirings ≡ totals.hirings
+  pub fare : sum_by (λ share. share.fare) totals.shares + totals.before.fare ≡ totals.fare
+  pub unshared : layout ≡ 1 → totals.shares ≡ replicate 9 no_share
+
+-- a durable state that a slot may hold
+pub record IsDurable (durable : Durable) : Type 0 where
+  pub number : (1 ≤ durable.number) × (durable.number ≤ last_number + 1)
+  pub distance : durable.totals.distance_mm ≤ 10 ^ 22 * durable.number
+  pub hired : durable.totals.hired_mm ≤ durable.totals.distance_mm
+  pub hirings : durable.totals.hirings ≤ durable.number
+  pub supplements : durable.totals.supplements ≤ 10 ^ 10 * durable.number
+  pub fare : durable.totals.fare ≤ 10 ^ 8 * durable.number
+  pub held : IfSome durable.hold (IsHeld durable.number)
+  pub shares : AreShares durable.layout durable.totals
+  pub layout : (durable.layout ≡ 1) ⊎ (durable.layout ≡ 2)
+
+-- an entry as the meter makes them
+pub record IsEntry (entry : Entry) : Type 0 where
+  pub distance : distance_of entry ≤ 10 ^ 22
+  pub fare : entry.fare ≤ 99999999
+  pub supplements : entry.supplements ≤ 1584000000
+  pub position : closes entry ≡ true → (1 ≤ entry.position) × (entry.position ≤ 9)
+
+-- totals whose numbers fit into their fields
+pub record Fit (totals : Totals) : Type 0 where
+  pub distance : totals.distance_mm < 2 ^ 128
+  pub hired : totals.hired_mm < 2 ^ 128
+  pub hirings : totals.hirings < 2 ^ 64
+  pub supplements : totals.supplements < 2 ^ 128
+  pub fare : totals.fare < 2 ^ 128
+  pub shares_hirings : All (λ share. share.hirings < 2 ^ 64) totals.shares
+  pub shares_fare : All (λ share. share.fare < 2 ^ 128) totals.shares
+
+-- an entry of roaming beside a held trip, which stays, leaves room for the entry that will close the trip
+abbrev pub HasRoom : Durable → Entry → Type 0
+HasRoom durable entry = closes entry ≡ false → is_some durable.hold ≡ true → durable.number + 1 ≤ last_number

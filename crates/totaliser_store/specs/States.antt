@@ -1,0 +1,87 @@
+-- The durable state, and what a commit makes of it.
+use Rattle.std.specs.Prelude.{◌≡◌, ℕ, ◌+◌, ◌⊎◌, true, false, if◌then◌else◌, List, [], ◌∷◌, ◌++◌, Option, Some}
+use Rattle.std.specs.Prelude.{None, replicate}
+use Rattle.std.specs.List.{All, fold}
+use Rattle.totaliser_store.specs.declared.change.Change.{Change}
+use Rattle.totaliser_store.specs.declared.change.Change.TheVariants.{Enter, Hold}
+use Rattle.totaliser_store.specs.declared.durable.Durable.{Durable}
+use Rattle.totaliser_store.specs.declared.entry.Entry.{Entry}
+use Rattle.totaliser_store.specs.declared.totals.Totals.{Totals}
+use Rattle.totaliser_store.specs.declared.trip.Trip.{Trip}
+use Rattle.totaliser_store.specs.Entries.{closes, no_share, totals_with}
+
+-- totals of nothing
+abbrev pub no_totals : Totals
+no_totals = record {
+  distance_mm = 0;
+  hired_mm = 0;
+  hirings = 0;
+  supplements = 0;
+  fare = 0;
+  shares = replicate 9 no_share;
+  before = no_share;
+}
+
+-- what sealing begins with: number 1, layout 2, totals of nothing, and no held trip
+abbrev pub first_state : Durable
+first_state = record { number = 1; totals = no_totals; hold = None; layout = 2 }
+
+-- an entry adds to the totals, a held trip leaves them
+abbrev pub totals_after : Totals → Change → Totals
+totals_after totals (Enter entry) = totals_with totals entry
+totals_after totals (Hold trip) = totals
+
+-- a trip is held from now on; an entry that closes a hiring ends that, one of roaming doesn't
+abbrev pub held_after : Option Trip → Change → Option Trip
+held_after held (Enter entry) = if closes entry then None else held
+held_after held (Hold trip) = Some trip
+
+-- the state after one commit
+abbrev pub after : Durable → Change → Durable
+after durable change = record {
+  number = durable.number + 1;
+  totals = totals_after durable.totals change;
+  hold = held_after durable.hold change;
+  layout = 2;
+}
+
+-- the state after a list of commits
+abbrev pub after_all : Durable → List Change → Durable
+after_all durable changes = fold after durable changes
+
+-- the entries of a list of commits, in their order
+abbrev pub entries_of : List Change → List Entry
+entries_of [] = []
+entries_of (Enter entry ∷ changes) = entry ∷ entries_of changes
+entries_of (Hold trip ∷ changes) = entries_of changes
+
+-- the layout of the opening state where there was no commit, and else 2
+abbrev pub layout_after : ℕ → List Change → ℕ
+layout_after opening [] = opening
+layout_after opening (change ∷ changes) = 2
+
+-- the commit is an entry that closes a hiring
+abbrev pub IsClosing : Change → Type 0
+IsClosing (Enter entry) = closes entry ≡ true
+IsClosing (Hold trip) = ⊥
+
+-- the commit is an entry of roaming, which leaves a held trip as it is
+abbrev pub IsRoaming : Change → Type 0
+IsRoaming (Enter entry) = closes entry ≡ false
+IsRoaming (Hold trip) = ⊥
+
+-- the last commit of the list that isn't an entry of roaming
+pub record IsLast (changes : List Change) (last : Change) : Type 0 where
+  pub earlier : List Change
+  pub later : List Change
+  pub split : changes ≡ earlier ++ last ∷ later
+  pub roaming : All IsRoaming later
+
+-- what is held after a list of commits
+abbrev pub IsHeldAfter : Option Trip → List Change → Option Trip → Type 0
+-- a trip: it was held last, and no closing entry follows, or it stood first, and there is neither
+IsHeldAfter opening changes (Some trip) =
+    IsLast changes (Hold trip) ⊎ (All IsRoaming changes × (opening ≡ Some trip))
+-- none: a closing entry came last, or none stood first, and there is neither
+IsHeldAfter opening changes None =
+    ((closing : Change) × (IsClosing closing × IsLast changes closing)) ⊎ (All IsRoaming changes × (opening ≡ None))

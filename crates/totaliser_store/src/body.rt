@@ -1,0 +1,51 @@
+//! A durable state as the body of a slot.
+ghost use Rattle.std.specs.Prelude.{◌≡◌};
+ghost use Rattle.totaliser_store.specs.Ranges.{IsDurable};
+ghost use Rattle.totaliser_store.specs.Reading.{reads};
+ghost use Rattle.totaliser_store.specs.Spelling.{spelling};
+ghost use Rattle.totaliser_store.specs.Stored.{number_of};
+
+use crate::Durable;
+use crate::decoding::decode;
+use crate::ranges::is_durable;
+use crate::spelling::spell;
+use slot_store::Body;
+
+impl Body for Durable {
+    ghost use Rattle.totaliser_store.specs.BodyLaws.{size, reads_it, gives_valid, nothing_else};
+
+    ghost valid = { IsDurable };
+
+    ghost number_of = { number_of };
+
+    ghost spelling = { spelling };
+
+    ghost reads = { reads };
+
+    ghost size = { size };
+
+    ghost reads_it = { reads_it };
+
+    ghost gives_valid = { gives_valid };
+
+    ghost nothing_else = { λ bytes durable long below read. nothing_else bytes durable read };
+
+    fn number(&self) -> u64 {
+        self.number
+    }
+
+    fn put(&self, out: &mut [u8; 511]) {
+        *out = spell(self);
+    }
+
+    fn get(bytes: &[u8; 511]) -> Option<Durable> {
+        let durable = decode(bytes);
+        if !is_durable(&durable) {
+            return None;
+        }
+        if spell(&durable) != *bytes {
+            return None;
+        }
+        Some(durable)
+    }
+}

@@ -1,0 +1,13 @@
+//! What a slot's bytes are read as, and what a store that stands for a state means.
+ghost use Rattle.std.specs.Prelude.{◌≡◌, ◌↔◌, ℕ, List, Option, Some};
+ghost use Rattle.totaliser_store.specs.declared.durable.Durable.{Durable};
+ghost use Rattle.totaliser_store.specs.Ranges.{IsDurable};
+ghost use Rattle.totaliser_store.specs.Reading.{reads};
+ghost use Rattle.totaliser_store.specs.Spelling.{spelling};
+
+/// Bytes are read as a state exactly where each of its fields is in its range and the bytes are those of
+/// the state, in the layout that it names.
+pub fn states_are_read_by_their_table()
+    ensures { (bytes : List ℕ) (durable : Durable)
+        → (reads bytes ≡ Some durable) ↔ (IsDurable durable × (bytes ≡ spelling durable)) }
+{}

@@ -1,0 +1,126 @@
+//! The bytes of a durable state.
+ghost use Rattle.std.specs.Prelude.{◌≡◌, [], ◌∷◌, ◌++◌, ◌+◌, ◌≤◌, ℕ, List, length, IfSome};
+ghost use Rattle.arrayvec.specs.ArrayVec.{array_vec_len};
+ghost use Rattle.totaliser_store.specs.Ranges.{IsDurable, IsHeld};
+ghost use Rattle.totaliser_store.specs.Spelling.{head_bytes, course_bytes, meterage_bytes, trip_bytes};
+ghost use Rattle.totaliser_store.specs.Spelling.{held_bytes, share_bytes, shared_bytes, spelling};
+
+use crate::bytes::{Spelled, bit_of, put, put_eight, put_four, put_sixteen};
+use crate::{Durable, Share, Totals, Trip};
+use drive_modes::Meterage;
+
+/// The 511 bytes of a state.
+pub fn spell(durable: &Durable) -> [u8; 511]
+    requires { IsDurable durable.now }
+    ensures { result ≡ spelling durable.now }
+{
+    let mut out = Spelled::new();
+    put_head(&mut out, durable.number, &durable.totals);
+    put_held(&mut out, durable.number, &durable.hold);
+    put_shared(&mut out, durable.layout, &durable.totals);
+    put(&mut out, &[durable.layout]);
+    let mut bytes = [0; 511];
+    bytes.copy_from_slice(out.as_slice());
+    bytes
+}
+
+/// Appends the number and the five totals.
+fn put_head(out: &mut Spelled, number: u64, totals: &Totals)
+    requires { array_vec_len out.old + 80 ≤ 511 }
+    ensures items { out.new.items ≡ out.old.items ++ head_bytes number totals.now }
+    ensures len { array_vec_len out.new ≡ array_vec_len out.old + 80 }
+{
+    put_eight(out, number);
+    put_sixteen(out, totals.distance_mm);
+    put_sixteen(out, totals.hired_mm);
+    put_eight(out, totals.hirings);
+    put_sixteen(out, totals.supplements);
+    put_sixteen(out, totals.fare);
+}
+
+/// Appends whether a trip is held, and the trip, or zeros.
+fn put_held(out: &mut Spelled, number: u64, hold: &Option<Trip>)
+    requires room { array_vec_len out.old + 108 ≤ 511 }
+    requires held { IfSome hold.now (IsHeld number) }
+    ensures items { out.new.items ≡ out.old.items ++ held_bytes hold.now }
+    ensures len { array_vec_len out.new ≡ array_vec_len out.old + 108 }
+{
+    match hold {
+        Some(trip) => {
+            put(out, &[1]);
+            put_trip(out, trip);
+        }
+        None => put(out, &[0; 108]),
+    }
+}
+
+/// Appends how far a trip has come.
+fn put_course(out: &mut Spelled, trip: &Trip)
+    requires room { array_vec_len out.old + 39 ≤ 511 }
+    requires initial { trip.now.initial ≤ 99999999 }
+    ensures items { out.new.items ≡ out.old.items ++ course_bytes trip.now }
+    ensures len { array_vec_len out.new ≡ array_vec_len out.old + 39 }
+{
+    put_eight(out, trip.started);
+    put_eight(out, trip.saved);
+    put(out, &[bit_of(trip.stopped)]);
+    put(out, &[trip.position]);
+    put(out, &[trip.zone]);
+    put_four(out, trip.roam);
+    put_eight(out, trip.pulses);
+    put_four(out, trip.ticks);
+    put_four(out, trip.initial as u32);
+}
+
+/// Appends what the charges of a trip have come to.
+fn put_meterage(out: &mut Spelled, meterage: &Meterage)
+    requires { array_vec_len out.old + 40 ≤ 511 }
+    ensures items { out.new.items ≡ out.old.items ++ meterage_bytes meterage.now }
+    ensures len { array_vec_len out.new ≡ array_vec_len out.old + 40 }
+{
+    put_sixteen(out, meterage.cover_left);
+    put_eight(out, meterage.steps_full);
+    put_sixteen(out, meterage.rest);
+}
+
+/// Appends a trip.
+fn put_trip(out: &mut Spelled, trip: &Trip)
+    requires room { array_vec_len out.old + 107 ≤ 511 }
+    requires initial { trip.now.initial ≤ 99999999 }
+    requires minimum { trip.now.minimum ≤ 99999999 }
+    ensures items { out.new.items ≡ out.old.items ++ trip_bytes trip.now }
+    ensures len { array_vec_len out.new ≡ array_vec_len out.old + 107 }
+{
+    put_course(out, trip);
+    put_meterage(out, &trip.meterage);
+    put(out, &trip.extras);
+    put_eight(out, trip.extras_sum);
+    put_four(out, trip.minimum as u32);
+}
+
+/// Appends the shares and what was counted before, or in layout 1 zeros.
+fn put_shared(out: &mut Spelled, layout: u8, totals: &Totals)
+    requires { array_vec_len out.old + 322 ≤ 511 }
+    ensures items { out.new.items ≡ out.old.items ++ shared_bytes layout totals.now }
+    ensures len { array_vec_len out.new ≡ array_vec_len out.old + 322 }
+{
+    if layout == 1 {
+        put(out, &[0; 322]);
+        return;
+    }
+    for share in &totals.shares {
+        put_share(out, share);
+    }
+    put_share(out, &totals.before);
+    put(out, &[0; 82]);
+}
+
+/// Appends a share.
+fn put_share(out: &mut Spelled, share: &Share)
+    requires { array_vec_len out.old + 24 ≤ 511 }
+    ensures items { out.new.items ≡ out.old.items ++ share_bytes share.now }
+    ensures len { array_vec_len out.new ≡ array_vec_len out.old + 24 }
+{
+    put_eight(out, share.hirings);
+    put_sixteen(out, share.fare);
+}

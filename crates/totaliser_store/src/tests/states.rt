@@ -1,0 +1,134 @@
+//! States after the entries of worked drives.
+ghost use Rattle.std.specs.Prelude.{◌≤◌, IfSome, IsTrue};
+ghost use Rattle.totaliser_store.specs.Ranges.{IsDurable, IsEntry};
+
+use crate::{Change, Durable, Entry, Share};
+use std::process::Abort;
+use taxi_units::Kind;
+
+/// The totals after one entry: distance, distance when hired, hirings, supplements, fare, and the
+/// position that has the hiring.
+type Row = (Entry, (u128, u128, u64, u128, u128), usize);
+
+/// An entry without supplements, at position 1.
+pub const PLAIN: Entry = Entry {
+    kind: Kind::Closed,
+    roam_mm: 0,
+    hired_mm: 234_800,
+    fare: 380,
+    supplements: 0,
+    position: 1,
+};
+
+/// Entries of worked drives, and the totals after each over totals of zero.
+const ROWS: [Row; 6] = [
+    (PLAIN, (234_800, 234_800, 1, 0, 380), 1),
+    (
+        Entry {
+            roam_mm: 500,
+            hired_mm: 0,
+            ..PLAIN
+        },
+        (500, 0, 1, 0, 380),
+        1,
+    ),
+    (
+        Entry {
+            kind: Kind::Aborted,
+            hired_mm: 20_000,
+            ..PLAIN
+        },
+        (20_000, 20_000, 1, 0, 380),
+        1,
+    ),
+    (
+        Entry {
+            kind: Kind::Expired,
+            hired_mm: 0,
+            fare: 686_060,
+            ..PLAIN
+        },
+        (0, 0, 1, 0, 686_060),
+        1,
+    ),
+    (
+        Entry {
+            hired_mm: 6_000_000,
+            fare: 1_440,
+            supplements: 200,
+            position: 9,
+            ..PLAIN
+        },
+        (6_000_000, 6_000_000, 1, 200, 1_440),
+        9,
+    ),
+    (
+        Entry {
+            kind: Kind::Roam,
+            roam_mm: 100_000_000,
+            hired_mm: 0,
+            fare: 0,
+            ..PLAIN
+        },
+        (100_000_000, 0, 0, 0, 0),
+        1,
+    ),
+];
+
+/// Whether the meter may make this entry.
+fn is_entry(entry: &Entry) -> bool
+    ensures { IsTrue result → IsEntry entry.now }
+{
+    entry.roam_mm <= 1_000_000_000
+        && entry.hired_mm <= 1_000_000_000
+        && entry.fare <= 99_999_999
+        && entry.supplements <= 1_584_000_000
+        && 1 <= entry.position
+        && entry.position <= 9
+}
+
+/// The state after an entry.
+fn enter(durable: &Durable, entry: &Entry) -> Option<Durable>
+    requires durable { IsDurable durable.now }
+    requires entry { IsEntry entry.now }
+    ensures { IfSome result IsDurable }
+{
+    if durable.number >= 2_000_000_000_000_000 {
+        return None;
+    }
+    Some(durable.after(&Change::Enter(*entry)))
+}
+
+/// The state after one entry over totals of zero.
+fn first_entry(entry: &Entry, rt: &impl Abort) -> Durable {
+    assert!(rt; is_entry(entry));
+    enter(&Durable::zero(), entry).expect(rt, "there is room")
+}
+
+#[test]
+fn entries_add_to_the_totals(rt: HostRuntime) {
+    for (row, (entry, want, position)) in ROWS.iter().enumerate() {
+        let state = first_entry(entry, &rt);
+        let totals = state.totals;
+        let sums = (
+            totals.distance_mm,
+            totals.hired_mm,
+            totals.hirings,
+            totals.supplements,
+            totals.fare,
+        );
+        assert_eq!(rt; sums, *want, "row {row}");
+        assert_eq!(rt; (state.number, state.layout, state.hold), (2, 2, None));
+        let mut shares = [Share::NONE; 9];
+        assert!(rt; 1 <= *position && *position <= 9);
+        shares[*position - 1] = Share {
+            hirings: want.2,
+            fare: want.4,
+        };
+        let grown = totals.shares;
+        assert!(rt;
+            grown == shares && totals.before == Share::NONE,
+            "row {row}"
+        );
+    }
+}
