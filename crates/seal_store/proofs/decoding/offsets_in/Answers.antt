@@ -1,0 +1,14 @@
+use Rattle.std.proofs.Common.{arith, ap, drop, ◌∙◌}
+use Rattle.totaliser_store.specs.Bytes.{byte_at}
+use Rattle.seal_store.specs.Decoding.{pairs_in}
+use Rattle.seal_store.proofs.Pairs.{all_left, length-pairs_in}
+use Rattle.seal_store.proofs.Ranged.{offsets_by}
+use Rattle.seal_store.proofs.decoding.offsets_in.Goals as goal
+
+pub returns-then-count-gt32 : goal.returns-then-count-gt32
+returns-then-count-gt32 c = λ lawful. omega (arith, lawful.few, length-pairs_in, c.if-count-gt32.true)
+
+pub returns : goal.returns
+returns c =
+    offsets_by c.offsets_of.result c.as_slice.result.now (pairs_in (byte_at c.args.bytes.now 67) (drop 68 c.args.bytes.now))
+    (c.as_slice.ensures.value ∙ (c.pairs_in.ensures ∙ ap (pairs_in (byte_at c.args.bytes.now 67)) (all_left 68 443 c.args.bytes.now c.told-bytes))) c.offsets_of.ensures

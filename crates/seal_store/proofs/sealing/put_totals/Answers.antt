@@ -1,0 +1,29 @@
+use Rattle.std.proofs.Common.{None, sym, subst}
+use Rattle.slot_store.specs.declared.pair.Pair.{Pair}
+use Rattle.slot_store.specs.Slots.{IsSettled}
+use Rattle.slot_store.specs.Stages.{IsReady}
+use Rattle.totaliser_store.specs.declared.durable.Durable.{Durable}
+use Rattle.totaliser_store.specs.Reading.{reads}
+use Rattle.totaliser_store.specs.Stored.{number_of}
+use Rattle.seal_store.proofs.Sealings.{put_first}
+use Rattle.seal_store.proofs.sealing.put_totals.Goals as goal
+
+pub returns-in_err-place-clause-any_moment : goal.returns-in_err-place-clause-any_moment
+returns-in_err-place-clause-any_moment g c told =
+    let board = g.B.Board in
+    let ready = subst (λ (p : Pair). IsReady reads number_of p (board.image c.args.board.now) (board.in_flight c.args.board.now) None) (sym c.blank.ensures) (c.requires told) in
+    put_first board _ _ c.args.board.now c.store.new.board c.blank.ensures c.zero.ensures.state (c.store.ensures.any_moment told None ready tt)
+
+pub returns-clause-any_moment : goal.returns-clause-any_moment
+returns-clause-any_moment g c told =
+    let board = g.B.Board in
+    let ready = subst (λ (p : Pair). IsReady reads number_of p (board.image c.args.board.now) (board.in_flight c.args.board.now) None) (sym c.blank.ensures) (c.requires told) in
+    put_first board _ _ c.args.board.now c.store.new.board c.blank.ensures c.zero.ensures.state (c.store.ensures.any_moment told None ready tt)
+
+pub returns-clause-settled : goal.returns-clause-settled
+returns-clause-settled g c told =
+    let board = g.B.Board in
+    let ready = subst (λ (p : Pair). IsReady reads number_of p (board.image c.args.board.now) (board.in_flight c.args.board.now) None) (sym c.blank.ensures) (c.requires told) in
+    subst (λ (d : Durable). IsSettled reads number_of 0 c.in_ok-place.place (board.image c.store.new.board) (board.in_flight c.store.new.board) d) c.zero.ensures.state
+    (subst (λ (p : Pair). IsSettled reads number_of p.at c.in_ok-place.place (board.image c.store.new.board) (board.in_flight c.store.new.board) c.zero.result) c.blank.ensures
+    (c.in_ok-place.ensures.settled told None ready tt))

@@ -1,0 +1,72 @@
+-- The seal that bytes are read as: each field at its place, as the table has it; a place here is one less than in the
+-- slot.
+use Rattle.std.specs.Prelude.{ℕ, zero, suc, ◌==◌, ◌&&◌, if◌then◌else◌, Bool, nat_le, ℤ, pos, int_le, List, [], ◌∷◌, length, take, drop, Option, Some, None}
+use Rattle.std.specs.Int.{w16, w32, from_be_bytes, cast_signed}
+use Rattle.std.specs.Str.{bytes_eq}
+use Rattle.drive_modes.specs.declared.charges.Mode.{Mode}
+use Rattle.drive_modes.specs.declared.charges.Mode.TheVariants.{Single, Double}
+use Rattle.seal_store.specs.declared.params.Params.{Params}
+use Rattle.seal_store.specs.declared.seal.Seal.{Seal}
+use Rattle.seal_store.specs.Lines.{before}
+use Rattle.seal_store.specs.OffsetList.{is_offset_list}
+use Rattle.seal_store.specs.Spelling.{spelling}
+use Rattle.seal_store.specs.Values.{is_taxi}
+use Rattle.totaliser_store.specs.Bytes.{byte_at, four_at, eight_at}
+
+-- the number in the two bytes from a place on
+abbrev pub two_at : List ℕ → ℕ → ℕ
+two_at bytes place = from_be_bytes w16 (take 2 (drop place bytes))
+
+-- the signed number in the four bytes from a place on
+abbrev pub signed_at : List ℕ → ℕ → ℤ
+signed_at bytes place = cast_signed w32 (four_at bytes place)
+
+-- the mode of a byte
+abbrev pub mode_in : ℕ → Mode
+mode_in byte = if byte == 1 then Double else Single
+
+-- so many pairs from the beginning of the bytes on
+abbrev pub pairs_in : (count : ℕ) → List ℕ → List (ℕ × ℤ)
+pairs_in zero bytes = []
+pairs_in (suc count) bytes = (eight_at bytes 0, signed_at bytes 8) ∷ pairs_in count (drop 12 bytes)
+
+-- the parameters
+abbrev pub params_in : List ℕ → Params
+params_in bytes = record {
+  taxi = record { items = before 0 (take 16 (drop 8 bytes)) };
+  constant = four_at bytes 24;
+  mode = mode_in (byte_at bytes 28);
+  hold = two_at bytes 29;
+  offsets = pairs_in (byte_at bytes 67) (drop 68 bytes);
+  secured = signed_at bytes 63;
+}
+
+-- the seal
+abbrev pub decoded : List ℕ → Seal
+decoded bytes = record {
+  seal_number = eight_at bytes 0;
+  params = params_in bytes;
+  digest = take 32 (drop 31 bytes);
+  decimals = byte_at bytes 452;
+}
+
+-- the tests of the ranges
+abbrev pub are_params : Params → Bool
+are_params params =
+    is_taxi params.taxi.items
+    && (nat_le 500 params.constant && (nat_le params.constant 200000 && (nat_le params.hold 600
+    && (int_le (pos 10957) params.secured && (int_le params.secured (pos 84005) && is_offset_list params.offsets)))))
+
+abbrev pub is_seal : Seal → Bool
+is_seal seal =
+    nat_le 1 seal.seal_number && (nat_le seal.seal_number 1000000000000000 && (are_params seal.params
+    && ((length seal.digest == 32) && nat_le seal.decimals 3)))
+
+-- bytes are read as a seal where it is in its ranges and the bytes are its own
+unfoldable pub reads : List ℕ → Option Seal
+reads bytes =
+    if is_seal (decoded bytes) && bytes_eq (spelling (decoded bytes)) bytes then Some (decoded bytes) else None
+
+-- the number by which the later of two seals is known
+abbrev pub number_of : Seal → ℕ
+number_of seal = seal.seal_number

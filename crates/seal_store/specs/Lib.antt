@@ -1,0 +1,17 @@
+pub mod Lines
+pub mod Values
+pub mod OffsetList
+pub mod OffsetLaws
+pub mod Said
+pub mod Reading
+pub mod Says
+pub mod Forms
+pub mod LineSays
+pub mod Faults
+pub mod TextSays
+pub mod Ranges
+pub mod Spelling
+pub mod Decoding
+pub mod SealLaws
+pub mod Sealing
+pub mod PlainText

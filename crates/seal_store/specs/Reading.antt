@@ -1,0 +1,49 @@
+-- The parameters that a text says, or its first fault.
+use Rattle.std.specs.Prelude.{ℕ, ◌+◌, nat_lt, if◌then◌else◌, ℤ, List, [], ◌∷◌, length, Option, Some, None, Result, Ok, Err}
+use Rattle.drive_modes.specs.declared.charges.Mode.{Mode}
+use Rattle.seal_store.specs.declared.params.Name.TheVariants.{Taxi, Constant, Hold, Offset, Secured}
+use Rattle.seal_store.specs.declared.params.Name.TheVariants as name
+use Rattle.seal_store.specs.declared.params.Params.{Params}
+use Rattle.seal_store.specs.declared.params.ParamFault.{ParamFault}
+use Rattle.seal_store.specs.declared.params.ParamFault.TheVariants.{TooLong, Missing}
+use Rattle.seal_store.specs.Lines.{lines_of}
+use Rattle.seal_store.specs.Said.{Said, nothing_said, line_read}
+
+-- go on where nothing was wrong
+abbrev pub and_then : {A B : Type 0} → Result A ParamFault → (A → Result B ParamFault) → Result B ParamFault
+and_then (Ok x) f = f x
+and_then (Err fault) f = Err fault
+
+-- what has been said after these lines, of which the first has this number, or the fault of the first bad one
+unfoldable pub lines_read : Said → (number : ℕ) → List (List ℕ) → Result Said ParamFault
+lines_read said number [] = Ok said
+lines_read said number (line ∷ lines) =
+    and_then (line_read said number line) (λ more. lines_read more (number + 1) lines)
+
+-- all parameters, or the first that is missing
+abbrev pub whole_of : Option (List ℕ) → Option ℕ → Option Mode → Option ℕ → List (ℕ × ℤ) → Option ℤ
+    → Result Params ParamFault
+whole_of None constant mode hold offsets secured = Err (Missing Taxi)
+whole_of (Some taxi) None mode hold offsets secured = Err (Missing Constant)
+whole_of (Some taxi) (Some constant) None hold offsets secured = Err (Missing name.Mode)
+whole_of (Some taxi) (Some constant) (Some mode) None offsets secured = Err (Missing Hold)
+whole_of (Some taxi) (Some constant) (Some mode) (Some hold) [] secured = Err (Missing Offset)
+whole_of (Some taxi) (Some constant) (Some mode) (Some hold) (pair ∷ pairs) None = Err (Missing Secured)
+whole_of (Some taxi) (Some constant) (Some mode) (Some hold) (pair ∷ pairs) (Some secured) =
+    Ok (record {
+      taxi = record { items = taxi };
+      constant = constant;
+      mode = mode;
+      hold = hold;
+      offsets = pair ∷ pairs;
+      secured = secured;
+    })
+
+-- the same of what the lines have said
+abbrev pub whole : Said → Result Params ParamFault
+whole said = whole_of said.taxi said.constant said.mode said.hold said.offsets said.secured
+
+-- the parameters that a text says, or its first fault: a text of more than 65,536 bytes is not read
+unfoldable pub params_read : List ℕ → Result Params ParamFault
+params_read text =
+    if nat_lt 65536 (length text) then Err TooLong else and_then (lines_read nothing_said 1 (lines_of text)) whole

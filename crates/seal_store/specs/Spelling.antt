@@ -1,0 +1,46 @@
+-- The bytes of a seal behind its slot's gate: the rows of the table, in order. Numbers have their greatest byte first.
+use Rattle.std.specs.Prelude.{ℕ, ◌-◌, List, [], ◌∷◌, ◌++◌, length, replicate, ℤ, flat_map}
+use Rattle.std.specs.Int.{w16, w32, w64, to_be_bytes, cast_unsigned}
+use Rattle.drive_modes.specs.declared.charges.Mode.{Mode}
+use Rattle.drive_modes.specs.declared.charges.Mode.TheVariants.{Single, Double}
+use Rattle.seal_store.specs.declared.params.Params.{Params}
+use Rattle.seal_store.specs.declared.seal.Seal.{Seal}
+
+-- these bytes, and zeros behind them up to a count
+abbrev pub padded : (count : ℕ) → List ℕ → List ℕ
+padded count bytes = bytes ++ replicate (count - length bytes) 0
+
+-- a signed number in four bytes, two's complement
+abbrev pub signed_bytes : ℤ → List ℕ
+signed_bytes n = to_be_bytes w32 (cast_unsigned w32 n)
+
+-- 0 for mode S, 1 for mode D
+abbrev pub mode_byte : Mode → ℕ
+mode_byte Single = 0
+mode_byte Double = 1
+
+-- a pair of the offsets: eight bytes of the second, four of the offset
+abbrev pub pair_bytes : ℕ × ℤ → List ℕ
+pair_bytes pair = to_be_bytes w64 pair.0 ++ signed_bytes pair.1
+
+-- the constant, the mode and the hold time
+abbrev pub settings_bytes : Params → List ℕ
+settings_bytes params = to_be_bytes w32 params.constant ++ (mode_byte params.mode ∷ to_be_bytes w16 params.hold)
+
+-- how many pairs there are, in one byte, and the room of 32 pairs, before other bytes
+abbrev pub offset_bytes : List (ℕ × ℤ) → List ℕ → List ℕ
+offset_bytes offsets rest = length offsets ∷ (padded 384 (flat_map pair_bytes offsets) ++ rest)
+
+-- the decimals, 57 zeros, and the layout, 1
+abbrev pub end_bytes : (decimals : ℕ) → List ℕ
+end_bytes decimals = decimals ∷ (replicate 57 0 ++ 1 ∷ [])
+
+-- the 511 bytes
+abbrev pub spelling : Seal → List ℕ
+spelling seal =
+    to_be_bytes w64 seal.seal_number
+    ++ (padded 16 seal.params.taxi.items
+    ++ (settings_bytes seal.params
+    ++ (seal.digest
+    ++ (signed_bytes seal.params.secured
+    ++ offset_bytes seal.params.offsets (end_bytes seal.decimals)))))

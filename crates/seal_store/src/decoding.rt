@@ -1,0 +1,159 @@
+//! The fields of a seal at their places in bytes.
+ghost use Rattle.std.specs.Prelude.{◌≡◌, ◌+◌, ◌*◌, ◌≤◌, ◌∷◌, FitsSigned, drop, take, length, MatchOption};
+ghost use Rattle.std.specs.Int.{w32};
+ghost use Rattle.totaliser_store.specs.Bytes.{four_at, eight_at};
+ghost use Rattle.seal_store.specs.Decoding as spec;
+ghost use Rattle.seal_store.specs.Decoding.{decoded, signed_at, two_at};
+ghost use Rattle.seal_store.specs.Ranges.{IsParams, IsSeal, IsTaxi};
+ghost use Rattle.interval_clock.specs.Offsets.{IsOffsetList};
+
+use crate::lines::before;
+use crate::offset_list::offsets_of;
+use crate::{Params, Seal, values};
+use arrayvec::ArrayVec;
+use drive_modes::Mode;
+use interval_clock::Offsets;
+use pulse_input::Constant;
+
+/// The number in the two bytes from a place on.
+fn two_at(bytes: &[u8], at: usize) -> u16
+    requires { at + 2 ≤ length bytes.now }
+    ensures { result ≡ two_at bytes.now at }
+{
+    let mut part = [0; 2];
+    part.copy_from_slice(&bytes[at..at + 2]);
+    u16::from_be_bytes(part)
+}
+
+/// The number in the four bytes from a place on.
+fn four_at(bytes: &[u8], at: usize) -> u32
+    requires { at + 4 ≤ length bytes.now }
+    ensures { result ≡ four_at bytes.now at }
+{
+    let mut part = [0; 4];
+    part.copy_from_slice(&bytes[at..at + 4]);
+    u32::from_be_bytes(part)
+}
+
+/// The number in the eight bytes from a place on.
+fn eight_at(bytes: &[u8], at: usize) -> u64
+    requires { at + 8 ≤ length bytes.now }
+    ensures { result ≡ eight_at bytes.now at }
+{
+    let mut part = [0; 8];
+    part.copy_from_slice(&bytes[at..at + 8]);
+    u64::from_be_bytes(part)
+}
+
+/// The signed number in the four bytes from a place on.
+fn signed_at(bytes: &[u8], at: usize) -> i32
+    requires { at + 4 ≤ length bytes.now }
+    ensures value { result ≡ signed_at bytes.now at }
+    ensures fits { FitsSigned w32 result }
+{
+    let mut part = [0; 4];
+    part.copy_from_slice(&bytes[at..at + 4]);
+    i32::from_be_bytes(part)
+}
+
+/// The mode of a byte.
+fn mode_in(byte: u8) -> Mode
+    ensures { result ≡ spec.mode_in byte }
+{
+    if byte == 1 {
+        Mode::Double
+    } else {
+        Mode::Single
+    }
+}
+
+/// So many pairs from the beginning of the bytes on.
+fn pairs_in(count: usize, bytes: &[u8]) -> ArrayVec<(u64, i32), 32>
+    requires few { count ≤ 32 }
+    requires long { 384 ≤ length bytes.now }
+    ensures { result.items ≡ spec.pairs_in count bytes.now }
+{
+    let mut pairs = ArrayVec::new();
+    for i in 0..count {
+        pairs.push((eight_at(bytes, 12 * i), signed_at(bytes, 12 * i + 8)));
+    }
+    pairs
+}
+
+/// The offsets, where they are lawful.
+fn offsets_in(bytes: &[u8; 511]) -> Option<Offsets>
+    ensures { MatchOption result (¬ IsOffsetList (spec.params_in bytes.now).offsets)
+        (λ offsets. (offsets ≡ (spec.params_in bytes.now).offsets) × IsOffsetList offsets) }
+{
+    let count = bytes[67] as usize;
+    if count > 32 {
+        return None;
+    }
+    offsets_of(pairs_in(count, &bytes[68..]).as_slice())
+}
+
+/// The taxi identifier, where it is one.
+fn taxi_in(bytes: &[u8; 511]) -> Option<ArrayVec<u8, 16>>
+    ensures { MatchOption result (¬ IsTaxi (spec.params_in bytes.now).taxi.items)
+        (λ taxi. (taxi.items ≡ (spec.params_in bytes.now).taxi.items) × IsTaxi taxi.items) }
+{
+    values::taxi(before(&bytes[8..24], 0))
+}
+
+/// The parameters, where they are in their ranges.
+fn params_in(bytes: &[u8; 511]) -> Option<Params>
+    ensures { MatchOption result (¬ IsParams (spec.params_in bytes.now))
+        (λ params. (params ≡ spec.params_in bytes.now) × IsParams params) }
+{
+    let Some(taxi) = taxi_in(bytes) else {
+        return None;
+    };
+    let Ok(constant) = Constant::new(four_at(bytes, 24)) else {
+        return None;
+    };
+    let hold = two_at(bytes, 29);
+    if hold > 600 {
+        return None;
+    }
+    let secured = signed_at(bytes, 63);
+    if secured < 10_957 || secured > 84_005 {
+        return None;
+    }
+    let Some(offsets) = offsets_in(bytes) else {
+        return None;
+    };
+    Some(Params {
+        taxi,
+        constant,
+        mode: mode_in(bytes[28]),
+        hold,
+        offsets,
+        secured,
+    })
+}
+
+/// The seal, where it is in its ranges.
+pub(crate) fn seal_in(bytes: &[u8; 511]) -> Option<Seal>
+    ensures { MatchOption result (¬ IsSeal (decoded bytes.now))
+        (λ seal. (seal ≡ decoded bytes.now) × IsSeal seal) }
+{
+    let seal_number = eight_at(bytes, 0);
+    if seal_number < 1 || seal_number > 1_000_000_000_000_000 {
+        return None;
+    }
+    let Some(params) = params_in(bytes) else {
+        return None;
+    };
+    let decimals = bytes[452];
+    if decimals > 3 {
+        return None;
+    }
+    let mut digest = [0; 32];
+    digest.copy_from_slice(&bytes[31..63]);
+    Some(Seal {
+        seal_number,
+        params,
+        digest,
+        decimals,
+    })
+}

@@ -1,0 +1,64 @@
+//! The seal: the parameters with the digest and the decimals of the tariff that they were sealed with.
+ghost use Rattle.std.specs.Prelude.{◌≡◌};
+
+use crate::decoding::seal_in;
+use crate::names::is_text;
+use crate::params::Params;
+use crate::spelling::spell;
+use slot_store::Body;
+
+/// What a taximeter is sealed with.
+#[derive(Drop)]
+pub struct Seal {
+    /// How often the store was sealed, 1 to 10^15.
+    pub seal_number: u64,
+    /// The secured parameters.
+    pub params: Params,
+    /// The SHA-256 of the tariff's text.
+    pub digest: [u8; 32],
+    /// The decimals of the tariff's money, 0 to 3.
+    pub decimals: u8,
+}
+
+/// A seal is the body of a slot of the pair at place 1,024 of the store. docs/STORE.md has the table of
+/// its bytes, and `IsSeal` its ranges.
+impl Body for Seal {
+    ghost use Rattle.seal_store.specs.Ranges.{IsSeal};
+    ghost use Rattle.seal_store.specs.Spelling.{spelling};
+    ghost use Rattle.seal_store.specs.Decoding.{number_of, reads};
+    ghost use Rattle.seal_store.specs.SealLaws.{size, reads_it, gives_valid, nothing_else};
+
+    ghost valid = { IsSeal };
+
+    ghost number_of = { number_of };
+
+    ghost spelling = { spelling };
+
+    ghost reads = { reads };
+
+    ghost size = { size };
+
+    ghost reads_it = { reads_it };
+
+    ghost gives_valid = { gives_valid };
+
+    ghost nothing_else = { λ bytes seal long below read. nothing_else bytes seal read };
+
+    fn number(&self) -> u64 {
+        self.seal_number
+    }
+
+    fn put(&self, out: &mut [u8; 511]) {
+        out.copy_from_slice(spell(self).as_slice());
+    }
+
+    fn get(bytes: &[u8; 511]) -> Option<Seal> {
+        let Some(seal) = seal_in(bytes) else {
+            return None;
+        };
+        if !is_text(spell(&seal).as_slice(), bytes) {
+            return None;
+        }
+        Some(seal)
+    }
+}

@@ -1,0 +1,165 @@
+//! The values of the parameters.
+ghost use Rattle.std.specs.Prelude.{◌≡◌, ◌+◌, ◌<◌, ◌≤◌, ◌^◌, [], length, IfSome};
+ghost use Rattle.std.specs.List.{list_all};
+ghost use Rattle.taxi_units.specs.Reading.{Gives};
+ghost use Rattle.seal_store.specs.Values as spec;
+
+use crate::names::is_text;
+use arrayvec::ArrayVec;
+use drive_modes::Mode;
+use interval_clock::day_number;
+use pulse_input::Constant;
+use taxi_units::{number_at, word};
+
+/// Whether a byte is a character of taxi identifiers.
+fn is_taxi_character(byte: u8) -> bool
+    ensures { result ≡ spec.is_taxi_character byte }
+{
+    (65 <= byte && byte <= 90) || ((48 <= byte && byte <= 57) || byte == 45)
+}
+
+/// Whether all bytes are.
+fn are_taxi_characters(text: &[u8]) -> bool
+    ensures { result ≡ list_all spec.is_taxi_character text.now }
+{
+    text.iter().all(|byte| is_taxi_character(*byte))
+}
+
+/// Whether a text is a taxi identifier.
+pub(crate) fn is_taxi(text: &[u8]) -> bool
+    ensures { result ≡ spec.is_taxi text.now }
+{
+    1 <= text.len() && (text.len() <= 16 && are_taxi_characters(text))
+}
+
+/// A taxi identifier.
+pub(crate) fn taxi(text: &[u8]) -> Option<ArrayVec<u8, 16>>
+    ensures { Gives (λ taxi. taxi.items) result (spec.taxi_read text.now) }
+{
+    if !is_taxi(text) {
+        return None;
+    }
+    let mut taxi = ArrayVec::new();
+    match taxi.try_extend_from_slice(text) {
+        Ok(()) => Some(taxi),
+        Err(_) => None,
+    }
+}
+
+/// A number in a range.
+#[tactic(auto, unfolding(crate::specs::Values::number_in))]
+fn number(text: &[u8], low: u64, high: u64) -> Option<u64>
+    ensures value { Gives (λ n. n) result (spec.number_in low high text.now) }
+    ensures low { IfSome result (λ n. low ≤ n) }
+    ensures high { IfSome result (λ n. n ≤ high) }
+{
+    let (number, rest) = number_at(text)?;
+    if rest.len() == 0 && low <= number && number <= high {
+        return Some(number);
+    }
+    None
+}
+
+/// The constant of the distance signal generator.
+pub(crate) fn constant(text: &[u8]) -> Option<Constant>
+    ensures { Gives (λ k. k) result (spec.number_in 500 200000 text.now) }
+{
+    let per_kilometre = number(text, 500, 200_000)?;
+    match Constant::new(per_kilometre as u32) {
+        Ok(constant) => Some(constant),
+        Err(_) => None,
+    }
+}
+
+/// The seconds for which a trip may be held.
+pub(crate) fn hold(text: &[u8]) -> Option<u16>
+    ensures { Gives (λ n. n) result (spec.number_in 0 600 text.now) }
+{
+    let seconds = number(text, 0, 600)?;
+    Some(seconds as u16)
+}
+
+/// How time and distance are charged.
+#[tactic(auto, unfolding(crate::specs::Values::mode_read))]
+pub(crate) fn mode(text: &[u8]) -> Option<Mode>
+    ensures { Gives (λ mode. mode) result (spec.mode_read text.now) }
+{
+    if is_text(text, b"single") {
+        Some(Mode::Single)
+    } else if is_text(text, b"double") {
+        Some(Mode::Double)
+    } else {
+        None
+    }
+}
+
+/// An offset of at most 14 hours, in seconds.
+#[tactic(auto, unfolding(crate::specs::Values::offset_read))]
+fn offset(text: &[u8]) -> Option<i32>
+    ensures { Gives (λ n. n) result (spec.offset_read text.now) }
+{
+    match word(text, b"-") {
+        Some(digits) => {
+            let seconds = number(digits, 0, 50_400)?;
+            Some(-(seconds as i32))
+        }
+        None => {
+            let seconds = number(text, 0, 50_400)?;
+            Some(seconds as i32)
+        }
+    }
+}
+
+/// A second, and the offset that is in force from it on.
+#[tactic(auto, unfolding(crate::specs::Values::pair_read))]
+pub(crate) fn pair(text: &[u8]) -> Option<(u64, i32)>
+    ensures { Gives (λ pair. pair) result (spec.pair_read text.now) }
+{
+    let (second, rest) = number_at(text)?;
+    let rest = word(rest, b" ")?;
+    let offset = offset(rest)?;
+    Some((second, offset))
+}
+
+/// A number of so many digits, and what stands after it.
+#[tactic(auto, unfolding(crate::specs::Values::digits_at))]
+fn digits(text: &[u8], width: usize) -> Option<(u64, &[u8])>
+    requires { width ≤ 12 }
+    ensures value { Gives (λ x. (x.0, x.1.now)) result (spec.digits_at width text.now) }
+    ensures small { IfSome result (λ x. x.0 < 10 ^ width) }
+{
+    let (number, rest) = number_at(text)?;
+    if text.len() == width + rest.len() {
+        return Some((number, rest));
+    }
+    None
+}
+
+/// The day number of a date of the years 2000 to 2199.
+#[tactic(auto, unfolding(crate::specs::Values::secured_read))]
+pub(crate) fn secured(text: &[u8]) -> Option<i32>
+    ensures { Gives (λ day. day) result (spec.secured_read text.now) }
+{
+    let (year, rest) = digits(text, 4)?;
+    let rest = word(rest, b"-")?;
+    let (month, rest) = digits(rest, 2)?;
+    let rest = word(rest, b"-")?;
+    let (date, rest) = digits(rest, 2)?;
+    if rest.len() == 0 && 2000 <= year && year <= 2199 {
+        return day_of(year as u16, month as u8, date as u8);
+    }
+    None
+}
+
+/// The day number of a date.
+#[tactic(auto, using(crate::proofs::DayBounds::days_in_range))]
+fn day_of(year: u16, month: u8, date: u8) -> Option<i32>
+    requires from { 2000 ≤ year }
+    requires to { year ≤ 2199 }
+    ensures { Gives (λ day. day) result (spec.where_date year month date []) }
+{
+    match day_number(year, month, date) {
+        Some(day) => Some(day as i32),
+        None => None,
+    }
+}
