@@ -1,0 +1,51 @@
+-- How dates, days and local times are read from the front of a text.
+use Rattle.std.specs.Prelude.{ℕ, ◌+◌, ◌*◌, ◌&&◌, nat_le, if◌then◌else◌, ℤ, pos, List, Option, Some, None, codes}
+use Rattle.interval_clock.specs.Calendar.{day_number_of, is_date}
+use Rattle.interval_clock.specs.declared.day_numbers.CalendarDate.{CalendarDate}
+use Rattle.taxi_units.specs.Reading.{◌>>=◌, word_at}
+use Rattle.taxi_units.specs.declared.receipt.Stamp.{Stamp}
+use Rattle.receipt_text.specs.Figures.{number_below}
+
+-- a year, a month and a date in it
+unfoldable pub date_at : List ℕ → Option (CalendarDate × List ℕ)
+date_at text = do
+  year ← number_below 10000 text
+  months ← word_at (codes "-") year.1
+  month ← number_below 100 months
+  dates ← word_at (codes "-") month.1
+  date ← number_below 100 dates
+  Some (record { year = year.0; month = month.0; date = date.0 }, date.1)
+
+-- the day number of a date, where it is a day of the years 2000 to 2199
+abbrev pub where_secured : ℕ → Option ℤ
+where_secured day = if nat_le 10957 day && nat_le day 84005 then Some (pos day) else None
+
+abbrev pub day_of : CalendarDate → Option ℤ
+day_of d =
+    if nat_le 1970 d.year && is_date d.year d.month d.date then where_secured (day_number_of d.year d.month d.date)
+    else None
+
+-- the day number of a date at the front
+unfoldable pub day_at : List ℕ → Option (ℤ × List ℕ)
+day_at text = do
+  date ← date_at text
+  day ← day_of date.0
+  Some (day, date.1)
+
+-- the second of the day of hours, minutes and seconds
+unfoldable pub time_at : List ℕ → Option (ℕ × List ℕ)
+time_at text = do
+  hours ← number_below 100 text
+  minute ← word_at (codes ":") hours.1
+  minutes ← number_below 100 minute
+  second ← word_at (codes ":") minutes.1
+  seconds ← number_below 100 second
+  Some (hours.0 * 3600 + minutes.0 * 60 + seconds.0, seconds.1)
+
+-- a date and a second of the day
+unfoldable pub stamp_at : List ℕ → Option (Stamp × List ℕ)
+stamp_at text = do
+  date ← date_at text
+  time ← word_at (codes " ") date.1
+  second ← time_at time
+  Some (record { year = date.0.year; month = date.0.month; date = date.0.date; second = second.0 }, second.1)

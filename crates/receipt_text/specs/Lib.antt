@@ -1,0 +1,11 @@
+pub mod Dates
+pub mod Digests
+pub mod Figures
+pub mod Grammar
+pub mod Lines
+pub mod Part
+pub mod Receipts
+pub mod SealParts
+pub mod Shows
+pub mod Spelling
+pub mod Texts

@@ -1,0 +1,142 @@
+-- How the lines of a receipt are read from the front of a text.
+use Rattle.std.specs.Prelude.{ℕ, ◌^◌, ◌&&◌, nat_le, if◌then◌else◌, List, take, drop, Option, Some, None, codes}
+use Rattle.std.specs.List.{prefix_len}
+use Rattle.taxi_units.specs.Reading.{◌>>=◌, word_at}
+use Rattle.taxi_units.specs.declared.receipt.Kind.{Kind}
+use Rattle.taxi_units.specs.declared.receipt.Kind.TheVariants.{Closed, Aborted, Expired}
+use Rattle.taxi_units.specs.declared.receipt.Receipt.{Receipt}
+use Rattle.receipt_text.specs.declared.headings.Heading.{Heading}
+use Rattle.receipt_text.specs.declared.trips.Trip.{Trip}
+use Rattle.receipt_text.specs.declared.calculations.Calculation.{Calculation}
+use Rattle.receipt_text.specs.declared.sums.Sums.{Sums}
+use Rattle.receipt_text.specs.Dates.{day_at, stamp_at}
+use Rattle.receipt_text.specs.Digests.{digest_at}
+use Rattle.receipt_text.specs.Figures.{amount_below, number_below}
+use Rattle.receipt_text.specs.Part.{Part, is_taxi_character}
+
+-- a kind, where its word was found, and else what other words give
+abbrev pub kind_or : Kind → Option (List ℕ) → Option (Kind × List ℕ) → Option (Kind × List ℕ)
+kind_or kind (Some rest) others = Some (kind, rest)
+kind_or kind None others = others
+
+-- a kind of hiring
+abbrev pub kind_at : List ℕ → Option (Kind × List ℕ)
+kind_at text =
+    kind_or Closed (word_at (codes "CLOSED") text)
+    (kind_or Aborted (word_at (codes "ABORTED") text)
+    (kind_or Expired (word_at (codes "EXPIRED") text) None))
+
+-- the lines of the receipt's number and kind
+unfoldable pub heading_at : List ℕ → Option (Heading × List ℕ)
+heading_at text = do
+  a ← word_at (codes "RECEIPT ") text
+  number ← number_below (10 ^ 18) a
+  b ← word_at (codes "\nKIND ") number.1
+  kind ← kind_at b
+  rest ← word_at (codes "\n") kind.1
+  Some (record { number = number.0; kind = kind.0 }, rest)
+
+-- so many characters of a taxi identifier
+abbrev pub taxi_of : (count : ℕ) → List ℕ → Option (List ℕ × List ℕ)
+taxi_of count text = if nat_le 1 count && nat_le count 16 then Some (take count text, drop count text) else None
+
+-- a taxi identifier
+unfoldable pub taxi_at : List ℕ → Option (List ℕ × List ℕ)
+taxi_at text = taxi_of (prefix_len is_taxi_character text) text
+
+-- the lines of the seal
+unfoldable pub part_at : List ℕ → Option (Part × List ℕ)
+part_at text = do
+  a ← word_at (codes "TAXI ") text
+  taxi ← taxi_at a
+  b ← word_at (codes "\nCONSTANT ") taxi.1
+  constant ← number_below (10 ^ 9) b
+  c ← word_at (codes "\nSECURED ") constant.1
+  secured ← day_at c
+  d ← word_at (codes "\nTARIFF ") secured.1
+  digest ← digest_at d
+  rest ← word_at (codes "\n") digest.1
+  Some (record { taxi = taxi.0; constant = constant.0; secured = secured.0; digest = digest.0 }, rest)
+
+-- the lines of the trip
+unfoldable pub trip_at : List ℕ → Option (Trip × List ℕ)
+trip_at text = do
+  a ← word_at (codes "START ") text
+  start ← stamp_at a
+  b ← word_at (codes "\nFINISH ") start.1
+  finish ← stamp_at b
+  c ← word_at (codes "\nPOSITION ") finish.1
+  position ← number_below 100 c
+  d ← word_at (codes "\nDISTANCE ") position.1
+  hired ← amount_below (10 ^ 23) d
+  rest ← word_at (codes " m\n") hired.1
+  Some (record { start = start.0; finish = finish.0; position = position.0; hired_mm = hired.0.units }, rest)
+
+-- the line of the calculation
+unfoldable pub calculation_at : List ℕ → Option (Calculation × List ℕ)
+calculation_at text = do
+  a ← word_at (codes "CALC ") text
+  initial ← amount_below (10 ^ 18) a
+  b ← word_at (codes " + ") initial.1
+  steps ← number_below (10 ^ 18) b
+  c ← word_at (codes " x ") steps.1
+  step ← amount_below (10 ^ 18) c
+  rest ← word_at (codes "\n") step.1
+  Some (record { decimals = initial.0.decimals; initial = initial.0.units; steps = steps.0; step = step.0.units }, rest)
+
+-- the minimum fare of a line, and 0 where there is no such line
+abbrev pub minimum_from : (text : List ℕ) → Option (List ℕ) → Option (ℕ × List ℕ)
+minimum_from text None = Some (0, text)
+minimum_from text (Some after) = do
+  minimum ← amount_below (10 ^ 18) after
+  rest ← word_at (codes "\n") minimum.1
+  Some (minimum.0.units, rest)
+
+-- the line of the minimum fare, where there is one
+unfoldable pub minimum_at : List ℕ → Option (ℕ × List ℕ)
+minimum_at text = minimum_from text (word_at (codes "MINIMUM ") text)
+
+-- the units of an amount after a word
+abbrev pub amount_field : (word : List ℕ) → List ℕ → Option (ℕ × List ℕ)
+amount_field word text = do
+  after ← word_at word text
+  amount ← amount_below (10 ^ 18) after
+  Some (amount.0.units, amount.1)
+
+-- the lines of the fare and of the supplements
+unfoldable pub sums_at : List ℕ → Option (Sums × List ℕ)
+sums_at text = do
+  fare ← amount_field (codes "FARE ") text
+  supplements ← amount_field (codes "\nSUPPLEMENTS ") fare.1
+  rest ← word_at (codes "\n") supplements.1
+  Some (record { fare = fare.0; supplements = supplements.0 }, rest)
+
+-- the receipt of what its lines say
+abbrev pub receipt_of : Heading → Trip → Calculation → (minimum : ℕ) → Sums → Receipt
+receipt_of heading trip calculation minimum sums =
+    record {
+      number = heading.number;
+      kind = heading.kind;
+      start = trip.start;
+      finish = trip.finish;
+      position = trip.position;
+      hired_mm = trip.hired_mm;
+      initial = calculation.initial;
+      minimum = minimum;
+      steps = calculation.steps;
+      step = calculation.step;
+      fare = sums.fare;
+      supplements = sums.supplements;
+      decimals = calculation.decimals;
+    }
+
+-- what the lines say, down to the supplements
+unfoldable pub receipt_at : List ℕ → Option (Receipt × Part)
+receipt_at text = do
+  heading ← heading_at text
+  part ← part_at heading.1
+  trip ← trip_at part.1
+  calculation ← calculation_at trip.1
+  minimum ← minimum_at calculation.1
+  sums ← sums_at minimum.1
+  Some (receipt_of heading.0 trip.0 calculation.0 minimum.0 sums.0, part.0)

@@ -1,0 +1,12 @@
+-- What a receipt says of the seal of the meter that prints it.
+use Rattle.seal_store.specs.declared.seal.Seal.{Seal}
+use Rattle.receipt_text.specs.Part.{Part}
+
+-- its taxi identifier, its constant, its day of securing and its digest
+abbrev pub part_of : Seal → Part
+part_of seal = record {
+  taxi = seal.params.taxi.items;
+  constant = seal.params.constant;
+  secured = seal.params.secured;
+  digest = seal.digest;
+}

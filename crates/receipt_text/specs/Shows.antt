@@ -1,0 +1,19 @@
+-- When two displays show the same.
+use Rattle.std.specs.Prelude.{◌≡◌, ◌≢◌, ◌<◌, ◌^◌}
+use Rattle.taxi_units.specs.declared.event.Operating.TheVariants.{ForHire}
+use Rattle.taxi_units.specs.declared.receipt.Display.{Display}
+
+-- what is shown fits the fields of a display
+pub record HasFields (display : Display) : Type 0 where
+  pub position : display.position < 2 ^ 8
+  pub zone : display.zone < 2 ^ 8
+  pub fare : display.fare < 2 ^ 64
+  pub supplements : display.supplements < 2 ^ 64
+
+-- the fields are equal, but in For Hire the fare and the supplements, which it doesn't show
+pub record ShowsSame (a b : Display) : Type 0 where
+  pub operating : a.operating ≡ b.operating
+  pub position : a.position ≡ b.position
+  pub zone : a.zone ≡ b.zone
+  pub fare : a.operating ≢ ForHire → a.fare ≡ b.fare
+  pub supplements : a.operating ≢ ForHire → a.supplements ≡ b.supplements

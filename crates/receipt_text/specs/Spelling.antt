@@ -1,0 +1,12 @@
+-- What is asked of a receipt's text, as one.
+use Rattle.std.specs.Prelude.{◌≡◌, ℕ, List}
+use Rattle.taxi_units.specs.Shown.{IsReceipt}
+use Rattle.taxi_units.specs.declared.receipt.Receipt.{Receipt}
+use Rattle.receipt_text.specs.Part.{Part, IsPart}
+use Rattle.receipt_text.specs.Receipts.{receipt_text}
+
+-- the text is that of a receipt and of what it says of a seal, both in their ranges
+pub record IsSpelled (text : List ℕ) (receipt : Receipt) (part : Part) : Type 0 where
+  pub receipt_is : IsReceipt receipt
+  pub part_is : IsPart part
+  pub text_is : text ≡ receipt_text receipt part

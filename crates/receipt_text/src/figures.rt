@@ -1,0 +1,56 @@
+//! Numbers at the front of a text.
+ghost use Rattle.std.specs.Prelude.{◌≡◌, ◌^◌, ◌<◌, ◌≤◌, length, IfSome};
+ghost use Rattle.taxi_units.specs.Number.{digits_at_front};
+ghost use Rattle.taxi_units.specs.Reading.{Gives};
+ghost use Rattle.receipt_text.specs.Figures as spec;
+ghost use Rattle.receipt_text.specs.Figures.{AreDigits};
+
+/// A number at the front of a text, of all the digits that stand there, and what stands after it. `None`
+/// where no digit stands there, or the number isn't below the limit.
+#[tactic(auto, unfolding(crate::specs::Figures::number_below), using(crate::proofs::Digits::digits_in_front))]
+pub(crate) fn number_below(text: &[u8], limit: u128) -> Option<(u128, &[u8])>
+    requires some { 0 < limit }
+    requires most { limit ≤ 10 ^ 24 }
+    ensures value { Gives (λ x. (x.0, x.1.now)) result (spec.number_below limit text.now) }
+    ensures below { IfSome result (λ x. x.0 < limit) }
+{
+    let (digits, rest) = text.split_at(count_digits(text));
+    if digits.is_empty() {
+        return None;
+    }
+    let value = value_below(0, digits, limit)?;
+    Some((value, rest))
+}
+
+/// How many digits stand at the front.
+pub(crate) fn count_digits(text: &[u8]) -> usize
+    ensures count { result ≡ digits_at_front text.now }
+    ensures within { result ≤ length text.now }
+{
+    let mut count = 0;
+    for byte in text {
+        if !byte.is_ascii_digit() {
+            return count;
+        }
+        count += 1;
+    }
+    count
+}
+
+/// The number that digits make after those of a number, where it is below the limit.
+pub(crate) fn value_below(start: u128, digits: &[u8], limit: u128) -> Option<u128>
+    requires start { start < limit }
+    requires most { limit ≤ 10 ^ 24 }
+    requires digits { AreDigits digits.now }
+    ensures value { Gives (λ x. x) result (spec.value_below limit start digits.now) }
+    ensures below { IfSome result (λ x. x < limit) }
+{
+    let mut value = start;
+    for byte in digits {
+        value = value * 10 + (*byte - b'0') as u128;
+        if limit <= value {
+            return None;
+        }
+    }
+    Some(value)
+}

@@ -1,0 +1,39 @@
+//! What the texts of this crate mean, in words that share nothing with how they are written and read.
+ghost use Rattle.std.specs.Prelude.{◌≡◌, ℕ, ◌≤◌, ◌++◌, ◌↔◌, List, [], length};
+ghost use Rattle.taxi_units.specs.Shown.{IsShown};
+ghost use Rattle.taxi_units.specs.declared.receipt.Display.{Display};
+ghost use Rattle.taxi_units.specs.declared.receipt.Receipt.{Receipt};
+ghost use Rattle.receipt_text.specs.Grammar.{IsReceiptText};
+ghost use Rattle.receipt_text.specs.Part.{Part};
+ghost use Rattle.receipt_text.specs.Shows.{HasFields, ShowsSame};
+ghost use Rattle.receipt_text.specs.Spelling.{IsSpelled};
+ghost use Rattle.receipt_text.specs.Texts.{display_text};
+
+/// A law: the grammar of receipts has exactly the texts that are written of receipts in their ranges.
+pub fn receipts_are_their_texts()
+    ensures { (text : List ℕ) (receipt : Receipt) (part : Part)
+        → IsReceiptText text receipt part ↔ IsSpelled text receipt part }
+{}
+
+/// A law: a text is one receipt at most, and no receipt's text is the beginning of another's.
+pub fn texts_are_one_receipt()
+    ensures receipt { (text : List ℕ) (a b : Receipt) (c d : Part)
+        → IsReceiptText text a c → IsReceiptText text b d → a ≡ b }
+    ensures part { (text : List ℕ) (a b : Receipt) (c d : Part)
+        → IsReceiptText text a c → IsReceiptText text b d → c ≡ d }
+    ensures beginning { (text more : List ℕ) (a b : Receipt) (c d : Part)
+        → IsReceiptText text a c → IsReceiptText (text ++ more) b d → more ≡ [] }
+{}
+
+/// A law: a receipt has at most 480 bytes, so an empty line takes it.
+pub fn receipts_are_short()
+    ensures { (text : List ℕ) (receipt : Receipt) (part : Part)
+        → IsReceiptText text receipt part → length text ≤ 480 }
+{}
+
+/// A law: under one tariff's decimals two displays have the same text exactly where their fields are
+/// equal, but for the fare and the supplements in For Hire, where they aren't shown.
+pub fn displays_differ_by_their_fields()
+    ensures { (a b : Display) → IsShown a → IsShown b → HasFields a → HasFields b → a.decimals ≡ b.decimals
+        → (display_text a ≡ display_text b) ↔ ShowsSame a b }
+{}

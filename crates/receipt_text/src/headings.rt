@@ -1,0 +1,73 @@
+//! The lines of a receipt's number and kind.
+ghost use Rattle.std.specs.Prelude.{◌≡◌, ◌+◌, ◌≤◌, ◌++◌, ◌↔◌, length, IsOk, OnOk, IfSome};
+ghost use Rattle.arrayvec.specs.ArrayVec.{array_vec_len};
+ghost use Rattle.taxi_units.specs.Reading.{Gives};
+ghost use Rattle.receipt_text.specs.Lines as spec;
+ghost use Rattle.receipt_text.specs.Receipts.{heading_text, kind_text};
+
+use crate::fields::put_figure;
+use crate::figures::number_below;
+use taxi_units::{Kind, Line, LineFull, put_bytes, word};
+
+/// What these lines say.
+#[derive(Clone, Copy)]
+pub(crate) struct Heading {
+    pub number: u64,
+    pub kind: Kind,
+}
+
+/// Appends the lines of the number and the kind.
+#[tactic(auto, unfolding(crate::specs::Receipts::heading_text))]
+pub(crate) fn put_heading(line: &mut Line, number: u64, kind: Kind) -> Result<(), LineFull>
+    ensures variant { IsOk result ↔ (array_vec_len line.old + length (heading_text number kind) ≤ 512) }
+    ensures ok { OnOk result (line.new.items ≡ line.old.items ++ heading_text number kind) }
+{
+    put_figure(line, b"RECEIPT ", number as u128)?;
+    put_bytes(line, b"\nKIND ")?;
+    put_kind(line, kind)?;
+    put_bytes(line, b"\n")
+}
+
+/// Appends how a hiring ended.
+fn put_kind(line: &mut Line, kind: Kind) -> Result<(), LineFull>
+    ensures variant { IsOk result ↔ (array_vec_len line.old + length (kind_text kind) ≤ 512) }
+    ensures ok { OnOk result (line.new.items ≡ line.old.items ++ kind_text kind) }
+{
+    match kind {
+        Kind::Closed => put_bytes(line, b"CLOSED"),
+        Kind::Aborted => put_bytes(line, b"ABORTED"),
+        Kind::Expired => put_bytes(line, b"EXPIRED"),
+        Kind::Roam => put_bytes(line, b""),
+    }
+}
+
+/// The lines of the number and the kind at the front of a text, and what stands after them.
+#[tactic(auto, unfolding(crate::specs::Lines::heading_at))]
+pub(crate) fn heading_at(text: &[u8]) -> Option<(Heading, &[u8])>
+    ensures { Gives (λ x. (x.0, x.1.now)) result (spec.heading_at text.now) }
+{
+    let text = word(text, b"RECEIPT ")?;
+    let (number, text) = number_below(text, 1_000_000_000_000_000_000)?;
+    let text = word(text, b"\nKIND ")?;
+    let (kind, text) = kind_at(text)?;
+    let rest = word(text, b"\n")?;
+    let heading = Heading {
+        number: number as u64,
+        kind,
+    };
+    Some((heading, rest))
+}
+
+/// A kind at the front of a text, and what stands after it.
+fn kind_at(text: &[u8]) -> Option<(Kind, &[u8])>
+    ensures { Gives (λ x. (x.0, x.1.now)) result (spec.kind_at text.now) }
+{
+    if let Some(rest) = word(text, b"CLOSED") {
+        return Some((Kind::Closed, rest));
+    }
+    if let Some(rest) = word(text, b"ABORTED") {
+        return Some((Kind::Aborted, rest));
+    }
+    let rest = word(text, b"EXPIRED")?;
+    Some((Kind::Expired, rest))
+}

@@ -1,0 +1,33 @@
+//! The texts that passengers and offices read: displays, refusals and receipts, each written exactly,
+//! and receipts read back. All of these texts are this project's own.
+#![tactic(auto)]
+
+mod amounts;
+mod calculations;
+mod digest;
+mod displays;
+mod fields;
+mod figures;
+mod grammar;
+mod headings;
+mod parts;
+mod ranges;
+mod reading;
+mod receipts;
+mod refusals;
+mod stamps;
+mod sums;
+mod trips;
+
+pub use displays::put_display;
+pub use grammar::{
+    displays_differ_by_their_fields, receipts_are_short, receipts_are_their_texts,
+    texts_are_one_receipt,
+};
+pub use parts::SealPart;
+pub use reading::read_receipt;
+pub use receipts::put_receipt;
+pub use refusals::put_refusal;
+
+#[cfg(test)]
+mod tests;

@@ -1,0 +1,155 @@
+//! What a receipt says of the meter's seal, and its lines.
+ghost use Rattle.std.specs.Prelude.{◌≡◌, ◌+◌, ◌≤◌, ◌++◌, ◌↔◌, codes, length, pos, ◌≤ℤ◌, IsOk, OnOk, OnErr};
+ghost use Rattle.std.specs.List.{prefix_len};
+ghost use Rattle.arrayvec.specs.ArrayVec.{array_vec_len};
+ghost use Rattle.taxi_units.specs.Reading.{Gives};
+ghost use Rattle.receipt_text.specs.Lines as spec;
+ghost use Rattle.receipt_text.specs.Part.{IsDigest, IsPart, is_taxi_character};
+ghost use Rattle.receipt_text.specs.Receipts.{day_text, part_text};
+ghost use Rattle.receipt_text.specs.SealParts.{part_of};
+ghost use Rattle.seal_store.specs.Ranges.{IsSeal};
+
+use crate::digest::{digest_at, hex_of};
+use crate::fields::{put_figure, put_text};
+use crate::figures::number_below;
+use crate::stamps::{day_at, put_day};
+use arrayvec::ArrayVec;
+use seal_store::Seal;
+use std::marker::Model;
+use taxi_units::{Line, LineFull, put_bytes, word};
+
+/// What a receipt says of the seal of the meter that wrote it.
+#[derive(Drop)]
+pub struct SealPart {
+    /// The taxi identifier: 1 to 16 characters of A to Z, 0 to 9 and `-`.
+    pub taxi: ArrayVec<u8, 16>,
+    /// The constant of the distance signal generator, in pulses per kilometre: 500 to 200,000.
+    pub constant: u32,
+    /// The day number of the date of securing, of the years 2000 to 2199: 10,957 to 84,005.
+    pub secured: i32,
+    /// The SHA-256 of the tariff's text.
+    pub digest: [u8; 32],
+}
+
+impl Model for SealPart {
+    ghost use Rattle.receipt_text.specs.Part.{Part};
+
+    ghost Value = { Part };
+
+    ghost view = { λ p. record { taxi = p.taxi.items; constant = p.constant; secured = p.secured; digest = p.digest } };
+}
+
+/// What a receipt says of a seal.
+#[tactic(auto, using(crate::proofs::Sealed::sealed_part))]
+pub(crate) fn part_of(seal: &Seal) -> SealPart
+    requires { IsSeal seal.now }
+    ensures part { result ≡ part_of seal.now }
+    ensures range { IsPart result }
+{
+    bytes_are_a_digest(&seal.digest);
+    let mut taxi = ArrayVec::new();
+    taxi.try_extend_from_slice(seal.params.taxi.as_slice())
+        .unwrap();
+    SealPart {
+        taxi,
+        constant: seal.params.constant.get(),
+        secured: seal.params.secured,
+        digest: seal.digest,
+    }
+}
+
+/// A law of 32 bytes: they are a digest.
+fn bytes_are_a_digest(bytes: &[u8])
+    requires { length bytes.now ≡ 32 }
+    ensures { IsDigest bytes.now }
+{
+    let _count = bytes.len();
+}
+
+/// Appends the lines of the seal.
+#[tactic(auto, unfolding(crate::specs::Receipts::part_text))]
+pub(crate) fn put_part(line: &mut Line, part: &SealPart) -> Result<(), LineFull>
+    requires from { pos 10957 ≤ℤ part.now.secured }
+    requires to { part.now.secured ≤ℤ pos 84005 }
+    ensures variant { IsOk result ↔ (array_vec_len line.old + length (part_text part.now) ≤ 512) }
+    ensures ok { OnOk result (line.new.items ≡ line.old.items ++ part_text part.now) }
+{
+    put_text(line, b"TAXI ", part.taxi.as_slice())?;
+    put_figure(line, b"\nCONSTANT ", part.constant as u128)?;
+    put_secured(line, part.secured)?;
+    put_text(line, b"\nTARIFF ", hex_of(&part.digest).as_slice())?;
+    put_bytes(line, b"\n")
+}
+
+/// Appends the word of the date of securing, and the date of its day number.
+fn put_secured(line: &mut Line, secured: i32) -> Result<(), LineFull>
+    requires from { pos 10957 ≤ℤ secured }
+    requires to { secured ≤ℤ pos 84005 }
+    ensures variant { IsOk result ↔ (array_vec_len line.old + 9 + length (day_text secured) ≤ 512) }
+    ensures ok { OnOk result (line.new.items ≡ line.old.items ++ (codes "\nSECURED " ++ day_text secured)) }
+{
+    put_bytes(line, b"\nSECURED ")?;
+    put_day(line, secured)
+}
+
+/// Whether a byte is a character of taxi identifiers.
+pub(crate) fn is_taxi_character(byte: u8) -> bool
+    ensures { result ≡ is_taxi_character byte }
+{
+    (65 <= byte && byte <= 90) || ((48 <= byte && byte <= 57) || byte == 45)
+}
+
+/// How many characters of taxi identifiers stand at the front.
+fn count_characters(text: &[u8]) -> usize
+    ensures count { result ≡ prefix_len is_taxi_character text.now }
+    ensures within { result ≤ length text.now }
+{
+    let mut count = 0;
+    for byte in text {
+        if !is_taxi_character(*byte) {
+            return count;
+        }
+        count += 1;
+    }
+    count
+}
+
+/// A taxi identifier at the front of a text, and what stands after it.
+#[tactic(auto, unfolding(crate::specs::Lines::taxi_at))]
+fn taxi_at(text: &[u8]) -> Option<(ArrayVec<u8, 16>, &[u8])>
+    ensures { Gives (λ x. (x.0.items, x.1.now)) result (spec.taxi_at text.now) }
+{
+    let count = count_characters(text);
+    if count == 0 || count > 16 {
+        return None;
+    }
+    let (characters, rest) = text.split_at(count);
+    let mut taxi = ArrayVec::new();
+    match taxi.try_extend_from_slice(characters) {
+        Ok(()) => Some((taxi, rest)),
+        Err(_) => None,
+    }
+}
+
+/// The lines of the seal at the front of a text, and what stands after them.
+#[tactic(auto, unfolding(crate::specs::Lines::part_at))]
+pub(crate) fn part_at(text: &[u8]) -> Option<(SealPart, &[u8])>
+    ensures { Gives (λ x. (x.0, x.1.now)) result (spec.part_at text.now) }
+{
+    let text = word(text, b"TAXI ")?;
+    let (taxi, text) = taxi_at(text)?;
+    let text = word(text, b"\nCONSTANT ")?;
+    let (constant, text) = number_below(text, 1_000_000_000)?;
+    let text = word(text, b"\nSECURED ")?;
+    let (secured, text) = day_at(text)?;
+    let text = word(text, b"\nTARIFF ")?;
+    let (digest, text) = digest_at(text)?;
+    let rest = word(text, b"\n")?;
+    let part = SealPart {
+        taxi,
+        constant: constant as u32,
+        secured,
+        digest,
+    };
+    Some((part, rest))
+}

@@ -1,0 +1,123 @@
+//! Whether receipts and what they say of a seal are in their ranges.
+ghost use Rattle.std.specs.Prelude.{◌≡◌, ◌≢◌, ◌↔◌, ◌≤◌, ◌<◌, ◌^◌, pos, ◌≤ℤ◌, IsTrue};
+ghost use Rattle.std.specs.List.{AllByRecursion};
+ghost use Rattle.taxi_units.specs.Shown.{IsReceipt, IsStamp, fare_of};
+ghost use Rattle.taxi_units.specs.declared.receipt.Kind.TheVariants.{Roam};
+ghost use Rattle.receipt_text.specs.Part.{HasAmounts, HasNumbers, IsDigest, IsPart, IsTaxi, IsTaxiCharacter};
+
+use crate::parts::{SealPart, is_taxi_character};
+use taxi_units::{Kind, Receipt, Stamp, is_date};
+
+/// Whether a receipt is one for a hiring, with each number in its range and the fare that it calculates.
+pub(crate) fn is_receipt(receipt: &Receipt) -> bool
+    ensures { IsTrue result ↔ IsReceipt receipt.now }
+{
+    has_numbers(receipt)
+        && has_amounts(receipt)
+        && is_stamp(&receipt.start)
+        && is_stamp(&receipt.finish)
+}
+
+/// Whether the kind, the number, the position, the distance and the decimals are in their ranges.
+fn has_numbers(receipt: &Receipt) -> bool
+    ensures { IsTrue result ↔ HasNumbers receipt.now }
+{
+    is_hiring(receipt.kind)
+        && 1 <= receipt.number
+        && receipt.number <= 2_000_000_000_000_001
+        && 1 <= receipt.position
+        && receipt.position <= 9
+        && receipt.hired_mm < 100_000_000_000_000_000_000_000
+        && receipt.decimals <= 3
+}
+
+/// Whether the kind is one of a hiring.
+fn is_hiring(kind: Kind) -> bool
+    ensures { IsTrue result ↔ (kind ≢ Roam) }
+{
+    match kind {
+        Kind::Closed => true,
+        Kind::Aborted => true,
+        Kind::Expired => true,
+        Kind::Roam => false,
+    }
+}
+
+/// Whether the amounts are in their ranges, and the fare is the one that they give.
+fn has_amounts(receipt: &Receipt) -> bool
+    ensures { IsTrue result ↔ HasAmounts receipt.now }
+{
+    receipt.initial <= 99_999_999
+        && receipt.minimum <= 99_999_999
+        && receipt.steps < 1_000_000_000_000_000_000
+        && 1 <= receipt.step
+        && receipt.step <= 1_000_000
+        && receipt.supplements <= 1_584_000_000
+        && receipt.fare as u128 == fare_of(receipt)
+}
+
+/// The fare that a receipt calculates.
+fn fare_of(receipt: &Receipt) -> u128
+    ensures { result ≡ fare_of receipt.now }
+{
+    let calculated = receipt.initial as u128 + receipt.steps as u128 * receipt.step as u128;
+    calculated.max(receipt.minimum as u128).min(99_999_999)
+}
+
+/// Whether a stamp is a real date of the years 1999 to 2200, and a second of a day.
+fn is_stamp(stamp: &Stamp) -> bool
+    ensures { IsTrue result ↔ IsStamp stamp.now }
+{
+    1999 <= stamp.year
+        && stamp.year <= 2200
+        && is_date(stamp.year, stamp.month, stamp.date)
+        && stamp.second <= 86_399
+}
+
+/// Whether what a receipt says of a seal is in its ranges.
+pub(crate) fn is_part(part: &SealPart) -> bool
+    ensures { IsTrue result ↔ IsPart part.now }
+{
+    is_digest(&part.digest)
+        && is_constant(part.constant)
+        && is_day(part.secured)
+        && is_taxi(part.taxi.as_slice())
+}
+
+/// Whether bytes are as many as a digest has.
+fn is_digest(digest: &[u8]) -> bool
+    ensures { IsTrue result ↔ IsDigest digest.now }
+{
+    digest.len() == 32
+}
+
+/// Whether a number is a constant of a taximeter.
+fn is_constant(constant: u32) -> bool
+    ensures { IsTrue result ↔ ((500 ≤ constant) × (constant ≤ 200000)) }
+{
+    500 <= constant && constant <= 200_000
+}
+
+/// Whether a day is one of the years 2000 to 2199.
+fn is_day(day: i32) -> bool
+    ensures { IsTrue result ↔ ((pos 10957 ≤ℤ day) × (day ≤ℤ pos 84005)) }
+{
+    10_957 <= day && day <= 84_005
+}
+
+/// Whether a text is a taxi identifier.
+fn is_taxi(text: &[u8]) -> bool
+    ensures { IsTrue result ↔ IsTaxi text.now }
+{
+    1 <= text.len() && text.len() <= 16 && are_characters(text)
+}
+
+/// Whether all bytes are characters of taxi identifiers.
+fn are_characters(text: &[u8]) -> bool
+    ensures { IsTrue result ↔ AllByRecursion IsTaxiCharacter text.now }
+{
+    match text.split_first() {
+        None => true,
+        Some((first, rest)) => is_taxi_character(*first) && are_characters(rest),
+    }
+}

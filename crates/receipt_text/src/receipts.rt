@@ -1,0 +1,79 @@
+//! Receipts.
+ghost use Rattle.std.specs.Prelude.{◌≡◌, ◌+◌, ◌≤◌, ◌++◌, ◌↔◌, length, pos, ◌≤ℤ◌, IsOk, OnOk, OnErr};
+ghost use Rattle.arrayvec.specs.ArrayVec.{array_vec_len};
+ghost use Rattle.taxi_units.specs.Shown.{IsReceipt};
+ghost use Rattle.seal_store.specs.Ranges.{IsSeal};
+ghost use Rattle.receipt_text.specs.Receipts.{body_text, receipt_text};
+ghost use Rattle.receipt_text.specs.SealParts.{part_of};
+ghost use Rattle.receipt_text.specs.Spelling.{IsSpelled};
+
+use crate::calculations::put_calculation;
+use crate::headings::put_heading;
+use crate::parts::{SealPart, part_of, put_part};
+use crate::sums::{put_minimum, put_sums, put_total};
+use crate::trips::put_trip;
+use seal_store::Seal;
+use taxi_units::{Line, LineFull, Receipt, put_bytes};
+
+/// Appends the text of a receipt: its number and kind, what it says of the meter's seal, the trip, the
+/// calculation of the fare, and the amounts. What is appended is a receipt by the grammar.
+///
+/// `LineFull` where the text doesn't fit; the line is then unchanged. An empty line takes it, since it
+/// has at most 480 bytes. MI-007 asks for the data of the trip; the form is this project's own.
+pub fn put_receipt(line: &mut Line, receipt: &Receipt, seal: &Seal) -> Result<(), LineFull>
+    requires receipt { IsReceipt receipt.now }
+    requires seal { IsSeal seal.now }
+    ensures variant { IsOk result
+        ↔ (array_vec_len line.old + length (receipt_text receipt.now (part_of seal.now)) ≤ 512) }
+    ensures ok { OnOk result (line.new.items ≡ line.old.items ++ receipt_text receipt.now (part_of seal.now)) }
+    ensures err { OnErr result (line.new ≡ line.old) }
+    ensures grammar { IsSpelled (receipt_text receipt.now (part_of seal.now)) receipt.now (part_of seal.now) }
+{
+    let part = part_of(seal);
+    put_part_receipt(line, receipt, &part)
+}
+
+/// Appends the text of a receipt, which only asks that its amounts and its date can be written.
+pub(crate) fn put_part_receipt(
+    line: &mut Line,
+    receipt: &Receipt,
+    part: &SealPart,
+) -> Result<(), LineFull>
+    requires decimals { receipt.now.decimals ≤ 3 }
+    requires secured { (pos 10957 ≤ℤ part.now.secured) × (part.now.secured ≤ℤ pos 84005) }
+    ensures variant { IsOk result ↔ (array_vec_len line.old + length (receipt_text receipt.now part.now) ≤ 512) }
+    ensures ok { OnOk result (line.new.items ≡ line.old.items ++ receipt_text receipt.now part.now) }
+    ensures err { OnErr result (line.new ≡ line.old) }
+{
+    let mut text = Line::new();
+    put_lines(&mut text, receipt, part)?;
+    put_bytes(line, text.as_slice())
+}
+
+/// Appends the lines.
+#[tactic(auto, unfolding(crate::specs::Receipts::receipt_text))]
+fn put_lines(line: &mut Line, receipt: &Receipt, part: &SealPart) -> Result<(), LineFull>
+    requires decimals { receipt.now.decimals ≤ 3 }
+    requires from { pos 10957 ≤ℤ part.now.secured }
+    requires to { part.now.secured ≤ℤ pos 84005 }
+    ensures variant { IsOk result ↔ (array_vec_len line.old + length (receipt_text receipt.now part.now) ≤ 512) }
+    ensures ok { OnOk result (line.new.items ≡ line.old.items ++ receipt_text receipt.now part.now) }
+{
+    put_heading(line, receipt.number, receipt.kind)?;
+    put_part(line, part)?;
+    put_body(line, receipt)
+}
+
+/// Appends the lines of the trip and of its fare.
+#[tactic(auto, unfolding(crate::specs::Receipts::body_text))]
+fn put_body(line: &mut Line, receipt: &Receipt) -> Result<(), LineFull>
+    requires { receipt.now.decimals ≤ 3 }
+    ensures variant { IsOk result ↔ (array_vec_len line.old + length (body_text receipt.now) ≤ 512) }
+    ensures ok { OnOk result (line.new.items ≡ line.old.items ++ body_text receipt.now) }
+{
+    put_trip(line, receipt)?;
+    put_calculation(line, receipt)?;
+    put_minimum(line, receipt.decimals, receipt.minimum)?;
+    put_sums(line, receipt)?;
+    put_total(line, receipt)
+}

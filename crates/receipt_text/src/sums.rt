@@ -1,0 +1,94 @@
+//! The lines of a receipt's minimum fare and of its amounts.
+ghost use Rattle.std.specs.Prelude.{◌≡◌, ◌+◌, ◌≤◌, ◌++◌, ◌↔◌, length, IsOk, OnOk};
+ghost use Rattle.arrayvec.specs.ArrayVec.{array_vec_len};
+ghost use Rattle.taxi_units.specs.Reading.{Gives};
+ghost use Rattle.receipt_text.specs.Lines as spec;
+ghost use Rattle.receipt_text.specs.Receipts.{minimum_text, sums_text, total_text};
+
+use crate::amounts::amount_below;
+use crate::fields::put_amount;
+use taxi_units::{Line, LineFull, Receipt, put_bytes, word};
+
+/// What the lines of the amounts say.
+#[derive(Clone, Copy)]
+pub(crate) struct Sums {
+    pub fare: u64,
+    pub supplements: u64,
+}
+
+/// Appends the line of the minimum fare, where it is above 0.
+#[tactic(auto, unfolding(crate::specs::Receipts::minimum_text))]
+pub(crate) fn put_minimum(line: &mut Line, decimals: u8, minimum: u64) -> Result<(), LineFull>
+    requires room { array_vec_len line.old ≤ 512 }
+    requires decimals { decimals ≤ 3 }
+    ensures variant { IsOk result ↔ (array_vec_len line.old + length (minimum_text decimals minimum) ≤ 512) }
+    ensures ok { OnOk result (line.new.items ≡ line.old.items ++ minimum_text decimals minimum) }
+{
+    if minimum == 0 {
+        return Ok(());
+    }
+    put_amount(line, b"MINIMUM ", minimum as u128, decimals)?;
+    put_bytes(line, b"\n")
+}
+
+/// Appends the lines of the fare and the supplements.
+#[tactic(auto, unfolding(crate::specs::Receipts::sums_text))]
+pub(crate) fn put_sums(line: &mut Line, receipt: &Receipt) -> Result<(), LineFull>
+    requires { receipt.now.decimals ≤ 3 }
+    ensures variant { IsOk result ↔ (array_vec_len line.old + length (sums_text receipt.now) ≤ 512) }
+    ensures ok { OnOk result (line.new.items ≡ line.old.items ++ sums_text receipt.now) }
+{
+    put_amount(line, b"FARE ", receipt.fare as u128, receipt.decimals)?;
+    let supplements = receipt.supplements as u128;
+    put_amount(line, b"\nSUPPLEMENTS ", supplements, receipt.decimals)?;
+    put_bytes(line, b"\n")
+}
+
+/// Appends the line of the total, and the last line.
+#[tactic(auto, unfolding(crate::specs::Receipts::total_text))]
+pub(crate) fn put_total(line: &mut Line, receipt: &Receipt) -> Result<(), LineFull>
+    requires { receipt.now.decimals ≤ 3 }
+    ensures variant { IsOk result ↔ (array_vec_len line.old + length (total_text receipt.now) ≤ 512) }
+    ensures ok { OnOk result (line.new.items ≡ line.old.items ++ total_text receipt.now) }
+{
+    let total = receipt.fare as u128 + receipt.supplements as u128;
+    put_amount(line, b"TOTAL ", total, receipt.decimals)?;
+    put_bytes(line, b"\nEND\n")
+}
+
+/// The minimum fare of the line at the front of a text, and what stands after it; 0 where the text
+/// doesn't begin with such a line.
+#[tactic(auto, unfolding(crate::specs::Lines::minimum_at))]
+pub(crate) fn minimum_at(text: &[u8]) -> Option<(u64, &[u8])>
+    ensures { Gives (λ x. (x.0, x.1.now)) result (spec.minimum_at text.now) }
+{
+    match word(text, b"MINIMUM ") {
+        None => Some((0, text)),
+        Some(text) => {
+            let (minimum, text) = amount_below(text, 1_000_000_000_000_000_000)?;
+            let rest = word(text, b"\n")?;
+            Some((minimum.units as u64, rest))
+        }
+    }
+}
+
+/// The lines of the fare and the supplements at the front of a text, and what stands after them.
+#[tactic(auto, unfolding(crate::specs::Lines::sums_at))]
+pub(crate) fn sums_at(text: &[u8]) -> Option<(Sums, &[u8])>
+    ensures { Gives (λ x. (x.0, x.1.now)) result (spec.sums_at text.now) }
+{
+    let (fare, text) = amount_field(text, b"FARE ")?;
+    let (supplements, text) = amount_field(text, b"\nSUPPLEMENTS ")?;
+    let rest = word(text, b"\n")?;
+    let sums = Sums { fare, supplements };
+    Some((sums, rest))
+}
+
+/// The units of the amount after a word at the front of a text, and what stands after it.
+fn amount_field<'a>(text: &'a [u8], before: &[u8]) -> Option<(u64, &'a [u8])>
+    ensures { Gives (λ x. (x.0, x.1.now)) result (spec.amount_field before.now text.now) }
+{
+    let text = word(text, before)?;
+    let (amount, rest) = amount_below(text, 1_000_000_000_000_000_000)?;
+    Some((amount.units as u64, rest))
+}

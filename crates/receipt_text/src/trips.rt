@@ -1,0 +1,67 @@
+//! The lines of a receipt's trip.
+ghost use Rattle.std.specs.Prelude.{◌≡◌, ◌+◌, ◌≤◌, ◌++◌, ◌↔◌, length, IsOk, OnOk};
+ghost use Rattle.arrayvec.specs.ArrayVec.{array_vec_len};
+ghost use Rattle.taxi_units.specs.Reading.{Gives};
+ghost use Rattle.receipt_text.specs.Lines as spec;
+ghost use Rattle.receipt_text.specs.Receipts.{stamp_text, trip_text};
+
+use crate::amounts::amount_below;
+use crate::fields::{put_amount, put_figure};
+use crate::figures::number_below;
+use crate::stamps::{put_stamp, stamp_at};
+use taxi_units::{Line, LineFull, Receipt, Stamp, put_bytes, word};
+
+/// What these lines say.
+#[derive(Clone, Copy)]
+pub(crate) struct Trip {
+    pub start: Stamp,
+    pub finish: Stamp,
+    pub position: u8,
+    pub hired_mm: u128,
+}
+
+/// Appends the lines of the trip.
+#[tactic(auto, unfolding(crate::specs::Receipts::trip_text))]
+pub(crate) fn put_trip(line: &mut Line, receipt: &Receipt) -> Result<(), LineFull>
+    ensures variant { IsOk result ↔ (array_vec_len line.old + length (trip_text receipt.now) ≤ 512) }
+    ensures ok { OnOk result (line.new.items ≡ line.old.items ++ trip_text receipt.now) }
+{
+    put_time(line, b"START ", &receipt.start)?;
+    put_time(line, b"\nFINISH ", &receipt.finish)?;
+    put_figure(line, b"\nPOSITION ", receipt.position as u128)?;
+    put_amount(line, b"\nDISTANCE ", receipt.hired_mm, 3)?;
+    put_bytes(line, b" m\n")
+}
+
+/// Appends a word and a local date and time.
+fn put_time(line: &mut Line, word: &[u8], stamp: &Stamp) -> Result<(), LineFull>
+    ensures variant { IsOk result
+        ↔ (array_vec_len line.old + length word.now + length (stamp_text stamp.now) ≤ 512) }
+    ensures ok { OnOk result (line.new.items ≡ line.old.items ++ (word.now ++ stamp_text stamp.now)) }
+{
+    put_bytes(line, word)?;
+    put_stamp(line, stamp)
+}
+
+/// The lines of the trip at the front of a text, and what stands after them.
+#[tactic(auto, unfolding(crate::specs::Lines::trip_at))]
+pub(crate) fn trip_at(text: &[u8]) -> Option<(Trip, &[u8])>
+    ensures { Gives (λ x. (x.0, x.1.now)) result (spec.trip_at text.now) }
+{
+    let text = word(text, b"START ")?;
+    let (start, text) = stamp_at(text)?;
+    let text = word(text, b"\nFINISH ")?;
+    let (finish, text) = stamp_at(text)?;
+    let text = word(text, b"\nPOSITION ")?;
+    let (position, text) = number_below(text, 100)?;
+    let text = word(text, b"\nDISTANCE ")?;
+    let (hired, text) = amount_below(text, 100_000_000_000_000_000_000_000)?;
+    let rest = word(text, b" m\n")?;
+    let trip = Trip {
+        start,
+        finish,
+        position: position as u8,
+        hired_mm: hired.units,
+    };
+    Some((trip, rest))
+}
