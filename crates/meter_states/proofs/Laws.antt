@@ -1,26 +1,90 @@
--- The laws of this crate, as its public empty functions state them.
-use Rattle.std.proofs.Common.{◌≡◌, ℕ, ◌≤◌, ◌<◌, All, Some, length}
-use Rattle.drive_modes.specs.declared.charges.Mode.TheVariants.{Single}
-use Rattle.drive_modes.specs.Charge.{charge_of}
+-- The laws of the public empty functions.
+use Rattle.std.proofs.Common.{◌≡◌, ◌≢◌, ◌<◌, ℕ, Bool, List, [], ◌∷◌, ◌++◌, length, Option, Some, None, sum}
+use Rattle.tariff_compile.specs.Tables.{TableParts}
+use Rattle.taxi_units.specs.Time.{longest_trip}
 use Rattle.taxi_units.specs.declared.event.Event.{Event}
-use Rattle.tariff_check.specs.Faults.{IsSound}
-use Rattle.tariff_check.specs.Measure.{measure_of}
-use Rattle.tariff_check.specs.Parts.{rates_of}
-use Rattle.tariff_compile.specs.Tables.{rate_by}
-use Rattle.tariff_syntax.specs.Meaning.{rate_place}
-use Rattle.tariff_syntax.specs.Tree.{Tree}
-use Rattle.tariff_syntax.specs.Writable.{IsWritable}
-use Rattle.tariff_syntax.specs.declared.context.Context.{Context}
-use Rattle.meter_states.specs.Meter.{Meter, acts_of}
-use Rattle.meter_states.specs.Setting.{Setting, charge_by_speed, rate_at}
-use Rattle.meter_states.specs.Showable.{IsShowable}
-use Rattle.meter_states.proofs.Shows as shows
-use Rattle.meter_states.proofs.Speed as speed
+use Rattle.taxi_units.specs.declared.event.Event.TheVariants.{Tick}
+use Rattle.taxi_units.specs.declared.event.Key.{Key}
+use Rattle.taxi_units.specs.declared.event.Operating.TheVariants.{Hired}
+use Rattle.taxi_units.specs.declared.event.Why.{Why}
+use Rattle.totaliser_store.specs.Ranges.{IsDurable}
+use Rattle.totaliser_store.specs.States.{after_all}
+use Rattle.totaliser_store.specs.declared.durable.Durable.{Durable}
+use Rattle.totaliser_store.specs.declared.trip.Trip as store
+use Rattle.meter_states.specs.Acts.{IsLawfulAct, KeepsRanges}
+use Rattle.meter_states.specs.Fits.{Fits}
+use Rattle.meter_states.specs.Interval.{context_of, interval_counted}
+use Rattle.meter_states.specs.Kept.{FitsSetting, HoldFits, IsKept, hired_in, with_parts}
+use Rattle.meter_states.specs.Keys.{latch_pressed}
+use Rattle.meter_states.specs.Meter.{Meter, quiet}
+use Rattle.meter_states.specs.Pairs.{ArePaired, commits_of}
+use Rattle.meter_states.specs.Refusals.{IsTooFast}
+use Rattle.meter_states.specs.Run.{actions_of, opened, run, run_both, trip_of, whole_run}
+use Rattle.meter_states.specs.Setting.{Setting, IsTariffOf}
+use Rattle.meter_states.specs.Step.{step, ticked}
+use Rattle.meter_states.specs.Trip.{InHired, Part, Trip, fare_of, held_trip, ticks_of, with_part}
+use Rattle.meter_states.specs.declared.act.Act.{Act}
+use Rattle.meter_states.specs.declared.act.Act.TheVariants.{Refuse}
+use Rattle.meter_states.proofs.ActRanges.{act-keeps}
+use Rattle.meter_states.proofs.Fares.{fare-by, fare-resumed}
+use Rattle.meter_states.proofs.HeldFits.{fits-setting}
+use Rattle.meter_states.proofs.KeptTrips.{kept-step}
+use Rattle.meter_states.proofs.Refused as refused
+use Rattle.meter_states.proofs.Resumed.{begins, resumed-saved}
+use Rattle.meter_states.proofs.Runs.{kept-run, run-append}
+use Rattle.meter_states.proofs.Stages.{commits-step, commits-whole}
 
-pub acts_are_showable : (s : Setting) (m : Meter) (event : Event) → s.tariff.decimals ≤ 3 → All IsShowable (acts_of s m event)
-acts_are_showable = shows.acts-showable
+pub refused_events_change_nothing-event : (s : Setting) (event : Event) (m : Meter) (why : Why) → event ≢ Tick → (IsTooFast why → ⊥) → (step s event m).acts ≡ Refuse why ∷ [] → (step s event m).next ≡ m
+refused_events_change_nothing-event = refused.refused-event
 
-pub charges_follow_the_speed : (t : Tree) (k : ℕ) (x : Context) (p : ℕ) → IsWritable t → IsSound t
-    → (place : ℕ) × (rate_place t x ≡ Some place) × (place < length (rates_of t.lines))
-    × (charge_of Single (rate_by t k x) p ≡ charge_by_speed k (measure_of t.lines) (rate_at t place) p)
-charges_follow_the_speed = speed.charge-by_speed
+pub refused_events_change_nothing-key : (s : Setting) (key : Key) (m : Meter) (why : Why) → (latch_pressed s (Some key) m).acts ≡ Refuse why ∷ [] → (latch_pressed s (Some key) m).next ≡ record m { latch = None }
+refused_events_change_nothing-key = refused.refused-key
+
+pub keys_act_after_their_interval-key : (s : Setting) (m : Meter) (latch : Option Key) → interval_counted s (record m { latch = latch }) ≡ quiet (record (interval_counted s m).next { latch = latch })
+keys_act_after_their_interval-key = refused.key-after
+
+pub keys_act_after_their_interval-interval : (s : Setting) (m : Meter) (t : Trip) → m.operating ≡ Hired → m.trip ≡ Some t → m.latch ≡ None
+    → ticks_of (with_part (InHired (sum m.taken) (context_of s m)) t) < longest_trip → (ticked s m).next.trip ≡ Some (with_part (InHired (sum m.taken) (context_of s m)) t)
+keys_act_after_their_interval-interval = refused.interval-charged
+
+pub receipts_follow_their_entries-event : (s : Setting) (event : Event) (m : Meter) → ArePaired None (step s event m).acts
+receipts_follow_their_entries-event s event m = (commits-step s event m).pairs
+
+pub receipts_follow_their_entries-run : (s : Setting) (durable : Durable) (events : List Event) → ArePaired None (actions_of s durable events)
+receipts_follow_their_entries-run s durable events = (commits-whole s durable events).pairs
+
+pub the_store_has_what_the_acts_commit-event : (s : Setting) (event : Event) (m : Meter) → (step s event m).next.durable ≡ after_all m.durable (commits_of (step s event m).acts)
+the_store_has_what_the_acts_commit-event s event m = (commits-step s event m).store
+
+pub the_store_has_what_the_acts_commit-run : (s : Setting) (durable : Durable) (events : List Event)
+    → (whole_run s durable events).next.durable ≡ after_all durable (commits_of (actions_of s durable events))
+the_store_has_what_the_acts_commit-run s durable events = (commits-whole s durable events).store
+
+pub runs_add_up : (s : Setting) (first second : List Event) (m : Meter) → run s (first ++ second) m ≡ run_both s first second m
+runs_add_up = run-append
+
+pub the_store_keeps_the_trip-begins : (s : Setting) (durable : Durable) → HoldFits s durable.hold → IsKept s (opened s durable)
+the_store_keeps_the_trip-begins s durable fits = begins s durable.hold fits
+
+pub the_store_keeps_the_trip-step : (s : Setting) (event : Event) (m : Meter) → IsKept s m → IsKept s (step s event m).next
+the_store_keeps_the_trip-step = kept-step
+
+pub the_store_keeps_the_trip-run : (s : Setting) (events : List Event) (m : Meter) → IsKept s m → IsKept s (run s events m).next
+the_store_keeps_the_trip-run = kept-run
+
+pub the_store_keeps_the_trip-fits : (s : Setting) (tables : TableParts) (trip : store.Trip) → IsTariffOf s tables → Fits tables trip → length trip.extras ≡ 16 → FitsSetting s trip
+the_store_keeps_the_trip-fits = fits-setting
+
+pub resumed_trips_go_on-saved : (s : Setting) (trip : store.Trip) → FitsSetting s trip → held_trip s trip.saved trip.stopped trip.position trip.zone (trip_of s trip) ≡ trip
+resumed_trips_go_on-saved = resumed-saved
+
+pub resumed_trips_go_on-fare : (s : Setting) (t : Trip) (parts : List Part) (second : ℕ) (stopped : Bool) (position zone : ℕ)
+    → fare_of s (with_parts parts (trip_of s (held_trip s second stopped position zone t))) ≡ fare_of s (with_parts parts t)
+resumed_trips_go_on-fare = fare-resumed
+
+pub fares_depend_on_the_intervals_in_hired : (s : Setting) (t u : Trip) → t.initial ≡ u.initial → t.minimum ≡ u.minimum → t.opening.cover ≡ u.opening.cover
+    → t.opening.above ≡ u.opening.above → hired_in t.parts ≡ hired_in u.parts → fare_of s t ≡ fare_of s u
+fares_depend_on_the_intervals_in_hired = fare-by
+
+pub lawful_acts_keep_the_ranges : (tables : TableParts) (durable : Durable) (act : Act) → IsDurable durable → IsLawfulAct tables durable.number act → KeepsRanges durable act
+lawful_acts_keep_the_ranges = act-keeps

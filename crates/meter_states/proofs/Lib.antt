@@ -1,5 +1,16 @@
-mod Keys
+mod ActRanges
+mod Amounts
+mod Charges
+mod Counts
+mod Fares
+mod HeldFits
+mod KeptTrips
 pub mod Laws
+mod Outcomes
+mod Refused
+mod Resumed
+mod Runs
 mod Settings
-mod Shows
-mod Speed
+mod Stages
+mod TableSupplements
+mod Trips

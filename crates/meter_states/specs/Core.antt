@@ -1,72 +1,65 @@
--- The core as plain data, which state of the meter it stands for, and which cores are lawful.
-use Rattle.std.specs.Prelude.{◌≡◌, ℕ, ◌-◌, ◌*◌, ◌^◌, ◌<◌, ◌≤◌, Option, sum, length}
-use Rattle.drive_modes.specs.declared.meterage.Meterage.{Meterage}
-use Rattle.taxi_units.specs.Time.{IsSecond, longest_trip}
-use Rattle.taxi_units.specs.declared.event.Event.{Event}
-use Rattle.taxi_units.specs.declared.event.Event.TheVariants as events
+-- The core as plain data, and which state of the meter it stands for.
+use Rattle.std.specs.Prelude.{◌≡◌, ◌≢◌, ◌⊎◌, ℕ, List, ◌++◌, Option, option_map, sum, false}
 use Rattle.taxi_units.specs.declared.event.Key.{Key}
 use Rattle.taxi_units.specs.declared.event.Operating.{Operating}
-use Rattle.taxi_units.specs.declared.event.Operating.TheVariants.{Hired, ForHire}
+use Rattle.taxi_units.specs.declared.event.Operating.TheVariants.{Off}
 use Rattle.taxi_units.specs.declared.receipt.Display.{Display}
-use Rattle.tariff_compile.specs.Tables.{TableParts}
+use Rattle.totaliser_store.specs.declared.trip.Trip.{Trip}
+use Rattle.meter_states.specs.Meter.{Meter, Outcome}
 use Rattle.meter_states.specs.Setting.{Setting}
-use Rattle.meter_states.specs.Trip.{meterage_of, pulses_of}
-use Rattle.meter_states.specs.Meter.{Meter}
+use Rattle.meter_states.specs.Trip as model
+use Rattle.meter_states.specs.Trip.{saved_of}
+use Rattle.meter_states.specs.declared.act.Act.{Act}
 
--- a core: counts in place of lists, and a meterage in place of the intervals
+-- a core: counts in place of lists, the saved form in place of the intervals, and the store's number in place of what
+-- it has
 pub record Plain : Type 0 where
   pub operating : Operating
-  pub second : ℕ
+  pub clock : ℕ
+  pub began : ℕ
   pub gate : ℕ
   pub latch : Option Key
+  pub position : ℕ
+  pub zone : ℕ
+  pub roam : ℕ
+  pub number : ℕ
   pub shown : Option Display
-  pub pulses : ℕ
-  pub ticks : ℕ
-  pub initial : ℕ
-  pub minimum : ℕ
-  pub meterage : Meterage
+  pub trip : Option Trip
 
--- the core stands for a state of the meter
-pub record Stands (s : Setting) (core : Plain) (m : Meter) : Type 0 where
-  pub operating : core.operating ≡ m.operating
-  pub second : core.second ≡ m.second
-  pub gate : core.gate ≡ sum m.taken
-  pub latch : core.latch ≡ m.latch
-  pub shown : core.shown ≡ m.shown
-  pub pulses : core.pulses ≡ pulses_of m.parts
-  pub ticks : core.ticks ≡ length m.parts
-  pub initial : core.initial ≡ m.initial
-  pub minimum : core.minimum ≡ m.minimum
-  pub meterage : core.meterage ≡ meterage_of s m.cover m.parts
+-- the core of a state of the meter
+abbrev pub plain_of : Setting → Meter → Plain
+plain_of s m = record {
+  operating = m.operating;
+  clock = m.clock;
+  began = m.began;
+  gate = sum m.taken;
+  latch = m.latch;
+  position = m.position;
+  zone = m.zone;
+  roam = sum m.roaming;
+  number = m.durable.number;
+  shown = m.shown;
+  trip = option_map (saved_of s) m.trip;
+}
 
--- the counts of a core, of whose trip at most so many ticks have passed, are in their ranges
-pub record IsLawfulTo (tables : TableParts) (most : ℕ) (core : Plain) : Type 0 where
-  pub second : IsSecond core.second
-  pub gate : core.gate ≤ 2000
-  pub pulses : core.pulses ≤ 2000 * core.ticks
-  pub ticks : core.ticks ≤ most
-  pub initial : core.initial ≤ 99999999
-  pub minimum : core.minimum ≤ 99999999
-  pub cover : core.meterage.cover_left ≤ 2 * 10 ^ 31
-  pub rest : core.meterage.rest < tables.step * tables.measure
-  pub steps : core.meterage.steps_full ≤ 41000000000 * core.ticks
+-- the core stands for a state: both are off, or neither is and the core is that of the state
+abbrev pub Stands : Setting → Plain → Meter → Type 0
+Stands s core m = (core.operating ≡ Off) × (m.operating ≡ Off) ⊎ (m.operating ≢ Off) × (core ≡ plain_of s m)
 
--- what holds between two events: a trip is closed as it reaches its longest time
-abbrev pub IsLawful : TableParts → Plain → Type 0
-IsLawful tables core = IsLawfulTo tables (longest_trip - 1) core
+-- while the meter is powered: the core is that of the outcome's state, and the outcome's acts were appended
+pub record Follows (s : Setting) (core : Plain) (before acts : List Act) (o : Outcome) : Type 0 where
+  pub state : core ≡ plain_of s o.next
+  pub done : acts ≡ before ++ o.acts
 
--- an event's second is one of the years 2000 to 2199
-abbrev pub IsTimely : Event → Type 0
-IsTimely (events.Up second) = IsSecond second
-IsTimely (events.Clock second) = IsSecond second
-IsTimely event = Unit {0}
+-- the core stands for the outcome's state, and the acts are the outcome's
+pub record Meets (s : Setting) (core : Plain) (acts : List Act) (o : Outcome) : Type 0 where
+  pub state : Stands s core o.next
+  pub done : acts ≡ o.acts
 
--- how many steps the end of an interval may take, before and after the key acts: a charge and a hiring each look up a
--- local time, a holiday and the tables
-abbrev pub charging_steps : Operating → ℕ
-charging_steps Hired = 36
-charging_steps operating = 0
+-- a held trip without what has a meaning in the store alone
+abbrev pub forgotten : Trip → Trip
+forgotten trip = record trip { saved = 0; stopped = false; position = 1; zone = 1 }
 
-abbrev pub hiring_steps : Operating → ℕ
-hiring_steps ForHire = 36
-hiring_steps operating = 0
+-- the held trip is the saved form of the trip
+abbrev pub IsSavedIn : Setting → (hold : Option Trip) → Option model.Trip → Type 0
+IsSavedIn s hold trip = option_map forgotten hold ≡ option_map (saved_of s) trip

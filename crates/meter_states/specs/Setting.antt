@@ -1,20 +1,40 @@
--- What the meter goes by.
-use Rattle.std.specs.Prelude.{◌≡◌, ℕ, ◌*◌, ◌/◌, if◌then◌else◌, nat_lt, get_or}
+-- What the meter goes by: its tariff and its secured parameters.
+use Rattle.std.specs.Prelude.{◌≡◌, ℕ, ◌*◌, List, ℤ}
+use Rattle.drive_modes.specs.declared.charges.Mode.{Mode}
 use Rattle.drive_modes.specs.declared.meterage.Rounding.{Rounding}
-use Rattle.tariff_syntax.specs.Tree.{Tree}
+use Rattle.interval_clock.specs.LocalTime.{local_second, local_time_of}
+use Rattle.interval_clock.specs.declared.local_time.LocalTime.{LocalTime}
+use Rattle.seal_store.specs.declared.seal.Seal.{Seal}
 use Rattle.tariff_check.specs.Measure.{measure_of}
-use Rattle.tariff_check.specs.Parts.{RateNumbers, rates_of}
 use Rattle.tariff_compile.specs.Tables.{TableParts, IsTablesOf, step_in}
+use Rattle.tariff_syntax.specs.Tree.{Tree}
+use Rattle.taxi_units.specs.declared.receipt.Stamp.{Stamp}
 
--- the tariff and the constant of the taximeter
+-- the tariff, the constant of the taximeter, how time and distance share in the fare, how long a trip may be held
+-- without supply and go on then, and the offsets from UTC
 pub record Setting : Type 0 where
   pub tariff : Tree
   pub constant : ℕ
+  pub mode : Mode
+  pub hold : ℕ
+  pub offsets : List (ℕ × ℤ)
 
 -- the tables are those of the tariff, under the constant
-pub record IsSettingOf (s : Setting) (t : TableParts) : Type 0 where
-  pub constant : s.constant ≡ t.constant
-  pub tables : IsTablesOf s.tariff t
+pub record IsTariffOf (s : Setting) (tables : TableParts) : Type 0 where
+  pub compiled : IsTablesOf s.tariff tables
+  pub constant : tables.constant ≡ s.constant
+
+-- the seal secures the other settings
+pub record IsSealOf (s : Setting) (seal : Seal) : Type 0 where
+  pub constant : seal.params.constant ≡ s.constant
+  pub mode : seal.params.mode ≡ s.mode
+  pub hold : seal.params.hold ≡ s.hold
+  pub offsets : seal.params.offsets ≡ s.offsets
+
+-- so the tables were compiled with the seal's constant
+pub record IsSettingOf (s : Setting) (tables : TableParts) (seal : Seal) : Type 0 where
+  pub tariff : IsTariffOf s tables
+  pub secured : IsSealOf s seal
 
 -- M, the constant times the common measure: a unit of charge is 1/M of the smallest money unit
 abbrev pub unit_of : Setting → ℕ
@@ -32,15 +52,14 @@ rounding_of s = (step_in s.tariff).1
 abbrev pub modulus_of : Setting → ℕ
 modulus_of s = step_of s * unit_of s
 
--- The charge of an interval of p pulses in mode S, by a rate's own numbers. The cross-over speed is the time tariff
--- value, c per e, divided by the distance tariff value, a per b; a pulse is 10000 / k decimetres. Below that speed the
--- time is charged, and otherwise the distance.
-abbrev pub charge_by_speed : (k common : ℕ) → RateNumbers → (p : ℕ) → ℕ
-charge_by_speed k common r p =
-    if nat_lt (10000 * p * r.a * r.e) (r.c * k * r.b)
-    then r.c * k * (common / r.e)
-    else p * (10000 * r.a * (common / r.b))
+-- the local time at a second
+abbrev pub local_at : Setting → (second : ℕ) → LocalTime
+local_at s second = local_time_of (local_second s.offsets second)
 
--- the rate at a place of a tariff's rates
-abbrev pub rate_at : Tree → (place : ℕ) → RateNumbers
-rate_at t place = get_or (rates_of t.lines) place (record { a = 0; b = 0; c = 0; e = 0 })
+-- the date and the second of the day of a local time
+abbrev pub stamp_of : LocalTime → Stamp
+stamp_of local = record { year = local.year; month = local.month; date = local.date; second = local.second }
+
+-- the local date and time at a second
+abbrev pub stamp_at : Setting → (second : ℕ) → Stamp
+stamp_at s second = stamp_of (local_at s second)

@@ -1,46 +1,118 @@
 -- A trip, as the whole list of its intervals, and its fare.
-use Rattle.std.specs.Prelude.{ℕ, List, map, sum}
-use Rattle.drive_modes.specs.declared.charges.Mode.TheVariants.{Single}
-use Rattle.drive_modes.specs.declared.meterage.Meterage.{Meterage}
-use Rattle.drive_modes.specs.Charge.{charge_of}
-use Rattle.drive_modes.specs.Fare.{Opening, saved, shown_fare, steps_above}
+use Rattle.std.specs.Prelude.{ℕ, ◌+◌, ◌*◌, Bool, false, List, [], ◌∷◌, ◌++◌, map, sum}
+use Rattle.drive_modes.specs.Fare as fares
+use Rattle.drive_modes.specs.Fare.{saved, shown_fare, steps_above}
+use Rattle.tariff_compile.specs.declared.parts.Initial.{Initial}
 use Rattle.tariff_syntax.specs.declared.context.Context.{Context}
-use Rattle.tariff_compile.specs.Tables.{rate_by}
-use Rattle.meter_states.specs.Setting.{Setting, step_of, rounding_of, modulus_of}
+use Rattle.totaliser_store.specs.declared.trip.Trip as store
+use Rattle.meter_states.specs.Charge.{charge_at}
+use Rattle.meter_states.specs.Setting.{Setting, modulus_of, rounding_of, step_of, unit_of}
+use Rattle.meter_states.specs.Supplements.{amounts_of, counts_of}
 
--- an interval of a trip, with its pulses: one that ended in Hired, with the context at its beginning, or one that ended in Stopped
+-- an interval that ended in Hired, with the context at its beginning, one that ended in Stopped, or the pulses of one
+-- that a supply drop left unfinished
 pub data Part : Type 0 where
   InHired : (pulses : ℕ) (x : Context) → Part
   InStopped : (pulses : ℕ) → Part
+  Rest : (pulses : ℕ) → Part
 
--- the pulses of an interval
+-- what stands before the list: the cover that is left and what was charged above it, in units of charge, and pulses and
+-- ticks
+pub record Opening : Type 0 where
+  pub cover : ℕ
+  pub above : ℕ
+  pub pulses : ℕ
+  pub ticks : ℕ
+
+-- a trip: its start second, initial hire fee and minimum fare, the pulses that were roamed before the hiring, its
+-- opening, its intervals in order, and the numbers of its supplements in order
+pub record Trip : Type 0 where
+  pub started : ℕ
+  pub initial : ℕ
+  pub minimum : ℕ
+  pub roam : ℕ
+  pub opening : Opening
+  pub parts : List Part
+  pub extras : List ℕ
+
 abbrev pub pulses_in : Part → ℕ
 pulses_in (InHired p x) = p
 pulses_in (InStopped p) = p
+pulses_in (Rest p) = p
+
+-- an unfinished interval counts no tick
+abbrev pub ticks_in : Part → ℕ
+ticks_in (InHired p x) = 1
+ticks_in (InStopped p) = 1
+ticks_in (Rest p) = 0
+
+-- and only an interval in Hired is charged
+abbrev pub charge_in : Setting → Part → ℕ
+charge_in s (InHired p x) = charge_at s x p
+charge_in s (InStopped p) = 0
+charge_in s (Rest p) = 0
 
 -- the pulses of a trip
-abbrev pub pulses_of : List Part → ℕ
-pulses_of parts = sum (map pulses_in parts)
+abbrev pub pulses_of : Trip → ℕ
+pulses_of t = t.opening.pulses + sum (map pulses_in t.parts)
 
--- the charge of an interval, by the rate that the tariff's text names for its context: none in Stopped
-abbrev pub charge_in : Setting → Part → ℕ
-charge_in s (InHired p x) = charge_of Single (rate_by s.tariff s.constant x) p
-charge_in s (InStopped p) = 0
+-- the ticks of a trip
+abbrev pub ticks_of : Trip → ℕ
+ticks_of t = t.opening.ticks + sum (map ticks_in t.parts)
 
 -- the sum of the charges of a trip
-abbrev pub charges_of : Setting → List Part → ℕ
-charges_of s parts = sum (map (charge_in s) parts)
+abbrev pub charges_of : Setting → Trip → ℕ
+charges_of s t = sum (map (charge_in s) t.parts)
 
--- a trip begins with this cover, and nothing above it
-abbrev pub opening_of : Setting → (cover : ℕ) → Opening
-opening_of s cover = record { cover = cover; above = 0; modulus = modulus_of s }
+-- where its charges begin
+abbrev pub opening_of : Setting → Trip → fares.Opening
+opening_of s t = record { cover = t.opening.cover; above = t.opening.above; modulus = modulus_of s }
 
--- the fare that is shown for a trip with this hire fee, minimum fare and cover: the fee and the display steps above the
--- cover, or the minimum fare where that is more
-abbrev pub fare_of : Setting → (initial minimum cover : ℕ) → List Part → ℕ
-fare_of s initial minimum cover parts =
-    shown_fare initial minimum (step_of s) (steps_above (rounding_of s) (opening_of s cover) (charges_of s parts))
+-- the display steps above the cover
+abbrev pub steps_shown : Setting → Trip → ℕ
+steps_shown s t = steps_above (rounding_of s) (opening_of s t) (charges_of s t)
 
--- what the core keeps of a trip in place of its intervals
-abbrev pub meterage_of : Setting → (cover : ℕ) → List Part → Meterage
-meterage_of s cover parts = saved (opening_of s cover) (charges_of s parts)
+-- the fare that is shown
+abbrev pub fare_of : Setting → Trip → ℕ
+fare_of s t = shown_fare t.initial t.minimum (step_of s) (steps_shown s t)
+
+-- the trip that is hired at a second, after these roaming pulses
+abbrev pub begun : Setting → Initial → (second roam : ℕ) → Trip
+begun s fee second roam = record {
+  started = second;
+  initial = fee.amount;
+  minimum = fee.minimum;
+  roam = roam;
+  opening = record { cover = fee.covers * unit_of s; above = 0; pulses = 0; ticks = 0 };
+  parts = [];
+  extras = [];
+}
+
+abbrev pub with_part : Part → Trip → Trip
+with_part part t = record t { parts = t.parts ++ part ∷ [] }
+
+abbrev pub with_extra : (number : ℕ) → Trip → Trip
+with_extra number t = record t { extras = t.extras ++ number ∷ [] }
+
+-- the saved form of a trip, but for what a supply drop adds
+abbrev pub saved_of : Setting → Trip → store.Trip
+saved_of s t = record {
+  started = t.started;
+  saved = 0;
+  stopped = false;
+  position = 1;
+  zone = 1;
+  roam = t.roam;
+  pulses = pulses_of t;
+  ticks = ticks_of t;
+  initial = t.initial;
+  minimum = t.minimum;
+  meterage = saved (opening_of s t) (charges_of s t);
+  extras = counts_of t.extras;
+  extras_sum = amounts_of s.tariff t.extras;
+}
+
+-- the saved form of a trip at a supply drop
+abbrev pub held_trip : Setting → (second : ℕ) → (stopped : Bool) → (position zone : ℕ) → Trip → store.Trip
+held_trip s second stopped position zone t =
+    record (saved_of s t) { saved = second; stopped = stopped; position = position; zone = zone }

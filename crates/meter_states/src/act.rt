@@ -1,9 +1,10 @@
 //! What the meter does.
-ghost use Rattle.std.specs.Prelude.{◌≡◌, [], ◌∷◌};
+ghost use Rattle.std.specs.Prelude.{◌≡◌, ◌<◌, ◌∷◌, [], ◌++◌, length};
 ghost use Rattle.meter_states.specs.declared.act.Act.TheVariants.{Refuse};
 
 use arrayvec::ArrayVec;
-use taxi_units::{Display, Why};
+use taxi_units::{Display, Receipt, Why};
+use totaliser_store::{Entry, Trip};
 
 /// What the meter does at an event.
 #[derive(Clone, Copy, Debug, PartialEq, Eq)]
@@ -12,6 +13,12 @@ pub enum Act {
     Show(Display),
     /// Refuses an event or a key.
     Refuse(Why),
+    /// Commits an entry of the totalisers.
+    Enter(Entry),
+    /// Commits the saved form of a trip, which is held from now on.
+    Hold(Trip),
+    /// Prints the receipt of the trip whose entry stands directly before.
+    Receipt(Receipt),
 }
 
 /// A place that holds no act yet.
@@ -24,11 +31,10 @@ impl Default for Act {
 /// The acts of one event, in order.
 pub type Acts = ArrayVec<Act, 4>;
 
-/// A refusal alone.
-pub fn refusal(why: Why) -> Acts
-    ensures { result.items ≡ Refuse why ∷ [] }
+/// A refusal more.
+pub(crate) fn refuse(why: Why, acts: &mut Acts)
+    requires { length acts.old.items < 4 }
+    ensures { acts.new.items ≡ acts.old.items ++ Refuse why ∷ [] }
 {
-    let mut acts = Acts::new();
     acts.push(Act::Refuse(why));
-    acts
 }

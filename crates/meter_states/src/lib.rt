@@ -1,15 +1,47 @@
-//! The core of the meter: what each event does, and the fare of the running trip.
+//! The core of the meter: what each event does to it, under the tables of a tariff and a seal, with no
+//! memory of intervals. `specs/` says what a meter is: its states keep each interval of a trip, and an
+//! interval is charged by the rate that the tariff's text names.
 #![tactic(auto)]
 
 mod act;
-mod local;
-mod machine;
+mod act_ranges;
+mod closing;
+mod core_state;
+mod display;
+mod fitting;
+mod held;
+mod interval;
+mod keeping;
+mod key_acts;
+mod keys;
+mod lookups;
+mod pairs;
+mod power_up;
+mod records;
+mod refusals;
 mod shown;
-mod theorems;
+mod stepping;
+mod supply_drop;
+mod tick;
+mod trip;
 
 pub use act::{Act, Acts};
-pub use machine::Core;
-pub use theorems::{acts_are_showable, charges_follow_the_speed};
+pub use act_ranges::lawful_acts_keep_the_ranges;
+pub use core_state::Core;
+pub use fitting::fits;
+pub use keeping::{
+    fares_depend_on_the_intervals_in_hired, resumed_trips_go_on, the_store_keeps_the_trip,
+};
+pub use pairs::{receipts_follow_their_entries, runs_add_up, the_store_has_what_the_acts_commit};
+pub use refusals::{keys_act_after_their_interval, refused_events_change_nothing};
 
+#[cfg(test)]
+mod drives;
+#[cfg(test)]
+mod expected;
+#[cfg(test)]
+mod fare_tests;
+#[cfg(test)]
+mod limit_tests;
 #[cfg(test)]
 mod tests;

@@ -1,6 +1,6 @@
 //! Whether a display is shown already.
 ghost use Rattle.std.specs.Prelude.{◌≡◌};
-ghost use Rattle.meter_states.specs.Same as spec;
+ghost use Rattle.meter_states.specs.Display as spec;
 
 use taxi_units::{Display, Operating};
 
@@ -17,8 +17,8 @@ fn same_operating(a: Operating, b: Operating) -> bool
     }
 }
 
-/// Whether the display is the one that was last shown.
-pub fn is_shown(old: &Option<Display>, new: &Display) -> bool
+/// Whether the display is the one that was shown last.
+pub(crate) fn is_shown(old: &Option<Display>, new: &Display) -> bool
     ensures { result ≡ spec.is_shown old.now new.now }
 {
     match old {

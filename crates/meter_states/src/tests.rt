@@ -1,154 +1,35 @@
-//! A rate of 0.20 for 117.4 m and 0.20 for 25.2 s, rounded ahead, and an initial hire fee of 3.80 that
-//! covers 0.40, under a constant of 10,000. The time of 504 intervals is the cover exactly, and so is
-//! the distance of 2,348 pulses; the time of 252 further intervals is a display step exactly.
-ghost use Rattle.std.specs.Prelude.{◌≡◌, ◌<◌, IfSome, IsTrue};
-ghost use Rattle.meter_states.specs.Core.{IsTimely};
-ghost use Rattle.tariff_compile.specs.Tables.{IsFit};
-
-use crate::{Act, Core};
-use pulse_input::Constant;
-use std::alloc::Global;
-use std::marker::Brand;
+//! Trips from their hiring to their receipt.
+use crate::Act;
+use crate::drives::Row;
+use crate::expected::{
+    CLEAR, FIRST, HIRE, NOT_NOW, PLAIN, PULSES, STOP, UP, entered, follow_under, for_hire, held,
+    hired, printed, shown, shown_at, stopped,
+};
 use std::process::Abort;
-use std::sync::ledger::{Blank, Ledger};
-use tariff_check::check;
-use tariff_compile::{Tables, compile};
-use tariff_syntax::{parse, texts_have_their_numbers};
-use taxi_units::{Display, Event, Key, Operating, Steps, Why};
-
-/// So many times: events without acts, and then an event with these acts.
-type Row<'a> = (u32, &'a [Event], Event, &'a [Act]);
-
-const UP: Event = Event::Up(1_767_225_600);
-
-const CLOCK: Event = Event::Clock(1_767_225_600);
-
-const HIRE: Event = Event::Key(Key::Hire);
-
-const STOP: Event = Event::Key(Key::Stop);
-
-const CLEAR: Event = Event::Key(Key::Clear);
-
-const NOT_NOW: &[Act] = &[Act::Refuse(Why::NotNow)];
-
-/// What is shown in an operating position, with a fare.
-const fn shown(operating: Operating, fare: u64) -> Act {
-    Act::Show(Display {
-        operating,
-        position: 1,
-        zone: 1,
-        fare,
-        supplements: 0,
-        decimals: 2,
-    })
-}
-
-const PLAIN: &str = "step 0.20 ahead
-initial 3.80 covers 0.40
-rate 0.20 per 117.4 m, 0.20 per 25.2 s
-";
-
-/// A dearer rate from 5 m on, and a hire fee that holds on a Thursday.
-const CONDITIONS: &str = "step 0.20 ahead
-initial 3.80 covers 0.40 when day thu
-initial 9.00
-rate 0.40 per 117.4 m, 0.20 per 25.2 s when after 5.0 m
-rate 0.20 per 117.4 m, 0.20 per 25.2 s
-";
-
-/// The tables of a text's tariff. `None` where there are none.
-fn compiled(alloc: Global, text: &str) -> Option<Tables>
-    ensures { IfSome result IsFit }
-{
-    let tariff = parse(alloc, text.as_bytes()).ok()?;
-    texts_have_their_numbers();
-    let checked = check(alloc, tariff).ok()?;
-    compile(alloc, &checked, Constant::new(10_000).ok()?).ok()
-}
-
-/// Whether an event's second is one that a clock may show.
-fn is_timely(event: Event) -> bool
-    ensures { IsTrue result → IsTimely event }
-{
-    match event {
-        Event::Up(second) | Event::Clock(second) => {
-            946_684_800 <= second && second <= 7_258_118_399
-        }
-        Event::Down | Event::Pulses(_) | Event::Tick | Event::Key(_) => true,
-    }
-}
-
-/// Carries out rows, one after the other, on a meter that is off.
-fn follow<L: Ledger>(blank: Blank, rt: &impl Abort, tables: &Tables, rows: &[Row])
-    requires fit { IsFit tables.now }
-    requires name { blank.name ≡ L.name }
-    requires parts { blank.parts ≡ L.parts }
-    requires one { 0 < blank.parts }
-{
-    let mut steps: Steps<L> = Steps::open(blank);
-    let mut core = Core::off();
-    for (place, (times, before, event, want)) in rows.iter().enumerate() {
-        for _ in 0..*times {
-            for event in *before {
-                assert!(rt; is_timely(*event));
-                let acts = core.step(tables, *event, &mut steps);
-                assert!(rt; acts.is_empty(), "row {place}: {acts:?}");
-            }
-            assert!(rt; is_timely(*event));
-            let acts = core.step(tables, *event, &mut steps);
-            assert_eq!(rt; acts.as_slice(), *want, "row {place}");
-        }
-    }
-}
-
-/// Carries out rows under a text's tariff.
-fn follow_under(alloc: Global, rt: &impl Abort, text: &str, rows: &[Row]) {
-    let Some(tables) = compiled(alloc, text) else {
-        panic!(rt; "no tables");
-    };
-    follow::<Brand>(Blank::new(1), rt, &tables, rows);
-}
-
-/// Carries out a trip of 8,640,000 intervals without pulses, in the last of which a key is pressed.
-fn expire<L: Ledger>(blank: Blank, rt: &impl Abort, tables: &Tables)
-    requires fit { IsFit tables.now }
-    requires name { blank.name ≡ L.name }
-    requires parts { blank.parts ≡ L.parts }
-    requires one { 0 < blank.parts }
-{
-    let mut steps: Steps<L> = Steps::open(blank);
-    let mut core = Core::off();
-    for event in [UP, HIRE, Event::Tick] {
-        core.step(tables, event, &mut steps);
-    }
-    let mut last = None;
-    for _ in 0..8_639_999 {
-        if let Some(act) = core.step(tables, Event::Tick, &mut steps).last() {
-            last = Some(*act);
-        }
-    }
-    assert_eq!(rt; last, Some(shown(Operating::Hired, 686_060)));
-    core.step(tables, STOP, &mut steps);
-    let acts = core.step(tables, Event::Tick, &mut steps);
-    let want = [Act::Refuse(Why::Expired), shown(Operating::ForHire, 0)];
-    assert_eq!(rt; acts.as_slice(), want.as_slice());
-    assert_eq!(rt; core.operating(), Operating::ForHire);
-}
+use taxi_units::{Event, Key, Kind, Operating, Receipt, Why};
+use totaliser_store::Entry;
 
 #[test]
 fn refuses(rt: HostRuntime) {
-    let rows: [Row; 19] = [
+    let back = Why::ClockBack {
+        last: FIRST,
+        given: FIRST - 1,
+    };
+    let rows: [Row; 16] = [
         (1, &[], Event::Pulses(5), NOT_NOW),
         (1, &[], Event::Tick, NOT_NOW),
+        (1, &[], Event::Down, NOT_NOW),
+        (1, &[], Event::Clock(FIRST), NOT_NOW),
         (1, &[], HIRE, NOT_NOW),
-        (1, &[], Event::Down, NOT_NOW),
-        (1, &[], CLOCK, NOT_NOW),
-        (1, &[], UP, &[shown(Operating::ForHire, 0)]),
+        (1, &[], UP, &[for_hire()]),
         (1, &[], UP, &[Act::Refuse(Why::Powered)]),
-        (1, &[], Event::Down, NOT_NOW),
-        (1, &[], CLOCK, NOT_NOW),
-        (1, &[], Event::Pulses(2001), &[Act::Refuse(Why::TooFast(1))]),
-        (1, &[], Event::Tick, &[]),
+        (
+            1,
+            &[Event::Clock(FIRST - 1)],
+            Event::Pulses(2001),
+            &[Act::Refuse(Why::TooFast(1))],
+        ),
+        (1, &[Event::Clock(FIRST)], Event::Tick, &[]),
         (
             1,
             &[Event::Pulses(1500)],
@@ -157,84 +38,163 @@ fn refuses(rt: HostRuntime) {
         ),
         (1, &[STOP], HIRE, &[Act::Refuse(Why::KeyWaiting)]),
         (1, &[], Event::Tick, NOT_NOW),
+        (1, &[HIRE], Event::Tick, &[hired(380)]),
+        (1, &[], Event::Clock(FIRST - 1), &[Act::Refuse(back)]),
         (1, &[CLEAR], Event::Tick, NOT_NOW),
-        (1, &[Event::Key(Key::Position(1))], Event::Tick, NOT_NOW),
-        (1, &[Event::Key(Key::Zone(1))], Event::Tick, NOT_NOW),
-        (1, &[Event::Key(Key::Extra(1))], Event::Tick, NOT_NOW),
-        (1, &[], Event::Tick, &[]),
-    ];
-    follow_under(rt.alloc(), &rt, PLAIN, &rows);
-}
-
-#[test]
-fn charges_trips(rt: HostRuntime) {
-    let rows: [Row; 23] = [
-        (1, &[], UP, &[shown(Operating::ForHire, 0)]),
-        // a trip by time
-        (1, &[HIRE], Event::Tick, &[shown(Operating::Hired, 380)]),
-        (504, &[], Event::Tick, &[]),
-        (1, &[], Event::Tick, &[shown(Operating::Hired, 400)]),
         (1, &[HIRE], Event::Tick, NOT_NOW),
-        (1, &[CLEAR], Event::Tick, NOT_NOW),
-        (1, &[STOP], Event::Tick, &[shown(Operating::Stopped, 400)]),
-        (600, &[Event::Pulses(2000)], Event::Tick, &[]),
-        (1, &[STOP], Event::Tick, NOT_NOW),
-        (1, &[HIRE], Event::Tick, &[shown(Operating::Hired, 400)]),
-        (248, &[], Event::Tick, &[]),
-        (1, &[], Event::Tick, &[shown(Operating::Hired, 420)]),
-        (1, &[STOP], Event::Tick, &[shown(Operating::Stopped, 420)]),
-        (1, &[CLEAR], Event::Tick, &[shown(Operating::ForHire, 0)]),
-        // by distance, up to the cover
-        (1, &[HIRE], Event::Tick, &[shown(Operating::Hired, 380)]),
-        (117, &[Event::Pulses(20)], Event::Tick, &[]),
-        (
-            1,
-            &[STOP, Event::Pulses(8)],
-            Event::Tick,
-            &[shown(Operating::Stopped, 380)],
-        ),
-        (1, &[CLEAR], Event::Tick, &[shown(Operating::ForHire, 0)]),
-        // and past it, in the interval in which the key is pressed
-        (1, &[HIRE], Event::Tick, &[shown(Operating::Hired, 380)]),
-        (117, &[Event::Pulses(20)], Event::Tick, &[]),
-        (1, &[Event::Pulses(8)], Event::Tick, &[]),
-        (
-            1,
-            &[STOP, Event::Pulses(1)],
-            Event::Tick,
-            &[shown(Operating::Stopped, 400)],
-        ),
-        (1, &[CLEAR], Event::Tick, &[shown(Operating::ForHire, 0)]),
     ];
     follow_under(rt.alloc(), &rt, PLAIN, &rows);
 }
 
 #[test]
-fn ends_the_longest_trip(rt: HostRuntime) {
-    let Some(tables) = compiled(rt.alloc(), PLAIN) else {
-        panic!(&rt; "no tables");
-    };
-    expire::<Brand>(Blank::new(1), &rt, &tables);
+fn closes_trips(rt: HostRuntime) {
+    let closed = [
+        entered(Kind::Closed, 234_800, 380),
+        printed(2, Kind::Closed, 3600, 234_800, 0, 380),
+        for_hire(),
+    ];
+    let dearer = [
+        entered(Kind::Closed, 234_900, 400),
+        printed(3, Kind::Closed, 3660, 234_900, 1, 400),
+        for_hire(),
+    ];
+    let rows: [Row; 11] = [
+        (1, &[], UP, &[for_hire()]),
+        (1, &[HIRE], Event::Tick, &[hired(380)]),
+        (117, &[PULSES], Event::Tick, &[]),
+        (1, &[STOP, Event::Pulses(8)], Event::Tick, &[stopped(380)]),
+        (1, &[CLEAR], Event::Tick, &closed),
+        // the interval in which the key is pressed is charged
+        (1, &[HIRE], Event::Tick, &[hired(380)]),
+        (117, &[PULSES], Event::Tick, &[]),
+        (1, &[Event::Pulses(8)], Event::Tick, &[]),
+        (1, &[STOP, Event::Pulses(1)], Event::Tick, &[stopped(400)]),
+        (600, &[Event::Clock(FIRST + 60)], Event::Tick, &[]),
+        (1, &[CLEAR], Event::Tick, &dearer),
+    ];
+    follow_under(rt.alloc(), &rt, PLAIN, &rows);
 }
 
 #[test]
-fn asks_at_the_beginning_of_an_interval(rt: HostRuntime) {
-    let rows: [Row; 8] = [
-        // 1 January 2026 is a Thursday
-        (1, &[], UP, &[shown(Operating::ForHire, 0)]),
-        (1, &[HIRE], Event::Tick, &[shown(Operating::Hired, 380)]),
-        // 50 pulses are 5 m: the interval in which they come is charged as before, the next one twice as dear
-        (1, &[Event::Pulses(50)], Event::Tick, &[]),
-        (57, &[Event::Pulses(20)], Event::Tick, &[]),
-        (1, &[Event::Pulses(9)], Event::Tick, &[]),
+fn resumes_and_aborts(rt: HostRuntime) {
+    let resumed = [
+        entered(Kind::Closed, 234_800, 380),
+        printed(3, Kind::Closed, 3660, 234_800, 0, 380),
+        for_hire(),
+    ];
+    let aborted = [
+        entered(Kind::Aborted, 20_000, 380),
+        printed(5, Kind::Aborted, 3600, 20_000, 0, 380),
+        for_hire(),
+    ];
+    let early = [
+        entered(Kind::Aborted, 20_000, 380),
+        printed(7, Kind::Aborted, 3600, 20_000, 0, 380),
+        for_hire(),
+    ];
+    let rows: [Row; 18] = [
+        (1, &[], UP, &[for_hire()]),
+        (1, &[HIRE], Event::Tick, &[hired(380)]),
+        (10, &[PULSES], Event::Tick, &[]),
+        (1, &[], Event::Down, &[held(false)]),
+        (1, &[], Event::Up(FIRST + 60), &[hired(380)]),
+        (107, &[PULSES], Event::Tick, &[]),
+        (1, &[STOP, Event::Pulses(8)], Event::Tick, &[stopped(380)]),
+        (1, &[CLEAR], Event::Tick, &resumed),
+        // one second later it is aborted, and one second before it was saved too; a waiting key is lost
+        (1, &[Event::Clock(FIRST), HIRE], Event::Tick, &[hired(380)]),
+        (9, &[PULSES], Event::Tick, &[]),
+        (1, &[STOP, PULSES], Event::Tick, &[stopped(380)]),
+        (1, &[HIRE], Event::Down, &[held(true)]),
+        (1, &[], Event::Up(FIRST + 61), &aborted),
+        (1, &[Event::Clock(FIRST), HIRE], Event::Tick, &[hired(380)]),
+        (10, &[PULSES], Event::Tick, &[]),
+        (1, &[], Event::Down, &[held(false)]),
+        (1, &[], Event::Up(FIRST - 1), &early),
+        (1, &[CLEAR], Event::Tick, NOT_NOW),
+    ];
+    follow_under(rt.alloc(), &rt, PLAIN, &rows);
+}
+
+const SUPPLEMENTS: &str = "decimals 2
+step 0.20 ahead
+positions 2
+supplement 1 1.50 max 2
+initial 3.80 covers 0.40
+rate 0.20 per 117.4 m, 0.20 per 25.2 s
+";
+
+const EXTRA: Event = Event::Key(Key::Extra(1));
+
+const NO_SUCH: &[Act] = &[Act::Refuse(Why::NoSuch)];
+
+/// The trip of the next test as it is closed at position 2.
+fn closed_with_supplements(rt: &impl Abort) -> [Act; 3] {
+    let Act::Receipt(receipt) = printed(2, Kind::Closed, 3600, 0, 0, 380) else {
+        panic!(rt; "no receipt");
+    };
+    let entry = Entry {
+        kind: Kind::Closed,
+        roam_mm: 0,
+        hired_mm: 0,
+        fare: 380,
+        supplements: 300,
+        position: 2,
+    };
+    let receipt = Receipt {
+        position: 2,
+        supplements: 300,
+        ..receipt
+    };
+    [
+        Act::Enter(entry),
+        Act::Receipt(receipt),
+        shown_at(Operating::ForHire, 2, 1, 0, 0),
+    ]
+}
+
+#[test]
+fn adds_supplements(rt: HostRuntime) {
+    let closed = closed_with_supplements(&rt);
+    let rows: [Row; 17] = [
+        (1, &[], UP, &[for_hire()]),
+        (1, &[HIRE], STOP, &[Act::Refuse(Why::KeyWaiting)]),
+        (1, &[], Event::Tick, &[hired(380)]),
         (
             1,
-            &[Event::Pulses(1)],
+            &[EXTRA],
             Event::Tick,
-            &[shown(Operating::Hired, 400)],
+            &[shown(Operating::Hired, 380, 150)],
         ),
-        (1, &[STOP], Event::Tick, &[shown(Operating::Stopped, 400)]),
-        (1, &[CLEAR], Event::Tick, &[shown(Operating::ForHire, 0)]),
+        (
+            1,
+            &[EXTRA],
+            Event::Tick,
+            &[shown(Operating::Hired, 380, 300)],
+        ),
+        (1, &[EXTRA], Event::Tick, &[Act::Refuse(Why::AtMost)]),
+        (1, &[Event::Key(Key::Extra(2))], Event::Tick, NO_SUCH),
+        (1, &[Event::Key(Key::Extra(99))], Event::Tick, NO_SUCH),
+        (1, &[Event::Key(Key::Position(9))], Event::Tick, NO_SUCH),
+        (1, &[Event::Key(Key::Position(0))], Event::Tick, NO_SUCH),
+        (1, &[Event::Key(Key::Zone(2))], Event::Tick, NO_SUCH),
+        (
+            1,
+            &[Event::Key(Key::Position(2))],
+            Event::Tick,
+            &[shown_at(Operating::Hired, 2, 1, 380, 300)],
+        ),
+        (
+            1,
+            &[STOP],
+            Event::Tick,
+            &[shown_at(Operating::Stopped, 2, 1, 380, 300)],
+        ),
+        (1, &[Event::Key(Key::Position(1))], Event::Tick, NOT_NOW),
+        // the position stays after the closing, and is 1 after a power-up
+        (1, &[CLEAR], Event::Tick, &closed),
+        (1, &[], Event::Down, &[]),
+        (1, &[], UP, &[for_hire()]),
     ];
-    follow_under(rt.alloc(), &rt, CONDITIONS, &rows);
+    follow_under(rt.alloc(), &rt, SUPPLEMENTS, &rows);
 }

@@ -1,8 +1,13 @@
-pub mod Advancing
-pub mod Carrying
-pub mod Driving
+pub mod Answering
 pub mod Endings
+pub mod Faring
 pub mod Lengths
-pub mod Printing
+pub mod Openings
+pub mod Refusals
 pub mod Rows
+pub mod Run
+pub mod Sealings
+pub mod Tabling
 pub mod Tariffs
+pub mod Totalling
+pub mod Unwritten

@@ -1,5 +1,5 @@
 -- The sound tariff of a text that was read.
-use Rattle.std.proofs.Common.{◌≡◌, ◌≢◌, ℕ, List, length, Option, Some, None, Ok, Err, refl, sym, ap, ◌∙◌, inl, inr}
+use Rattle.std.proofs.Common.{◌≡◌, ◌≢◌, ℕ, List, length, Option, Some, Ok, Err, refl, sym, ap, ◌∙◌, inl, inr}
 use Rattle.std.specs.Prelude.{◌⊎◌}
 use Rattle.std.proofs.lemmas.Bool.{le-ltb}
 use Rattle.tariff_syntax.specs.Reads.{IsParsed}
@@ -14,7 +14,7 @@ use Rattle.tariff_check.specs.declared.fault.CheckFault.TheVariants as checks
 use Rattle.taxi_cli.specs.declared.tariff.Refusal.{Refusal}
 use Rattle.taxi_cli.specs.declared.tariff.Refusal.TheVariants.{Syntax, Unsound}
 use Rattle.taxi_cli.specs.declared.tariff.TextFault.TheVariants as texts
-use Rattle.taxi_cli.specs.Command.{sound_in, tariff_in}
+use Rattle.taxi_cli.specs.Tariffs.{sound_in, tariff_in}
 use Rattle.taxi_cli.specs.Ending.{unsound_for}
 
 -- a text that reads as a tariff is answered by the tariff's first fault

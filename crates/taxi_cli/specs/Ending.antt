@@ -1,78 +1,31 @@
--- How a call of the program may end.
+-- How a command ends, before its last line is printed.
 use Rattle.std.specs.Prelude.{◌≡◌, ◌⊎◌, ℕ, List, [], ◌++◌, Result, Ok, Err}
+use Rattle.outside.specs.Faults.{Rose}
 use Rattle.outside.specs.Printing.{Begins}
-use Rattle.taxi_cli.specs.Command.{Answer, text_of}
-use Rattle.taxi_cli.specs.Drive.{IsSplit, StopsAfter}
-use Rattle.taxi_cli.specs.LastLine.{status_of, line_of, read_fault_line, no_memory_line}
+use Rattle.outside.specs.declared.board.Board.{Ghosts}
+use Rattle.outside.specs.declared.files.Files.{Ghosts as FileGhosts}
+use Rattle.taxi_cli.specs.Answer.{Answer, refuses}
+use Rattle.taxi_cli.specs.Call.{MayTake}
+use Rattle.taxi_cli.specs.Course.{Command, Course, status_in, shown_in, line_in, text_in}
+use Rattle.taxi_cli.specs.LastLine.{status_of, line_of}
 use Rattle.taxi_cli.specs.declared.ending.Ended.{Ended}
-use Rattle.taxi_cli.specs.declared.ending.Ended.TheVariants.{Done, BadTariff, BadDrive, EndlessDrive, ReadFault, BoardFault, NoMemory}
+use Rattle.taxi_cli.specs.declared.ending.Ended.TheVariants.{Done, BadTariff, BadSlot, SameNumber, BadDrive}
+use Rattle.taxi_cli.specs.declared.ending.Ended.TheVariants.{BadParams, EndlessDrive, ReadFault, BoardFault, NoMemory}
+use Rattle.taxi_cli.specs.declared.params.ParamsFault.{ParamsFault}
+use Rattle.taxi_cli.specs.declared.params.ParamsFault.TheVariants as params
+use Rattle.taxi_cli.specs.declared.opening.StoreFault.{StoreFault}
+use Rattle.taxi_cli.specs.declared.opening.StoreFault.TheVariants as stores
 use Rattle.tariff_check.specs.declared.fault.CheckFault.{CheckFault}
 use Rattle.tariff_check.specs.declared.fault.CheckFault.TheVariants as checks
 use Rattle.taxi_cli.specs.declared.tariff.Refusal.TheVariants.{Unsound}
 use Rattle.taxi_cli.specs.declared.tariff.TextFault.{TextFault}
 use Rattle.taxi_cli.specs.declared.tariff.TextFault.TheVariants as texts
-use Rattle.taxi_cli.specs.declared.drive.RunFault.{RunFault}
-use Rattle.taxi_cli.specs.declared.drive.RunFault.TheVariants as faults
+use Rattle.meter_run.specs.declared.fault.RunFault.{RunFault}
+use Rattle.meter_run.specs.declared.fault.RunFault.TheVariants as faults
 
--- the answer, whole
-pub record IsAnswered (tells_text : Type 0) (answer : Answer) (status : ℕ) (before now : List ℕ) : Type 0 where
-  pub status_is : status ≡ answer.status
-  pub printed : tells_text → now ≡ before ++ text_of answer
-
--- the board failed as this text was printed
-pub record IsCutShort (tells_text : Type 0) (text : List ℕ) (status : ℕ) (before now : List ℕ) : Type 0 where
-  pub status_is : status ≡ 8
-  pub begun : tells_text → Begins before now text
-
--- a read failed: what the bytes of the drive show that were taken, and a last line
-pub record StopsAtRead (tells_text : Type 0) (shown : List ℕ → List ℕ) (drive left : List ℕ) (status : ℕ) (before now : List ℕ) : Type 0 where
-  pub status_is : status ≡ 7
-  pub taken : List ℕ
-  pub split : IsSplit drive taken left
-  pub printed : tells_text → now ≡ before ++ (shown taken ++ read_fault_line)
-
--- memory ran out before a byte of the drive was taken: a last line alone
-pub record StopsForMemory (tells_text : Type 0) (drive left : List ℕ) (status : ℕ) (before now : List ℕ) : Type 0 where
-  pub status_is : status ≡ 12
-  pub untouched : left ≡ drive
-  pub printed : tells_text → now ≡ before ++ no_memory_line
-
--- the board failed: a beginning of what the bytes of the drive show that were taken, and then perhaps of the line of a read that failed
-pub record StopsAtBoard (tells_text : Type 0) (shown : List ℕ → List ℕ) (drive left : List ℕ) (status : ℕ) (before now : List ℕ) : Type 0 where
-  pub status_is : status ≡ 8
-  pub taken : List ℕ
-  pub split : IsSplit drive taken left
-  pub line : List ℕ
-  pub last : (line ≡ []) ⊎ (line ≡ read_fault_line)
-  pub begun : tells_text → Begins before now (shown taken ++ line)
-
--- A call with this answer, where bytes of the drive show this, ends with a status: it is answered; or a read fails; or
--- memory runs out; or the board fails, as the answer is printed, as the drive is carried out, or as the line of one of
--- the other faults is printed.
-abbrev pub EndsAs : Type 0 → Answer → (List ℕ → List ℕ) → List ℕ → List ℕ → ℕ → List ℕ → List ℕ → Type 0
-EndsAs tells_text answer shown drive left status before now =
-    IsAnswered tells_text answer status before now
-    ⊎ (StopsAtRead tells_text shown drive left status before now
-    ⊎ (StopsForMemory tells_text drive left status before now
-    ⊎ (IsCutShort tells_text (text_of answer) status before now
-    ⊎ (StopsAtBoard tells_text shown drive left status before now
-    ⊎ IsCutShort tells_text no_memory_line status before now))))
-
--- ---- before the last line is printed
-
--- the answer ends with this status and line, and what it shows was printed
-pub record IsShown (tells_text : Type 0) (answer : Answer) (status : ℕ) (line before now : List ℕ) : Type 0 where
-  pub status_is : answer.status ≡ status
-  pub line_is : answer.line ≡ line
-  pub printed : tells_text → now ≡ before ++ answer.shown
-
--- what the command has printed where it ended so, without its last line
-abbrev pub EndsBefore : Type 0 → Answer → (List ℕ → List ℕ) → List ℕ → List ℕ → Ended → List ℕ → List ℕ → Type 0
-EndsBefore tells_text answer shown drive left ReadFault before now = StopsAfter drive left tells_text (λ taken. now ≡ before ++ shown taken)
-EndsBefore tells_text answer shown drive left BoardFault before now =
-    StopsAfter drive left tells_text (λ taken. Begins before now (shown taken)) ⊎ (tells_text → Begins before now answer.shown)
-EndsBefore tells_text answer shown drive left NoMemory before now = (left ≡ drive) × (tells_text → now ≡ before)
-EndsBefore tells_text answer shown drive left ended before now = IsShown tells_text answer (status_of ended) (line_of ended) before now
+-- a refusal, with its status and its line
+abbrev pub refused_as : Ended → Answer
+refused_as ended = refuses (status_of ended) (line_of ended)
 
 -- how the command ended where the run of its drive ended so
 abbrev pub ended_by : {T : Type 0} → Result T RunFault → Ended
@@ -88,7 +41,62 @@ ended_for texts.ReadFault = ReadFault
 ended_for (texts.Refused why) = BadTariff why
 ended_for texts.NoMemory = NoMemory
 
+-- how the command ended where its parameters weren't read
+abbrev pub ended_for_params : ParamsFault → Ended
+ended_for_params params.ReadFault = ReadFault
+ended_for_params (params.Refused why) = BadParams why
+ended_for_params params.NoMemory = NoMemory
+
+-- how the command ended where it can't be told what the store stands for
+abbrev pub store_ended : StoreFault → Ended
+store_ended (stores.BadSlot slot) = BadSlot slot
+store_ended (stores.SameNumber first second) = SameNumber first second
+store_ended stores.BoardFault = BoardFault
+
 -- why a text whose tariff has this fault wasn't read
 abbrev pub unsound_for : CheckFault → TextFault
 unsound_for checks.NoMemory = texts.NoMemory
 unsound_for fault = texts.Refused (Unsound fault)
+
+-- a call of a command, as in what holds of it, and what is said of the text that was printed: all of it, or a beginning
+module _ (c : Command) (contents left : ℕ → List ℕ) (image : List ℕ) (read_failed : ℕ → Type 0) (board_failed : Type 0)
+    (whole begun : List ℕ → Type 0) where
+  -- the last line of the course is due, and what is shown before it was printed
+  pub record IsDue (course : Course) (ended : Ended) : Type 0 where
+    pub status_is : status_of ended ≡ status_in c contents image course
+    pub line_is : line_of ended ≡ line_in c contents image course
+    pub shown : whole (shown_in c contents image course)
+
+  -- the board failed before the last line, and a beginning of the text of the course was printed
+  pub record IsBrokenOff (course : Course) (ended : Ended) : Type 0 where
+    pub ended_is : ended ≡ BoardFault
+    pub failed : board_failed
+    pub started : begun (text_in c contents image course)
+
+  -- the command took a course, and came to its last line or to a fault of the board before it
+  pub record Comes (ended : Ended) : Type 0 where
+    pub course : Course
+    pub may : MayTake c contents left image read_failed board_failed course
+    pub stands : IsDue course ended ⊎ IsBrokenOff course ended
+
+-- the same of a call that has printed nothing
+abbrev pub ComesUnprinted : Command → (contents left : ℕ → List ℕ) → List ℕ → (ℕ → Type 0) → Ended → Type 0
+ComesUnprinted c contents left image read_failed ended =
+    Comes c contents left image read_failed ⊥ (λ text. text ≡ []) (λ text. ⊥) ended
+
+-- the same of a call over the meanings of the files and of the board as a whole
+module _ {E D L : Type 0} (F : FileGhosts E) (B : Ghosts D L) where
+  abbrev pub ComesOn : Command → (files files' : E) (board board' : D) → Ended → Type 0
+  ComesOn c files files' board board' ended =
+      Comes c (F.rest files) (F.rest files') (B.image board)
+      (λ word. Rose (F.faults files word) (F.faults files' word)) (Rose (B.faults board) (B.faults board'))
+      (λ text. B.tells_text → B.printed board' ≡ B.printed board ++ text)
+      (λ text. B.tells_text → Begins (B.printed board) (B.printed board') text) ended
+
+-- the same of a call that reads no file
+module _ {D L : Type 0} (B : Ghosts D L) where
+  abbrev pub ComesFrom : Command → (contents left : ℕ → List ℕ) → (ℕ → Type 0) → (board board' : D) → Ended → Type 0
+  ComesFrom c contents left read_failed board board' ended =
+      Comes c contents left (B.image board) read_failed (Rose (B.faults board) (B.faults board'))
+      (λ text. B.tells_text → B.printed board' ≡ B.printed board ++ text)
+      (λ text. B.tells_text → Begins (B.printed board) (B.printed board') text) ended

@@ -1,7 +1,14 @@
 -- The statuses of the program, and their last lines.
 use Rattle.std.specs.Prelude.{ℕ, List, [], ◌++◌, codes, decimal}
 use Rattle.taxi_cli.specs.declared.ending.Ended.{Ended}
-use Rattle.taxi_cli.specs.declared.ending.Ended.TheVariants.{Done, BadWords, BadTariff, BadDrive, EndlessDrive, ReadFault, BoardFault, NoMemory}
+use Rattle.taxi_cli.specs.declared.ending.Ended.TheVariants.{Done, Sound, BadWords, BadTariff, NotSealed, BadSlot}
+use Rattle.taxi_cli.specs.declared.ending.Ended.TheVariants.{SameNumber, BadDrive, EndlessDrive, ReadFault}
+use Rattle.taxi_cli.specs.declared.ending.Ended.TheVariants.{BoardFault, NoMemory}
+use Rattle.taxi_cli.specs.declared.ending.Ended.TheVariants.{TripHeld, SealEnded, OtherDecimals, BadParams, Sealed}
+use Rattle.seal_store.specs.declared.params.Name.{Name}
+use Rattle.seal_store.specs.declared.params.Name.TheVariants as names
+use Rattle.seal_store.specs.declared.params.ParamFault.{ParamFault}
+use Rattle.seal_store.specs.declared.params.ParamFault.TheVariants as params
 use Rattle.taxi_cli.specs.declared.tariff.Refusal.{Refusal}
 use Rattle.taxi_cli.specs.declared.tariff.Refusal.TheVariants.{TooLong, Syntax, Unsound}
 use Rattle.tariff_check.specs.declared.fault.Dimension.{Dimension}
@@ -11,6 +18,11 @@ use Rattle.tariff_check.specs.declared.fault.CheckFault.TheVariants as faults
 
 abbrev pub bad_words_line : List ℕ
 bad_words_line = codes "BAD WORDS\n"
+
+-- how many cells a sound tariff has, and its common measure
+abbrev pub sound_line : (cells measure : ℕ) → List ℕ
+sound_line cells measure =
+    codes "OK CELLS " ++ (decimal cells ++ (codes " MEASURE " ++ (decimal measure ++ codes "\n")))
 
 -- a name and a number
 abbrev pub numbered : (name : List ℕ) → ℕ → List ℕ
@@ -50,6 +62,42 @@ bad_tariff_line (Unsound fault) = codes "BAD TARIFF " ++ (fault_text fault ++ co
 abbrev pub bad_drive_line : ℕ → List ℕ
 bad_drive_line line = codes "BAD DRIVE " ++ (decimal line ++ codes "\n")
 
+-- a slot whose body isn't read
+abbrev pub bad_slot_line : ℕ → List ℕ
+bad_slot_line slot = codes "BAD STORE " ++ (decimal slot ++ codes "\n")
+
+-- two slots of one number
+abbrev pub same_number_line : ℕ → ℕ → List ℕ
+same_number_line first second = codes "BAD STORE " ++ (decimal first ++ (codes " " ++ (decimal second ++ codes "\n")))
+
+-- the decimals of the found seal, and those of the tariff
+abbrev pub other_decimals_line : (found own : ℕ) → List ℕ
+other_decimals_line found own = codes "OTHER DECIMALS " ++ (decimal found ++ (codes " " ++ (decimal own ++ codes "\n")))
+
+-- the name of a parameter
+abbrev pub name_text : Name → List ℕ
+name_text names.Taxi = codes "Taxi"
+name_text names.Constant = codes "Constant"
+name_text names.Mode = codes "Mode"
+name_text names.Hold = codes "Hold"
+name_text names.Offset = codes "Offset"
+name_text names.Secured = codes "Secured"
+
+-- the name of a fault of parameters, and its line or the parameter
+abbrev pub param_fault_text : ParamFault → List ℕ
+param_fault_text params.TooLong = codes "TooLong"
+param_fault_text (params.Unknown line) = numbered (codes "Unknown") line
+param_fault_text (params.BadValue line) = numbered (codes "BadValue") line
+param_fault_text (params.Twice name) = codes "Twice " ++ name_text name
+param_fault_text (params.Missing name) = codes "Missing " ++ name_text name
+
+abbrev pub bad_params_line : ParamFault → List ℕ
+bad_params_line fault = codes "BAD PARAMS " ++ (param_fault_text fault ++ codes "\n")
+
+-- the number of the seal that was put in
+abbrev pub sealed_line : ℕ → List ℕ
+sealed_line number = codes "SEALED " ++ (decimal number ++ codes "\n")
+
 abbrev pub endless_drive_line : List ℕ
 endless_drive_line = codes "BAD DRIVE TOO LONG\n"
 
@@ -62,19 +110,37 @@ no_memory_line = codes "NO MEMORY\n"
 -- the status of a call that ended so
 abbrev pub status_of : Ended → ℕ
 status_of Done = 0
+status_of (Sound cells measure) = 0
 status_of BadWords = 1
 status_of (BadTariff why) = 2
+status_of NotSealed = 4
+status_of (BadSlot slot) = 5
+status_of (SameNumber first second) = 5
+status_of TripHeld = 13
+status_of SealEnded = 14
+status_of (OtherDecimals found own) = 15
+status_of (BadParams fault) = 9
+status_of (Sealed number) = 0
 status_of (BadDrive line) = 3
 status_of EndlessDrive = 3
 status_of ReadFault = 7
 status_of BoardFault = 8
 status_of NoMemory = 12
 
--- its last line: none where the output is whole, and none where the board failed
+-- its last line: none where the output was printed before, and none where the board failed
 abbrev pub line_of : Ended → List ℕ
 line_of Done = []
+line_of (Sound cells measure) = sound_line cells measure
 line_of BadWords = bad_words_line
 line_of (BadTariff why) = bad_tariff_line why
+line_of NotSealed = codes "NOT SEALED\n"
+line_of (BadSlot slot) = bad_slot_line slot
+line_of (SameNumber first second) = same_number_line first second
+line_of TripHeld = codes "TRIP HELD\n"
+line_of SealEnded = codes "SEAL ENDED\n"
+line_of (OtherDecimals found own) = other_decimals_line found own
+line_of (BadParams fault) = bad_params_line fault
+line_of (Sealed number) = sealed_line number
 line_of (BadDrive line) = bad_drive_line line
 line_of EndlessDrive = endless_drive_line
 line_of ReadFault = read_fault_line

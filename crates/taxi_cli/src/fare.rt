@@ -1,14 +1,16 @@
 //! The command `fare`.
-ghost use Rattle.std.specs.Prelude.{◌≡◌, ◌≢◌, ◌⊎◌, ℕ, ◌+◌, ◌≤◌, List, []};
+ghost use Rattle.std.specs.Prelude.{◌≡◌, ◌≢◌, ℕ, ◌≤◌};
+ghost use Rattle.meter_run.specs.Drives.{IsBoundedBy};
 ghost use Rattle.outside.specs.Faults.{Rose};
-ghost use Rattle.taxi_cli.specs.Command.{fare_answer, shown_under, tariff_in};
-ghost use Rattle.taxi_cli.specs.Drive.{IsBoundedBy};
-ghost use Rattle.taxi_cli.specs.Ending.{EndsBefore, ended_by};
 ghost use Rattle.outside.specs.Runs.{KeepsStore};
+ghost use Rattle.taxi_cli.specs.Call.{HasReadFault};
+ghost use Rattle.taxi_cli.specs.Ending.{ComesOn, ended_by};
+ghost use Rattle.taxi_cli.specs.Fare.{fare_command};
 
-use crate::drive::{RunFault, run_drive};
 use crate::ending::{Ended, refused_by};
+use crate::fare_seal::fare_seal;
 use crate::tariff::read_tariff;
+use meter_run::{RunFault, dry_run};
 use outside::{Board, Files};
 use pulse_input::Constant;
 use std::alloc::Global;
@@ -16,8 +18,8 @@ use std::sync::ledger::Ledger;
 use tariff_compile::compile;
 use taxi_units::Steps;
 
-/// Reads the tariff of word 1, and carries out the drive of word 2 under it.
-#[tactic(auto, using(outside::proofs::Laws::keeps_none, outside::proofs::Laws::keeps_print, outside::proofs::Laws::keeps_then))]
+/// Reads the tariff of word 1, and carries out the drive of word 2 under it, without a store.
+#[tactic(auto, using(crate::proofs::Run::keeps_none, crate::proofs::Run::keeps_print, crate::proofs::Run::keeps_then))]
 pub fn fare<F: Files, B: Board<L>, L: Ledger>(
     alloc: Global,
     constant: Constant,
@@ -25,12 +27,13 @@ pub fn fare<F: Files, B: Board<L>, L: Ledger>(
     board: &mut B,
     steps: &mut Steps<L>,
 ) -> Ended
-    ensures ends { F.tells → EndsBefore B.tells_text (fare_answer constant (tariff_in (F.rest files.old 1)) (F.rest files.old 2)) (shown_under constant (tariff_in (F.rest files.old 1))) (F.rest files.old 2) (F.rest files.new 2) result (B.printed board.old) (B.printed board.new) }
-    ensures steps { F.tells → IsBoundedBy 0 (F.rest files.old 2) (F.rest files.new 2) steps.old steps.new }
-    ensures read_fault { result ≡ Ended.ReadFault → Rose (F.faults files.old 1) (F.faults files.new 1) ⊎ Rose (F.faults files.old 2) (F.faults files.new 2) }
+    ensures ends { F.tells
+        → ComesOn F.Files B.Board (fare_command constant) files.old files.new board.old board.new result }
+    ensures steps { F.tells → IsBoundedBy 64 (F.rest files.old 2) (F.rest files.new 2) steps.old steps.new }
+    ensures read_fault { result ≡ Ended.ReadFault → HasReadFault F.Files (fare_command constant) files.old files.new }
     ensures board_fault { result ≡ Ended.BoardFault → Rose (B.faults board.old) (B.faults board.new) }
-    ensures words { result ≢ Ended.BadWords }
     ensures count { B.faults board.old ≤ B.faults board.new }
+    ensures others { (other : ℕ) → other ≢ 1 → other ≢ 2 → F.rest files.new other ≡ F.rest files.old other }
     ensures counts { (other : ℕ) → F.faults files.old other ≤ F.faults files.new other }
     ensures store { KeepsStore B.Board board.old board.new }
 {
@@ -41,7 +44,8 @@ pub fn fare<F: Files, B: Board<L>, L: Ledger>(
     let Ok(tables) = compile(alloc, &checked, constant) else {
         return Ended::NoMemory;
     };
-    let ran = run_drive(&tables, files, 2, board, steps);
+    let seal = fare_seal(constant, tables.decimals());
+    let ran = dry_run(&tables, &seal, files, 2, board, steps);
     ended_of(ran)
 }
 

@@ -1,18 +1,26 @@
 //! The taximeter.
 #![tactic(auto)]
 
-mod drive;
+mod check;
 mod ending;
-mod events;
 mod fare;
-mod pieces;
-mod reports;
-mod runs;
+mod fare_seal;
+#[cfg(test)]
+mod fare_tests;
+mod last_line;
+mod opening;
+mod params;
+mod seal;
+#[cfg(test)]
+mod store_tests;
+mod tables;
 mod tariff;
 #[cfg(test)]
 mod tests;
 mod text;
 mod top;
+mod totals;
+mod totals_text;
 mod words;
 
 ghost use Rattle.std.specs.Prelude.{◌≡◌, ◌<◌};

@@ -2,7 +2,7 @@
 ghost use Rattle.std.specs.Prelude.{◌≡◌, ◌≢◌, ℕ, ◌+◌, ◌-◌, ◌<◌, ◌≤◌, ◌^◌, ◌++◌, List, [], length, IfOk, OnOk, IfErr, Ok, Err, vec_len};
 ghost use Rattle.outside.specs.Faults.{Rose};
 ghost use Rattle.tariff_syntax.specs.Tree.{tree_of};
-ghost use Rattle.taxi_cli.specs.Command.{tariff_in};
+ghost use Rattle.taxi_cli.specs.Tariffs.{tariff_in};
 ghost use Rattle.taxi_cli.specs.Ending.{unsound_for};
 
 use outside::{Files, read_text};
@@ -36,9 +36,15 @@ pub enum TextFault {
 const MOST: usize = 65_536;
 
 /// Reads what is left of a word's file, where it has at most 65,536 bytes. `Refused` where it has more.
-fn text_of_word<F: Files>(alloc: Global, files: &mut F, word: usize) -> Result<Vec<u8>, TextFault>
+pub fn text_of_word<F: Files>(
+    alloc: Global,
+    files: &mut F,
+    word: usize,
+) -> Result<Vec<u8>, TextFault>
     ensures text { F.tells → IfOk result (λ text. text.items ≡ F.rest files.old word) }
-    ensures refused { (why : Refusal) → F.tells → result ≡ Err (TextFault.Refused why) → tariff_in (F.rest files.old word) ≡ Err why }
+    ensures ended { F.tells → OnOk result (F.rest files.new word ≡ []) }
+    ensures refused { (why : Refusal) → F.tells → result ≡ Err (TextFault.Refused why)
+        → tariff_in (F.rest files.old word) ≡ Err why }
     ensures read_fault { result ≡ Err TextFault.ReadFault → Rose (F.faults files.old word) (F.faults files.new word) }
     ensures others { (other : ℕ) → other ≢ word → F.rest files.new other ≡ F.rest files.old other }
     ensures counts { (other : ℕ) → F.faults files.old other ≤ F.faults files.new other }
@@ -63,7 +69,7 @@ fn unsound(fault: CheckFault) -> TextFault
 
 /// The sound tariff of a text.
 #[tactic(auto, using(crate::proofs::Tariffs::writable_of, crate::proofs::Tariffs::syntax_of))]
-fn tariff_of_text(alloc: Global, text: &[u8]) -> Result<Checked, TextFault>
+pub fn tariff_of_text(alloc: Global, text: &[u8]) -> Result<Checked, TextFault>
     ensures found { IfOk result (λ c. tariff_in text.now ≡ Ok (tree_of c)) }
     ensures refused { (why : Refusal) → result ≡ Err (TextFault.Refused why) → tariff_in text.now ≡ Err why }
     ensures read { result ≢ Err TextFault.ReadFault }
@@ -79,14 +85,16 @@ fn tariff_of_text(alloc: Global, text: &[u8]) -> Result<Checked, TextFault>
     }
 }
 
-/// Reads the tariff of a word.
+/// Reads the tariff of a word, to the end of its file where it is accepted.
 pub fn read_tariff<F: Files>(
     alloc: Global,
     files: &mut F,
     word: usize,
 ) -> Result<Checked, TextFault>
     ensures found { F.tells → IfOk result (λ c. tariff_in (F.rest files.old word) ≡ Ok (tree_of c)) }
-    ensures refused { (why : Refusal) → F.tells → result ≡ Err (TextFault.Refused why) → tariff_in (F.rest files.old word) ≡ Err why }
+    ensures ended { F.tells → OnOk result (F.rest files.new word ≡ []) }
+    ensures refused { (why : Refusal) → F.tells → result ≡ Err (TextFault.Refused why)
+        → tariff_in (F.rest files.old word) ≡ Err why }
     ensures read_fault { result ≡ Err TextFault.ReadFault → Rose (F.faults files.old word) (F.faults files.new word) }
     ensures others { (other : ℕ) → other ≢ word → F.rest files.new other ≡ F.rest files.old other }
     ensures counts { (other : ℕ) → F.faults files.old other ≤ F.faults files.new other }

@@ -31,7 +31,7 @@ fn counted<L: Ledger>(
 }
 
 /// A call of these words; the file of word 1 has the tariff, and that of word 2 the drive.
-fn call(
+pub(crate) fn call(
     alloc: Global,
     words: &[&str],
     tariff: &str,

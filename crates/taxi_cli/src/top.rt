@@ -1,15 +1,22 @@
 //! The top call: words in, a status out.
-ghost use Rattle.std.specs.Prelude.{◌≡◌, ◌≢◌, ◌⊎◌, ℕ, ◌+◌, ◌-◌, ◌≤◌, List, [], Some, None, map, string_bytes};
+ghost use Rattle.std.specs.Prelude.{◌≡◌, ◌≢◌, ◌⊎◌, ℕ, ◌+◌, ◌≤◌, None, Some, map, string_bytes};
 ghost use Rattle.outside.specs.Faults.{Rose};
-ghost use Rattle.taxi_cli.specs.Command.{ReadsDrive, bad_words, command, row_answer, row_shown, row_steps, shown_by, text_of};
-ghost use Rattle.taxi_cli.specs.Drive.{IsBoundedBy};
-ghost use Rattle.taxi_cli.specs.Ending.{EndsAs, EndsBefore, IsAnswered, IsCutShort};
-ghost use Rattle.taxi_cli.specs.Words.{row_of};
 ghost use Rattle.outside.specs.Runs.{KeepsStore};
+ghost use Rattle.taxi_cli.specs.Call.{HasReadFault, IsCall};
+ghost use Rattle.taxi_cli.specs.Command.{called, command, command_of};
+ghost use Rattle.taxi_cli.specs.Ending.{ComesOn};
+ghost use Rattle.taxi_cli.specs.LastLine.{status_of};
+ghost use Rattle.taxi_cli.specs.Opening.{opening_of};
+ghost use Rattle.taxi_cli.specs.Seal.{Rests, Seals, sealing_of};
+ghost use Rattle.taxi_cli.specs.Unwritten.{KeepsBytes, WritesNothing};
+ghost use Rattle.taxi_cli.specs.Words.{row_of};
 
+use crate::check::check_tariff;
 use crate::ending::{Ended, finish};
 use crate::fare::fare;
-use crate::reports::{check_tariff, print_tables};
+use crate::seal::seal_store;
+use crate::tables::print_tables;
+use crate::totals::print_store;
 use crate::words::{Row, row_in};
 use outside::{Board, Files};
 use std::alloc::Global;
@@ -17,7 +24,7 @@ use std::sync::ledger::Ledger;
 use taxi_units::Steps;
 
 /// Carries out a command, but for its last line.
-#[tactic(auto, using(outside::proofs::Laws::keeps_none, outside::proofs::Laws::keeps_print, outside::proofs::Laws::keeps_then))]
+#[tactic(auto, using(crate::proofs::Run::keeps_none, crate::proofs::Run::keeps_print, crate::proofs::Run::keeps_then))]
 fn carry_out<F: Files, B: Board<L>, L: Ledger>(
     alloc: Global,
     row: Row,
@@ -25,24 +32,37 @@ fn carry_out<F: Files, B: Board<L>, L: Ledger>(
     board: &mut B,
     steps: &mut Steps<L>,
 ) -> Ended
-    ensures ends { F.tells → EndsBefore B.tells_text (row_answer (Some row) (F.rest files.old 1) (F.rest files.old 2)) (row_shown (Some row) (F.rest files.old 1)) (F.rest files.old 2) (F.rest files.new 2) result (B.printed board.old) (B.printed board.new) }
-    ensures steps { F.tells → IsBoundedBy (row_steps (Some row) (F.rest files.old 1) - 1) (F.rest files.old 2) (F.rest files.new 2) steps.old steps.new }
-    ensures read_fault { result ≡ Ended.ReadFault → Rose (F.faults files.old 1) (F.faults files.new 1) ⊎ (ReadsDrive (Some row) × Rose (F.faults files.old 2) (F.faults files.new 2)) }
+    ensures ends { (command_of (Some row)).known F.tells B.tells_image
+        → ComesOn F.Files B.Board (command_of (Some row)) files.old files.new board.old board.new result }
+    ensures steps { (command_of (Some row)).steps F.tells (F.rest files.old) (F.rest files.new)
+        steps.old (steps.new + 1) }
+    ensures read_fault { result ≡ Ended.ReadFault → HasReadFault F.Files (command_of (Some row)) files.old files.new }
     ensures board_fault { result ≡ Ended.BoardFault → Rose (B.faults board.old) (B.faults board.new) }
-    ensures words { result ≢ Ended.BadWords }
+    ensures others { (word : ℕ) → ¬ (command_of (Some row)).reads word → F.rest files.new word ≡ F.rest files.old word }
     ensures count { B.faults board.old ≤ B.faults board.new }
     ensures counts { (other : ℕ) → F.faults files.old other ≤ F.faults files.new other }
-    ensures store { KeepsStore B.Board board.old board.new }
+    ensures kept { ¬ (command_of (Some row)).opens → KeepsStore B.Board board.old board.new }
+    ensures unwritten { ¬ (command_of (Some row)).writes (status_of result) → KeepsBytes B.Board board.old board.new }
+    ensures same { ¬ (command_of (Some row)).writes (status_of result) → result ≢ Ended.BoardFault
+        → B.image board.new ≡ B.image board.old }
+    ensures seals { row ≡ Row.Seal → F.tells → B.tells_image
+        → Seals B.Board (sealing_of (opening_of (B.image board.old)) (F.rest files.old 1) (F.rest files.old 2))
+        board.old board.new (status_of result) }
+    ensures rests { row ≡ Row.Seal → F.tells → B.tells_image → result ≢ Ended.BoardFault
+        → Rests B.Board (sealing_of (opening_of (B.image board.old)) (F.rest files.old 1) (F.rest files.old 2))
+        board.old board.new }
 {
     match row {
-        Row::Check => check_tariff(alloc, files, board, steps),
+        Row::Check => check_tariff(alloc, files),
         Row::Tables(k) => print_tables(alloc, k, files, board, steps),
         Row::Fare(k) => fare(alloc, k, files, board, steps),
+        Row::Totals => print_store(board, steps),
+        Row::Seal => seal_store(alloc, files, board, steps),
     }
 }
 
 /// Carries out the words of a call.
-#[tactic(auto, using(outside::proofs::Laws::keeps_none, outside::proofs::Laws::keeps_print, outside::proofs::Laws::keeps_then))]
+#[tactic(auto, using(crate::proofs::Run::keeps_none, crate::proofs::Run::keeps_print, crate::proofs::Run::keeps_then))]
 fn answer<F: Files, B: Board<L>, L: Ledger>(
     alloc: Global,
     words: &[String],
@@ -50,12 +70,21 @@ fn answer<F: Files, B: Board<L>, L: Ledger>(
     board: &mut B,
     steps: &mut Steps<L>,
 ) -> u8
-    ensures words { row_of (map string_bytes words.now) ≡ None → IsAnswered B.tells_text bad_words result (B.printed board.old) (B.printed board.new) ⊎ IsCutShort B.tells_text (text_of bad_words) result (B.printed board.old) (B.printed board.new) }
-    ensures ends { F.tells → EndsAs B.tells_text (command (map string_bytes words.now) (F.rest files.old)) (shown_by (map string_bytes words.now) (F.rest files.old)) (F.rest files.old 2) (F.rest files.new 2) result (B.printed board.old) (B.printed board.new) }
-    ensures read_fault { result ≡ 7 → Rose (F.faults files.old 1) (F.faults files.new 1) ⊎ (ReadsDrive (row_of (map string_bytes words.now)) × Rose (F.faults files.old 2) (F.faults files.new 2)) }
+    ensures call { (called (map string_bytes words.now)).known F.tells B.tells_image
+        → IsCall F.Files B.Board (called (map string_bytes words.now)) files.old files.new board.old board.new result }
+    ensures refused { row_of (map string_bytes words.now) ≡ None → files.new ≡ files.old }
+    ensures others { (word : ℕ) → ¬ (called (map string_bytes words.now)).reads word
+        → F.rest files.new word ≡ F.rest files.old word }
+    ensures read_fault { result ≡ 7 → HasReadFault F.Files (called (map string_bytes words.now)) files.old files.new }
     ensures board_fault { result ≡ 8 → Rose (B.faults board.old) (B.faults board.new) }
-    ensures steps { F.tells → IsBoundedBy (row_steps (row_of (map string_bytes words.now)) (F.rest files.old 1)) (F.rest files.old 2) (F.rest files.new 2) steps.old steps.new }
-    ensures store { KeepsStore B.Board board.old board.new }
+    ensures steps { (called (map string_bytes words.now)).steps F.tells (F.rest files.old) (F.rest files.new)
+        steps.old steps.new }
+    ensures kept { ¬ (called (map string_bytes words.now)).opens → KeepsStore B.Board board.old board.new }
+    ensures unwritten { ¬ (called (map string_bytes words.now)).writes result
+        → WritesNothing B.Board board.old board.new result }
+    ensures seals { row_of (map string_bytes words.now) ≡ Some Row.Seal → F.tells → B.tells_image
+        → Seals B.Board (sealing_of (opening_of (B.image board.old)) (F.rest files.old 1) (F.rest files.old 2))
+        board.old board.new result }
 {
     match row_in(words) {
         None => finish(Ended::BadWords, board, steps),
@@ -74,6 +103,8 @@ fn answer<F: Files, B: Board<L>, L: Ledger>(
 /// | `check TARIFF` | `OK CELLS n MEASURE m`, for a sound tariff |
 /// | `tables TARIFF CONSTANT` | the rows of its tables, with so many pulses to a kilometre |
 /// | `fare TARIFF DRIVE CONSTANT` | the displays and refusals of the drive under the tariff |
+/// | `totals` | the totals of the store |
+/// | `seal TARIFF PARAMS` | `SEALED n`, with the number of the seal that is put in |
 ///
 /// | Status | Last line | Where |
 /// |---|---|---|
@@ -81,12 +112,18 @@ fn answer<F: Files, B: Board<L>, L: Ledger>(
 /// | 1 | `BAD WORDS` | exactly: the words are no command |
 /// | 2 | `BAD TARIFF` with `TooLong`, `Syntax n`, or the fault | exactly: the tariff has more than 65,536 bytes; its line n is the first that is no line of a tariff; this is its first fault |
 /// | 3 | `BAD DRIVE n`, `BAD DRIVE TOO LONG` | exactly: line n is the first that is no line of a drive; 2^40 bytes were taken, and the end wasn't told |
+/// | 4 | `NOT SEALED` | exactly, for `totals`: the store's pair of totals or of seals is blank |
+/// | 5 | `BAD STORE s`, `BAD STORE s t` | exactly, for a command that opens the store: slot s is open, and its body isn't read; slots s and t are open, with bodies of one number |
 /// | 7 | `READ FAULT` | only where the count of faults of a file that the command reads rose |
 /// | 8 | none | only where the board's count of faults rose |
-/// | 12 | `NO MEMORY` | free, before the first byte of the drive is taken and before anything is printed |
+/// | 9 | `BAD PARAMS` with the fault | exactly: the parameters have this first fault |
+/// | 12 | `NO MEMORY` | free, before the first byte of the drive is taken and before anything is printed or written |
+/// | 13 | `TRIP HELD` | exactly: the totals of the store hold a trip |
+/// | 14 | `SEAL ENDED` | exactly: the found seal has the last number, 10^15 |
+/// | 15 | `OTHER DECIMALS x y` | exactly: the found seal has x decimals, and the tariff y |
 ///
 /// The words, the statuses and the lines are this project's own.
-#[tactic(auto, using(outside::proofs::Laws::keeps_none, outside::proofs::Laws::keeps_print, outside::proofs::Laws::keeps_then))]
+#[tactic(auto, using(crate::proofs::Run::keeps_none, crate::proofs::Run::keeps_print, crate::proofs::Run::keeps_then))]
 pub fn taxi<F: Files, B: Board<L>, L: Ledger>(
     alloc: Global,
     words: &[String],
@@ -94,23 +131,39 @@ pub fn taxi<F: Files, B: Board<L>, L: Ledger>(
     board: &mut B,
     steps: &mut Steps<L>,
 ) -> u8
-    // Refused words are answered so, whatever the files tell.
-    ensures words { row_of (map string_bytes words.now) ≡ None → IsAnswered B.tells_text bad_words result (B.printed board.old) (B.printed board.new) ⊎ IsCutShort B.tells_text (text_of bad_words) result (B.printed board.old) (B.printed board.new) }
+    // A call takes a course that its words, their files' contents and the opening image allow, and ends as it says.
+    ensures call { (called (map string_bytes words.now)).known F.tells B.tells_image
+        → IsCall F.Files B.Board (called (map string_bytes words.now)) files.old files.new board.old board.new result }
 
-    // A call ends as its words and the contents of their files say, or stops as the outside or memory makes it stop.
-    ensures ends { F.tells → EndsAs B.tells_text (command (map string_bytes words.now) (F.rest files.old)) (shown_by (map string_bytes words.now) (F.rest files.old)) (F.rest files.old 2) (F.rest files.new 2) result (B.printed board.old) (B.printed board.new) }
+    // Refused words read nothing, and no command reads a word that it doesn't name, whatever the files tell.
+    ensures refused { row_of (map string_bytes words.now) ≡ None → files.new ≡ files.old }
+    ensures others { (word : ℕ) → ¬ (called (map string_bytes words.now)).reads word
+        → F.rest files.new word ≡ F.rest files.old word }
 
-    // Each of the faults of the outside has its cause.
-    ensures read_fault { result ≡ 7 → Rose (F.faults files.old 1) (F.faults files.new 1) ⊎ (ReadsDrive (row_of (map string_bytes words.now)) × Rose (F.faults files.old 2) (F.faults files.new 2)) }
+    // Each of the faults of the outside has its cause, whatever is told.
+    ensures read_fault { result ≡ 7 → HasReadFault F.Files (called (map string_bytes words.now)) files.old files.new }
     ensures board_fault { result ≡ 8 → Rose (B.faults board.old) (B.faults board.new) }
 
     // Where no count rose, the status is that of the answer, unless memory ran out.
-    ensures complete { F.tells → ¬ (Rose (F.faults files.old 1) (F.faults files.new 1)) → ¬ (ReadsDrive (row_of (map string_bytes words.now)) × Rose (F.faults files.old 2) (F.faults files.new 2)) → ¬ (Rose (B.faults board.old) (B.faults board.new))
-        → (result ≡ (command (map string_bytes words.now) (F.rest files.old)).status) ⊎ (result ≡ 12) }
+    ensures complete { (called (map string_bytes words.now)).known F.tells B.tells_image
+        → ¬ HasReadFault F.Files (called (map string_bytes words.now)) files.old files.new
+        → ¬ Rose (B.faults board.old) (B.faults board.new)
+        → (result ≡ (command (map string_bytes words.now) (F.rest files.old) (B.image board.old)).status)
+        ⊎ ((result ≡ 12) × (called (map string_bytes words.now)).may_lack (F.rest files.old) (B.image board.old)) }
 
-    // At most 64 steps, 1 for each row of tables, and 64 for each event of the bytes of the drive that were taken.
-    ensures steps { F.tells → IsBoundedBy (row_steps (row_of (map string_bytes words.now)) (F.rest files.old 1)) (F.rest files.old 2) (F.rest files.new 2) steps.old steps.new }
-    ensures store { KeepsStore B.Board board.old board.new }
+    // One step for the last line, one for each row of tables, and 64 for each event of a drive.
+    ensures steps { (called (map string_bytes words.now)).steps F.tells (F.rest files.old) (F.rest files.new)
+        steps.old steps.new }
+
+    // The store is left alone where it isn't opened, and nothing is written but where a command may write.
+    ensures kept { ¬ (called (map string_bytes words.now)).opens → KeepsStore B.Board board.old board.new }
+    ensures unwritten { ¬ (called (map string_bytes words.now)).writes result
+        → WritesNothing B.Board board.old board.new result }
+
+    // Sealing leaves what it says, at 0 and under any cut.
+    ensures seals { row_of (map string_bytes words.now) ≡ Some Row.Seal → F.tells → B.tells_image
+        → Seals B.Board (sealing_of (opening_of (B.image board.old)) (F.rest files.old 1) (F.rest files.old 2))
+        board.old board.new result }
 {
     answer(alloc, words, files, board, steps)
 }

@@ -2,6 +2,7 @@
 ghost use Rattle.std.specs.Prelude.{◌≡◌, ℕ, ◌≤◌, Some, map, string_bytes};
 ghost use Rattle.taxi_units.specs.Reading.{Gives};
 ghost use Rattle.taxi_cli.specs.Words.{constant_of, row_of};
+ghost use Rattle.taxi_cli.specs.Words as spec;
 
 use pulse_input::Constant;
 use taxi_units::number_at;
@@ -15,6 +16,10 @@ pub enum Row {
     Tables(Constant),
     /// `fare TARIFF DRIVE CONSTANT`
     Fare(Constant),
+    /// `totals`
+    Totals,
+    /// `seal TARIFF PARAMS`
+    Seal,
 }
 
 /// The constant that a word is: 1 to 6 digits, 500 to 200,000.
@@ -30,18 +35,68 @@ fn constant(word: &[u8]) -> Option<Constant>
     }
 }
 
+/// Whether a word is this one.
+fn is_word(word: &[u8], name: &[u8]) -> bool
+    ensures { result ≡ spec.is_word word.now name.now }
+{
+    word == name
+}
+
+/// The command of one word.
+fn one_word(command: &[u8]) -> Option<Row>
+    ensures { result ≡ spec.one_word command.now }
+{
+    if is_word(command, b"totals") {
+        Some(Row::Totals)
+    } else {
+        None
+    }
+}
+
+/// The command of two words.
+fn two_words(command: &[u8]) -> Option<Row>
+    ensures { result ≡ spec.two_words command.now }
+{
+    if is_word(command, b"check") {
+        Some(Row::Check)
+    } else {
+        None
+    }
+}
+
+/// The command of three words.
+fn three_words(command: &[u8], last: &[u8]) -> Option<Row>
+    ensures { result ≡ spec.three_words command.now last.now }
+{
+    if is_word(command, b"tables") {
+        Some(Row::Tables(constant(last)?))
+    } else if is_word(command, b"seal") {
+        Some(Row::Seal)
+    } else {
+        None
+    }
+}
+
+/// The command of four words.
+fn four_words(command: &[u8], last: &[u8]) -> Option<Row>
+    ensures { result ≡ spec.four_words command.now last.now }
+{
+    if is_word(command, b"fare") {
+        Some(Row::Fare(constant(last)?))
+    } else {
+        None
+    }
+}
+
 /// The command that words are. None where the program knows none such.
 pub fn row_in(words: &[String]) -> Option<Row>
     ensures { result ≡ row_of (map string_bytes words.now) }
 {
     match words {
-        [command, _] if command.as_str() == "check" => Some(Row::Check),
-        [command, _, k] if command.as_str() == "tables" => {
-            Some(Row::Tables(constant(k.as_bytes())?))
-        }
-        [command, _, _, k] if command.as_str() == "fare" => {
-            Some(Row::Fare(constant(k.as_bytes())?))
-        }
+        [command] => one_word(command.as_bytes()),
+        [command, _] => two_words(command.as_bytes()),
+        [command, _, last] => three_words(command.as_bytes(), last.as_bytes()),
+        [command, _, _, last] => four_words(command.as_bytes(), last.as_bytes()),
         _ => None,
     }
 }

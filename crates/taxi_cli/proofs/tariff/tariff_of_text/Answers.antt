@@ -1,4 +1,4 @@
-use Rattle.std.proofs.Common.{◌≡◌, ◌∙◌, None, Ok, Err, ap, sym}
+use Rattle.std.proofs.Common.{◌≡◌, ◌∙◌, None, Ok, ap, sym}
 use Rattle.tariff_syntax.specs.Tree.{tree_of}
 use Rattle.tariff_syntax.specs.declared.tariff.Tariff.{Tariff}
 use Rattle.tariff_check.proofs.Laws.{sound_tariffs_have_sound_parts-none}

@@ -1,17 +1,47 @@
-use Rattle.std.proofs.Common.{subst, sym, Some}
-use Rattle.taxi_cli.specs.Command.{row_answer, row_shown}
-use Rattle.taxi_cli.specs.Ending.{EndsBefore}
-use Rattle.taxi_cli.specs.declared.words.Row.{Row}
+use Rattle.taxi_cli.specs.Check.{check_command}
+use Rattle.taxi_cli.specs.Totals.{totals_command}
+use Rattle.taxi_cli.proofs.Endings.{comes-unprinted, comes-unread}
 use Rattle.taxi_cli.proofs.top.carry_out.Goals as goal
 
-pub returns-in-Tables-clause-ends : goal.returns-in-Tables-clause-ends
-returns-in-Tables-clause-ends g c = λ tells.
-    let rest = g.F.Files.rest c.args.files.now in
-    subst (λ (row : Row). EndsBefore g.B.Board.tells_text (row_answer (Some row) (rest 1) (rest 2)) (row_shown (Some row) (rest 1)) (rest 2) (g.F.Files.rest c.print_tables.new.files 2) c.print_tables.result
-    (g.B.Board.printed c.args.board.now) (g.B.Board.printed c.print_tables.new.board)) (sym c.in-Tables.is) (c.print_tables.ensures.ends tells)
+pub returns-in-Check-clause-ends : goal.returns-in-Check-clause-ends
+returns-in-Check-clause-ends g c =
+    let rest = g.F.Files.rest in
+    let image = g.B.Board.image c.args.board.now in
+    rw c.in-Check.is
+    (λ tells. comes-unprinted check_command (rest c.args.files.now) (rest c.check_tariff.new.files) image _ _ _ (g.B.Board.printed c.args.board.now) c.check_tariff.result
+    (c.check_tariff.ensures.ends image tells))
 
-pub returns-in-Fare-clause-ends : goal.returns-in-Fare-clause-ends
-returns-in-Fare-clause-ends g c = λ tells.
-    let rest = g.F.Files.rest c.args.files.now in
-    subst (λ (row : Row). EndsBefore g.B.Board.tells_text (row_answer (Some row) (rest 1) (rest 2)) (row_shown (Some row) (rest 1)) (rest 2) (g.F.Files.rest c.fare.new.files 2) c.fare.result
-    (g.B.Board.printed c.args.board.now) (g.B.Board.printed c.fare.new.board)) (sym c.in-Fare.is) (c.fare.ensures.ends tells)
+pub returns-in-Totals-clause-ends : goal.returns-in-Totals-clause-ends
+returns-in-Totals-clause-ends g c =
+    let rest = g.F.Files.rest in
+    let image = g.B.Board.image c.args.board.now in
+    rw c.in-Totals.is
+    (λ tells. comes-unread totals_command (rest c.args.files.now) (rest c.args.files.now) image _ _ _ _ c.print_store.result
+    (c.print_store.ensures.ends (rest c.args.files.now) (rest c.args.files.now) tells))
+
+pub returns-in-Seal-clause-ends : goal.returns-in-Seal-clause-ends
+returns-in-Seal-clause-ends g c = rw c.in-Seal.is (λ known. c.seal_store.ensures.ends known.0 known.1)
+
+pub returns-in-Check-clause-seals : goal.returns-in-Check-clause-seals
+returns-in-Check-clause-seals g c = λ e. let is = c.in-Check.is in absurd cc
+
+pub returns-in-Check-clause-rests : goal.returns-in-Check-clause-rests
+returns-in-Check-clause-rests g c = λ e. let is = c.in-Check.is in absurd cc
+
+pub returns-in-Tables-clause-seals : goal.returns-in-Tables-clause-seals
+returns-in-Tables-clause-seals g c = λ e. let is = c.in-Tables.is in absurd cc
+
+pub returns-in-Tables-clause-rests : goal.returns-in-Tables-clause-rests
+returns-in-Tables-clause-rests g c = λ e. let is = c.in-Tables.is in absurd cc
+
+pub returns-in-Totals-clause-seals : goal.returns-in-Totals-clause-seals
+returns-in-Totals-clause-seals g c = λ e. let is = c.in-Totals.is in absurd cc
+
+pub returns-in-Totals-clause-rests : goal.returns-in-Totals-clause-rests
+returns-in-Totals-clause-rests g c = λ e. let is = c.in-Totals.is in absurd cc
+
+pub returns-in-Fare-clause-seals : goal.returns-in-Fare-clause-seals
+returns-in-Fare-clause-seals g c = λ e. let is = c.in-Fare.is in absurd cc
+
+pub returns-in-Fare-clause-rests : goal.returns-in-Fare-clause-rests
+returns-in-Fare-clause-rests g c = λ e. let is = c.in-Fare.is in absurd cc

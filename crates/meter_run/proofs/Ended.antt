@@ -1,0 +1,58 @@
+-- How a dry run ends, by what its drive came to.
+use Rattle.std.proofs.Common.{◌≡◌, ℕ, ◌≤◌, List, ◌++◌, length, Err, refl, sym, ap, subst}
+use Rattle.std.proofs.lemmas.List.{take_all}
+use Rattle.outside.specs.Printing.{Begins}
+use Rattle.taxi_units.specs.declared.event.Event.{Event}
+use Rattle.tariff_compile.specs.Tables.{TableParts}
+use Rattle.seal_store.specs.declared.seal.Seal.{Seal}
+use Rattle.drive_text.specs.Drive.{events_in}
+use Rattle.drive_text.specs.Ending.{DriveEnd, Whole, BadAt, Endless, IsSplit, ReachesEnd, drive_limit, events_of}
+use Rattle.totaliser_store.specs.States.{first_state}
+use Rattle.meter_states.specs.Run.{actions_of}
+use Rattle.meter_states.specs.Setting.{Setting, IsSettingOf}
+use Rattle.meter_run.specs.Drives.{RunsDrive, RunsTo, answer_of}
+use Rattle.meter_run.specs.Source.{EndsBy}
+use Rattle.meter_run.specs.Texts.{shown_texts}
+use Rattle.meter_run.specs.declared.fault.RunFault.TheVariants as faults
+use Rattle.meter_run.specs.declared.source.Stop.{Stop}
+use Rattle.meter_run.specs.declared.source.Stop.TheVariants as stops
+
+-- the events of the bytes that were taken are all of those that they have
+pub events_taken : (taken : List ℕ) → length taken ≤ drive_limit → events_of taken ≡ events_in taken
+events_taken taken few = ap events_in (take_all drive_limit taken few)
+
+module _ (told : Type 0) (tables : TableParts) (seal : Seal) (drive left before now : List ℕ) where
+  -- what these events show was printed
+  abbrev pub Shown : List Event → Type 0
+  Shown events = told → (s : Setting) → IsSettingOf s tables seal → now ≡ before ++ shown_texts (actions_of s first_state events)
+
+  abbrev pub ShownSome : List Event → Type 0
+  ShownSome events = told → (s : Setting) → IsSettingOf s tables seal → Begins before now (shown_texts (actions_of s first_state events))
+
+  to_end : (taken : List ℕ) (reached : DriveEnd) → ReachesEnd drive left reached (events_in taken) → Shown (events_in taken) → RunsTo told tables seal drive left before now reached
+  to_end taken reached h shown = record { end_is = h.end_is; tells = h.tells; printed = subst Shown (sym h.events_are) shown }
+
+  -- it stopped, and the supply dropped
+  pub ends : (taken : List ℕ) (stop : Stop) → length taken ≤ drive_limit → IsSplit drive taken left → EndsBy drive taken left stop → Shown (events_in taken)
+      → RunsDrive told tables seal drive left before now (answer_of stop)
+  ends taken stops.Whole few split h shown = to_end taken Whole h shown
+  ends taken (stops.BadLine line) few split h shown = to_end taken (BadAt line) h shown
+  ends taken stops.TooLong few split h shown = to_end taken Endless h shown
+  ends taken stops.ReadFault few split h shown = record { taken = taken; split = split; stands = h; printed = subst Shown (sym (events_taken taken few)) shown }
+
+  -- the board failed
+  pub breaks : (taken : List ℕ) → length taken ≤ drive_limit → IsSplit drive taken left → ShownSome (events_in taken) → RunsDrive told tables seal drive left before now {T = Unit {0}} (Err faults.BoardFault)
+  breaks taken few split shown = record { taken = taken; split = split; stands = tt; printed = subst ShownSome (sym (events_taken taken few)) shown }
+
+-- an answer that is a fault of reading comes of a read that failed, and none is a fault of the board
+pub read_fault_of : (stop : Stop) → answer_of stop ≡ Err faults.ReadFault → stop ≡ stops.ReadFault
+read_fault_of stops.Whole is = absurd cc
+read_fault_of (stops.BadLine line) is = absurd cc
+read_fault_of stops.TooLong is = absurd cc
+read_fault_of stops.ReadFault is = refl
+
+pub no_board_fault : (stop : Stop) → answer_of stop ≡ Err faults.BoardFault → ⊥
+no_board_fault stops.Whole is = absurd cc
+no_board_fault (stops.BadLine line) is = absurd cc
+no_board_fault stops.TooLong is = absurd cc
+no_board_fault stops.ReadFault is = absurd cc

@@ -1,0 +1,10 @@
+mod Committing
+mod Driving
+mod Dropping
+mod Ended
+mod Going
+mod Lines
+mod Performing
+mod Sound
+mod SoundEvents
+mod Sourcing

@@ -1,0 +1,77 @@
+use Rattle.std.proofs.Common.{◌∙◌, List, flat_map, subst, arith}
+use Rattle.taxi_units.specs.declared.event.Event.{Event}
+use Rattle.drive_text.specs.Drive.{events_in}
+use Rattle.drive_text.specs.Runs.{run_events}
+use Rattle.drive_text.specs.declared.run.Run.{Run}
+use Rattle.meter_run.specs.Drives.{IsBounded}
+use Rattle.meter_run.proofs.Driving.{breaks_amid, smaller, so_far_more, stop_at, takes_last}
+use Rattle.meter_run.proofs.Going.{on_err}
+use Rattle.meter_run.proofs.drive.carry_drive.Goals as goal
+
+pub returns-in_err-carry_runs-clause-broke_off : goal.returns-in_err-carry_runs-clause-broke_off
+returns-in_err-carry_runs-clause-broke_off g c =
+    let t = c.args.tables.now in
+    let k = c.args.seal.now in
+    let m = c.args.meter.now in
+    let b = c.args.board.now in
+    let s = c.loop-stop.invariant.so_far in
+    let new = c.carry_runs.new.board in
+    let runs = c.next-stop.new.runs.items in
+    let broken = subst (λ (rs : List Run). g.C.Carrier.broke_off t k c.loop-stop.meter c.loop-stop.board (flat_map run_events rs) new) c.as_slice.ensures.value c.in_err-carry_runs.ensures.broke_off in
+    on_err c.from_residual.result _
+    (breaks_amid g.F.Files.tells c.loop-stop.source c.next-stop.new.self (g.F.Files.rest c.args.files.now c.args.word) (g.F.Files.rest c.loop-stop.files c.args.word) (g.F.Files.rest c.next-stop.new.files c.args.word)
+    (λ (es : List Event). g.C.Carrier.carried t k m b es c.loop-stop.meter c.loop-stop.board) (λ (es : List Event). g.C.Carrier.broke_off t k m b es new)
+    c.args.steps.now c.loop-stop.steps c.carry_runs.new.steps runs c.next-stop.result s
+    (λ none. c.next-stop.ensures.more none s.given s.stands)
+    (λ x is. stop_at c.next-stop.result _ x is c.next-stop.ensures.stops s.given s.stands)
+    (λ done. g.met.C.Carrier.later t k (events_in s.given) (flat_map run_events runs) m b c.loop-stop.meter c.loop-stop.board new done broken)
+    (λ es fs h. g.met.C.Carrier.sooner t k es fs m b new h)
+    (subst (λ (rs : List Run). IsBounded c.loop-stop.steps c.carry_runs.new.steps (flat_map run_events rs)) c.as_slice.ensures.value c.carry_runs.ensures.steps))
+
+pub returns-in-Some-clause-carried : goal.returns-in-Some-clause-carried
+returns-in-Some-clause-carried g c =
+    let t = c.args.tables.now in
+    let k = c.args.seal.now in
+    let m = c.args.meter.now in
+    let b = c.args.board.now in
+    let s = c.loop-stop.invariant.so_far in
+    let runs = c.next-stop.new.runs.items in
+    let next = subst (λ (rs : List Run). g.C.Carrier.carried t k c.loop-stop.meter c.loop-stop.board (flat_map run_events rs) c.carry_runs.new.meter c.carry_runs.new.board) c.as_slice.ensures.value c.in_ok-carry_runs.ensures.carried in
+    takes_last g.F.Files.tells c.loop-stop.source (g.F.Files.rest c.args.files.now c.args.word) (g.F.Files.rest c.loop-stop.files c.args.word) (g.F.Files.rest c.next-stop.new.files c.args.word)
+    (λ (es : List Event). g.C.Carrier.carried t k m b es c.loop-stop.meter c.loop-stop.board) (λ (es : List Event). g.C.Carrier.carried t k m b es c.carry_runs.new.meter c.carry_runs.new.board)
+    c.args.steps.now c.loop-stop.steps c.carry_runs.new.steps runs c.in-Some.stop s (c.in-Some.ensures.stops s.given s.stands)
+    (λ done. g.met.C.Carrier.behind t k (events_in s.given) (flat_map run_events runs) m b c.loop-stop.meter c.loop-stop.board c.carry_runs.new.meter c.carry_runs.new.board done next)
+    (subst (λ (rs : List Run). IsBounded c.loop-stop.steps c.carry_runs.new.steps (flat_map run_events rs)) c.as_slice.ensures.value c.carry_runs.ensures.steps)
+
+pub returns-in-Some-clause-cause : goal.returns-in-Some-clause-cause
+returns-in-Some-clause-cause g c = record { later = omega (arith, c.loop-stop.invariant.faults, c.carry_runs.ensures.cause.later); failed = λ err. absurd cc }
+
+pub returns-in-Some-clause-others : goal.returns-in-Some-clause-others
+returns-in-Some-clause-others g c = λ other differs. c.next-stop.ensures.others other differs ∙ c.loop-stop.invariant.others other differs
+
+pub loop-stop-smaller : goal.loop-stop-smaller
+loop-stop-smaller g c =
+    let s = c.loop-stop.invariant.so_far in
+    smaller g.F.Files.tells c.loop-stop.source c.next-stop.new.self (g.F.Files.rest c.loop-stop.files c.args.word) (g.F.Files.rest c.next-stop.new.files c.args.word) s.given c.next-stop.new.runs.items s.stands
+    (c.next-stop.ensures.more c.in_default.is s.given s.stands)
+
+pub loop-stop-preserved : goal.loop-stop-preserved
+loop-stop-preserved g c =
+    let t = c.args.tables.now in
+    let k = c.args.seal.now in
+    let m = c.args.meter.now in
+    let b = c.args.board.now in
+    let s = c.loop-stop.invariant.so_far in
+    let runs = c.next-stop.new.runs.items in
+    let next = subst (λ (rs : List Run). g.C.Carrier.carried t k c.loop-stop.meter c.loop-stop.board (flat_map run_events rs) c.carry_runs.new.meter c.carry_runs.new.board) c.as_slice.ensures.value c.in_ok-carry_runs.ensures.carried in
+    record {
+      ready = c.in_ok-carry_runs.ensures.ready;
+      so_far = so_far_more g.F.Files.tells c.loop-stop.source c.next-stop.new.self (g.F.Files.rest c.args.files.now c.args.word) (g.F.Files.rest c.loop-stop.files c.args.word) (g.F.Files.rest c.next-stop.new.files c.args.word)
+          (λ (es : List Event). g.C.Carrier.carried t k m b es c.loop-stop.meter c.loop-stop.board) (λ (es : List Event). g.C.Carrier.carried t k m b es c.carry_runs.new.meter c.carry_runs.new.board)
+          c.args.steps.now c.loop-stop.steps c.carry_runs.new.steps runs s (c.next-stop.ensures.more c.in_default.is s.given s.stands)
+          (λ done. g.met.C.Carrier.behind t k (events_in s.given) (flat_map run_events runs) m b c.loop-stop.meter c.loop-stop.board c.carry_runs.new.meter c.carry_runs.new.board done next)
+          (subst (λ (rs : List Run). IsBounded c.loop-stop.steps c.carry_runs.new.steps (flat_map run_events rs)) c.as_slice.ensures.value c.carry_runs.ensures.steps);
+      faults = omega (arith, c.loop-stop.invariant.faults, c.carry_runs.ensures.cause.later);
+      others = λ other differs. c.next-stop.ensures.others other differs ∙ c.loop-stop.invariant.others other differs;
+      counts = λ other. omega (arith, c.loop-stop.invariant.counts other, c.next-stop.ensures.counts other);
+    }

@@ -1,0 +1,87 @@
+-- A drive that is carried out from its first byte to its end.
+use Rattle.std.specs.Prelude.{◌≡◌, ℕ, ◌+◌, ◌*◌, ◌≤◌, List, ◌++◌, length, Result, Ok, Err}
+use Rattle.outside.specs.Printing.{Begins}
+use Rattle.taxi_units.specs.declared.event.Event.{Event}
+use Rattle.drive_text.specs.Drive.{events_in}
+use Rattle.drive_text.specs.Ending.{DriveEnd, Whole, BadAt, Endless, IsGoing, IsSplit, TellsEnd, drive_end, drive_limit}
+use Rattle.tariff_compile.specs.Tables.{TableParts}
+use Rattle.seal_store.specs.declared.seal.Seal.{Seal}
+use Rattle.meter_states.specs.Setting.{Setting, IsSettingOf}
+use Rattle.meter_run.specs.Source.{EndsBy}
+use Rattle.meter_run.specs.Texts.{drive_shown}
+use Rattle.meter_run.specs.declared.fault.RunFault.{RunFault}
+use Rattle.meter_run.specs.declared.fault.RunFault.TheVariants.{ReadFault, BoardFault, BadDrive, TooLong}
+use Rattle.meter_run.specs.declared.source.Stop.{Stop}
+use Rattle.meter_run.specs.declared.source.Stop.TheVariants as stops
+
+-- events take at most 64 steps each
+abbrev pub IsBounded : (before now : ℕ) → List Event → Type 0
+IsBounded before now events = now ≤ before + 64 * length events
+
+-- ---- with whatever carries out events
+
+-- no more of the drive is read, and the events of the bytes that were taken were carried out
+pub record TakesDrive (told : Type 0) (drive left : List ℕ) (stop : Stop) (done : List Event → Type 0)
+    (before now : ℕ) : Type 0 where
+  pub taken : List ℕ
+  pub few : length taken ≤ drive_limit
+  pub split : told → IsSplit drive taken left
+  pub ends : told → EndsBy drive taken left stop
+  pub carried : done (events_in taken)
+  pub bounded : IsBounded before now (events_in taken)
+
+-- the events of the bytes that were taken broke off
+pub record BreaksDrive (told : Type 0) (drive left : List ℕ) (broken : List Event → Type 0)
+    (before now : ℕ) : Type 0 where
+  pub taken : List ℕ
+  pub few : length taken ≤ drive_limit
+  pub split : told → IsSplit drive taken left
+  pub broke_off : broken (events_in taken)
+  pub bounded : IsBounded before now (events_in taken)
+
+-- ---- what a dry run of a drive prints
+
+-- at most so many steps, and 64 for each event of the bytes of the drive that were taken
+pub record IsBoundedBy (opening : ℕ) (drive left : List ℕ) (before now : ℕ) : Type 0 where
+  pub taken : List ℕ
+  pub split : IsSplit drive taken left
+  pub bound : now ≤ before + opening + 64 * length (events_in taken)
+
+-- a call stopped when these bytes of the drive had been taken
+pub record StopsAfter (drive left : List ℕ) (state shown : List ℕ → Type 0) : Type 0 where
+  pub taken : List ℕ
+  pub split : IsSplit drive taken left
+  pub stands : state taken
+  pub printed : shown taken
+
+module _ (told : Type 0) (tables : TableParts) (seal : Seal) (drive left before now : List ℕ) where
+  -- what these bytes of the drive show was printed
+  abbrev pub Printed : (taken : List ℕ) → Type 0
+  Printed taken = told → (s : Setting) → IsSettingOf s tables seal → now ≡ before ++ drive_shown s taken
+
+  -- a beginning of it was printed
+  abbrev pub PrintedSome : (taken : List ℕ) → Type 0
+  PrintedSome taken = told → (s : Setting) → IsSettingOf s tables seal → Begins before now (drive_shown s taken)
+
+  -- the drive was carried out to this end, which the bytes that were taken tell, and what it shows was printed
+  pub record RunsTo (reached : DriveEnd) : Type 0 where
+    pub end_is : drive_end drive ≡ reached
+    pub tells : TellsEnd drive left
+    pub printed : Printed drive
+
+  -- how a dry run ends. After a read that failed what the bytes show that were taken was printed, and after a fault
+  -- of the
+  -- board a beginning of it
+  abbrev pub RunsDrive : {T : Type 0} → Result T RunFault → Type 0
+  RunsDrive (Ok done) = RunsTo Whole
+  RunsDrive (Err (BadDrive line)) = RunsTo (BadAt line)
+  RunsDrive (Err TooLong) = RunsTo Endless
+  RunsDrive (Err ReadFault) = StopsAfter drive left IsGoing Printed
+  RunsDrive (Err BoardFault) = StopsAfter drive left (λ taken. Unit {0}) PrintedSome
+
+-- the answer of a run that stopped so
+abbrev pub answer_of : Stop → Result (Unit {0}) RunFault
+answer_of stops.Whole = Ok tt
+answer_of (stops.BadLine line) = Err (BadDrive line)
+answer_of stops.TooLong = Err TooLong
+answer_of stops.ReadFault = Err ReadFault

@@ -1,0 +1,78 @@
+//! One event on the core, beside the durable state that the store has.
+ghost use Rattle.std.specs.Prelude.{◌≡◌, ◌≤◌, ◌+◌, ◌↔◌, All, IsTrue};
+ghost use Rattle.std.specs.Option.{ForSome};
+ghost use Rattle.meter_states.specs.Acts.{IsLawfulAct};
+ghost use Rattle.meter_states.specs.Core.{Meets};
+ghost use Rattle.meter_states.specs.Fits.{Fits};
+ghost use Rattle.meter_states.specs.Lawful.{IsLawful, IsTimely};
+ghost use Rattle.meter_states.specs.Meter.{Meter};
+ghost use Rattle.meter_states.specs.Setting.{Setting, IsSettingOf};
+ghost use Rattle.meter_states.specs.Step.{step};
+ghost use Rattle.taxi_units.specs.Time.{IsSecond};
+ghost use Rattle.taxi_units.specs.declared.event.Event.TheVariants.{Up};
+ghost use Rattle.taxi_units.specs.declared.event.Operating.TheVariants.{Off};
+ghost use Rattle.totaliser_store.specs.Ranges.{IsDurable};
+ghost use Rattle.meter_run.specs.Dry.{IsReady};
+ghost use Rattle.meter_run.specs.Kept.{StandsWith};
+
+use meter_states::{Acts, Core};
+use seal_store::Seal;
+use std::sync::ledger::Ledger;
+use tariff_compile::Tables;
+use taxi_units::{Event, Operating, Steps};
+use totaliser_store::Durable;
+
+/// Whether the meter is off.
+pub(crate) fn is_off(core: &Core) -> bool
+    ensures { IsTrue result ↔ (core.now.operating ≡ Off) }
+{
+    matches!(core.operating(), Operating::Off)
+}
+
+/// What an event does. An `Up` while the meter is off goes on from the durable state. At most 48 steps.
+pub(crate) fn advance<L: Ledger>(
+    core: &mut Core,
+    tables: &Tables,
+    seal: &Seal,
+    durable: &Durable,
+    event: Event,
+    steps: &mut Steps<L>,
+) -> Acts
+    requires ready { IsReady tables.now seal.now core.old durable.now }
+    requires timely { IsTimely event }
+    ensures lawful { IsLawful tables.now core.new }
+    ensures ranges { All (IsLawfulAct tables.now durable.now.number) result.items }
+    ensures meets { (s : Setting) (m : Meter) → IsSettingOf s tables.now seal.now
+        → StandsWith s core.old durable.now m → Meets s core.new result.items (step s event m) }
+    ensures steps { steps.new ≤ steps.old + 48 }
+{
+    match event {
+        Event::Up(second) => supply(core, tables, seal, durable, second, steps),
+        event => core.step(tables, seal, event, steps),
+    }
+}
+
+/// What the coming of the supply does. At most 48 steps.
+fn supply<L: Ledger>(
+    core: &mut Core,
+    tables: &Tables,
+    seal: &Seal,
+    durable: &Durable,
+    second: u64,
+    steps: &mut Steps<L>,
+) -> Acts
+    requires ready { IsReady tables.now seal.now core.old durable.now }
+    requires timely { IsSecond second }
+    ensures lawful { IsLawful tables.now core.new }
+    ensures ranges { All (IsLawfulAct tables.now durable.now.number) result.items }
+    ensures meets { (s : Setting) (m : Meter) → IsSettingOf s tables.now seal.now
+        → StandsWith s core.old durable.now m → Meets s core.new result.items (step s (Up second) m) }
+    ensures steps { steps.new ≤ steps.old + 48 }
+{
+    if !is_off(core) {
+        return core.step(tables, seal, Event::Up(second), steps);
+    }
+    let (powered, acts) = Core::resume(tables, seal, durable, second, steps);
+    *core = powered;
+    acts
+}

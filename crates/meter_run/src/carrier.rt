@@ -1,0 +1,61 @@
+//! What carries out events on a board.
+ghost use Rattle.std.specs.Prelude.{◌≡◌, ◌+◌, ◌≤◌, ◌++◌, List, [], ◌∷◌, OnOk, OnErr};
+ghost use Rattle.outside.specs.Faults.{HasCause};
+ghost use Rattle.meter_states.specs.Lawful.{IsTimely};
+
+use outside::{Board, Failed};
+use seal_store::Seal;
+use std::sync::ledger::Ledger;
+use tariff_compile::Tables;
+use taxi_units::{Event, Steps};
+
+/// A meter that carries out events on a board. What it says of them holds of one event, of none, and of
+/// one list of events behind another; so whoever goes over a drive proves it of a whole drive.
+pub(crate) trait Carrier<B: Board<L>, L: Ledger> {
+    ghost use Rattle.taxi_units.specs.declared.event.Event.{Event};
+    ghost use Rattle.tariff_compile.specs.Tables.{TableParts};
+    ghost use Rattle.seal_store.specs.declared.seal.Seal.{Seal};
+
+    /// The next event may come.
+    ghost ready: { TableParts → Seal → Self → B → Type 0 };
+
+    /// These events were carried out, from the first meter and board to the second.
+    ghost carried: { TableParts → Seal → Self → B → List Event → Self → B → Type 0 };
+
+    /// The board failed amid these events.
+    ghost broke_off: { TableParts → Seal → Self → B → List Event → B → Type 0 };
+
+    /// Carries out an event. At most 64 steps.
+    fn carry_out(
+        &mut self,
+        tables: &Tables,
+        seal: &Seal,
+        event: Event,
+        board: &mut B,
+        steps: &mut Steps<L>,
+    ) -> Result<(), Failed>
+        requires ready { ready tables.now seal.now self.old board.old }
+        requires timely { IsTimely event }
+        ensures ready { OnOk result (ready tables.now seal.now self.new board.new) }
+        ensures carried { OnOk result
+            (carried tables.now seal.now self.old board.old (event ∷ []) self.new board.new) }
+        ensures broke_off { OnErr result (broke_off tables.now seal.now self.old board.old (event ∷ []) board.new) }
+        ensures cause { HasCause (B.faults board.old) (B.faults board.new) result }
+        ensures steps { steps.new ≤ steps.old + 64 };
+
+    /// No events leave all as it is.
+    ghost nothing: { (t : TableParts) (k : Seal) (x : Self) (a : B) → ready t k x a → carried t k x a [] x a };
+
+    /// Events behind others.
+    ghost behind: { (t : TableParts) (k : Seal) (es fs : List Event) (x : Self) (a : B) (y : Self) (b : B) (z : Self)
+        (c : B)
+        → carried t k x a es y b → carried t k y b fs z c → carried t k x a (es ++ fs) z c };
+
+    /// The board failed amid events behind others.
+    ghost later: { (t : TableParts) (k : Seal) (es fs : List Event) (x : Self) (a : B) (y : Self) (b c : B)
+        → carried t k x a es y b → broke_off t k y b fs c → broke_off t k x a (es ++ fs) c };
+
+    /// The board failed before further events.
+    ghost sooner: { (t : TableParts) (k : Seal) (es fs : List Event) (x : Self) (a c : B)
+        → broke_off t k x a es c → broke_off t k x a (es ++ fs) c };
+}

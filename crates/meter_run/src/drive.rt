@@ -1,0 +1,48 @@
+//! Carries out a drive, from its first byte to where no more of it is read.
+ghost use Rattle.std.specs.Prelude.{◌≡◌, ◌≢◌, ℕ, ◌+◌, ◌*◌, ◌≤◌, List, length, IfOk, OnOk, OnErr, Ok};
+ghost use Rattle.outside.specs.Faults.{HasCause, Rose};
+ghost use Rattle.meter_run.specs.Drives.{BreaksDrive, TakesDrive};
+
+use crate::carrier::Carrier;
+use crate::runs::carry_runs;
+use crate::source::{Source, Stop};
+use arrayvec::ArrayVec;
+use drive_text::Run;
+use outside::{Board, Failed, Files};
+use seal_store::Seal;
+use std::sync::ledger::Ledger;
+use tariff_compile::Tables;
+use taxi_units::Steps;
+
+/// Reads the drive of a word, and carries out each event as soon as its line is read. The answer is why
+/// no more of the drive is read. At most 64 steps an event.
+pub(crate) fn carry_drive<C: Carrier<B, L>, F: Files, B: Board<L>, L: Ledger>(
+    meter: &mut C,
+    tables: &Tables,
+    seal: &Seal,
+    files: &mut F,
+    word: usize,
+    board: &mut B,
+    steps: &mut Steps<L>,
+) -> Result<Stop, Failed>
+    requires ready { C.ready tables.now seal.now meter.old board.old }
+    ensures ready { OnOk result (C.ready tables.now seal.now meter.new board.new) }
+    ensures carried { IfOk result (λ stop. TakesDrive F.tells (F.rest files.old word) (F.rest files.new word) stop
+        (λ events. C.carried tables.now seal.now meter.old board.old events meter.new board.new) steps.old steps.new) }
+    ensures broke_off { OnErr result (BreaksDrive F.tells (F.rest files.old word) (F.rest files.new word)
+        (λ events. C.broke_off tables.now seal.now meter.old board.old events board.new) steps.old steps.new) }
+    ensures cause { HasCause (B.faults board.old) (B.faults board.new) result }
+    ensures others { (other : ℕ) → other ≢ word → F.rest files.new other ≡ F.rest files.old other }
+    ensures read_fault { result ≡ Ok Stop.ReadFault → Rose (F.faults files.old word) (F.faults files.new word) }
+    ensures counts { (other : ℕ) → F.faults files.old other ≤ F.faults files.new other }
+{
+    let mut source = Source::new();
+    let mut runs: ArrayVec<Run, 64> = ArrayVec::new();
+    loop {
+        let stop = source.next(files, word, &mut runs);
+        carry_runs(meter, tables, seal, runs.as_slice(), board, steps)?;
+        if let Some(stop) = stop {
+            return Ok(stop);
+        }
+    }
+}

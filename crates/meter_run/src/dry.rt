@@ -1,0 +1,109 @@
+//! The meter whose durable state is a value.
+ghost use Rattle.std.specs.Prelude.{◌≡◌, ℕ, ◌+◌, ◌≤◌, ◌++◌, [], ◌∷◌, length, OnOk};
+ghost use Rattle.outside.specs.Faults.{HasCause};
+ghost use Rattle.outside.specs.Printing.{Begins};
+ghost use Rattle.outside.specs.Runs.{KeepsStore};
+ghost use Rattle.meter_run.specs.Commits.{AreFor, IsFor, after_act, after_acts};
+ghost use Rattle.meter_run.specs.Texts.{shown_text, shown_texts};
+
+use crate::advancing::advance;
+use crate::carrier::Carrier;
+use crate::printing::{print_display, print_refusal};
+use meter_states::{Act, Core};
+use outside::{Board, Failed};
+use seal_store::Seal;
+use std::sync::ledger::Ledger;
+use tariff_compile::Tables;
+use taxi_units::{Event, Steps};
+use totaliser_store::{Change, Durable};
+
+/// Carries out an act: it prints displays and refusals, and commits into the durable state.
+#[tactic(auto, using(outside::proofs::Laws::keeps_none, outside::proofs::Laws::keeps_then))]
+fn perform<B: Board<L>, L: Ledger>(
+    durable: &mut Durable,
+    act: &Act,
+    board: &mut B,
+    steps: &mut Steps<L>,
+) -> Result<(), Failed>
+    requires { IsFor durable.old act.now }
+    ensures durable { durable.new ≡ after_act durable.old act.now }
+    ensures whole { B.tells_text → OnOk result (B.printed board.new ≡ B.printed board.old ++ shown_text act.now) }
+    ensures begun { B.tells_text → Begins (B.printed board.old) (B.printed board.new) (shown_text act.now) }
+    ensures cause { HasCause (B.faults board.old) (B.faults board.new) result }
+    ensures steps { steps.new ≤ steps.old + 1 }
+    ensures store { KeepsStore B.Board board.old board.new }
+{
+    match act {
+        Act::Show(display) => print_display(display, board, steps),
+        Act::Refuse(why) => print_refusal(*why, board, steps),
+        Act::Enter(entry) => {
+            *durable = durable.after(&Change::Enter(*entry));
+            Ok(())
+        }
+        Act::Hold(trip) => {
+            *durable = durable.after(&Change::Hold(*trip));
+            Ok(())
+        }
+        Act::Receipt(_) => Ok(()),
+    }
+}
+
+/// Carries out acts, one after the other.
+#[tactic(auto, using(outside::proofs::Laws::keeps_none, outside::proofs::Laws::keeps_then))]
+fn perform_all<B: Board<L>, L: Ledger>(
+    durable: &mut Durable,
+    acts: &[Act],
+    board: &mut B,
+    steps: &mut Steps<L>,
+) -> Result<(), Failed>
+    requires { AreFor durable.old acts.now }
+    ensures durable { OnOk result (durable.new ≡ after_acts durable.old acts.now) }
+    ensures whole { B.tells_text → OnOk result (B.printed board.new ≡ B.printed board.old ++ shown_texts acts.now) }
+    ensures begun { B.tells_text → Begins (B.printed board.old) (B.printed board.new) (shown_texts acts.now) }
+    ensures cause { HasCause (B.faults board.old) (B.faults board.new) result }
+    ensures steps { steps.new ≤ steps.old + length acts.now }
+    ensures store { KeepsStore B.Board board.old board.new }
+{
+    for act in acts {
+        perform(durable, act, board, steps)?;
+    }
+    Ok(())
+}
+
+/// A meter without a store: its durable state is kept as a value.
+#[derive(Drop)]
+pub(crate) struct DryMeter {
+    pub(crate) core: Core,
+    pub(crate) durable: Durable,
+}
+
+impl<B: Board<L>, L: Ledger> Carrier<B, L> for DryMeter {
+    ghost use Rattle.meter_run.specs.Dry.{Carries, BreaksOff, IsReady};
+    ghost use Rattle.meter_run.specs.DryLaws.{breaks_later, breaks_sooner, carries_none, carries_then};
+
+    ghost ready = { λ tables seal meter board. IsReady tables seal meter.core meter.durable };
+
+    ghost carried = { λ tables seal x a events y b. Carries B.Board tables seal x a events y b };
+
+    ghost broke_off = { λ tables seal x a events b. BreaksOff B.Board tables seal x a events b };
+
+    ghost nothing = { λ t k x a ready. carries_none _ t k x a };
+
+    ghost behind = { λ t k es fs x a y b z c first next. carries_then _ t k es fs x a y b z c first next };
+
+    ghost later = { λ t k es fs x a y b c first next. breaks_later _ t k es fs x a y b c first next };
+
+    ghost sooner = { λ t k es fs x a c h. breaks_sooner _ t k es fs x a c h };
+
+    fn carry_out(
+        &mut self,
+        tables: &Tables,
+        seal: &Seal,
+        event: Event,
+        board: &mut B,
+        steps: &mut Steps<L>,
+    ) -> Result<(), Failed> {
+        let acts = advance(&mut self.core, tables, seal, &self.durable, event, steps);
+        perform_all(&mut self.durable, acts.as_slice(), board, steps)
+    }
+}

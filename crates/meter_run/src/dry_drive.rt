@@ -1,0 +1,112 @@
+//! A drive that is carried out without a store.
+ghost use Rattle.std.specs.Prelude.{◌≡◌, ◌≢◌, ℕ, ◌+◌, ◌≤◌, Err, OnOk};
+ghost use Rattle.outside.specs.Faults.{Rose};
+ghost use Rattle.outside.specs.Runs.{KeepsStore};
+ghost use Rattle.outside.specs.Faults.{HasCause};
+ghost use Rattle.meter_states.specs.Run.{ended};
+ghost use Rattle.taxi_units.specs.declared.event.Operating.TheVariants.{Off};
+ghost use Rattle.totaliser_store.specs.Ranges.{IsDurable};
+ghost use Rattle.totaliser_store.specs.States.{first_state};
+ghost use Rattle.meter_run.specs.Drives.{IsBoundedBy, RunsDrive, answer_of};
+ghost use Rattle.meter_run.specs.Dry.{IsReady, Prints, PrintsSome};
+
+use crate::advancing::is_off;
+use crate::carrier::Carrier;
+use crate::drive::carry_drive;
+use crate::dry::DryMeter;
+use crate::fault::RunFault;
+use crate::source::Stop;
+use meter_states::Core;
+use outside::{Board, Failed, Files};
+use seal_store::Seal;
+use std::sync::ledger::Ledger;
+use tariff_compile::Tables;
+use taxi_units::{Event, Steps};
+use totaliser_store::Durable;
+
+/// Reads the drive of a word to its end, and carries out each event as soon as its line is read, under
+/// tables that were compiled with the seal's constant. The durable state is a value, which begins with
+/// number 1, totals of zero and no held trip; entries and held trips change it, and an `Up` goes on from
+/// it. Displays and refusals are printed, and no receipts; the store is left as it is. At most
+/// 64 steps an event, the supply drop at the end counting as one. It takes no memory.
+///
+/// `BadDrive` with the first line that is no line of a drive; `TooLong` where 2^40 bytes were taken, none
+/// of their lines is bad, and the end wasn't told; `ReadFault` only where the count of faults of the word
+/// rose; `BoardFault` only where the board's did. At the drive's end and before each of these but
+/// `BoardFault` the supply drops, where the meter is powered; where the board fails in that, the answer is
+/// `BoardFault`. All of this is this project's own.
+pub fn dry_run<F: Files, B: Board<L>, L: Ledger>(
+    tables: &Tables,
+    seal: &Seal,
+    files: &mut F,
+    word: usize,
+    board: &mut B,
+    steps: &mut Steps<L>,
+) -> Result<(), RunFault>
+    requires constant { tables.now.constant ≡ seal.now.params.constant }
+    ensures ends { F.tells → RunsDrive B.tells_text tables.now seal.now
+        (F.rest files.old word) (F.rest files.new word) (B.printed board.old) (B.printed board.new) result }
+    ensures steps { F.tells → IsBoundedBy 64 (F.rest files.old word) (F.rest files.new word) steps.old steps.new }
+    ensures others { (other : ℕ) → other ≢ word → F.rest files.new other ≡ F.rest files.old other }
+    ensures read_fault { result ≡ Err RunFault.ReadFault → Rose (F.faults files.old word) (F.faults files.new word) }
+    ensures board_fault { result ≡ Err RunFault.BoardFault → Rose (B.faults board.old) (B.faults board.new) }
+    ensures counts { (other : ℕ) → F.faults files.old other ≤ F.faults files.new other }
+    ensures count { B.faults board.old ≤ B.faults board.new }
+    ensures store { KeepsStore B.Board board.old board.new }
+{
+    let _ = tables.measure();
+    let mut meter = begin();
+    match carry_drive(&mut meter, tables, seal, files, word, board, steps) {
+        Ok(stop) => match drop_at_end(&mut meter, tables, seal, board, steps) {
+            Ok(()) => answer(stop),
+            Err(_) => Err(RunFault::BoardFault),
+        },
+        Err(_) => Err(RunFault::BoardFault),
+    }
+}
+
+/// A meter before the supply first comes.
+fn begin() -> DryMeter
+    ensures off { result.core.operating ≡ Off }
+    ensures first { result.durable ≡ first_state }
+    ensures range { IsDurable result.durable }
+{
+    DryMeter {
+        core: Core::off(),
+        durable: Durable::zero(),
+    }
+}
+
+/// The supply drops, where the meter is powered.
+#[tactic(auto, using(outside::proofs::Laws::keeps_none))]
+fn drop_at_end<B: Board<L>, L: Ledger>(
+    meter: &mut DryMeter,
+    tables: &Tables,
+    seal: &Seal,
+    board: &mut B,
+    steps: &mut Steps<L>,
+) -> Result<(), Failed>
+    requires ready { IsReady tables.now seal.now meter.old.core meter.old.durable }
+    ensures whole { OnOk result (Prints B.Board tables.now seal.now (λ s m. ended s m) meter.old board.old board.new) }
+    ensures begun { PrintsSome B.Board tables.now seal.now (λ s m. ended s m) meter.old board.old board.new }
+    ensures cause { HasCause (B.faults board.old) (B.faults board.new) result }
+    ensures steps { steps.new ≤ steps.old + 64 }
+    ensures store { KeepsStore B.Board board.old board.new }
+{
+    if is_off(&meter.core) {
+        return Ok(());
+    }
+    meter.carry_out(tables, seal, Event::Down, board, steps)
+}
+
+/// The answer of a run that stopped so.
+fn answer(stop: Stop) -> Result<(), RunFault>
+    ensures { result ≡ answer_of stop }
+{
+    match stop {
+        Stop::Whole => Ok(()),
+        Stop::BadLine(line) => Err(RunFault::BadDrive(line)),
+        Stop::TooLong => Err(RunFault::TooLong),
+        Stop::ReadFault => Err(RunFault::ReadFault),
+    }
+}

@@ -1,0 +1,117 @@
+//! Carries out the runs of a drive.
+ghost use Rattle.std.specs.Prelude.{◌≡◌, ℕ, ◌+◌, ◌*◌, ◌≤◌, length, All, OnOk, OnErr};
+ghost use Rattle.std.specs.List.{flat_map};
+ghost use Rattle.outside.specs.Faults.{HasCause};
+ghost use Rattle.drive_text.specs.Ranges.{IsRunInRange};
+ghost use Rattle.drive_text.specs.Runs.{interval_events, intervals_events, run_events};
+ghost use Rattle.meter_run.specs.Drives.{IsBounded};
+
+use crate::carrier::Carrier;
+use drive_text::Run;
+use outside::{Board, Failed};
+use seal_store::Seal;
+use std::sync::ledger::Ledger;
+use tariff_compile::Tables;
+use taxi_units::{Event, Steps};
+
+/// Carries out one measuring interval: its pulses, if it has any, and its end.
+fn carry_interval<C: Carrier<B, L>, B: Board<L>, L: Ledger>(
+    meter: &mut C,
+    tables: &Tables,
+    seal: &Seal,
+    pulses: u32,
+    board: &mut B,
+    steps: &mut Steps<L>,
+) -> Result<(), Failed>
+    requires ready { C.ready tables.now seal.now meter.old board.old }
+    ensures ready { OnOk result (C.ready tables.now seal.now meter.new board.new) }
+    ensures carried { OnOk result
+        (C.carried tables.now seal.now meter.old board.old (interval_events pulses) meter.new board.new) }
+    ensures broke_off { OnErr result
+        (C.broke_off tables.now seal.now meter.old board.old (interval_events pulses) board.new) }
+    ensures cause { HasCause (B.faults board.old) (B.faults board.new) result }
+    ensures steps { IsBounded steps.old steps.new (interval_events pulses) }
+{
+    if pulses == 0 {
+        return meter.carry_out(tables, seal, Event::Tick, board, steps);
+    }
+    meter.carry_out(tables, seal, Event::Pulses(pulses), board, steps)?;
+    meter.carry_out(tables, seal, Event::Tick, board, steps)
+}
+
+/// Carries out so many measuring intervals.
+fn carry_intervals<C: Carrier<B, L>, B: Board<L>, L: Ledger>(
+    meter: &mut C,
+    tables: &Tables,
+    seal: &Seal,
+    pulses: u32,
+    count: u32,
+    board: &mut B,
+    steps: &mut Steps<L>,
+) -> Result<(), Failed>
+    requires ready { C.ready tables.now seal.now meter.old board.old }
+    ensures ready { OnOk result (C.ready tables.now seal.now meter.new board.new) }
+    ensures carried { OnOk result
+        (C.carried tables.now seal.now meter.old board.old (intervals_events pulses count) meter.new board.new) }
+    ensures broke_off { OnErr result
+        (C.broke_off tables.now seal.now meter.old board.old (intervals_events pulses count) board.new) }
+    ensures cause { HasCause (B.faults board.old) (B.faults board.new) result }
+    ensures steps { IsBounded steps.old steps.new (intervals_events pulses count) }
+{
+    for _ in 0..count {
+        carry_interval(meter, tables, seal, pulses, board, steps)?;
+    }
+    Ok(())
+}
+
+/// Carries out a run.
+fn carry_run<C: Carrier<B, L>, B: Board<L>, L: Ledger>(
+    meter: &mut C,
+    tables: &Tables,
+    seal: &Seal,
+    run: Run,
+    board: &mut B,
+    steps: &mut Steps<L>,
+) -> Result<(), Failed>
+    requires ready { C.ready tables.now seal.now meter.old board.old }
+    requires range { IsRunInRange run }
+    ensures ready { OnOk result (C.ready tables.now seal.now meter.new board.new) }
+    ensures carried { OnOk result
+        (C.carried tables.now seal.now meter.old board.old (run_events run) meter.new board.new) }
+    ensures broke_off { OnErr result
+        (C.broke_off tables.now seal.now meter.old board.old (run_events run) board.new) }
+    ensures cause { HasCause (B.faults board.old) (B.faults board.new) result }
+    ensures steps { IsBounded steps.old steps.new (run_events run) }
+{
+    match run {
+        Run::One(event) => meter.carry_out(tables, seal, event, board, steps),
+        Run::Many { pulses, count } => {
+            carry_intervals(meter, tables, seal, pulses, count, board, steps)
+        }
+    }
+}
+
+/// Carries out runs, one after the other.
+pub(crate) fn carry_runs<C: Carrier<B, L>, B: Board<L>, L: Ledger>(
+    meter: &mut C,
+    tables: &Tables,
+    seal: &Seal,
+    runs: &[Run],
+    board: &mut B,
+    steps: &mut Steps<L>,
+) -> Result<(), Failed>
+    requires ready { C.ready tables.now seal.now meter.old board.old }
+    requires ranges { All IsRunInRange runs.now }
+    ensures ready { OnOk result (C.ready tables.now seal.now meter.new board.new) }
+    ensures carried { OnOk result
+        (C.carried tables.now seal.now meter.old board.old (flat_map run_events runs.now) meter.new board.new) }
+    ensures broke_off { OnErr result
+        (C.broke_off tables.now seal.now meter.old board.old (flat_map run_events runs.now) board.new) }
+    ensures cause { HasCause (B.faults board.old) (B.faults board.new) result }
+    ensures steps { IsBounded steps.old steps.new (flat_map run_events runs.now) }
+{
+    for run in runs {
+        carry_run(meter, tables, seal, *run, board, steps)?;
+    }
+    Ok(())
+}

@@ -1,0 +1,43 @@
+-- Each stage of an event keeps the trip of the store.
+use Rattle.std.proofs.Common.{◌≡◌, ◌≢◌, ℕ, refl, arith}
+use Rattle.std.proofs.lemmas.Grind.{common_steps}
+use Rattle.taxi_units.specs.declared.event.Event.{Event}
+use Rattle.taxi_units.specs.declared.event.Event.TheVariants as events
+use Rattle.taxi_units.specs.declared.event.Operating.{Operating}
+use Rattle.taxi_units.specs.declared.event.Operating.TheVariants.{Off, ForHire, Hired, Stopped}
+use Rattle.meter_states.specs.Kept.{IsKept}
+use Rattle.meter_states.specs.Meter.{Meter}
+use Rattle.meter_states.specs.Setting.{Setting}
+use Rattle.meter_states.specs.Step.{off_step, powered_step, step, step_in, ticked}
+use Rattle.meter_states.specs.Supply.{supply_came, supply_dropped}
+
+kept-ticked : (s : Setting) (m : Meter) → m.operating ≢ Off → IsKept s m → IsKept s (ticked s m).next
+kept-ticked s m on kept = grind (arith, common_steps)
+
+kept-dropped : (s : Setting) (m : Meter) → m.operating ≢ Off → IsKept s m → IsKept s (supply_dropped s m).next
+kept-dropped s m on kept = grind (arith, common_steps)
+
+kept-came : (s : Setting) (second : ℕ) (m : Meter) → m.operating ≡ Off → IsKept s m → IsKept s (supply_came s second m).next
+kept-came s second m off kept = grind (arith, common_steps)
+
+kept-powered : (s : Setting) (event : Event) (m : Meter) → m.operating ≢ Off → IsKept s m → IsKept s (powered_step s event m).next
+kept-powered s events.Tick m on kept = kept-ticked s m on kept
+kept-powered s events.Down m on kept = kept-dropped s m on kept
+kept-powered s (events.Up second) m on kept = kept
+kept-powered s (events.Pulses n) m on kept = kept
+kept-powered s (events.Clock second) m on kept = grind (arith, common_steps)
+kept-powered s (events.Key key) m on kept = grind (arith, common_steps)
+
+kept-off : (s : Setting) (event : Event) (m : Meter) → m.operating ≡ Off → IsKept s m → IsKept s (off_step s event m).next
+kept-off s (events.Up second) m off kept = kept-came s second m off kept
+kept-off s event m off kept = kept
+
+kept-in : (s : Setting) (operating : Operating) (event : Event) (m : Meter) → m.operating ≡ operating → IsKept s m → IsKept s (step_in s operating event m).next
+kept-in s Off event m is kept = kept-off s event m is kept
+kept-in s ForHire event m is kept = kept-powered s event m (λ off. absurd cc) kept
+kept-in s Hired event m is kept = kept-powered s event m (λ off. absurd cc) kept
+kept-in s Stopped event m is kept = kept-powered s event m (λ off. absurd cc) kept
+
+-- each event keeps the trip of the store
+pub kept-step : (s : Setting) (event : Event) (m : Meter) → IsKept s m → IsKept s (step s event m).next
+kept-step s event m kept = kept-in s m.operating event m refl kept

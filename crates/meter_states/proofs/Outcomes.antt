@@ -1,0 +1,51 @@
+-- How stages that follow one another join, and a powered core that follows an outcome meets it.
+use Rattle.std.proofs.Common.{◌≡◌, ◌≢◌, ℕ, List, [], refl, ap, sym, append-nil, ◌∙◌, ◌⊎◌, inl, inr, subst, Option, Some, None, option_map, append_assoc}
+use Rattle.tariff_compile.specs.Tables.{TableParts}
+use Rattle.taxi_units.specs.declared.event.Operating.{Operating}
+use Rattle.taxi_units.specs.declared.event.Operating.TheVariants.{Off}
+use Rattle.totaliser_store.specs.declared.trip.Trip.{Trip}
+use Rattle.totaliser_store.specs.declared.trip.Trip as store
+use Rattle.meter_states.specs.Core.{Plain, Follows, Meets, plain_of, forgotten}
+use Rattle.meter_states.specs.Lawful.{IsPowered, HasTrip}
+use Rattle.meter_states.specs.Meter.{Meter, Outcome, ◌>>=◌, quiet}
+use Rattle.meter_states.specs.Setting.{Setting}
+use Rattle.meter_states.specs.Supply.{running}
+use Rattle.meter_states.specs.Trip as model
+use Rattle.meter_states.specs.Trip.{saved_of}
+use Rattle.meter_states.specs.declared.act.Act.{Act}
+
+not_off : (operating : Operating) (trip : Option Trip) → HasTrip operating trip → operating ≢ Off
+not_off operating trip has = λ is. subst (λ (o : Operating). HasTrip o trip) is has
+
+pub follows-meets : (s : Setting) (p : TableParts) (ticks most spare : ℕ) (core : Plain) (acts : List Act) (o : Outcome)
+    → IsPowered p ticks most spare core → Follows s core [] acts o → Meets s core acts o
+follows-meets s p ticks most spare core acts o on f =
+    let same : core.operating ≡ o.next.operating = ap (λ (c : Plain). c.operating) f.state in
+    record { state = inr ((λ is. not_off core.operating core.trip on.on (same ∙ is)), f.state); done = f.done }
+
+-- one after the other
+pub follows-then : (s : Setting) (first second : Plain) (before between acts : List Act) (o : Outcome) (f : Meter → Outcome)
+    → Follows s first before between o → Follows s second between acts (f o.next) → Follows s second before acts (o >>= f)
+follows-then s first second before between acts o f x y = record { state = y.state; done = rw x.done at y.done ∙ append_assoc before o.acts (f o.next).acts }
+
+-- a stage that does nothing
+pub quiet-follows : (s : Setting) (core : Plain) (acts : List Act) (m : Meter) → core ≡ plain_of s m → Follows s core acts acts (quiet m)
+quiet-follows s core acts m e = record { state = e; done = sym (append-nil acts) }
+
+-- where the roaming pulses are none the number doesn't matter
+pub same-or : (L : Type 0) (a b n r : ℕ) → (L × (a ≡ b)) ⊎ (r ≡ 0) → b ≡ n → (a ≡ n) ⊎ (r ≡ 0)
+same-or L a b n r (inl x) e = inl (x.1 ∙ e)
+same-or L a b n r (inr y) e = inr y
+
+-- a held trip that goes on
+pub back-stands : (s : Setting) (m : Meter) (core : Plain) (operating : Operating) (h : store.Trip) → core ≡ plain_of s (record m { trip = None }) → Some (forgotten h) ≡ option_map (saved_of s) m.trip → operating ≡ running h.stopped
+    → record core { operating = operating; position = h.position; zone = h.zone; trip = Some (forgotten h) } ≡ plain_of s (record m { operating = running h.stopped; position = h.position; zone = h.zone })
+back-stands s m core operating h e saved is =
+    let first = ap (λ (p : Plain). record p { operating = operating; position = h.position; zone = h.zone; trip = Some (forgotten h) }) e in
+    let base = plain_of s m in
+    first ∙ ap (λ (t : Option store.Trip). record base { operating = operating; position = h.position; zone = h.zone; trip = t }) saved ∙ ap (λ (o : Operating). record base { operating = o; position = h.position; zone = h.zone }) is
+
+-- a trip that the core has is that of the state
+pub trip-saved : (s : Setting) (trip : Option model.Trip) (x : store.Trip) → option_map (saved_of s) trip ≡ Some x → (t : model.Trip) × (trip ≡ Some t) × (x ≡ saved_of s t)
+trip-saved s None x e = absurd cc
+trip-saved s (Some t) x e = (t, refl, cc)

@@ -1,0 +1,86 @@
+-- A held trip that is opened is saved again as it was held.
+use Rattle.std.proofs.Common.{◌≡◌, ℕ, zero, suc, ◌+◌, ◌*◌, ◌<◌, List, [], ◌∷◌, ◌++◌, length, replicate, Option, Some, None, option_map, refl, ap, sym, subst, ◌∙◌, arith}
+use Rattle.std.proofs.lemmas.Grind.{common_steps}
+use Rattle.drive_modes.specs.declared.meterage.Meterage.{Meterage}
+use Rattle.drive_modes.specs.Fare.{saved}
+use Rattle.drive_modes.proofs.Laws.{saved-any}
+use Rattle.tariff_compile.specs.Tables.{supplement_at}
+use Rattle.tariff_syntax.specs.Tree.{Tree}
+use Rattle.totaliser_store.specs.declared.trip.Trip as store
+use Rattle.meter_states.specs.Core.{IsSavedIn, forgotten}
+use Rattle.meter_states.specs.Kept.{FitsSetting, HoldFits}
+use Rattle.meter_states.specs.Run.{numbers_from, trip_of}
+use Rattle.meter_states.specs.Setting.{Setting, modulus_of}
+use Rattle.meter_states.specs.Supplements.{amount_in, amounts_from, amounts_of, counts_from, counts_of, times}
+use Rattle.meter_states.specs.Trip.{held_trip}
+
+times-cons-same : (n : ℕ) (xs : List ℕ) → times n (n ∷ xs) ≡ times n xs + 1
+times-cons-same n xs = grind (arith, common_steps)
+
+times-cons-other : (n k : ℕ) (xs : List ℕ) → n < k → times n (k ∷ xs) ≡ times n xs
+times-cons-other n k xs below = grind (arith, common_steps)
+
+times-cons-above : (n k : ℕ) (xs : List ℕ) → k < n → times n (k ∷ xs) ≡ times n xs
+times-cons-above n k xs above = grind (arith, common_steps)
+
+-- a number that is repeated counts as often, and doesn't change how often the others are there
+times-repeated : (c n : ℕ) (xs : List ℕ) → times n (replicate c n ++ xs) ≡ c + times n xs
+times-repeated zero n xs = omega arith
+times-repeated (suc c) n xs = omega (arith, times-cons-same n (replicate c n ++ xs), times-repeated c n xs)
+
+times-past : (c n k : ℕ) (xs : List ℕ) → n < k → times n (replicate c k ++ xs) ≡ times n xs
+times-past zero n k xs below = refl
+times-past (suc c) n k xs below = times-cons-other n k (replicate c k ++ xs) below ∙ times-past c n k xs below
+
+times-earlier : (c n k : ℕ) (xs : List ℕ) → k < n → times n (replicate c k ++ xs) ≡ times n xs
+times-earlier zero n k xs above = refl
+times-earlier (suc c) n k xs above = times-cons-above n k (replicate c k ++ xs) above ∙ times-earlier c n k xs above
+
+times-none : (n k : ℕ) (cs : List ℕ) → k < n → times k (numbers_from n cs) ≡ 0
+times-none n k [] below = refl
+times-none n k (c ∷ cs) below = times-past c k n (numbers_from (n + 1) cs) below ∙ times-none (n + 1) k cs (omega arith)
+
+counts-earlier : (many c n k : ℕ) (xs : List ℕ) → k < n → counts_from many n (replicate c k ++ xs) ≡ counts_from many n xs
+unfolding counts_from
+counts-earlier zero c n k xs above = refl
+counts-earlier (suc many) c n k xs above =
+    let head = times-earlier c n k xs above in
+    let tail = counts-earlier many c (n + 1) k xs (omega arith) in
+    cc
+
+counts-numbers : (n : ℕ) (cs : List ℕ) → counts_from (length cs) n (numbers_from n cs) ≡ cs
+unfolding counts_from
+counts-numbers n [] = refl
+counts-numbers n (c ∷ cs) =
+    let none = times-none (n + 1) n cs (omega arith) in
+    let head : times n (replicate c n ++ numbers_from (n + 1) cs) ≡ c = omega (arith, times-repeated c n (numbers_from (n + 1) cs), none) in
+    let tail = counts-earlier (length cs) c (n + 1) n (numbers_from (n + 1) cs) (omega arith) ∙ counts-numbers (n + 1) cs in
+    cc
+
+amounts-repeated : (t : Tree) (c n : ℕ) (xs : List ℕ) → amounts_of t (replicate c n ++ xs) ≡ c * amount_in (supplement_at t n) + amounts_of t xs
+amounts-repeated t zero n xs = omega arith
+amounts-repeated t (suc c) n xs = grind (arith, common_steps, amounts-repeated t c n xs)
+
+amounts-numbers : (t : Tree) (n : ℕ) (cs : List ℕ) → amounts_of t (numbers_from n cs) ≡ amounts_from (supplement_at t) n cs
+amounts-numbers t n [] = refl
+amounts-numbers t n (c ∷ cs) = omega (arith, amounts-repeated t c n (numbers_from (n + 1) cs), amounts-numbers t (n + 1) cs)
+
+pub resumed-saved : (s : Setting) (h : store.Trip) → FitsSetting s h → held_trip s h.saved h.stopped h.position h.zone (trip_of s h) ≡ h
+resumed-saved s h fits =
+    let numbers = numbers_from 1 h.extras in
+    let counts : counts_of numbers ≡ h.extras = subst (λ (n : ℕ). counts_from n 1 numbers ≡ h.extras) fits.extras (counts-numbers 1 h.extras) in
+    let amounts : amounts_of s.tariff numbers ≡ h.extras_sum = amounts-numbers s.tariff 1 h.extras ∙ sym fits.extras_sum in
+    let meterage = sym (saved-any (modulus_of s) h.meterage fits.rest) in
+    let pulses : h.pulses + 0 ≡ h.pulses = omega arith in
+    let ticks : h.ticks + 0 ≡ h.ticks = omega arith in
+    let kept = saved (record { cover = h.meterage.cover_left; above = h.meterage.steps_full * modulus_of s + h.meterage.rest; modulus = modulus_of s }) 0 in
+    ap (λ (n : ℕ). record h { pulses = n; ticks = h.ticks + 0; meterage = kept; extras = counts_of numbers; extras_sum = amounts_of s.tariff numbers }) pulses
+    ∙ ap (λ (n : ℕ). record h { ticks = n; meterage = kept; extras = counts_of numbers; extras_sum = amounts_of s.tariff numbers }) ticks
+    ∙ ap (λ (m : Meterage). record h { meterage = m; extras = counts_of numbers; extras_sum = amounts_of s.tariff numbers }) meterage
+    ∙ ap (λ (xs : List ℕ). record h { extras = xs; extras_sum = amounts_of s.tariff numbers }) counts
+    ∙ ap (λ (n : ℕ). record h { extras_sum = n }) amounts
+
+-- what a run begins with
+pub begins : (s : Setting) (hold : Option store.Trip) → HoldFits s hold → IsSavedIn s hold (option_map (trip_of s) hold)
+begins s None fits = refl
+begins s (Some h) fits = sym (ap (λ (x : store.Trip). Some (forgotten x)) (resumed-saved s h fits))

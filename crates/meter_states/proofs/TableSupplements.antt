@@ -1,0 +1,85 @@
+-- The supplements of tables are those of the tariff.
+use Rattle.std.proofs.Common.{◌≡◌, ◌≢◌, ℕ, zero, suc, ltb, Bool, true, ◌+◌, ◌<◌, ◌≤◌, ◌==◌, List, [], ◌∷◌, Option, Some, None, false, All, get_or, length, refl, ap, sym, ◌∙◌, arith}
+use Rattle.std.specs.Option.{option_map}
+use Rattle.std.proofs.lemmas.Bool.{ltb-false, ltb-true, ne_eqb}
+use Rattle.std.proofs.lemmas.List.Elements.{All-head, All-tail}
+use Rattle.std.proofs.lemmas.List.FromFn.{get_or-map-range_with_len, length-map-range_with_len}
+use Rattle.std.proofs.lemmas.List.{get_or_past}
+use Rattle.tariff_check.proofs.Laws.{sound_tariffs_have_sound_parts-parts}
+use Rattle.tariff_check.specs.Faults.{IsSound}
+use Rattle.tariff_check.specs.Parts.{SupplementNumbers, supplement_of, supplement_part}
+use Rattle.tariff_compile.specs.Tables.{IsCompiled, IsTablesOf, TableParts, supplement_at}
+use Rattle.tariff_compile.specs.Tables as tables
+use Rattle.tariff_syntax.specs.Parts.{parts}
+use Rattle.tariff_syntax.specs.Tree.{Tree, Line, Entry, supplement}
+use Rattle.tariff_syntax.specs.Writable.{IsFromTo, IsWritable, IsWritableEntry}
+use Rattle.meter_states.specs.Supplements.{amount_in, most_in, supplement_in}
+use Rattle.meter_states.proofs.Amounts.{AreBounded}
+
+no_such_line : (n : ℕ) (entry : Entry) → (IsFromTo 1 16 n → ⊥) → IsWritableEntry entry → supplement_part n entry ≡ None
+no_such_line n (supplement number amount most) out writable =
+    let other : n == number ≡ false = ne_eqb n number (λ same. out (rw same writable.0)) in
+    rw other refl
+no_such_line n entry out writable = refl
+
+no_such_lines : (n : ℕ) (lines : List Line) → (IsFromTo 1 16 n → ⊥) → All (λ (l : Line). IsWritableEntry l.entry) lines → parts (supplement_part n) lines ≡ []
+no_such_lines n [] out writable = refl
+no_such_lines n (l ∷ ls) out writable =
+    let P = λ (l : Line). IsWritableEntry l.entry in
+    rw (no_such_line n l.entry out (All-head P l ls writable)) (no_such_lines n ls out (All-tail P l ls writable))
+
+-- a tariff has no supplement of another number than 1 to 16
+pub supplement-none : (t : Tree) (n : ℕ) → IsWritable t → (IsFromTo 1 16 n → ⊥) → supplement_at t n ≡ None
+supplement-none t n writable out =
+    let none : supplement_of t.lines n ≡ None = rw (no_such_lines n t.lines out writable.lines) refl in
+    ap (λ (o : Option SupplementNumbers). option_map tables.supplement_in o) none
+
+-- the supplements of tables
+all-there : (t : Tree) (p : TableParts) (place : ℕ) → IsTablesOf t p → place < 16 → get_or p.supplements place None ≡ supplement_at t (place + 1)
+all-there t p place is within =
+    ap (λ (q : TableParts). get_or q.supplements place None) is.parts
+    ∙ get_or-map-range_with_len (λ (i : ℕ). supplement_at t (i + 1)) 0 16 place place None within (omega arith)
+
+all-past : (t : Tree) (p : TableParts) (place : ℕ) → IsTablesOf t p → 16 ≤ place → get_or p.supplements place None ≡ None
+all-past t p place is past =
+    let long : length p.supplements ≡ 16 = ap (λ (q : TableParts). length q.supplements) is.parts ∙ length-map-range_with_len (λ (i : ℕ). supplement_at t (i + 1)) 0 16 in
+    get_or_past p.supplements place None (omega arith)
+
+supplement-by : (t : Tree) (p : TableParts) (place : ℕ) (within : Bool) → IsTablesOf t p → ltb place 16 ≡ within → get_or p.supplements place None ≡ supplement_at t (suc place)
+supplement-by t p place true is e =
+    let same : place + 1 ≡ suc place = omega arith in
+    all-there t p place is (ltb-true place 16 e) ∙ ap (supplement_at t) same
+supplement-by t p place false is e =
+    let past : 16 ≤ place = ltb-false place 16 e in
+    all-past t p place is past ∙ sym (supplement-none t (suc place) is.writable (λ range. absurd (omega (arith, range.1, past))))
+
+-- in the tables a number has the supplement that it has in the tariff
+pub supplement-in : (t : Tree) (p : TableParts) (n : ℕ) → IsTablesOf t p → supplement_in p n ≡ supplement_at t n
+supplement-in t p zero is = sym (supplement-none t 0 is.writable (λ range. absurd (omega (arith, range.0))))
+supplement-in t p (suc place) is = supplement-by t p place (ltb place 16) is refl
+
+in-range : (n : ℕ) (least most : Bool) → ltb 0 n ≡ least → ltb 16 n ≡ most → ((IsFromTo 1 16 n → ⊥) → ⊥) → IsFromTo 1 16 n
+in-range n true false e f some = (omega (arith, ltb-true 0 n e), ltb-false 16 n f)
+in-range n true true e f some = absurd (some (λ range. absurd (omega (arith, range.1, ltb-true 16 n f))))
+in-range n false most e f some = absurd (some (λ range. absurd (omega (arith, range.0, ltb-false 0 n e))))
+
+-- a number that has one is 1 to 16
+pub supplement-number : (t : Tree) (n : ℕ) → IsWritable t → supplement_at t n ≢ None → IsFromTo 1 16 n
+supplement-number t n writable some = in-range n (ltb 0 n) (ltb 16 n) refl refl (λ out. some (supplement-none t n writable out))
+
+-- each keeps to its limits
+bounded-by : (t : Tree) (n : ℕ) (found : Option SupplementNumbers) → IsWritable t → IsSound t → supplement_of t.lines n ≡ found
+    → (amount_in (option_map tables.supplement_in found) ≤ 1000000) × (most_in (option_map tables.supplement_in found) ≤ 99)
+bounded-by t n None writable sound e = (omega arith, omega arith)
+bounded-by t n (Some x) writable sound e =
+    let limits = (sound_tariffs_have_sound_parts-parts t writable sound).supplements n x e in
+    (omega (arith, limits.amount), limits.most.1)
+
+pub bounded : (p : TableParts) → IsCompiled p → AreBounded (supplement_in p)
+bounded p compiled =
+    let t = compiled.0 in
+    let is = compiled.1 in
+    record {
+      amount = λ n. rw (supplement-in t p n is) (bounded-by t n (supplement_of t.lines n) is.writable is.sound refl).0;
+      most = λ n. rw (supplement-in t p n is) (bounded-by t n (supplement_of t.lines n) is.writable is.sound refl).1;
+    }

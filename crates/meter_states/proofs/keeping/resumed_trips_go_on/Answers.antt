@@ -1,0 +1,9 @@
+use Rattle.meter_states.proofs.Fares.{fare-resumed}
+use Rattle.meter_states.proofs.Resumed.{resumed-saved}
+use Rattle.meter_states.proofs.keeping.resumed_trips_go_on.Goals as goal
+
+pub returns-clause-saved : goal.returns-clause-saved
+returns-clause-saved c = resumed-saved
+
+pub returns-clause-fare : goal.returns-clause-fare
+returns-clause-fare c = fare-resumed

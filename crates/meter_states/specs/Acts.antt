@@ -1,0 +1,41 @@
+-- The ranges of what the meter does.
+use Rattle.std.specs.Prelude.{◌≡◌, ℕ, ◌+◌, ◌≤◌, false}
+use Rattle.tariff_compile.specs.Tables.{TableParts}
+use Rattle.taxi_units.specs.Shown.{IsShown, IsReceipt}
+use Rattle.totaliser_store.specs.Entries.{closes}
+use Rattle.totaliser_store.specs.Ranges.{last_number, IsDurable, IsEntry, IsTrip}
+use Rattle.totaliser_store.specs.States.{after}
+use Rattle.totaliser_store.specs.declared.change.Change.TheVariants as changes
+use Rattle.totaliser_store.specs.declared.durable.Durable.{Durable}
+use Rattle.totaliser_store.specs.declared.entry.Entry as store
+use Rattle.totaliser_store.specs.declared.trip.Trip.{Trip}
+use Rattle.meter_states.specs.Fits.{Fits}
+use Rattle.meter_states.specs.declared.act.Act.{Act}
+use Rattle.meter_states.specs.declared.act.Act.TheVariants.{Show, Refuse, Enter, Hold, Receipt}
+
+-- an entry where the store has this number; roaming leaves room for the entry of a trip
+pub record IsEntryBeside (number : ℕ) (entry : store.Entry) : Type 0 where
+  pub room : number ≤ last_number
+  pub range : IsEntry entry
+  pub roaming : closes entry ≡ false → number + 1 ≤ last_number
+
+-- a trip is held beside the number after, and fits
+pub record IsHoldBeside (tables : TableParts) (number : ℕ) (trip : Trip) : Type 0 where
+  pub room : number + 1 ≤ last_number
+  pub range : IsTrip (number + 1) trip
+  pub fits : Fits tables trip
+
+-- an act is in its ranges where the store has this number: what it shows or prints has a text, and what it commits
+-- keeps the ranges of the store
+abbrev pub IsLawfulAct : TableParts → (number : ℕ) → Act → Type 0
+IsLawfulAct tables number (Show display) = IsShown display
+IsLawfulAct tables number (Refuse why) = Unit {0}
+IsLawfulAct tables number (Enter entry) = IsEntryBeside number entry
+IsLawfulAct tables number (Hold trip) = IsHoldBeside tables number trip
+IsLawfulAct tables number (Receipt receipt) = IsReceipt receipt
+
+-- the store's state after a commit is in its ranges
+abbrev pub KeepsRanges : Durable → Act → Type 0
+KeepsRanges durable (Enter entry) = IsDurable (after durable (changes.Enter entry))
+KeepsRanges durable (Hold trip) = IsDurable (after durable (changes.Hold trip))
+KeepsRanges durable act = Unit {0}

@@ -1,0 +1,87 @@
+-- Entries: of a trip that is closed, with its receipt directly behind, and of roaming.
+use Rattle.std.specs.Prelude.{ℕ, Option, Some, None, sum, [], if◌then◌else◌, nat_le}
+use Rattle.pulse_input.specs.Distance.{millimetres_of}
+use Rattle.taxi_units.specs.declared.event.Operating.{Operating}
+use Rattle.taxi_units.specs.declared.event.Operating.TheVariants.{ForHire}
+use Rattle.taxi_units.specs.declared.receipt.Kind.{Kind}
+use Rattle.taxi_units.specs.declared.receipt.Kind.TheVariants.{Roam}
+use Rattle.taxi_units.specs.declared.receipt.Receipt.{Receipt}
+use Rattle.totaliser_store.specs.declared.entry.Entry.{Entry}
+use Rattle.meter_states.specs.Meter.{Meter, Outcome, ◌>>=◌, quiet, entered, printed}
+use Rattle.meter_states.specs.Setting.{Setting, stamp_at, step_of}
+use Rattle.meter_states.specs.Supplements.{amounts_of}
+use Rattle.meter_states.specs.Trip.{Trip, fare_of, pulses_of, steps_shown}
+
+-- the entry of a trip that is closed at a tariff position
+abbrev pub entry_of : Setting → Kind → (position : ℕ) → Trip → Entry
+entry_of s kind position t = record {
+  kind = kind;
+  roam_mm = millimetres_of s.constant t.roam;
+  hired_mm = millimetres_of s.constant (pulses_of t);
+  fare = fare_of s t;
+  supplements = amounts_of s.tariff t.extras;
+  position = position;
+}
+
+-- its receipt, with the store's number after the entry
+abbrev pub receipt_of : Setting → Kind → (finish position : ℕ) → Trip → (number : ℕ) → Receipt
+receipt_of s kind finish position t number = record {
+  number = number;
+  kind = kind;
+  start = stamp_at s t.started;
+  finish = stamp_at s finish;
+  position = position;
+  hired_mm = millimetres_of s.constant (pulses_of t);
+  initial = t.initial;
+  minimum = t.minimum;
+  steps = steps_shown s t;
+  step = step_of s;
+  fare = fare_of s t;
+  supplements = amounts_of s.tariff t.extras;
+  decimals = s.tariff.decimals;
+}
+
+-- a trip is entered, and directly behind it the receipt is printed
+abbrev pub trip_closed : Setting → Kind → (finish : ℕ) → Option Trip → Meter → Outcome
+trip_closed s kind finish None m = quiet m
+trip_closed s kind finish (Some t) m = do
+  m ← entered (entry_of s kind m.position t) m
+  printed (receipt_of s kind finish m.position t m.durable.number) m
+
+-- the meter closes its trip, and is for hire
+abbrev pub closed : Setting → Kind → (finish : ℕ) → Meter → Outcome
+closed s kind finish m = trip_closed s kind finish m.trip (record m { operating = ForHire; trip = None })
+
+-- the store takes no hiring and no roaming from this number on, and no held trip from the other
+abbrev pub hirings_end : ℕ
+hirings_end = 1000000000000000
+
+abbrev pub holds_end : ℕ
+holds_end = 2000000000000000
+
+-- roaming pulses are entered from so many on
+abbrev pub roaming_most : ℕ
+roaming_most = 1000000
+
+-- the entry of roaming has its distance alone
+abbrev pub roaming_entry : Setting → (pulses : ℕ) → Entry
+roaming_entry s pulses = record {
+  kind = Roam;
+  roam_mm = millimetres_of s.constant pulses;
+  hired_mm = 0;
+  fare = 0;
+  supplements = 0;
+  position = 0;
+}
+
+-- roaming pulses are entered, and are then none
+abbrev pub roaming_entered : Setting → Meter → Outcome
+roaming_entered s m = entered (roaming_entry s (sum m.roaming)) (record m { roaming = [] })
+
+-- they are entered for hire where they are many
+abbrev pub roaming_checked_in : Setting → Operating → Meter → Outcome
+roaming_checked_in s ForHire m = if nat_le roaming_most (sum m.roaming) then roaming_entered s m else quiet m
+roaming_checked_in s operating m = quiet m
+
+abbrev pub roaming_checked : Setting → Meter → Outcome
+roaming_checked s m = roaming_checked_in s m.operating m

@@ -1,0 +1,90 @@
+-- The measuring interval: its pulses, the context of its beginning, and what it becomes at its end.
+use Rattle.std.specs.Prelude.{ℕ, ◌-◌, List, [], ◌∷◌, ◌++◌, Option, Some, None, option_map, sum, min, if◌then◌else◌, nat_lt}
+use Rattle.interval_clock.specs.declared.local_time.LocalTime.{LocalTime}
+use Rattle.tariff_calendar.specs.Lists.{is_holiday}
+use Rattle.tariff_syntax.specs.declared.context.Context.{Context}
+use Rattle.taxi_units.specs.declared.event.Operating.{Operating}
+use Rattle.taxi_units.specs.declared.event.Operating.TheVariants.{Off, ForHire, Hired, Stopped}
+use Rattle.taxi_units.specs.declared.event.Why.TheVariants.{TooFast}
+use Rattle.meter_states.specs.Closing.{hirings_end}
+use Rattle.meter_states.specs.Meter.{Meter, Outcome, quiet}
+use Rattle.meter_states.specs.Setting.{Setting, local_at}
+use Rattle.meter_states.specs.Trip.{Trip, Part, InHired, InStopped, Rest, with_part, pulses_of, ticks_of}
+use Rattle.meter_states.specs.declared.act.Act.TheVariants.{Refuse}
+
+-- an interval has at most 2,000 pulses: so many more has it room for
+abbrev pub room_of : Meter → ℕ
+room_of m = 2000 - sum m.taken
+
+-- the interval takes the pulses that it has room for, and the others are refused
+abbrev pub pulses_taken : ℕ → Meter → Outcome
+pulses_taken n m = record {
+  next = record m { taken = m.taken ++ min n (room_of m) ∷ [] };
+  acts = if nat_lt 0 (n - room_of m) then Refuse (TooFast (n - room_of m)) ∷ [] else [];
+}
+
+-- the pulses and the ticks of the trip so far
+abbrev pub pulses_so_far : Option Trip → ℕ
+pulses_so_far None = 0
+pulses_so_far (Some t) = pulses_of t
+
+abbrev pub ticks_so_far : Option Trip → ℕ
+ticks_so_far None = 0
+ticks_so_far (Some t) = ticks_of t
+
+-- the context at a local time
+abbrev pub context_on : Setting → LocalTime → Meter → Context
+context_on s local m = record {
+  constant = s.constant;
+  position = m.position;
+  zone = m.zone;
+  weekday = local.weekday;
+  month_day = local.month_day;
+  holiday = is_holiday s.tariff.lines local.year local.month local.date;
+  minute = local.minute;
+  pulses = pulses_so_far m.trip;
+  ticks = ticks_so_far m.trip;
+}
+
+-- the context at the beginning of the running interval
+abbrev pub context_of : Setting → Meter → Context
+context_of s m = context_on s (local_at s m.began) m
+
+-- the context at the clock's second
+abbrev pub context_now : Setting → Meter → Context
+context_now s m = context_on s (local_at s m.clock) m
+
+-- the trip has an interval more
+abbrev pub with_interval : Part → Meter → Meter
+with_interval part m = record m { taken = []; trip = option_map (with_part part) m.trip }
+
+-- roaming pulses count while the store takes hirings
+abbrev pub roaming_with : (pulses : ℕ) → Meter → List ℕ
+roaming_with pulses m = if nat_lt m.durable.number hirings_end then m.roaming ++ pulses ∷ [] else m.roaming
+
+abbrev pub with_roaming : (pulses : ℕ) → Meter → Meter
+with_roaming pulses m = record m { taken = []; roaming = roaming_with pulses m }
+
+-- the interval ends: it roams for hire, it is charged in Hired, and it passes in Stopped
+abbrev pub counted_in : Setting → Operating → (pulses : ℕ) → Meter → Meter
+counted_in s Off pulses m = m
+counted_in s ForHire pulses m = with_roaming pulses m
+counted_in s Hired pulses m = with_interval (InHired pulses (context_of s m)) m
+counted_in s Stopped pulses m = with_interval (InStopped pulses) m
+
+abbrev pub interval_counted : Setting → Meter → Outcome
+interval_counted s m = quiet (counted_in s m.operating (sum m.taken) m)
+
+-- a supply drop leaves the interval unfinished: it is not charged and counts no tick
+abbrev pub left_in : Operating → (pulses : ℕ) → Meter → Meter
+left_in Off pulses m = m
+left_in ForHire pulses m = with_roaming pulses m
+left_in Hired pulses m = with_interval (Rest pulses) m
+left_in Stopped pulses m = with_interval (Rest pulses) m
+
+abbrev pub interval_left : Meter → Outcome
+interval_left m = quiet (left_in m.operating (sum m.taken) m)
+
+-- the next interval begins, at the clock's second
+abbrev pub interval_begun : Meter → Outcome
+interval_begun m = quiet (record m { began = m.clock })

@@ -1,0 +1,80 @@
+-- Keys: one may wait for the end of the interval, and acts then.
+use Rattle.std.specs.Prelude.{ℕ, Bool, ◌&&◌, [], Option, Some, None, sum, if◌then◌else◌, nat_le}
+use Rattle.tariff_check.specs.Parts.{positions_of, zones_of}
+use Rattle.tariff_compile.specs.Tables.{initial_by, supplement_at}
+use Rattle.tariff_compile.specs.declared.parts.Supplement.{Supplement}
+use Rattle.taxi_units.specs.declared.event.Key.{Key}
+use Rattle.taxi_units.specs.declared.event.Key.TheVariants as keys
+use Rattle.taxi_units.specs.declared.event.Operating.{Operating}
+use Rattle.taxi_units.specs.declared.event.Operating.TheVariants.{ForHire, Hired, Stopped}
+use Rattle.taxi_units.specs.declared.event.Why.TheVariants.{NotNow, KeyWaiting, NoSuch, AtMost, Ended}
+use Rattle.taxi_units.specs.declared.receipt.Kind.TheVariants.{Closed}
+use Rattle.meter_states.specs.Closing.{closed, hirings_end}
+use Rattle.meter_states.specs.Interval.{context_now}
+use Rattle.meter_states.specs.Meter.{Meter, Outcome, quiet, refused}
+use Rattle.meter_states.specs.Setting.{Setting}
+use Rattle.meter_states.specs.Supplements.{times}
+use Rattle.meter_states.specs.Trip.{Trip, begun, with_extra}
+
+-- a key waits, where none does
+abbrev pub latched : Option Key → Key → Meter → Outcome
+latched None key m = quiet (record m { latch = Some key })
+latched (Some waiting) key m = refused KeyWaiting m
+
+-- a trip begins at the clock's second, with the initial hire fee and the minimum fare that the tariff's text names
+-- there; it takes the roaming pulses
+abbrev pub hired : Setting → Meter → Meter
+hired s m = record m {
+  operating = Hired;
+  trip = Some (begun s (initial_by s.tariff (context_now s m)) m.clock (sum m.roaming));
+  roaming = [];
+}
+
+-- the key Hire, for hire
+abbrev pub hiring : Setting → Meter → Outcome
+hiring s m = if nat_le hirings_end m.durable.number then refused Ended m else quiet (hired s m)
+
+-- a number is from 1 to the most
+abbrev pub is_among : (most n : ℕ) → Bool
+is_among most n = nat_le 1 n && nat_le n most
+
+abbrev pub position_set : Setting → (n : ℕ) → Meter → Outcome
+position_set s n m =
+    if is_among (positions_of s.tariff.lines) n then quiet (record m { position = n }) else refused NoSuch m
+
+abbrev pub zone_set : Setting → (n : ℕ) → Meter → Outcome
+zone_set s n m = if is_among (zones_of s.tariff.lines) n then quiet (record m { zone = n }) else refused NoSuch m
+
+-- a supplement that the tariff has is added to a trip, up to its most
+abbrev pub extra_added_to : (n : ℕ) → Supplement → Option Trip → Meter → Outcome
+extra_added_to n supplement None m = quiet m
+extra_added_to n supplement (Some t) m =
+    if nat_le supplement.max (times n t.extras)
+    then refused AtMost m
+    else quiet (record m { trip = Some (with_extra n t) })
+
+abbrev pub extra_added : (n : ℕ) → Option Supplement → Meter → Outcome
+extra_added n None m = refused NoSuch m
+extra_added n (Some supplement) m = extra_added_to n supplement m.trip m
+
+-- what a key does in an operating position
+abbrev pub key_in : Setting → Key → Operating → Meter → Outcome
+key_in s keys.Hire ForHire m = hiring s m
+key_in s keys.Hire Stopped m = quiet (record m { operating = Hired })
+key_in s keys.Stop Hired m = quiet (record m { operating = Stopped })
+key_in s keys.Clear Stopped m = closed s Closed m.clock m
+key_in s (keys.Position n) ForHire m = position_set s n m
+key_in s (keys.Position n) Hired m = position_set s n m
+key_in s (keys.Zone n) ForHire m = zone_set s n m
+key_in s (keys.Zone n) Hired m = zone_set s n m
+key_in s (keys.Extra n) Hired m = extra_added n (supplement_at s.tariff n) m
+key_in s (keys.Extra n) Stopped m = extra_added n (supplement_at s.tariff n) m
+key_in s key operating m = refused NotNow m
+
+-- a key that waits leaves the latch and acts
+abbrev pub latch_pressed : Setting → Option Key → Meter → Outcome
+latch_pressed s None m = quiet m
+latch_pressed s (Some key) m = key_in s key m.operating (record m { latch = None })
+
+abbrev pub key_pressed : Setting → Meter → Outcome
+key_pressed s m = latch_pressed s m.latch m

@@ -1,0 +1,91 @@
+-- Which cores are lawful.
+use Rattle.std.specs.Prelude.{◌≡◌, ◌≢◌, ◌⊎◌, Bool, true, false, ℕ, ◌+◌, ◌*◌, ◌<◌, ◌≤◌, Option, Some, None, length}
+use Rattle.tariff_compile.specs.Tables.{TableParts}
+use Rattle.taxi_units.specs.Time.{IsSecond}
+use Rattle.taxi_units.specs.declared.event.Event.{Event}
+use Rattle.taxi_units.specs.declared.event.Event.TheVariants as events
+use Rattle.taxi_units.specs.declared.event.Operating.{Operating}
+use Rattle.taxi_units.specs.declared.event.Operating.TheVariants.{Off, ForHire, Hired, Stopped}
+use Rattle.totaliser_store.specs.declared.trip.Trip.{Trip}
+use Rattle.meter_states.specs.Core.{Plain}
+use Rattle.meter_states.specs.Supplements.{AreAllowed, amounts_from, supplement_in}
+
+-- an event's second is one of the years 2000 to 2199
+abbrev pub IsTimely : Event → Type 0
+IsTimely (events.Up second) = IsSecond second
+IsTimely (events.Clock second) = IsSecond second
+IsTimely event = Unit {0}
+
+-- a trip of at most so many ticks that fits the tables, with its numbers in their ranges
+pub record IsTrip (tables : TableParts) (most : ℕ) (trip : Trip) : Type 0 where
+  pub started : IsSecond trip.started
+  pub roam : trip.roam ≤ 1001999
+  pub ticks : trip.ticks ≤ most
+  pub initial : trip.initial ≤ 99999999
+  pub minimum : trip.minimum ≤ 99999999
+  pub cover : trip.meterage.cover_left ≤ 99999999 * tables.measure
+  pub steps : trip.meterage.steps_full ≤ 41000000000 * trip.ticks
+  pub rest : trip.meterage.rest < tables.step * tables.measure
+  pub extras : length trip.extras ≡ 16
+  pub counts : AreAllowed (supplement_in tables) 1 trip.extras
+  pub extras_sum : trip.extras_sum ≡ amounts_from (supplement_in tables) 1 trip.extras
+
+-- the same beside a store's number: each supply drop adds one to it, and at most 2,000 pulses to the trip
+pub record IsTripBeside (tables : TableParts) (number most : ℕ) (trip : Trip) : Type 0 where
+  pub range : IsTrip tables most trip
+  pub pulses : trip.pulses ≤ 2000 * (trip.ticks + number)
+
+-- there is no trip, or such a one
+abbrev pub IsTripInRange : TableParts → (number most : ℕ) → Option Trip → Type 0
+IsTripInRange tables number most None = Unit {0}
+IsTripInRange tables number most (Some trip) = IsTripBeside tables number most trip
+
+-- a trip began no later than the clock's second
+abbrev pub HasBegunBy : (clock : ℕ) → Option Trip → Type 0
+HasBegunBy clock None = Unit {0}
+HasBegunBy clock (Some trip) = trip.started ≤ clock
+
+-- in which operating positions there is a trip; a powered meter isn't off
+abbrev pub HasTrip : Operating → Option Trip → Type 0
+HasTrip Off trip = ⊥
+HasTrip ForHire trip = trip ≡ None
+HasTrip Hired trip = trip ≢ None
+HasTrip Stopped trip = trip ≢ None
+
+-- A powered core in its ranges, of whose trip at most so many ticks have passed, and which has at most so many roaming
+-- pulses; spare is 1 where the trip has pulses of an unfinished interval that the store doesn't have yet.
+pub record IsPowered (tables : TableParts) (ticks most spare : ℕ) (core : Plain) : Type 0 where
+  pub on : HasTrip core.operating core.trip
+  pub position : (1 ≤ core.position) × (core.position ≤ tables.positions)
+  pub zone : (1 ≤ core.zone) × (core.zone ≤ tables.zones)
+  pub clock : IsSecond core.clock
+  pub began : IsSecond core.began
+  pub gate : core.gate ≤ 2000
+  pub roam : core.roam ≤ most
+  pub none : core.trip ≢ None → core.roam ≡ 0
+  pub ended : 0 < core.roam → core.number < 1000000000000000
+  pub number : (1 ≤ core.number) × (core.number ≤ 2000000000000001)
+  pub held : core.trip ≢ None → core.number ≤ 2000000000000000
+  pub begun : HasBegunBy core.clock core.trip
+  pub trip : IsTripInRange tables (core.number + spare) ticks core.trip
+
+-- between two events
+abbrev pub IsLawful : TableParts → Plain → Type 0
+IsLawful tables core = (core.operating ≡ Off) ⊎ IsPowered tables 8639999 999999 0 core
+
+-- whether a trip runs
+abbrev pub is_busy : Operating → Bool
+is_busy Off = false
+is_busy ForHire = false
+is_busy Hired = true
+is_busy Stopped = true
+
+-- how many steps the end of an interval takes at most: a charge looks up a local time, a holiday and a rate
+abbrev pub counting_steps : Operating → ℕ
+counting_steps Hired = 36
+counting_steps operating = 0
+
+-- and how many a key: a hiring looks up a local time, a holiday and an initial hire fee, a closing two local times
+abbrev pub pressing_steps : Operating → ℕ
+pressing_steps ForHire = 29
+pressing_steps operating = 12

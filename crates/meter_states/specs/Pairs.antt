@@ -1,0 +1,39 @@
+-- Receipts and their entries, and what of a list of acts is committed.
+use Rattle.std.specs.Prelude.{◌≡◌, List, [], ◌∷◌, Option, Some, None}
+use Rattle.taxi_units.specs.declared.receipt.Kind.{Kind}
+use Rattle.taxi_units.specs.declared.receipt.Kind.TheVariants.{Roam}
+use Rattle.taxi_units.specs.declared.receipt.Receipt as receipts
+use Rattle.totaliser_store.specs.declared.change.Change.{Change}
+use Rattle.totaliser_store.specs.declared.change.Change.TheVariants as changes
+use Rattle.totaliser_store.specs.declared.entry.Entry.{Entry}
+use Rattle.meter_states.specs.declared.act.Act.{Act}
+use Rattle.meter_states.specs.declared.act.Act.TheVariants.{Enter, Hold, Receipt}
+
+-- the receipt is that of the entry
+pub record IsReceiptOf (entry : Entry) (receipt : receipts.Receipt) : Type 0 where
+  pub kind : receipt.kind ≡ entry.kind
+  pub position : receipt.position ≡ entry.position
+  pub hired : receipt.hired_mm ≡ entry.hired_mm
+  pub fare : receipt.fare ≡ entry.fare
+  pub supplements : receipt.supplements ≡ entry.supplements
+
+-- which entry waits for its receipt: that of a hiring
+abbrev pub waiting_after : Kind → Entry → Option Entry
+waiting_after Roam entry = None
+waiting_after kind entry = Some entry
+
+-- each entry of a hiring stands directly before its receipt, and each receipt directly behind its entry
+abbrev pub ArePaired : (waiting : Option Entry) → List Act → Type 0
+ArePaired None [] = Unit {0}
+ArePaired None (Enter entry ∷ acts) = ArePaired (waiting_after entry.kind entry) acts
+ArePaired None (Receipt receipt ∷ acts) = ⊥
+ArePaired None (act ∷ acts) = ArePaired None acts
+ArePaired (Some entry) (Receipt receipt ∷ acts) = IsReceiptOf entry receipt × ArePaired None acts
+ArePaired (Some entry) acts = ⊥
+
+-- what of a list of acts is committed, in order
+abbrev pub commits_of : List Act → List Change
+commits_of [] = []
+commits_of (Enter entry ∷ acts) = changes.Enter entry ∷ commits_of acts
+commits_of (Hold trip ∷ acts) = changes.Hold trip ∷ commits_of acts
+commits_of (act ∷ acts) = commits_of acts

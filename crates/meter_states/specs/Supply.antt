@@ -1,0 +1,85 @@
+-- The supply: what a drop of it leaves, and what its coming finds.
+use Rattle.std.specs.Prelude.{ℕ, ◌+◌, Bool, true, false, ◌&&◌, [], Option, Some, None, sum, if◌then◌else◌, nat_le, nat_lt}
+use Rattle.taxi_units.specs.declared.event.Operating.{Operating}
+use Rattle.taxi_units.specs.declared.event.Operating.TheVariants.{Off, ForHire, Hired, Stopped}
+use Rattle.taxi_units.specs.declared.receipt.Kind.TheVariants.{Aborted}
+use Rattle.totaliser_store.specs.declared.trip.Trip as store
+use Rattle.meter_states.specs.Closing.{closed, holds_end, roaming_entered}
+use Rattle.meter_states.specs.Display.{shown}
+use Rattle.meter_states.specs.Interval.{interval_left}
+use Rattle.meter_states.specs.Meter.{Meter, Outcome, ◌>>=◌, quiet, held}
+use Rattle.meter_states.specs.Setting.{Setting}
+use Rattle.meter_states.specs.Trip.{Trip, held_trip}
+
+abbrev pub is_stopped : Operating → Bool
+is_stopped Off = false
+is_stopped ForHire = false
+is_stopped Hired = false
+is_stopped Stopped = true
+
+-- a trip is held, or closed where the store takes no held trip
+abbrev pub trip_kept : Setting → Trip → Meter → Outcome
+trip_kept s t m =
+    if nat_lt m.durable.number holds_end
+    then held (held_trip s m.clock (is_stopped m.operating) m.position m.zone t) m
+    else closed s Aborted m.clock m
+
+-- without a trip roaming pulses are entered
+abbrev pub kept : Setting → Option Trip → Meter → Outcome
+kept s None m = if nat_lt 0 (sum m.roaming) then roaming_entered s m else quiet m
+kept s (Some t) m = trip_kept s t m
+
+-- the meter is off, and a key that waited is lost
+abbrev pub turned_off : Meter → Outcome
+turned_off m = quiet (record m { operating = Off; latch = None })
+
+-- the supply drops
+abbrev pub supply_dropped : Setting → Meter → Outcome
+supply_dropped s m = do
+  m ← interval_left m
+  m ← kept s m.trip m
+  turned_off m
+
+-- the meter is powered at a second
+abbrev pub powered : (second : ℕ) → Meter → Meter
+powered second m = record m {
+  operating = ForHire;
+  clock = second;
+  began = second;
+  taken = [];
+  latch = None;
+  position = 1;
+  zone = 1;
+  roaming = [];
+  shown = None;
+}
+
+-- the operating position in which a held trip goes on
+abbrev pub running : (stopped : Bool) → Operating
+running true = Stopped
+running false = Hired
+
+-- the supply was away for the hold at most
+abbrev pub is_within_hold : Setting → (second : ℕ) → store.Trip → Bool
+is_within_hold s second trip = nat_le trip.saved second && nat_le second (trip.saved + s.hold)
+
+-- a held trip goes on, with its position and zone
+abbrev pub resumed : store.Trip → Meter → Outcome
+resumed trip m = quiet (record m { operating = running trip.stopped; position = trip.position; zone = trip.zone })
+
+-- a held trip is closed at its position, and the position and the zone are the first
+abbrev pub aborted : Setting → store.Trip → Meter → Outcome
+aborted s trip m = do
+  m ← closed s Aborted trip.saved (record m { position = trip.position })
+  quiet (record m { position = 1; zone = 1 })
+
+-- what becomes of the held trip
+abbrev pub hold_taken : Setting → (second : ℕ) → Option store.Trip → Meter → Outcome
+hold_taken s second None m = quiet (record m { trip = None })
+hold_taken s second (Some trip) m = if is_within_hold s second trip then resumed trip m else aborted s trip m
+
+-- the supply comes at a second, and the display is shown
+abbrev pub supply_came : Setting → (second : ℕ) → Meter → Outcome
+supply_came s second m = do
+  m ← hold_taken s second m.durable.hold (powered second m)
+  shown s m

@@ -1,0 +1,13 @@
+//! What the meter commits keeps the ranges of the store.
+ghost use Rattle.totaliser_store.specs.Ranges.{IsDurable};
+ghost use Rattle.totaliser_store.specs.declared.durable.Durable.{Durable};
+ghost use Rattle.tariff_compile.specs.Tables.{TableParts};
+ghost use Rattle.meter_states.specs.Acts.{IsLawfulAct, KeepsRanges};
+ghost use Rattle.meter_states.specs.declared.act.Act.{Act};
+
+/// A lawful act, where the store's state is in its ranges and has the number that the act is lawful
+/// beside, leaves a state in its ranges.
+pub fn lawful_acts_keep_the_ranges()
+    ensures { (tables : TableParts) (durable : Durable) (act : Act) → IsDurable durable
+        → IsLawfulAct tables durable.number act → KeepsRanges durable act }
+{}

@@ -1,0 +1,178 @@
+//! Entries: of a trip that is closed, with its receipt directly behind, and of roaming.
+ghost use Rattle.std.specs.Prelude.{◌≡◌, ◌≢◌, ◌⊎◌, ◌<◌, ◌≤◌, ◌+◌, ℕ, [], All, None, Some, length};
+ghost use Rattle.taxi_units.specs.Time.{IsSecond};
+ghost use Rattle.taxi_units.specs.declared.event.Operating.TheVariants.{ForHire};
+ghost use Rattle.taxi_units.specs.declared.receipt.Kind.TheVariants.{Roam};
+ghost use Rattle.meter_states.specs.Acts.{IsLawfulAct};
+ghost use Rattle.meter_states.specs.Closing.{closed, entry_of, receipt_of, roaming_checked, roaming_entered, trip_closed};
+ghost use Rattle.meter_states.specs.Core.{Follows, plain_of};
+ghost use Rattle.meter_states.specs.Lawful.{IsPowered, IsTripBeside};
+ghost use Rattle.meter_states.specs.Meter.{Meter, entered, printed};
+ghost use Rattle.meter_states.specs.Setting.{Setting, IsSettingOf};
+ghost use Rattle.meter_states.specs.Trip as model;
+
+use crate::act::{Act, Acts};
+use crate::core_state::Core;
+use crate::records::{Closing, entry, receipt, roaming_entry};
+use seal_store::Seal;
+use std::sync::ledger::Ledger;
+use tariff_compile::Tables;
+use taxi_units::{Kind, Operating, Steps};
+use totaliser_store::Trip;
+
+impl Core {
+    /// The trip is closed, and the meter is for hire. At most 12 steps.
+    pub(crate) fn close<L: Ledger>(
+        &mut self,
+        closing: Closing,
+        tables: &Tables,
+        seal: &Seal,
+        acts: &mut Acts,
+        steps: &mut Steps<L>,
+    )
+        requires lawful { IsPowered tables.now 8640000 1001999 1 self.old }
+        requires trip { self.old.trip ≢ None }
+        requires kind { closing.kind ≢ Roam }
+        requires finish { IsSecond closing.finish }
+        requires room { length acts.old.items ≤ 1 }
+        ensures lawful { IsPowered tables.now 8639999 999999 0 self.new }
+        ensures few { length acts.new.items ≤ length acts.old.items + 2 }
+        ensures roam { self.new.roam ≡ 0 }
+        ensures ranges { All (IsLawfulAct tables.now self.old.number) acts.old.items
+            → All (IsLawfulAct tables.now self.old.number) acts.new.items }
+        ensures follows { (s : Setting) (m : Meter) → IsSettingOf s tables.now seal.now → self.old ≡ plain_of s m
+            → Follows s self.new acts.old.items acts.new.items (closed s closing.kind closing.finish m) }
+        ensures steps { steps.new ≤ steps.old + 12 }
+    {
+        tables.are_fit();
+        self.operating = Operating::ForHire;
+        if let Some(trip) = self.trip {
+            self.trip = None;
+            self.close_trip(closing, &trip, tables, seal, acts, steps);
+        }
+    }
+
+    /// A trip is entered, and directly behind it the receipt is printed. At most 12 steps.
+    pub(crate) fn close_trip<L: Ledger>(
+        &mut self,
+        closing: Closing,
+        trip: &Trip,
+        tables: &Tables,
+        seal: &Seal,
+        acts: &mut Acts,
+        steps: &mut Steps<L>,
+    )
+        requires range { IsTripBeside tables.now (self.old.number + 1) 8640000 trip.now }
+        requires number { self.old.number ≤ 2000000000000000 }
+        requires position { (1 ≤ self.old.position) × (self.old.position ≤ 9) }
+        requires kind { closing.kind ≢ Roam }
+        requires finish { IsSecond closing.finish }
+        requires room { length acts.old.items ≤ 1 }
+        ensures number { self.new ≡ record self.old { number = self.old.number + 1 } }
+        ensures few { length acts.new.items ≤ length acts.old.items + 2 }
+        ensures ranges { All (IsLawfulAct tables.now self.old.number) acts.old.items
+            → All (IsLawfulAct tables.now self.old.number) acts.new.items }
+        ensures follows { (s : Setting) (m : Meter) (t : model.Trip) → IsSettingOf s tables.now seal.now
+            → trip.now ≡ model.saved_of s t → self.old ≡ plain_of s m
+            → Follows s self.new acts.old.items acts.new.items (trip_closed s closing.kind closing.finish (Some t) m) }
+        ensures steps { steps.new ≤ steps.old + 12 }
+    {
+        self.enter_trip(closing.kind, trip, tables, seal, acts);
+        self.print_receipt(closing, trip, tables, seal, acts, steps);
+    }
+
+    /// A trip is entered.
+    fn enter_trip(&mut self, kind: Kind, trip: &Trip, tables: &Tables, seal: &Seal, acts: &mut Acts)
+        requires range { IsTripBeside tables.now (self.old.number + 1) 8640000 trip.now }
+        requires number { self.old.number ≤ 2000000000000000 }
+        requires position { (1 ≤ self.old.position) × (self.old.position ≤ 9) }
+        requires kind { kind ≢ Roam }
+        requires room { length acts.old.items ≤ 3 }
+        ensures number { self.new ≡ record self.old { number = self.old.number + 1 } }
+        ensures few { length acts.new.items ≤ length acts.old.items + 1 }
+        ensures ranges { All (IsLawfulAct tables.now self.old.number) acts.old.items
+            → All (IsLawfulAct tables.now self.old.number) acts.new.items }
+        ensures follows { (s : Setting) (m : Meter) (t : model.Trip) → IsSettingOf s tables.now seal.now
+            → trip.now ≡ model.saved_of s t → self.old ≡ plain_of s m
+            → Follows s self.new acts.old.items acts.new.items (entered (entry_of s kind m.position t) m) }
+    {
+        acts.push(Act::Enter(entry(kind, self.position, trip, self.number, tables)));
+        self.number += 1;
+    }
+
+    /// The receipt of a trip is printed. At most 12 steps.
+    fn print_receipt<L: Ledger>(
+        &self,
+        closing: Closing,
+        trip: &Trip,
+        tables: &Tables,
+        seal: &Seal,
+        acts: &mut Acts,
+        steps: &mut Steps<L>,
+    )
+        requires range { IsTripBeside tables.now self.now.number 8640000 trip.now }
+        requires number { (1 ≤ self.now.number) × (self.now.number ≤ 2000000000000001) }
+        requires position { (1 ≤ self.now.position) × (self.now.position ≤ 9) }
+        requires kind { closing.kind ≢ Roam }
+        requires finish { IsSecond closing.finish }
+        requires room { length acts.old.items ≤ 3 }
+        ensures few { length acts.new.items ≤ length acts.old.items + 1 }
+        ensures ranges { (number : ℕ) → All (IsLawfulAct tables.now number) acts.old.items
+            → All (IsLawfulAct tables.now number) acts.new.items }
+        ensures follows { (s : Setting) (m : Meter) (t : model.Trip) → IsSettingOf s tables.now seal.now
+            → trip.now ≡ model.saved_of s t → self.now ≡ plain_of s m
+            → Follows s self.now acts.old.items acts.new.items
+            (printed (receipt_of s closing.kind closing.finish m.position t m.durable.number) m) }
+        ensures steps { steps.new ≤ steps.old + 12 }
+    {
+        acts.push(Act::Receipt(receipt(
+            closing,
+            self.position,
+            trip,
+            self.number,
+            tables,
+            seal,
+            steps,
+        )));
+    }
+
+    /// Roaming pulses are entered for hire where they are many.
+    pub(crate) fn check_roaming(&mut self, tables: &Tables, seal: &Seal, acts: &mut Acts)
+        requires lawful { IsPowered tables.now 8639999 1001999 0 self.old }
+        requires room { (length acts.old.items ≤ 1) ⊎ ((length acts.old.items ≤ 3) × (self.old.roam ≡ 0)) }
+        ensures lawful { IsPowered tables.now 8639999 999999 0 self.new }
+        ensures few { length acts.new.items ≤ 3 }
+        ensures ranges { (number : ℕ) → (self.old.number ≡ number) ⊎ (self.old.roam ≡ 0)
+            → All (IsLawfulAct tables.now number) acts.old.items
+            → All (IsLawfulAct tables.now number) acts.new.items }
+        ensures follows { (s : Setting) (m : Meter) → IsSettingOf s tables.now seal.now → self.old ≡ plain_of s m
+            → Follows s self.new acts.old.items acts.new.items (roaming_checked s m) }
+    {
+        match self.operating {
+            Operating::ForHire => {
+                if self.roam >= 1_000_000 {
+                    self.enter_roaming(tables, seal, acts);
+                }
+            }
+            Operating::Off | Operating::Hired | Operating::Stopped => {}
+        }
+    }
+
+    /// Roaming pulses are entered, and are then none.
+    pub(crate) fn enter_roaming(&mut self, tables: &Tables, seal: &Seal, acts: &mut Acts)
+        requires lawful { IsPowered tables.now 8639999 1001999 1 self.old }
+        requires hire { self.old.operating ≡ ForHire }
+        requires some { 0 < self.old.roam }
+        requires room { length acts.old.items ≤ 3 }
+        ensures lawful { IsPowered tables.now 8639999 999999 0 self.new }
+        ensures few { length acts.new.items ≤ length acts.old.items + 1 }
+        ensures ranges { All (IsLawfulAct tables.now self.old.number) acts.old.items
+            → All (IsLawfulAct tables.now self.old.number) acts.new.items }
+        ensures follows { (s : Setting) (m : Meter) → IsSettingOf s tables.now seal.now → self.old ≡ plain_of s m
+            → Follows s self.new acts.old.items acts.new.items (roaming_entered s m) }
+    {
+        acts.push(Act::Enter(roaming_entry(self.roam, tables)));
+        self.number += 1;
+        self.roam = 0;
+    }
+}

@@ -1,0 +1,76 @@
+//! The display.
+ghost use Rattle.std.specs.Prelude.{◌≡◌, ◌≤◌, ◌+◌, ℕ, All, length};
+ghost use Rattle.taxi_units.specs.Shown.{IsShown};
+ghost use Rattle.meter_states.specs.Acts.{IsLawfulAct};
+ghost use Rattle.meter_states.specs.Core.{Follows, plain_of};
+ghost use Rattle.meter_states.specs.Display.{display_of, extras_shown, fare_shown, shown};
+ghost use Rattle.meter_states.specs.Lawful.{IsPowered};
+ghost use Rattle.meter_states.specs.Meter.{Meter};
+ghost use Rattle.meter_states.specs.Setting.{Setting, IsSettingOf};
+
+use crate::act::{Act, Acts};
+use crate::core_state::Core;
+use crate::shown::is_shown;
+use crate::trip::fare;
+use seal_store::Seal;
+use tariff_compile::Tables;
+use taxi_units::Display;
+
+impl Core {
+    /// The display is shown where it differs from the one that was shown last.
+    pub(crate) fn show(&mut self, tables: &Tables, seal: &Seal, acts: &mut Acts)
+        requires lawful { IsPowered tables.now 8639999 999999 0 self.old }
+        requires room { length acts.old.items ≤ 3 }
+        ensures lawful { IsPowered tables.now 8639999 999999 0 self.new }
+        ensures ranges { (number : ℕ) → All (IsLawfulAct tables.now number) acts.old.items
+            → All (IsLawfulAct tables.now number) acts.new.items }
+        ensures follows { (s : Setting) (m : Meter) → IsSettingOf s tables.now seal.now → self.old ≡ plain_of s m
+            → Follows s self.new acts.old.items acts.new.items (shown s m) }
+    {
+        let display = self.display(tables, seal);
+        if !is_shown(&self.shown, &display) {
+            acts.push(Act::Show(display));
+        }
+        self.shown = Some(display);
+    }
+
+    /// What is shown now.
+    fn display(&self, tables: &Tables, seal: &Seal) -> Display
+        requires lawful { IsPowered tables.now 8639999 999999 0 self.now }
+        ensures value { (s : Setting) (m : Meter) → IsSettingOf s tables.now seal.now → self.now ≡ plain_of s m
+            → result ≡ display_of s m }
+        ensures range { IsShown result }
+    {
+        Display {
+            operating: self.operating,
+            position: self.position,
+            zone: self.zone,
+            fare: self.fare(tables, seal),
+            supplements: self.supplements(tables, seal),
+            decimals: tables.decimals(),
+        }
+    }
+
+    /// The fare of the trip, 0 without one.
+    fn fare(&self, tables: &Tables, seal: &Seal) -> u64
+        requires lawful { IsPowered tables.now 8639999 999999 0 self.now }
+        ensures { (s : Setting) (m : Meter) → IsSettingOf s tables.now seal.now → self.now ≡ plain_of s m
+            → result ≡ fare_shown s m.trip }
+    {
+        match self.trip {
+            None => 0,
+            Some(trip) => fare(&trip, tables),
+        }
+    }
+
+    /// The amounts of its supplements, 0 without one.
+    fn supplements(&self, tables: &Tables, seal: &Seal) -> u64
+        ensures { (s : Setting) (m : Meter) → IsSettingOf s tables.now seal.now → self.now ≡ plain_of s m
+            → result ≡ extras_shown s m.trip }
+    {
+        match self.trip {
+            None => 0,
+            Some(trip) => trip.extras_sum,
+        }
+    }
+}

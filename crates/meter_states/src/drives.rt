@@ -1,0 +1,179 @@
+//! Drives as tables of events and acts, over a durable state that is kept as a value.
+ghost use Rattle.std.specs.Prelude.{◌≡◌, ◌≢◌, ◌<◌, ◌≤◌, All, None, IsTrue};
+ghost use Rattle.std.specs.Option.{ForSome};
+ghost use Rattle.taxi_units.specs.declared.event.Operating.TheVariants.{Off};
+ghost use Rattle.totaliser_store.specs.Ranges.{IsDurable};
+ghost use Rattle.meter_states.specs.Acts.{IsLawfulAct};
+ghost use Rattle.meter_states.specs.Fits.{Fits};
+ghost use Rattle.meter_states.specs.Lawful.{IsLawful, IsTimely};
+
+use crate::{Act, Acts, Core};
+use arrayvec::ArrayVec;
+use drive_modes::Mode;
+use interval_clock::Offsets;
+use pulse_input::Constant;
+use seal_store::{Params, Seal};
+use std::alloc::Global;
+use std::process::Abort;
+use std::sync::ledger::{Blank, Ledger};
+use tariff_check::check;
+use tariff_compile::{Tables, compile};
+use tariff_syntax::{parse, texts_have_their_numbers};
+use taxi_units::{Event, Operating, Steps};
+use totaliser_store::{Change, Durable};
+
+/// So many times: events without acts, and then an event with these acts.
+pub type Row<'a> = (u32, &'a [Event], Event, &'a [Act]);
+
+/// The tables of a text's tariff. `None` where there are none.
+pub fn compiled(alloc: Global, text: &str, constant: u32) -> Option<Tables> {
+    let tariff = parse(alloc, text.as_bytes()).ok()?;
+    texts_have_their_numbers();
+    let checked = check(alloc, tariff).ok()?;
+    compile(alloc, &checked, Constant::new(constant).ok()?).ok()
+}
+
+/// A seal with a constant, one offset and a mode, with a hold of a minute.
+pub fn sealed(constant: u32, offset: i32, mode: Mode) -> Option<Seal> {
+    Some(Seal {
+        seal_number: 1,
+        params: Params {
+            taxi: ArrayVec::new(),
+            constant: Constant::new(constant).ok()?,
+            mode,
+            hold: 60,
+            offsets: Offsets::from_pairs(&[(946_684_800, offset)]).ok()?,
+            secured: 10_957,
+        },
+        digest: [0; 32],
+        decimals: 2,
+    })
+}
+
+/// A durable state without totals, of a number.
+pub fn numbered(number: u64) -> Durable
+    requires { (1 ≤ number) × (number ≤ 2000000000000001) }
+    ensures { IsDurable result × (result.hold ≡ None) }
+{
+    Durable {
+        number,
+        ..Durable::zero()
+    }
+}
+
+/// Whether an event's second is one that a clock may show.
+fn is_timely(event: Event) -> bool
+    ensures { IsTrue result → IsTimely event }
+{
+    match event {
+        Event::Up(second) | Event::Clock(second) => {
+            946_684_800 <= second && second <= 7_258_118_399
+        }
+        Event::Down | Event::Pulses(_) | Event::Tick | Event::Key(_) => true,
+    }
+}
+
+/// The acts of an event, and the number beside which they are lawful.
+fn acts_of<L: Ledger>(
+    tables: &Tables,
+    seal: &Seal,
+    core: &mut Core,
+    durable: &Durable,
+    event: Event,
+    steps: &mut Steps<L>,
+) -> (u64, Acts)
+    requires lawful { IsLawful tables.now core.old }
+    requires range { IsDurable durable.now }
+    requires fits { ForSome durable.now.hold (Fits tables.now) }
+    requires timely { IsTimely event }
+    ensures lawful { IsLawful tables.now core.new }
+    ensures ranges { All (IsLawfulAct tables.now result.0) result.1.items }
+{
+    if let Operating::Off = core.operating {
+        if let Event::Up(second) = event {
+            let (resumed, acts) = Core::resume(tables, seal, durable, second, steps);
+            *core = resumed;
+            return (durable.number, acts);
+        }
+    }
+    let number = core.number;
+    (number, core.step(tables, seal, event, steps))
+}
+
+/// Whether an act is a commit.
+fn is_commit(act: &Act) -> bool {
+    matches!(act, Act::Enter(_) | Act::Hold(_))
+}
+
+/// The durable state after an act.
+fn after_act(tables: &Tables, durable: Durable, act: &Act) -> Durable
+    requires range { IsDurable durable }
+    requires fits { ForSome durable.hold (Fits tables.now) }
+    requires lawful { IsLawfulAct tables.now durable.number act.now }
+    ensures range { IsDurable result }
+    ensures fits { ForSome result.hold (Fits tables.now) }
+{
+    match *act {
+        Act::Enter(entry) => durable.after(&Change::Enter(entry)),
+        Act::Hold(trip) => durable.after(&Change::Hold(trip)),
+        Act::Show(_) | Act::Refuse(_) | Act::Receipt(_) => durable,
+    }
+}
+
+/// The durable state after acts that are lawful beside a number, of which one at most is a commit.
+fn committed(
+    rt: &impl Abort,
+    tables: &Tables,
+    durable: Durable,
+    number: u64,
+    acts: &[Act],
+) -> Durable
+    requires range { IsDurable durable }
+    requires fits { ForSome durable.hold (Fits tables.now) }
+    requires ranges { All (IsLawfulAct tables.now number) acts.now }
+    ensures range { IsDurable result }
+    ensures fits { ForSome result.hold (Fits tables.now) }
+{
+    let mut after = durable;
+    for act in acts {
+        if !is_commit(act) {
+            continue;
+        }
+        assert!(rt; after.number == number);
+        after = after_act(tables, after, act);
+    }
+    after
+}
+
+/// Carries out rows, one after the other, on a meter that is off.
+pub fn follow<L: Ledger>(
+    blank: Blank,
+    rt: &impl Abort,
+    tables: &Tables,
+    seal: &Seal,
+    opening: Durable,
+    rows: &[Row],
+)
+    requires range { IsDurable opening }
+    requires none { opening.hold ≡ None }
+    requires name { blank.name ≡ L.name }
+    requires parts { blank.parts ≡ L.parts }
+    requires one { 0 < blank.parts }
+{
+    let mut steps: Steps<L> = Steps::open(blank);
+    let mut core = Core::off();
+    let mut durable = opening;
+    for (place, (times, before, event, want)) in rows.iter().enumerate() {
+        for _ in 0..*times {
+            for event in *before {
+                assert!(rt; is_timely(*event));
+                let (_, acts) = acts_of(tables, seal, &mut core, &durable, *event, &mut steps);
+                assert!(rt; acts.is_empty(), "row {place}: {acts:?}");
+            }
+            assert!(rt; is_timely(*event));
+            let (number, acts) = acts_of(tables, seal, &mut core, &durable, *event, &mut steps);
+            assert_eq!(rt; acts.as_slice(), *want, "row {place}");
+            durable = committed(rt, tables, durable, number, acts.as_slice());
+        }
+    }
+}

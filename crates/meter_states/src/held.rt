@@ -1,0 +1,43 @@
+//! Held trips: how they go on, how long they may be held, and what of them the core keeps.
+ghost use Rattle.std.specs.Prelude.{◌≡◌, ◌≤◌, true};
+ghost use Rattle.taxi_units.specs.Time.{IsSecond};
+ghost use Rattle.meter_states.specs.Core.{forgotten};
+ghost use Rattle.meter_states.specs.Setting.{Setting, IsSealOf};
+ghost use Rattle.meter_states.specs.Supply as model;
+
+use seal_store::Seal;
+use taxi_units::Operating;
+use totaliser_store::Trip;
+
+/// The operating position in which a held trip goes on.
+pub(crate) fn running(stopped: bool) -> Operating
+    ensures { result ≡ model.running stopped }
+{
+    if stopped {
+        Operating::Stopped
+    } else {
+        Operating::Hired
+    }
+}
+
+/// Whether the supply was away for the hold at most.
+pub(crate) fn is_within_hold(held: &Trip, second: u64, seal: &Seal) -> bool
+    requires { IsSecond held.now.saved }
+    ensures value { (s : Setting) → IsSealOf s seal.now → result ≡ model.is_within_hold s second held.now }
+    ensures later { result ≡ true → held.now.saved ≤ second }
+{
+    held.saved <= second && second <= held.saved + seal.params.hold as u64
+}
+
+/// A held trip as the core keeps it: without what has a meaning in the store alone.
+pub(crate) fn kept_form(held: Trip) -> Trip
+    ensures { result ≡ forgotten held }
+{
+    Trip {
+        saved: 0,
+        stopped: false,
+        position: 1,
+        zone: 1,
+        ..held
+    }
+}

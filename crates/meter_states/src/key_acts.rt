@@ -1,0 +1,193 @@
+//! What keys do.
+ghost use Rattle.std.specs.Prelude.{◌≡◌, ◌≢◌, ◌⊎◌, ◌≤◌, ◌+◌, ℕ, [], All, None, Some, length};
+ghost use Rattle.tariff_compile.specs.Tables.{IsFitInitial, initial_by, supplement_at};
+ghost use Rattle.taxi_units.specs.declared.event.Operating.TheVariants.{ForHire};
+ghost use Rattle.taxi_units.specs.declared.receipt.Kind.TheVariants.{Closed};
+ghost use Rattle.meter_states.specs.Acts.{IsLawfulAct};
+ghost use Rattle.meter_states.specs.Closing.{closed};
+ghost use Rattle.meter_states.specs.Core.{Follows, plain_of};
+ghost use Rattle.meter_states.specs.Interval.{context_now};
+ghost use Rattle.meter_states.specs.Keys.{extra_added, extra_added_to, hiring, key_in, key_pressed, latched, position_set, zone_set};
+ghost use Rattle.meter_states.specs.Lawful.{IsPowered, pressing_steps};
+ghost use Rattle.meter_states.specs.Meter.{Meter};
+ghost use Rattle.meter_states.specs.Setting.{Setting, IsSettingOf};
+ghost use Rattle.meter_states.specs.Supplements.{supplement_in};
+
+use crate::act::{Acts, refuse};
+use crate::core_state::Core;
+use crate::interval::HIRINGS_END;
+use crate::lookups::find_supplement;
+use crate::records::Closing;
+use crate::trip::{begun, times, with_extra};
+use seal_store::Seal;
+use std::sync::ledger::Ledger;
+use tariff_compile::{Initial, Supplement, Tables};
+use taxi_units::{Kind, Operating, Steps, Why};
+
+impl Core {
+    /// The key Hire, for hire. At most 29 steps.
+    pub(crate) fn hire<L: Ledger>(
+        &mut self,
+        tables: &Tables,
+        seal: &Seal,
+        acts: &mut Acts,
+        steps: &mut Steps<L>,
+    )
+        requires lawful { IsPowered tables.now 8639999 1001999 0 self.old }
+        requires hire { self.old.operating ≡ ForHire }
+        requires room { acts.old.items ≡ [] }
+        ensures lawful { IsPowered tables.now 8639999 1001999 0 self.new }
+        ensures few { length acts.new.items ≤ 1 }
+        ensures number { self.new.number ≡ self.old.number }
+        ensures ranges { All (IsLawfulAct tables.now self.old.number) acts.old.items
+            → All (IsLawfulAct tables.now self.old.number) acts.new.items }
+        ensures follows { (s : Setting) (m : Meter) → IsSettingOf s tables.now seal.now → self.old ≡ plain_of s m
+            → Follows s self.new acts.old.items acts.new.items (hiring s m) }
+        ensures steps { steps.new ≤ steps.old + 29 }
+    {
+        if self.number >= HIRINGS_END {
+            refuse(Why::Ended, acts);
+            return;
+        }
+        let fee = self.fee(tables, seal, steps);
+        self.operating = Operating::Hired;
+        self.trip = Some(begun(tables, fee, self.clock, self.roam));
+        self.roam = 0;
+    }
+
+    /// What a hiring begins with at the clock's second. At most 29 steps.
+    fn fee<L: Ledger>(&self, tables: &Tables, seal: &Seal, steps: &mut Steps<L>) -> Initial
+        requires lawful { IsPowered tables.now 8639999 1001999 0 self.now }
+        ensures value { (s : Setting) (m : Meter) → IsSettingOf s tables.now seal.now → self.now ≡ plain_of s m
+            → result ≡ initial_by s.tariff (context_now s m) }
+        ensures fit { IsFitInitial result }
+        ensures steps { steps.new ≤ steps.old + 29 }
+    {
+        let x = self.context_at(self.clock, tables, seal, steps);
+        tables.initial_at(&x, steps)
+    }
+
+    /// The key Clear, in Stopped. At most 12 steps.
+    pub(crate) fn clear<L: Ledger>(
+        &mut self,
+        tables: &Tables,
+        seal: &Seal,
+        acts: &mut Acts,
+        steps: &mut Steps<L>,
+    )
+        requires lawful { IsPowered tables.now 8639999 1001999 0 self.old }
+        requires trip { self.old.trip ≢ None }
+        requires room { acts.old.items ≡ [] }
+        ensures lawful { IsPowered tables.now 8639999 999999 0 self.new }
+        ensures few { length acts.new.items ≤ 2 }
+        ensures roam { self.new.roam ≡ 0 }
+        ensures ranges { All (IsLawfulAct tables.now self.old.number) acts.old.items
+            → All (IsLawfulAct tables.now self.old.number) acts.new.items }
+        ensures follows { (s : Setting) (m : Meter) → IsSettingOf s tables.now seal.now → self.old ≡ plain_of s m
+            → Follows s self.new acts.old.items acts.new.items (closed s Closed m.clock m) }
+        ensures steps { steps.new ≤ steps.old + 12 }
+    {
+        let closing = Closing {
+            kind: Kind::Closed,
+            finish: self.clock,
+        };
+        self.close(closing, tables, seal, acts, steps);
+    }
+
+    /// A tariff position is chosen.
+    pub(crate) fn set_position(&mut self, n: u8, tables: &Tables, seal: &Seal, acts: &mut Acts)
+        requires lawful { IsPowered tables.now 8639999 1001999 0 self.old }
+        requires room { acts.old.items ≡ [] }
+        ensures lawful { IsPowered tables.now 8639999 1001999 0 self.new }
+        ensures few { length acts.new.items ≤ 1 }
+        ensures number { self.new.number ≡ self.old.number }
+        ensures ranges { All (IsLawfulAct tables.now self.old.number) acts.old.items
+            → All (IsLawfulAct tables.now self.old.number) acts.new.items }
+        ensures follows { (s : Setting) (m : Meter) → IsSettingOf s tables.now seal.now → self.old ≡ plain_of s m
+            → Follows s self.new acts.old.items acts.new.items (position_set s n m) }
+    {
+        if n < 1 || n > tables.positions() {
+            refuse(Why::NoSuch, acts);
+            return;
+        }
+        self.position = n;
+    }
+
+    /// A zone is chosen.
+    pub(crate) fn set_zone(&mut self, n: u8, tables: &Tables, seal: &Seal, acts: &mut Acts)
+        requires lawful { IsPowered tables.now 8639999 1001999 0 self.old }
+        requires room { acts.old.items ≡ [] }
+        ensures lawful { IsPowered tables.now 8639999 1001999 0 self.new }
+        ensures few { length acts.new.items ≤ 1 }
+        ensures number { self.new.number ≡ self.old.number }
+        ensures ranges { All (IsLawfulAct tables.now self.old.number) acts.old.items
+            → All (IsLawfulAct tables.now self.old.number) acts.new.items }
+        ensures follows { (s : Setting) (m : Meter) → IsSettingOf s tables.now seal.now → self.old ≡ plain_of s m
+            → Follows s self.new acts.old.items acts.new.items (zone_set s n m) }
+    {
+        if n < 1 || n > tables.zones() {
+            refuse(Why::NoSuch, acts);
+            return;
+        }
+        self.zone = n;
+    }
+
+    /// A supplement is added. One step.
+    pub(crate) fn add_extra<L: Ledger>(
+        &mut self,
+        n: u8,
+        tables: &Tables,
+        seal: &Seal,
+        acts: &mut Acts,
+        steps: &mut Steps<L>,
+    )
+        requires lawful { IsPowered tables.now 8639999 1001999 0 self.old }
+        requires room { acts.old.items ≡ [] }
+        ensures lawful { IsPowered tables.now 8639999 1001999 0 self.new }
+        ensures few { length acts.new.items ≤ 1 }
+        ensures number { self.new.number ≡ self.old.number }
+        ensures ranges { All (IsLawfulAct tables.now self.old.number) acts.old.items
+            → All (IsLawfulAct tables.now self.old.number) acts.new.items }
+        ensures follows { (s : Setting) (m : Meter) → IsSettingOf s tables.now seal.now → self.old ≡ plain_of s m
+            → Follows s self.new acts.old.items acts.new.items (extra_added n (supplement_at s.tariff n) m) }
+        ensures steps { steps.new ≤ steps.old + 1 }
+    {
+        let Some(supplement) = find_supplement(tables, n, steps) else {
+            refuse(Why::NoSuch, acts);
+            return;
+        };
+        self.add_found(n, supplement, tables, seal, acts);
+    }
+
+    /// A supplement that the tariff has is added, up to its most.
+    fn add_found(
+        &mut self,
+        n: u8,
+        supplement: Supplement,
+        tables: &Tables,
+        seal: &Seal,
+        acts: &mut Acts,
+    )
+        requires lawful { IsPowered tables.now 8639999 1001999 0 self.old }
+        requires number { (1 ≤ n) × (n ≤ 16) }
+        requires found { supplement_in tables.now n ≡ Some supplement }
+        requires amount { supplement.amount ≤ 1000000 }
+        requires room { acts.old.items ≡ [] }
+        ensures lawful { IsPowered tables.now 8639999 1001999 0 self.new }
+        ensures few { length acts.new.items ≤ 1 }
+        ensures number { self.new.number ≡ self.old.number }
+        ensures ranges { All (IsLawfulAct tables.now self.old.number) acts.old.items
+            → All (IsLawfulAct tables.now self.old.number) acts.new.items }
+        ensures follows { (s : Setting) (m : Meter) → IsSettingOf s tables.now seal.now → self.old ≡ plain_of s m
+            → Follows s self.new acts.old.items acts.new.items (extra_added_to n supplement m.trip m) }
+    {
+        let Some(trip) = self.trip else {
+            return;
+        };
+        if times(&trip, n) >= supplement.max {
+            refuse(Why::AtMost, acts);
+            return;
+        }
+        self.trip = Some(with_extra(trip, tables, n, supplement));
+    }
+}

@@ -1,0 +1,104 @@
+//! Keys: one may wait for the end of the interval, and acts then.
+ghost use Rattle.std.specs.Prelude.{◌≡◌, ◌≢◌, ◌⊎◌, ◌≤◌, ◌+◌, ℕ, [], All, None, Some, length};
+ghost use Rattle.tariff_compile.specs.Tables.{IsFitInitial, initial_by, supplement_at};
+ghost use Rattle.taxi_units.specs.declared.event.Operating.TheVariants.{ForHire};
+ghost use Rattle.taxi_units.specs.declared.receipt.Kind.TheVariants.{Closed};
+ghost use Rattle.meter_states.specs.Acts.{IsLawfulAct};
+ghost use Rattle.meter_states.specs.Closing.{closed};
+ghost use Rattle.meter_states.specs.Core.{Follows, plain_of};
+ghost use Rattle.meter_states.specs.Interval.{context_now};
+ghost use Rattle.meter_states.specs.Keys.{extra_added, extra_added_to, hiring, key_in, key_pressed, latched, position_set, zone_set};
+ghost use Rattle.meter_states.specs.Lawful.{IsPowered, pressing_steps};
+ghost use Rattle.meter_states.specs.Meter.{Meter};
+ghost use Rattle.meter_states.specs.Setting.{Setting, IsSettingOf};
+ghost use Rattle.meter_states.specs.Supplements.{supplement_in};
+
+use crate::act::{Acts, refuse};
+use crate::core_state::Core;
+use seal_store::Seal;
+use std::sync::ledger::Ledger;
+use tariff_compile::Tables;
+use taxi_units::{Key, Operating, Steps, Why};
+
+impl Core {
+    /// A key waits for the end of the interval, where none does.
+    pub(crate) fn take_key(&mut self, tables: &Tables, key: Key, acts: &mut Acts)
+        requires lawful { IsPowered tables.now 8639999 999999 0 self.old }
+        requires room { acts.old.items ≡ [] }
+        ensures lawful { IsPowered tables.now 8639999 999999 0 self.new }
+        ensures ranges { All (IsLawfulAct tables.now self.old.number) acts.old.items
+            → All (IsLawfulAct tables.now self.old.number) acts.new.items }
+        ensures follows { (s : Setting) (m : Meter) → self.old ≡ plain_of s m
+            → Follows s self.new acts.old.items acts.new.items (latched m.latch key m) }
+    {
+        if let Some(_) = self.latch {
+            refuse(Why::KeyWaiting, acts);
+            return;
+        }
+        self.latch = Some(key);
+    }
+
+    /// The key that waits leaves the latch and acts. At most 29 steps for hire, and 12 otherwise.
+    pub(crate) fn press<L: Ledger>(
+        &mut self,
+        tables: &Tables,
+        seal: &Seal,
+        acts: &mut Acts,
+        steps: &mut Steps<L>,
+    )
+        requires lawful { IsPowered tables.now 8639999 1001999 0 self.old }
+        requires room { acts.old.items ≡ [] }
+        ensures lawful { IsPowered tables.now 8639999 1001999 0 self.new }
+        ensures few { length acts.new.items ≤ 2 }
+        ensures roam { ((length acts.new.items ≤ 1) × (self.new.number ≡ self.old.number)) ⊎ (self.new.roam ≡ 0) }
+        ensures ranges { All (IsLawfulAct tables.now self.old.number) acts.old.items
+            → All (IsLawfulAct tables.now self.old.number) acts.new.items }
+        ensures follows { (s : Setting) (m : Meter) → IsSettingOf s tables.now seal.now → self.old ≡ plain_of s m
+            → Follows s self.new acts.old.items acts.new.items (key_pressed s m) }
+        ensures steps { steps.new ≤ steps.old + pressing_steps self.old.operating }
+    {
+        if let Some(key) = self.latch {
+            self.latch = None;
+            self.press_key(key, tables, seal, acts, steps);
+        }
+    }
+
+    /// A key acts, or is refused in this operating position.
+    fn press_key<L: Ledger>(
+        &mut self,
+        key: Key,
+        tables: &Tables,
+        seal: &Seal,
+        acts: &mut Acts,
+        steps: &mut Steps<L>,
+    )
+        requires lawful { IsPowered tables.now 8639999 1001999 0 self.old }
+        requires room { acts.old.items ≡ [] }
+        ensures lawful { IsPowered tables.now 8639999 1001999 0 self.new }
+        ensures few { length acts.new.items ≤ 2 }
+        ensures roam { ((length acts.new.items ≤ 1) × (self.new.number ≡ self.old.number)) ⊎ (self.new.roam ≡ 0) }
+        ensures ranges { All (IsLawfulAct tables.now self.old.number) acts.old.items
+            → All (IsLawfulAct tables.now self.old.number) acts.new.items }
+        ensures follows { (s : Setting) (m : Meter) → IsSettingOf s tables.now seal.now → self.old ≡ plain_of s m
+            → Follows s self.new acts.old.items acts.new.items (key_in s key m.operating m) }
+        ensures steps { steps.new ≤ steps.old + pressing_steps self.old.operating }
+    {
+        match (key, self.operating) {
+            (Key::Hire, Operating::ForHire) => self.hire(tables, seal, acts, steps),
+            (Key::Hire, Operating::Stopped) => {
+                self.operating = Operating::Hired;
+            }
+            (Key::Stop, Operating::Hired) => {
+                self.operating = Operating::Stopped;
+            }
+            (Key::Clear, Operating::Stopped) => self.clear(tables, seal, acts, steps),
+            (Key::Position(n), Operating::ForHire) => self.set_position(n, tables, seal, acts),
+            (Key::Position(n), Operating::Hired) => self.set_position(n, tables, seal, acts),
+            (Key::Zone(n), Operating::ForHire) => self.set_zone(n, tables, seal, acts),
+            (Key::Zone(n), Operating::Hired) => self.set_zone(n, tables, seal, acts),
+            (Key::Extra(n), Operating::Hired) => self.add_extra(n, tables, seal, acts, steps),
+            (Key::Extra(n), Operating::Stopped) => self.add_extra(n, tables, seal, acts, steps),
+            _ => refuse(Why::NotNow, acts),
+        }
+    }
+}

@@ -1,0 +1,33 @@
+//! Receipts stand behind their entries, and the store has what the acts commit.
+ghost use Rattle.std.specs.Prelude.{◌≡◌, ◌++◌, List, None};
+ghost use Rattle.taxi_units.specs.declared.event.Event.{Event};
+ghost use Rattle.totaliser_store.specs.States.{after_all};
+ghost use Rattle.totaliser_store.specs.declared.durable.Durable.{Durable};
+ghost use Rattle.meter_states.specs.Meter.{Meter};
+ghost use Rattle.meter_states.specs.Pairs.{ArePaired, commits_of};
+ghost use Rattle.meter_states.specs.Run.{actions_of, run, run_both, whole_run};
+ghost use Rattle.meter_states.specs.Setting.{Setting};
+ghost use Rattle.meter_states.specs.Step.{step};
+
+/// In the acts of an event, and in those of a whole run, each entry of a hiring stands directly before its
+/// receipt, and each receipt directly behind its entry.
+pub fn receipts_follow_their_entries()
+    ensures event { (s : Setting) (event : Event) (m : Meter) → ArePaired None (step s event m).acts }
+    ensures run { (s : Setting) (durable : Durable) (events : List Event)
+        → ArePaired None (actions_of s durable events) }
+{}
+
+/// After an event the store has the state before it with the commits of the event's acts, in order, and
+/// after a whole run the opening state with those of the run.
+pub fn the_store_has_what_the_acts_commit()
+    ensures event { (s : Setting) (event : Event) (m : Meter)
+        → (step s event m).next.durable ≡ after_all m.durable (commits_of (step s event m).acts) }
+    ensures run { (s : Setting) (durable : Durable) (events : List Event)
+        → (whole_run s durable events).next.durable ≡ after_all durable (commits_of (actions_of s durable events)) }
+{}
+
+/// A run over one list of events and then over another is the run over both.
+pub fn runs_add_up()
+    ensures { (s : Setting) (first second : List Event) (m : Meter)
+        → run s (first ++ second) m ≡ run_both s first second m }
+{}

@@ -1,0 +1,175 @@
+//! What the coming of the supply finds.
+ghost use Rattle.std.specs.Prelude.{◌≡◌, ◌≤◌, ◌+◌, ℕ, [], All, None, Some, option_map, length};
+ghost use Rattle.std.specs.Option.{ForSome};
+ghost use Rattle.taxi_units.specs.Time.{IsSecond};
+ghost use Rattle.taxi_units.specs.declared.event.Operating.TheVariants.{ForHire};
+ghost use Rattle.totaliser_store.specs.Ranges.{IsDurable, IsHeld};
+ghost use Rattle.meter_states.specs.Acts.{IsLawfulAct, KeepsRanges};
+ghost use Rattle.meter_states.specs.Core.{Follows, IsSavedIn, Meets, forgotten, plain_of};
+ghost use Rattle.meter_states.specs.Fits.{Fits};
+ghost use Rattle.meter_states.specs.Lawful.{IsLawful, IsPowered};
+ghost use Rattle.meter_states.specs.Meter.{Meter};
+ghost use Rattle.meter_states.specs.Setting.{Setting, IsSettingOf};
+ghost use Rattle.meter_states.specs.Supply as model;
+ghost use Rattle.meter_states.specs.Trip as trips;
+
+use crate::act::Acts;
+use crate::core_state::Core;
+use crate::held::{is_within_hold, kept_form, running};
+use crate::records::Closing;
+use seal_store::Seal;
+use std::sync::ledger::Ledger;
+use tariff_compile::Tables;
+use taxi_units::{Kind, Operating, Steps};
+use totaliser_store::{Durable, Trip};
+
+impl Core {
+    /// The supply comes at a second, 946,684,800 to 7,258,118,399, and finds a durable state in its
+    /// ranges whose held trip fits. The rules are this project's own: within the hold a held trip goes
+    /// on in Hired or Stopped, and otherwise it is closed; without one the meter is for hire. The
+    /// display is shown. At most 12 steps.
+    pub fn resume<L: Ledger>(
+        tables: &Tables,
+        seal: &Seal,
+        durable: &Durable,
+        second: u64,
+        steps: &mut Steps<L>,
+    ) -> (Core, Acts)
+        requires range { IsDurable durable.now }
+        requires fits { ForSome durable.now.hold (Fits tables.now) }
+        requires second { IsSecond second }
+        ensures lawful { IsLawful tables.now result.0 }
+        ensures ranges { All (IsLawfulAct tables.now durable.now.number) result.1.items }
+        ensures commits { All (KeepsRanges durable.now) result.1.items }
+        ensures meets { (s : Setting) (m : Meter) → IsSettingOf s tables.now seal.now → m.durable ≡ durable.now
+            → IsSavedIn s durable.now.hold m.trip
+            → Meets s result.0 result.1.items (model.supply_came s second m) }
+        ensures steps { steps.new ≤ steps.old + 12 }
+    {
+        tables.are_fit();
+        let mut core = Core::idle(Operating::ForHire, durable.number, second);
+        let mut acts = Acts::new();
+        core.take_hold(durable.hold, second, tables, seal, &mut acts, steps);
+        core.show(tables, seal, &mut acts);
+        (core, acts)
+    }
+
+    /// A held trip goes on or is closed. At most 12 steps.
+    fn take_hold<L: Ledger>(
+        &mut self,
+        hold: Option<Trip>,
+        second: u64,
+        tables: &Tables,
+        seal: &Seal,
+        acts: &mut Acts,
+        steps: &mut Steps<L>,
+    )
+        requires lawful { IsPowered tables.now 8639999 999999 0 self.old }
+        requires second { self.old.clock ≡ second }
+        requires new { (self.old.roam ≡ 0) × (self.old.trip ≡ None) }
+        requires range { ForSome hold (IsHeld self.old.number) }
+        requires fits { ForSome hold (Fits tables.now) }
+        requires room { acts.old.items ≡ [] }
+        ensures lawful { IsPowered tables.now 8639999 999999 0 self.new }
+        ensures few { length acts.new.items ≤ 2 }
+        ensures ranges { All (IsLawfulAct tables.now self.old.number) acts.old.items
+            → All (IsLawfulAct tables.now self.old.number) acts.new.items }
+        ensures follows { (s : Setting) (m : Meter) → IsSettingOf s tables.now seal.now → IsSavedIn s hold m.trip
+            → self.old ≡ plain_of s (record m { trip = None })
+            → Follows s self.new acts.old.items acts.new.items (model.hold_taken s second hold m) }
+        ensures steps { steps.new ≤ steps.old + 12 }
+    {
+        if let Some(held) = hold {
+            self.take_held(held, second, tables, seal, acts, steps);
+        }
+    }
+
+    /// A held trip goes on where the supply was away for the hold at most, and otherwise it is closed.
+    /// At most 12 steps.
+    fn take_held<L: Ledger>(
+        &mut self,
+        held: Trip,
+        second: u64,
+        tables: &Tables,
+        seal: &Seal,
+        acts: &mut Acts,
+        steps: &mut Steps<L>,
+    )
+        requires lawful { IsPowered tables.now 8639999 999999 0 self.old }
+        requires second { self.old.clock ≡ second }
+        requires new { (self.old.roam ≡ 0) × (self.old.trip ≡ None) }
+        requires range { IsHeld self.old.number held }
+        requires fits { Fits tables.now held }
+        requires room { acts.old.items ≡ [] }
+        ensures lawful { IsPowered tables.now 8639999 999999 0 self.new }
+        ensures few { length acts.new.items ≤ 2 }
+        ensures ranges { All (IsLawfulAct tables.now self.old.number) acts.old.items
+            → All (IsLawfulAct tables.now self.old.number) acts.new.items }
+        ensures follows { (s : Setting) (m : Meter) → IsSettingOf s tables.now seal.now
+            → Some (forgotten held) ≡ option_map (trips.saved_of s) m.trip
+            → self.old ≡ plain_of s (record m { trip = None })
+            → Follows s self.new acts.old.items acts.new.items (model.hold_taken s second (Some held) m) }
+        ensures steps { steps.new ≤ steps.old + 12 }
+    {
+        if is_within_hold(&held, second, seal) {
+            self.go_on(held, tables, seal);
+        } else {
+            self.abort(&held, tables, seal, acts, steps);
+        }
+    }
+
+    /// A held trip goes on, with its position and zone.
+    fn go_on(&mut self, held: Trip, tables: &Tables, seal: &Seal)
+        requires lawful { IsPowered tables.now 8639999 999999 0 self.old }
+        requires begun { held.started ≤ self.old.clock }
+        requires new { (self.old.roam ≡ 0) × (self.old.trip ≡ None) }
+        requires range { IsHeld self.old.number held }
+        requires fits { Fits tables.now held }
+        ensures lawful { IsPowered tables.now 8639999 999999 0 self.new }
+        ensures state { (s : Setting) (m : Meter) → IsSettingOf s tables.now seal.now
+            → Some (forgotten held) ≡ option_map (trips.saved_of s) m.trip
+            → self.old ≡ plain_of s (record m { trip = None })
+            → self.new ≡ plain_of s (model.resumed held m).next }
+    {
+        self.operating = running(held.stopped);
+        self.position = held.position;
+        self.zone = held.zone;
+        self.trip = Some(kept_form(held));
+    }
+
+    /// A held trip is closed at its position, and the position and the zone are the first. At most 12
+    /// steps.
+    fn abort<L: Ledger>(
+        &mut self,
+        held: &Trip,
+        tables: &Tables,
+        seal: &Seal,
+        acts: &mut Acts,
+        steps: &mut Steps<L>,
+    )
+        requires lawful { IsPowered tables.now 8639999 999999 0 self.old }
+        requires hire { self.old.operating ≡ ForHire }
+        requires new { (self.old.roam ≡ 0) × (self.old.trip ≡ None) }
+        requires range { IsHeld self.old.number held.now }
+        requires fits { Fits tables.now held.now }
+        requires room { acts.old.items ≡ [] }
+        ensures lawful { IsPowered tables.now 8639999 999999 0 self.new }
+        ensures few { length acts.new.items ≤ 2 }
+        ensures ranges { All (IsLawfulAct tables.now self.old.number) acts.old.items
+            → All (IsLawfulAct tables.now self.old.number) acts.new.items }
+        ensures follows { (s : Setting) (m : Meter) → IsSettingOf s tables.now seal.now
+            → Some (forgotten held.now) ≡ option_map (trips.saved_of s) m.trip
+            → self.old ≡ plain_of s (record m { trip = None })
+            → Follows s self.new acts.old.items acts.new.items (model.aborted s held.now m) }
+        ensures steps { steps.new ≤ steps.old + 12 }
+    {
+        self.position = held.position;
+        let closing = Closing {
+            kind: Kind::Aborted,
+            finish: held.saved,
+        };
+        self.close_trip(closing, &kept_form(*held), tables, seal, acts, steps);
+        self.position = 1;
+        self.zone = 1;
+    }
+}

@@ -1,0 +1,104 @@
+//! Entries and receipts.
+ghost use Rattle.std.specs.Prelude.{◌≡◌, ◌≢◌, ◌+◌, ◌*◌, ◌≤◌};
+ghost use Rattle.taxi_units.specs.Shown.{IsReceipt};
+ghost use Rattle.taxi_units.specs.Time.{IsSecond};
+ghost use Rattle.taxi_units.specs.declared.receipt.Kind.TheVariants.{Roam};
+ghost use Rattle.totaliser_store.specs.Ranges.{IsEntry};
+ghost use Rattle.meter_states.specs.Closing as model;
+ghost use Rattle.meter_states.specs.Lawful.{IsTripBeside};
+ghost use Rattle.meter_states.specs.Setting.{Setting, IsSettingOf, IsTariffOf};
+ghost use Rattle.meter_states.specs.Trip as trips;
+
+use crate::lookups::{distance, stamp};
+use crate::trip::{display_steps, extras_are_few, fare};
+use seal_store::Seal;
+use std::sync::ledger::Ledger;
+use tariff_compile::Tables;
+use taxi_units::{Kind, Receipt, Steps};
+use totaliser_store::{Entry, Trip};
+
+/// How a trip is closed, and at which second.
+#[derive(Clone, Copy)]
+pub(crate) struct Closing {
+    pub(crate) kind: Kind,
+    pub(crate) finish: u64,
+}
+
+/// The entry of a trip that is closed at a tariff position, where the store has a number.
+pub(crate) fn entry(kind: Kind, position: u8, trip: &Trip, number: u64, tables: &Tables) -> Entry
+    requires range { IsTripBeside tables.now (number + 1) 8640000 trip.now }
+    requires position { (1 ≤ position) × (position ≤ 9) }
+    requires number { number ≤ 2000000000000000 }
+    requires kind { kind ≢ Roam }
+    ensures value { (s : Setting) (t : trips.Trip) → IsTariffOf s tables.now → trip.now ≡ trips.saved_of s t
+        → result ≡ model.entry_of s kind position t }
+    ensures range { IsEntry result }
+    ensures kind { result.kind ≡ kind }
+{
+    extras_are_few(trip, tables);
+    Entry {
+        kind,
+        roam_mm: distance(tables, trip.roam as u64),
+        hired_mm: distance(tables, trip.pulses),
+        fare: fare(trip, tables),
+        supplements: trip.extras_sum,
+        position,
+    }
+}
+
+/// The entry of roaming.
+pub(crate) fn roaming_entry(pulses: u32, tables: &Tables) -> Entry
+    requires { pulses ≤ 1001999 }
+    ensures value { (s : Setting) → IsTariffOf s tables.now → result ≡ model.roaming_entry s pulses }
+    ensures range { IsEntry result }
+{
+    Entry {
+        kind: Kind::Roam,
+        roam_mm: distance(tables, pulses as u64),
+        hired_mm: 0,
+        fare: 0,
+        supplements: 0,
+        position: 0,
+    }
+}
+
+/// The receipt of a trip, with the store's number after its entry. At most 12 steps.
+pub(crate) fn receipt<L: Ledger>(
+    closing: Closing,
+    position: u8,
+    trip: &Trip,
+    number: u64,
+    tables: &Tables,
+    seal: &Seal,
+    steps: &mut Steps<L>,
+) -> Receipt
+    requires range { IsTripBeside tables.now number 8640000 trip.now }
+    requires position { (1 ≤ position) × (position ≤ 9) }
+    requires number { (1 ≤ number) × (number ≤ 2000000000000001) }
+    requires kind { closing.kind ≢ Roam }
+    requires finish { IsSecond closing.finish }
+    ensures value { (s : Setting) (t : trips.Trip) → IsSettingOf s tables.now seal.now
+        → trip.now ≡ trips.saved_of s t
+        → result ≡ model.receipt_of s closing.kind closing.finish position t number }
+    ensures range { IsReceipt result }
+    ensures steps { steps.new ≤ steps.old + 12 }
+{
+    extras_are_few(trip, tables);
+    let start = stamp(seal, trip.started, steps);
+    let finish = stamp(seal, closing.finish, steps);
+    Receipt {
+        number,
+        kind: closing.kind,
+        start,
+        finish,
+        position,
+        hired_mm: distance(tables, trip.pulses),
+        initial: trip.initial,
+        minimum: trip.minimum,
+        steps: display_steps(trip, tables),
+        step: tables.step(),
+        fare: fare(trip, tables),
+        supplements: trip.extras_sum,
+        decimals: tables.decimals(),
+    }
+}

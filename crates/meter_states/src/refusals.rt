@@ -1,0 +1,38 @@
+//! What a refusal leaves, and when a key acts.
+ghost use Rattle.std.specs.Prelude.{◌≡◌, ◌≢◌, ◌<◌, ℕ, [], ◌∷◌, None, Option, Some, sum};
+ghost use Rattle.taxi_units.specs.Time.{longest_trip};
+ghost use Rattle.taxi_units.specs.declared.event.Event.{Event};
+ghost use Rattle.taxi_units.specs.declared.event.Event.TheVariants.{Tick};
+ghost use Rattle.taxi_units.specs.declared.event.Key.{Key};
+ghost use Rattle.taxi_units.specs.declared.event.Operating.TheVariants.{Hired};
+ghost use Rattle.taxi_units.specs.declared.event.Why.{Why};
+ghost use Rattle.meter_states.specs.Interval.{context_of, interval_counted};
+ghost use Rattle.meter_states.specs.Keys.{latch_pressed};
+ghost use Rattle.meter_states.specs.Meter.{Meter, quiet};
+ghost use Rattle.meter_states.specs.Refusals.{IsTooFast};
+ghost use Rattle.meter_states.specs.Setting.{Setting};
+ghost use Rattle.meter_states.specs.Step.{step, ticked};
+ghost use Rattle.meter_states.specs.Trip.{InHired, Trip, ticks_of, with_part};
+ghost use Rattle.meter_states.specs.declared.act.Act.TheVariants.{Refuse};
+
+/// A refused event changes nothing, but pulses that are too fast, of which the interval takes those that
+/// it has room for. A key that is refused at a tick leaves the latch, and changes nothing else.
+pub fn refused_events_change_nothing()
+    ensures event { (s : Setting) (event : Event) (m : Meter) (why : Why) → event ≢ Tick → ¬ (IsTooFast why)
+        → (step s event m).acts ≡ Refuse why ∷ [] → (step s event m).next ≡ m }
+    ensures key { (s : Setting) (key : Key) (m : Meter) (why : Why)
+        → (latch_pressed s (Some key) m).acts ≡ Refuse why ∷ []
+        → (latch_pressed s (Some key) m).next ≡ record m { latch = None } }
+{}
+
+/// A key acts after the interval in which it was pressed: the interval comes to the same whatever key
+/// waits. And an interval in Hired is charged in the context of its beginning: at a tick at which no key
+/// waits, the trip has that interval more, and nothing else.
+pub fn keys_act_after_their_interval()
+    ensures key { (s : Setting) (m : Meter) (latch : Option Key)
+        → interval_counted s (record m { latch = latch })
+        ≡ quiet (record (interval_counted s m).next { latch = latch }) }
+    ensures interval { (s : Setting) (m : Meter) (t : Trip) → m.operating ≡ Hired → m.trip ≡ Some t → m.latch ≡ None
+        → ticks_of (with_part (InHired (sum m.taken) (context_of s m)) t) < longest_trip
+        → (ticked s m).next.trip ≡ Some (with_part (InHired (sum m.taken) (context_of s m)) t) }
+{}

@@ -1,0 +1,150 @@
+//! What a supply drop leaves.
+ghost use Rattle.std.specs.Prelude.{◌≡◌, ◌≢◌, ◌<◌, ◌≤◌, ◌+◌, ℕ, [], All, None, Some};
+ghost use Rattle.taxi_units.specs.declared.event.Operating.TheVariants.{Off};
+ghost use Rattle.totaliser_store.specs.Ranges.{IsTrip};
+ghost use Rattle.taxi_units.specs.declared.receipt.Kind.TheVariants.{Aborted};
+ghost use Rattle.meter_states.specs.Acts.{IsLawfulAct};
+ghost use Rattle.meter_states.specs.Closing.{closed};
+ghost use Rattle.meter_states.specs.Core.{Follows, plain_of};
+ghost use Rattle.meter_states.specs.Fits.{Fits};
+ghost use Rattle.meter_states.specs.Lawful.{IsPowered};
+ghost use Rattle.meter_states.specs.Meter.{Meter, held};
+ghost use Rattle.meter_states.specs.Setting.{Setting, IsSettingOf};
+ghost use Rattle.meter_states.specs.Supply as model;
+ghost use Rattle.meter_states.specs.Trip as trips;
+
+use crate::act::{Act, Acts};
+use crate::core_state::Core;
+use crate::lookups::modulus;
+use crate::records::Closing;
+use crate::trip::extras_are_few;
+use seal_store::Seal;
+use std::sync::ledger::Ledger;
+use tariff_compile::Tables;
+use taxi_units::{Kind, Steps};
+use totaliser_store::Trip;
+
+/// The store takes no held trip from this number on.
+const HOLDS_END: u64 = 2_000_000_000_000_000;
+
+impl Core {
+    /// The supply drops. At most 12 steps.
+    pub(crate) fn drop_supply<L: Ledger>(
+        &mut self,
+        tables: &Tables,
+        seal: &Seal,
+        acts: &mut Acts,
+        steps: &mut Steps<L>,
+    )
+        requires lawful { IsPowered tables.now 8639999 999999 0 self.old }
+        requires room { acts.old.items ≡ [] }
+        ensures off { self.new.operating ≡ Off }
+        ensures ranges { All (IsLawfulAct tables.now self.old.number) acts.old.items
+            → All (IsLawfulAct tables.now self.old.number) acts.new.items }
+        ensures done { (s : Setting) (m : Meter) → IsSettingOf s tables.now seal.now → self.old ≡ plain_of s m
+            → acts.new.items ≡ (model.supply_dropped s m).acts }
+        ensures steps { steps.new ≤ steps.old + 12 }
+    {
+        self.leave_interval(tables);
+        self.keep(tables, seal, acts, steps);
+        *self = Core::off();
+    }
+
+    /// The trip is kept, or roaming pulses are entered without one. At most 12 steps.
+    fn keep<L: Ledger>(
+        &mut self,
+        tables: &Tables,
+        seal: &Seal,
+        acts: &mut Acts,
+        steps: &mut Steps<L>,
+    )
+        requires lawful { IsPowered tables.now 8639999 1001999 1 self.old }
+        requires room { acts.old.items ≡ [] }
+        ensures ranges { All (IsLawfulAct tables.now self.old.number) acts.old.items
+            → All (IsLawfulAct tables.now self.old.number) acts.new.items }
+        ensures follows { (s : Setting) (m : Meter) → IsSettingOf s tables.now seal.now → self.old ≡ plain_of s m
+            → Follows s self.new acts.old.items acts.new.items (model.kept s m.trip m) }
+        ensures steps { steps.new ≤ steps.old + 12 }
+    {
+        match self.trip {
+            None => {
+                if self.roam > 0 {
+                    self.enter_roaming(tables, seal, acts);
+                }
+            }
+            Some(trip) => {
+                if self.number < HOLDS_END {
+                    self.hold(trip, tables, seal, acts);
+                } else {
+                    self.abort_now(tables, seal, acts, steps);
+                }
+            }
+        }
+    }
+
+    /// The trip is closed at the drop, where the store takes no held trip. At most 12 steps.
+    fn abort_now<L: Ledger>(
+        &mut self,
+        tables: &Tables,
+        seal: &Seal,
+        acts: &mut Acts,
+        steps: &mut Steps<L>,
+    )
+        requires lawful { IsPowered tables.now 8639999 1001999 1 self.old }
+        requires trip { self.old.trip ≢ None }
+        requires room { acts.old.items ≡ [] }
+        ensures ranges { All (IsLawfulAct tables.now self.old.number) acts.old.items
+            → All (IsLawfulAct tables.now self.old.number) acts.new.items }
+        ensures follows { (s : Setting) (m : Meter) → IsSettingOf s tables.now seal.now → self.old ≡ plain_of s m
+            → Follows s self.new acts.old.items acts.new.items (closed s Aborted m.clock m) }
+        ensures steps { steps.new ≤ steps.old + 12 }
+    {
+        let closing = Closing {
+            kind: Kind::Aborted,
+            finish: self.clock,
+        };
+        self.close(closing, tables, seal, acts, steps);
+    }
+
+    /// The trip is held.
+    fn hold(&mut self, trip: Trip, tables: &Tables, seal: &Seal, acts: &mut Acts)
+        requires lawful { IsPowered tables.now 8639999 1001999 1 self.old }
+        requires trip { self.old.trip ≡ Some trip }
+        requires number { self.old.number < 2000000000000000 }
+        requires room { acts.old.items ≡ [] }
+        ensures ranges { All (IsLawfulAct tables.now self.old.number) acts.old.items
+            → All (IsLawfulAct tables.now self.old.number) acts.new.items }
+        ensures follows { (s : Setting) (m : Meter) (t : trips.Trip) → IsSettingOf s tables.now seal.now
+            → trip ≡ trips.saved_of s t → self.old ≡ plain_of s m
+            → Follows s self.new acts.old.items acts.new.items
+            (held (trips.held_trip s m.clock (model.is_stopped m.operating) m.position m.zone t) m) }
+    {
+        acts.push(Act::Hold(self.held_form(trip, tables)));
+        self.number += 1;
+    }
+
+    /// The trip as it is held.
+    fn held_form(&self, trip: Trip, tables: &Tables) -> Trip
+        requires lawful { IsPowered tables.now 8639999 1001999 1 self.now }
+        requires trip { self.now.trip ≡ Some trip }
+        ensures value { result ≡ record trip {
+          saved = self.now.clock;
+          stopped = model.is_stopped self.now.operating;
+          position = self.now.position;
+          zone = self.now.zone;
+        } }
+        ensures range { IsTrip (self.now.number + 1) result }
+        ensures fits { Fits tables.now result }
+    {
+        tables.are_fit();
+        extras_are_few(&trip, tables);
+        modulus(tables);
+        Trip {
+            saved: self.clock,
+            stopped: self.is_stopped(),
+            position: self.position,
+            zone: self.zone,
+            ..trip
+        }
+    }
+}

@@ -1,0 +1,116 @@
+//! The tick, which ends a measuring interval.
+ghost use Rattle.std.specs.Prelude.{◌≡◌, ◌≢◌, ◌⊎◌, ◌≤◌, ◌+◌, ℕ, [], All, None, IsTrue, false, nat_le, length};
+ghost use Rattle.taxi_units.specs.Time.{longest_trip};
+ghost use Rattle.meter_states.specs.Acts.{IsLawfulAct};
+ghost use Rattle.meter_states.specs.Core.{Follows, plain_of};
+ghost use Rattle.meter_states.specs.Interval.{ticks_so_far};
+ghost use Rattle.meter_states.specs.Lawful.{IsPowered, pressing_steps};
+ghost use Rattle.meter_states.specs.Meter.{Meter};
+ghost use Rattle.meter_states.specs.Setting.{Setting, IsSettingOf};
+ghost use Rattle.meter_states.specs.Step.{expired, expired_or_pressed, ticked};
+
+use crate::act::{Acts, refuse};
+use crate::core_state::Core;
+use crate::records::Closing;
+use seal_store::Seal;
+use std::sync::ledger::Ledger;
+use tariff_compile::Tables;
+use taxi_units::{Kind, LONGEST_TRIP, Steps, Why};
+
+impl Core {
+    /// A tick. At most 48 steps.
+    pub(crate) fn tick<L: Ledger>(
+        &mut self,
+        tables: &Tables,
+        seal: &Seal,
+        acts: &mut Acts,
+        steps: &mut Steps<L>,
+    )
+        requires lawful { IsPowered tables.now 8639999 999999 0 self.old }
+        requires room { acts.old.items ≡ [] }
+        ensures lawful { IsPowered tables.now 8639999 999999 0 self.new }
+        ensures ranges { All (IsLawfulAct tables.now self.old.number) acts.old.items
+            → All (IsLawfulAct tables.now self.old.number) acts.new.items }
+        ensures follows { (s : Setting) (m : Meter) → IsSettingOf s tables.now seal.now → self.old ≡ plain_of s m
+            → Follows s self.new acts.old.items acts.new.items (ticked s m) }
+        ensures steps { steps.new ≤ steps.old + 48 }
+    {
+        self.count_interval(tables, seal, steps);
+        self.expire_or_press(tables, seal, acts, steps);
+        self.check_roaming(tables, seal, acts);
+        self.show(tables, seal, acts);
+        self.began = self.clock;
+    }
+
+    /// A trip that has reached its longest time expires; otherwise the key that waits acts. At most 29
+    /// steps for hire, and 12 otherwise.
+    fn expire_or_press<L: Ledger>(
+        &mut self,
+        tables: &Tables,
+        seal: &Seal,
+        acts: &mut Acts,
+        steps: &mut Steps<L>,
+    )
+        requires lawful { IsPowered tables.now 8640000 1001999 0 self.old }
+        requires room { acts.old.items ≡ [] }
+        ensures lawful { IsPowered tables.now 8639999 1001999 0 self.new }
+        ensures few { length acts.new.items ≤ 3 }
+        ensures roam { ((length acts.new.items ≤ 1) × (self.new.number ≡ self.old.number)) ⊎ (self.new.roam ≡ 0) }
+        ensures ranges { All (IsLawfulAct tables.now self.old.number) acts.old.items
+            → All (IsLawfulAct tables.now self.old.number) acts.new.items }
+        ensures follows { (s : Setting) (m : Meter) → IsSettingOf s tables.now seal.now → self.old ≡ plain_of s m
+            → Follows s self.new acts.old.items acts.new.items (expired_or_pressed s m) }
+        ensures steps { steps.new ≤ steps.old + pressing_steps self.old.operating }
+    {
+        if self.is_long(tables) {
+            self.expire(tables, seal, acts, steps);
+        } else {
+            self.press(tables, seal, acts, steps);
+        }
+    }
+
+    /// Whether the trip has reached its longest time.
+    fn is_long(&self, tables: &Tables) -> bool
+        requires lawful { IsPowered tables.now 8640000 1001999 0 self.now }
+        ensures state { (s : Setting) (m : Meter) → self.now ≡ plain_of s m
+            → result ≡ nat_le longest_trip (ticks_so_far m.trip) }
+        ensures long { IsTrue result → self.now.trip ≢ None }
+        ensures short { result ≡ false → IsPowered tables.now 8639999 1001999 0 self.now }
+    {
+        match self.trip {
+            None => false,
+            Some(trip) => trip.ticks >= LONGEST_TRIP,
+        }
+    }
+
+    /// The trip expires: it is closed, and a key that waits is refused. At most 12 steps.
+    fn expire<L: Ledger>(
+        &mut self,
+        tables: &Tables,
+        seal: &Seal,
+        acts: &mut Acts,
+        steps: &mut Steps<L>,
+    )
+        requires lawful { IsPowered tables.now 8640000 1001999 0 self.old }
+        requires trip { self.old.trip ≢ None }
+        requires room { acts.old.items ≡ [] }
+        ensures lawful { IsPowered tables.now 8639999 999999 0 self.new }
+        ensures few { length acts.new.items ≤ 3 }
+        ensures roam { self.new.roam ≡ 0 }
+        ensures ranges { All (IsLawfulAct tables.now self.old.number) acts.old.items
+            → All (IsLawfulAct tables.now self.old.number) acts.new.items }
+        ensures follows { (s : Setting) (m : Meter) → IsSettingOf s tables.now seal.now → self.old ≡ plain_of s m
+            → Follows s self.new acts.old.items acts.new.items (expired s m) }
+        ensures steps { steps.new ≤ steps.old + 12 }
+    {
+        let closing = Closing {
+            kind: Kind::Expired,
+            finish: self.clock,
+        };
+        self.close(closing, tables, seal, acts, steps);
+        if let Some(_) = self.latch {
+            self.latch = None;
+            refuse(Why::Expired, acts);
+        }
+    }
+}

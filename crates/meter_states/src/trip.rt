@@ -1,0 +1,177 @@
+//! The saved form of a trip: what begins it, and what an interval and a supplement add.
+ghost use Rattle.std.specs.Prelude.{◌≡◌, ◌≢◌, ℕ, ◌+◌, ◌-◌, ◌*◌, ◌^◌, ◌<◌, ◌≤◌, All, Some, slice_index};
+ghost use Rattle.drive_modes.specs.Fare.{shown_fare, steps_of};
+ghost use Rattle.tariff_compile.specs.Tables.{AreFit, IsFitInitial, rate_by};
+ghost use Rattle.tariff_syntax.specs.declared.context.Context.{Context};
+ghost use Rattle.taxi_units.specs.Time.{IsSecond};
+ghost use Rattle.totaliser_store.specs.declared.trip.Trip as store;
+ghost use Rattle.meter_states.specs.Lawful.{IsTrip};
+ghost use Rattle.meter_states.specs.Setting.{Setting, IsSettingOf, IsTariffOf};
+ghost use Rattle.meter_states.specs.Supplements.{supplement_in, times};
+ghost use Rattle.meter_states.specs.Trip as model;
+
+use crate::lookups::modulus;
+use drive_modes::{Meterage, Weights, charge};
+use seal_store::Seal;
+use tariff_compile::{Initial, Supplement, Tables};
+use totaliser_store::Trip;
+
+/// A trip that begins at a second, after these roaming pulses. What has a meaning in the store alone is
+/// as it stays while the meter is powered.
+pub(crate) fn begun(tables: &Tables, fee: Initial, second: u64, roam: u32) -> Trip
+    requires second { IsSecond second }
+    requires fee { IsFitInitial fee }
+    requires roam { roam ≤ 1001999 }
+    ensures saved { (s : Setting) → IsTariffOf s tables.now
+        → result ≡ model.saved_of s (model.begun s fee second roam) }
+    ensures range { IsTrip tables.now 8639999 result }
+    ensures none { (result.pulses ≡ 0) × (result.ticks ≡ 0) }
+    ensures started { result.started ≡ second }
+{
+    tables.are_fit();
+    Trip {
+        started: second,
+        saved: 0,
+        stopped: false,
+        position: 1,
+        zone: 1,
+        roam,
+        pulses: 0,
+        ticks: 0,
+        initial: fee.amount,
+        minimum: fee.minimum,
+        meterage: Meterage::start(fee.covers, tables.measure()),
+        extras: [0; 16],
+        extras_sum: 0,
+    }
+}
+
+/// The trip with an interval that ended in Hired.
+pub(crate) fn with_hired(
+    trip: Trip,
+    tables: &Tables,
+    seal: &Seal,
+    weights: Weights,
+    pulses: u32,
+) -> Trip
+    requires pulses { pulses ≤ 2000 }
+    requires weights { AreFit tables.now.measure weights }
+    requires few { trip.pulses ≤ 9000000000000000000 }
+    requires range { IsTrip tables.now 8639999 trip }
+    ensures saved { (s : Setting) (t : model.Trip) (x : Context) → IsSettingOf s tables.now seal.now
+        → weights ≡ rate_by s.tariff tables.now.constant x → trip ≡ model.saved_of s t
+        → result ≡ model.saved_of s (model.with_part (model.InHired pulses x) t) }
+    ensures range { IsTrip tables.now 8640000 result }
+    ensures counts { (result.pulses ≡ trip.pulses + pulses) × (result.ticks ≡ trip.ticks + 1) }
+    ensures started { result.started ≡ trip.started }
+{
+    let mut meterage = trip.meterage;
+    tables.are_fit();
+    meterage.add(charge(seal.params.mode, weights, pulses), modulus(tables));
+    Trip {
+        pulses: trip.pulses + pulses as u64,
+        ticks: trip.ticks + 1,
+        meterage,
+        ..trip
+    }
+}
+
+/// The trip with an interval that ended in Stopped.
+pub(crate) fn with_stopped(trip: Trip, tables: &Tables, pulses: u32) -> Trip
+    requires pulses { pulses ≤ 2000 }
+    requires few { trip.pulses ≤ 9000000000000000000 }
+    requires range { IsTrip tables.now 8639999 trip }
+    ensures saved { (s : Setting) (t : model.Trip) → trip ≡ model.saved_of s t
+        → result ≡ model.saved_of s (model.with_part (model.InStopped pulses) t) }
+    ensures range { IsTrip tables.now 8640000 result }
+    ensures counts { (result.pulses ≡ trip.pulses + pulses) × (result.ticks ≡ trip.ticks + 1) }
+    ensures started { result.started ≡ trip.started }
+{
+    Trip {
+        pulses: trip.pulses + pulses as u64,
+        ticks: trip.ticks + 1,
+        ..trip
+    }
+}
+
+/// The trip with the pulses of an interval that was left unfinished.
+pub(crate) fn with_rest(trip: Trip, tables: &Tables, pulses: u32) -> Trip
+    requires pulses { pulses ≤ 2000 }
+    requires few { trip.pulses ≤ 9000000000000000000 }
+    requires range { IsTrip tables.now 8639999 trip }
+    ensures saved { (s : Setting) (t : model.Trip) → trip ≡ model.saved_of s t
+        → result ≡ model.saved_of s (model.with_part (model.Rest pulses) t) }
+    ensures range { IsTrip tables.now 8639999 result }
+    ensures counts { (result.pulses ≡ trip.pulses + pulses) × (result.ticks ≡ trip.ticks) }
+    ensures started { result.started ≡ trip.started }
+{
+    Trip {
+        pulses: trip.pulses + pulses as u64,
+        ..trip
+    }
+}
+
+/// What is known of the supplements of a trip: how often each was added at most, and what they come to at
+/// most.
+pub(crate) fn extras_are_few(trip: &Trip, tables: &Tables)
+    requires range { IsTrip tables.now 8640000 trip.now }
+    ensures counts { All (λ count. count ≤ 99) trip.now.extras }
+    ensures sum { trip.now.extras_sum ≤ 1584000000 }
+{
+    tables.measure();
+}
+
+/// The display steps that are shown.
+pub(crate) fn display_steps(trip: &Trip, tables: &Tables) -> u64
+    requires range { IsTrip tables.now 8640000 trip.now }
+    ensures value { (s : Setting) (t : model.Trip) → IsTariffOf s tables.now → trip.now ≡ model.saved_of s t
+        → result ≡ model.steps_shown s t }
+    ensures exact { result ≡ steps_of tables.now.rounding trip.now.meterage }
+    ensures most { result < 10 ^ 18 }
+{
+    trip.meterage.steps(tables.rounding())
+}
+
+/// The fare that is shown.
+pub(crate) fn fare(trip: &Trip, tables: &Tables) -> u64
+    requires range { IsTrip tables.now 8640000 trip.now }
+    ensures value { (s : Setting) (t : model.Trip) → IsTariffOf s tables.now → trip.now ≡ model.saved_of s t
+        → result ≡ model.fare_of s t }
+    ensures exact { result ≡ shown_fare trip.now.initial trip.now.minimum tables.now.step
+        (steps_of tables.now.rounding trip.now.meterage) }
+    ensures most { result ≤ 99999999 }
+{
+    trip.meterage.shown(trip.initial, trip.minimum, tables.step(), tables.rounding())
+}
+
+/// How often the supplement of a number was added.
+pub(crate) fn times(trip: &Trip, number: u8) -> u8
+    requires { (1 ≤ number) × (number ≤ 16) }
+    ensures value { result ≡ slice_index trip.now.extras (number - 1) }
+    ensures times { (s : Setting) (t : model.Trip) → trip.now ≡ model.saved_of s t → result ≡ times number t.extras }
+{
+    trip.extras[number as usize - 1]
+}
+
+/// The trip with a supplement of the tariff more, which it hasn't had as often as it may.
+pub(crate) fn with_extra(trip: Trip, tables: &Tables, number: u8, supplement: Supplement) -> Trip
+    requires number { (1 ≤ number) × (number ≤ 16) }
+    requires found { supplement_in tables.now number ≡ Some supplement }
+    requires amount { supplement.amount ≤ 1000000 }
+    requires few { slice_index trip.extras (number - 1) < supplement.max }
+    requires range { IsTrip tables.now 8639999 trip }
+    ensures saved { (s : Setting) (t : model.Trip) → IsTariffOf s tables.now → trip ≡ model.saved_of s t
+        → result ≡ model.saved_of s (model.with_extra number t) }
+    ensures range { IsTrip tables.now 8639999 result }
+    ensures counts { (result.pulses ≡ trip.pulses) × (result.ticks ≡ trip.ticks) }
+    ensures started { result.started ≡ trip.started }
+{
+    extras_are_few(&trip, tables);
+    let mut extras = trip.extras;
+    extras[number as usize - 1] += 1;
+    Trip {
+        extras,
+        extras_sum: trip.extras_sum + supplement.amount,
+        ..trip
+    }
+}

@@ -1,0 +1,48 @@
+-- The opening of the store, from its two scans.
+use Rattle.std.proofs.Common.{◌≡◌, ℕ, List, Option, Result, Ok, Err, refl, sym, ap, subst, ◌∙◌, arith}
+use Rattle.slot_store.specs.declared.found.Found.{Found}
+use Rattle.slot_store.specs.declared.found.Found.TheVariants.{Blank, Latest}
+use Rattle.slot_store.specs.declared.found.SlotFault.{SlotFault}
+use Rattle.slot_store.specs.declared.found.SlotFault.TheVariants as slots
+use Rattle.slot_store.specs.Scan.{found_at, IsAsFound}
+use Rattle.slot_store.specs.Slots.{IsAt, IsBlank}
+use Rattle.totaliser_store.specs.declared.durable.Durable.{Durable}
+use Rattle.totaliser_store.specs.Reading as totals
+use Rattle.totaliser_store.specs.Stored as states
+use Rattle.seal_store.specs.declared.seal.Seal.{Seal}
+use Rattle.seal_store.specs.Decoding as seals
+use Rattle.taxi_cli.specs.declared.opening.StoreFault.{StoreFault}
+use Rattle.taxi_cli.specs.declared.opening.StoreFault.TheVariants.{BoardFault}
+use Rattle.taxi_cli.specs.Opening.{fault_from, opened, opening_of}
+
+-- only the board's fault in a scan is one of the opening
+pub failed_from : (first : ℕ) (fault : SlotFault) → fault_from first fault ≡ BoardFault → fault ≡ slots.DeviceFailed
+failed_from first (slots.BadBody slot) e = absurd cc
+failed_from first (slots.SameNumber number) e = absurd cc
+failed_from first slots.DeviceFailed e = refl
+
+-- one answer has one fault, and a good one none
+pub same_fault : {T E : Type 0} (r : Result T E) (a b : E) → r ≡ Err a → r ≡ Err b → a ≡ b
+same_fault r a b e f = cc
+
+pub no_fault : {T E : Type 0} (r : Result T E) (x : T) (e : E) → r ≡ Ok x → ¬ (r ≡ Err e)
+no_fault r x e is = λ bad. absurd cc
+
+-- the opening of an image, by what the scans of its pairs answer
+pub opened_bad : (image : List ℕ) (fault : SlotFault) → found_at totals.reads states.number_of 0 image ≡ Err fault → opening_of image ≡ Err (fault_from 0 fault)
+opened_bad image fault e = ap (λ (x : Result (Found Durable) SlotFault). opened x (found_at seals.reads seals.number_of 1024 image)) e
+
+pub opened_by : (image : List ℕ) (durable : Found Durable) (seal : Result (Found Seal) SlotFault) → found_at totals.reads states.number_of 0 image ≡ Ok durable
+    → found_at seals.reads seals.number_of 1024 image ≡ seal → opening_of image ≡ opened (Ok durable) seal
+opened_by image durable seal e f =
+    ap (λ (x : Result (Found Durable) SlotFault). opened x (found_at seals.reads seals.number_of 1024 image)) e ∙ ap (opened (Ok durable)) f
+
+-- what was found stays while the image does, and no more is in flight
+pub stays_found : {T : Type 0} (reads : List ℕ → Option T) (number_of : T → ℕ) (at : ℕ) (old new : List ℕ) (flown flying : ℕ → Type 0) (found : Found T) → new ≡ old
+    → ((place : ℕ) → flying place → flown place) → IsAsFound reads number_of at old flown found → IsAsFound reads number_of at new flying found
+stays_found reads number_of at old new flown flying Blank e fewer h =
+    (subst (λ (i : List ℕ). IsBlank at i) (sym e) h.0, λ place within flies. h.1 place within (fewer place flies))
+stays_found reads number_of at old new flown flying (Latest place body) e fewer h = record {
+  quiet = λ byte within flies. h.quiet byte within (fewer byte flies);
+  is_at = subst (λ (i : List ℕ). IsAt reads number_of at place i body) (sym e) h.is_at;
+}

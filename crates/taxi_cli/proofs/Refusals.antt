@@ -1,0 +1,57 @@
+-- A command whose tariff isn't accepted, or that finds no memory.
+use Rattle.std.proofs.Common.{◌≡◌, ◌≢◌, ℕ, List, [], refl, sym, ap, inl, arith}
+use Rattle.taxi_cli.specs.declared.ending.Ended.TheVariants as ended
+use Rattle.taxi_cli.specs.declared.tariff.Refusal.{Refusal}
+use Rattle.taxi_cli.specs.declared.tariff.TextFault.{TextFault}
+use Rattle.taxi_cli.specs.declared.tariff.TextFault.TheVariants as texts
+use Rattle.taxi_cli.specs.Answer.{Answer}
+use Rattle.taxi_cli.specs.Call.{Takes}
+use Rattle.taxi_cli.specs.Course.{Command, Answered, ReadFailed, NoMemory}
+use Rattle.taxi_cli.specs.Ending.{ComesUnprinted, ended_for}
+use Rattle.taxi_cli.specs.Tariffs.{bad_tariff}
+
+module _ (c : Command) (contents left : ℕ → List ℕ) (image : List ℕ) (read_failed : ℕ → Type 0)
+    (untouched : Takes c.drive contents left []) (may : c.may_lack contents image) where
+  -- memory ran out before the drive
+  pub comes-no_memory : ComesUnprinted c contents left image read_failed ended.NoMemory
+  comes-no_memory = record {
+    course = NoMemory;
+    may = record { may = may; takes = untouched };
+    stands = inl (record { status_is = refl; line_is = refl; shown = refl });
+  }
+
+  -- a tariff was refused
+  comes-bad_tariff : (why : Refusal) → c.answer contents image ≡ bad_tariff why → ComesUnprinted c contents left image read_failed (ended.BadTariff why)
+  comes-bad_tariff why e =
+      let two : (c.answer contents image).status ≡ 2 = ap (λ (a : Answer). a.status) e in
+      record {
+        course = Answered;
+        may = record {
+          whole = λ is. absurd (differ_0 _ two is);
+          refused = λ is. untouched;
+          bad = λ is. absurd (differ_3 _ two is);
+        };
+        stands = inl (record {
+          status_is = sym two;
+          line_is = sym (ap (λ (a : Answer). a.line) e);
+          shown = ap (λ (a : Answer). a.shown) e;
+        });
+      }
+    where
+      differ_0 : (n : ℕ) → n ≡ 2 → n ≢ 0
+      differ_0 n e f = omega arith
+
+      differ_3 : (n : ℕ) → n ≡ 2 → n ≢ 3
+      differ_3 n e f = omega arith
+
+  -- the tariff of word 1 wasn't read
+  pub comes-refused : (fault : TextFault) → c.reads 1 → c.comes_to contents image 1 [] → c.shown contents image [] ≡ []
+      → (fault ≡ texts.ReadFault → read_failed 1) → ((why : Refusal) → fault ≡ texts.Refused why → c.answer contents image ≡ bad_tariff why)
+      → ComesUnprinted c contents left image read_failed (ended_for fault)
+  comes-refused texts.ReadFault reads comes nothing failed refused = record {
+    course = ReadFailed 1 [];
+    may = record { reads = reads; comes = comes; failed = failed refl; takes = untouched };
+    stands = inl (record { status_is = refl; line_is = refl; shown = nothing });
+  }
+  comes-refused (texts.Refused why) reads comes nothing failed refused = comes-bad_tariff why (refused why refl)
+  comes-refused texts.NoMemory reads comes nothing failed refused = comes-no_memory

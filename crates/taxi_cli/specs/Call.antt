@@ -1,0 +1,86 @@
+-- What holds of a call.
+use Rattle.std.specs.Prelude.{◌≡◌, ◌⊎◌, ℕ, List, [], ◌++◌, Option, Some, None}
+use Rattle.drive_text.specs.Ending.{IsSplit, TellsEnd}
+use Rattle.outside.specs.Faults.{Rose}
+use Rattle.outside.specs.Printing.{Begins}
+use Rattle.outside.specs.declared.board.Board.{Ghosts}
+use Rattle.outside.specs.declared.files.Files.{Ghosts as FileGhosts}
+use Rattle.taxi_cli.specs.Course.{Command, Course, Answered, ReadFailed, NoMemory, BoardFailed, status_in, text_in}
+
+-- these bytes of the drive were taken: none, where there is no drive
+abbrev pub Takes : (drive : Option ℕ) (contents left : ℕ → List ℕ) (taken : List ℕ) → Type 0
+Takes None contents left taken = taken ≡ []
+Takes (Some word) contents left taken = IsSplit (contents word) taken (left word)
+
+-- the bytes of the drive that were taken tell its end
+abbrev pub TellsItsEnd : (drive : Option ℕ) (contents left : ℕ → List ℕ) → Type 0
+TellsItsEnd None contents left = ⊥
+TellsItsEnd (Some word) contents left = TellsEnd (contents word) (left word)
+
+-- a call of a command, with what the files held and what is left of them, the opening image, and which counts of faults
+-- rose
+module _ (c : Command) (contents left : ℕ → List ℕ) (image : List ℕ) (read_failed : ℕ → Type 0)
+    (board_failed : Type 0) where
+  -- at the answer: at status 0 each file that the command reads was read to its end; at 2 nothing of the drive was
+  -- taken; and at 3 the bytes that were taken have what is bad
+  pub record IsAnswered : Type 0 where
+    pub whole : (c.answer contents image).status ≡ 0 → (word : ℕ) → c.reads word → left word ≡ []
+    pub refused : (c.answer contents image).status ≡ 2 → Takes c.drive contents left []
+    pub bad : (c.answer contents image).status ≡ 3 → TellsItsEnd c.drive contents left
+
+  -- a read failed, of a word that the command reads and had come to
+  pub record FailsToRead (word : ℕ) (taken : List ℕ) : Type 0 where
+    pub reads : c.reads word
+    pub comes : c.comes_to contents image word taken
+    pub failed : read_failed word
+    pub takes : Takes c.drive contents left taken
+
+  -- memory ran out, before anything of the drive was taken
+  pub record LacksMemory : Type 0 where
+    pub may : c.may_lack contents image
+    pub takes : Takes c.drive contents left []
+
+  -- the board failed
+  pub record FailsAtBoard (taken : List ℕ) : Type 0 where
+    pub failed : board_failed
+    pub takes : Takes c.drive contents left taken
+
+  -- what must hold for a course to be taken
+  abbrev pub MayTake : Course → Type 0
+  MayTake Answered = IsAnswered
+  MayTake (ReadFailed word taken) = FailsToRead word taken
+  MayTake NoMemory = LacksMemory
+  MayTake (BoardFailed taken) = FailsAtBoard taken
+
+-- the text was printed whole, with its status
+pub record IsWhole (tells_text : Type 0) (status : ℕ) (text : List ℕ) (ended : ℕ) (before now : List ℕ) : Type 0 where
+  pub status_is : ended ≡ status
+  pub printed : tells_text → now ≡ before ++ text
+
+-- the board failed, and a beginning of the text was printed
+pub record IsCutShort (tells_text board_failed : Type 0) (text : List ℕ) (ended : ℕ)
+    (before now : List ℕ) : Type 0 where
+  pub status_is : ended ≡ 8
+  pub failed : board_failed
+  pub begun : tells_text → Begins before now text
+
+-- a text was printed whole with its status, or cut short with 8
+abbrev pub IsEnd : (tells_text board_failed : Type 0) (status : ℕ) (text : List ℕ) (ended : ℕ) (before now : List ℕ) → Type 0
+IsEnd tells_text board_failed status text ended before now =
+    IsWhole tells_text status text ended before now ⊎ IsCutShort tells_text board_failed text ended before now
+
+module _ {E D L : Type 0} (F : FileGhosts E) (B : Ghosts D L) where
+  -- a call of a command took a course, and ended with its status and its text, or with 8 and a beginning of its text
+  pub record IsCall (c : Command) (files files' : E) (board board' : D) (ended : ℕ) : Type 0 where
+    pub course : Course
+    pub may : MayTake c (F.rest files) (F.rest files') (B.image board)
+        (λ word. Rose (F.faults files word) (F.faults files' word)) (Rose (B.faults board) (B.faults board')) course
+    pub ends : IsEnd B.tells_text (Rose (B.faults board) (B.faults board'))
+        (status_in c (F.rest files) (B.image board) course) (text_in c (F.rest files) (B.image board) course)
+        ended (B.printed board) (B.printed board')
+
+-- the count of faults rose of a file that the command reads
+pub record HasReadFault {E : Type 0} (F : FileGhosts E) (c : Command) (files files' : E) : Type 0 where
+  pub word : ℕ
+  pub reads : c.reads word
+  pub rose : Rose (F.faults files word) (F.faults files' word)

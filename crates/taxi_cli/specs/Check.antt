@@ -1,0 +1,30 @@
+-- The command `check TARIFF`.
+use Rattle.std.specs.Prelude.{◌≡◌, ◌+◌, ◌≤◌, [], None, Result, Ok, Err}
+use Rattle.tariff_syntax.specs.Tree.{Tree}
+use Rattle.tariff_check.specs.Cells.{cells_of}
+use Rattle.tariff_check.specs.Measure.{measure_of}
+use Rattle.taxi_cli.specs.Answer.{Answer, says}
+use Rattle.taxi_cli.specs.Course.{Command}
+use Rattle.taxi_cli.specs.LastLine.{sound_line}
+use Rattle.taxi_cli.specs.Tariffs.{tariff_in, bad_tariff}
+use Rattle.taxi_cli.specs.declared.tariff.Refusal.{Refusal}
+
+-- how many cells a sound tariff has, and its common measure
+abbrev pub check_answer : Result Tree Refusal → Answer
+check_answer (Err why) = bad_tariff why
+check_answer (Ok t) = says (sound_line (cells_of t.lines) (measure_of t.lines))
+
+-- it reads its tariff, and prints one line
+abbrev pub check_command : Command
+check_command = record {
+  answer = λ contents image. check_answer (tariff_in (contents 1));
+  drive = None;
+  shown = λ contents image taken. [];
+  reads = λ word. word ≡ 1;
+  comes_to = λ contents image word taken. word ≡ 1;
+  may_lack = λ contents image. Unit {0};
+  known = λ files_tell image_told. files_tell;
+  opens = ⊥;
+  writes = λ ended. ⊥;
+  steps = λ files_tell contents left before now. now ≤ before + 1;
+}

@@ -1,0 +1,64 @@
+-- What a command is, and the course that a call of it takes.
+use Rattle.std.specs.Prelude.{ℕ, List, [], ◌++◌, Option}
+use Rattle.taxi_cli.specs.Answer.{Answer}
+use Rattle.taxi_cli.specs.LastLine.{read_fault_line, no_memory_line}
+
+-- a command, by the contents of the files of its words and by the opening image of the store
+pub record Command : Type 1 where
+  -- its answer
+  pub answer : (contents : ℕ → List ℕ) (image : List ℕ) → Answer
+  -- the word of its drive, where it has one
+  pub drive : Option ℕ
+  -- what it shows of bytes of its drive that were taken
+  pub shown : (contents : ℕ → List ℕ) (image taken : List ℕ) → List ℕ
+  -- the words whose files it reads
+  pub reads : ℕ → Type 0
+  -- it comes to a read of this word's file, when these bytes of its drive were taken
+  pub comes_to : (contents : ℕ → List ℕ) (image : List ℕ) (word : ℕ) (taken : List ℕ) → Type 0
+  -- it comes to a place where memory may run out
+  pub may_lack : (contents : ℕ → List ℕ) (image : List ℕ) → Type 0
+  -- what has to be told for its answer to be known: the files' contents, the image
+  pub known : (files_tell image_told : Type 0) → Type 0
+  -- it opens the store
+  pub opens : Type 0
+  -- it may write the store, where it ends with this status
+  pub writes : (ended : ℕ) → Type 0
+  -- how many steps it may take
+  pub steps : (files_tell : Type 0) (contents left : ℕ → List ℕ) (before now : ℕ) → Type 0
+
+-- how far a call came
+pub data Course : Type 0 where
+  -- to its answer
+  Answered : Course
+  -- to a read of this word's file that failed, when these bytes of its drive were taken
+  ReadFailed : (word : ℕ) (taken : List ℕ) → Course
+  -- to a place where memory ran out
+  NoMemory : Course
+  -- to a fault of the board before its answer, when these bytes of its drive were taken
+  BoardFailed : (taken : List ℕ) → Course
+
+module _ (c : Command) (contents : ℕ → List ℕ) (image : List ℕ) where
+  -- the status of a course, where its text is printed whole
+  abbrev pub status_in : Course → ℕ
+  status_in Answered = (c.answer contents image).status
+  status_in (ReadFailed word taken) = 7
+  status_in NoMemory = 12
+  status_in (BoardFailed taken) = 8
+
+  -- what is shown in a course
+  abbrev pub shown_in : Course → List ℕ
+  shown_in Answered = (c.answer contents image).shown
+  shown_in (ReadFailed word taken) = c.shown contents image taken
+  shown_in NoMemory = []
+  shown_in (BoardFailed taken) = c.shown contents image taken
+
+  -- its last line, where there is one
+  abbrev pub line_in : Course → List ℕ
+  line_in Answered = (c.answer contents image).line
+  line_in (ReadFailed word taken) = read_fault_line
+  line_in NoMemory = no_memory_line
+  line_in (BoardFailed taken) = []
+
+  -- its text
+  abbrev pub text_in : Course → List ℕ
+  text_in course = shown_in course ++ line_in course

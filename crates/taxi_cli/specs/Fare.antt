@@ -1,0 +1,54 @@
+-- The command `fare TARIFF DRIVE CONSTANT`.
+use Rattle.std.specs.Prelude.{◌≡◌, ◌⊎◌, ℕ, pos, List, [], ◌∷◌, Some, Result, Ok, Err}
+use Rattle.drive_modes.specs.declared.charges.Mode.TheVariants.{Single}
+use Rattle.drive_text.specs.Ending.{DriveEnd, Whole, BadAt, Endless, IsGoing, drive_end}
+use Rattle.tariff_syntax.specs.Tree.{Tree}
+use Rattle.meter_run.specs.Drives.{IsBoundedBy}
+use Rattle.meter_run.specs.Texts.{drive_shown}
+use Rattle.meter_states.specs.Setting.{Setting}
+use Rattle.taxi_units.specs.Time.{first_second}
+use Rattle.taxi_cli.specs.Answer.{Answer, shows}
+use Rattle.taxi_cli.specs.Course.{Command}
+use Rattle.taxi_cli.specs.LastLine.{bad_drive_line, endless_drive_line}
+use Rattle.taxi_cli.specs.Tariffs.{tariff_in, bad_tariff}
+use Rattle.taxi_cli.specs.declared.tariff.Refusal.{Refusal}
+
+-- the answer to a drive that shows this and ends so
+abbrev pub drive_answer : List ℕ → DriveEnd → Answer
+drive_answer shown Whole = shows shown
+drive_answer shown (BadAt n) = record { status = 3; shown = shown; line = bad_drive_line n }
+drive_answer shown Endless = record { status = 3; shown = shown; line = endless_drive_line }
+
+-- a tariff under a constant: in mode S, with a hold of a minute, and local time that is UTC
+abbrev pub setting_of : (k : ℕ) → Tree → Setting
+setting_of k t = record { tariff = t; constant = k; mode = Single; hold = 60; offsets = (first_second, pos 0) ∷ [] }
+
+-- what bytes of a drive show under a tariff, and nothing without one
+abbrev pub shown_under : (k : ℕ) → Result Tree Refusal → List ℕ → List ℕ
+shown_under k (Err why) drive = []
+shown_under k (Ok t) drive = drive_shown (setting_of k t) drive
+
+abbrev pub fare_answer : (k : ℕ) → Result Tree Refusal → List ℕ → Answer
+fare_answer k (Err why) drive = bad_tariff why
+fare_answer k (Ok t) drive = drive_answer (drive_shown (setting_of k t) drive) (drive_end drive)
+
+-- the tariff is sound, and the drive isn't over with these bytes
+pub record IsDriving (tariff taken : List ℕ) : Type 0 where
+  pub tree : Tree
+  pub sound : tariff_in tariff ≡ Ok tree
+  pub going : IsGoing taken
+
+-- it reads its tariff, and then its drive: at most 64 steps an event and for the drive's end, and one for the last line
+abbrev pub fare_command : (k : ℕ) → Command
+fare_command k = record {
+  answer = λ contents image. fare_answer k (tariff_in (contents 1)) (contents 2);
+  drive = Some 2;
+  shown = λ contents image taken. shown_under k (tariff_in (contents 1)) taken;
+  reads = λ word. (word ≡ 1) ⊎ (word ≡ 2);
+  comes_to = λ contents image word taken. ((word ≡ 1) × (taken ≡ [])) ⊎ ((word ≡ 2) × IsDriving (contents 1) taken);
+  may_lack = λ contents image. Unit {0};
+  known = λ files_tell image_told. files_tell;
+  opens = ⊥;
+  writes = λ ended. ⊥;
+  steps = λ files_tell contents left before now. files_tell → IsBoundedBy 65 (contents 2) (left 2) before now;
+}

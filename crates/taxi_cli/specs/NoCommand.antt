@@ -1,0 +1,23 @@
+-- Words that are no command.
+use Rattle.std.specs.Prelude.{◌+◌, ◌≤◌, [], None}
+use Rattle.taxi_cli.specs.Answer.{Answer, refuses}
+use Rattle.taxi_cli.specs.Course.{Command}
+use Rattle.taxi_cli.specs.LastLine.{bad_words_line}
+
+abbrev pub bad_words : Answer
+bad_words = refuses 1 bad_words_line
+
+-- they are refused, whatever the outside tells, and nothing is read
+abbrev pub no_command : Command
+no_command = record {
+  answer = λ contents image. bad_words;
+  drive = None;
+  shown = λ contents image taken. [];
+  reads = λ word. ⊥;
+  comes_to = λ contents image word taken. ⊥;
+  may_lack = λ contents image. ⊥;
+  known = λ files_tell image_told. Unit {0};
+  opens = ⊥;
+  writes = λ ended. ⊥;
+  steps = λ files_tell contents left before now. now ≤ before + 1;
+}

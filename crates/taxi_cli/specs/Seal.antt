@@ -1,0 +1,182 @@
+-- The command `seal TARIFF PARAMS`.
+use Rattle.std.specs.Prelude.{◌≡◌, ◌⊎◌, ℕ, ◌+◌, ◌≤◌, ◌==◌, if◌then◌else◌, is_some, List, [], Option, None, Some, Result, Ok, Err}
+use Rattle.sha2.specs.Sha256.{sha256}
+use Rattle.slot_store.specs.declared.found.Found.{Found}
+use Rattle.slot_store.specs.declared.found.Found.TheVariants.{Blank, Latest}
+use Rattle.tariff_syntax.specs.Tree.{Tree}
+use Rattle.totaliser_store.specs.declared.durable.Durable.{Durable}
+use Rattle.seal_store.specs.declared.params.Params.{Params}
+use Rattle.seal_store.specs.declared.params.ParamFault.{ParamFault}
+use Rattle.seal_store.specs.declared.seal.Seal.{Seal}
+use Rattle.seal_store.specs.Reading.{params_read}
+use Rattle.seal_store.specs.Sealing.{IsAmid, IsSealed, Sealing, found_number, next_number, old_seal}
+use Rattle.outside.specs.declared.board.Board.{Ghosts}
+use Rattle.outside.specs.Runs.{LeavesOnly, MayHold}
+use Rattle.taxi_cli.specs.Answer.{Answer, says}
+use Rattle.taxi_cli.specs.Course.{Command}
+use Rattle.taxi_cli.specs.Ending.{refused_as, store_ended}
+use Rattle.taxi_cli.specs.LastLine.{sealed_line}
+use Rattle.taxi_cli.specs.Opening.{opening_of}
+use Rattle.taxi_cli.specs.Tariffs.{tariff_in}
+use Rattle.taxi_cli.specs.declared.ending.Ended.{Ended}
+use Rattle.taxi_cli.specs.declared.ending.Ended.TheVariants.{BadParams, BadTariff, NoMemory, OtherDecimals}
+use Rattle.taxi_cli.specs.declared.ending.Ended.TheVariants.{ReadFault, SealEnded, TripHeld}
+use Rattle.taxi_cli.specs.declared.opening.Opening.{Opening}
+use Rattle.taxi_cli.specs.declared.opening.StoreFault.{StoreFault}
+use Rattle.taxi_cli.specs.declared.seal.Base.{Base}
+use Rattle.taxi_cli.specs.declared.tariff.Refusal.{Refusal}
+
+-- ---- what is sealed over
+
+-- the seal that was found: its place and number, and its decimals
+abbrev pub over_seal : Option Durable → Found Seal → Result Base Ended
+over_seal totals Blank = Ok (record { totals = totals; found = None; decimals = None })
+over_seal totals (Latest place seal) =
+    if seal.seal_number == 1000000000000000 then Err SealEnded
+    else Ok (record { totals = totals; found = Some (place, seal.seal_number); decimals = Some seal.decimals })
+
+-- the totals that were found, where they hold no trip
+abbrev pub over_totals : Found Durable → Found Seal → Result Base Ended
+over_totals Blank seal = over_seal None seal
+over_totals (Latest place durable) seal = if is_some durable.hold then Err TripHeld else over_seal (Some durable) seal
+
+-- what a sealing goes over, or why there is none
+abbrev pub base_in : Result Opening StoreFault → Result Base Ended
+base_in (Err fault) = Err (store_ended fault)
+base_in (Ok opening) = over_totals opening.totals opening.seal
+
+-- ---- the new seal
+
+-- the decimals of the tariff are those of the found seal, where there is one
+abbrev pub are_decimals : Option ℕ → ℕ → Result (Unit {0}) Ended
+are_decimals None own = Ok tt
+are_decimals (Some found) own = if found == own then Ok tt else Err (OtherDecimals found own)
+
+abbrev pub with_params : (number : ℕ) → (digest : List ℕ) → (decimals : ℕ) → Result Params ParamFault
+    → Result Seal Ended
+with_params number digest decimals (Err fault) = Err (BadParams fault)
+with_params number digest decimals (Ok params) =
+    Ok (record { seal_number = number; params = params; digest = digest; decimals = decimals })
+
+abbrev pub where_decimals : Result (Unit {0}) Ended → Result Seal Ended → Result Seal Ended
+where_decimals (Err ended) seal = Err ended
+where_decimals (Ok same) seal = seal
+
+abbrev pub with_tariff : (number : ℕ) → Option ℕ → (digest : List ℕ) → Result Tree Refusal → Result Params ParamFault
+    → Result Seal Ended
+with_tariff number found digest (Err why) params = Err (BadTariff why)
+with_tariff number found digest (Ok t) params =
+    where_decimals (are_decimals found t.decimals) (with_params number digest t.decimals params)
+
+-- the seal of this number that a tariff's text and a parameter text give, beside decimals that were found; or the first
+-- refusal
+abbrev pub seal_read : (number : ℕ) → Option ℕ → (tariff params : List ℕ) → Result Seal Ended
+seal_read number found tariff params = with_tariff number found (sha256 tariff) (tariff_in tariff) (params_read params)
+
+-- the tariff is sound, and has the decimals that were found
+pub record HasDecimals (found : Option ℕ) (tariff : List ℕ) : Type 0 where
+  pub tree : Tree
+  pub sound : tariff_in tariff ≡ Ok tree
+  pub decimals : are_decimals found tree.decimals ≡ Ok tt
+
+-- the text's tariff is sound with these decimals, and they are those that were found
+pub record IsTariffWith (found : Option ℕ) (decimals : ℕ) (tariff : List ℕ) : Type 0 where
+  pub has : HasDecimals found tariff
+  pub decimals_are : has.tree.decimals ≡ decimals
+
+-- a tariff is refused: it isn't sound, or has other decimals; or memory ran out
+abbrev pub IsNoTariff : (found : Option ℕ) (tariff : List ℕ) → Ended → Type 0
+IsNoTariff found tariff NoMemory = Unit {0}
+IsNoTariff found tariff (BadTariff why) = tariff_in tariff ≡ Err why
+IsNoTariff found tariff (OtherDecimals one own) =
+    (t : Tree) × (tariff_in tariff ≡ Ok t) × (are_decimals found t.decimals ≡ Err (OtherDecimals one own))
+IsNoTariff found tariff ended = ⊥
+
+-- no seal was made: a read failed of a text that was come to, memory ran out, or the texts are refused
+abbrev pub IsNoSeal : (number : ℕ) → Option ℕ → (tariff params : List ℕ) → (read_failed : ℕ → Type 0) → Ended
+    → Type 0
+IsNoSeal number found tariff params read_failed ReadFault = read_failed 1 ⊎ (HasDecimals found tariff × read_failed 2)
+IsNoSeal number found tariff params read_failed NoMemory = Unit {0}
+IsNoSeal number found tariff params read_failed (BadTariff why) =
+    seal_read number found tariff params ≡ Err (BadTariff why)
+IsNoSeal number found tariff params read_failed (OtherDecimals one own) =
+    seal_read number found tariff params ≡ Err (OtherDecimals one own)
+IsNoSeal number found tariff params read_failed (BadParams fault) =
+    seal_read number found tariff params ≡ Err (BadParams fault)
+IsNoSeal number found tariff params read_failed ended = ⊥
+
+-- ---- the answer
+
+abbrev pub sealing_with : (old : Option Seal) → Base → Result Seal Ended → Result Sealing Ended
+sealing_with old base (Err ended) = Err ended
+sealing_with old base (Ok seal) = Ok (record { totals = base.totals; old = old; new = seal })
+
+abbrev pub sealing_over : (old : Option Seal) → Result Base Ended → (tariff params : List ℕ) → Result Sealing Ended
+sealing_over old (Err ended) tariff params = Err ended
+sealing_over old (Ok base) tariff params =
+    sealing_with old base (seal_read (next_number (found_number base.found)) base.decimals tariff params)
+
+-- the sealing of what was opened, with a tariff's text and a parameter text; or the first refusal, of the store before
+-- the tariff, and of the tariff before the parameters
+abbrev pub sealing_of : Result Opening StoreFault → (tariff params : List ℕ) → Result Sealing Ended
+sealing_of (Err fault) tariff params = Err (store_ended fault)
+sealing_of (Ok opening) tariff params =
+    sealing_over (old_seal opening.seal) (over_totals opening.totals opening.seal) tariff params
+
+abbrev pub seal_answer : Result Sealing Ended → Answer
+seal_answer (Err ended) = refused_as ended
+seal_answer (Ok sealing) = says (sealed_line sealing.new.seal_number)
+
+-- the store may be sealed: nothing in it speaks against it
+pub record IsSealable (image : List ℕ) : Type 0 where
+  pub base : Base
+  pub is : base_in (opening_of image) ≡ Ok base
+
+-- and so may it be with this tariff
+pub record IsFitting (tariff image : List ℕ) : Type 0 where
+  pub base : Base
+  pub is : base_in (opening_of image) ≡ Ok base
+  pub fits : HasDecimals base.decimals tariff
+
+-- it opens the store, reads its tariff and then its parameters, and writes: at most 64 steps, and one for the last line
+abbrev pub seal_command : Command
+seal_command = record {
+  answer = λ contents image. seal_answer (sealing_of (opening_of image) (contents 1) (contents 2));
+  drive = None;
+  shown = λ contents image taken. [];
+  reads = λ word. (word ≡ 1) ⊎ (word ≡ 2);
+  comes_to = λ contents image word taken.
+      ((word ≡ 1) × IsSealable image) ⊎ ((word ≡ 2) × IsFitting (contents 1) image);
+  may_lack = λ contents image. IsSealable image;
+  known = λ files_tell image_told. files_tell × image_told;
+  opens = Unit {0};
+  writes = λ ended. (ended ≡ 0) ⊎ (ended ≡ 8);
+  steps = λ files_tell contents left before now. now ≤ before + 64 + 1;
+}
+
+-- ---- the store
+
+-- the image stands for what a sealing says
+abbrev pub HasSealed : Result Sealing Ended → List ℕ → Type 0
+HasSealed (Err ended) image = ⊥
+HasSealed (Ok sealing) image = IsSealed sealing image
+
+-- an image that a cut amid a sealing may leave
+abbrev pub IsAmidOf : Result Sealing Ended → List ℕ → Type 0
+IsAmidOf (Err ended) image = ⊥
+IsAmidOf (Ok sealing) image = IsAmid sealing image
+
+module _ {D L : Type 0} (B : Ghosts D L) where
+  -- an image amid a sealing, or one that a cut might have left at the old board
+  abbrev pub MayStand : Result Sealing Ended → D → List ℕ → Type 0
+  MayStand sealing old image = MayHold (B.image old) (B.in_flight old) image ⊎ IsAmidOf sealing image
+
+  -- and a cut of the new board leaves no other
+  abbrev pub Rests : Result Sealing Ended → (old new : D) → Type 0
+  Rests sealing old new = (image : List ℕ) → MayHold (B.image new) (B.in_flight new) image → MayStand sealing old image
+
+  -- at 0 the store stands for what the sealing says; a cut since the old board might have left an image amid the
+  -- sealing, or one that it might have left at the old board
+  pub record Seals (sealing : Result Sealing Ended) (old new : D) (ended : ℕ) : Type 0 where
+    pub sealed : ended ≡ 0 → HasSealed sealing (B.image new)
+    pub leaves : LeavesOnly B old new (λ left_image left_text. MayStand sealing old left_image)

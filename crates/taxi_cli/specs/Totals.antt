@@ -1,0 +1,43 @@
+-- The command `totals`.
+use Rattle.std.specs.Prelude.{ℕ, ◌+◌, ◌≤◌, List, [], Option, None, Some, Result, Ok, Err}
+use Rattle.slot_store.specs.declared.found.Found.{Found}
+use Rattle.slot_store.specs.declared.found.Found.TheVariants.{Blank, Latest}
+use Rattle.totaliser_store.specs.declared.durable.Durable.{Durable}
+use Rattle.seal_store.specs.declared.seal.Seal.{Seal}
+use Rattle.taxi_cli.specs.Answer.{Answer, shows}
+use Rattle.taxi_cli.specs.Course.{Command}
+use Rattle.taxi_cli.specs.Ending.{refused_as, store_ended}
+use Rattle.taxi_cli.specs.Opening.{opening_of}
+use Rattle.taxi_cli.specs.TotalsText.{totals_text}
+use Rattle.taxi_cli.specs.declared.ending.Ended.TheVariants.{NotSealed}
+use Rattle.taxi_cli.specs.declared.opening.Opening.{Opening}
+use Rattle.taxi_cli.specs.declared.opening.StoreFault.{StoreFault}
+
+-- the totals, and the decimals of their money, where the store is sealed
+abbrev pub sealed_totals : Found Durable → Found Seal → Option (Durable × ℕ)
+sealed_totals Blank seal = None
+sealed_totals (Latest place durable) Blank = None
+sealed_totals (Latest place durable) (Latest other seal) = Some (durable, seal.decimals)
+
+abbrev pub sealed_answer : Option (Durable × ℕ) → Answer
+sealed_answer None = refused_as NotSealed
+sealed_answer (Some (durable, decimals)) = shows (totals_text decimals durable)
+
+abbrev pub totals_answer : Result Opening StoreFault → Answer
+totals_answer (Err fault) = refused_as (store_ended fault)
+totals_answer (Ok opening) = sealed_answer (sealed_totals opening.totals opening.seal)
+
+-- it reads no file and takes no memory: at most 64 steps, and one for the last line
+abbrev pub totals_command : Command
+totals_command = record {
+  answer = λ contents image. totals_answer (opening_of image);
+  drive = None;
+  shown = λ contents image taken. [];
+  reads = λ word. ⊥;
+  comes_to = λ contents image word taken. ⊥;
+  may_lack = λ contents image. ⊥;
+  known = λ files_tell image_told. image_told;
+  opens = Unit {0};
+  writes = λ ended. ⊥;
+  steps = λ files_tell contents left before now. now ≤ before + 64 + 1;
+}

@@ -1,0 +1,21 @@
+-- Calls that write nothing.
+use Rattle.std.specs.Prelude.{◌≡◌, ◌≢◌, ◌⊎◌, ℕ, ◌≤◌, List}
+use Rattle.outside.specs.declared.board.Board.{Ghosts}
+use Rattle.outside.specs.Disk.{SameBut}
+use Rattle.outside.specs.Runs.{MayHold}
+
+module _ {D L : Type 0} (B : Ghosts D L) where
+  -- nothing was written: bytes may have changed only where some were in flight, and nothing more is in flight; a cut at a moment
+  -- since any earlier one might have left what it might have left before, or an image that it might have left at the old state
+  pub record KeepsBytes (old new : D) : Type 0 where
+    pub image : SameBut (B.in_flight old) (B.image old) (B.image new)
+    pub flight : (place : ℕ) → B.in_flight new place → B.in_flight old place
+    pub later : B.moment old ≤ B.moment new
+    pub before : (start : ℕ) (left_image left_text : List ℕ) → start ≤ B.moment old
+        → B.left_since new start left_image left_text
+        → B.left_since old start left_image left_text ⊎ MayHold (B.image old) (B.in_flight old) left_image
+
+  -- and no byte has changed, but perhaps where the board failed
+  pub record WritesNothing (old new : D) (ended : ℕ) : Type 0 where
+    pub bytes : KeepsBytes old new
+    pub same : ended ≢ 8 → B.image new ≡ B.image old

@@ -1,0 +1,48 @@
+//! What the command `fare` is sealed with.
+ghost use Rattle.std.specs.Prelude.{◌≡◌, ◌∷◌, [], pos};
+ghost use Rattle.drive_modes.specs.declared.charges.Mode.TheVariants.{Single};
+ghost use Rattle.interval_clock.specs.Offsets.{IsOffsetList};
+ghost use Rattle.taxi_units.specs.Time.{first_second};
+
+use arrayvec::ArrayVec;
+use drive_modes::Mode;
+use interval_clock::Offsets;
+use pulse_input::Constant;
+use seal_store::{Params, Seal};
+use taxi_units::FIRST_SECOND;
+
+/// The seal of a meter without a store: in mode S, with a hold of a minute, and local time that is UTC.
+/// It is the first of the taxi `DRY`, secured on the first day of 2000, for a tariff of so many decimals
+/// whose digest is zeros. This project's own.
+pub fn fare_seal(constant: Constant, decimals: u8) -> Seal
+    ensures constant { result.params.constant ≡ constant }
+    ensures mode { result.params.mode ≡ Single }
+    ensures hold { result.params.hold ≡ 60 }
+    ensures offsets { result.params.offsets ≡ (first_second, pos 0) ∷ [] }
+{
+    let mut taxi = ArrayVec::new();
+    taxi.push(b'D');
+    taxi.push(b'R');
+    taxi.push(b'Y');
+    Seal {
+        seal_number: 1,
+        params: Params {
+            taxi,
+            constant,
+            mode: Mode::Single,
+            hold: 60,
+            offsets: utc(),
+            secured: 10_957,
+        },
+        digest: [0; 32],
+        decimals,
+    }
+}
+
+/// The offsets of local time that is UTC.
+#[tactic(auto, using(crate::proofs::Faring::is_utc))]
+fn utc() -> Offsets
+    ensures { result ≡ (first_second, pos 0) ∷ [] }
+{
+    Offsets::from_pairs(&[(FIRST_SECOND, 0)]).unwrap()
+}

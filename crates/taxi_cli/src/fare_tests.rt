@@ -1,0 +1,92 @@
+//! Drives under `fare`, over clocks, keys, supplements and losses of supply.
+use crate::tests::call;
+use outside::MemoryBoard;
+use std::test::Fail;
+
+const A: &str =
+    "decimals 2\nstep 0.20 ahead\ninitial 3.80 covers 0.40\nrate 0.20 per 117.4 m, 0.20 per 25.2 s\n";
+
+/// Tariff A with two positions and a supplement that may be added twice.
+const EXTRAS: &str =
+    "decimals 2\nstep 0.20 ahead\ninitial 3.80 covers 0.40\nrate 0.20 per 117.4 m, 0.20 per 25.2 s\npositions 2\nsupplement 1 1.50 max 2\n";
+
+/// Another rate by night.
+const B: &str =
+    "step 0.10 behind\ninitial 4.00\nrate 0.10 per 50.0 m, 0.10 per 10.0 s when time 22:00..06:00\nrate 0.10 per 100.0 m, 0.10 per 20.0 s\n";
+
+/// A tariff, a constant, a drive, and what it prints; all of them are read to their end.
+const DRIVES: [(&str, &str, &str, &str); 10] = [
+    (
+        A,
+        "10000",
+        "U 1767225600\nK H\nI 0 1\nC 1767225599\n",
+        "FOR HIRE T1 Z1\nHIRED T1 Z1 3.80 +0.00\nREFUSED CLOCK BACK 1767225600 1767225599\n",
+    ),
+    (
+        A,
+        "10000",
+        "U 1767225600\nC 1767225599\nK H\nI 0 1\nC 1767225599\n",
+        "FOR HIRE T1 Z1\nHIRED T1 Z1 3.80 +0.00\n",
+    ),
+    // Resumed, a minute after the drop.
+    (
+        A,
+        "10000",
+        "U 1767225600\nK H\nI 0 1\nI 0 300\nD\nU 1767225660\nI 0 204\nI 0 1\n",
+        "FOR HIRE T1 Z1\nHIRED T1 Z1 3.80 +0.00\nHIRED T1 Z1 3.80 +0.00\nHIRED T1 Z1 4.00 +0.00\n",
+    ),
+    // A second later it is aborted.
+    (
+        A,
+        "10000",
+        "U 1767225600\nK H\nI 0 1\nI 0 300\nD\nU 1767225661\nI 0 204\nI 0 1\n",
+        "FOR HIRE T1 Z1\nHIRED T1 Z1 3.80 +0.00\nFOR HIRE T1 Z1\n",
+    ),
+    // And so it is a second before the drop.
+    (
+        A,
+        "10000",
+        "U 1767225600\nK H\nI 0 1\nD\nU 1767225599\nK S\nI 0 1\n",
+        "FOR HIRE T1 Z1\nHIRED T1 Z1 3.80 +0.00\nFOR HIRE T1 Z1\nREFUSED NOT NOW\n",
+    ),
+    (A, "10000", "D\n", "REFUSED NOT NOW\n"),
+    // The interval that ends after the reading is charged by day, the last one by night.
+    (
+        B,
+        "1000",
+        "U 1767304799\nK H\nI 0 1\nI 10 8\nC 1767304800\nK S\nI 10 1\nK H\nI 10 1\nK S\nI 5 1\n",
+        "FOR HIRE T1 Z1\nHIRED T1 Z1 4.00 +0.00\nSTOPPED T1 Z1 4.00 +0.00\nHIRED T1 Z1 4.00 +0.00\nSTOPPED T1 Z1 4.10 +0.00\n",
+    ),
+    (
+        EXTRAS,
+        "10000",
+        "U 1767225600\nK H\nK S\nI 0 1\nK E 1\nI 0 1\nK E 1\nI 0 1\nK E 1\nI 0 1\nK P 9\nI 0 1\n",
+        "FOR HIRE T1 Z1\nREFUSED KEY WAITING\nHIRED T1 Z1 3.80 +0.00\nHIRED T1 Z1 3.80 +1.50\nHIRED T1 Z1 3.80 +3.00\nREFUSED AT MOST\nREFUSED NO SUCH\n",
+    ),
+    // The position stays after a closing, and is 1 after a power-up without a held trip.
+    (
+        EXTRAS,
+        "10000",
+        "U 1767225600\nK P 2\nI 0 1\nK H\nI 0 1\nK S\nI 0 1\nK C\nI 0 1\nD\nU 1767225600\n",
+        "FOR HIRE T1 Z1\nFOR HIRE T2 Z1\nHIRED T2 Z1 3.80 +0.00\nSTOPPED T2 Z1 3.80 +0.00\nFOR HIRE T2 Z1\nFOR HIRE T1 Z1\n",
+    ),
+    // A key that waits at a drop is lost.
+    (
+        A,
+        "10000",
+        "U 1767225600\nK H\nD\nU 1767225600\nI 0 1\nK S\nI 0 1\n",
+        "FOR HIRE T1 Z1\nFOR HIRE T1 Z1\nREFUSED NOT NOW\n",
+    ),
+];
+
+#[test]
+fn drives(rt: HostRuntime) -> Result<(), Fail> {
+    for (tariff, constant, drive, output) in DRIVES {
+        let mut board = MemoryBoard::new(rt.alloc(), &[0; 2048], &[])?;
+        let words = ["fare", "t", "d", constant];
+        let ended = call(rt.alloc(), &words, tariff, drive, &[], &mut board)?;
+        assert_eq!(rt; board.printed(), output.as_bytes(), "{drive}");
+        assert_eq!(rt; ended, 0, "{drive}");
+    }
+    Ok(())
+}

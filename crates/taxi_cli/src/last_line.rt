@@ -1,0 +1,224 @@
+//! The last lines of the program.
+ghost use Rattle.std.specs.Prelude.{◌≡◌, ◌+◌, ◌≤◌, ◌++◌, [], length};
+ghost use Rattle.arrayvec.specs.ArrayVec.{array_vec_len};
+ghost use Rattle.taxi_cli.specs.LastLine.{bad_drive_line, bad_slot_line, bad_tariff_line, dimension_text, fault_text};
+ghost use Rattle.taxi_cli.specs.LastLine.{bad_params_line, line_of, name_text, numbered, other_decimals_line};
+ghost use Rattle.taxi_cli.specs.LastLine.{param_fault_text, same_number_line, sealed_line, sound_line};
+
+use crate::ending::Ended;
+use crate::tariff::Refusal;
+use crate::text::{push, push_number};
+use seal_store::{Name, ParamFault};
+use tariff_check::{CheckFault, Dimension};
+use taxi_units::Line;
+
+/// The last line, which is empty where there is none.
+pub fn last_line(ended: Ended) -> Line
+    ensures { result.items ≡ line_of ended }
+{
+    let mut line = Line::new();
+    match ended {
+        Ended::Done => {}
+        Ended::Sound(cells, measure) => push_sound(&mut line, cells, measure),
+        Ended::BadWords => push(&mut line, b"BAD WORDS\n"),
+        Ended::BadTariff(why) => push_bad_tariff(&mut line, why),
+        Ended::NotSealed => push(&mut line, b"NOT SEALED\n"),
+        Ended::BadSlot(slot) => push_bad_slot(&mut line, slot),
+        Ended::SameNumber(first, second) => push_same_number(&mut line, first, second),
+        Ended::TripHeld => push(&mut line, b"TRIP HELD\n"),
+        Ended::SealEnded => push(&mut line, b"SEAL ENDED\n"),
+        Ended::OtherDecimals(found, own) => push_other_decimals(&mut line, found, own),
+        Ended::BadParams(fault) => push_bad_params(&mut line, fault),
+        Ended::Sealed(number) => push_sealed(&mut line, number),
+        Ended::BadDrive(number) => push_bad_drive(&mut line, number),
+        Ended::EndlessDrive => push(&mut line, b"BAD DRIVE TOO LONG\n"),
+        Ended::ReadFault => push(&mut line, b"READ FAULT\n"),
+        Ended::BoardFault => {}
+        Ended::NoMemory => push(&mut line, b"NO MEMORY\n"),
+    }
+    line
+}
+
+/// Appends the line of a sound tariff.
+fn push_sound(line: &mut Line, cells: u64, measure: u64)
+    requires { line.old.items ≡ [] }
+    ensures { line.new.items ≡ sound_line cells measure }
+{
+    push(line, b"OK CELLS ");
+    push_number(line, cells);
+    push(line, b" MEASURE ");
+    push_number(line, measure);
+    push(line, b"\n");
+}
+
+/// Appends the line of a tariff that isn't accepted.
+fn push_bad_tariff(line: &mut Line, why: Refusal)
+    requires { line.old.items ≡ [] }
+    ensures { line.new.items ≡ bad_tariff_line why }
+{
+    match why {
+        Refusal::TooLong => push(line, b"BAD TARIFF TooLong\n"),
+        Refusal::Syntax(number) => {
+            push(line, b"BAD TARIFF Syntax ");
+            push_number(line, number as u64);
+            push(line, b"\n");
+        }
+        Refusal::Unsound(fault) => {
+            push(line, b"BAD TARIFF ");
+            push_fault(line, fault);
+            push(line, b"\n");
+        }
+    }
+}
+
+/// Appends the name of a fault, and its numbers.
+fn push_fault(line: &mut Line, fault: CheckFault)
+    requires { array_vec_len line.old + 80 ≤ 512 }
+    ensures text { line.new.items ≡ line.old.items ++ fault_text fault }
+    ensures len { array_vec_len line.new ≤ array_vec_len line.old + 80 }
+{
+    match fault {
+        CheckFault::NoStep => push(line, b"NoStep"),
+        CheckFault::StepZero => push(line, b"StepZero"),
+        CheckFault::Duplicate(at) => push_numbered(line, b"Duplicate", at as u64),
+        CheckFault::TooManyLines(at) => push_numbered(line, b"TooManyLines", at as u64),
+        CheckFault::UnknownNumber(at) => push_numbered(line, b"UnknownNumber", at as u64),
+        CheckFault::NoDefaultRate => push(line, b"NoDefaultRate"),
+        CheckFault::NoDefaultInitial => push(line, b"NoDefaultInitial"),
+        CheckFault::LineAfterDefault(at) => push_numbered(line, b"LineAfterDefault", at as u64),
+        CheckFault::BadDate(at) => push_numbered(line, b"BadDate", at as u64),
+        CheckFault::AmountTooBig(at) => push_numbered(line, b"AmountTooBig", at as u64),
+        CheckFault::MeasureZero(at) => push_numbered(line, b"MeasureZero", at as u64),
+        CheckFault::NoCommonMeasure => push(line, b"NoCommonMeasure"),
+        CheckFault::TooManyCuts(dimension, count) => {
+            push(line, b"TooManyCuts ");
+            push_numbered(line, dimension_name(dimension), count as u64);
+        }
+        CheckFault::TooManyCells(count) => push_numbered(line, b"TooManyCells", count),
+        CheckFault::NoMemory => push(line, b"NoMemory"),
+    }
+}
+
+/// Appends a name and a number.
+fn push_numbered(line: &mut Line, name: &[u8], number: u64)
+    requires { array_vec_len line.old + length name.now + 21 ≤ 512 }
+    ensures text { line.new.items ≡ line.old.items ++ numbered name.now number }
+    ensures len { array_vec_len line.new ≤ array_vec_len line.old + length name.now + 21 }
+{
+    push(line, name);
+    push(line, b" ");
+    push_number(line, number);
+}
+
+/// The name of a dimension.
+fn dimension_name(dimension: Dimension) -> &'static [u8]
+    ensures text { result.now ≡ dimension_text dimension }
+    ensures len { length result.now ≤ 8 }
+{
+    match dimension {
+        Dimension::MonthDay => b"MonthDay",
+        Dimension::Minute => b"Minute",
+        Dimension::Distance => b"Distance",
+        Dimension::Time => b"Time",
+    }
+}
+
+/// Appends the line of a bad drive.
+fn push_bad_drive(line: &mut Line, number: u64)
+    requires { line.old.items ≡ [] }
+    ensures { line.new.items ≡ bad_drive_line number }
+{
+    push(line, b"BAD DRIVE ");
+    push_number(line, number);
+    push(line, b"\n");
+}
+
+/// Appends the line of a slot whose body isn't read.
+fn push_bad_slot(line: &mut Line, slot: u8)
+    requires { line.old.items ≡ [] }
+    ensures { line.new.items ≡ bad_slot_line slot }
+{
+    push(line, b"BAD STORE ");
+    push_number(line, slot as u64);
+    push(line, b"\n");
+}
+
+/// Appends the line of two slots of one number.
+fn push_same_number(line: &mut Line, first: u8, second: u8)
+    requires { line.old.items ≡ [] }
+    ensures { line.new.items ≡ same_number_line first second }
+{
+    push(line, b"BAD STORE ");
+    push_number(line, first as u64);
+    push(line, b" ");
+    push_number(line, second as u64);
+    push(line, b"\n");
+}
+
+/// Appends the line of decimals that differ.
+fn push_other_decimals(line: &mut Line, found: u8, own: u8)
+    requires { line.old.items ≡ [] }
+    ensures { line.new.items ≡ other_decimals_line found own }
+{
+    push(line, b"OTHER DECIMALS ");
+    push_number(line, found as u64);
+    push(line, b" ");
+    push_number(line, own as u64);
+    push(line, b"\n");
+}
+
+/// Appends the line of parameters that aren't accepted.
+fn push_bad_params(line: &mut Line, fault: ParamFault)
+    requires { line.old.items ≡ [] }
+    ensures { line.new.items ≡ bad_params_line fault }
+{
+    push(line, b"BAD PARAMS ");
+    push_param_fault(line, fault);
+    push(line, b"\n");
+}
+
+/// Appends the name of a fault of parameters, and its line or the parameter.
+fn push_param_fault(line: &mut Line, fault: ParamFault)
+    requires { array_vec_len line.old + 80 ≤ 512 }
+    ensures text { line.new.items ≡ line.old.items ++ param_fault_text fault }
+    ensures len { array_vec_len line.new ≤ array_vec_len line.old + 80 }
+{
+    match fault {
+        ParamFault::TooLong => push(line, b"TooLong"),
+        ParamFault::Unknown(at) => push_numbered(line, b"Unknown", at as u64),
+        ParamFault::BadValue(at) => push_numbered(line, b"BadValue", at as u64),
+        ParamFault::Twice(name) => {
+            push(line, b"Twice ");
+            push(line, name_of(name));
+        }
+        ParamFault::Missing(name) => {
+            push(line, b"Missing ");
+            push(line, name_of(name));
+        }
+    }
+}
+
+/// The name of a parameter.
+fn name_of(name: Name) -> &'static [u8]
+    ensures text { result.now ≡ name_text name }
+    ensures len { length result.now ≤ 8 }
+{
+    match name {
+        Name::Taxi => b"Taxi",
+        Name::Constant => b"Constant",
+        Name::Mode => b"Mode",
+        Name::Hold => b"Hold",
+        Name::Offset => b"Offset",
+        Name::Secured => b"Secured",
+    }
+}
+
+/// Appends the line of a store that was sealed.
+fn push_sealed(line: &mut Line, number: u64)
+    requires { line.old.items ≡ [] }
+    ensures { line.new.items ≡ sealed_line number }
+{
+    push(line, b"SEALED ");
+    push_number(line, number);
+    push(line, b"\n");
+}

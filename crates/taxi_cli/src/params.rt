@@ -1,0 +1,50 @@
+//! Reads the parameters of a word.
+ghost use Rattle.std.specs.Prelude.{◌≡◌, ◌≢◌, ℕ, ◌≤◌, [], IfOk, OnOk, Err};
+ghost use Rattle.outside.specs.Faults.{Rose};
+ghost use Rattle.seal_store.specs.Ranges.{IsParams};
+ghost use Rattle.seal_store.specs.Reading.{params_read};
+
+use outside::{Files, read_text};
+use seal_store::{ParamFault, Params, read_params};
+use std::alloc::Global;
+
+/// Why parameters weren't read.
+#[derive(Clone, Copy, Debug, PartialEq, Eq)]
+pub enum ParamsFault {
+    /// A read failed.
+    ReadFault,
+    /// The parameters aren't accepted.
+    Refused(ParamFault),
+    /// Memory ran out.
+    NoMemory,
+}
+
+/// A parameter text has at most so many bytes.
+const MOST: usize = 65_536;
+
+/// Reads the parameters of a word, to the end of its file where they are accepted.
+#[tactic(auto, unfolding(seal_store::specs::Reading::params_read))]
+pub fn read_parameters<F: Files>(
+    alloc: Global,
+    files: &mut F,
+    word: usize,
+) -> Result<Params, ParamsFault>
+    ensures found { F.tells → IfOk result (λ params. params_read (F.rest files.old word) ≡ Ok params) }
+    ensures ranges { IfOk result IsParams }
+    ensures ended { F.tells → OnOk result (F.rest files.new word ≡ []) }
+    ensures refused { (why : ParamFault) → F.tells → result ≡ Err (ParamsFault.Refused why)
+        → params_read (F.rest files.old word) ≡ Err why }
+    ensures read_fault { result ≡ Err ParamsFault.ReadFault → Rose (F.faults files.old word) (F.faults files.new word) }
+    ensures others { (other : ℕ) → other ≢ word → F.rest files.new other ≡ F.rest files.old other }
+    ensures counts { (other : ℕ) → F.faults files.old other ≤ F.faults files.new other }
+{
+    match read_text(alloc, files, word, MOST) {
+        Ok(text) => match read_params(text.as_slice()) {
+            Ok(params) => Ok(params),
+            Err(fault) => Err(ParamsFault::Refused(fault)),
+        },
+        Err(outside::TextFault::TooLong) => Err(ParamsFault::Refused(ParamFault::TooLong)),
+        Err(outside::TextFault::DeviceFailed) => Err(ParamsFault::ReadFault),
+        Err(outside::TextFault::NoMemory) => Err(ParamsFault::NoMemory),
+    }
+}

@@ -1,0 +1,205 @@
+//! Calls that open the store, over boards in memory.
+use crate::tests::call;
+use outside::MemoryBoard;
+use std::test::Fail;
+
+/// The bytes of a sealed store, by their places: the totals of one hiring in the first slot, beside a
+/// seal with two decimals.
+const STORE: [(usize, u8); 33] = [
+    (0, 0xa5),
+    (8, 2),
+    (22, 0x03),
+    (23, 0x95),
+    (24, 0x30),
+    (38, 0x03),
+    (39, 0x95),
+    (40, 0x30),
+    (48, 1),
+    (79, 0x01),
+    (80, 0x7c),
+    (1024, 0xa5),
+    (1032, 1),
+    (1033, b'L'),
+    (1034, b'X'),
+    (1035, b'-'),
+    (1036, b'4'),
+    (1037, b'7'),
+    (1038, b'1'),
+    (1039, b'1'),
+    (1051, 0x27),
+    (1052, 0x10),
+    (1055, 60),
+    (1090, 0x4f),
+    (1091, 0xc7),
+    (1092, 1),
+    (1097, 0x38),
+    (1098, 0x6d),
+    (1099, 0x43),
+    (1100, 0x80),
+    (1103, 0x0e),
+    (1104, 0x10),
+    (1477, 2),
+];
+
+/// What layout 1 has more, and layout 2 with a share of position 1, and a store that breaks its sums.
+const FIRST_LAYOUT: [(usize, u8); 2] = [(511, 1), (1535, 1)];
+
+const SECOND_LAYOUT: [(usize, u8); 5] = [(196, 1), (211, 0x01), (212, 0x7c), (511, 2), (1535, 1)];
+
+const TOO_MANY_BEFORE: [(usize, u8); 6] = [
+    (196, 1),
+    (211, 0x01),
+    (212, 0x7c),
+    (412, 1),
+    (511, 2),
+    (1535, 1),
+];
+
+const NO_SEAL: [(usize, u8); 5] = [(196, 1), (211, 0x01), (212, 0x7c), (511, 2), (1024, 0)];
+
+const BAD_SEAL: [(usize, u8); 5] = [(196, 1), (211, 0x01), (212, 0x7c), (511, 2), (1535, 2)];
+
+/// An image with these bytes.
+fn image_of(more: &[(usize, u8)]) -> [u8; 2048] {
+    let mut image = [0; 2048];
+    for (place, byte) in STORE.iter().chain(more) {
+        if let Some(here) = image.get_mut(*place) {
+            *here = *byte;
+        }
+    }
+    image
+}
+
+const SUMMARY: &str =
+    "NUMBER 2\nDISTANCE 234.800 m\nHIRED 234.800 m\nHIRINGS 1\nSUPPLEMENTS 0.00\nFARE 3.80\nHELD no\n";
+
+#[test]
+fn totals(rt: HostRuntime) -> Result<(), Fail> {
+    for (more, rest, status) in [
+        (FIRST_LAYOUT.as_slice(), "LAYOUT 1\nBEFORE 1 3.80\n", 0),
+        (
+            SECOND_LAYOUT.as_slice(),
+            "LAYOUT 2\nBEFORE 0 0.00\nPOSITION 1 1 3.80\n",
+            0,
+        ),
+    ] {
+        let image = image_of(more);
+        let mut board = MemoryBoard::new(rt.alloc(), &image, &[])?;
+        assert_eq!(rt;
+            call(rt.alloc(), &["totals"], "", "", &[], &mut board)?,
+            status,
+            "{rest}"
+        );
+        let mut output = String::from_str(rt.alloc(), SUMMARY)?;
+        output.push_str(rest)?;
+        assert_eq!(rt; board.printed(), output.as_bytes());
+        assert!(rt; *board.image() == image);
+    }
+    Ok(())
+}
+
+#[test]
+fn stores_without_totals(rt: HostRuntime) -> Result<(), Fail> {
+    for (image, output, status) in [
+        ([0; 2048], "NOT SEALED\n", 4),
+        (image_of(&NO_SEAL), "NOT SEALED\n", 4),
+        (image_of(&TOO_MANY_BEFORE), "BAD STORE 0\n", 5),
+        (image_of(&BAD_SEAL), "BAD STORE 2\n", 5),
+    ] {
+        let mut board = MemoryBoard::new(rt.alloc(), &image, &[])?;
+        assert_eq!(rt;
+            call(rt.alloc(), &["totals"], "", "", &[], &mut board)?,
+            status,
+            "{output}"
+        );
+        assert_eq!(rt; board.printed(), output.as_bytes());
+    }
+    Ok(())
+}
+
+#[test]
+fn faults_at_the_opening(rt: HostRuntime) -> Result<(), Fail> {
+    for failed in 1..=7 {
+        let image = image_of(&SECOND_LAYOUT);
+        let mut board = MemoryBoard::new(rt.alloc(), &image, &[failed])?;
+        assert_eq!(rt;
+            call(rt.alloc(), &["totals"], "", "", &[], &mut board)?,
+            8,
+            "{failed}"
+        );
+        assert_eq!(rt; board.printed(), b"".as_slice(), "{failed}");
+    }
+    Ok(())
+}
+
+const A: &str =
+    "decimals 2\nstep 0.20 ahead\ninitial 3.80 covers 0.40\nrate 0.20 per 117.4 m, 0.20 per 25.2 s\n";
+
+const P: &str =
+    "taxi LX-4711\nconstant 10000\nmode single\nhold 60\noffset 946684800 3600\nsecured 2025-12-01\n";
+
+const WORDS: [&str; 3] = ["seal", "t", "p"];
+
+#[test]
+fn sealing(rt: HostRuntime) -> Result<(), Fail> {
+    let mut board = MemoryBoard::new(rt.alloc(), &[0; 2048], &[])?;
+    assert_eq!(rt; call(rt.alloc(), &WORDS, A, P, &[], &mut board)?, 0);
+    let first = [0xa5, 0, 0, 0, 0, 0, 0, 0, 1];
+    assert!(rt; board.image().starts_with(&first));
+    assert_eq!(rt; call(rt.alloc(), &WORDS, A, P, &[], &mut board)?, 0);
+    assert!(rt; board.image().starts_with(&first));
+    assert_eq!(rt; board.printed(), b"SEALED 1\nSEALED 2\n".as_slice());
+    let mut board = MemoryBoard::new(rt.alloc(), &image_of(&SECOND_LAYOUT), &[])?;
+    assert_eq!(rt; call(rt.alloc(), &WORDS, A, P, &[], &mut board)?, 0);
+    assert_eq!(rt; call(rt.alloc(), &["totals"], "", "", &[], &mut board)?, 0);
+    let mut output = String::from_str(rt.alloc(), "SEALED 2\n")?;
+    output.push_str(SUMMARY)?;
+    output.push_str("LAYOUT 2\nBEFORE 0 0.00\nPOSITION 1 1 3.80\n")?;
+    assert_eq!(rt; board.printed(), output.as_bytes());
+    Ok(())
+}
+
+/// Texts that are refused over the sealed store, and the answers.
+const REFUSED: [(&str, &str, &str, u8); 5] = [
+    (
+        "decimals 3\nstep 0.200\ninitial 3.800\nrate 0.200 per 117.4 m, 0.200 per 25.2 s\n",
+        P,
+        "OTHER DECIMALS 2 3\n",
+        15,
+    ),
+    (
+        A,
+        "taxi LX-4711\nconstant 10000\nmode single\noffset 946684800 3600\nsecured 2025-12-01\n",
+        "BAD PARAMS Missing Hold\n",
+        9,
+    ),
+    (
+        A,
+        "taxi LX-4711\nconstant 10000\nmode triple\nhold 60\noffset 946684800 3600\nsecured 2025-12-01\n",
+        "BAD PARAMS BadValue 3\n",
+        9,
+    ),
+    (
+        A,
+        "taxi LX-4711\ntaxi LX-4711\n",
+        "BAD PARAMS Twice Taxi\n",
+        9,
+    ),
+    ("", P, "BAD TARIFF NoStep\n", 2),
+];
+
+#[test]
+fn refused_sealings(rt: HostRuntime) -> Result<(), Fail> {
+    let image = image_of(&SECOND_LAYOUT);
+    for (tariff, params, output, status) in REFUSED {
+        let mut board = MemoryBoard::new(rt.alloc(), &image, &[])?;
+        assert_eq!(rt;
+            call(rt.alloc(), &WORDS, tariff, params, &[], &mut board)?,
+            status,
+            "{output}"
+        );
+        assert_eq!(rt; board.printed(), output.as_bytes());
+        assert!(rt; *board.image() == image);
+    }
+    Ok(())
+}
