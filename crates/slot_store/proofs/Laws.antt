@@ -15,6 +15,8 @@ use Rattle.slot_store.specs.Writes.{IsApart, OrWithin, LeavesThroughout, WritesI
 use Rattle.slot_store.proofs.Findings as findings
 use Rattle.slot_store.proofs.Moments as moments
 use Rattle.slot_store.proofs.Ordered as ordered
+pub use Rattle.slot_store.proofs.Moments.{in_part_as, run_on, writes_in_part, writes_on}
+pub use Rattle.slot_store.proofs.Synced.{from_sync_as, goes_on, held_on, settled_already}
 use Rattle.slot_store.proofs.Untouched as untouched
 
 module _ {T : Type 0} (reads : List ℕ → Option T) (number_of : T → ℕ) where

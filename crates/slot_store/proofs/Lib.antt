@@ -4,4 +4,5 @@ mod Moments
 mod Ordered
 mod Slices
 mod Staged
+mod Synced
 mod Untouched

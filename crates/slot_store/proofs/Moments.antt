@@ -62,6 +62,18 @@ module _ {D L : Type 0} (B : Ghosts D L) where
       holds = run.holds;
     }
 
+    -- and of a wider kind
+    pub in_part_as : (part size : ℕ) (kind more : List ℕ → Type 0) (old new : D) → start ≤ part → part + size ≤ start + count
+        → ((left : List ℕ) → SameBut (OrWithin (B.in_flight old) part size) (B.image old) left → kind left → more left)
+        → WritesIn B part size old new → LeavesThroughout B part size kind old new → LeavesThroughout B start count more old new
+    in_part_as part size kind more old new low high is writes run = record {
+      leaves = leaves_wider B _ _ old new (λ left text leaves. record {
+        stands = is left leaves.beside.bytes leaves.stands;
+        beside = record { bytes = in_whole (B.in_flight old) part size start count (B.image old) left low high leaves.beside.bytes; small = leaves.beside.small; text = leaves.beside.text };
+      }) run.leaves;
+      holds = is (B.image new) writes.rest run.holds;
+    }
+
     -- what is left by a run that goes on, seen from its start
     pub run_on : (old between new : D) (kind : List ℕ → Type 0) → WritesIn B start count old between
         → LeavesThroughout B start count kind old between → LeavesThroughout B start count kind between new → LeavesThroughout B start count kind old new

@@ -3,4 +3,5 @@ pub mod Order
 pub mod Scan
 pub mod Slots
 pub mod Stages
+pub mod Syncs
 pub mod Writes

@@ -8,10 +8,12 @@ mod durable;
 mod found;
 mod pair;
 mod pair_laws;
+mod part_laws;
 mod ready;
 mod scanning;
 mod shut;
 mod storing;
+mod sync_laws;
 mod written;
 
 pub use body::Body;
@@ -22,9 +24,14 @@ pub use pair_laws::{
     a_scan_answers_by_the_image, a_scan_finds_the_body, a_settled_pair_stays,
     a_store_of_the_whole_pair, an_open_slot_has_a_spelling,
 };
+pub use part_laws::{Images, a_part_of_the_store_lies_in_the_whole, a_run_goes_on_in_its_part};
 pub use ready::Ready;
 pub use scanning::scan;
 pub use shut::Shut;
+pub use sync_laws::{
+    Failing, a_call_goes_on_behind_its_sync, a_settled_board_is_synced_already,
+    a_synced_board_is_left_as_held,
+};
 pub use written::Written;
 
 #[cfg(test)]

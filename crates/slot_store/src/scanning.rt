@@ -1,9 +1,10 @@
 //! What a pair of slots stands for.
-ghost use Rattle.std.specs.Prelude.{◌≡◌, ℕ, ◌+◌, ◌≤◌, take, drop, IfOk, OnOk, IsErrOf};
+ghost use Rattle.std.specs.Prelude.{◌≡◌, ℕ, ◌+◌, ◌≤◌, take, drop, IfOk, OnOk, IsErr, IsErrOf};
 ghost use Rattle.outside.specs.Disk.{SameBut, MayLeave};
 ghost use Rattle.outside.specs.Faults.{HasCause, Rose};
 ghost use Rattle.outside.specs.Runs.{LeavesOnly};
 ghost use Rattle.slot_store.specs.Scan.{held, verdict_on, found_at, IsAsFound, IsSound};
+ghost use Rattle.slot_store.specs.Syncs.{IsAsHeld, LeavesFromSync};
 
 use crate::pair::OPEN;
 use crate::{Body, Found, Place, SlotFault};
@@ -18,7 +19,8 @@ use taxi_units::Steps;
 /// has the latest body. `BadBody` names the lower open slot whose body isn't read. Where there is
 /// none, `SameNumber` comes where both slots are open with one number. `DeviceFailed` comes only
 /// where the board's count of faults rose. After each other answer nothing is in flight, the image is
-/// as it was, and the three calls were made; after `Latest` the pair is settled at the place.
+/// as it was, and the three calls were made; after `Latest` the pair is settled at the place. From the
+/// sync on a cut leaves the image as it was, and nothing else.
 pub fn scan<T: Body, B: Board<L>, L: Ledger>(
     board: &mut B,
     at: u16,
@@ -32,6 +34,8 @@ pub fn scan<T: Body, B: Board<L>, L: Ledger>(
     ensures sound { IfOk result (IsSound T.valid) }
     ensures any_moment { LeavesOnly B.Board board.old board.new
         (MayLeave (B.image board.old) (B.in_flight board.old) (B.printed board.old)) }
+    ensures synced { B.tells_image → LeavesFromSync B.Board (IsErrOf result SlotFault.DeviceFailed)
+        board.old board.new (IsAsHeld B.Board board.old) }
     ensures same { ¬ IsErrOf result SlotFault.DeviceFailed → B.image board.new ≡ B.image board.old }
     ensures durable { B.tells_image → ¬ IsErrOf result SlotFault.DeviceFailed
         → (place : ℕ) → ¬ B.in_flight board.new place }
@@ -58,6 +62,8 @@ fn read_pair<B: Board<L>, L: Ledger>(
     ensures second { B.tells_image → IfOk result (λ slots. slots.1 ≡ take 512 (drop (at + 512) (B.image board.old))) }
     ensures same { OnOk result (B.image board.new ≡ B.image board.old) }
     ensures durable { B.tells_image → OnOk result ((place : ℕ) → ¬ B.in_flight board.new place) }
+    ensures synced { B.tells_image → LeavesFromSync B.Board (IsErr result)
+        board.old board.new (IsAsHeld B.Board board.old) }
     ensures any_moment { LeavesOnly B.Board board.old board.new
         (MayLeave (B.image board.old) (B.in_flight board.old) (B.printed board.old)) }
     ensures image { SameBut (B.in_flight board.old) (B.image board.old) (B.image board.new) }
@@ -68,6 +74,27 @@ fn read_pair<B: Board<L>, L: Ledger>(
     ensures steps { steps.new ≤ steps.old + 3 }
 {
     board.sync(steps)?;
+    read_slots(board, at, steps)
+}
+
+/// Reads the bytes of both slots.
+fn read_slots<B: Board<L>, L: Ledger>(
+    board: &mut B,
+    at: u16,
+    steps: &mut Steps<L>,
+) -> Result<([u8; 512], [u8; 512]), Failed>
+    requires { at ≤ 1024 }
+    ensures first { B.tells_image → IfOk result (λ slots. slots.0 ≡ take 512 (drop at (B.image board.old))) }
+    ensures second { B.tells_image → IfOk result (λ slots. slots.1 ≡ take 512 (drop (at + 512) (B.image board.old))) }
+    ensures same { B.image board.new ≡ B.image board.old }
+    ensures any_moment { LeavesOnly B.Board board.old board.new
+        (MayLeave (B.image board.old) (B.in_flight board.old) (B.printed board.old)) }
+    ensures flight { (place : ℕ) → B.in_flight board.new place → B.in_flight board.old place }
+    ensures text { B.printed board.new ≡ B.printed board.old }
+    ensures cause { HasCause (B.faults board.old) (B.faults board.new) result }
+    ensures calls { OnOk result (steps.new ≡ steps.old + 2) }
+    ensures steps { steps.new ≤ steps.old + 2 }
+{
     let mut first = [0; 512];
     board.read(at, &mut first, steps)?;
     let mut second = [0; 512];

@@ -1,9 +1,9 @@
 //! The three stages in a row, for one body and for a list of them.
-ghost use Rattle.std.specs.Prelude.{◌≡◌, ◌⊎◌, ◌+◌, ◌*◌, ◌≤◌, ℕ, List, [], length, Option, IfOk, OnOk};
+ghost use Rattle.std.specs.Prelude.{◌≡◌, ◌⊎◌, ◌+◌, ◌*◌, ◌≤◌, false, ℕ, List, [], length, Option, IfOk, OnOk};
 ghost use Rattle.std.specs.List.{All};
 ghost use Rattle.outside.specs.Faults.{HasCause};
 ghost use Rattle.slot_store.specs.Slots.{ShowsEither};
-ghost use Rattle.slot_store.specs.Stages.{spare_at, new_place, IsBefore, IsReadyOn, IsSettledOn};
+ghost use Rattle.slot_store.specs.Stages.{spare_at, is_spare_open, new_place, IsBefore, IsReadyOn, IsSettledOn};
 ghost use Rattle.slot_store.specs.Writes.{LeavesThroughout, WritesIn};
 ghost use Rattle.slot_store.specs.Order.{AreNewer, last_of, ShowsOne, GetsEach, StoresSome};
 
@@ -16,7 +16,8 @@ impl Ready {
     /// Stores a body, whose number is greater than the latest body's, by the three stages, and answers
     /// its place. At each moment a cut leaves an image that stands for the latest body, or is blank as
     /// before, or stands for the new body, and so does the board's own image, also where a stage
-    /// failed. `Failed` comes only where the board's count of faults rose.
+    /// failed. `Failed` comes only where the board's count of faults rose. Over a closed slot at most 4
+    /// calls of the board are made.
     pub fn store<T: Body, B: Board<L>, L: Ledger>(
         self,
         board: &mut B,
@@ -39,6 +40,7 @@ impl Ready {
         ensures place { IfOk result (λ place. place ≡ new_place self) }
         ensures slot_in { IfOk result (λ place. place.slot ≤ 1) }
         ensures cause { HasCause (B.faults board.old) (B.faults board.new) result }
+        ensures closed { is_spare_open self.latest ≡ false → steps.new ≤ steps.old + 4 }
         ensures steps { steps.new ≤ steps.old + 6 }
     {
         let shut = self.shut::<T, B, L>(board, steps)?;

@@ -1,0 +1,34 @@
+//! What follows for runs that write a part of the store.
+ghost use Rattle.std.specs.Prelude.{ℕ, ◌+◌, ◌≤◌, List};
+ghost use Rattle.outside.specs.Disk.{SameBut};
+ghost use Rattle.slot_store.specs.Writes.{OrWithin, LeavesThroughout, WritesIn};
+
+use outside::Board;
+use std::sync::ledger::Ledger;
+
+/// Some kind of images. The laws hold of each.
+pub trait Images {
+    ghost images: { List ℕ → Type 0 };
+}
+
+/// What a run leaves of a part of the store, and writes there, is left of the whole in which the part
+/// lies, and written there; and it may be of a wider kind.
+pub fn a_part_of_the_store_lies_in_the_whole<B: Board<L>, K: Images, W: Images, L: Ledger>()
+    ensures leaves { (start count part size : ℕ) (old new : B) → start ≤ part → part + size ≤ start + count
+        → ((left_image : List ℕ) → SameBut (OrWithin (B.in_flight old) part size) (B.image old) left_image
+        → K.images left_image → W.images left_image)
+        → WritesIn B.Board part size old new → LeavesThroughout B.Board part size K.images old new
+        → LeavesThroughout B.Board start count W.images old new }
+    ensures writes { (start count part size : ℕ) (old new : B) → start ≤ part → part + size ≤ start + count
+        → WritesIn B.Board part size old new → WritesIn B.Board start count old new }
+{}
+
+/// What two runs leave of the same part, and write there, is left and written by both as one.
+pub fn a_run_goes_on_in_its_part<B: Board<L>, K: Images, L: Ledger>()
+    ensures leaves { (start count : ℕ) (old between new : B) → WritesIn B.Board start count old between
+        → LeavesThroughout B.Board start count K.images old between
+        → LeavesThroughout B.Board start count K.images between new
+        → LeavesThroughout B.Board start count K.images old new }
+    ensures writes { (start count : ℕ) (old between new : B) → WritesIn B.Board start count old between
+        → WritesIn B.Board start count between new → WritesIn B.Board start count old new }
+{}

@@ -1,0 +1,47 @@
+//! What follows for a call that syncs before anything else.
+ghost use Rattle.std.specs.Prelude.{List, ℕ};
+ghost use Rattle.outside.specs.Disk.{MayLeave};
+ghost use Rattle.outside.specs.Runs.{IsSettled, LeavesOnly};
+ghost use Rattle.slot_store.specs.Syncs.{IsAsHeld, IsSynced, LeavesFromSync};
+
+use outside::{Board, Kind};
+use std::sync::ledger::Ledger;
+
+/// What is known where a call fails. The laws hold of anything.
+pub trait Failing {
+    ghost fails: { Type 0 };
+}
+
+/// What goes on behind the opening sync of a call, and neither writes nor prints, leaves what the board
+/// held before the call.
+pub fn a_synced_board_is_left_as_held<B: Board<L>, L: Ledger>()
+    ensures { (old synced new : B) → IsSynced B.Board old synced
+        → LeavesOnly B.Board synced new (MayLeave (B.image synced) (B.in_flight synced) (B.printed synced))
+        → LeavesOnly B.Board synced new (IsAsHeld B.Board old) }
+{}
+
+/// Where nothing was in flight before a call, a cut at each of its moments leaves only what it may
+/// leave from the opening sync on, if what the board held before is of that kind.
+pub fn a_settled_board_is_synced_already<B: Board<L>, K: Kind, F: Failing, L: Ledger>()
+    ensures { (old new : B) → IsSettled B.Board old → K.kind (B.image old) (B.printed old)
+        → LeavesFromSync B.Board F.fails old new K.kind → LeavesOnly B.Board old new K.kind }
+{}
+
+/// What a call leaves from its opening sync on is of each wider kind too, and more may be known of how it
+/// fails; and what goes on behind that sync leaves what either leaves.
+pub fn a_call_goes_on_behind_its_sync<
+    B: Board<L>,
+    K: Kind,
+    W: Kind,
+    F: Failing,
+    G: Failing,
+    L: Ledger,
+>()
+    ensures wider { (old new : B) → (F.fails → G.fails)
+        → ((left_image left_text : List ℕ) → K.kind left_image left_text → W.kind left_image left_text)
+        → LeavesFromSync B.Board F.fails old new K.kind → LeavesFromSync B.Board G.fails old new W.kind }
+    ensures goes_on { (old between new : B) → ¬ F.fails
+        → ((left_image left_text : List ℕ) → K.kind left_image left_text → W.kind left_image left_text)
+        → LeavesFromSync B.Board F.fails old between K.kind → LeavesOnly B.Board between new W.kind
+        → LeavesFromSync B.Board G.fails old new W.kind }
+{}
