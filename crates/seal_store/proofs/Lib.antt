@@ -9,9 +9,9 @@ mod Parting
 mod PlainTexts
 mod PlainValues
 mod Ranged
-mod Runs
 mod SaidRanges
 mod Scans
 mod Sealings
 mod TextLaws
+mod WholeFaults
 mod WholeLaws

@@ -1,14 +1,15 @@
 -- What a sealing leaves at each moment.
-use Rattle.std.proofs.Common.{◌≡◌, inl, inr, ⊎_elim, ℕ, ◌≤◌, List, Option, Some, None, refl, subst, arith}
+use Rattle.std.proofs.Common.{◌≡◌, inl, inr, ⊎_elim, ℕ, ◌+◌, ◌≤◌, List, Option, Some, None, refl, subst, arith}
 use Rattle.std.specs.Option.{ForSome}
 use Rattle.outside.specs.declared.board.Board.{Ghosts}
-use Rattle.outside.specs.Disk.{SameBut}
+use Rattle.outside.specs.Disk.{IsWithin, SameBut}
 use Rattle.slot_store.specs.declared.pair.Pair.{Pair}
 use Rattle.slot_store.specs.declared.pair.Place.{Place}
 use Rattle.slot_store.specs.Slots.{FliesNoMore, IsQuiet, IsSamePair, ShowsEither}
 use Rattle.slot_store.specs.Stages.{IsBefore, IsPair, IsReady, spare_at}
-use Rattle.slot_store.specs.Writes.{OrWithin, LeavesThroughout, WritesIn}
+use Rattle.slot_store.specs.Writes.{IsApart, OrWithin, LeavesThroughout, WritesIn}
 use Rattle.slot_store.proofs.Laws as slots
+use Rattle.slot_store.proofs.Laws.{in_part_as, run_on, writes_in_part, writes_on}
 use Rattle.totaliser_store.specs.declared.durable.Durable.{Durable}
 use Rattle.totaliser_store.specs.Reading as totals
 use Rattle.totaliser_store.specs.States.{first_state}
@@ -17,7 +18,6 @@ use Rattle.totaliser_store.specs.Stored.{HasState, KeepsState}
 use Rattle.seal_store.specs.declared.seal.Seal.{Seal}
 use Rattle.seal_store.specs.Decoding.{reads, number_of}
 use Rattle.seal_store.specs.Sealing.{FoundSeal, FoundTotals, HasEitherSeal, IsAmid, KeepsSeal, KeepsSealed, KeepsTotals, LeavesSealing, ShowsSeal, found_number, next_number, pair_for}
-use Rattle.seal_store.proofs.Runs.{in_part, run_on, writes_on, writes_in_part, same_beside, no_more_beside}
 
 -- the pair of seals lies in the store
 pub is_pair : (found : Option (Place × ℕ)) → ForSome found (λ latest. latest.0.slot ≤ 1) → IsPair (pair_for found)
@@ -27,6 +27,17 @@ is_pair (Some found) slot = record { at_in = omega arith; slot_in = slot found r
 -- the pair of totals where none were found
 abbrev pub first_pair : Pair
 first_pair = record { at = 0; latest = None }
+
+module _ {D L : Type 0} (B : Ghosts D L) (start : ℕ) (old new : D) where
+  -- a pair apart from what is written keeps its bytes, and no more of it is in flight
+  same_beside : (at : ℕ) → IsApart at start 1024 → IsQuiet at (B.in_flight old) → WritesIn B start 1024 old new → IsSamePair at (B.image old) (B.image new)
+  same_beside at apart quiet writes = slots.apart_same at start 1024 (B.image old) (B.in_flight old) (B.image new) apart quiet writes.rest
+
+  no_more_beside : (at : ℕ) → IsApart at start 1024 → WritesIn B start 1024 old new → FliesNoMore at (B.in_flight old) (B.in_flight new)
+  no_more_beside at (inl before) writes place within flies =
+      ⊎_elim (λ was. was) (λ (touched : IsWithin start 1024 place). absurd (omega (arith, before, within.low, touched.high))) (writes.flight place flies)
+  no_more_beside at (inr behind) writes place within flies =
+      ⊎_elim (λ was. was) (λ (touched : IsWithin start 1024 place). absurd (omega (arith, behind, within.high, touched.low))) (writes.flight place flies)
 
 module _ {D L : Type 0} (B : Ghosts D L) where
   -- the new seal's number is greater than the found one's
@@ -90,7 +101,7 @@ module _ {D L : Type 0} (B : Ghosts D L) where
   pub leaves_beside : (board after : D) (durable : Durable) (old : Option Seal) (new : Seal) → FoundTotals B board (Some durable) → WritesIn B 1024 1024 board after
       → LeavesThroughout B 1024 1024 (HasEitherSeal old new) board after → LeavesSealing B (record { totals = Some durable; old = old; new = new }) board after
   leaves_beside board after durable old new found writes run =
-      in_part B 1024 1024 1024 1024 (HasEitherSeal old new) (IsAmid (record { totals = Some durable; old = old; new = new })) board after (omega arith) (omega arith) (λ left same either.
+      in_part_as B 1024 1024 1024 1024 (HasEitherSeal old new) (IsAmid (record { totals = Some durable; old = old; new = new })) board after (omega arith) (omega arith) (λ left same either.
       let stands = totals_stand board found.0 durable left found.1 same in record {
         totals = stands;
         seal = ⊎_elim (λ shows. inl shows) (λ sealed. inr (record { totals = stands; seal = sealed })) either;
@@ -111,7 +122,7 @@ module _ {D L : Type 0} (B : Ghosts D L) where
   pub leaves_first : (board after : D) (found : Option (Place × ℕ)) (old : Option Seal) (new : Seal) → FoundSeal B board found old → WritesIn B 0 1024 board after
       → LeavesThroughout B 0 1024 (KeepsTotals None) board after → LeavesSealing B (record { totals = None; old = old; new = new }) board after
   leaves_first board after found old new is writes run =
-      in_part B 0 2048 0 1024 (KeepsTotals None) (IsAmid (record { totals = None; old = old; new = new })) board after (omega arith) (omega arith) (λ left same kept. record {
+      in_part_as B 0 2048 0 1024 (KeepsTotals None) (IsAmid (record { totals = None; old = old; new = new })) board after (omega arith) (omega arith) (λ left same kept. record {
         totals = kept;
         seal = inl (shows_found board found old left is (slots.apart_same 1024 0 1024 (B.image board) (B.in_flight board) left (inl (omega arith)) (quiet_found board found old is) same));
       }) writes run
@@ -127,7 +138,7 @@ module _ {D L : Type 0} (B : Ghosts D L) where
   leaves_both board between after found old new place is writes first kept more second =
       run_on B 0 2048 board between after (IsAmid (record { totals = None; old = old; new = new })) (writes_in_part B 0 2048 0 1024 board between (omega arith) (omega arith) writes)
       (leaves_first board between found old new is writes first)
-      (in_part B 0 2048 1024 1024 (HasEitherSeal old new) (IsAmid (record { totals = None; old = old; new = new })) between after (omega arith) (omega arith) (λ left same either.
+      (in_part_as B 0 2048 1024 1024 (HasEitherSeal old new) (IsAmid (record { totals = None; old = old; new = new })) between after (omega arith) (omega arith) (λ left same either.
       let stands = totals_stand between place first_state left kept same in record {
         totals = inr stands;
         seal = ⊎_elim (λ shows. inl shows) (λ sealed. inr (record { totals = stands; seal = sealed })) either;

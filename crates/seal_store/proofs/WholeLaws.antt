@@ -15,14 +15,14 @@ use Rattle.seal_store.proofs.PlainTexts.{whole_again}
 use Rattle.seal_store.proofs.SaidRanges.{went_on}
 use Rattle.seal_store.proofs.TextLaws.{lines_make_the_text}
 
-say_on : (said after : Said) (number : ℕ) (lines : List (List ℕ)) → lines_read said number lines ≡ Ok after → SayOn said lines after
+pub say_on : (said after : Said) (number : ℕ) (lines : List (List ℕ)) → lines_read said number lines ≡ Ok after → SayOn said lines after
 unfolding lines_read
 say_on said after number [] e = let same : said ≡ after = cc in subst (SayOn said []) same (no_line said)
 say_on said after number (line ∷ lines) e =
     let on = went_on (line_read said number line) (λ (more : Said). lines_read more (number + 1) lines) after e in
     one_line said on.0 after line lines ((lines_say_their_parameter said on.0 number line).0 on.1) (say_on on.0 after (number + 1) lines on.2)
 
-say_from : (said after : Said) (number : ℕ) (lines : List (List ℕ)) → SayOn said lines after → lines_read said number lines ≡ Ok after
+pub say_from : (said after : Said) (number : ℕ) (lines : List (List ℕ)) → SayOn said lines after → lines_read said number lines ≡ Ok after
 unfolding lines_read
 say_from said after number lines (no_line s) = refl
 say_from said after number lines (one_line s more a line ls says on) = rw ((lines_say_their_parameter s more number line).1 says) (say_from more a (number + 1) ls on)

@@ -1,5 +1,8 @@
 -- What a whole text of parameters says, in words that share nothing with how it is read.
-use Rattle.std.specs.Prelude.{◌≡◌, ℕ, ◌≤◌, List, [], ◌∷◌, length, Some}
+use Rattle.std.specs.Prelude.{◌≡◌, ℕ, ◌<◌, ◌≤◌, List, [], ◌∷◌, length, Some, None}
+use Rattle.seal_store.specs.declared.params.Name.{Name}
+use Rattle.seal_store.specs.declared.params.Name.TheVariants.{Taxi, Constant, Hold, Offset, Secured}
+use Rattle.seal_store.specs.declared.params.Name.TheVariants as name
 use Rattle.seal_store.specs.declared.params.Params.{Params}
 use Rattle.seal_store.specs.LineSays.{SaysMore}
 use Rattle.seal_store.specs.Said.{Said, nothing_said}
@@ -29,3 +32,31 @@ pub record SaysParams (text : List ℕ) (params : Params) : Type 0 where
   pub are_lines : AreLines text lines
   pub say : SayOn nothing_said lines said
   pub all : AreSaid said params
+
+-- a parameter has not been said
+abbrev pub IsUnsaid : Said → Name → Type 0
+IsUnsaid said Taxi = said.taxi ≡ None
+IsUnsaid said Constant = said.constant ≡ None
+IsUnsaid said name.Mode = said.mode ≡ None
+IsUnsaid said Hold = said.hold ≡ None
+IsUnsaid said Offset = said.offsets ≡ []
+IsUnsaid said Secured = said.secured ≡ None
+
+-- the place of a parameter in the table of the format
+abbrev pub row_of : Name → ℕ
+row_of Taxi = 0
+row_of Constant = 1
+row_of name.Mode = 2
+row_of Hold = 3
+row_of Offset = 4
+row_of Secured = 5
+
+-- all lines of a text of at most 65,536 bytes are good, and this is the first parameter by the table that they don't say
+pub record LacksFirst (text : List ℕ) (which : Name) : Type 0 where
+  pub few : length text ≤ 65536
+  pub lines : List (List ℕ)
+  pub said : Said
+  pub are_lines : AreLines text lines
+  pub say : SayOn nothing_said lines said
+  pub unsaid : IsUnsaid said which
+  pub earlier : (other : Name) → row_of other < row_of which → ¬ (IsUnsaid said other)

@@ -26,7 +26,7 @@ use totaliser_store::{DeviceFailed, Durable};
 /// At each moment a cut of the power leaves the totals that were found, or where there were none, none
 /// or those of zero; and the seal that was found, or none as before, or the new one, and the new one
 /// only beside totals. So does the board's own image, also where the answer is `DeviceFailed`. Nothing
-/// is printed, and at most 12 calls of the board are made.
+/// is printed, and at most 10 calls of the board are made.
 ///
 /// `DeviceFailed` comes only where the board's count of faults rose; after it only a scan goes on.
 pub fn place_seal<B: Board<L>, L: Ledger>(
@@ -46,7 +46,7 @@ pub fn place_seal<B: Board<L>, L: Ledger>(
     ensures sealed { B.tells_image → OnOk result (KeepsSealed B.Board totals seal.now board.new) }
     ensures beside { WritesIn B.Board (first_written totals) (places_written totals) board.old board.new }
     ensures cause { HasCause (B.faults board.old) (B.faults board.new) result }
-    ensures steps { steps.new ≤ steps.old + 12 }
+    ensures steps { steps.new ≤ steps.old + 10 }
 {
     match totals {
         Some(totals) => seal_beside(board, &totals, found, seal, steps),
@@ -95,7 +95,7 @@ fn seal_first<B: Board<L>, L: Ledger>(
     ensures sealed { B.tells_image → OnOk result (KeepsSealed B.Board None seal.now board.new) }
     ensures beside { WritesIn B.Board 0 2048 board.old board.new }
     ensures cause { HasCause (B.faults board.old) (B.faults board.new) result }
-    ensures steps { steps.new ≤ steps.old + 12 }
+    ensures steps { steps.new ≤ steps.old + 10 }
 {
     put_totals(board, steps)?;
     put_seal(board, found, seal, steps)?;
@@ -112,7 +112,7 @@ fn put_totals<B: Board<L>, L: Ledger>(
     ensures settled { B.tells_image → IfOk result (λ place. KeepsState B.Board place board.new first_state) }
     ensures beside { WritesIn B.Board 0 1024 board.old board.new }
     ensures cause { HasCause (B.faults board.old) (B.faults board.new) result }
-    ensures steps { steps.new ≤ steps.old + 6 }
+    ensures steps { steps.new ≤ steps.old + 4 }
 {
     let place = Ready::blank(0).store(board, &Durable::zero(), steps)?;
     Ok(place)

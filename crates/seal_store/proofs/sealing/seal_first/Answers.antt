@@ -1,5 +1,5 @@
 use Rattle.seal_store.proofs.Sealings.{found_after, keeps_both, leaves_both, leaves_first, writes_both}
-use Rattle.seal_store.proofs.Runs.{writes_in_part}
+use Rattle.slot_store.proofs.Laws.{writes_in_part}
 use Rattle.std.proofs.Common.{arith}
 use Rattle.seal_store.proofs.sealing.seal_first.Goals as goal
 
