@@ -6,6 +6,7 @@ use Rattle.std.specs.List.{AllByRecursion, prefix_len}
 use Rattle.std.proofs.Math.Seq.{take-append_seam, drop-append_seam}
 use Rattle.std.proofs.lemmas.Bool.{le-leb, le-ltb, lt-ltb, lt-leb, ne_eqb, cases_lt}
 use Rattle.std.proofs.lemmas.Bool.Decides.{nat_tests}
+use Rattle.std.proofs.lemmas.List.Elements.{recursion_from_All}
 use Rattle.taxi_units.specs.Number.{money_text}
 use Rattle.taxi_units.specs.Reading.{word_at}
 use Rattle.taxi_units.specs.Shown.{IsReceipt}
@@ -14,7 +15,9 @@ use Rattle.taxi_units.specs.declared.receipt.Kind.TheVariants.{Closed, Aborted, 
 use Rattle.taxi_units.specs.declared.receipt.Receipt.{Receipt}
 use Rattle.receipt_text.specs.Digests.{byte_at, bytes_at, digest_at, hex_value}
 use Rattle.receipt_text.specs.Lines.{calculation_at, heading_at, kind_at, minimum_at, part_at, sums_at, taxi_at, trip_at}
-use Rattle.receipt_text.specs.Part.{Part, IsDigest, IsPart, IsTaxi, IsTaxiCharacter, is_taxi_character}
+use Rattle.receipt_text.specs.Part.{Part, IsDigest, IsPart}
+use Rattle.seal_store.specs.Ranges.{IsTaxi, IsTaxiCharacter}
+use Rattle.seal_store.specs.Values.{is_taxi_character}
 use Rattle.receipt_text.specs.Receipts.{calculation_text, day_text, heading_text, hex_digit, hex_text, kind_text, minimum_text, part_text, stamp_text, sums_text, trip_text}
 use Rattle.receipt_text.proofs.Again.{amount_again, number_again, word_again}
 use Rattle.receipt_text.proofs.Dates.{day_again, stamp_again}
@@ -60,7 +63,7 @@ count_again (c ∷ cs) rest all = rw (character_true c all.0) (omega (arith, cou
 taxi_again : (taxi rest : List ℕ) → IsTaxi taxi → taxi_at (taxi ++ 10 ∷ rest) ≡ Some (taxi, 10 ∷ rest)
 unfolding taxi_at
 taxi_again taxi rest is =
-    rw (count_again taxi rest is.characters, le-leb 1 (length taxi) is.some, le-leb (length taxi) 16 is.few, take-append_seam taxi (10 ∷ rest), drop-append_seam taxi (10 ∷ rest)) refl
+    rw (count_again taxi rest (recursion_from_All IsTaxiCharacter taxi is.characters), le-leb 1 (length taxi) is.some, le-leb (length taxi) 16 is.few, take-append_seam taxi (10 ∷ rest), drop-append_seam taxi (10 ∷ rest)) refl
 
 -- a hexadecimal digit
 digit_again : (n : ℕ) → n < 16 → hex_value (hex_digit n) ≡ Some n

@@ -1,17 +1,12 @@
 -- What a receipt says of a seal is in its ranges.
-use Rattle.std.proofs.lemmas.List.Elements.{recursion_from_All}
 use Rattle.seal_store.specs.declared.seal.Seal.{Seal}
 use Rattle.seal_store.specs.Ranges.{IsSeal}
-use Rattle.receipt_text.specs.Part.{IsDigest, IsPart, IsTaxiCharacter}
+use Rattle.receipt_text.specs.Part.{IsDigest, IsPart}
 use Rattle.receipt_text.specs.SealParts.{part_of}
 
 pub sealed_part : (seal : Seal) → IsSeal seal → IsDigest seal.digest → IsPart (part_of seal)
 sealed_part seal sealed digest = record {
-  taxi = record {
-    some = sealed.params.taxi.some;
-    few = sealed.params.taxi.few;
-    characters = recursion_from_All IsTaxiCharacter seal.params.taxi.items sealed.params.taxi.characters;
-  };
+  taxi = sealed.params.taxi;
   constant = sealed.params.constant;
   secured = sealed.params.secured;
   digest = digest;

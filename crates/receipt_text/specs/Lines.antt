@@ -12,7 +12,8 @@ use Rattle.receipt_text.specs.declared.sums.Sums.{Sums}
 use Rattle.receipt_text.specs.Dates.{day_at, stamp_at}
 use Rattle.receipt_text.specs.Digests.{digest_at}
 use Rattle.receipt_text.specs.Figures.{amount_below, number_below}
-use Rattle.receipt_text.specs.Part.{Part, is_taxi_character}
+use Rattle.receipt_text.specs.Part.{Part}
+use Rattle.seal_store.specs.Values.{is_taxi_character}
 
 -- a kind, where its word was found, and else what other words give
 abbrev pub kind_or : Kind → Option (List ℕ) → Option (Kind × List ℕ) → Option (Kind × List ℕ)

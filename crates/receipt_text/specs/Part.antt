@@ -1,9 +1,10 @@
 -- What a receipt says of the meter's seal.
-use Rattle.std.specs.Prelude.{◌≡◌, ◌≢◌, ◌⊎◌, ℕ, ◌+◌, ◌*◌, ◌^◌, ◌<◌, ◌≤◌, ◌&&◌, ◌||◌, ◌==◌, nat_le, Bool, ℤ, pos, ◌≤ℤ◌, List, length}
+use Rattle.std.specs.Prelude.{◌≡◌, ◌≢◌, ℕ, ◌+◌, ◌*◌, ◌^◌, ◌<◌, ◌≤◌, ℤ, pos, ◌≤ℤ◌, List, length}
 use Rattle.std.specs.List.{AllByRecursion}
 use Rattle.taxi_units.specs.Shown.{fare_of}
 use Rattle.taxi_units.specs.declared.receipt.Kind.TheVariants.{Roam}
 use Rattle.taxi_units.specs.declared.receipt.Receipt.{Receipt}
+use Rattle.seal_store.specs.Ranges.{IsTaxi}
 
 -- the taxi identifier, the constant in pulses per kilometre, the day number of securing, and the digest of the tariff
 pub record Part : Type 0 where
@@ -11,20 +12,6 @@ pub record Part : Type 0 where
   pub constant : ℕ
   pub secured : ℤ
   pub digest : List ℕ
-
--- the test whether a byte is A to Z, 0 to 9, or -
-abbrev pub is_taxi_character : ℕ → Bool
-is_taxi_character c = (nat_le 65 c && nat_le c 90) || ((nat_le 48 c && nat_le c 57) || (c == 45))
-
--- A to Z, 0 to 9, and -
-abbrev pub IsTaxiCharacter : ℕ → Type 0
-IsTaxiCharacter c = ((65 ≤ c) × (c ≤ 90)) ⊎ (((48 ≤ c) × (c ≤ 57)) ⊎ (c ≡ 45))
-
--- a taxi identifier: 1 to 16 of these characters
-pub record IsTaxi (taxi : List ℕ) : Type 0 where
-  pub some : 1 ≤ length taxi
-  pub few : length taxi ≤ 16
-  pub characters : AllByRecursion IsTaxiCharacter taxi
 
 -- the kind, the number, the tariff position, the distance and the decimals of a receipt are in their ranges
 abbrev pub HasNumbers : Receipt → Type 0

@@ -17,9 +17,9 @@ pub(crate) fn hex_of(digest: &[u8; 32]) -> Line
     line
 }
 
-/// Appends two digits for each byte.
+/// Appends the lower-case hexadecimal digits of bytes, two for each, to a line with room for them.
 #[tactic(auto, unfolding(crate::specs::Receipts::hex_text))]
-fn push_hex(line: &mut Line, bytes: &[u8])
+pub fn push_hex(line: &mut Line, bytes: &[u8])
     requires { array_vec_len line.old + 2 * length bytes.now ≤ 512 }
     ensures text { line.new.items ≡ line.old.items ++ hex_text bytes.now }
     ensures len { array_vec_len line.new ≡ array_vec_len line.old + 2 * length bytes.now }

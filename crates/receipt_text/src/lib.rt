@@ -19,6 +19,7 @@ mod stamps;
 mod sums;
 mod trips;
 
+pub use digest::push_hex;
 pub use displays::put_display;
 pub use grammar::{
     displays_differ_by_their_fields, receipts_are_short, receipts_are_their_texts,

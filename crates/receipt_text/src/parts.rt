@@ -4,10 +4,11 @@ ghost use Rattle.std.specs.List.{prefix_len};
 ghost use Rattle.arrayvec.specs.ArrayVec.{array_vec_len};
 ghost use Rattle.taxi_units.specs.Reading.{Gives};
 ghost use Rattle.receipt_text.specs.Lines as spec;
-ghost use Rattle.receipt_text.specs.Part.{IsDigest, IsPart, is_taxi_character};
+ghost use Rattle.receipt_text.specs.Part.{IsDigest, IsPart};
 ghost use Rattle.receipt_text.specs.Receipts.{day_text, part_text};
 ghost use Rattle.receipt_text.specs.SealParts.{part_of};
 ghost use Rattle.seal_store.specs.Ranges.{IsSeal};
+ghost use Rattle.seal_store.specs.Values.{is_taxi_character};
 
 use crate::digest::{digest_at, hex_of};
 use crate::fields::{put_figure, put_text};

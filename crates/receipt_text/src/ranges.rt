@@ -3,7 +3,8 @@ ghost use Rattle.std.specs.Prelude.{◌≡◌, ◌≢◌, ◌↔◌, ◌≤◌, 
 ghost use Rattle.std.specs.List.{AllByRecursion};
 ghost use Rattle.taxi_units.specs.Shown.{IsReceipt, IsStamp, fare_of};
 ghost use Rattle.taxi_units.specs.declared.receipt.Kind.TheVariants.{Roam};
-ghost use Rattle.receipt_text.specs.Part.{HasAmounts, HasNumbers, IsDigest, IsPart, IsTaxi, IsTaxiCharacter};
+ghost use Rattle.receipt_text.specs.Part.{HasAmounts, HasNumbers, IsDigest, IsPart};
+ghost use Rattle.seal_store.specs.Ranges.{IsTaxi, IsTaxiCharacter};
 
 use crate::parts::{SealPart, is_taxi_character};
 use taxi_units::{Kind, Receipt, Stamp, is_date};

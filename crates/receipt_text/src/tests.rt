@@ -4,7 +4,8 @@ ghost use Rattle.std.specs.Prelude.{◌≡◌, ◌≤◌};
 use crate::parts::SealPart;
 use crate::reading::read_receipt;
 use crate::receipts::put_part_receipt;
-use crate::{put_display, put_refusal};
+use crate::{put_display, put_receipt, put_refusal};
+use seal_store::{Seal, read_params};
 use taxi_units::{Display, Kind, Line, LineFull, Operating, Receipt, Why, put_bytes};
 
 /// A receipt under examples/a.tariff. The digest is what sha256sum gives of that file.
@@ -72,6 +73,33 @@ fn reads_a_receipt(rt: HostRuntime) {
         (0x26, 0x45, 0x9b)
     );
     assert!(rt; writes(&receipt, &part, RECEIPT));
+}
+
+/// The parameters of the receipt's meter, as a text.
+const PARAMS: &str =
+    "taxi LX-4711\nconstant 10000\nmode single\nhold 60\noffset 946684800 3600\nsecured 2025-12-01\n";
+
+/// A receipt says of the seal what its parameters and its digest are.
+#[test]
+fn writes_the_receipt_of_a_seal(rt: HostRuntime) {
+    let Some((receipt, part)) = read_receipt(RECEIPT.as_bytes()) else {
+        assert!(rt; false);
+        return;
+    };
+    let Ok(params) = read_params(PARAMS.as_bytes()) else {
+        assert!(rt; false);
+        return;
+    };
+    let digest = part.digest;
+    let seal = Seal {
+        seal_number: 1,
+        params,
+        digest,
+        decimals: 2,
+    };
+    let mut line = Line::new();
+    assert_eq!(rt; put_receipt(&mut line, &receipt, &seal), Ok(()));
+    assert_eq!(rt; line.as_slice(), RECEIPT.as_bytes());
 }
 
 /// Receipts of the grammar, by heading and body.

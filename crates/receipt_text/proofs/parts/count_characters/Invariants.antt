@@ -1,6 +1,6 @@
 use Rattle.std.proofs.Common.{◌≡◌, ◌+◌, drop}
 use Rattle.std.specs.List.{prefix_len}
-use Rattle.receipt_text.specs.Part.{is_taxi_character}
+use Rattle.seal_store.specs.Values.{is_taxi_character}
 use Rattle.receipt_text.proofs.parts.count_characters.Given as goal
 
 abbrev pub invariant-loop-byte : goal.invariant-loop-byte
