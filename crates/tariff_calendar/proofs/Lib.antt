@@ -6,4 +6,5 @@ mod Holidays
 mod Insertions
 pub mod Laws
 mod Lists
+mod Reaches
 mod SameCell

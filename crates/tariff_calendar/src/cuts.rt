@@ -1,11 +1,11 @@
 //! The lists of cuts and of holidays.
-ghost use Rattle.std.specs.Prelude.{◌≡◌, ◌+◌, ◌<◌, ◌≤◌, ◌≤ℤ◌, pos, length, min, IfOk};
+ghost use Rattle.std.specs.Prelude.{◌≡◌, ℕ, ◌+◌, ◌<◌, ◌≤◌, ◌≤ℤ◌, pos, length, min, IfOk};
 ghost use Rattle.tariff_calendar.specs.Lists.{IsOrdered, count_at_most, has_day, has_days, list_in, lists_of, most_reads};
 ghost use Rattle.tariff_check.specs.Cuts.{most_cuts};
 ghost use Rattle.tariff_syntax.specs.Tree.{tree_of};
 
 use crate::collecting::{holiday_days, in_pulses};
-use crate::lookups::{count, has};
+use crate::lookups::{count, count_until, has};
 use pulse_input::Constant;
 use std::alloc::Global;
 use std::marker::Model;
@@ -76,6 +76,23 @@ impl Cuts {
         ensures least { steps.old + min 1 (length (list_in self.now dimension)) ≤ steps.new }
     {
         count(self.ordered(dimension), value, steps)
+    }
+
+    /// How many cuts of a dimension are at most a value, as `find` counts them, and by how much the value may
+    /// grow at least while they are as many. It takes as many steps at most.
+    pub fn find_until<L: Ledger>(
+        &self,
+        dimension: Dimension,
+        value: u64,
+        steps: &mut Steps<L>,
+    ) -> (usize, u64)
+        ensures value { result.0 ≡ count_at_most value (list_in self.now dimension) }
+        ensures same { (other : ℕ) → value ≤ other → other ≤ value + result.1
+            → count_at_most other (list_in self.now dimension) ≡ count_at_most value (list_in self.now dimension) }
+        ensures kept { steps.old ≤ steps.new }
+        ensures most { steps.new ≤ steps.old + most_reads dimension }
+    {
+        count_until(self.ordered(dimension), value, steps)
     }
 
     /// Whether a day, by its number since 1970-01-01, is a holiday. Each day that is read is one step: they

@@ -1,6 +1,6 @@
 //! Look-ups in numbers that don't fall.
 ghost use Rattle.std.specs.List.{list_any};
-ghost use Rattle.std.specs.Prelude.{◌≡◌, ◌==◌, length};
+ghost use Rattle.std.specs.Prelude.{◌≡◌, ◌==◌, ℕ, ◌+◌, ◌≤◌, ◌<◌, ◌^◌, length};
 ghost use Rattle.tariff_calendar.specs.Lists.{IsNotFalling, count_at_most};
 ghost use Rattle.taxi_units.specs.Counted.{HalvesIn};
 
@@ -26,4 +26,31 @@ pub fn has<L: Ledger>(list: &[u64], number: u64, steps: &mut Steps<L>) -> bool
         Some(last) => last == number,
         None => false,
     }
+}
+
+/// How many numbers are at most a value, and by how much it may grow at least while they are as many: to
+/// just before the next number. Each number that is read is one step.
+pub fn count_until<L: Ledger>(list: &[u64], value: u64, steps: &mut Steps<L>) -> (usize, u64)
+    requires { IsNotFalling list.now }
+    ensures value { result.0 ≡ count_at_most value list.now }
+    ensures same { (other : ℕ) → value ≤ other → other ≤ value + result.1
+        → count_at_most other list.now ≡ count_at_most value list.now }
+    ensures kept { steps.old ≤ steps.new }
+    ensures most { (digits : ℕ) → length list.now < 2 ^ digits → steps.new ≤ steps.old + digits }
+{
+    let numbers = Counted::of(list);
+    let mut count = 0;
+    let mut end = numbers.len();
+    let mut further = u64::MAX;
+    while count < end {
+        let middle = count + (end - count) / 2;
+        let number = numbers.read(middle, steps);
+        if number <= value {
+            count = middle + 1;
+        } else {
+            end = middle;
+            further = number - value - 1;
+        }
+    }
+    (count, further)
 }

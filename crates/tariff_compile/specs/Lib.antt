@@ -2,5 +2,6 @@ pub mod Alike
 pub mod Cells
 pub mod Inside
 pub mod Marks
+pub mod Near
 pub mod Rows
 pub mod Tables

@@ -2,7 +2,9 @@
 ghost use Rattle.std.specs.Prelude.{◌≡◌, ◌+◌, ◌≤◌};
 ghost use Rattle.tariff_calendar.specs.Lists.{count_at_most};
 ghost use Rattle.tariff_compile.specs.Cells.{HasLowCuts, IsNarrow, bands_at, beginning, context_in};
+ghost use Rattle.tariff_compile.specs.Near.{IsNear};
 ghost use Rattle.tariff_syntax.specs.Meaning.{at_hiring};
+ghost use Rattle.tariff_syntax.specs.declared.context.Context.{Context};
 
 use crate::parts::Bands;
 use pulse_input::Constant;
@@ -71,6 +73,28 @@ pub(crate) fn bands_at<L: Ledger>(cuts: &Cuts, x: &Context, steps: &mut Steps<L>
     bands.distance = cuts.find(Dimension::Distance, x.pulses, steps);
     bands.time = cuts.find(Dimension::Time, x.ticks as u64, steps);
     bands
+}
+
+/// The numbers of the cell in which a context is, and for how many further pulses and further ticks it
+/// stays there at least. At most 20 steps.
+pub(crate) fn bands_until<L: Ledger>(
+    cuts: &Cuts,
+    x: &Context,
+    steps: &mut Steps<L>,
+) -> (Bands, u64, u64)
+    requires position { 1 ≤ x.now.position }
+    requires zone { 1 ≤ x.now.zone }
+    requires weekday { 1 ≤ x.now.weekday }
+    ensures near { (y : Context) → IsNear result.1 result.2 x.now y → result.0 ≡ bands_at cuts.now y }
+    ensures value { result.0 ≡ bands_at cuts.now x.now }
+    ensures steps { (steps.old ≤ steps.new) × (steps.new ≤ steps.old + 20) }
+{
+    let mut bands = first_bands(cuts, x, steps);
+    let (distance, further) = cuts.find_until(Dimension::Distance, x.pulses, steps);
+    let (time, longer) = cuts.find_until(Dimension::Time, x.ticks as u64, steps);
+    bands.distance = distance;
+    bands.time = time;
+    (bands, further, longer)
 }
 
 /// The same, of a context that lies before each cut of distance and time. At most 12 steps.

@@ -1,5 +1,7 @@
 //! The parts of the tables that are plain numbers.
 
+use drive_modes::Weights;
+
 /// What a hiring begins with, in units of the last decimal: the initial hire fee, the amount of charges
 /// that it covers, and the minimum fare, which is 0 where no minimum line holds. Each is at most
 /// 99,999,999.
@@ -8,6 +10,14 @@ pub struct Initial {
     pub amount: u64,
     pub covers: u64,
     pub minimum: u64,
+}
+
+/// What a rate weighs, and for how many further pulses and further ticks of a trip it holds at least.
+#[derive(Clone, Copy, Debug, PartialEq, Eq)]
+pub struct Lasting {
+    pub weights: Weights,
+    pub further: u64,
+    pub longer: u64,
 }
 
 /// An initial hire fee of the tables, and the amount of charges that it covers.

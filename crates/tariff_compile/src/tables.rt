@@ -4,14 +4,16 @@ ghost use Rattle.arrayvec.specs.ArrayVec.{array_vec_len};
 ghost use Rattle.interval_clock.specs.Calendar.{IsDateOf};
 ghost use Rattle.tariff_calendar.specs.Lists.{has_day, has_days, is_holiday};
 ghost use Rattle.tariff_compile.specs.Cells.{IsBelow, cell_number};
+ghost use Rattle.tariff_compile.specs.Near.{IsNear};
 ghost use Rattle.tariff_compile.specs.Rows.{row_count, row_text};
 ghost use Rattle.tariff_compile.specs.Tables.{AreFit, IsCompiled, IsFit, IsFitInitial, IsInRangeFor, IsTablesOf, initial_by, rate_by, sizes_for, supplement_at};
 ghost use Rattle.tariff_syntax.specs.Tree.{Tree};
+ghost use Rattle.tariff_syntax.specs.declared.context.Context.{Context};
 ghost use Rattle.taxi_units.specs.Counted.{IsElement};
 
 use crate::bands::{cell_number, sizes_of};
-use crate::contexts::{bands_at, bands_at_hiring};
-use crate::parts::{Bands, CellLines, Fee, Initial, Supplement};
+use crate::contexts::{bands_at, bands_at_hiring, bands_until};
+use crate::parts::{Bands, CellLines, Fee, Initial, Lasting, Supplement};
 use crate::rows::{cell_row, initial_row, measure_row, minimum_row, rate_row};
 use drive_modes::{Rounding, Weights};
 use pulse_input::Constant;
@@ -67,6 +69,28 @@ impl Tables {
         let bands = bands_at(&self.cuts, x, steps);
         let lines = self.lines_of(&bands, steps);
         Counted::of(self.weights.as_slice()).read(lines.rate as usize, steps)
+    }
+
+    /// The weights of the rate that holds first in a context, as `rate_at` gives them, and for how many
+    /// further pulses and further ticks of a trip they are the same at least: until the next cut of
+    /// distance and of time. It takes as many steps.
+    pub fn rate_until<L: Ledger>(&self, x: &Context, steps: &mut Steps<L>) -> Lasting
+        requires range { IsInRangeFor self.now x.now }
+        ensures tree { (t : Tree) → IsTablesOf t self.now → result.weights ≡ rate_by t self.now.constant x.now }
+        ensures near { (t : Tree) (y : Context) → IsTablesOf t self.now → IsInRangeFor self.now y
+            → IsNear result.further result.longer x.now y → result.weights ≡ rate_by t self.now.constant y }
+        ensures fit { AreFit self.now.measure result.weights }
+        ensures most { steps.new ≤ steps.old + 22 }
+        ensures least { steps.old + 2 ≤ steps.new }
+    {
+        let (bands, further, longer) = bands_until(&self.cuts, x, steps);
+        let lines = self.lines_of(&bands, steps);
+        let weights = Counted::of(self.weights.as_slice()).read(lines.rate as usize, steps);
+        Lasting {
+            weights,
+            further,
+            longer,
+        }
     }
 
     /// The initial hire fee and the minimum fare that hold first in a context at the hiring, which a trip

@@ -1,0 +1,14 @@
+-- Contexts of one trip that follow each other shortly.
+use Rattle.std.specs.Prelude.{◌≡◌, ℕ, ◌+◌, ◌≤◌}
+use Rattle.tariff_syntax.specs.declared.context.Context.{Context}
+
+-- the second context differs from the first in at most so many more pulses and ticks
+pub record IsNear (further longer : ℕ) (x y : Context) : Type 0 where
+  pub position : y.position ≡ x.position
+  pub zone : y.zone ≡ x.zone
+  pub weekday : y.weekday ≡ x.weekday
+  pub month_day : y.month_day ≡ x.month_day
+  pub holiday : y.holiday ≡ x.holiday
+  pub minute : y.minute ≡ x.minute
+  pub pulses : (x.pulses ≤ y.pulses) × (y.pulses ≤ x.pulses + further)
+  pub ticks : (x.ticks ≤ y.ticks) × (y.ticks ≤ x.ticks + longer)
