@@ -23,12 +23,13 @@ fare-by s t u initial minimum cover above parts =
     let charges : charges_of s t ≡ charges_of s u = sym (hired-charges s t.parts) ∙ ap (λ (ps : List Part). sum (map (charge_in s) ps)) parts ∙ hired-charges s u.parts in
     cc
 
-sum-parts : (s : Setting) (xs ys : List Part) → sum (map (charge_in s) (xs ++ ys)) ≡ sum (map (charge_in s) xs) + sum (map (charge_in s) ys)
+-- over two lists charges add up
+pub sum-parts : (s : Setting) (xs ys : List Part) → sum (map (charge_in s) (xs ++ ys)) ≡ sum (map (charge_in s) xs) + sum (map (charge_in s) ys)
 sum-parts s [] ys = omega arith
 sum-parts s (x ∷ xs) ys = grind (arith, common_steps, sum-parts s xs ys)
 
 -- from a saved state charges go on as from the opening
-above-more : (o : fares.Opening) (a b : ℕ) → above_cover (opening_of o.modulus (saved o a)) b ≡ above_cover o (a + b)
+pub above-more : (o : fares.Opening) (a b : ℕ) → above_cover (opening_of o.modulus (saved o a)) b ≡ above_cover o (a + b)
 above-more o a b =
     let whole = above_cover o a in
     let parted : o.modulus * (whole / o.modulus) + whole % o.modulus ≡ whole = div-add-mod whole o.modulus in

@@ -7,6 +7,7 @@ use Rattle.taxi_units.specs.declared.event.Operating.{Operating}
 use Rattle.taxi_units.specs.declared.event.Operating.TheVariants.{Off, ForHire, Hired, Stopped}
 use Rattle.meter_states.specs.Kept.{IsKept}
 use Rattle.meter_states.specs.Meter.{Meter}
+use Rattle.meter_states.specs.Run.{ended, ended_in}
 use Rattle.meter_states.specs.Setting.{Setting}
 use Rattle.meter_states.specs.Step.{off_step, powered_step, step, step_in, ticked}
 use Rattle.meter_states.specs.Supply.{supply_came, supply_dropped}
@@ -41,3 +42,13 @@ kept-in s Stopped event m is kept = kept-powered s event m (λ off. absurd cc) k
 -- each event keeps the trip of the store
 pub kept-step : (s : Setting) (event : Event) (m : Meter) → IsKept s m → IsKept s (step s event m).next
 kept-step s event m kept = kept-in s m.operating event m refl kept
+
+kept-ended_in : (s : Setting) (operating : Operating) (m : Meter) → m.operating ≡ operating → IsKept s m → IsKept s (ended_in s operating m).next
+kept-ended_in s Off m is kept = kept
+kept-ended_in s ForHire m is kept = kept-dropped s m (λ off. absurd cc) kept
+kept-ended_in s Hired m is kept = kept-dropped s m (λ off. absurd cc) kept
+kept-ended_in s Stopped m is kept = kept-dropped s m (λ off. absurd cc) kept
+
+-- and so does the drop at the end
+pub kept-ended : (s : Setting) (m : Meter) → IsKept s m → IsKept s (ended s m).next
+kept-ended s m kept = kept-ended_in s m.operating m refl kept

@@ -1,5 +1,5 @@
 -- The laws of the public empty functions.
-use Rattle.std.proofs.Common.{◌≡◌, ◌≢◌, ◌<◌, ℕ, Bool, List, [], ◌∷◌, ◌++◌, length, Option, Some, None, sum}
+use Rattle.std.proofs.Common.{◌≡◌, ◌≢◌, ◌<◌, ℕ, All, Bool, List, [], ◌∷◌, ◌++◌, length, Option, Some, None, sum}
 use Rattle.tariff_compile.specs.Tables.{TableParts}
 use Rattle.taxi_units.specs.Time.{longest_trip}
 use Rattle.taxi_units.specs.declared.event.Event.{Event}
@@ -14,7 +14,7 @@ use Rattle.totaliser_store.specs.declared.trip.Trip as store
 use Rattle.meter_states.specs.Acts.{IsLawfulAct, KeepsRanges}
 use Rattle.meter_states.specs.Fits.{Fits}
 use Rattle.meter_states.specs.Interval.{context_of, interval_counted}
-use Rattle.meter_states.specs.Kept.{FitsSetting, HoldFits, IsKept, hired_in, with_parts}
+use Rattle.meter_states.specs.Kept.{FitsSetting, HoldFits, IsKept, IsSupplementNumber, hired_in, with_more, with_parts}
 use Rattle.meter_states.specs.Keys.{latch_pressed}
 use Rattle.meter_states.specs.Meter.{Meter, quiet}
 use Rattle.meter_states.specs.Pairs.{ArePaired, commits_of}
@@ -22,7 +22,7 @@ use Rattle.meter_states.specs.Refusals.{IsTooFast}
 use Rattle.meter_states.specs.Run.{actions_of, opened, run, run_both, trip_of, whole_run}
 use Rattle.meter_states.specs.Setting.{Setting, IsTariffOf}
 use Rattle.meter_states.specs.Step.{step, ticked}
-use Rattle.meter_states.specs.Trip.{InHired, Part, Trip, fare_of, held_trip, ticks_of, with_part}
+use Rattle.meter_states.specs.Trip.{InHired, Part, Trip, fare_of, held_trip, saved_of, ticks_of, with_part}
 use Rattle.meter_states.specs.declared.act.Act.{Act}
 use Rattle.meter_states.specs.declared.act.Act.TheVariants.{Refuse}
 use Rattle.meter_states.proofs.ActRanges.{act-keeps}
@@ -31,7 +31,8 @@ use Rattle.meter_states.proofs.HeldFits.{fits-setting}
 use Rattle.meter_states.proofs.KeptTrips.{kept-step}
 use Rattle.meter_states.proofs.Refused as refused
 use Rattle.meter_states.proofs.Resumed.{begins, resumed-saved}
-use Rattle.meter_states.proofs.Runs.{kept-run, run-append}
+use Rattle.meter_states.proofs.ResumedForms.{forms-resumed}
+use Rattle.meter_states.proofs.Runs.{kept-run, kept-whole, run-append}
 use Rattle.meter_states.proofs.Stages.{commits-step, commits-whole}
 
 pub refused_events_change_nothing-event : (s : Setting) (event : Event) (m : Meter) (why : Why) → event ≢ Tick → (IsTooFast why → ⊥) → (step s event m).acts ≡ Refuse why ∷ [] → (step s event m).next ≡ m
@@ -72,6 +73,9 @@ the_store_keeps_the_trip-step = kept-step
 pub the_store_keeps_the_trip-run : (s : Setting) (events : List Event) (m : Meter) → IsKept s m → IsKept s (run s events m).next
 the_store_keeps_the_trip-run = kept-run
 
+pub the_store_keeps_the_trip-whole : (s : Setting) (durable : Durable) (events : List Event) → HoldFits s durable.hold → IsKept s (whole_run s durable events).next
+the_store_keeps_the_trip-whole = kept-whole
+
 pub the_store_keeps_the_trip-fits : (s : Setting) (tables : TableParts) (trip : store.Trip) → IsTariffOf s tables → Fits tables trip → length trip.extras ≡ 16 → FitsSetting s trip
 the_store_keeps_the_trip-fits = fits-setting
 
@@ -81,6 +85,11 @@ resumed_trips_go_on-saved = resumed-saved
 pub resumed_trips_go_on-fare : (s : Setting) (t : Trip) (parts : List Part) (second : ℕ) (stopped : Bool) (position zone : ℕ)
     → fare_of s (with_parts parts (trip_of s (held_trip s second stopped position zone t))) ≡ fare_of s (with_parts parts t)
 resumed_trips_go_on-fare = fare-resumed
+
+pub resumed_trips_go_on-forms : (s : Setting) (t : Trip) (parts : List Part) (extras : List ℕ) (second : ℕ) (stopped : Bool) (position zone : ℕ)
+    → All IsSupplementNumber t.extras
+    → saved_of s (with_more parts extras (trip_of s (held_trip s second stopped position zone t))) ≡ saved_of s (with_more parts extras t)
+resumed_trips_go_on-forms = forms-resumed
 
 pub fares_depend_on_the_intervals_in_hired : (s : Setting) (t u : Trip) → t.initial ≡ u.initial → t.minimum ≡ u.minimum → t.opening.cover ≡ u.opening.cover
     → t.opening.above ≡ u.opening.above → hired_in t.parts ≡ hired_in u.parts → fare_of s t ≡ fare_of s u

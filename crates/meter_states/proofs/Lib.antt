@@ -2,13 +2,17 @@ mod ActRanges
 mod Amounts
 mod Charges
 mod Counts
+mod EqualIntervals
 mod Fares
 mod HeldFits
 mod KeptTrips
 pub mod Laws
+mod Meterages
 mod Outcomes
+mod Quiet
 mod Refused
 mod Resumed
+mod ResumedForms
 mod Runs
 mod Settings
 mod Stages

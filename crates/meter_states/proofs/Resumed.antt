@@ -14,10 +14,10 @@ use Rattle.meter_states.specs.Setting.{Setting, modulus_of}
 use Rattle.meter_states.specs.Supplements.{amount_in, amounts_from, amounts_of, counts_from, counts_of, times}
 use Rattle.meter_states.specs.Trip.{held_trip}
 
-times-cons-same : (n : ℕ) (xs : List ℕ) → times n (n ∷ xs) ≡ times n xs + 1
+pub times-cons-same : (n : ℕ) (xs : List ℕ) → times n (n ∷ xs) ≡ times n xs + 1
 times-cons-same n xs = grind (arith, common_steps)
 
-times-cons-other : (n k : ℕ) (xs : List ℕ) → n < k → times n (k ∷ xs) ≡ times n xs
+pub times-cons-other : (n k : ℕ) (xs : List ℕ) → n < k → times n (k ∷ xs) ≡ times n xs
 times-cons-other n k xs below = grind (arith, common_steps)
 
 times-cons-above : (n k : ℕ) (xs : List ℕ) → k < n → times n (k ∷ xs) ≡ times n xs
@@ -40,7 +40,7 @@ times-none : (n k : ℕ) (cs : List ℕ) → k < n → times k (numbers_from n c
 times-none n k [] below = refl
 times-none n k (c ∷ cs) below = times-past c k n (numbers_from (n + 1) cs) below ∙ times-none (n + 1) k cs (omega arith)
 
-counts-earlier : (many c n k : ℕ) (xs : List ℕ) → k < n → counts_from many n (replicate c k ++ xs) ≡ counts_from many n xs
+pub counts-earlier : (many c n k : ℕ) (xs : List ℕ) → k < n → counts_from many n (replicate c k ++ xs) ≡ counts_from many n xs
 unfolding counts_from
 counts-earlier zero c n k xs above = refl
 counts-earlier (suc many) c n k xs above =
@@ -48,7 +48,7 @@ counts-earlier (suc many) c n k xs above =
     let tail = counts-earlier many c (n + 1) k xs (omega arith) in
     cc
 
-counts-numbers : (n : ℕ) (cs : List ℕ) → counts_from (length cs) n (numbers_from n cs) ≡ cs
+pub counts-numbers : (n : ℕ) (cs : List ℕ) → counts_from (length cs) n (numbers_from n cs) ≡ cs
 unfolding counts_from
 counts-numbers n [] = refl
 counts-numbers n (c ∷ cs) =
@@ -61,7 +61,7 @@ amounts-repeated : (t : Tree) (c n : ℕ) (xs : List ℕ) → amounts_of t (repl
 amounts-repeated t zero n xs = omega arith
 amounts-repeated t (suc c) n xs = grind (arith, common_steps, amounts-repeated t c n xs)
 
-amounts-numbers : (t : Tree) (n : ℕ) (cs : List ℕ) → amounts_of t (numbers_from n cs) ≡ amounts_from (supplement_at t) n cs
+pub amounts-numbers : (t : Tree) (n : ℕ) (cs : List ℕ) → amounts_of t (numbers_from n cs) ≡ amounts_from (supplement_at t) n cs
 amounts-numbers t n [] = refl
 amounts-numbers t n (c ∷ cs) = omega (arith, amounts-repeated t c n (numbers_from (n + 1) cs), amounts-numbers t (n + 1) cs)
 

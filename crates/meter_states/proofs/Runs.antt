@@ -1,13 +1,15 @@
 -- Runs over lists of events.
 use Rattle.std.proofs.Common.{◌≡◌, List, [], ◌∷◌, ◌++◌, refl, ap, sym, ◌∙◌, append_assoc}
 use Rattle.taxi_units.specs.declared.event.Event.{Event}
-use Rattle.meter_states.specs.Kept.{IsKept}
+use Rattle.totaliser_store.specs.declared.durable.Durable.{Durable}
+use Rattle.meter_states.specs.Kept.{HoldFits, IsKept}
 use Rattle.meter_states.specs.Meter.{Meter, Outcome, ◌>>=◌}
-use Rattle.meter_states.specs.Run.{run, run_both}
+use Rattle.meter_states.specs.Run.{opened, run, run_both, whole_run}
 use Rattle.meter_states.specs.Setting.{Setting}
 use Rattle.meter_states.specs.Step.{step}
 use Rattle.meter_states.specs.declared.act.Act.{Act}
-use Rattle.meter_states.proofs.KeptTrips.{kept-step}
+use Rattle.meter_states.proofs.KeptTrips.{kept-ended, kept-step}
+use Rattle.meter_states.proofs.Resumed.{begins}
 
 -- one thing after the other, and then a third
 joined : (o : Outcome) (f g : Meter → Outcome) → o >>= (λ (m : Meter). f m >>= g) ≡ (o >>= f) >>= g
@@ -23,3 +25,7 @@ run-append s (event ∷ events) second m =
 pub kept-run : (s : Setting) (events : List Event) (m : Meter) → IsKept s m → IsKept s (run s events m).next
 kept-run s [] m kept = kept
 kept-run s (event ∷ events) m kept = kept-run s events (step s event m).next (kept-step s event m kept)
+
+pub kept-whole : (s : Setting) (durable : Durable) (events : List Event) → HoldFits s durable.hold → IsKept s (whole_run s durable events).next
+kept-whole s durable events fits =
+    kept-ended s (run s events (opened s durable)).next (kept-run s events (opened s durable) (begins s durable.hold fits))

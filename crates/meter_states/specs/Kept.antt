@@ -1,5 +1,5 @@
 -- What the store keeps of the trip.
-use Rattle.std.specs.Prelude.{◌≡◌, ◌≢◌, ◌<◌, List, [], ◌∷◌, ◌++◌, Option, Some, None, length}
+use Rattle.std.specs.Prelude.{◌≡◌, ◌≢◌, ℕ, ◌<◌, ◌≤◌, List, [], ◌∷◌, ◌++◌, Option, Some, None, length}
 use Rattle.taxi_units.specs.declared.event.Operating.{Operating}
 use Rattle.taxi_units.specs.declared.event.Operating.TheVariants.{Off, ForHire, Hired, Stopped}
 use Rattle.tariff_compile.specs.Tables.{supplement_at}
@@ -10,15 +10,17 @@ use Rattle.meter_states.specs.Setting.{Setting, modulus_of}
 use Rattle.meter_states.specs.Supplements.{amounts_from}
 use Rattle.meter_states.specs.Trip.{Trip, Part, InHired, InStopped, Rest}
 
--- while the meter is off the store holds the saved form of its trip; for hire there is none
-abbrev pub kept_in : Setting → Operating → Option store.Trip → Option Trip → Type 0
-kept_in s Off hold trip = IsSavedIn s hold trip
-kept_in s ForHire hold trip = (hold ≡ None) × (trip ≡ None)
-kept_in s Hired hold trip = trip ≢ None
-kept_in s Stopped hold trip = trip ≢ None
+-- while the meter is off the store holds the saved form of its trip, and no trip where it has none; for hire there is
+-- no trip, and none is held; in a trip no roaming pulses wait for an entry
+abbrev pub kept_in : Setting → Operating → (hold : Option store.Trip) → Option Trip → (roaming : List ℕ) → Type 0
+kept_in s Off hold trip roaming = IsSavedIn s hold trip
+kept_in s ForHire hold trip roaming = (hold ≡ None) × (trip ≡ None)
+kept_in s Hired hold trip roaming = (trip ≢ None) × (roaming ≡ [])
+kept_in s Stopped hold trip roaming = (trip ≢ None) × (roaming ≡ [])
 
+-- the store holds the meter's trip while the meter is off, and none while it is for hire
 abbrev pub IsKept : Setting → Meter → Type 0
-IsKept s m = kept_in s m.operating m.durable.hold m.trip
+IsKept s m = kept_in s m.operating m.durable.hold m.trip m.roaming
 
 -- a saved trip that fits a setting: its rest is less than a display step, and its amounts are those of its counts
 pub record FitsSetting (s : Setting) (trip : store.Trip) : Type 0 where
@@ -34,6 +36,14 @@ HoldFits s (Some trip) = FitsSetting s trip
 -- the trip with a list of parts more
 abbrev pub with_parts : List Part → Trip → Trip
 with_parts parts t = record t { parts = t.parts ++ parts }
+
+-- the trip with parts and supplements more
+abbrev pub with_more : List Part → (extras : List ℕ) → Trip → Trip
+with_more parts extras t = record t { parts = t.parts ++ parts; extras = t.extras ++ extras }
+
+-- a supplement's number is one of 1 to 16
+abbrev pub IsSupplementNumber : ℕ → Type 0
+IsSupplementNumber n = (1 ≤ n) × (n ≤ 16)
 
 -- the intervals of a list that ended in Hired
 abbrev pub hired_in : List Part → List Part

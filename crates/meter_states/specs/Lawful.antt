@@ -7,7 +7,9 @@ use Rattle.taxi_units.specs.declared.event.Event.TheVariants as events
 use Rattle.taxi_units.specs.declared.event.Operating.{Operating}
 use Rattle.taxi_units.specs.declared.event.Operating.TheVariants.{Off, ForHire, Hired, Stopped}
 use Rattle.totaliser_store.specs.declared.trip.Trip.{Trip}
+use Rattle.seal_store.specs.declared.seal.Seal.{Seal}
 use Rattle.meter_states.specs.Core.{Plain}
+use Rattle.meter_states.specs.Facts.{AreTrue, Whole}
 use Rattle.meter_states.specs.Supplements.{AreAllowed, amounts_from, supplement_in}
 
 -- an event's second is one of the years 2000 to 2199
@@ -69,9 +71,10 @@ pub record IsPowered (tables : TableParts) (ticks most spare : ℕ) (core : Plai
   pub begun : HasBegunBy core.clock core.trip
   pub trip : IsTripInRange tables (core.number + spare) ticks core.trip
 
--- between two events
-abbrev pub IsLawful : TableParts → Plain → Type 0
-IsLawful tables core = (core.operating ≡ Off) ⊎ IsPowered tables 8639999 999999 0 core
+-- between two events: the meter is off, or the core is in its ranges, and what it keeps is so
+pub record IsLawful (tables : TableParts) (seal : Seal) (core : Whole) : Type 0 where
+  pub powered : (core.plain.operating ≡ Off) ⊎ IsPowered tables 8639999 999999 0 core.plain
+  pub facts : AreTrue tables seal core.facts
 
 -- whether a trip runs
 abbrev pub is_busy : Operating → Bool

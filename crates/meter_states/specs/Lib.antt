@@ -3,6 +3,8 @@ pub mod Charge
 pub mod Closing
 pub mod Core
 pub mod Display
+pub mod Equals
+pub mod Facts
 pub mod Fits
 pub mod Interval
 pub mod Kept

@@ -12,7 +12,7 @@ ghost use Rattle.meter_states.specs.Setting.{Setting, IsSettingOf};
 ghost use Rattle.meter_states.specs.Trip as model;
 
 use crate::act::{Act, Acts};
-use crate::core_state::Core;
+use crate::meter_state::State;
 use crate::records::{Closing, entry, receipt, roaming_entry};
 use seal_store::Seal;
 use std::sync::ledger::Ledger;
@@ -20,7 +20,7 @@ use tariff_compile::Tables;
 use taxi_units::{Kind, Operating, Steps};
 use totaliser_store::Trip;
 
-impl Core {
+impl State {
     /// The trip is closed, and the meter is for hire. At most 12 steps.
     pub(crate) fn close<L: Ledger>(
         &mut self,

@@ -4,19 +4,20 @@ ghost use Rattle.taxi_units.specs.Shown.{IsShown};
 ghost use Rattle.meter_states.specs.Acts.{IsLawfulAct};
 ghost use Rattle.meter_states.specs.Core.{Follows, plain_of};
 ghost use Rattle.meter_states.specs.Display.{display_of, extras_shown, fare_shown, shown};
+ghost use Rattle.meter_states.specs.Equals.{display_by, extras_by, fare_by};
 ghost use Rattle.meter_states.specs.Lawful.{IsPowered};
 ghost use Rattle.meter_states.specs.Meter.{Meter};
 ghost use Rattle.meter_states.specs.Setting.{Setting, IsSettingOf};
 
 use crate::act::{Act, Acts};
-use crate::core_state::Core;
+use crate::meter_state::State;
 use crate::shown::is_shown;
 use crate::trip::fare;
 use seal_store::Seal;
 use tariff_compile::Tables;
 use taxi_units::Display;
 
-impl Core {
+impl State {
     /// The display is shown where it differs from the one that was shown last.
     pub(crate) fn show(&mut self, tables: &Tables, seal: &Seal, acts: &mut Acts)
         requires lawful { IsPowered tables.now 8639999 999999 0 self.old }
@@ -35,10 +36,11 @@ impl Core {
     }
 
     /// What is shown now.
-    fn display(&self, tables: &Tables, seal: &Seal) -> Display
+    pub(crate) fn display(&self, tables: &Tables, seal: &Seal) -> Display
         requires lawful { IsPowered tables.now 8639999 999999 0 self.now }
         ensures value { (s : Setting) (m : Meter) → IsSettingOf s tables.now seal.now → self.now ≡ plain_of s m
             → result ≡ display_of s m }
+        ensures exact { result ≡ display_by tables.now self.now }
         ensures range { IsShown result }
     {
         Display {
@@ -54,21 +56,23 @@ impl Core {
     /// The fare of the trip, 0 without one.
     fn fare(&self, tables: &Tables, seal: &Seal) -> u64
         requires lawful { IsPowered tables.now 8639999 999999 0 self.now }
-        ensures { (s : Setting) (m : Meter) → IsSettingOf s tables.now seal.now → self.now ≡ plain_of s m
+        ensures value { (s : Setting) (m : Meter) → IsSettingOf s tables.now seal.now → self.now ≡ plain_of s m
             → result ≡ fare_shown s m.trip }
+        ensures exact { result ≡ fare_by tables.now self.now.trip }
     {
-        match self.trip {
+        match &self.trip {
             None => 0,
-            Some(trip) => fare(&trip, tables),
+            Some(trip) => fare(trip, tables),
         }
     }
 
     /// The amounts of its supplements, 0 without one.
     fn supplements(&self, tables: &Tables, seal: &Seal) -> u64
-        ensures { (s : Setting) (m : Meter) → IsSettingOf s tables.now seal.now → self.now ≡ plain_of s m
+        ensures value { (s : Setting) (m : Meter) → IsSettingOf s tables.now seal.now → self.now ≡ plain_of s m
             → result ≡ extras_shown s m.trip }
+        ensures exact { result ≡ extras_by self.now.trip }
     {
-        match self.trip {
+        match &self.trip {
             None => 0,
             Some(trip) => trip.extras_sum,
         }

@@ -53,7 +53,9 @@ pub fn sealed(constant: u32, offset: i32, mode: Mode) -> Option<Seal> {
 /// A durable state without totals, of a number.
 pub fn numbered(number: u64) -> Durable
     requires { (1 ≤ number) × (number ≤ 2000000000000001) }
-    ensures { IsDurable result × (result.hold ≡ None) }
+    ensures range { IsDurable result }
+    ensures none { result.hold ≡ None }
+    ensures number { result.number ≡ number }
 {
     Durable {
         number,
@@ -62,7 +64,7 @@ pub fn numbered(number: u64) -> Durable
 }
 
 /// Whether an event's second is one that a clock may show.
-fn is_timely(event: Event) -> bool
+pub fn is_timely(event: Event) -> bool
     ensures { IsTrue result → IsTimely event }
 {
     match event {
@@ -74,7 +76,7 @@ fn is_timely(event: Event) -> bool
 }
 
 /// The acts of an event, and the number beside which they are lawful.
-fn acts_of<L: Ledger>(
+pub fn acts_of<L: Ledger>(
     tables: &Tables,
     seal: &Seal,
     core: &mut Core,
@@ -82,21 +84,21 @@ fn acts_of<L: Ledger>(
     event: Event,
     steps: &mut Steps<L>,
 ) -> (u64, Acts)
-    requires lawful { IsLawful tables.now core.old }
+    requires lawful { IsLawful tables.now seal.now core.old }
     requires range { IsDurable durable.now }
     requires fits { ForSome durable.now.hold (Fits tables.now) }
     requires timely { IsTimely event }
-    ensures lawful { IsLawful tables.now core.new }
+    ensures lawful { IsLawful tables.now seal.now core.new }
     ensures ranges { All (IsLawfulAct tables.now result.0) result.1.items }
 {
-    if let Operating::Off = core.operating {
+    if let Operating::Off = core.operating() {
         if let Event::Up(second) = event {
             let (resumed, acts) = Core::resume(tables, seal, durable, second, steps);
             *core = resumed;
             return (durable.number, acts);
         }
     }
-    let number = core.number;
+    let number = core.state.number;
     (number, core.step(tables, seal, event, steps))
 }
 
@@ -106,7 +108,7 @@ fn is_commit(act: &Act) -> bool {
 }
 
 /// The durable state after an act.
-fn after_act(tables: &Tables, durable: Durable, act: &Act) -> Durable
+pub fn after_act(tables: &Tables, durable: Durable, act: &Act) -> Durable
     requires range { IsDurable durable }
     requires fits { ForSome durable.hold (Fits tables.now) }
     requires lawful { IsLawfulAct tables.now durable.number act.now }

@@ -14,17 +14,17 @@ ghost use Rattle.meter_states.specs.Setting.{Setting, IsSettingOf};
 ghost use Rattle.meter_states.specs.Supplements.{supplement_in};
 
 use crate::act::{Acts, refuse};
-use crate::core_state::Core;
 use crate::interval::HIRINGS_END;
 use crate::lookups::find_supplement;
+use crate::meter_state::State;
 use crate::records::Closing;
-use crate::trip::{begun, times, with_extra};
+use crate::trip::{add_extra, begun, times};
 use seal_store::Seal;
 use std::sync::ledger::Ledger;
 use tariff_compile::{Initial, Supplement, Tables};
 use taxi_units::{Kind, Operating, Steps, Why};
 
-impl Core {
+impl State {
     /// The key Hire, for hire. At most 29 steps.
     pub(crate) fn hire<L: Ledger>(
         &mut self,
@@ -181,13 +181,13 @@ impl Core {
         ensures follows { (s : Setting) (m : Meter) → IsSettingOf s tables.now seal.now → self.old ≡ plain_of s m
             → Follows s self.new acts.old.items acts.new.items (extra_added_to n supplement m.trip m) }
     {
-        let Some(trip) = self.trip else {
+        let Some(trip) = &mut self.trip else {
             return;
         };
-        if times(&trip, n) >= supplement.max {
+        if times(trip, n) >= supplement.max {
             refuse(Why::AtMost, acts);
             return;
         }
-        self.trip = Some(with_extra(trip, tables, n, supplement));
+        add_extra(trip, tables, n, supplement);
     }
 }

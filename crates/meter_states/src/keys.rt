@@ -14,13 +14,13 @@ ghost use Rattle.meter_states.specs.Setting.{Setting, IsSettingOf};
 ghost use Rattle.meter_states.specs.Supplements.{supplement_in};
 
 use crate::act::{Acts, refuse};
-use crate::core_state::Core;
+use crate::meter_state::State;
 use seal_store::Seal;
 use std::sync::ledger::Ledger;
 use tariff_compile::Tables;
 use taxi_units::{Key, Operating, Steps, Why};
 
-impl Core {
+impl State {
     /// A key waits for the end of the interval, where none does.
     pub(crate) fn take_key(&mut self, tables: &Tables, key: Key, acts: &mut Acts)
         requires lawful { IsPowered tables.now 8639999 999999 0 self.old }

@@ -6,8 +6,12 @@
 mod act;
 mod act_ranges;
 mod closing;
+mod contexts;
 mod core_state;
 mod display;
+mod equal_trip;
+mod equals;
+mod facts;
 mod fitting;
 mod held;
 mod interval;
@@ -15,6 +19,8 @@ mod keeping;
 mod key_acts;
 mod keys;
 mod lookups;
+mod meter_state;
+mod meterage;
 mod pairs;
 mod power_up;
 mod records;
@@ -36,12 +42,22 @@ pub use pairs::{receipts_follow_their_entries, runs_add_up, the_store_has_what_t
 pub use refusals::{keys_act_after_their_interval, refused_events_change_nothing};
 
 #[cfg(test)]
+mod city_tests;
+#[cfg(test)]
 mod drives;
+#[cfg(test)]
+mod end_tests;
+#[cfg(test)]
+mod equal_rows;
+#[cfg(test)]
+mod equal_tests;
 #[cfg(test)]
 mod expected;
 #[cfg(test)]
 mod fare_tests;
 #[cfg(test)]
 mod limit_tests;
+#[cfg(test)]
+mod row_tests;
 #[cfg(test)]
 mod tests;

@@ -47,6 +47,10 @@ fn enters_roaming(rt: HostRuntime) {
         (1, &[], UP, &[for_hire()]),
     ];
     follow_under(rt.alloc(), &rt, PLAIN, &rows);
+}
+
+#[test]
+fn neither_hires_nor_roams_at_the_end(rt: HostRuntime) {
     let last: [Row; 4] = [
         (1, &[], UP, &[for_hire()]),
         (600, &[Event::Pulses(2000)], Event::Tick, &[]),

@@ -15,7 +15,9 @@ ghost use Rattle.meter_states.specs.Trip as trips;
 
 use crate::act::Acts;
 use crate::core_state::Core;
+use crate::facts::Facts;
 use crate::held::{is_within_hold, kept_form, running};
+use crate::meter_state::State;
 use crate::records::Closing;
 use seal_store::Seal;
 use std::sync::ledger::Ledger;
@@ -38,22 +40,25 @@ impl Core {
         requires range { IsDurable durable.now }
         requires fits { ForSome durable.now.hold (Fits tables.now) }
         requires second { IsSecond second }
-        ensures lawful { IsLawful tables.now result.0 }
+        ensures lawful { IsLawful tables.now seal.now result.0 }
         ensures ranges { All (IsLawfulAct tables.now durable.now.number) result.1.items }
         ensures commits { All (KeepsRanges durable.now) result.1.items }
         ensures meets { (s : Setting) (m : Meter) → IsSettingOf s tables.now seal.now → m.durable ≡ durable.now
             → IsSavedIn s durable.now.hold m.trip
-            → Meets s result.0 result.1.items (model.supply_came s second m) }
+            → Meets s result.0.plain result.1.items (model.supply_came s second m) }
         ensures steps { steps.new ≤ steps.old + 12 }
     {
         tables.are_fit();
-        let mut core = Core::idle(Operating::ForHire, durable.number, second);
+        let mut state = State::idle(Operating::ForHire, durable.number, second);
         let mut acts = Acts::new();
-        core.take_hold(durable.hold, second, tables, seal, &mut acts, steps);
-        core.show(tables, seal, &mut acts);
-        (core, acts)
+        state.take_hold(durable.hold, second, tables, seal, &mut acts, steps);
+        state.show(tables, seal, &mut acts);
+        let facts = Facts::none();
+        (Core { state, facts }, acts)
     }
+}
 
+impl State {
     /// A held trip goes on or is closed. At most 12 steps.
     fn take_hold<L: Ledger>(
         &mut self,

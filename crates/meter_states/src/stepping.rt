@@ -1,5 +1,5 @@
 //! What each event does.
-ghost use Rattle.std.specs.Prelude.{◌≡◌, ◌≢◌, ◌≤◌, ◌+◌, ◌↔◌, ℕ, [], All, IsTrue};
+ghost use Rattle.std.specs.Prelude.{◌≡◌, ◌≢◌, ◌≤◌, ◌+◌, ◌⊎◌, ◌↔◌, ℕ, [], All, IsTrue};
 ghost use Rattle.taxi_units.specs.Time.{IsSecond};
 ghost use Rattle.taxi_units.specs.declared.event.Event.TheVariants.{Up};
 ghost use Rattle.taxi_units.specs.declared.event.Operating.TheVariants.{Off};
@@ -7,6 +7,7 @@ ghost use Rattle.totaliser_store.specs.Ranges.{IsDurable};
 ghost use Rattle.totaliser_store.specs.declared.durable.Durable.{Durable};
 ghost use Rattle.meter_states.specs.Acts.{IsLawfulAct, KeepsRanges};
 ghost use Rattle.meter_states.specs.Core.{Follows, Meets, Stands, plain_of};
+ghost use Rattle.meter_states.specs.Facts.{AreTrue};
 ghost use Rattle.meter_states.specs.Lawful.{IsLawful, IsPowered, IsTimely};
 ghost use Rattle.meter_states.specs.Meter.{Meter};
 ghost use Rattle.meter_states.specs.Setting.{Setting, IsSettingOf};
@@ -14,6 +15,8 @@ ghost use Rattle.meter_states.specs.Step.{clock_read, powered_step, step};
 
 use crate::act::{Acts, refuse};
 use crate::core_state::Core;
+use crate::facts::Facts;
+use crate::meter_state::State;
 use seal_store::Seal;
 use std::sync::ledger::Ledger;
 use tariff_compile::Tables;
@@ -21,9 +24,9 @@ use taxi_units::{Event, Operating, Steps, Why};
 
 impl Core {
     /// What an event does, but an `Up` while the meter is off, which is `resume`'s. A reading of the clock
-    /// lies in 946,684,800 to 7,258,118,399, and the core is lawful for the tables, as `off`, `resume` and
-    /// `step` leave it. An event that is refused changes nothing, but for pulses that are too fast: the
-    /// interval takes those that it has room for. At most 48 steps.
+    /// lies in 946,684,800 to 7,258,118,399, and the core is lawful for the tables and the seal, as `off`,
+    /// `resume` and `step` leave it. An event that is refused changes nothing, but for pulses that are too
+    /// fast: the interval takes those that it has room for. At most 48 steps.
     ///
     /// That the fare is calculated in Hired alone, in steps, and by the rules of the modes S and D, is the
     /// measuring instruments directive's; all else is this project's own.
@@ -34,28 +37,57 @@ impl Core {
         event: Event,
         steps: &mut Steps<L>,
     ) -> Acts
-        requires lawful { IsLawful tables.now self.old }
+        requires lawful { IsLawful tables.now seal.now self.old }
         requires timely { IsTimely event }
-        requires supply { (second : ℕ) → self.old.operating ≡ Off → event ≢ Up second }
-        ensures lawful { IsLawful tables.now self.new }
-        ensures ranges { All (IsLawfulAct tables.now self.old.number) result.items }
-        ensures commits { (durable : Durable) → IsDurable durable → durable.number ≡ self.old.number
+        requires supply { (second : ℕ) → self.old.plain.operating ≡ Off → event ≢ Up second }
+        ensures lawful { IsLawful tables.now seal.now self.new }
+        ensures ranges { All (IsLawfulAct tables.now self.old.plain.number) result.items }
+        ensures commits { (durable : Durable) → IsDurable durable → durable.number ≡ self.old.plain.number
             → All (KeepsRanges durable) result.items }
-        ensures meets { (s : Setting) (m : Meter) → IsSettingOf s tables.now seal.now → Stands s self.old m
-            → Meets s self.new result.items (step s event m) }
+        ensures meets { (s : Setting) (m : Meter) → IsSettingOf s tables.now seal.now → Stands s self.old.plain m
+            → Meets s self.new.plain result.items (step s event m) }
         ensures steps { steps.new ≤ steps.old + 48 }
     {
         let mut acts = Acts::new();
-        if self.is_off() {
-            refuse(Why::NotNow, &mut acts);
-            return acts;
-        }
-        self.take_event(tables, seal, event, &mut acts, steps);
+        self.step_into(tables, seal, event, &mut acts, steps);
         acts
     }
 
+    /// The same, with the acts in a list that is handed in empty. A list for four acts is large, so whoever
+    /// goes over many events hands in one list again and again.
+    pub fn step_into<L: Ledger>(
+        &mut self,
+        tables: &Tables,
+        seal: &Seal,
+        event: Event,
+        acts: &mut Acts,
+        steps: &mut Steps<L>,
+    )
+        requires lawful { IsLawful tables.now seal.now self.old }
+        requires timely { IsTimely event }
+        requires supply { (second : ℕ) → self.old.plain.operating ≡ Off → event ≢ Up second }
+        requires empty { acts.old.items ≡ [] }
+        ensures lawful { IsLawful tables.now seal.now self.new }
+        ensures ranges { All (IsLawfulAct tables.now self.old.plain.number) acts.new.items }
+        ensures commits { (durable : Durable) → IsDurable durable → durable.number ≡ self.old.plain.number
+            → All (KeepsRanges durable) acts.new.items }
+        ensures meets { (s : Setting) (m : Meter) → IsSettingOf s tables.now seal.now → Stands s self.old.plain m
+            → Meets s self.new.plain acts.new.items (step s event m) }
+        ensures steps { steps.new ≤ steps.old + 48 }
+    {
+        if self.state.is_off() {
+            refuse(Why::NotNow, acts);
+            return;
+        }
+        let facts = &mut self.facts;
+        self.state
+            .take_event(facts, tables, seal, event, acts, steps);
+    }
+}
+
+impl State {
     /// Whether the meter is off.
-    fn is_off(&self) -> bool
+    pub(crate) fn is_off(&self) -> bool
         ensures { IsTrue result ↔ (self.now.operating ≡ Off) }
     {
         matches!(self.operating, Operating::Off)
@@ -64,6 +96,7 @@ impl Core {
     /// What an event does while the meter is powered. At most 48 steps.
     fn take_event<L: Ledger>(
         &mut self,
+        facts: &mut Facts,
         tables: &Tables,
         seal: &Seal,
         event: Event,
@@ -71,9 +104,11 @@ impl Core {
         steps: &mut Steps<L>,
     )
         requires lawful { IsPowered tables.now 8639999 999999 0 self.old }
+        requires facts { AreTrue tables.now seal.now facts.old }
         requires timely { IsTimely event }
         requires room { acts.old.items ≡ [] }
-        ensures lawful { IsLawful tables.now self.new }
+        ensures lawful { (self.new.operating ≡ Off) ⊎ IsPowered tables.now 8639999 999999 0 self.new }
+        ensures facts { AreTrue tables.now seal.now facts.new }
         ensures ranges { All (IsLawfulAct tables.now self.old.number) acts.old.items
             → All (IsLawfulAct tables.now self.old.number) acts.new.items }
         ensures meets { (s : Setting) (m : Meter) → IsSettingOf s tables.now seal.now → self.old ≡ plain_of s m
@@ -84,7 +119,7 @@ impl Core {
             Event::Up(_) => refuse(Why::Powered, acts),
             Event::Down => self.drop_supply(tables, seal, acts, steps),
             Event::Pulses(n) => self.take_pulses(tables, n, acts),
-            Event::Tick => self.tick(tables, seal, acts, steps),
+            Event::Tick => self.tick(facts, tables, seal, acts, steps),
             Event::Clock(second) => self.read_clock(tables, second, acts),
             Event::Key(key) => self.take_key(tables, key, acts),
         }

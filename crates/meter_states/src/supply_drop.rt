@@ -14,8 +14,8 @@ ghost use Rattle.meter_states.specs.Supply as model;
 ghost use Rattle.meter_states.specs.Trip as trips;
 
 use crate::act::{Act, Acts};
-use crate::core_state::Core;
 use crate::lookups::modulus;
+use crate::meter_state::State;
 use crate::records::Closing;
 use crate::trip::extras_are_few;
 use seal_store::Seal;
@@ -27,7 +27,7 @@ use totaliser_store::Trip;
 /// The store takes no held trip from this number on.
 const HOLDS_END: u64 = 2_000_000_000_000_000;
 
-impl Core {
+impl State {
     /// The supply drops. At most 12 steps.
     pub(crate) fn drop_supply<L: Ledger>(
         &mut self,
@@ -47,7 +47,7 @@ impl Core {
     {
         self.leave_interval(tables);
         self.keep(tables, seal, acts, steps);
-        *self = Core::off();
+        *self = State::off();
     }
 
     /// The trip is kept, or roaming pulses are entered without one. At most 12 steps.

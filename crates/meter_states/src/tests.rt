@@ -155,46 +155,46 @@ fn closed_with_supplements(rt: &impl Abort) -> [Act; 3] {
 
 #[test]
 fn adds_supplements(rt: HostRuntime) {
-    let closed = closed_with_supplements(&rt);
-    let rows: [Row; 17] = [
+    let added = [shown(Operating::Hired, 380, 150)];
+    let again = [shown(Operating::Hired, 380, 300)];
+    let rows: [Row; 10] = [
         (1, &[], UP, &[for_hire()]),
         (1, &[HIRE], STOP, &[Act::Refuse(Why::KeyWaiting)]),
         (1, &[], Event::Tick, &[hired(380)]),
+        (1, &[EXTRA], Event::Tick, &added),
+        (1, &[EXTRA], Event::Tick, &again),
+        (1, &[EXTRA], Event::Tick, &[Act::Refuse(Why::AtMost)]),
+        (1, &[Event::Key(Key::Extra(2))], Event::Tick, NO_SUCH),
+        (1, &[Event::Key(Key::Extra(99))], Event::Tick, NO_SUCH),
+        (1, &[Event::Key(Key::Position(9))], Event::Tick, NO_SUCH),
+        (1, &[Event::Key(Key::Zone(2))], Event::Tick, NO_SUCH),
+    ];
+    follow_under(rt.alloc(), &rt, SUPPLEMENTS, &rows);
+}
+
+#[test]
+fn closes_with_supplements(rt: HostRuntime) {
+    let closed = closed_with_supplements(&rt);
+    let moved = [shown_at(Operating::Hired, 2, 1, 380, 300)];
+    let halted = [shown_at(Operating::Stopped, 2, 1, 380, 300)];
+    let both = [shown(Operating::Hired, 380, 300)];
+    let rows: [Row; 10] = [
+        (1, &[], UP, &[for_hire()]),
+        (1, &[HIRE], Event::Tick, &[hired(380)]),
         (
             1,
             &[EXTRA],
             Event::Tick,
             &[shown(Operating::Hired, 380, 150)],
         ),
-        (
-            1,
-            &[EXTRA],
-            Event::Tick,
-            &[shown(Operating::Hired, 380, 300)],
-        ),
-        (1, &[EXTRA], Event::Tick, &[Act::Refuse(Why::AtMost)]),
-        (1, &[Event::Key(Key::Extra(2))], Event::Tick, NO_SUCH),
-        (1, &[Event::Key(Key::Extra(99))], Event::Tick, NO_SUCH),
-        (1, &[Event::Key(Key::Position(9))], Event::Tick, NO_SUCH),
+        (1, &[EXTRA], Event::Tick, &both),
         (1, &[Event::Key(Key::Position(0))], Event::Tick, NO_SUCH),
-        (1, &[Event::Key(Key::Zone(2))], Event::Tick, NO_SUCH),
-        (
-            1,
-            &[Event::Key(Key::Position(2))],
-            Event::Tick,
-            &[shown_at(Operating::Hired, 2, 1, 380, 300)],
-        ),
-        (
-            1,
-            &[STOP],
-            Event::Tick,
-            &[shown_at(Operating::Stopped, 2, 1, 380, 300)],
-        ),
+        (1, &[Event::Key(Key::Position(2))], Event::Tick, &moved),
+        (1, &[STOP], Event::Tick, &halted),
         (1, &[Event::Key(Key::Position(1))], Event::Tick, NOT_NOW),
         // the position stays after the closing, and is 1 after a power-up
         (1, &[CLEAR], Event::Tick, &closed),
-        (1, &[], Event::Down, &[]),
-        (1, &[], UP, &[for_hire()]),
+        (1, &[Event::Down], UP, &[for_hire()]),
     ];
     follow_under(rt.alloc(), &rt, SUPPLEMENTS, &rows);
 }

@@ -3,6 +3,7 @@ ghost use Rattle.std.specs.Prelude.{◌≡◌, ◌≢◌, ◌⊎◌, ◌≤◌, 
 ghost use Rattle.taxi_units.specs.Time.{longest_trip};
 ghost use Rattle.meter_states.specs.Acts.{IsLawfulAct};
 ghost use Rattle.meter_states.specs.Core.{Follows, plain_of};
+ghost use Rattle.meter_states.specs.Facts.{AreTrue};
 ghost use Rattle.meter_states.specs.Interval.{ticks_so_far};
 ghost use Rattle.meter_states.specs.Lawful.{IsPowered, pressing_steps};
 ghost use Rattle.meter_states.specs.Meter.{Meter};
@@ -10,32 +11,36 @@ ghost use Rattle.meter_states.specs.Setting.{Setting, IsSettingOf};
 ghost use Rattle.meter_states.specs.Step.{expired, expired_or_pressed, ticked};
 
 use crate::act::{Acts, refuse};
-use crate::core_state::Core;
+use crate::facts::Facts;
+use crate::meter_state::State;
 use crate::records::Closing;
 use seal_store::Seal;
 use std::sync::ledger::Ledger;
 use tariff_compile::Tables;
 use taxi_units::{Kind, LONGEST_TRIP, Steps, Why};
 
-impl Core {
+impl State {
     /// A tick. At most 48 steps.
     pub(crate) fn tick<L: Ledger>(
         &mut self,
+        facts: &mut Facts,
         tables: &Tables,
         seal: &Seal,
         acts: &mut Acts,
         steps: &mut Steps<L>,
     )
         requires lawful { IsPowered tables.now 8639999 999999 0 self.old }
+        requires facts { AreTrue tables.now seal.now facts.old }
         requires room { acts.old.items ≡ [] }
         ensures lawful { IsPowered tables.now 8639999 999999 0 self.new }
+        ensures facts { AreTrue tables.now seal.now facts.new }
         ensures ranges { All (IsLawfulAct tables.now self.old.number) acts.old.items
             → All (IsLawfulAct tables.now self.old.number) acts.new.items }
         ensures follows { (s : Setting) (m : Meter) → IsSettingOf s tables.now seal.now → self.old ≡ plain_of s m
             → Follows s self.new acts.old.items acts.new.items (ticked s m) }
         ensures steps { steps.new ≤ steps.old + 48 }
     {
-        self.count_interval(tables, seal, steps);
+        self.count_interval(facts, tables, seal, steps);
         self.expire_or_press(tables, seal, acts, steps);
         self.check_roaming(tables, seal, acts);
         self.show(tables, seal, acts);
@@ -77,7 +82,7 @@ impl Core {
         ensures long { IsTrue result → self.now.trip ≢ None }
         ensures short { result ≡ false → IsPowered tables.now 8639999 1001999 0 self.now }
     {
-        match self.trip {
+        match &self.trip {
             None => false,
             Some(trip) => trip.ticks >= LONGEST_TRIP,
         }

@@ -11,6 +11,7 @@ ghost use Rattle.meter_states.specs.Supplements.{supplement_in, times};
 ghost use Rattle.meter_states.specs.Trip as model;
 
 use crate::lookups::modulus;
+use crate::meterage::add_charge;
 use drive_modes::{Meterage, Weights, charge};
 use seal_store::Seal;
 use tariff_compile::{Initial, Supplement, Tables};
@@ -46,69 +47,62 @@ pub(crate) fn begun(tables: &Tables, fee: Initial, second: u64, roam: u32) -> Tr
     }
 }
 
-/// The trip with an interval that ended in Hired.
-pub(crate) fn with_hired(
-    trip: Trip,
+/// The trip has an interval more that ended in Hired.
+pub(crate) fn add_hired(
+    trip: &mut Trip,
     tables: &Tables,
     seal: &Seal,
     weights: Weights,
     pulses: u32,
-) -> Trip
+)
     requires pulses { pulses ≤ 2000 }
     requires weights { AreFit tables.now.measure weights }
-    requires few { trip.pulses ≤ 9000000000000000000 }
-    requires range { IsTrip tables.now 8639999 trip }
+    requires few { trip.old.pulses ≤ 9000000000000000000 }
+    requires range { IsTrip tables.now 8639999 trip.old }
     ensures saved { (s : Setting) (t : model.Trip) (x : Context) → IsSettingOf s tables.now seal.now
-        → weights ≡ rate_by s.tariff tables.now.constant x → trip ≡ model.saved_of s t
-        → result ≡ model.saved_of s (model.with_part (model.InHired pulses x) t) }
-    ensures range { IsTrip tables.now 8640000 result }
-    ensures counts { (result.pulses ≡ trip.pulses + pulses) × (result.ticks ≡ trip.ticks + 1) }
-    ensures started { result.started ≡ trip.started }
+        → weights ≡ rate_by s.tariff tables.now.constant x → trip.old ≡ model.saved_of s t
+        → trip.new ≡ model.saved_of s (model.with_part (model.InHired pulses x) t) }
+    ensures range { IsTrip tables.now 8640000 trip.new }
+    ensures counts { (trip.new.pulses ≡ trip.old.pulses + pulses) × (trip.new.ticks ≡ trip.old.ticks + 1) }
+    ensures started { trip.new.started ≡ trip.old.started }
 {
-    let mut meterage = trip.meterage;
     tables.are_fit();
-    meterage.add(charge(seal.params.mode, weights, pulses), modulus(tables));
-    Trip {
-        pulses: trip.pulses + pulses as u64,
-        ticks: trip.ticks + 1,
-        meterage,
-        ..trip
-    }
+    add_charge(
+        &mut trip.meterage,
+        charge(seal.params.mode, weights, pulses),
+        modulus(tables),
+    );
+    trip.pulses += pulses as u64;
+    trip.ticks += 1;
 }
 
-/// The trip with an interval that ended in Stopped.
-pub(crate) fn with_stopped(trip: Trip, tables: &Tables, pulses: u32) -> Trip
+/// The trip has an interval more that ended in Stopped.
+pub(crate) fn add_stopped(trip: &mut Trip, tables: &Tables, pulses: u32)
     requires pulses { pulses ≤ 2000 }
-    requires few { trip.pulses ≤ 9000000000000000000 }
-    requires range { IsTrip tables.now 8639999 trip }
-    ensures saved { (s : Setting) (t : model.Trip) → trip ≡ model.saved_of s t
-        → result ≡ model.saved_of s (model.with_part (model.InStopped pulses) t) }
-    ensures range { IsTrip tables.now 8640000 result }
-    ensures counts { (result.pulses ≡ trip.pulses + pulses) × (result.ticks ≡ trip.ticks + 1) }
-    ensures started { result.started ≡ trip.started }
+    requires few { trip.old.pulses ≤ 9000000000000000000 }
+    requires range { IsTrip tables.now 8639999 trip.old }
+    ensures saved { (s : Setting) (t : model.Trip) → trip.old ≡ model.saved_of s t
+        → trip.new ≡ model.saved_of s (model.with_part (model.InStopped pulses) t) }
+    ensures range { IsTrip tables.now 8640000 trip.new }
+    ensures counts { (trip.new.pulses ≡ trip.old.pulses + pulses) × (trip.new.ticks ≡ trip.old.ticks + 1) }
+    ensures started { trip.new.started ≡ trip.old.started }
 {
-    Trip {
-        pulses: trip.pulses + pulses as u64,
-        ticks: trip.ticks + 1,
-        ..trip
-    }
+    trip.pulses += pulses as u64;
+    trip.ticks += 1;
 }
 
-/// The trip with the pulses of an interval that was left unfinished.
-pub(crate) fn with_rest(trip: Trip, tables: &Tables, pulses: u32) -> Trip
+/// The trip has the pulses of an interval that was left unfinished.
+pub(crate) fn add_rest(trip: &mut Trip, tables: &Tables, pulses: u32)
     requires pulses { pulses ≤ 2000 }
-    requires few { trip.pulses ≤ 9000000000000000000 }
-    requires range { IsTrip tables.now 8639999 trip }
-    ensures saved { (s : Setting) (t : model.Trip) → trip ≡ model.saved_of s t
-        → result ≡ model.saved_of s (model.with_part (model.Rest pulses) t) }
-    ensures range { IsTrip tables.now 8639999 result }
-    ensures counts { (result.pulses ≡ trip.pulses + pulses) × (result.ticks ≡ trip.ticks) }
-    ensures started { result.started ≡ trip.started }
+    requires few { trip.old.pulses ≤ 9000000000000000000 }
+    requires range { IsTrip tables.now 8639999 trip.old }
+    ensures saved { (s : Setting) (t : model.Trip) → trip.old ≡ model.saved_of s t
+        → trip.new ≡ model.saved_of s (model.with_part (model.Rest pulses) t) }
+    ensures range { IsTrip tables.now 8639999 trip.new }
+    ensures counts { (trip.new.pulses ≡ trip.old.pulses + pulses) × (trip.new.ticks ≡ trip.old.ticks) }
+    ensures started { trip.new.started ≡ trip.old.started }
 {
-    Trip {
-        pulses: trip.pulses + pulses as u64,
-        ..trip
-    }
+    trip.pulses += pulses as u64;
 }
 
 /// What is known of the supplements of a trip: how often each was added at most, and what they come to at
@@ -153,25 +147,20 @@ pub(crate) fn times(trip: &Trip, number: u8) -> u8
     trip.extras[number as usize - 1]
 }
 
-/// The trip with a supplement of the tariff more, which it hasn't had as often as it may.
-pub(crate) fn with_extra(trip: Trip, tables: &Tables, number: u8, supplement: Supplement) -> Trip
+/// The trip has a supplement of the tariff more, which it hasn't had as often as it may.
+pub(crate) fn add_extra(trip: &mut Trip, tables: &Tables, number: u8, supplement: Supplement)
     requires number { (1 ≤ number) × (number ≤ 16) }
     requires found { supplement_in tables.now number ≡ Some supplement }
     requires amount { supplement.amount ≤ 1000000 }
-    requires few { slice_index trip.extras (number - 1) < supplement.max }
-    requires range { IsTrip tables.now 8639999 trip }
-    ensures saved { (s : Setting) (t : model.Trip) → IsTariffOf s tables.now → trip ≡ model.saved_of s t
-        → result ≡ model.saved_of s (model.with_extra number t) }
-    ensures range { IsTrip tables.now 8639999 result }
-    ensures counts { (result.pulses ≡ trip.pulses) × (result.ticks ≡ trip.ticks) }
-    ensures started { result.started ≡ trip.started }
+    requires few { slice_index trip.old.extras (number - 1) < supplement.max }
+    requires range { IsTrip tables.now 8639999 trip.old }
+    ensures saved { (s : Setting) (t : model.Trip) → IsTariffOf s tables.now → trip.old ≡ model.saved_of s t
+        → trip.new ≡ model.saved_of s (model.with_extra number t) }
+    ensures range { IsTrip tables.now 8639999 trip.new }
+    ensures counts { (trip.new.pulses ≡ trip.old.pulses) × (trip.new.ticks ≡ trip.old.ticks) }
+    ensures started { trip.new.started ≡ trip.old.started }
 {
-    extras_are_few(&trip, tables);
-    let mut extras = trip.extras;
-    extras[number as usize - 1] += 1;
-    Trip {
-        extras,
-        extras_sum: trip.extras_sum + supplement.amount,
-        ..trip
-    }
+    extras_are_few(trip, tables);
+    trip.extras[number as usize - 1] += 1;
+    trip.extras_sum += supplement.amount;
 }

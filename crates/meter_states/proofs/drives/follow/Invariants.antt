@@ -5,10 +5,10 @@ use Rattle.meter_states.specs.Lawful.{IsLawful}
 use Rattle.meter_states.proofs.drives.follow.Given as goal
 
 abbrev pub invariant-loop-event : goal.invariant-loop-event
-invariant-loop-event g l = IsLawful l.tables l.core × IsDurable l.durable × ForSome l.durable.hold (Fits l.tables)
+invariant-loop-event g l = IsLawful l.tables l.seal l.core × IsDurable l.durable × ForSome l.durable.hold (Fits l.tables)
 
 abbrev pub invariant-loop : goal.invariant-loop
-invariant-loop g l = IsLawful l.tables l.core × IsDurable l.durable × ForSome l.durable.hold (Fits l.tables)
+invariant-loop g l = IsLawful l.tables l.seal l.core × IsDurable l.durable × ForSome l.durable.hold (Fits l.tables)
 
 abbrev pub invariant-loop-place : goal.invariant-loop-place
-invariant-loop-place g l = IsLawful l.tables l.core × IsDurable l.durable × ForSome l.durable.hold (Fits l.tables)
+invariant-loop-place g l = IsLawful l.tables l.seal l.core × IsDurable l.durable × ForSome l.durable.hold (Fits l.tables)

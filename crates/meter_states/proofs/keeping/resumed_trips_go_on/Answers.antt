@@ -1,5 +1,6 @@
 use Rattle.meter_states.proofs.Fares.{fare-resumed}
 use Rattle.meter_states.proofs.Resumed.{resumed-saved}
+use Rattle.meter_states.proofs.ResumedForms.{forms-resumed}
 use Rattle.meter_states.proofs.keeping.resumed_trips_go_on.Goals as goal
 
 pub returns-clause-saved : goal.returns-clause-saved
@@ -7,3 +8,6 @@ returns-clause-saved c = resumed-saved
 
 pub returns-clause-fare : goal.returns-clause-fare
 returns-clause-fare c = fare-resumed
+
+pub returns-clause-forms : goal.returns-clause-forms
+returns-clause-forms c = forms-resumed

@@ -1,7 +1,7 @@
 use Rattle.meter_states.proofs.HeldFits.{fits-setting}
 use Rattle.meter_states.proofs.KeptTrips.{kept-step}
 use Rattle.meter_states.proofs.Resumed.{begins}
-use Rattle.meter_states.proofs.Runs.{kept-run}
+use Rattle.meter_states.proofs.Runs.{kept-run, kept-whole}
 use Rattle.meter_states.proofs.keeping.the_store_keeps_the_trip.Goals as goal
 
 pub returns-clause-begins : goal.returns-clause-begins
@@ -12,6 +12,9 @@ returns-clause-step c = kept-step
 
 pub returns-clause-run : goal.returns-clause-run
 returns-clause-run c = kept-run
+
+pub returns-clause-whole : goal.returns-clause-whole
+returns-clause-whole c = kept-whole
 
 pub returns-clause-fits : goal.returns-clause-fits
 returns-clause-fits c = fits-setting

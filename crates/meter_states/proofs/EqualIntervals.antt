@@ -1,0 +1,280 @@
+-- Equal intervals in each operating position.
+use Rattle.std.proofs.Common.{◌≡◌, ◌≢◌, ℕ, zero, suc, ◌+◌, ◌-◌, ◌*◌, ◌/◌, ◌%◌, ◌^◌, ◌<◌, ◌≤◌, [], Option, Some, None, option_map, sum, refl, ap, sym, ◌∙◌, arith}
+use Rattle.std.proofs.Math.Nat.{mul-le-mul_right}
+use Rattle.std.proofs.lemmas.Grind.{common_steps}
+use Rattle.drive_modes.specs.Fare.{added, saved, shown_fare, steps_of}
+use Rattle.drive_modes.specs.declared.meterage.Meterage.{Meterage}
+use Rattle.drive_modes.specs.declared.meterage.Rounding.{Rounding}
+use Rattle.drive_modes.specs.declared.meterage.Rounding.TheVariants.{Behind, Ahead}
+use Rattle.drive_modes.specs.Charge.{charge_of}
+use Rattle.drive_modes.specs.declared.charges.Mode.{Mode}
+use Rattle.drive_modes.specs.declared.charges.Weights.{Weights}
+use Rattle.seal_store.specs.declared.seal.Seal.{Seal}
+use Rattle.tariff_compile.specs.Near.{IsNear}
+use Rattle.tariff_compile.specs.Tables.{IsInRangeFor, TableParts, rate_by}
+use Rattle.tariff_syntax.specs.declared.context.Context.{Context}
+use Rattle.taxi_units.specs.declared.event.Operating.{Operating}
+use Rattle.taxi_units.specs.declared.event.Operating.TheVariants.{Off, ForHire, Hired, Stopped}
+use Rattle.taxi_units.specs.declared.receipt.Display.{Display}
+use Rattle.totaliser_store.specs.declared.trip.Trip as store
+use Rattle.meter_states.specs.Charge.{charge_at}
+use Rattle.meter_states.specs.Core.{Plain, Follows, plain_of}
+use Rattle.meter_states.specs.Equals.{IsStill, charged, display_by, intervals_of, passed, roams, spare_of, unfilled}
+use Rattle.meter_states.specs.Interval.{context_of, context_on, counted_in, pulses_so_far, roaming_with, ticks_so_far}
+use Rattle.meter_states.specs.Meter.{Meter}
+use Rattle.meter_states.specs.Run.{run}
+use Rattle.meter_states.specs.Setting.{Setting, IsSettingOf, IsTariffOf, local_at, modulus_of, step_of}
+use Rattle.meter_states.specs.Trip.{Trip, InHired, InStopped, charges_of, opening_of, saved_of, with_part}
+use Rattle.taxi_units.specs.Time.{longest_trip}
+use Rattle.meter_states.proofs.Charges.{charge-at}
+use Rattle.meter_states.proofs.Settings.{step-is, unit-is}
+use Rattle.meter_states.proofs.Meterages.{added-less, sum-added}
+use Rattle.meter_states.proofs.Quiet.{interval-follows, intervals-follow, ticks_by}
+use Rattle.meter_states.proofs.Trips.{hired-saved}
+
+on_in : (operating other : Operating) → operating ≡ other → other ≢ Off → operating ≢ Off
+on_in operating other is on off = on (sym is ∙ off)
+
+-- ---- for hire
+
+roaming-more : (p : ℕ) (n : Meter) → sum (roaming_with p n) ≡ sum n.roaming + roams n.durable.number p
+roaming-more p n = grind (arith, common_steps)
+
+hire-counted : (s : Setting) (p i : ℕ) (n : Meter) (c : Plain) → n.operating ≡ ForHire → c.gate ≡ 0 → c.began ≡ c.clock → record c { roam = c.roam + i * roams c.number p } ≡ plain_of s n
+    → record c { roam = c.roam + suc i * roams c.number p } ≡ plain_of s (record (counted_in s n.operating p n) { began = (counted_in s n.operating p n).clock })
+hire-counted s p i n c hire gate began e =
+    let q = roams c.number p in
+    let before : c.roam + i * q ≡ sum n.roaming = ap (λ (c : Plain). c.roam) e in
+    let number : c.number ≡ n.durable.number = ap (λ (c : Plain). c.number) e in
+    let same : q ≡ roams n.durable.number p = ap (λ (x : ℕ). roams x p) number in
+    let after : c.roam + suc i * q ≡ sum (roaming_with p n) = omega (arith, before, same, roaming-more p n) in
+    ap (λ (g : ℕ). record c { gate = g; roam = c.roam + suc i * q }) gate
+    ∙ ap (λ (b : ℕ). record c { began = b; gate = 0; roam = c.roam + suc i * q }) began
+    ∙ ap (λ (d : Plain). record d { began = d.clock; gate = 0; roam = c.roam + suc i * q }) e
+    ∙ ap (λ (x : ℕ). record (plain_of s n) { began = n.clock; gate = 0; roam = x }) after
+    ∙ ap (λ (o : Operating). plain_of s (record (counted_in s o p n) { began = (counted_in s o p n).clock })) (sym hire)
+
+times-fewer : (i k q most : ℕ) → i < k → k * q ≤ most → suc i * q ≤ most
+times-fewer i k q most below few =
+    let less : suc i * q ≤ k * q = mul-le-mul_right q below in
+    omega (arith, less, few)
+
+below-roam : (roam q i k : ℕ) → i < k → roam + k * q ≤ 999999 → roam + suc i * q ≤ 999999
+below-roam roam q i k below few =
+    let less : suc i * q ≤ k * q = mul-le-mul_right q below in
+    omega (arith, less, few)
+
+pub hire-equal : (s : Setting) (tables : TableParts) (p k : ℕ) (m : Meter) (c : Plain) → IsTariffOf s tables → 0 < modulus_of s → p ≤ 2000 → c ≡ plain_of s m → c.operating ≡ ForHire → c.trip ≡ None → IsStill tables c
+    → c.roam + k * roams c.number p ≤ 999999 → Follows s (record c { roam = c.roam + k * roams c.number p }) [] [] (run s (intervals_of p k) m)
+hire-equal s tables p k m c is some most e hire none still few =
+    let q = roams c.number p in
+    let start : record c { roam = c.roam + 0 * q } ≡ c = ap (λ (x : ℕ). record c { roam = x }) (omega arith) in
+    intervals-follow s p k (λ i. record c { roam = c.roam + i * q }) m
+    (λ i n below same.
+    let operating : n.operating ≡ ForHire = sym (ap (λ (c : Plain). c.operating) same) ∙ hire in
+    let taken : sum n.taken ≡ 0 = sym (ap (λ (c : Plain). c.gate) same) ∙ still.gate in
+    let short : ticks_by c.trip ≤ 8639999 = rw none (omega arith) in
+    interval-follows s tables p n (record c { roam = c.roam + suc i * q }) is some (on_in n.operating ForHire operating (λ off. absurd cc)) taken most
+    (record { latch = still.latch; gate = still.gate; began = still.began; shown = still.shown }) short (below-roam c.roam q i k below few) (hire-counted s p i n c operating still.gate still.began same))
+    (start ∙ e)
+
+-- ---- Stopped
+
+stopped-saved : (s : Setting) (t : Trip) (p : ℕ) (x : store.Trip) → x ≡ saved_of s t → record x { pulses = x.pulses + p; ticks = x.ticks + 1 } ≡ saved_of s (with_part (InStopped p) t)
+stopped-saved s t p x e = grind (arith, common_steps)
+
+stopped-trip : (s : Setting) (trip : Option Trip) (p : ℕ) (x : store.Trip) → Some x ≡ option_map (saved_of s) trip
+    → Some (record x { pulses = x.pulses + p; ticks = x.ticks + 1 }) ≡ option_map (saved_of s) (option_map (with_part (InStopped p)) trip)
+stopped-trip s None p x e = absurd cc
+stopped-trip s (Some t) p x e = ap (λ (y : store.Trip). Some y) (stopped-saved s t p x cc)
+
+passed-more : (p i : ℕ) (t : store.Trip) → passed p (suc i) t ≡ record t { pulses = t.pulses + i * p + p; ticks = t.ticks + i + 1 }
+passed-more p i t =
+    let pulses : t.pulses + suc i * p ≡ t.pulses + i * p + p = omega arith in
+    let ticks : t.ticks + suc i ≡ t.ticks + i + 1 = omega arith in
+    cc
+
+none-passed : (p : ℕ) (t : store.Trip) → passed p 0 t ≡ t
+none-passed p t =
+    let pulses : t.pulses + 0 * p ≡ t.pulses = omega arith in
+    let ticks : t.ticks + 0 ≡ t.ticks = omega arith in
+    ap (λ (x : ℕ). record t { pulses = x; ticks = t.ticks + 0 }) pulses ∙ ap (λ (x : ℕ). record t { ticks = x }) ticks
+
+stopped-counted : (s : Setting) (p i : ℕ) (n : Meter) (c : Plain) (t : store.Trip) → n.operating ≡ Stopped → c.gate ≡ 0 → c.began ≡ c.clock → record c { trip = Some (passed p i t) } ≡ plain_of s n
+    → record c { trip = Some (passed p (suc i) t) } ≡ plain_of s (record (counted_in s n.operating p n) { began = (counted_in s n.operating p n).clock })
+stopped-counted s p i n c t stopped gate began e =
+    let trip = stopped-trip s n.trip p (passed p i t) (ap (λ (c : Plain). c.trip) e) in
+    let next = record t { pulses = t.pulses + i * p + p; ticks = t.ticks + i + 1 } in
+    ap (λ (t : store.Trip). record c { trip = Some t }) (passed-more p i t)
+    ∙ ap (λ (g : ℕ). record c { gate = g; trip = Some next }) gate
+    ∙ ap (λ (b : ℕ). record c { began = b; gate = 0; trip = Some next }) began
+    ∙ ap (λ (d : Plain). record d { began = d.clock; gate = 0; trip = Some next }) e
+    ∙ ap (λ (x : Option store.Trip). record (plain_of s n) { began = n.clock; gate = 0; trip = x }) trip
+    ∙ ap (λ (o : Operating). plain_of s (record (counted_in s o p n) { began = (counted_in s o p n).clock })) (sym stopped)
+
+pub stopped-equal : (s : Setting) (tables : TableParts) (p k : ℕ) (m : Meter) (c : Plain) (t : store.Trip) → IsTariffOf s tables → 0 < modulus_of s → p ≤ 2000 → c ≡ plain_of s m → c.operating ≡ Stopped → c.trip ≡ Some t → IsStill tables c
+    → c.roam ≤ 999999 → t.ticks + k ≤ 8639999 → Follows s (record c { trip = Some (passed p k t) }) [] [] (run s (intervals_of p k) m)
+stopped-equal s tables p k m c t is some most e stopped has still roam short =
+    let start : record c { trip = Some (passed p 0 t) } ≡ c = ap (λ (x : store.Trip). record c { trip = Some x }) (none-passed p t) ∙ ap (λ (x : Option store.Trip). record c { trip = x }) (sym has) in
+    let shown : c.shown ≡ Some (display_by tables (record c { trip = Some t })) = still.shown ∙ ap (λ (x : Option store.Trip). Some (display_by tables (record c { trip = x }))) has in
+    intervals-follow s p k (λ i. record c { trip = Some (passed p i t) }) m
+    (λ i n below same.
+    let operating : n.operating ≡ Stopped = sym (ap (λ (c : Plain). c.operating) same) ∙ stopped in
+    let taken : sum n.taken ≡ 0 = sym (ap (λ (c : Plain). c.gate) same) ∙ still.gate in
+    interval-follows s tables p n (record c { trip = Some (passed p (suc i) t) }) is some (on_in n.operating Stopped operating (λ off. absurd cc)) taken most
+    (record { latch = still.latch; gate = still.gate; began = still.began; shown = shown }) (omega (arith, short, below)) roam (stopped-counted s p i n c t operating still.gate still.began same))
+    (start ∙ e)
+
+-- ---- charges that fill no display step
+
+pub unfilled-below : (rounding : Rounding) (modulus q i : ℕ) (m : Meterage) → m.rest < modulus → i * q ≤ spare_of rounding modulus m → m.rest + (i * q - m.cover_left) < modulus
+unfilled-below Behind modulus q i m below spare = omega (arith, below, spare)
+unfilled-below Ahead modulus q i m below spare = grind (arith, common_steps)
+
+unfilled-steps : (rounding : Rounding) (modulus q i : ℕ) (m : Meterage) → i * q ≤ spare_of rounding modulus m → steps_of rounding (unfilled q i m) ≡ steps_of rounding m
+unfilled-steps Behind modulus q i m spare = refl
+unfilled-steps Ahead modulus q i m spare = grind (arith, common_steps)
+
+unfilled-more : (modulus q i : ℕ) (m : Meterage) → m.rest + (suc i * q - m.cover_left) < modulus → unfilled q (suc i) m ≡ added modulus (unfilled q i m) q
+unfilled-more modulus q i m below =
+    let above : m.rest + (i * q - m.cover_left) + (q - (m.cover_left - i * q)) ≡ m.rest + (suc i * q - m.cover_left) = omega arith in
+    let cover : m.cover_left - suc i * q ≡ m.cover_left - i * q - q = omega arith in
+    ap (λ (n : ℕ). record m { cover_left = n; rest = m.rest + (suc i * q - m.cover_left) }) cover
+    ∙ ap (λ (n : ℕ). record m { cover_left = m.cover_left - i * q - q; rest = n }) (sym above)
+    ∙ added-less modulus q (unfilled q i m) (omega (arith, above, below))
+
+-- ---- Hired
+
+hired-trip : (s : Setting) (trip : Option Trip) (p q : ℕ) (y : Context) (x : store.Trip) (m : Meterage) → 0 < modulus_of s → Some x ≡ option_map (saved_of s) trip → charge_at s y p ≡ q → m ≡ added (modulus_of s) x.meterage q
+    → Some (record x { pulses = x.pulses + p; ticks = x.ticks + 1; meterage = m }) ≡ option_map (saved_of s) (option_map (with_part (InHired p y)) trip)
+hired-trip s None p q y x m some e charge is = absurd cc
+hired-trip s (Some u) p q y x m some e charge is =
+    let same : x ≡ saved_of s u = cc in
+    let meterage = is ∙ ap (λ (x : store.Trip). added (modulus_of s) x.meterage q) same ∙ sum-added (opening_of s u) (charges_of s u) q some ∙ ap (λ (n : ℕ). saved (opening_of s u) (charges_of s u + n)) (sym charge) in
+    ap (λ (x : store.Trip). Some x) (hired-saved s u p y x m same meterage)
+
+pulses-by : (s : Setting) (trip : Option Trip) (x : store.Trip) → Some x ≡ option_map (saved_of s) trip → pulses_so_far trip ≡ x.pulses
+pulses-by s None x e = absurd cc
+pulses-by s (Some t) x e =
+    let same : saved_of s t ≡ x = cc in
+    ap (λ (x : store.Trip). x.pulses) same
+
+ticks-by : (s : Setting) (trip : Option Trip) (x : store.Trip) → Some x ≡ option_map (saved_of s) trip → ticks_so_far trip ≡ x.ticks
+ticks-by s None x e = absurd cc
+ticks-by s (Some t) x e =
+    let same : saved_of s t ≡ x = cc in
+    ap (λ (x : store.Trip). x.ticks) same
+
+-- the context of a later interval, that of an earlier one being known
+pub context-later : (s : Setting) (m n : Meter) (c : Plain) (t x : store.Trip) → c ≡ plain_of s m → c.trip ≡ Some t → record c { trip = Some x } ≡ plain_of s n
+    → context_of s n ≡ record (context_of s m) { pulses = x.pulses; ticks = x.ticks }
+context-later s m n c t x e has is =
+    let position : n.position ≡ m.position = sym (ap (λ (c : Plain). c.position) is) ∙ ap (λ (c : Plain). c.position) e in
+    let zone : n.zone ≡ m.zone = sym (ap (λ (c : Plain). c.zone) is) ∙ ap (λ (c : Plain). c.zone) e in
+    let began : n.began ≡ m.began = sym (ap (λ (c : Plain). c.began) is) ∙ ap (λ (c : Plain). c.began) e in
+    let pulses : pulses_so_far n.trip ≡ x.pulses = pulses-by s n.trip x (ap (λ (c : Plain). c.trip) is) in
+    let ticks : ticks_so_far n.trip ≡ x.ticks = ticks-by s n.trip x (ap (λ (c : Plain). c.trip) is) in
+    let base = context_on s (local_at s n.began) n in
+    ap (λ (k : ℕ). record base { pulses = k }) pulses
+    ∙ ap (λ (k : ℕ). record base { pulses = x.pulses; ticks = k }) ticks
+    ∙ ap (λ (k : ℕ). record base { position = k; pulses = x.pulses; ticks = x.ticks }) position
+    ∙ ap (λ (k : ℕ). record base { position = m.position; zone = k; pulses = x.pulses; ticks = x.ticks }) zone
+    ∙ ap (λ (k : ℕ). record (context_on s (local_at s k) m) { pulses = x.pulses; ticks = x.ticks }) began
+
+charged-more : (p q i : ℕ) (t : store.Trip) → charged p q (suc i) t ≡ record t { pulses = t.pulses + i * p + p; ticks = t.ticks + i + 1; meterage = unfilled q (suc i) t.meterage }
+charged-more p q i t =
+    let pulses : t.pulses + suc i * p ≡ t.pulses + i * p + p = omega arith in
+    let ticks : t.ticks + suc i ≡ t.ticks + i + 1 = omega arith in
+    ap (λ (x : ℕ). record t { pulses = x; ticks = t.ticks + suc i; meterage = unfilled q (suc i) t.meterage }) pulses
+    ∙ ap (λ (x : ℕ). record t { pulses = t.pulses + i * p + p; ticks = x; meterage = unfilled q (suc i) t.meterage }) ticks
+
+none-charged : (p q : ℕ) (t : store.Trip) → charged p q 0 t ≡ t
+none-charged p q t =
+    let pulses : t.pulses + 0 * p ≡ t.pulses = omega arith in
+    let ticks : t.ticks + 0 ≡ t.ticks = omega arith in
+    let cover : t.meterage.cover_left - 0 * q ≡ t.meterage.cover_left = omega arith in
+    let rest : t.meterage.rest + (0 * q - t.meterage.cover_left) ≡ t.meterage.rest = omega arith in
+    ap (λ (x : ℕ). record t { pulses = x; ticks = t.ticks + 0; meterage = unfilled q 0 t.meterage }) pulses
+    ∙ ap (λ (x : ℕ). record t { ticks = x; meterage = unfilled q 0 t.meterage }) ticks
+    ∙ ap (λ (x : ℕ). record t { meterage = record (unfilled q 0 t.meterage) { cover_left = x } }) cover
+    ∙ ap (λ (x : ℕ). record t { meterage = record t.meterage { rest = x } }) rest
+
+hired-counted : (s : Setting) (p q i : ℕ) (n : Meter) (c : Plain) (t : store.Trip) → 0 < modulus_of s → n.operating ≡ Hired → c.gate ≡ 0 → c.began ≡ c.clock → t.meterage.rest + (suc i * q - t.meterage.cover_left) < modulus_of s → charge_at s (context_of s n) p ≡ q
+    → record c { trip = Some (charged p q i t) } ≡ plain_of s n → record c { trip = Some (charged p q (suc i) t) } ≡ plain_of s (record (counted_in s n.operating p n) { began = (counted_in s n.operating p n).clock })
+hired-counted s p q i n c t some hired gate began below charge e =
+    let x = charged p q i t in
+    let next = record t { pulses = t.pulses + i * p + p; ticks = t.ticks + i + 1; meterage = unfilled q (suc i) t.meterage } in
+    let trip = hired-trip s n.trip p q (context_of s n) x (unfilled q (suc i) t.meterage) some (ap (λ (c : Plain). c.trip) e) charge (unfilled-more (modulus_of s) q i t.meterage below) in
+    ap (λ (t : store.Trip). record c { trip = Some t }) (charged-more p q i t)
+    ∙ ap (λ (g : ℕ). record c { gate = g; trip = Some next }) gate
+    ∙ ap (λ (b : ℕ). record c { began = b; gate = 0; trip = Some next }) began
+    ∙ ap (λ (d : Plain). record d { began = d.clock; gate = 0; trip = Some next }) e
+    ∙ ap (λ (x : Option store.Trip). record (plain_of s n) { began = n.clock; gate = 0; trip = x }) trip
+    ∙ ap (λ (o : Operating). plain_of s (record (counted_in s o p n) { began = (counted_in s o p n).clock })) (sym hired)
+
+abbrev display_at : TableParts → Plain → store.Trip → (steps : ℕ) → Display
+display_at tables c t n = record { operating = c.operating; position = c.position; zone = c.zone; fare = shown_fare t.initial t.minimum tables.step n; supplements = t.extras_sum; decimals = tables.decimals }
+
+pub hired-equal : (s : Setting) (tables : TableParts) (p q k : ℕ) (m : Meter) (c : Plain) (t : store.Trip) → IsTariffOf s tables → 0 < modulus_of s → p ≤ 2000 → c ≡ plain_of s m → c.operating ≡ Hired → c.trip ≡ Some t → IsStill tables c
+    → c.roam ≤ 999999 → t.ticks + k ≤ 8639999 → t.meterage.rest < modulus_of s → k * q ≤ spare_of tables.rounding (modulus_of s) t.meterage
+    → ((i : ℕ) (n : Meter) → i < k → record c { trip = Some (charged p q i t) } ≡ plain_of s n → charge_at s (context_of s n) p ≡ q)
+    → Follows s (record c { trip = Some (charged p q k t) }) [] [] (run s (intervals_of p k) m)
+hired-equal s tables p q k m c t is some most e hired has still roam short rest spare charge =
+    let start : record c { trip = Some (charged p q 0 t) } ≡ c = ap (λ (x : store.Trip). record c { trip = Some x }) (none-charged p q t) ∙ ap (λ (x : Option store.Trip). record c { trip = x }) (sym has) in
+    let shown : c.shown ≡ Some (display_by tables (record c { trip = Some t })) = still.shown ∙ ap (λ (x : Option store.Trip). Some (display_by tables (record c { trip = x }))) has in
+    intervals-follow s p k (λ i. record c { trip = Some (charged p q i t) }) m
+    (λ i n below same.
+    let operating : n.operating ≡ Hired = sym (ap (λ (c : Plain). c.operating) same) ∙ hired in
+    let taken : sum n.taken ≡ 0 = sym (ap (λ (c : Plain). c.gate) same) ∙ still.gate in
+    let fewer = times-fewer i k q (spare_of tables.rounding (modulus_of s) t.meterage) below spare in
+    let steps = unfilled-steps tables.rounding (modulus_of s) q (suc i) t.meterage fewer in
+    let as_before : c.shown ≡ Some (display_by tables (record c { trip = Some (charged p q (suc i) t) })) = shown ∙ ap (λ (n : ℕ). Some (display_at tables c t n)) (sym steps) in
+    interval-follows s tables p n (record c { trip = Some (charged p q (suc i) t) }) is some (on_in n.operating Hired operating (λ off. absurd cc)) taken most
+    (record { latch = still.latch; gate = still.gate; began = still.began; shown = as_before }) (omega (arith, short, below)) roam
+    (hired-counted s p q i n c t some operating still.gate still.began (unfilled-below tables.rounding (modulus_of s) q (suc i) t.meterage rest fewer) (charge i n below same) same))
+    (start ∙ e)
+
+-- ---- the charge of each
+
+-- what a display step takes, by the tables
+pub modulus-is : (s : Setting) (p : TableParts) → IsTariffOf s p → p.step * p.measure ≡ modulus_of s
+modulus-is s p is = ap (λ (n : ℕ). n * p.measure) (step-is s p is) ∙ ap (λ (n : ℕ). step_of s * n) (unit-is s p is)
+
+-- the weights of a context give its charge
+pub charge-by-weights : (s : Setting) (tables : TableParts) (seal : Seal) (y : Context) (p : ℕ) (w : Weights) → IsSettingOf s tables seal → w ≡ rate_by s.tariff tables.constant y → charge_of seal.params.mode w p ≡ charge_at s y p
+charge-by-weights s tables seal y p w is by =
+    ap (λ (mode : Mode). charge_of mode w p) is.secured.mode
+    ∙ ap (λ (w : Weights). charge_of s.mode w p) by
+    ∙ ap (λ (k : ℕ). charge_of s.mode (rate_by s.tariff k y) p) is.tariff.constant
+    ∙ charge-at s.mode s.tariff s.constant y p is.tariff.compiled.writable is.tariff.compiled.sound
+
+-- the context of an interval after so many further ones is near that of the first
+pub near-later : (s : Setting) (m : Meter) (t : store.Trip) (p i further longer : ℕ) → Some t ≡ option_map (saved_of s) m.trip → i * p ≤ further → i ≤ longer
+    → IsNear further longer (context_of s m) (record (context_of s m) { pulses = t.pulses + i * p; ticks = t.ticks + i })
+near-later s m t p i further longer has far long =
+    let pulses = pulses-by s m.trip t has in
+    let ticks = ticks-by s m.trip t has in
+    record {
+      position = refl;
+      zone = refl;
+      weekday = refl;
+      month_day = refl;
+      holiday = refl;
+      minute = refl;
+      pulses = (omega (arith, pulses), omega (arith, pulses, far));
+      ticks = (omega (arith, ticks), omega (arith, ticks, long));
+    }
+
+-- and is one that a trip may have
+pub range-later : (tables : TableParts) (x : Context) (pulses ticks : ℕ) → IsInRangeFor tables x → pulses ≤ 5 * 10 ^ 18 → ticks ≤ longest_trip → IsInRangeFor tables (record x { pulses = pulses; ticks = ticks })
+range-later tables x pulses ticks x_in few short = record {
+  constant = x_in.constant;
+  position = x_in.position;
+  zone = x_in.zone;
+  weekday = x_in.weekday;
+  month_day = x_in.month_day;
+  minute = x_in.minute;
+  holiday = x_in.holiday;
+  pulses = few;
+  ticks = short;
+}

@@ -1,4 +1,0 @@
-use Rattle.meter_states.proofs.core_state.Core.take_hold.Goals as goal
-
-pub take_held-requires-clause-fits : goal.take_held-requires-clause-fits
-take_held-requires-clause-fits g c = c.requires.fits _ c.in-Some.is

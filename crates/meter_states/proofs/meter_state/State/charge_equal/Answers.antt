@@ -1,0 +1,48 @@
+use Rattle.std.proofs.Common.{◌≡◌, ℕ, ◌+◌, ◌*◌, ◌<◌, ◌≤◌, [], Some, ap, sym, subst, ◌∙◌, arith}
+use Rattle.std.proofs.Math.Nat.{mul-le-mul_left, mul-le-mul_right}
+use Rattle.tariff_syntax.specs.declared.context.Context.{Context}
+use Rattle.meter_states.specs.Charge.{charge_at}
+use Rattle.meter_states.specs.Core.{Plain, Follows, plain_of}
+use Rattle.meter_states.specs.Equals.{charged, intervals_of, spare_of}
+use Rattle.meter_states.specs.Interval.{context_of}
+use Rattle.meter_states.specs.Meter.{Meter}
+use Rattle.meter_states.specs.Run.{run}
+use Rattle.meter_states.specs.Setting.{modulus_of}
+use Rattle.meter_states.proofs.EqualIntervals.{charge-by-weights, context-later, hired-equal, modulus-is, near-later, range-later}
+use Rattle.meter_states.proofs.Settings.{modulus-some}
+use Rattle.meter_states.proofs.meter_state.State.charge_equal.Goals as goal
+
+pub returns-clause-follows : goal.returns-clause-follows
+returns-clause-follows c = λ s m is e.
+    let core = c.args.self.now in
+    let tables = c.args.tables.now in
+    let p = c.args.pulses in
+    let q = c.charge-each.result in
+    let n = c.most_times-n.result in
+    let t = c.in-Some-trip.trip in
+    let lasting = c.in-Some.lasting in
+    let some = modulus-some s tables is.tariff c.are_fit.ensures in
+    let has : core.trip ≡ Some t = sym (ap (λ (p : Plain). p.trip) c.self.view_is) ∙ c.in-Some-trip.is in
+    let range = rw has at c.requires.lawful.trip in
+    let fewer : n ≤ c.most_times-longest.result = omega (arith, c.most_times-n.ensures.most, c.most_times-near.ensures.most) in
+    let short : t.ticks + n ≤ 8639999 = omega (arith, fewer, c.most_times-longest.ensures.most, c.min-few.ensures, range.range.ticks) in
+    let long : n ≤ lasting.longer = omega (arith, fewer, c.most_times-longest.ensures.room) in
+    let modulus = modulus-is s tables is.tariff in
+    let rest : t.meterage.rest < modulus_of s = rw modulus at range.range.rest in
+    let room = rw c.spare.ensures.value at c.most_times-n.ensures.room in
+    let spare : n * q ≤ spare_of tables.rounding (modulus_of s) t.meterage = subst (λ (k : ℕ). n * q ≤ spare_of tables.rounding k t.meterage) modulus room in
+    let x = context_of s m in
+    let saved = sym has ∙ ap (λ (p : Plain). p.trip) e in
+    let charge : (i : ℕ) (k : Meter) → i < n → record core { trip = Some (charged p q i t) } ≡ plain_of s k → charge_at s (context_of s k) p ≡ q = λ i k below same.
+    let y : Context = record x { pulses = t.pulses + i * p; ticks = t.ticks + i } in
+    let less : i * p ≤ c.most_times-near.result * p = mul-le-mul_right p (omega (arith, below, c.most_times-n.ensures.most)) in
+    let far : i * p ≤ lasting.further = omega (arith, less, c.most_times-near.ensures.room) in
+    let slow : i * p ≤ i * 2000 = mul-le-mul_left i c.requires.pulses in
+    let near = near-later s m t p i lasting.further lasting.longer saved far (omega (arith, below, long)) in
+    let y_in = range-later tables x (t.pulses + i * p) (t.ticks + i) (c.in-Some.ensures.range s m is e)
+    (omega (arith, slow, below, short, range.pulses, c.requires.lawful.number.1)) (omega (arith, below, short)) in
+    let weights = c.in-Some.ensures.near s m y is e y_in near in
+    ap (λ (y : Context). charge_at s y p) (context-later s m k core t (charged p q i t) e has same)
+    ∙ sym (c.charge-each.ensures.charge ∙ charge-by-weights s tables c.args.seal.now y p lasting.weights is weights) in
+    let all = hired-equal s tables p q n m core t is.tariff some c.requires.pulses e c.requires.hired has c.requires.still c.requires.lawful.roam short rest spare charge in
+    rw c.add_charged.ensures.value (subst (λ (x : Plain). Follows s (record x { trip = Some (charged p q n t) }) [] [] (run s (intervals_of p n) m)) (sym c.self.view_is) all)

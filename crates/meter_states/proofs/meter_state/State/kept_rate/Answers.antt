@@ -1,0 +1,15 @@
+use Rattle.std.proofs.Common.{◌≡◌, ℕ, ap, sym, subst, ◌∙◌}
+use Rattle.std.proofs.lemmas.Option.{IfSome_then}
+use Rattle.tariff_compile.specs.Near.{IsNear}
+use Rattle.tariff_compile.specs.declared.parts.Lasting.{Lasting}
+use Rattle.tariff_syntax.specs.declared.context.Context.{Context}
+use Rattle.meter_states.specs.Core.{Plain}
+use Rattle.meter_states.specs.Interval.{context_of, context_on}
+use Rattle.meter_states.specs.Setting.{local_at}
+use Rattle.meter_states.proofs.meter_state.State.kept_rate.Goals as goal
+
+pub returns-clause-near : goal.returns-clause-near
+returns-clause-near c = IfSome_then c.kept_rate.result c.kept_rate.ensures.near (λ lasting near s m y is e y_in is_near.
+    let began : c.in_ok-local.local.second ≡ m.began = c.in_ok-local.ensures.second ∙ ap (λ (p : Plain). p.began) (c.self.view_is ∙ e) in
+    let same : c.context_on-x.result ≡ context_of s m = c.context_on-x.ensures.value s m is e ∙ ap (λ (second : ℕ). context_on s (local_at s second) m) began in
+    near s.tariff y is.tariff.compiled y_in (subst (λ (x : Context). IsNear lasting.further lasting.longer x y) (sym same) is_near))

@@ -1,0 +1,43 @@
+use Rattle.std.proofs.Common.{◌≡◌, ◌<◌, ℕ, ◌+◌, ◌-◌, get_or, length, ap, sym, subst, ◌∙◌, Option, Some, arith}
+use Rattle.std.proofs.Math.ListN.{length-set}
+use Rattle.tariff_compile.specs.Tables.{supplement_at}
+use Rattle.tariff_compile.specs.declared.parts.Supplement.{Supplement}
+use Rattle.meter_states.specs.Supplements.{amount_in, most_in, supplement_in}
+use Rattle.meter_states.proofs.Amounts.{allowed-more, amounts-more}
+use Rattle.meter_states.proofs.TableSupplements.{supplement-in}
+use Rattle.meter_states.proofs.Trips.{extra-saved}
+use Rattle.meter_states.proofs.trip.add_extra.Goals as goal
+
+pub returns-clause-saved : goal.returns-clause-saved
+returns-clause-saved c = λ s t is e.
+    let n = c.args.number in
+    let amount : c.args.supplement.amount ≡ amount_in (supplement_at s.tariff n) =
+    ap amount_in (sym c.requires.found) ∙ ap amount_in (supplement-in s.tariff c.args.tables.now n is.compiled) in
+    extra-saved s t n c.args.supplement.amount c.args.trip.now (omega arith) (omega arith) amount e
+
+pub returns-clause-range : goal.returns-clause-range
+returns-clause-range c =
+    let p = c.args.tables.now in
+    let n = c.args.number in
+    let i = n - 1 in
+    let counts = c.args.trip.now.extras in
+    let range = c.requires.range in
+    let same : 1 + i ≡ n = omega arith in
+    let found : supplement_in p (1 + i) ≡ Some c.args.supplement = ap (supplement_in p) same ∙ c.requires.found in
+    let most : get_or counts i 0 < most_in (supplement_in p (1 + i)) = subst (λ (o : Option Supplement). get_or counts i 0 < most_in o) (sym found) c.requires.few in
+    let within : i < length counts = omega (arith, range.extras) in
+    let sum = amounts-more (supplement_in p) 1 i counts within in
+    let amount : amount_in (supplement_in p (1 + i)) ≡ c.args.supplement.amount = ap amount_in found in
+    record {
+      started = range.started;
+      roam = range.roam;
+      ticks = range.ticks;
+      initial = range.initial;
+      minimum = range.minimum;
+      cover = range.cover;
+      steps = range.steps;
+      rest = range.rest;
+      extras = omega (arith, length-set {A = ℕ}, range.extras);
+      counts = allowed-more (supplement_in p) 1 i counts within most range.counts;
+      extras_sum = omega (arith, range.extras_sum, sum, amount);
+    }

@@ -1,0 +1,61 @@
+use Rattle.std.proofs.Common.{◌≡◌, ap, sym, ◌∙◌, ◌+◌, ◌*◌, ◌≤◌, ℕ, arith}
+use Rattle.drive_modes.specs.Charge.{charge_of}
+use Rattle.drive_modes.specs.Fare.{saved}
+use Rattle.drive_modes.specs.declared.charges.Mode.{Mode}
+use Rattle.drive_modes.specs.declared.charges.Weights.{Weights}
+use Rattle.drive_modes.specs.declared.meterage.Meterage.{Meterage}
+use Rattle.tariff_compile.specs.Tables.{rate_by}
+use Rattle.totaliser_store.specs.declared.trip.Trip as store
+use Rattle.meter_states.specs.Charge.{charge_at}
+use Rattle.meter_states.specs.Setting.{modulus_of}
+use Rattle.meter_states.specs.Trip.{charges_of, opening_of}
+use Rattle.meter_states.proofs.Charges.{charge-at, charge-most, steps-most}
+use Rattle.meter_states.proofs.Trips.{hired-saved}
+use Rattle.meter_states.proofs.trip.add_hired.Goals as goal
+
+pub returns-clause-saved : goal.returns-clause-saved
+returns-clause-saved c = λ s t x is by e.
+    let modulus : c.modulus.result ≡ modulus_of s = c.modulus.ensures.setting s is.tariff in
+    let charged : c.charge.result ≡ charge_at s x c.args.pulses =
+    c.charge.ensures.charge
+    ∙ ap (λ (mode : Mode). charge_of mode c.args.weights c.args.pulses) is.secured.mode
+    ∙ ap (λ (w : Weights). charge_of s.mode w c.args.pulses) by
+    ∙ ap (λ (k : ℕ). charge_of s.mode (rate_by s.tariff k x) c.args.pulses) is.tariff.constant
+    ∙ charge-at s.mode s.tariff s.constant x c.args.pulses is.tariff.compiled.writable is.tariff.compiled.sound in
+    let before : c.args.trip.now.meterage ≡ saved (record { cover = t.opening.cover; above = t.opening.above; modulus = c.modulus.result }) (charges_of s t) =
+    ap (λ (x : store.Trip). x.meterage) e ∙ ap (λ (n : ℕ). saved (record { cover = t.opening.cover; above = t.opening.above; modulus = n }) (charges_of s t)) (sym modulus) in
+    let after = c.add_charge.ensures.sum t.opening.cover t.opening.above (charges_of s t) before in
+    hired-saved s t c.args.pulses x c.args.trip.now c.add_charge.new.meterage e
+    (after
+    ∙ ap (λ (n : ℕ). saved (record { cover = t.opening.cover; above = t.opening.above; modulus = n }) (charges_of s t + c.charge.result)) modulus
+    ∙ ap (λ (n : ℕ). saved (opening_of s t) (charges_of s t + n)) charged)
+
+pub add_charge-requires-clause-steps : goal.add_charge-requires-clause-steps
+add_charge-requires-clause-steps c =
+    let p = c.args.tables.now in
+    let fit = c.are_fit.ensures in
+    let most : c.charge.result ≤ 40001000000 * p.measure = rw c.charge.ensures.charge (charge-most _ c.args.weights c.args.pulses p.measure c.requires.pulses c.requires.weights.pulse_units c.requires.weights.tick_units) in
+    let filled = steps-most c.args.trip.now.meterage.rest c.charge.result c.args.trip.now.meterage.cover_left p.step p.measure fit.step.0 fit.measure.0 c.requires.range.rest most in
+    rw c.modulus.ensures.value (omega (arith, filled, c.requires.range.steps, c.requires.range.ticks))
+
+pub returns-clause-range : goal.returns-clause-range
+returns-clause-range c =
+    let p = c.args.tables.now in
+    let fit = c.are_fit.ensures in
+    let range = c.requires.range in
+    let most : c.charge.result ≤ 40001000000 * p.measure = rw c.charge.ensures.charge (charge-most _ c.args.weights c.args.pulses p.measure c.requires.pulses c.requires.weights.pulse_units c.requires.weights.tick_units) in
+    let filled = steps-most c.args.trip.now.meterage.rest c.charge.result c.args.trip.now.meterage.cover_left p.step p.measure fit.step.0 fit.measure.0 range.rest most in
+    let steps = rw c.modulus.ensures.value at (ap (λ (m : Meterage). m.steps_full) c.add_charge.ensures.exact) in
+    record {
+      started = range.started;
+      roam = range.roam;
+      ticks = omega (arith, range.ticks);
+      initial = range.initial;
+      minimum = range.minimum;
+      cover = omega (arith, c.add_charge.ensures.cover, range.cover);
+      steps = omega (arith, filled, steps, range.steps);
+      rest = rw c.modulus.ensures.value at c.add_charge.ensures.rest;
+      extras = range.extras;
+      counts = range.counts;
+      extras_sum = range.extras_sum;
+    }

@@ -1,0 +1,78 @@
+-- Equal measuring intervals, one after the other, at which nothing is shown, refused or entered.
+use Rattle.std.specs.Prelude.{◌≡◌, ℕ, zero, suc, ◌+◌, ◌-◌, ◌*◌, ◌==◌, if◌then◌else◌, nat_lt, Option, Some, None, List, [], ◌∷◌, ◌++◌}
+use Rattle.drive_modes.specs.Fare.{shown_fare, steps_of}
+use Rattle.drive_modes.specs.declared.meterage.Meterage.{Meterage}
+use Rattle.drive_modes.specs.declared.meterage.Rounding.{Rounding}
+use Rattle.drive_modes.specs.declared.meterage.Rounding.TheVariants.{Behind, Ahead}
+use Rattle.tariff_compile.specs.Tables.{TableParts}
+use Rattle.taxi_units.specs.declared.event.Event.{Event}
+use Rattle.taxi_units.specs.declared.event.Event.TheVariants.{Pulses, Tick}
+use Rattle.taxi_units.specs.declared.receipt.Display.{Display}
+use Rattle.totaliser_store.specs.declared.trip.Trip.{Trip}
+use Rattle.meter_states.specs.Closing.{hirings_end}
+use Rattle.meter_states.specs.Core.{Plain}
+
+-- the events of one measuring interval: its pulses, if it has any, and its end
+abbrev pub interval_of : (pulses : ℕ) → List Event
+interval_of zero = Tick ∷ []
+interval_of (suc p) = Pulses (suc p) ∷ Tick ∷ []
+
+-- the events of so many intervals, each with so many pulses
+abbrev pub intervals_of : (pulses count : ℕ) → List Event
+intervals_of p zero = []
+intervals_of p (suc count) = interval_of p ++ intervals_of p count
+
+-- the fare and the supplements that a core shows, by the saved form of its trip
+abbrev pub fare_by : TableParts → Option Trip → ℕ
+fare_by tables None = 0
+fare_by tables (Some t) = shown_fare t.initial t.minimum tables.step (steps_of tables.rounding t.meterage)
+
+abbrev pub extras_by : Option Trip → ℕ
+extras_by None = 0
+extras_by (Some t) = t.extras_sum
+
+-- what a core shows
+abbrev pub display_by : TableParts → Plain → Display
+display_by tables c = record {
+  operating = c.operating;
+  position = c.position;
+  zone = c.zone;
+  fare = fare_by tables c.trip;
+  supplements = extras_by c.trip;
+  decimals = tables.decimals;
+}
+
+-- the interval began at the clock's second and has no pulses yet, no key waits, and what the core shows was shown last
+pub record IsStill (tables : TableParts) (c : Plain) : Type 0 where
+  pub latch : c.latch ≡ None
+  pub gate : c.gate ≡ 0
+  pub began : c.began ≡ c.clock
+  pub shown : c.shown ≡ Some (display_by tables c)
+
+-- what so many intervals of p pulses add to the roaming pulses, where the store has this number
+abbrev pub roams : (number p : ℕ) → ℕ
+roams number p = if nat_lt number hirings_end then p else 0
+
+-- a trip after so many further intervals of p pulses, of which each is free
+abbrev pub passed : (p count : ℕ) → Trip → Trip
+passed p count t = record t { pulses = t.pulses + count * p; ticks = t.ticks + count }
+
+-- a meterage after so many further charges that fill no display step
+abbrev pub unfilled : (charge count : ℕ) → Meterage → Meterage
+unfilled charge count m = record m {
+  cover_left = m.cover_left - count * charge;
+  rest = m.rest + (count * charge - m.cover_left);
+}
+
+-- a trip after so many further intervals of p pulses, whose charges fill no display step
+abbrev pub charged : (p charge count : ℕ) → Trip → Trip
+charged p charge count t = record t {
+  pulses = t.pulses + count * p;
+  ticks = t.ticks + count;
+  meterage = unfilled charge count t.meterage;
+}
+
+-- the charges that show no further display step
+abbrev pub spare_of : Rounding → (modulus : ℕ) → Meterage → ℕ
+spare_of Behind modulus m = m.cover_left + (modulus - 1 - m.rest)
+spare_of Ahead modulus m = if m.rest == 0 then m.cover_left else m.cover_left + (modulus - 1 - m.rest)

@@ -1,0 +1,82 @@
+//! The context of an interval, and what the interval weighs in it.
+ghost use Rattle.std.specs.Prelude.{◌≡◌, ◌≤◌, ◌+◌};
+ghost use Rattle.tariff_compile.specs.Tables.{AreFit, IsInRangeFor, rate_by};
+ghost use Rattle.taxi_units.specs.Time.{IsSecond};
+ghost use Rattle.meter_states.specs.Core.{plain_of};
+ghost use Rattle.meter_states.specs.Facts.{AreLocal, AreTrue};
+ghost use Rattle.meter_states.specs.Interval.{context_of, context_on};
+ghost use Rattle.meter_states.specs.Lawful.{IsPowered};
+ghost use Rattle.meter_states.specs.Meter.{Meter};
+ghost use Rattle.meter_states.specs.Setting.{Setting, IsSettingOf, local_at};
+
+use crate::facts::{Facts, LocalFacts, local_facts};
+use crate::meter_state::State;
+use drive_modes::Weights;
+use seal_store::Seal;
+use std::sync::ledger::Ledger;
+use tariff_compile::Tables;
+use tariff_syntax::Context;
+use taxi_units::Steps;
+
+impl State {
+    /// What the running interval weighs, by the facts that are kept where they serve. At most 36 steps.
+    pub(crate) fn weights<L: Ledger>(
+        &self,
+        facts: &mut Facts,
+        tables: &Tables,
+        seal: &Seal,
+        steps: &mut Steps<L>,
+    ) -> Weights
+        requires lawful { IsPowered tables.now 8640000 1001999 1 self.now }
+        requires facts { AreTrue tables.now seal.now facts.old }
+        ensures facts { AreTrue tables.now seal.now facts.new }
+        ensures rate { (s : Setting) (m : Meter) → IsSettingOf s tables.now seal.now → self.now ≡ plain_of s m
+            → result ≡ rate_by s.tariff tables.now.constant (context_of s m) }
+        ensures fit { AreFit tables.now.measure result }
+        ensures steps { steps.new ≤ steps.old + 36 }
+    {
+        let local = facts.local_at(self.began, tables, seal, steps);
+        let x = self.context_on(&local, tables, seal);
+        facts.rate_at(&x, tables, seal, steps)
+    }
+
+    /// The context at a second. At most 14 steps.
+    pub(crate) fn context_at<L: Ledger>(
+        &self,
+        second: u64,
+        tables: &Tables,
+        seal: &Seal,
+        steps: &mut Steps<L>,
+    ) -> Context
+        requires second { IsSecond second }
+        requires lawful { IsPowered tables.now 8640000 1001999 1 self.now }
+        ensures value { (s : Setting) (m : Meter) → IsSettingOf s tables.now seal.now → self.now ≡ plain_of s m
+            → result ≡ context_on s (local_at s second) m }
+        ensures range { IsInRangeFor tables.now result }
+        ensures steps { steps.new ≤ steps.old + 14 }
+    {
+        let local = local_facts(second, tables, seal, steps);
+        self.context_on(&local, tables, seal)
+    }
+
+    /// The context at a local time.
+    pub(crate) fn context_on(&self, local: &LocalFacts, tables: &Tables, seal: &Seal) -> Context
+        requires lawful { IsPowered tables.now 8640000 1001999 1 self.now }
+        requires local { AreLocal tables.now seal.now local.now }
+        ensures value { (s : Setting) (m : Meter) → IsSettingOf s tables.now seal.now → self.now ≡ plain_of s m
+            → result ≡ context_on s (local_at s local.now.second) m }
+        ensures range { IsInRangeFor tables.now result }
+    {
+        Context {
+            constant: tables.constant(),
+            position: self.position,
+            zone: self.zone,
+            weekday: local.weekday,
+            month_day: local.month_day,
+            holiday: local.holiday,
+            minute: local.minute,
+            pulses: self.pulses(tables),
+            ticks: self.ticks(tables),
+        }
+    }
+}

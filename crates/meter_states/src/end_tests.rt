@@ -1,0 +1,77 @@
+//! The last number at which the store takes a held trip.
+ghost use Rattle.std.specs.Prelude.{◌≡◌, ◌<◌};
+ghost use Rattle.std.specs.Option.{ForSome};
+ghost use Rattle.totaliser_store.specs.Ranges.{IsDurable};
+ghost use Rattle.meter_states.specs.Fits.{Fits};
+
+use crate::drives::{after_act, compiled, numbered, sealed};
+use crate::expected::{FIRST, PLAIN, entered, hired, printed};
+use crate::{Act, Core, fits};
+use drive_modes::{Meterage, Mode};
+use seal_store::Seal;
+use std::marker::Brand;
+use std::process::Abort;
+use std::sync::ledger::{Blank, Ledger};
+use tariff_compile::Tables;
+use taxi_units::{Event, Kind, Steps};
+use totaliser_store::{Durable, Trip};
+
+/// A durable state with a trip that is held within its first interval, with the last number at which the
+/// store takes one.
+fn last_held<L: Ledger>(rt: &impl Abort, tables: &Tables, steps: &mut Steps<L>) -> Durable
+    ensures range { IsDurable result }
+    ensures fits { ForSome result.hold (Fits tables.now) }
+{
+    let trip = Trip {
+        started: FIRST,
+        saved: FIRST,
+        stopped: false,
+        position: 1,
+        zone: 1,
+        roam: 0,
+        pulses: 1000,
+        ticks: 0,
+        initial: 380,
+        minimum: 0,
+        meterage: Meterage {
+            cover_left: 59_169_600_000,
+            steps_full: 0,
+            rest: 0,
+        },
+        extras: [0; 16],
+        extras_sum: 0,
+    };
+    if !fits(&trip, tables, steps) {
+        panic!(rt; "the trip doesn't fit");
+    }
+    after_act(tables, numbered(1_999_999_999_999_999), &Act::Hold(trip))
+}
+
+/// The store takes no held trip there, so a drop closes it.
+fn drop_at_the_end<L: Ledger>(blank: Blank, rt: &impl Abort, tables: &Tables, seal: &Seal)
+    requires name { blank.name ≡ L.name }
+    requires parts { blank.parts ≡ L.parts }
+    requires one { 0 < blank.parts }
+{
+    let mut steps: Steps<L> = Steps::open(blank);
+    let opening = last_held(rt, tables, &mut steps);
+    let (mut core, acts) = Core::resume(tables, seal, &opening, FIRST + 1, &mut steps);
+    assert_eq!(rt; acts.as_slice(), [hired(380)].as_slice());
+    let acts = core.step(tables, seal, Event::Down, &mut steps);
+    let want = [
+        entered(Kind::Aborted, 100_000, 380),
+        printed(2_000_000_000_000_001, Kind::Aborted, 3601, 100_000, 0, 380),
+    ];
+    assert_eq!(rt; acts.as_slice(), want.as_slice());
+}
+
+#[test]
+fn aborts_at_the_last_number(rt: HostRuntime) {
+    let (Some(tables), Some(seal)) = (
+        compiled(rt.alloc(), PLAIN, 10_000),
+        sealed(10_000, 3600, Mode::Single),
+    ) else {
+        panic!(rt; "no setting");
+    };
+    drop_at_the_end::<Brand>(Blank::new(1), &rt, &tables, &seal);
+}

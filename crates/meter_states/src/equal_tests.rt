@@ -1,0 +1,167 @@
+//! Rows of equal intervals, carried out at once on one core and one by one on another beside it.
+ghost use Rattle.std.specs.Prelude.{◌≡◌, ◌<◌, ◌≤◌, ◌+◌};
+ghost use Rattle.meter_states.specs.Lawful.{IsLawful, IsTimely};
+
+use crate::Core;
+use crate::drives::{acts_of, compiled, is_timely, numbered, sealed};
+use crate::equal_rows::{AHEAD, BEHIND, ROWS, is_same};
+use drive_modes::Mode;
+use seal_store::Seal;
+use std::alloc::Global;
+use std::marker::Brand;
+use std::process::Abort;
+use std::sync::ledger::{Blank, Ledger};
+use tariff_compile::Tables;
+use taxi_units::{Event, Steps};
+
+/// An event on both cores, which do the same; gives how much that is.
+fn take_both<L: Ledger>(
+    rt: &impl Abort,
+    tables: &Tables,
+    seal: &Seal,
+    fast: &mut Core,
+    slow: &mut Core,
+    event: Event,
+    steps: &mut Steps<L>,
+) -> usize
+    requires fast { IsLawful tables.now seal.now fast.old }
+    requires slow { IsLawful tables.now seal.now slow.old }
+    ensures fast { IsLawful tables.now seal.now fast.new }
+    ensures slow { IsLawful tables.now seal.now slow.new }
+    ensures few { result ≤ 4 }
+{
+    assert!(rt; is_timely(event));
+    let opening = numbered(1);
+    let (_, acts) = acts_of(tables, seal, fast, &opening, event, steps);
+    let (_, others) = acts_of(tables, seal, slow, &opening, event, steps);
+    assert_eq!(rt; acts.as_slice(), others.as_slice());
+    assert!(rt; is_same(&fast.state, &slow.state));
+    acts.len()
+}
+
+/// One interval on both cores.
+fn take_interval<L: Ledger>(
+    rt: &impl Abort,
+    tables: &Tables,
+    seal: &Seal,
+    fast: &mut Core,
+    slow: &mut Core,
+    pulses: u32,
+    steps: &mut Steps<L>,
+) -> usize
+    requires fast { IsLawful tables.now seal.now fast.old }
+    requires slow { IsLawful tables.now seal.now slow.old }
+    ensures fast { IsLawful tables.now seal.now fast.new }
+    ensures slow { IsLawful tables.now seal.now slow.new }
+    ensures few { result ≤ 8 }
+{
+    let mut done = 0;
+    if pulses > 0 {
+        done = take_both(rt, tables, seal, fast, slow, Event::Pulses(pulses), steps);
+    }
+    done + take_both(rt, tables, seal, fast, slow, Event::Tick, steps)
+}
+
+/// So many intervals, at which nothing is done, on the core that takes them one by one.
+fn take_quiet<L: Ledger>(
+    rt: &impl Abort,
+    tables: &Tables,
+    seal: &Seal,
+    slow: &mut Core,
+    pulses: u32,
+    count: u32,
+    steps: &mut Steps<L>,
+)
+    requires slow { IsLawful tables.now seal.now slow.old }
+    ensures slow { IsLawful tables.now seal.now slow.new }
+{
+    let opening = numbered(1);
+    for _ in 0..count {
+        if pulses > 0 {
+            let event = Event::Pulses(pulses);
+            let (_, acts) = acts_of(tables, seal, slow, &opening, event, steps);
+            assert!(rt; acts.is_empty());
+        }
+        let (_, acts) = acts_of(tables, seal, slow, &opening, Event::Tick, steps);
+        assert!(rt; acts.is_empty());
+    }
+}
+
+/// So many intervals on both cores: on the one as many as go at once and then one, again and again. That is
+/// at most once for each act, and six times more.
+fn take_row<L: Ledger>(
+    rt: &impl Abort,
+    tables: &Tables,
+    seal: &Seal,
+    fast: &mut Core,
+    slow: &mut Core,
+    row: (u32, u32),
+    steps: &mut Steps<L>,
+)
+    requires fast { IsLawful tables.now seal.now fast.old }
+    requires slow { IsLawful tables.now seal.now slow.old }
+    ensures fast { IsLawful tables.now seal.now fast.new }
+    ensures slow { IsLawful tables.now seal.now slow.new }
+{
+    let (pulses, count) = row;
+    let mut left = count;
+    let mut spare: usize = 6;
+    for _ in 0..count {
+        let n = fast.equal_intervals(tables, seal, pulses, left);
+        take_quiet(rt, tables, seal, slow, pulses, n, steps);
+        assert!(rt; is_same(&fast.state, &slow.state));
+        left -= n;
+        if left == 0 {
+            return;
+        }
+        let done = take_interval(rt, tables, seal, fast, slow, pulses, steps);
+        left -= 1;
+        assert!(rt; spare < 100_000 && spare + done > 0);
+        spare = spare + done - 1;
+    }
+    assert!(rt; left == 0);
+}
+
+/// All rows.
+fn take_rows<L: Ledger>(blank: Blank, rt: &impl Abort, tables: &Tables, seal: &Seal)
+    requires name { blank.name ≡ L.name }
+    requires parts { blank.parts ≡ L.parts }
+    requires one { 0 < blank.parts }
+{
+    let mut steps: Steps<L> = Steps::open(blank);
+    let mut fast = Core::off();
+    let mut slow = Core::off();
+    for (events, pulses, count) in &ROWS {
+        for event in *events {
+            take_both(rt, tables, seal, &mut fast, &mut slow, *event, &mut steps);
+        }
+        let row = (*pulses, *count);
+        take_row(rt, tables, seal, &mut fast, &mut slow, row, &mut steps);
+    }
+    take_both(
+        rt,
+        tables,
+        seal,
+        &mut fast,
+        &mut slow,
+        Event::Down,
+        &mut steps,
+    );
+}
+
+/// All rows under a tariff and in a mode.
+fn take_rows_under(alloc: Global, rt: &impl Abort, text: &str, mode: Mode) {
+    let (Some(tables), Some(seal)) = (compiled(alloc, text, 10_000), sealed(10_000, 3600, mode))
+    else {
+        panic!(rt; "no setting");
+    };
+    take_rows::<Brand>(Blank::new(1), rt, &tables, &seal);
+}
+
+#[test]
+fn carries_out_many_intervals_at_once(rt: HostRuntime) {
+    for text in [AHEAD, BEHIND] {
+        take_rows_under(rt.alloc(), &rt, text, Mode::Single);
+        take_rows_under(rt.alloc(), &rt, text, Mode::Double);
+    }
+}

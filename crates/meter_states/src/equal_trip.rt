@@ -1,0 +1,84 @@
+//! Trips after equal intervals, and how many there may be.
+ghost use Rattle.std.specs.Prelude.{◌≡◌, ◌≤◌, ◌<◌, ◌+◌, ◌*◌, ◌^◌};
+ghost use Rattle.meter_states.specs.Equals as model;
+ghost use Rattle.meter_states.specs.Lawful.{IsTrip};
+
+use crate::interval::HIRINGS_END;
+use crate::lookups::modulus;
+use drive_modes::Rounding;
+use tariff_compile::Tables;
+use totaliser_store::Trip;
+
+/// What an interval of so many pulses adds to the roaming pulses, where the store has a number.
+pub(crate) fn roams(number: u64, pulses: u32) -> u32
+    ensures value { result ≡ model.roams number pulses }
+    ensures most { result ≤ pulses }
+{
+    if number < HIRINGS_END { pulses } else { 0 }
+}
+
+/// As many of `count` as fit in a room, where each takes so much of it.
+pub(crate) fn most_times(count: u32, room: u128, each: u128) -> u32
+    ensures most { result ≤ count }
+    ensures room { result * each ≤ room }
+{
+    if each == 0 {
+        return count;
+    }
+    (room / each).min(count as u128) as u32
+}
+
+/// The charges that show no further display step of a trip.
+pub(crate) fn spare(trip: &Trip, tables: &Tables) -> u128
+    requires range { IsTrip tables.now 8639999 trip.now }
+    ensures value { result ≡ model.spare_of tables.now.rounding (tables.now.step * tables.now.measure)
+        trip.now.meterage }
+    ensures most { result ≤ 3 * 10 ^ 31 }
+{
+    tables.are_fit();
+    let meterage = trip.meterage;
+    let all = meterage.cover_left + (modulus(tables) - 1 - meterage.rest);
+    match tables.rounding() {
+        Rounding::Behind => all,
+        Rounding::Ahead => {
+            if meterage.rest == 0 {
+                meterage.cover_left
+            } else {
+                all
+            }
+        }
+    }
+}
+
+/// The trip has so many intervals more that ended in Stopped.
+pub(crate) fn add_passed(trip: &mut Trip, tables: &Tables, pulses: u32, count: u32)
+    requires pulses { pulses ≤ 2000 }
+    requires few { trip.old.pulses ≤ 5000000000000000000 }
+    requires range { IsTrip tables.now 8639999 trip.old }
+    requires short { trip.old.ticks + count ≤ 8639999 }
+    ensures value { trip.new ≡ model.passed pulses count trip.old }
+    ensures range { IsTrip tables.now 8639999 trip.new }
+{
+    trip.pulses += count as u64 * pulses as u64;
+    trip.ticks += count;
+}
+
+/// The trip has so many intervals more that ended in Hired, whose charges fill no display step.
+pub(crate) fn add_charged(trip: &mut Trip, tables: &Tables, pulses: u32, charge: u128, count: u32)
+    requires pulses { pulses ≤ 2000 }
+    requires few { trip.old.pulses ≤ 5000000000000000000 }
+    requires range { IsTrip tables.now 8639999 trip.old }
+    requires short { trip.old.ticks + count ≤ 8639999 }
+    requires spare { count * charge ≤ model.spare_of tables.now.rounding (tables.now.step * tables.now.measure)
+        trip.old.meterage }
+    requires most { count * charge ≤ 3 * 10 ^ 31 }
+    ensures value { trip.new ≡ model.charged pulses charge count trip.old }
+    ensures range { IsTrip tables.now 8639999 trip.new }
+{
+    tables.are_fit();
+    let all = count as u128 * charge;
+    trip.meterage.rest += all.saturating_sub(trip.meterage.cover_left);
+    trip.meterage.cover_left = trip.meterage.cover_left.saturating_sub(all);
+    trip.pulses += count as u64 * pulses as u64;
+    trip.ticks += count;
+}

@@ -1,0 +1,189 @@
+//! Equal measuring intervals that are carried out at once.
+ghost use Rattle.std.specs.Prelude.{◌≡◌, ◌≢◌, ◌≤◌, ◌+◌, ◌*◌, ℕ, [], IfSome, IsTrue, None};
+ghost use Rattle.tariff_compile.specs.Near.{IsNear};
+ghost use Rattle.tariff_compile.specs.Tables.{AreFit, IsInRangeFor, rate_by};
+ghost use Rattle.tariff_syntax.specs.declared.context.Context.{Context};
+ghost use Rattle.taxi_units.specs.declared.event.Operating.TheVariants.{ForHire, Hired, Stopped};
+ghost use Rattle.meter_states.specs.Core.{Follows, Meets, Stands, plain_of};
+ghost use Rattle.meter_states.specs.Equals.{IsStill, intervals_of};
+ghost use Rattle.meter_states.specs.Facts.{AreTrue};
+ghost use Rattle.meter_states.specs.Interval.{context_of};
+ghost use Rattle.meter_states.specs.Lawful.{IsLawful, IsPowered};
+ghost use Rattle.meter_states.specs.Meter.{Meter};
+ghost use Rattle.meter_states.specs.Run.{run};
+ghost use Rattle.meter_states.specs.Setting.{Setting, IsSettingOf};
+
+use crate::core_state::Core;
+use crate::equal_trip::{add_charged, add_passed, most_times, roams, spare};
+use crate::facts::Facts;
+use crate::meter_state::State;
+use crate::shown::is_shown;
+use drive_modes::charge;
+use seal_store::Seal;
+use tariff_compile::{Lasting, Tables};
+use taxi_units::{LONGEST_TRIP, Operating};
+
+impl Core {
+    /// Carries out as many of `count` equal intervals of `pulses` pulses as it can at once, and answers how
+    /// many. They show, refuse and enter nothing. It ends before an interval that fills a display step,
+    /// reaches a cut of the tariff, the longest trip or an entry of roaming. None are carried out where the
+    /// meter is off, the clock was read or pulses came since the last tick, a key waits, an interval has
+    /// more than 2,000 pulses, or, in Hired, where what an interval weighs isn't kept from a tick before. No
+    /// steps. That rows of intervals are carried out at once is this project's own.
+    pub fn equal_intervals(&mut self, tables: &Tables, seal: &Seal, pulses: u32, count: u32) -> u32
+        requires lawful { IsLawful tables.now seal.now self.old }
+        ensures lawful { IsLawful tables.now seal.now self.new }
+        ensures most { result ≤ count }
+        ensures same { (self.new.plain.operating ≡ self.old.plain.operating)
+            × (self.new.plain.number ≡ self.old.plain.number) }
+        ensures meets { (s : Setting) (m : Meter) → IsSettingOf s tables.now seal.now → Stands s self.old.plain m
+            → Meets s self.new.plain [] (run s (intervals_of pulses result) m) }
+    {
+        if count == 0 || self.state.is_off() {
+            return 0;
+        }
+        let facts = &self.facts;
+        self.state.take_equal(facts, tables, seal, pulses, count)
+    }
+}
+
+impl State {
+    /// The same, while the meter is powered.
+    fn take_equal(
+        &mut self,
+        facts: &Facts,
+        tables: &Tables,
+        seal: &Seal,
+        pulses: u32,
+        count: u32,
+    ) -> u32
+        requires lawful { IsPowered tables.now 8639999 999999 0 self.old }
+        requires facts { AreTrue tables.now seal.now facts.now }
+        ensures lawful { IsPowered tables.now 8639999 999999 0 self.new }
+        ensures most { result ≤ count }
+        ensures same { (self.new.operating ≡ self.old.operating) × (self.new.number ≡ self.old.number) }
+        ensures follows { (s : Setting) (m : Meter) → IsSettingOf s tables.now seal.now → self.old ≡ plain_of s m
+            → Follows s self.new [] [] (run s (intervals_of pulses result) m) }
+    {
+        if pulses > 2000 {
+            return 0;
+        }
+        if !self.is_still(tables, seal) {
+            return 0;
+        }
+        match self.operating {
+            Operating::Off => 0,
+            Operating::ForHire => self.roam_equal(tables, seal, pulses, count),
+            Operating::Hired => self.charge_equal(facts, tables, seal, pulses, count),
+            Operating::Stopped => self.pass_equal(tables, seal, pulses, count),
+        }
+    }
+
+    /// Whether the interval began at the clock's second and has no pulses yet, no key waits, and the
+    /// display is shown.
+    fn is_still(&self, tables: &Tables, seal: &Seal) -> bool
+        requires lawful { IsPowered tables.now 8639999 999999 0 self.now }
+        ensures { IsTrue result → IsStill tables.now self.now }
+    {
+        let display = self.display(tables, seal);
+        let mut gate = self.gate;
+        gate.take() == 0
+            && self.began == self.clock
+            && matches!(self.latch, None)
+            && is_shown(&self.shown, &display)
+    }
+
+    /// As many of so many equal intervals for hire as enter no roaming.
+    fn roam_equal(&mut self, tables: &Tables, seal: &Seal, pulses: u32, count: u32) -> u32
+        requires lawful { IsPowered tables.now 8639999 999999 0 self.old }
+        requires hire { self.old.operating ≡ ForHire }
+        requires still { IsStill tables.now self.old }
+        requires pulses { pulses ≤ 2000 }
+        ensures lawful { IsPowered tables.now 8639999 999999 0 self.new }
+        ensures most { result ≤ count }
+        ensures same { (self.new.operating ≡ self.old.operating) × (self.new.number ≡ self.old.number) }
+        ensures follows { (s : Setting) (m : Meter) → IsSettingOf s tables.now seal.now → self.old ≡ plain_of s m
+            → Follows s self.new [] [] (run s (intervals_of pulses result) m) }
+    {
+        tables.are_fit();
+        let each = roams(self.number, pulses);
+        let n = most_times(count, 999_999 - self.roam as u128, each as u128);
+        self.roam += n * each;
+        n
+    }
+
+    /// As many of so many equal intervals in Stopped as don't end the trip.
+    fn pass_equal(&mut self, tables: &Tables, seal: &Seal, pulses: u32, count: u32) -> u32
+        requires lawful { IsPowered tables.now 8639999 999999 0 self.old }
+        requires stopped { self.old.operating ≡ Stopped }
+        requires still { IsStill tables.now self.old }
+        requires pulses { pulses ≤ 2000 }
+        ensures lawful { IsPowered tables.now 8639999 999999 0 self.new }
+        ensures most { result ≤ count }
+        ensures same { (self.new.operating ≡ self.old.operating) × (self.new.number ≡ self.old.number) }
+        ensures follows { (s : Setting) (m : Meter) → IsSettingOf s tables.now seal.now → self.old ≡ plain_of s m
+            → Follows s self.new [] [] (run s (intervals_of pulses result) m) }
+    {
+        let Some(trip) = &mut self.trip else {
+            return 0;
+        };
+        tables.are_fit();
+        let n = count.min(LONGEST_TRIP - 1 - trip.ticks);
+        add_passed(trip, tables, pulses, n);
+        n
+    }
+
+    /// As many of so many equal intervals in Hired as go by the kept weights, fill no display step and don't
+    /// end the trip.
+    fn charge_equal(
+        &mut self,
+        facts: &Facts,
+        tables: &Tables,
+        seal: &Seal,
+        pulses: u32,
+        count: u32,
+    ) -> u32
+        requires lawful { IsPowered tables.now 8639999 999999 0 self.old }
+        requires facts { AreTrue tables.now seal.now facts.now }
+        requires hired { self.old.operating ≡ Hired }
+        requires still { IsStill tables.now self.old }
+        requires pulses { pulses ≤ 2000 }
+        ensures lawful { IsPowered tables.now 8639999 999999 0 self.new }
+        ensures most { result ≤ count }
+        ensures same { (self.new.operating ≡ self.old.operating) × (self.new.number ≡ self.old.number) }
+        ensures follows { (s : Setting) (m : Meter) → IsSettingOf s tables.now seal.now → self.old ≡ plain_of s m
+            → Follows s self.new [] [] (run s (intervals_of pulses result) m) }
+    {
+        let Some(lasting) = self.kept_rate(facts, tables, seal) else {
+            return 0;
+        };
+        let Some(trip) = &mut self.trip else {
+            return 0;
+        };
+        tables.are_fit();
+        let each = charge(seal.params.mode, lasting.weights, pulses);
+        let few = count.min(LONGEST_TRIP - 1 - trip.ticks);
+        let longest = most_times(few, lasting.longer as u128, 1);
+        let near = most_times(longest, lasting.further as u128, pulses as u128);
+        let n = most_times(near, spare(trip, tables), each);
+        add_charged(trip, tables, pulses, each, n);
+        n
+    }
+
+    /// What the running interval weighs, and for how many further pulses and ticks, where that is kept.
+    fn kept_rate(&self, facts: &Facts, tables: &Tables, seal: &Seal) -> Option<Lasting>
+        requires lawful { IsPowered tables.now 8639999 999999 0 self.now }
+        requires facts { AreTrue tables.now seal.now facts.now }
+        ensures fit { IfSome result (λ lasting. AreFit tables.now.measure lasting.weights) }
+        ensures range { IfSome result (λ lasting. (s : Setting) (m : Meter) → IsSettingOf s tables.now seal.now
+            → self.now ≡ plain_of s m → IsInRangeFor tables.now (context_of s m)) }
+        ensures near { IfSome result (λ lasting. (s : Setting) (m : Meter) (y : Context)
+            → IsSettingOf s tables.now seal.now → self.now ≡ plain_of s m → IsInRangeFor tables.now y
+            → IsNear lasting.further lasting.longer (context_of s m) y
+            → lasting.weights ≡ rate_by s.tariff tables.now.constant y) }
+    {
+        let local = facts.kept_local(self.began, tables, seal)?;
+        let x = self.context_on(&local, tables, seal);
+        facts.kept_rate(&x, tables, seal)
+    }
+}

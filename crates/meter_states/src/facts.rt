@@ -1,0 +1,196 @@
+//! The facts that a core keeps: the local time of a second, and what an interval weighs while no cut is
+//! passed.
+ghost use Rattle.std.specs.Prelude.{◌≡◌, ◌≤◌, ◌+◌, IfSome, IsTrue};
+ghost use Rattle.std.specs.Option.{ForSome};
+ghost use Rattle.tariff_compile.specs.Near.{IsNear};
+ghost use Rattle.tariff_compile.specs.Tables.{AreFit, IsInRangeFor, IsTablesOf, TableParts, rate_by};
+ghost use Rattle.tariff_syntax.specs.Tree.{Tree};
+ghost use Rattle.tariff_syntax.specs.declared.context.Context.{Context};
+ghost use Rattle.seal_store.specs.declared.seal.Seal.{Seal};
+ghost use Rattle.taxi_units.specs.Time.{IsSecond};
+ghost use Rattle.meter_states.specs.Facts.{AreLasting, AreLocal, AreTrue};
+
+use drive_modes::Weights;
+use interval_clock::civil;
+use seal_store::Seal;
+use std::sync::ledger::Ledger;
+use tariff_compile::{Lasting, Tables};
+use tariff_syntax::Context;
+use taxi_units::Steps;
+
+/// What a condition may ask of the local time at a second.
+#[derive(Clone, Copy, Debug, PartialEq, Eq)]
+pub(crate) struct LocalFacts {
+    pub(crate) second: u64,
+    pub(crate) weekday: u8,
+    pub(crate) month_day: u16,
+    pub(crate) minute: u16,
+    pub(crate) holiday: bool,
+}
+
+/// The weights of a context, and of those that follow it shortly.
+#[derive(Clone, Copy, Debug)]
+pub(crate) struct RateFacts {
+    pub(crate) first: Context,
+    pub(crate) lasting: Lasting,
+}
+
+/// What was looked up last: it is so whatever the meter does, and serves at the second and in the
+/// contexts that it names.
+#[derive(Debug, Drop)]
+pub(crate) struct Facts {
+    pub(crate) local: Option<LocalFacts>,
+    pub(crate) rate: Option<RateFacts>,
+}
+
+/// What the tables and the seal say of a second's local time. At most 14 steps.
+pub(crate) fn local_facts<L: Ledger>(
+    second: u64,
+    tables: &Tables,
+    seal: &Seal,
+    steps: &mut Steps<L>,
+) -> LocalFacts
+    requires { IsSecond second }
+    ensures second { result.second ≡ second }
+    ensures local { AreLocal tables.now seal.now result }
+    ensures steps { steps.new ≤ steps.old + 14 }
+{
+    let local = civil(&seal.params.offsets, second, steps);
+    LocalFacts {
+        second,
+        weekday: local.weekday,
+        month_day: local.month_day,
+        minute: local.minute,
+        holiday: tables.holiday(local.day, steps),
+    }
+}
+
+/// Whether a context follows the one of these facts so shortly that its weights are the same.
+fn is_near(rate: &RateFacts, x: &Context) -> bool
+    ensures { IsTrue result → IsNear rate.now.lasting.further rate.now.lasting.longer rate.now.first x.now }
+{
+    let first = &rate.first;
+    first.pulses <= x.pulses
+        && x.pulses - first.pulses <= rate.lasting.further
+        && first.ticks <= x.ticks
+        && (x.ticks - first.ticks) as u64 <= rate.lasting.longer
+        && first.minute == x.minute
+        && first.weekday == x.weekday
+        && first.month_day == x.month_day
+        && first.holiday == x.holiday
+        && first.position == x.position
+        && first.zone == x.zone
+}
+
+/// The same weights, seen from a context that they hold for.
+fn lasting_from(rate: &RateFacts, x: &Context) -> Lasting
+    requires { IsNear rate.now.lasting.further rate.now.lasting.longer rate.now.first x.now }
+    ensures weights { result.weights ≡ rate.now.lasting.weights }
+    ensures near { (y : Context) → IsNear result.further result.longer x.now y
+        → IsNear rate.now.lasting.further rate.now.lasting.longer rate.now.first y }
+{
+    Lasting {
+        weights: rate.lasting.weights,
+        further: rate.lasting.further - (x.pulses - rate.first.pulses),
+        longer: rate.lasting.longer - (x.ticks - rate.first.ticks) as u64,
+    }
+}
+
+impl Facts {
+    /// No facts.
+    pub(crate) fn none() -> Facts
+        ensures { (tables : TableParts) (seal : Seal) → AreTrue tables seal result }
+    {
+        Facts {
+            local: None,
+            rate: None,
+        }
+    }
+
+    /// The local time of a second, where it is kept.
+    pub(crate) fn kept_local(&self, second: u64, tables: &Tables, seal: &Seal) -> Option<LocalFacts>
+        requires facts { AreTrue tables.now seal.now self.now }
+        ensures second { IfSome result (λ local. local.second ≡ second) }
+        ensures local { IfSome result (λ local. AreLocal tables.now seal.now local) }
+    {
+        match &self.local {
+            None => None,
+            Some(local) => {
+                if local.second == second {
+                    Some(*local)
+                } else {
+                    None
+                }
+            }
+        }
+    }
+
+    /// The weights of a context, and for how many further pulses and ticks they are the same, where that is
+    /// kept.
+    pub(crate) fn kept_rate(&self, x: &Context, tables: &Tables, seal: &Seal) -> Option<Lasting>
+        requires facts { AreTrue tables.now seal.now self.now }
+        ensures fit { IfSome result (λ lasting. AreFit tables.now.measure lasting.weights) }
+        ensures near { IfSome result (λ lasting. (t : Tree) (y : Context) → IsTablesOf t tables.now
+            → IsInRangeFor tables.now y → IsNear lasting.further lasting.longer x.now y
+            → lasting.weights ≡ rate_by t tables.now.constant y) }
+    {
+        match &self.rate {
+            None => None,
+            Some(rate) => {
+                if is_near(rate, x) {
+                    Some(lasting_from(rate, x))
+                } else {
+                    None
+                }
+            }
+        }
+    }
+
+    /// The local time of a second: as it is kept, or looked up and kept from now on. At most 14 steps.
+    pub(crate) fn local_at<L: Ledger>(
+        &mut self,
+        second: u64,
+        tables: &Tables,
+        seal: &Seal,
+        steps: &mut Steps<L>,
+    ) -> LocalFacts
+        requires second { IsSecond second }
+        requires facts { AreTrue tables.now seal.now self.old }
+        ensures facts { AreTrue tables.now seal.now self.new }
+        ensures second { result.second ≡ second }
+        ensures local { AreLocal tables.now seal.now result }
+        ensures steps { steps.new ≤ steps.old + 14 }
+    {
+        if let Some(local) = self.kept_local(second, tables, seal) {
+            return local;
+        }
+        let local = local_facts(second, tables, seal, steps);
+        self.local = Some(local);
+        local
+    }
+
+    /// The weights of a context: as they are kept, or looked up and kept from now on. At most 22 steps.
+    pub(crate) fn rate_at<L: Ledger>(
+        &mut self,
+        x: &Context,
+        tables: &Tables,
+        seal: &Seal,
+        steps: &mut Steps<L>,
+    ) -> Weights
+        requires range { IsInRangeFor tables.now x.now }
+        requires facts { AreTrue tables.now seal.now self.old }
+        ensures facts { AreTrue tables.now seal.now self.new }
+        ensures tree { (t : Tree) → IsTablesOf t tables.now → result ≡ rate_by t tables.now.constant x.now }
+        ensures fit { AreFit tables.now.measure result }
+        ensures steps { steps.new ≤ steps.old + 22 }
+    {
+        if let Some(rate) = &self.rate {
+            if is_near(rate, x) {
+                return rate.lasting.weights;
+            }
+        }
+        let lasting = tables.rate_until(x, steps);
+        self.rate = Some(RateFacts { first: *x, lasting });
+        lasting.weights
+    }
+}

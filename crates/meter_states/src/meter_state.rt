@@ -1,0 +1,137 @@
+//! The state of the meter, as the core keeps it.
+ghost use Rattle.std.specs.Prelude.{◌≡◌, ◌≤◌, ℕ, None};
+ghost use Rattle.taxi_units.specs.declared.event.Operating.TheVariants.{Off};
+ghost use Rattle.meter_states.specs.Core.{plain_of};
+ghost use Rattle.meter_states.specs.Interval as interval;
+ghost use Rattle.meter_states.specs.Lawful.{IsPowered, is_busy};
+ghost use Rattle.meter_states.specs.Meter.{Meter};
+ghost use Rattle.meter_states.specs.Setting.{Setting};
+ghost use Rattle.meter_states.specs.Supply as supply;
+
+use pulse_input::Gate;
+use std::marker::Model;
+use tariff_compile::Tables;
+use taxi_units::{Display, FIRST_SECOND, Key, Operating};
+use totaliser_store::Trip;
+
+/// The meter's state: counts in place of pulses, and the saved form of the trip in place of its
+/// intervals, which it forgets, so it takes no memory. What of that form has a meaning in the store
+/// alone stays as it is at the hiring.
+#[derive(Debug, Drop)]
+pub(crate) struct State {
+    pub(crate) operating: Operating,
+    pub(crate) clock: u64,
+    pub(crate) began: u64,
+    pub(crate) gate: Gate,
+    pub(crate) latch: Option<Key>,
+    pub(crate) position: u8,
+    pub(crate) zone: u8,
+    pub(crate) roam: u32,
+    pub(crate) number: u64,
+    pub(crate) shown: Option<Display>,
+    pub(crate) trip: Option<Trip>,
+}
+
+impl Model for State {
+    ghost use Rattle.meter_states.specs.Core.{Plain};
+
+    ghost Value = { Plain };
+
+    ghost view = { λ c. record {
+      operating = c.operating;
+      clock = c.clock;
+      began = c.began;
+      gate = c.gate;
+      latch = c.latch;
+      position = c.position;
+      zone = c.zone;
+      roam = c.roam;
+      number = c.number;
+      shown = c.shown;
+      trip = c.trip;
+    } };
+}
+
+impl State {
+    /// A state that is off, as the meter begins.
+    pub(crate) fn off() -> State
+        ensures { result.operating ≡ Off }
+    {
+        State::idle(Operating::Off, 0, FIRST_SECOND)
+    }
+
+    /// A state without a trip, before anything was shown, where the store has a number.
+    pub(crate) fn idle(operating: Operating, number: u64, second: u64) -> State
+        ensures { result ≡ record {
+          operating = operating;
+          clock = second;
+          began = second;
+          gate = 0;
+          latch = None;
+          position = 1;
+          zone = 1;
+          roam = 0;
+          number = number;
+          shown = None;
+          trip = None;
+        } }
+    {
+        State {
+            operating,
+            clock: second,
+            began: second,
+            gate: Gate::new(),
+            latch: None,
+            position: 1,
+            zone: 1,
+            roam: 0,
+            number,
+            shown: None,
+            trip: None,
+        }
+    }
+
+    /// Whether a trip runs.
+    pub(crate) fn is_busy(&self) -> bool
+        ensures { result ≡ is_busy self.now.operating }
+    {
+        match self.operating {
+            Operating::Off | Operating::ForHire => false,
+            Operating::Hired | Operating::Stopped => true,
+        }
+    }
+
+    /// Whether the meter is in Stopped.
+    pub(crate) fn is_stopped(&self) -> bool
+        ensures { result ≡ supply.is_stopped self.now.operating }
+    {
+        match self.operating {
+            Operating::Off | Operating::ForHire | Operating::Hired => false,
+            Operating::Stopped => true,
+        }
+    }
+
+    /// The pulses of the trip so far.
+    pub(crate) fn pulses(&self, tables: &Tables) -> u64
+        requires lawful { IsPowered tables.now 8640000 1001999 1 self.now }
+        ensures state { (s : Setting) (m : Meter) → self.now ≡ plain_of s m → result ≡ interval.pulses_so_far m.trip }
+        ensures range { result ≤ 5000000000000000000 }
+    {
+        match &self.trip {
+            None => 0,
+            Some(trip) => trip.pulses,
+        }
+    }
+
+    /// The ticks of the trip so far.
+    pub(crate) fn ticks(&self, tables: &Tables) -> u32
+        requires lawful { IsPowered tables.now 8640000 1001999 1 self.now }
+        ensures state { (s : Setting) (m : Meter) → self.now ≡ plain_of s m → result ≡ interval.ticks_so_far m.trip }
+        ensures range { result ≤ 8640000 }
+    {
+        match &self.trip {
+            None => 0,
+            Some(trip) => trip.ticks,
+        }
+    }
+}
