@@ -19,6 +19,7 @@ use Rattle.totaliser_store.specs.States.{first_state}
 use Rattle.totaliser_store.specs.declared.durable.Durable.{Durable}
 use Rattle.meter_states.specs.Acts.{IsLawfulAct}
 use Rattle.meter_states.specs.Core.{IsSavedIn, Meets, Plain, Stands}
+use Rattle.meter_states.specs.Facts.{Whole}
 use Rattle.meter_states.specs.Fits.{Fits}
 use Rattle.meter_states.specs.Lawful.{IsLawful}
 use Rattle.meter_states.specs.Meter.{Meter, Outcome}
@@ -40,7 +41,7 @@ use Rattle.meter_run.proofs.SoundEvents.{event_leaves}
 -- ---- off
 
 -- a core that is off stands for states that are off
-pub off_of : (s : Setting) (core : Plain) (m : Meter) → Stands s core m → core.operating ≡ Off → m.operating ≡ Off
+pub off_of : (s : Setting) (core : Whole) (m : Meter) → Stands s core.plain m → core.plain.operating ≡ Off → m.operating ≡ Off
 off_of s core m (inl both) off = both.1
 off_of s core m (inr on) off = absurd (on.0 (sym (ap (λ (p : Plain). p.operating) on.1) ∙ off))
 
@@ -51,13 +52,13 @@ saved_off : (s : Setting) (m : Meter) → m.operating ≡ Off → IsKept s m →
 saved_off s m off kept = subst (λ (x : Operating). IsKeptIn s x m.durable.hold m.trip m.roaming) off kept
 
 -- the supply comes
-pub came : (s : Setting) (second : ℕ) (core core' : Plain) (d : Durable) (acts : List Act) → core.operating ≡ Off
-    → ((m : Meter) → m.durable ≡ d → IsSavedIn s d.hold m.trip → Meets s core' acts (supply_came s second m))
-    → (m : Meter) → StandsWith s core d m → Meets s core' acts (step s (Up second) m)
+pub came : (s : Setting) (second : ℕ) (core core' : Whole) (d : Durable) (acts : List Act) → core.plain.operating ≡ Off
+    → ((m : Meter) → m.durable ≡ d → IsSavedIn s d.hold m.trip → Meets s core'.plain acts (supply_came s second m))
+    → (m : Meter) → StandsWith s core.plain d m → Meets s core'.plain acts (step s (Up second) m)
 came s second core core' d acts off meets m st =
     let is = off_of s core m st.core off in
     let saved : IsSavedIn s d.hold m.trip = subst (λ (x : Durable). IsSavedIn s x.hold m.trip) (sym st.durable) (saved_off s m is st.kept) in
-    subst (λ (o : Outcome). Meets s core' acts o) (sym (up_is s second m is)) (meets m (sym st.durable) saved)
+    subst (λ (o : Outcome). Meets s core'.plain acts o) (sym (up_is s second m is)) (meets m (sym st.durable) saved)
 
 -- ---- the acts of other events
 
@@ -70,19 +71,19 @@ refused_off s (Clock second) m off other = rw off refl
 refused_off s (Key key) m off other = rw off refl
 
 -- an event that isn't the coming of the supply
-pub stepped : (tables : TableParts) (s : Setting) (event : Event) (core : Plain) (d : Durable) (acts : List Act) (m : Meter) → StandsWith s core d m
-    → ((second : ℕ) → core.operating ≡ Off → event ≢ Up second) → acts ≡ (step s event m).acts → All (IsLawfulAct tables core.number) acts → All (IsLawfulAct tables d.number) acts
+pub stepped : (tables : TableParts) (s : Setting) (event : Event) (core : Whole) (d : Durable) (acts : List Act) (m : Meter) → StandsWith s core.plain d m
+    → ((second : ℕ) → core.plain.operating ≡ Off → event ≢ Up second) → acts ≡ (step s event m).acts → All (IsLawfulAct tables core.plain.number) acts → All (IsLawfulAct tables d.number) acts
 stepped tables s event core d acts m st other is lawful = by st.core
   where
-    by : Stands s core m → All (IsLawfulAct tables d.number) acts
+    by : Stands s core.plain m → All (IsLawfulAct tables d.number) acts
     by (inl both) = subst (All (IsLawfulAct tables d.number)) (sym (is ∙ refused_off s event m both.1 (λ second. other second both.0)))
         (All-cons (IsLawfulAct tables d.number) (Refuse NotNow) [] tt (All-nil (IsLawfulAct tables d.number)))
     by (inr on) = subst (λ (n : ℕ). All (IsLawfulAct tables n) acts) (ap (λ (p : Plain). p.number) on.1 ∙ sym (ap (λ (x : Durable). x.number) st.durable)) lawful
 
 -- ---- after an event
 
-pub stands_after : (s : Setting) (event : Event) (core core' : Plain) (d d' : Durable) (acts : List Act) (m : Meter) → StandsWith s core d m → Meets s core' acts (step s event m) → d' ≡ after_acts d acts
-    → StandsWith s core' d' (step s event m).next
+pub stands_after : (s : Setting) (event : Event) (core core' : Whole) (d d' : Durable) (acts : List Act) (m : Meter) → StandsWith s core.plain d m → Meets s core'.plain acts (step s event m) → d' ≡ after_acts d acts
+    → StandsWith s core'.plain d' (step s event m).next
 stands_after s event core core' d d' acts m st meets is =
     let leaves = event_leaves s event m st.kept in
     record {
@@ -91,18 +92,21 @@ stands_after s event core core' d d' acts m st meets is =
       kept = leaves.kept;
     }
 
--- the acts may be carried out
-pub acts_for : (tables : TableParts) (seal : Seal) (event : Event) (core core' : Plain) (d : Durable) (acts : List Act) → IsReady tables seal core d
-    → ((s : Setting) (m : Meter) → IsSettingOf s tables seal → StandsWith s core d m → Meets s core' acts (step s event m)) → All (IsLawfulAct tables d.number) acts → AreFor d acts
-acts_for tables seal event core core' d acts ready meets lawful =
+-- they commit once at most
+pub few_commits : (tables : TableParts) (seal : Seal) (event : Event) (core core' : Whole) (d : Durable) (acts : List Act) → IsReady tables seal core d
+    → ((s : Setting) (m : Meter) → IsSettingOf s tables seal → StandsWith s core.plain d m → Meets s core'.plain acts (step s event m)) → commits_in acts ≤ 1
+few_commits tables seal event core core' d acts ready meets =
     let way = ready.way in
-    let done = (meets way.setting way.meter way.is way.stands).done in
-    let few : commits_in acts ≤ 1 = subst (λ (xs : List Act). commits_in xs ≤ 1) (sym done) (event_leaves way.setting event way.meter way.stands.kept).few in
-    are_for tables d acts ready.range few lawful
+    subst (λ (xs : List Act). commits_in xs ≤ 1) (sym (meets way.setting way.meter way.is way.stands).done) (event_leaves way.setting event way.meter way.stands.kept).few
 
-pub ready_after : (tables : TableParts) (seal : Seal) (event : Event) (core core' : Plain) (d d' : Durable) (acts : List Act) → IsReady tables seal core d
-    → ((s : Setting) (m : Meter) → IsSettingOf s tables seal → StandsWith s core d m → Meets s core' acts (step s event m)) → All (IsLawfulAct tables d.number) acts
-    → IsLawful tables core' → d' ≡ after_acts d acts → IsReady tables seal core' d'
+-- the acts may be carried out
+pub acts_for : (tables : TableParts) (seal : Seal) (event : Event) (core core' : Whole) (d : Durable) (acts : List Act) → IsReady tables seal core d
+    → ((s : Setting) (m : Meter) → IsSettingOf s tables seal → StandsWith s core.plain d m → Meets s core'.plain acts (step s event m)) → All (IsLawfulAct tables d.number) acts → AreFor d acts
+acts_for tables seal event core core' d acts ready meets lawful = are_for tables d acts ready.range (few_commits tables seal event core core' d acts ready meets) lawful
+
+pub ready_after : (tables : TableParts) (seal : Seal) (event : Event) (core core' : Whole) (d d' : Durable) (acts : List Act) → IsReady tables seal core d
+    → ((s : Setting) (m : Meter) → IsSettingOf s tables seal → StandsWith s core.plain d m → Meets s core'.plain acts (step s event m)) → All (IsLawfulAct tables d.number) acts
+    → IsLawful tables seal core' → d' ≡ after_acts d acts → IsReady tables seal core' d'
 ready_after tables seal event core core' d d' acts ready meets lawful on is =
     let way = ready.way in
     record {
@@ -118,15 +122,15 @@ ready_after tables seal event core core' d d' acts ready meets lawful on is =
     }
 
 -- a meter that begins, off, with nothing in its store
-pub begins : (s : Setting) (core : Plain) (d : Durable) → core.operating ≡ Off → d ≡ first_state → StandsWith s core d (opened s first_state)
+pub begins : (s : Setting) (core : Whole) (d : Durable) → core.plain.operating ≡ Off → d ≡ first_state → StandsWith s core.plain d (opened s first_state)
 begins s core d off is = record { core = inl (off, refl); durable = is; kept = refl }
 
-pub ready_first : (tables : TableParts) (seal : Seal) (core : Plain) (d : Durable) → IsCompiled tables → tables.constant ≡ seal.params.constant → core.operating ≡ Off → IsDurable d → d ≡ first_state
+pub ready_first : (tables : TableParts) (seal : Seal) (core : Whole) (d : Durable) → IsCompiled tables → tables.constant ≡ seal.params.constant → IsLawful tables seal core → core.plain.operating ≡ Off → IsDurable d → d ≡ first_state
     → IsReady tables seal core d
-ready_first tables seal core d compiled constant off range is =
+ready_first tables seal core d compiled constant lawful off range is =
     let s : Setting = record { tariff = compiled.0; constant = tables.constant; mode = seal.params.mode; hold = seal.params.hold; offsets = seal.params.offsets } in
     record {
-      lawful = inl off;
+      lawful = lawful;
       range = range;
       fits = λ trip holds. absurd (let bad = sym (ap (λ (x : Durable). x.hold) is) ∙ holds in cc);
       way = record {
@@ -148,10 +152,10 @@ ended_on_in s ForHire m on = sym (append-nil (supply_dropped s m).acts)
 ended_on_in s Hired m on = sym (append-nil (supply_dropped s m).acts)
 ended_on_in s Stopped m on = sym (append-nil (supply_dropped s m).acts)
 
-ended_on : (s : Setting) (m : Meter) → m.operating ≢ Off → (ended s m).acts ≡ (run s (Down ∷ []) m).acts
+pub ended_on : (s : Setting) (m : Meter) → m.operating ≢ Off → (ended s m).acts ≡ (run s (Down ∷ []) m).acts
 ended_on s m on = ended_on_in s m.operating m on
 
-on_of : (s : Setting) (core : Plain) (m : Meter) → Stands s core m → core.operating ≢ Off → m.operating ≢ Off
+pub on_of : (s : Setting) (core : Whole) (m : Meter) → Stands s core.plain m → core.plain.operating ≢ Off → m.operating ≢ Off
 on_of s core m (inl both) on = absurd (on both.0)
 on_of s core m (inr both) on = both.0
 
@@ -161,7 +165,7 @@ module _ {D L : Type 0} (B : Ghosts D L) (tables : TableParts) (seal : Seal) whe
   texts_one s event m acts is = ap shown_texts (is ∙ sym (append-nil (step s event m).acts))
 
   pub carries_event : (x : DryMeter) (b : D) (y : DryMeter) (c : D) (event : Event) (acts : List Act)
-      → ((s : Setting) (m : Meter) → IsSettingOf s tables seal → StandsWith s x.core x.durable m → Meets s y.core acts (step s event m))
+      → ((s : Setting) (m : Meter) → IsSettingOf s tables seal → StandsWith s x.core.plain x.durable m → Meets s y.core.plain acts (step s event m))
       → y.durable ≡ after_acts x.durable acts → (B.tells_text → B.printed c ≡ B.printed b ++ shown_texts acts) → KeepsStore B b c → Carries B tables seal x b (event ∷ []) y c
   carries_event x b y c event acts meets durable printed store = record {
     stands = λ s m is st. stands_after s event x.core y.core x.durable y.durable acts m st (meets s m is st) durable;
@@ -169,27 +173,27 @@ module _ {D L : Type 0} (B : Ghosts D L) (tables : TableParts) (seal : Seal) whe
     store = store;
   }
 
-  pub breaks_event : (x : DryMeter) (b c : D) (core : Plain) (event : Event) (acts : List Act)
-      → ((s : Setting) (m : Meter) → IsSettingOf s tables seal → StandsWith s x.core x.durable m → Meets s core acts (step s event m))
+  pub breaks_event : (x : DryMeter) (b c : D) (core : Whole) (event : Event) (acts : List Act)
+      → ((s : Setting) (m : Meter) → IsSettingOf s tables seal → StandsWith s x.core.plain x.durable m → Meets s core.plain acts (step s event m))
       → (B.tells_text → Begins (B.printed b) (B.printed c) (shown_texts acts)) → KeepsStore B b c → BreaksOff B tables seal x b (event ∷ []) c
   breaks_event x b c core event acts meets begun store = record {
     begun = λ told s m is st. subst (Begins (B.printed b) (B.printed c)) (texts_one s event m acts (meets s m is st).done) (begun told);
     store = store;
   }
 
-  pub ends_off : (x : DryMeter) (b : D) → x.core.operating ≡ Off → Prints B tables seal (λ s m. ended s m) x b b
+  pub ends_off : (x : DryMeter) (b : D) → x.core.plain.operating ≡ Off → Prints B tables seal (λ s m. ended s m) x b b
   ends_off x b off told s m is st = sym (append-nil (B.printed b)) ∙ ap (λ (acts : List Act). B.printed b ++ shown_texts acts) (sym (ended_off s m (off_of s x.core m st.core off)))
 
-  pub ends_on : (x : DryMeter) (b : D) (y : DryMeter) (c : D) → x.core.operating ≢ Off → Carries B tables seal x b (Down ∷ []) y c → Prints B tables seal (λ s m. ended s m) x b c
+  pub ends_on : (x : DryMeter) (b : D) (y : DryMeter) (c : D) → x.core.plain.operating ≢ Off → Carries B tables seal x b (Down ∷ []) y c → Prints B tables seal (λ s m. ended s m) x b c
   ends_on x b y c on h told s m is st = h.printed told s m is st ∙ ap (λ (acts : List Act). B.printed b ++ shown_texts acts) (sym (ended_on s m (on_of s x.core m st.core on)))
 
-  pub ends_broken : (x : DryMeter) (b c : D) → x.core.operating ≢ Off → BreaksOff B tables seal x b (Down ∷ []) c → PrintsSome B tables seal (λ s m. ended s m) x b c
+  pub ends_broken : (x : DryMeter) (b c : D) → x.core.plain.operating ≢ Off → BreaksOff B tables seal x b (Down ∷ []) c → PrintsSome B tables seal (λ s m. ended s m) x b c
   ends_broken x b c on h told s m is st = subst (λ (acts : List Act). Begins (B.printed b) (B.printed c) (shown_texts acts)) (sym (ended_on s m (on_of s x.core m st.core on))) (h.begun told s m is st)
 
-  pub off_some : (x : DryMeter) (b : D) → x.core.operating ≡ Off → PrintsSome B tables seal (λ s m. ended s m) x b b
+  pub off_some : (x : DryMeter) (b : D) → x.core.plain.operating ≡ Off → PrintsSome B tables seal (λ s m. ended s m) x b b
   off_some x b off told s m is st = begins_whole (B.printed b) (B.printed b) (shown_texts (ended s m).acts) (ends_off x b off told s m is st)
 
-  pub ends_some : {A E : Type 0} (r : Result A E) (x : DryMeter) (b : D) (y : DryMeter) (c : D) → x.core.operating ≢ Off → OnOk r (Carries B tables seal x b (Down ∷ []) y c) → OnErr r (BreaksOff B tables seal x b (Down ∷ []) c)
+  pub ends_some : {A E : Type 0} (r : Result A E) (x : DryMeter) (b : D) (y : DryMeter) (c : D) → x.core.plain.operating ≢ Off → OnOk r (Carries B tables seal x b (Down ∷ []) y c) → OnErr r (BreaksOff B tables seal x b (Down ∷ []) c)
       → PrintsSome B tables seal (λ s m. ended s m) x b c
   ends_some (Ok u) x b y c on h k told s m is st = begins_whole (B.printed b) (B.printed c) (shown_texts (ended s m).acts) (ends_on x b y c on h told s m is st)
   ends_some (Err e) x b y c on h k told s m is st = ends_broken x b c on k told s m is st
@@ -203,7 +207,7 @@ module _ {D L : Type 0} (B : Ghosts D L) (tables : TableParts) (seal : Seal) whe
   texts_whole : (s : Setting) (events : List Event) → shown_texts (actions_of s first_state events) ≡ shown_texts (run s events (opened s first_state)).acts ++ shown_texts (ended s (run s events (opened s first_state)).next).acts
   texts_whole s events = texts_append (run s events (opened s first_state)).acts (ended s (run s events (opened s first_state)).next).acts
 
-  module _ (x : DryMeter) (a : D) (off : x.core.operating ≡ Off) (first : x.durable ≡ first_state) (events : List Event) where
+  module _ (x : DryMeter) (a : D) (off : x.core.plain.operating ≡ Off) (first : x.durable ≡ first_state) (events : List Event) where
     pub whole_printed : (y : DryMeter) (b c : D) → Carries B tables seal x a events y b → Prints B tables seal (λ s m. ended s m) y b c
         → B.tells_text → (s : Setting) → IsSettingOf s tables seal → B.printed c ≡ B.printed a ++ shown_texts (actions_of s first_state events)
     whole_printed y b c carried drop told s is =

@@ -15,6 +15,10 @@ pub on_err : {A E : Type 0} (r : Result A E) (P : Type 0) → P → OnErr r P
 on_err (Ok x) P h = tt
 on_err (Err e) P h = h
 
+pub on_ok : {A E : Type 0} (r : Result A E) (P : Type 0) → P → OnOk r P
+on_ok (Ok x) P h = h
+on_ok (Err e) P h = tt
+
 -- what holds of a call that went well, under a premise, and together
 pub on_ok_under : {T E : Type 0} (told A : Type 0) (r : Result T E) → (told → OnOk r A) → OnOk r (told → A)
 on_ok_under told A (Ok x) h = h
@@ -31,6 +35,15 @@ pub intervals_more : (p n : ℕ) → intervals_events p (n + 1) ≡ intervals_ev
 intervals_more p zero = append-nil (interval_events p)
 intervals_more p (suc n) =
     rw add-one (ap (λ (es : List Event). interval_events p ++ es) (rw add-one at (intervals_more p n)) ∙ sym (append_assoc (interval_events p) (intervals_events p n) (interval_events p)))
+
+-- so many and then so many more
+pub intervals_joined : (p a b : ℕ) → intervals_events p (a + b) ≡ intervals_events p a ++ intervals_events p b
+intervals_joined p zero b = ap (intervals_events p) (omega arith)
+intervals_joined p (suc a) b =
+    let next : suc a + b ≡ suc (a + b) = omega arith in
+    ap (intervals_events p) next
+    ∙ ap (λ (es : List Event). interval_events p ++ es) (intervals_joined p a b)
+    ∙ sym (append_assoc (interval_events p) (intervals_events p a) (intervals_events p b))
 
 -- the events of the first intervals, and of those that are left
 pub intervals_split : (p i n : ℕ) → i ≤ n → (later : List Event) × (intervals_events p n ≡ intervals_events p i ++ later)
@@ -61,6 +74,11 @@ bounded_at_interval p i n x y z h first next =
     let split = intervals_split p (i + 1) n (omega arith) in
     omega (arith, first, next, ap length split.1, length-append (intervals_events p (i + 1)) split.0, ap length (intervals_more p i), length-append (intervals_events p i) (interval_events p))
 
+-- and further intervals take none
+pub bounded_further : (p i n x y : ℕ) → IsBounded x y (intervals_events p i) → IsBounded x y (intervals_events p (i + n))
+bounded_further p i n x y first =
+    omega (arith, first, ap length (intervals_joined p i n), length-append (intervals_events p i) (intervals_events p n))
+
 pub bounded_at_run : (runs : List Run) (i : ℕ) (d : Run) (x y z : ℕ) → i < length runs → IsBounded x y (flat_map run_events (take i runs)) → IsBounded y z (run_events (get_or runs i d)) → IsBounded x z (flat_map run_events runs)
 bounded_at_run runs i d x y z h first next =
     omega (arith, first, next, ap length (runs_split runs (i + 1)), length-append (flat_map run_events (take (i + 1) runs)) (flat_map run_events (drop (i + 1) runs)), ap length (runs_at runs i d h), length-append (flat_map run_events (take i runs)) (run_events (get_or runs i d)))
@@ -84,6 +102,10 @@ module _ {M D : Type 0} (carried : M → D → List Event → M → D → Type 0
 
   pub pulses_broken : (p : ℕ) (x : M) (a c : D) → p ≢ 0 → broke_off x a (Pulses p ∷ []) c → broke_off x a (interval_events p) c
   pulses_broken p x a c some h = subst (λ (es : List Event). broke_off x a es c) (sym (interval_some p some)) (sooner (Pulses p ∷ []) (Tick ∷ []) x a c h)
+
+  -- intervals behind intervals
+  pub intervals_further : (p i n : ℕ) (x : M) (a : D) (y : M) (b : D) (z : M) (c : D) → carried x a (intervals_events p i) y b → carried y b (intervals_events p n) z c → carried x a (intervals_events p (i + n)) z c
+  intervals_further p i n x a y b z c first next = subst (λ (es : List Event). carried x a es z c) (sym (intervals_joined p i n)) (behind (intervals_events p i) (intervals_events p n) x a y b z c first next)
 
   -- one interval more
   pub intervals_carried : (p i : ℕ) (x : M) (a : D) (y : M) (b : D) (z : M) (c : D) → carried x a (intervals_events p i) y b → carried y b (interval_events p) z c → carried x a (intervals_events p (i + 1)) z c

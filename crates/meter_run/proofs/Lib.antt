@@ -1,10 +1,20 @@
 mod Committing
+mod Cuts
+mod Doing
 mod Driving
 mod Dropping
 mod Ended
+mod Equal
+mod Finding
 mod Going
+mod Happening
+mod LastLines
+pub mod Laws
+mod Leaves
+mod Leavings
 mod Lines
 mod Performing
 mod Sound
 mod SoundEvents
 mod Sourcing
+mod Whole

@@ -1,10 +1,16 @@
 -- Lines that are printed aren't empty.
-use Rattle.std.proofs.Common.{◌≢◌, ◌<◌, ◌++◌, length, arith, refl, length-append}
+use Rattle.std.proofs.Common.{◌≢◌, ◌<◌, ◌≤◌, ◌++◌, length, arith, refl, length-append}
 use Rattle.std.specs.Prelude.{codes}
+use Rattle.std.specs.Fmt.{decimal}
 use Rattle.taxi_units.specs.declared.event.Operating.{Operating}
 use Rattle.taxi_units.specs.declared.event.Operating.TheVariants.{Off, ForHire, Hired, Stopped}
 use Rattle.taxi_units.specs.declared.event.Why.{Why}
 use Rattle.taxi_units.specs.declared.receipt.Display.{Display}
+use Rattle.taxi_units.specs.declared.receipt.Receipt.{Receipt}
+use Rattle.receipt_text.specs.Part.{Part}
+use Rattle.receipt_text.specs.Receipts.{body_text, heading_text, kind_text, part_text, receipt_text}
+use Rattle.receipt_text.specs.Spelling.{IsSpelled}
+use Rattle.receipt_text.proofs.Laws.{receipts_are_their_texts, short_texts}
 use Rattle.receipt_text.specs.Texts.{display_line, display_text, refusal_text, place_text, amounts_text, why_text}
 
 line_some : (operating : Operating) (d : Display) → operating ≢ Off → 0 < length (display_line operating d)
@@ -18,3 +24,16 @@ display_some d on = line_some d.operating d on
 
 pub refusal_some : (why : Why) → 0 < length (refusal_text why)
 refusal_some why = omega (arith, length-append (codes "REFUSED ") (why_text why ++ codes "\n"))
+
+-- a receipt begins with its heading
+heading_some : (r : Receipt) → 0 < length (heading_text r.number r.kind)
+unfolding heading_text
+heading_some r = omega (arith, length-append (codes "RECEIPT ") (decimal r.number ++ (codes "\nKIND " ++ (kind_text r.kind ++ codes "\n"))))
+
+pub receipt_some : (r : Receipt) (part : Part) → 0 < length (receipt_text r part)
+unfolding receipt_text
+receipt_some r part = omega (arith, heading_some r, length-append (heading_text r.number r.kind) (part_text part ++ body_text r))
+
+-- an empty line takes it
+pub receipt_few : (r : Receipt) (part : Part) → IsSpelled (receipt_text r part) r part → length (receipt_text r part) ≤ 512
+receipt_few r part spelled = omega (arith, short_texts (receipt_text r part) r part ((receipts_are_their_texts (receipt_text r part) r part).1 spelled))

@@ -9,7 +9,7 @@ use Rattle.tariff_compile.specs.Tables.{TableParts}
 use Rattle.seal_store.specs.declared.seal.Seal.{Seal}
 use Rattle.totaliser_store.specs.Ranges.{IsDurable}
 use Rattle.totaliser_store.specs.declared.durable.Durable.{Durable}
-use Rattle.meter_states.specs.Core.{Plain}
+use Rattle.meter_states.specs.Facts.{Whole}
 use Rattle.meter_states.specs.Fits.{Fits}
 use Rattle.meter_states.specs.Lawful.{IsLawful}
 use Rattle.meter_states.specs.Meter.{Meter, Outcome}
@@ -20,15 +20,15 @@ use Rattle.meter_run.specs.Texts.{shown_texts}
 use Rattle.meter_run.specs.declared.dry.DryMeter.{DryMeter}
 
 -- a core and a durable state stand for some state of the meter, under some setting of the tables and the seal
-pub record IsUnderWay (tables : TableParts) (seal : Seal) (core : Plain) (durable : Durable) : Type 0 where
+pub record IsUnderWay (tables : TableParts) (seal : Seal) (core : Whole) (durable : Durable) : Type 0 where
   pub setting : Setting
   pub meter : Meter
   pub is : IsSettingOf setting tables seal
-  pub stands : StandsWith setting core durable meter
+  pub stands : StandsWith setting core.plain durable meter
 
 -- the next event may come: the core is lawful, the durable state is in its ranges, and a held trip fits
-pub record IsReady (tables : TableParts) (seal : Seal) (core : Plain) (durable : Durable) : Type 0 where
-  pub lawful : IsLawful tables core
+pub record IsReady (tables : TableParts) (seal : Seal) (core : Whole) (durable : Durable) : Type 0 where
+  pub lawful : IsLawful tables seal core
   pub range : IsDurable durable
   pub fits : ForSome durable.hold (Fits tables)
   pub way : IsUnderWay tables seal core durable
@@ -37,19 +37,19 @@ module _ {D L : Type 0} (B : Ghosts D L) (tables : TableParts) (seal : Seal) whe
   -- the displays and refusals of an outcome were printed
   abbrev pub Prints : (outcome : Setting → Meter → Outcome) → DryMeter → (board board' : D) → Type 0
   Prints outcome old board board' = B.tells_text → (s : Setting) (m : Meter) → IsSettingOf s tables seal
-      → StandsWith s old.core old.durable m → B.printed board' ≡ B.printed board ++ shown_texts (outcome s m).acts
+      → StandsWith s old.core.plain old.durable m → B.printed board' ≡ B.printed board ++ shown_texts (outcome s m).acts
 
   -- a beginning of them was printed
   abbrev pub PrintsSome : (outcome : Setting → Meter → Outcome) → DryMeter → (board board' : D) → Type 0
   PrintsSome outcome old board board' = B.tells_text → (s : Setting) (m : Meter) → IsSettingOf s tables seal
-      → StandsWith s old.core old.durable m → Begins (B.printed board) (B.printed board')
+      → StandsWith s old.core.plain old.durable m → Begins (B.printed board) (B.printed board')
       (shown_texts (outcome s m).acts)
 
   -- events were carried out: the new meter stands for the state after them, and their displays and refusals were
   -- printed
   pub record Carries (old : DryMeter) (board : D) (events : List Event) (new : DryMeter) (board' : D) : Type 0 where
-    pub stands : (s : Setting) (m : Meter) → IsSettingOf s tables seal → StandsWith s old.core old.durable m
-        → StandsWith s new.core new.durable (run s events m).next
+    pub stands : (s : Setting) (m : Meter) → IsSettingOf s tables seal → StandsWith s old.core.plain old.durable m
+        → StandsWith s new.core.plain new.durable (run s events m).next
     pub printed : Prints (λ s m. run s events m) old board board'
     pub store : KeepsStore B board board'
 

@@ -27,7 +27,7 @@ module _ {D L : Type 0} (B : Ghosts D L) (tables : TableParts) (seal : Seal) whe
   pub carries_then : (es fs : List Event) (x : DryMeter) (a : D) (y : DryMeter) (b : D) (z : DryMeter) (c : D)
       → Carries B tables seal x a es y b → Carries B tables seal y b fs z c → Carries B tables seal x a (es ++ fs) z c
   carries_then es fs x a y b z c first next = record {
-    stands = λ s m is h. subst (λ (n : Meter). StandsWith s z.core z.durable n) (sym (run_next s m es fs))
+    stands = λ s m is h. subst (λ (n : Meter). StandsWith s z.core.plain z.durable n) (sym (run_next s m es fs))
         (next.stands s (run s es m).next is (first.stands s m is h));
     printed = λ told s m is h.
         next.printed told s (run s es m).next is (first.stands s m is h)

@@ -1,8 +1,14 @@
 pub mod Commits
+pub mod Deeds
 pub mod Dry
 pub mod DryLaws
 pub mod Drives
 pub mod Kept
+pub mod OnStore
+pub mod PointLaws
+pub mod Points
 pub mod RunLaws
+pub mod Runs
 pub mod Source
+pub mod StoreLaws
 pub mod Texts

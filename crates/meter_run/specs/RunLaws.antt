@@ -4,8 +4,17 @@ use Rattle.taxi_units.specs.declared.event.Event.{Event}
 use Rattle.meter_states.specs.Meter.{Meter, Outcome}
 use Rattle.meter_states.specs.Run.{run}
 use Rattle.meter_states.specs.Setting.{Setting}
-use Rattle.meter_states.proofs.Laws.{runs_add_up}
+use Rattle.meter_states.proofs.Laws.{runs_add_up, the_store_has_what_the_acts_commit-event}
+use Rattle.meter_states.specs.Pairs.{commits_of}
+use Rattle.meter_states.specs.Step.{step}
 use Rattle.meter_states.specs.declared.act.Act.{Act}
+use Rattle.meter_states.specs.declared.act.Act.TheVariants.{Show, Refuse, Enter, Hold, Receipt}
+use Rattle.totaliser_store.specs.States.{after, after_all}
+use Rattle.totaliser_store.specs.declared.change.Change.TheVariants as changes
+use Rattle.totaliser_store.specs.declared.durable.Durable.{Durable}
+use Rattle.meter_run.specs.Commits.{after_act, after_acts}
+use Rattle.meter_run.specs.Deeds.{after_deeds, deeds_of}
+use Rattle.meter_run.specs.PointLaws.{after_joined, deeds_joined}
 use Rattle.meter_run.specs.Texts.{shown_text, shown_texts}
 
 pub run_next : (s : Setting) (m : Meter) (xs ys : List Event)
@@ -27,3 +36,34 @@ pub run_texts : (s : Setting) (m : Meter) (xs ys : List Event)
     ≡ shown_texts (run s xs m).acts ++ shown_texts (run s ys (run s xs m).next).acts
 run_texts s m xs ys =
     ap shown_texts (run_acts s m xs ys) ∙ texts_append (run s xs m).acts (run s ys (run s xs m).next).acts
+
+-- the state after acts is that after what they commit
+pub after_is : (d : Durable) (acts : List Act) → after_acts d acts ≡ after_all d (commits_of acts)
+after_is d [] = refl
+after_is d (Show display ∷ acts) = after_is d acts
+after_is d (Refuse why ∷ acts) = after_is d acts
+after_is d (Enter entry ∷ acts) = after_is (after d (changes.Enter entry)) acts
+after_is d (Hold trip ∷ acts) = after_is (after d (changes.Hold trip)) acts
+after_is d (Receipt receipt ∷ acts) = after_is d acts
+
+-- and as deeds they leave the same
+pub after_deeds_of : (d : Durable) (acts : List Act) → after_deeds d (deeds_of acts) ≡ after_acts d acts
+after_deeds_of d [] = refl
+after_deeds_of d (act ∷ acts) = after_deeds_of (after_act d act) acts
+
+pub step_durable : (s : Setting) (event : Event) (m : Meter)
+    → (step s event m).next.durable ≡ after_deeds m.durable (deeds_of (step s event m).acts)
+step_durable s event m =
+    the_store_has_what_the_acts_commit-event s event m ∙ sym (after_is m.durable (step s event m).acts)
+    ∙ sym (after_deeds_of m.durable (step s event m).acts)
+
+-- the store has what the deeds of a run commit
+pub run_durable : (s : Setting) (events : List Event) (m : Meter)
+    → (run s events m).next.durable ≡ after_deeds m.durable (deeds_of (run s events m).acts)
+run_durable s [] m = refl
+run_durable s (event ∷ events) m =
+    let n = (step s event m).next in
+    run_durable s events n
+    ∙ ap (λ (d : Durable). after_deeds d (deeds_of (run s events n).acts)) (step_durable s event m)
+    ∙ sym (after_joined m.durable (deeds_of (step s event m).acts) (deeds_of (run s events n).acts))
+    ∙ ap (after_deeds m.durable) (sym (deeds_joined (step s event m).acts (run s events n).acts))

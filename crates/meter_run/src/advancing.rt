@@ -1,5 +1,5 @@
 //! One event on the core, beside the durable state that the store has.
-ghost use Rattle.std.specs.Prelude.{◌≡◌, ◌≤◌, ◌+◌, ◌↔◌, All, IsTrue};
+ghost use Rattle.std.specs.Prelude.{◌≡◌, [], ◌≤◌, ◌+◌, ◌↔◌, All, IsTrue};
 ghost use Rattle.std.specs.Option.{ForSome};
 ghost use Rattle.meter_states.specs.Acts.{IsLawfulAct};
 ghost use Rattle.meter_states.specs.Core.{Meets};
@@ -24,31 +24,34 @@ use totaliser_store::Durable;
 
 /// Whether the meter is off.
 pub(crate) fn is_off(core: &Core) -> bool
-    ensures { IsTrue result ↔ (core.now.operating ≡ Off) }
+    ensures { IsTrue result ↔ (core.now.plain.operating ≡ Off) }
 {
     matches!(core.operating(), Operating::Off)
 }
 
-/// What an event does. An `Up` while the meter is off goes on from the durable state. At most 48 steps.
+/// What an event does, with its acts in a list that is handed in empty. An `Up` while the meter is off goes
+/// on from the durable state. At most 48 steps.
 pub(crate) fn advance<L: Ledger>(
     core: &mut Core,
     tables: &Tables,
     seal: &Seal,
     durable: &Durable,
     event: Event,
+    acts: &mut Acts,
     steps: &mut Steps<L>,
-) -> Acts
+)
     requires ready { IsReady tables.now seal.now core.old durable.now }
     requires timely { IsTimely event }
-    ensures lawful { IsLawful tables.now core.new }
-    ensures ranges { All (IsLawfulAct tables.now durable.now.number) result.items }
+    requires empty { acts.old.items ≡ [] }
+    ensures lawful { IsLawful tables.now seal.now core.new }
+    ensures ranges { All (IsLawfulAct tables.now durable.now.number) acts.new.items }
     ensures meets { (s : Setting) (m : Meter) → IsSettingOf s tables.now seal.now
-        → StandsWith s core.old durable.now m → Meets s core.new result.items (step s event m) }
+        → StandsWith s core.old.plain durable.now m → Meets s core.new.plain acts.new.items (step s event m) }
     ensures steps { steps.new ≤ steps.old + 48 }
 {
     match event {
-        Event::Up(second) => supply(core, tables, seal, durable, second, steps),
-        event => core.step(tables, seal, event, steps),
+        Event::Up(second) => supply(core, tables, seal, durable, second, acts, steps),
+        event => core.step_into(tables, seal, event, acts, steps),
     }
 }
 
@@ -59,20 +62,23 @@ fn supply<L: Ledger>(
     seal: &Seal,
     durable: &Durable,
     second: u64,
+    acts: &mut Acts,
     steps: &mut Steps<L>,
-) -> Acts
+)
     requires ready { IsReady tables.now seal.now core.old durable.now }
     requires timely { IsSecond second }
-    ensures lawful { IsLawful tables.now core.new }
-    ensures ranges { All (IsLawfulAct tables.now durable.now.number) result.items }
+    requires empty { acts.old.items ≡ [] }
+    ensures lawful { IsLawful tables.now seal.now core.new }
+    ensures ranges { All (IsLawfulAct tables.now durable.now.number) acts.new.items }
     ensures meets { (s : Setting) (m : Meter) → IsSettingOf s tables.now seal.now
-        → StandsWith s core.old durable.now m → Meets s core.new result.items (step s (Up second) m) }
+        → StandsWith s core.old.plain durable.now m → Meets s core.new.plain acts.new.items (step s (Up second) m) }
     ensures steps { steps.new ≤ steps.old + 48 }
 {
     if !is_off(core) {
-        return core.step(tables, seal, Event::Up(second), steps);
+        core.step_into(tables, seal, Event::Up(second), acts, steps);
+        return;
     }
-    let (powered, acts) = Core::resume(tables, seal, durable, second, steps);
+    let (powered, done) = Core::resume(tables, seal, durable, second, steps);
     *core = powered;
-    acts
+    *acts = done;
 }

@@ -1,8 +1,10 @@
 //! What carries out events on a board.
 ghost use Rattle.std.specs.Prelude.{◌≡◌, ◌+◌, ◌≤◌, ◌++◌, List, [], ◌∷◌, OnOk, OnErr};
 ghost use Rattle.outside.specs.Faults.{HasCause};
+ghost use Rattle.drive_text.specs.Runs.{intervals_events};
 ghost use Rattle.meter_states.specs.Lawful.{IsTimely};
 
+use meter_states::Acts;
 use outside::{Board, Failed};
 use seal_store::Seal;
 use std::sync::ledger::Ledger;
@@ -25,12 +27,13 @@ pub(crate) trait Carrier<B: Board<L>, L: Ledger> {
     /// The board failed amid these events.
     ghost broke_off: { TableParts → Seal → Self → B → List Event → B → Type 0 };
 
-    /// Carries out an event. At most 64 steps.
+    /// Carries out an event; its acts come into a list that is handed in, whatever that has. At most 64 steps.
     fn carry_out(
         &mut self,
         tables: &Tables,
         seal: &Seal,
         event: Event,
+        acts: &mut Acts,
         board: &mut B,
         steps: &mut Steps<L>,
     ) -> Result<(), Failed>
@@ -42,6 +45,22 @@ pub(crate) trait Carrier<B: Board<L>, L: Ledger> {
         ensures broke_off { OnErr result (broke_off tables.now seal.now self.old board.old (event ∷ []) board.new) }
         ensures cause { HasCause (B.faults board.old) (B.faults board.new) result }
         ensures steps { steps.new ≤ steps.old + 64 };
+
+    /// Carries out as many of so many equal intervals as the core can at once, and answers how many. The
+    /// board isn't touched, and no step is taken.
+    fn carry_equal(
+        &mut self,
+        tables: &Tables,
+        seal: &Seal,
+        pulses: u32,
+        count: u32,
+        board: &B,
+    ) -> u32
+        requires ready { ready tables.now seal.now self.old board.now }
+        ensures ready { ready tables.now seal.now self.new board.now }
+        ensures most { result ≤ count }
+        ensures carried { carried tables.now seal.now self.old board.now (intervals_events pulses result)
+            self.new board.now };
 
     /// No events leave all as it is.
     ghost nothing: { (t : TableParts) (k : Seal) (x : Self) (a : B) → ready t k x a → carried t k x a [] x a };

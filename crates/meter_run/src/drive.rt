@@ -8,6 +8,7 @@ use crate::runs::carry_runs;
 use crate::source::{Source, Stop};
 use arrayvec::ArrayVec;
 use drive_text::Run;
+use meter_states::Acts;
 use outside::{Board, Failed, Files};
 use seal_store::Seal;
 use std::sync::ledger::Ledger;
@@ -38,9 +39,18 @@ pub(crate) fn carry_drive<C: Carrier<B, L>, F: Files, B: Board<L>, L: Ledger>(
 {
     let mut source = Source::new();
     let mut runs: ArrayVec<Run, 64> = ArrayVec::new();
+    let mut acts = Acts::new();
     loop {
         let stop = source.next(files, word, &mut runs);
-        carry_runs(meter, tables, seal, runs.as_slice(), board, steps)?;
+        carry_runs(
+            meter,
+            tables,
+            seal,
+            runs.as_slice(),
+            &mut acts,
+            board,
+            steps,
+        )?;
         if let Some(stop) = stop {
             return Ok(stop);
         }

@@ -9,7 +9,7 @@ ghost use Rattle.meter_run.specs.Texts.{shown_text, shown_texts};
 use crate::advancing::advance;
 use crate::carrier::Carrier;
 use crate::printing::{print_display, print_refusal};
-use meter_states::{Act, Core};
+use meter_states::{Act, Acts, Core};
 use outside::{Board, Failed};
 use seal_store::Seal;
 use std::sync::ledger::Ledger;
@@ -100,10 +100,25 @@ impl<B: Board<L>, L: Ledger> Carrier<B, L> for DryMeter {
         tables: &Tables,
         seal: &Seal,
         event: Event,
+        acts: &mut Acts,
         board: &mut B,
         steps: &mut Steps<L>,
     ) -> Result<(), Failed> {
-        let acts = advance(&mut self.core, tables, seal, &self.durable, event, steps);
+        acts.clear();
+        let durable = &self.durable;
+        advance(&mut self.core, tables, seal, durable, event, acts, steps);
         perform_all(&mut self.durable, acts.as_slice(), board, steps)
+    }
+
+    fn carry_equal(
+        &mut self,
+        tables: &Tables,
+        seal: &Seal,
+        pulses: u32,
+        count: u32,
+        board: &B,
+    ) -> u32 {
+        let _ = board;
+        self.core.equal_intervals(tables, seal, pulses, count)
     }
 }

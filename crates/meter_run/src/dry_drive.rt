@@ -3,6 +3,9 @@ ghost use Rattle.std.specs.Prelude.{◌≡◌, ◌≢◌, ℕ, ◌+◌, ◌≤�
 ghost use Rattle.outside.specs.Faults.{Rose};
 ghost use Rattle.outside.specs.Runs.{KeepsStore};
 ghost use Rattle.outside.specs.Faults.{HasCause};
+ghost use Rattle.tariff_compile.specs.Tables.{TableParts};
+ghost use Rattle.seal_store.specs.declared.seal.Seal.{Seal};
+ghost use Rattle.meter_states.specs.Lawful.{IsLawful};
 ghost use Rattle.meter_states.specs.Run.{ended};
 ghost use Rattle.taxi_units.specs.declared.event.Operating.TheVariants.{Off};
 ghost use Rattle.totaliser_store.specs.Ranges.{IsDurable};
@@ -16,7 +19,7 @@ use crate::drive::carry_drive;
 use crate::dry::DryMeter;
 use crate::fault::RunFault;
 use crate::source::Stop;
-use meter_states::Core;
+use meter_states::{Acts, Core};
 use outside::{Board, Failed, Files};
 use seal_store::Seal;
 use std::sync::ledger::Ledger;
@@ -67,7 +70,8 @@ pub fn dry_run<F: Files, B: Board<L>, L: Ledger>(
 
 /// A meter before the supply first comes.
 fn begin() -> DryMeter
-    ensures off { result.core.operating ≡ Off }
+    ensures off { result.core.plain.operating ≡ Off }
+    ensures lawful { (tables : TableParts) (seal : Seal) → IsLawful tables seal result.core }
     ensures first { result.durable ≡ first_state }
     ensures range { IsDurable result.durable }
 {
@@ -96,11 +100,12 @@ fn drop_at_end<B: Board<L>, L: Ledger>(
     if is_off(&meter.core) {
         return Ok(());
     }
-    meter.carry_out(tables, seal, Event::Down, board, steps)
+    let mut acts = Acts::new();
+    meter.carry_out(tables, seal, Event::Down, &mut acts, board, steps)
 }
 
 /// The answer of a run that stopped so.
-fn answer(stop: Stop) -> Result<(), RunFault>
+pub(crate) fn answer(stop: Stop) -> Result<(), RunFault>
     ensures { result ≡ answer_of stop }
 {
     match stop {

@@ -4,16 +4,29 @@
 
 mod advancing;
 mod carrier;
+mod cut_laws;
 mod drive;
 mod dry;
 mod dry_drive;
 mod fault;
+mod on_store;
 mod printing;
+mod reading;
 mod runs;
 mod source;
+mod store_drive;
+#[cfg(test)]
+mod store_tests;
+mod stored;
+mod storing;
 #[cfg(test)]
 mod tests;
 
+pub use cut_laws::{
+    cuts_open_the_next_run, lines_follow_a_run, receipts_have_their_entries, runs_leave_the_seals,
+    the_number_tells_the_commits,
+};
 pub use dry_drive::dry_run;
 pub use fault::RunFault;
 pub use source::{Source, Stop};
+pub use store_drive::run_events;

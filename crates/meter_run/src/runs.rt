@@ -8,6 +8,7 @@ ghost use Rattle.meter_run.specs.Drives.{IsBounded};
 
 use crate::carrier::Carrier;
 use drive_text::Run;
+use meter_states::Acts;
 use outside::{Board, Failed};
 use seal_store::Seal;
 use std::sync::ledger::Ledger;
@@ -20,6 +21,7 @@ fn carry_interval<C: Carrier<B, L>, B: Board<L>, L: Ledger>(
     tables: &Tables,
     seal: &Seal,
     pulses: u32,
+    acts: &mut Acts,
     board: &mut B,
     steps: &mut Steps<L>,
 ) -> Result<(), Failed>
@@ -33,19 +35,20 @@ fn carry_interval<C: Carrier<B, L>, B: Board<L>, L: Ledger>(
     ensures steps { IsBounded steps.old steps.new (interval_events pulses) }
 {
     if pulses == 0 {
-        return meter.carry_out(tables, seal, Event::Tick, board, steps);
+        return meter.carry_out(tables, seal, Event::Tick, acts, board, steps);
     }
-    meter.carry_out(tables, seal, Event::Pulses(pulses), board, steps)?;
-    meter.carry_out(tables, seal, Event::Tick, board, steps)
+    meter.carry_out(tables, seal, Event::Pulses(pulses), acts, board, steps)?;
+    meter.carry_out(tables, seal, Event::Tick, acts, board, steps)
 }
 
-/// Carries out so many measuring intervals.
+/// Carries out so many measuring intervals: one, and then as many as go at once, again and again.
 fn carry_intervals<C: Carrier<B, L>, B: Board<L>, L: Ledger>(
     meter: &mut C,
     tables: &Tables,
     seal: &Seal,
     pulses: u32,
     count: u32,
+    acts: &mut Acts,
     board: &mut B,
     steps: &mut Steps<L>,
 ) -> Result<(), Failed>
@@ -58,8 +61,11 @@ fn carry_intervals<C: Carrier<B, L>, B: Board<L>, L: Ledger>(
     ensures cause { HasCause (B.faults board.old) (B.faults board.new) result }
     ensures steps { IsBounded steps.old steps.new (intervals_events pulses count) }
 {
-    for _ in 0..count {
-        carry_interval(meter, tables, seal, pulses, board, steps)?;
+    let mut done = 0;
+    while done < count {
+        carry_interval(meter, tables, seal, pulses, acts, board, steps)?;
+        done += 1;
+        done += meter.carry_equal(tables, seal, pulses, count - done, board);
     }
     Ok(())
 }
@@ -70,6 +76,7 @@ fn carry_run<C: Carrier<B, L>, B: Board<L>, L: Ledger>(
     tables: &Tables,
     seal: &Seal,
     run: Run,
+    acts: &mut Acts,
     board: &mut B,
     steps: &mut Steps<L>,
 ) -> Result<(), Failed>
@@ -84,9 +91,9 @@ fn carry_run<C: Carrier<B, L>, B: Board<L>, L: Ledger>(
     ensures steps { IsBounded steps.old steps.new (run_events run) }
 {
     match run {
-        Run::One(event) => meter.carry_out(tables, seal, event, board, steps),
+        Run::One(event) => meter.carry_out(tables, seal, event, acts, board, steps),
         Run::Many { pulses, count } => {
-            carry_intervals(meter, tables, seal, pulses, count, board, steps)
+            carry_intervals(meter, tables, seal, pulses, count, acts, board, steps)
         }
     }
 }
@@ -97,6 +104,7 @@ pub(crate) fn carry_runs<C: Carrier<B, L>, B: Board<L>, L: Ledger>(
     tables: &Tables,
     seal: &Seal,
     runs: &[Run],
+    acts: &mut Acts,
     board: &mut B,
     steps: &mut Steps<L>,
 ) -> Result<(), Failed>
@@ -111,7 +119,7 @@ pub(crate) fn carry_runs<C: Carrier<B, L>, B: Board<L>, L: Ledger>(
     ensures steps { IsBounded steps.old steps.new (flat_map run_events runs.now) }
 {
     for run in runs {
-        carry_run(meter, tables, seal, *run, board, steps)?;
+        carry_run(meter, tables, seal, *run, acts, board, steps)?;
     }
     Ok(())
 }

@@ -21,7 +21,9 @@ const TARIFF: &str =
     "decimals 2\nstep 0.20 ahead\ninitial 3.80 covers 0.40\nrate 0.20 per 117.4 m, 0.20 per 25.2 s\n";
 
 /// The tables of the tariff under a constant.
-fn tables(alloc: Global, constant: Constant) -> Result<Tables, Fail> {
+pub(crate) fn tables(alloc: Global, constant: Constant) -> Result<Tables, Fail>
+    ensures { IfOk result (λ tables. tables.constant ≡ constant) }
+{
     let Ok(tariff) = parse(alloc, TARIFF.as_bytes()) else {
         return Err(Fail::new("the tariff isn't read"));
     };

@@ -7,7 +7,7 @@ use Rattle.meter_run.proofs.dry_drive.dry_run.Goals as goal
 pub carry_drive-requires : goal.carry_drive-requires
 carry_drive-requires g c = record {
   ready = ready_first c.args.tables.now c.args.seal.now c.begin-meter.result.core c.begin-meter.result.durable c.measure.ensures.compiled c.requires.constant
-      c.begin-meter.ensures.off c.begin-meter.ensures.range c.begin-meter.ensures.first;
+      (c.begin-meter.ensures.lawful c.args.tables.now c.args.seal.now) c.begin-meter.ensures.off c.begin-meter.ensures.range c.begin-meter.ensures.first;
 }
 
 pub returns-in-Ok-drop_at_end-clause-ends : goal.returns-in-Ok-drop_at_end-clause-ends

@@ -1,20 +1,25 @@
 use Rattle.std.proofs.Common.{◌≡◌, ℕ, ◌+◌, subst, arith}
 use Rattle.drive_text.specs.Runs.{intervals_events}
-use Rattle.meter_run.proofs.Going.{intervals_carried, intervals_broken, bounded_at_interval, on_err}
+use Rattle.meter_run.proofs.Going.{intervals_carried, intervals_broken, intervals_further, bounded_at_interval, bounded_further, on_err}
 use Rattle.meter_run.proofs.runs.carry_intervals.Goals as goal
 
-pub loop-preserved : goal.loop-preserved
-loop-preserved g c =
+pub loop-done-preserved : goal.loop-done-preserved
+loop-done-preserved g c =
     let t = c.args.tables.now in
     let k = c.args.seal.now in
     let p = c.args.pulses in
-    let i = c.loop.counter in
+    let i = c.loop-done.done in
+    let n = c.carry_equal-done.result in
+    let one = intervals_carried (g.C.Carrier.carried t k) (g.C.Carrier.broke_off t k) (g.met.C.Carrier.behind t k) (g.met.C.Carrier.later t k) (g.met.C.Carrier.sooner t k)
+    p i c.args.meter.now c.args.board.now c.loop-done.meter c.loop-done.board c.carry_interval.new.meter c.carry_interval.new.board c.loop-done.invariant.carried c.in_ok-carry_interval.ensures.carried in
     record {
-      ready = c.in_ok-carry_interval.ensures.ready;
-      carried = intervals_carried (g.C.Carrier.carried t k) (g.C.Carrier.broke_off t k) (g.met.C.Carrier.behind t k) (g.met.C.Carrier.later t k) (g.met.C.Carrier.sooner t k)
-          p i c.args.meter.now c.args.board.now c.loop.meter c.loop.board c.carry_interval.new.meter c.carry_interval.new.board c.loop.invariant.carried c.in_ok-carry_interval.ensures.carried;
-      faults = omega (arith, c.loop.invariant.faults, c.carry_interval.ensures.cause.later);
-      steps = bounded_at_interval p i (i + 1) c.args.steps.now c.loop.steps c.carry_interval.new.steps (omega arith) c.loop.invariant.steps c.carry_interval.ensures.steps;
+      few = omega (arith, c.carry_equal-done.ensures.most);
+      ready = c.carry_equal-done.ensures.ready;
+      carried = intervals_further (g.C.Carrier.carried t k) (g.C.Carrier.broke_off t k) (g.met.C.Carrier.behind t k) (g.met.C.Carrier.later t k) (g.met.C.Carrier.sooner t k)
+          p (i + 1) n c.args.meter.now c.args.board.now c.carry_interval.new.meter c.carry_interval.new.board c.carry_equal-done.new.self c.carry_interval.new.board one c.carry_equal-done.ensures.carried;
+      faults = omega (arith, c.loop-done.invariant.faults, c.carry_interval.ensures.cause.later);
+      steps = bounded_further p (i + 1) n c.args.steps.now c.carry_interval.new.steps
+          (bounded_at_interval p i (i + 1) c.args.steps.now c.loop-done.steps c.carry_interval.new.steps (omega arith) c.loop-done.invariant.steps c.carry_interval.ensures.steps);
     }
 
 pub returns-in_err-carry_interval-clause-broke_off : goal.returns-in_err-carry_interval-clause-broke_off
@@ -22,13 +27,13 @@ returns-in_err-carry_interval-clause-broke_off g c =
     let t = c.args.tables.now in
     let k = c.args.seal.now in
     on_err c.from_residual.result _ (intervals_broken (g.C.Carrier.carried t k) (g.C.Carrier.broke_off t k) (g.met.C.Carrier.behind t k) (g.met.C.Carrier.later t k) (g.met.C.Carrier.sooner t k)
-    c.args.pulses c.loop.counter c.args.count c.args.meter.now c.args.board.now c.loop.meter c.loop.board c.carry_interval.new.board c.loop-test.true c.loop.invariant.carried c.in_err-carry_interval.ensures.broke_off)
+    c.args.pulses c.loop-done.done c.args.count c.args.meter.now c.args.board.now c.loop-done.meter c.loop-done.board c.carry_interval.new.board c.loop-done-test.true c.loop-done.invariant.carried c.in_err-carry_interval.ensures.broke_off)
 
 pub returns-in_err-carry_interval-clause-steps : goal.returns-in_err-carry_interval-clause-steps
 returns-in_err-carry_interval-clause-steps g c =
-    bounded_at_interval c.args.pulses c.loop.counter c.args.count c.args.steps.now c.loop.steps c.carry_interval.new.steps c.loop-test.true c.loop.invariant.steps c.carry_interval.ensures.steps
+    bounded_at_interval c.args.pulses c.loop-done.done c.args.count c.args.steps.now c.loop-done.steps c.carry_interval.new.steps c.loop-done-test.true c.loop-done.invariant.steps c.carry_interval.ensures.steps
 
 pub returns-clause-carried : goal.returns-clause-carried
 returns-clause-carried g c =
-    let all : c.loop.counter ≡ c.args.count = omega (arith, c.loop-test.false, c.loop.auto.counter-end) in
-    subst (λ (n : ℕ). g.C.Carrier.carried c.args.tables.now c.args.seal.now c.args.meter.now c.args.board.now (intervals_events c.args.pulses n) c.loop.meter c.loop.board) all c.loop.invariant.carried
+    let all : c.loop-done.done ≡ c.args.count = omega (arith, c.loop-done-test.false, c.loop-done.invariant.few) in
+    subst (λ (n : ℕ). g.C.Carrier.carried c.args.tables.now c.args.seal.now c.args.meter.now c.args.board.now (intervals_events c.args.pulses n) c.loop-done.meter c.loop-done.board) all c.loop-done.invariant.carried

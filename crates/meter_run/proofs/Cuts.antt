@@ -1,0 +1,263 @@
+-- What a point of a list of deeds says of an image that a cut leaves.
+use Rattle.std.proofs.Common.{◌≡◌, inl, inr, ⊎_elim, ℕ, ◌≤◌, List, [], ◌∷◌, ◌++◌, length, Option, Some, None, refl, sym, ap, subst, ◌∙◌, append_assoc, arith, length-append}
+use Rattle.std.specs.Prelude.{◌⊎◌}
+use Rattle.std.proofs.lemmas.List.{append-nil}
+use Rattle.outside.specs.Printing.{Begins}
+use Rattle.outside.proofs.Laws.{begins_whole}
+use Rattle.seal_store.specs.declared.seal.Seal.{Seal}
+use Rattle.slot_store.proofs.Laws.{body_found}
+use Rattle.tariff_compile.specs.Tables.{TableParts}
+use Rattle.taxi_units.specs.declared.receipt.Kind.{Kind}
+use Rattle.taxi_units.specs.declared.receipt.Kind.TheVariants.{Closed, Aborted, Expired, Roam}
+use Rattle.taxi_units.specs.declared.receipt.Receipt as receipts
+use Rattle.totaliser_store.specs.Reading.{reads}
+use Rattle.totaliser_store.specs.States.{after, after_all}
+use Rattle.totaliser_store.specs.Stored.{number_of}
+use Rattle.totaliser_store.specs.Sums.{Follows}
+use Rattle.totaliser_store.specs.declared.change.Change.TheVariants as changes
+use Rattle.totaliser_store.specs.declared.durable.Durable.{Durable}
+use Rattle.totaliser_store.specs.declared.entry.Entry.{Entry}
+use Rattle.totaliser_store.proofs.Laws.{changes_add_up}
+use Rattle.meter_states.specs.Pairs.{ArePaired, IsReceiptOf, waiting_after}
+use Rattle.meter_states.specs.declared.act.Act.{Act}
+use Rattle.meter_states.specs.declared.act.Act.TheVariants.{Show, Refuse, Enter, Hold, Receipt}
+use Rattle.meter_run.specs.Deeds.{Deed, Does, Prints, after_deed, after_deeds, changes_of, deeds_of, text_in, texts}
+use Rattle.meter_run.specs.Points.{AtPoint, EndsInEntryOf, HasEntries, Holds, IsCut, IsEntered}
+
+-- ---- what deeds commit
+
+pub after_changes : (d : Durable) (deeds : List Deed) → after_deeds d deeds ≡ after_all d (changes_of deeds)
+after_changes d [] = refl
+after_changes d (Prints line ∷ deeds) = after_changes d deeds
+after_changes d (Does (Show display) ∷ deeds) = after_changes d deeds
+after_changes d (Does (Refuse why) ∷ deeds) = after_changes d deeds
+after_changes d (Does (Enter entry) ∷ deeds) = after_changes (after d (changes.Enter entry)) deeds
+after_changes d (Does (Hold trip) ∷ deeds) = after_changes (after d (changes.Hold trip)) deeds
+after_changes d (Does (Receipt receipt) ∷ deeds) = after_changes d deeds
+
+pub deeds_follow : (d : Durable) (deeds : List Deed) → Follows d (after_deeds d deeds) (changes_of deeds)
+deeds_follow d deeds = subst (λ (e : Durable). Follows d e (changes_of deeds)) (sym (after_changes d deeds)) (changes_add_up d (changes_of deeds))
+
+-- ---- lists
+
+tails : (x y : Deed) (xs ys : List Deed) → x ∷ xs ≡ y ∷ ys → xs ≡ ys
+tails x y xs ys is = cc
+
+heads : (x y : Deed) (xs ys : List Deed) → x ∷ xs ≡ y ∷ ys → x ≡ y
+heads x y xs ys is = cc
+
+nothing_in : (earlier later : List Deed) (x : Deed) → [] ≡ earlier ++ x ∷ later → ⊥
+nothing_in [] later x is = absurd cc
+nothing_in (y ∷ earlier) later x is = absurd cc
+
+-- a beginning that isn't longer is a beginning of the beginning
+begins_in : (xs ys zs ws : List Deed) → xs ++ ys ≡ zs ++ ws → length zs ≤ length xs → (more : List Deed) × (xs ≡ zs ++ more)
+begins_in xs ys [] ws is le = (xs, refl)
+begins_in [] ys (z ∷ zs) ws is le = absurd (omega arith)
+begins_in (x ∷ xs) ys (z ∷ zs) ws is le =
+    let rest = begins_in xs ys zs ws (tails x z (xs ++ ys) (zs ++ ws) is) (omega (arith, le)) in
+    (rest.0, ap (λ (l : List Deed). x ∷ l) rest.1 ∙ ap (λ (y : Deed). y ∷ zs ++ rest.0) (heads x z (xs ++ ys) (zs ++ ws) is))
+
+-- ---- receipts stand behind their entries
+
+waits : (kind : Kind) (entry e : Entry) → waiting_after kind entry ≡ Some e → entry ≡ e
+waits Roam entry e is = absurd cc
+waits Closed entry e is = cc
+waits Aborted entry e is = cc
+waits Expired entry e is = cc
+
+same_receipt : (x r : receipts.Receipt) (acts : List Act) (later : List Deed) → Does (Receipt x) ∷ deeds_of acts ≡ Does (Receipt r) ∷ later → x ≡ r
+same_receipt x r acts later is = cc
+
+ends_later : (y : Deed) (deeds : List Deed) (r : receipts.Receipt) → EndsInEntryOf r deeds → EndsInEntryOf r (y ∷ deeds)
+ends_later y deeds r h = record { before = y ∷ h.before; entry = h.entry; last = ap (λ (l : List Deed). y ∷ l) h.last; is = h.is }
+
+-- the receipt is that of the entry that waits, or the entry is the last of the deeds before it
+abbrev Behind : Option Entry → List Deed → receipts.Receipt → Type 0
+Behind waiting earlier r = ((earlier ≡ []) × ((e : Entry) × ((waiting ≡ Some e) × IsReceiptOf e r))) ⊎ EndsInEntryOf r earlier
+
+under : (y : Deed) (earlier : List Deed) (r : receipts.Receipt) → Behind None earlier r → EndsInEntryOf r (y ∷ earlier)
+under y earlier r (inl first) = absurd (let bad = first.1.1.0 in cc)
+under y earlier r (inr ends) = ends_later y earlier r ends
+
+behind_entry : (entry : Entry) (y : Deed) (earlier : List Deed) (r : receipts.Receipt) → y ≡ Does (Enter entry) → Behind (waiting_after entry.kind entry) earlier r → EndsInEntryOf r (y ∷ earlier)
+behind_entry entry y earlier r is (inl first) = record {
+  before = [];
+  entry = entry;
+  last = ap (λ (l : List Deed). y ∷ l) first.0 ∙ ap (λ (z : Deed). z ∷ []) is;
+  is = subst (λ (e : Entry). IsReceiptOf e r) (sym (waits entry.kind entry first.1.0 first.1.1.0)) first.1.1.1;
+}
+behind_entry entry y earlier r is (inr ends) = ends_later y earlier r ends
+
+behind : (waiting : Option Entry) (acts : List Act) → ArePaired waiting acts → (earlier later : List Deed) (r : receipts.Receipt) → deeds_of acts ≡ earlier ++ Does (Receipt r) ∷ later → Behind waiting earlier r
+behind waiting [] h earlier later r is = absurd (nothing_in earlier later (Does (Receipt r)) is)
+behind None (Show display ∷ acts) h [] later r is = absurd cc
+behind None (Show display ∷ acts) h (y ∷ earlier) later r is = inr (under y earlier r (behind None acts h earlier later r (tails (Does (Show display)) y (deeds_of acts) (earlier ++ Does (Receipt r) ∷ later) is)))
+behind None (Refuse why ∷ acts) h [] later r is = absurd cc
+behind None (Refuse why ∷ acts) h (y ∷ earlier) later r is = inr (under y earlier r (behind None acts h earlier later r (tails (Does (Refuse why)) y (deeds_of acts) (earlier ++ Does (Receipt r) ∷ later) is)))
+behind None (Enter entry ∷ acts) h [] later r is = absurd cc
+behind None (Enter entry ∷ acts) h (y ∷ earlier) later r is = inr (behind_entry entry y earlier r (sym (heads (Does (Enter entry)) y (deeds_of acts) (earlier ++ Does (Receipt r) ∷ later) is))
+    (behind (waiting_after entry.kind entry) acts h earlier later r (tails (Does (Enter entry)) y (deeds_of acts) (earlier ++ Does (Receipt r) ∷ later) is)))
+behind None (Hold trip ∷ acts) h [] later r is = absurd cc
+behind None (Hold trip ∷ acts) h (y ∷ earlier) later r is = inr (under y earlier r (behind None acts h earlier later r (tails (Does (Hold trip)) y (deeds_of acts) (earlier ++ Does (Receipt r) ∷ later) is)))
+behind None (Receipt x ∷ acts) h earlier later r is = absurd h
+behind (Some e) (Show display ∷ acts) h earlier later r is = absurd h
+behind (Some e) (Refuse why ∷ acts) h earlier later r is = absurd h
+behind (Some e) (Enter entry ∷ acts) h earlier later r is = absurd h
+behind (Some e) (Hold trip ∷ acts) h earlier later r is = absurd h
+behind (Some e) (Receipt x ∷ acts) h [] later r is = inl (refl, (e, (refl, subst (IsReceiptOf e) (same_receipt x r acts later is) h.0)))
+behind (Some e) (Receipt x ∷ acts) h (y ∷ earlier) later r is = inr (under y earlier r (behind None acts h.1 earlier later r (tails (Does (Receipt x)) y (deeds_of acts) (earlier ++ Does (Receipt r) ∷ later) is)))
+
+pub acts_have_entries : (acts : List Act) → ArePaired None acts → HasEntries (deeds_of acts)
+acts_have_entries acts h earlier later r is = by (behind None acts h earlier later r is)
+  where
+    by : Behind None earlier r → EndsInEntryOf r earlier
+    by (inl first) = absurd (let bad = first.1.1.0 in cc)
+    by (inr ends) = ends
+
+-- with a line behind them
+not_the_line : (deeds earlier later : List Deed) (r : receipts.Receipt) (line : List ℕ) → deeds ++ Prints line ∷ [] ≡ earlier ++ Does (Receipt r) ∷ later
+    → (more : List Deed) × (deeds ≡ earlier ++ Does (Receipt r) ∷ more)
+not_the_line [] [] later r line is = absurd cc
+not_the_line [] (y ∷ earlier) later r line is = absurd (nothing_in earlier later (Does (Receipt r)) (tails (Prints line) y [] (earlier ++ Does (Receipt r) ∷ later) is))
+not_the_line (x ∷ deeds) [] later r line is = (deeds, ap (λ (z : Deed). z ∷ deeds) (heads x (Does (Receipt r)) (deeds ++ Prints line ∷ []) later is))
+not_the_line (x ∷ deeds) (y ∷ earlier) later r line is =
+    let rest = not_the_line deeds earlier later r line (tails x y (deeds ++ Prints line ∷ []) (earlier ++ Does (Receipt r) ∷ later) is) in
+    (rest.0, ap (λ (l : List Deed). x ∷ l) rest.1 ∙ ap (λ (z : Deed). z ∷ earlier ++ Does (Receipt r) ∷ rest.0) (heads x y (deeds ++ Prints line ∷ []) (earlier ++ Does (Receipt r) ∷ later) is))
+
+pub line_has_entries : (deeds : List Deed) (line : List ℕ) → HasEntries deeds → HasEntries (deeds ++ Prints line ∷ [])
+line_has_entries deeds line h earlier later r is =
+    let rest = not_the_line deeds earlier later r line is in
+    h earlier rest.0 r rest.1
+
+-- the entry of a receipt that was begun is among what the image has
+entered_in : (deeds done next left kept : List Deed) → HasEntries deeds → deeds ≡ done ++ (next ++ left) → length next ≤ 1 → (kept ≡ done) ⊎ (kept ≡ done ++ next)
+    → (earlier later : List Deed) (r : receipts.Receipt) → done ++ next ≡ earlier ++ Does (Receipt r) ∷ later → IsEntered kept earlier r
+entered_in deeds done next left kept h split one kept_is earlier later r is =
+    let entry = h earlier (later ++ left) r (split ∙ sym (append_assoc done next left) ∙ ap (λ (l : List Deed). l ++ left) is ∙ append_assoc earlier (Does (Receipt r) ∷ later) left) in
+    let within = begins_in done next earlier (Does (Receipt r) ∷ later) is (omega (arith, one, ap length is, length-append done next, length-append earlier (Does (Receipt r) ∷ later))) in
+    by entry within kept_is
+  where
+    by : EndsInEntryOf r earlier → (more : List Deed) × (done ≡ earlier ++ more) → (kept ≡ done) ⊎ (kept ≡ done ++ next) → IsEntered kept earlier r
+    by entry within (inl same) = record { entry = entry; more = within.0; has = same ∙ within.1 }
+    by entry within (inr same) = record { entry = entry; more = Does (Receipt r) ∷ later; has = same ∙ is }
+
+-- ---- points
+
+module _ (tables : TableParts) (seal : Seal) (told : Type 0) where
+  -- how far it came, and what the image has
+  record Reaches (d : Durable) (p : List ℕ) (deeds : List Deed) (i x : List ℕ) : Type 0 where
+    done : List Deed
+    next : List Deed
+    left : List Deed
+    split : deeds ≡ done ++ (next ++ left)
+    one : length next ≤ 1
+    begun : told → Begins (p ++ texts seal done) x (texts seal next)
+    kept : List Deed
+    kept_is : (kept ≡ done) ⊎ (kept ≡ done ++ next)
+    holds : Holds tables i (after_deeds d kept)
+
+  amid_reaches : (d : Durable) (p : List ℕ) (deed : Deed) (deeds : List Deed) (i x : List ℕ) (kept : List Deed) → (kept ≡ []) ⊎ (kept ≡ [] ++ deed ∷ []) → Holds tables i (after_deeds d kept)
+      → (told → Begins p x (text_in seal deed)) → Reaches d p (deed ∷ deeds) i x
+  amid_reaches d p deed deeds i x kept kept_is holds begun = record {
+    done = [];
+    next = deed ∷ [];
+    left = deeds;
+    split = refl;
+    one = omega arith;
+    begun = λ t. subst (λ (q : List ℕ). Begins q x (text_in seal deed ++ [])) (sym (append-nil p)) (subst (λ (text : List ℕ). Begins p x text) (sym (append-nil (text_in seal deed))) (begun t));
+    kept = kept;
+    kept_is = kept_is;
+    holds = holds;
+  }
+
+  reaches : (d : Durable) (p : List ℕ) (deeds : List Deed) (i x : List ℕ) → AtPoint tables seal told d p deeds i x → Reaches d p deeds i x
+  reaches d p [] i x h = record {
+    done = [];
+    next = [];
+    left = [];
+    split = refl;
+    one = omega arith;
+    begun = λ t. begins_whole (p ++ []) x [] (h.1 t ∙ sym (append-nil p) ∙ sym (append-nil (p ++ [])));
+    kept = [];
+    kept_is = inl refl;
+    holds = h.0;
+  }
+  reaches d p (deed ∷ deeds) i x (inl amid) = by amid.holds
+    where
+      by : Holds tables i d ⊎ Holds tables i (after_deed d deed) → Reaches d p (deed ∷ deeds) i x
+      by (inl before) = amid_reaches d p deed deeds i x [] (inl refl) before amid.begun
+      by (inr behind) = amid_reaches d p deed deeds i x (deed ∷ []) (inr refl) behind amid.begun
+  reaches d p (deed ∷ deeds) i x (inr later) =
+      let r = reaches (after_deed d deed) (p ++ text_in seal deed) deeds i x later in
+      record {
+        done = deed ∷ r.done;
+        next = r.next;
+        left = r.left;
+        split = ap (λ (l : List Deed). deed ∷ l) r.split;
+        one = r.one;
+        begun = λ t. subst (λ (q : List ℕ). Begins q x (texts seal r.next)) (append_assoc p (text_in seal deed) (texts seal r.done)) (r.begun t);
+        kept = deed ∷ r.kept;
+        kept_is = ⊎_elim (λ same. inl (ap (λ (l : List Deed). deed ∷ l) same)) (λ same. inr (ap (λ (l : List Deed). deed ∷ l) same)) r.kept_is;
+        holds = r.holds;
+      }
+
+  -- for readers
+  pub cut_of : (d : Durable) (p : List ℕ) (deeds : List Deed) (i x : List ℕ) → HasEntries deeds → AtPoint tables seal told d p deeds i x → IsCut tables seal told d p deeds i x
+  cut_of d p deeds i x entries at =
+      let r = reaches d p deeds i x at in
+      record {
+        done = r.done;
+        next = r.next;
+        left = r.left;
+        split = r.split;
+        one = r.one;
+        begun = r.begun;
+        kept = r.kept;
+        kept_is = r.kept_is;
+        found = after_deeds d r.kept;
+        stands = r.holds.has;
+        scanned = body_found reads number_of 0 i (after_deeds d r.kept) r.holds.has;
+        fits = r.holds.fits;
+        follows = deeds_follow d r.kept;
+        receipts = entered_in deeds r.done r.next r.left r.kept entries r.split r.one r.kept_is;
+      }
+
+  -- with more deeds behind it
+  pub cut_longer : (d : Durable) (p : List ℕ) (deeds more : List Deed) (i x : List ℕ) → IsCut tables seal told d p deeds i x → IsCut tables seal told d p (deeds ++ more) i x
+  cut_longer d p deeds more i x cut = record {
+    done = cut.done;
+    next = cut.next;
+    left = cut.left ++ more;
+    split = ap (λ (l : List Deed). l ++ more) cut.split ∙ append_assoc cut.done (cut.next ++ cut.left) more ∙ ap (λ (l : List Deed). cut.done ++ l) (append_assoc cut.next cut.left more);
+    one = cut.one;
+    begun = cut.begun;
+    kept = cut.kept;
+    kept_is = cut.kept_is;
+    found = cut.found;
+    stands = cut.stands;
+    scanned = cut.scanned;
+    fits = cut.fits;
+    follows = cut.follows;
+    receipts = cut.receipts;
+  }
+
+  -- amid a line behind all of them
+  pub cut_in_line : (d : Durable) (p : List ℕ) (deeds : List Deed) (line : List ℕ) (i x : List ℕ) → HasEntries deeds → Holds tables i (after_deeds d deeds) → (told → Begins (p ++ texts seal deeds) x line)
+      → IsCut tables seal told d p (deeds ++ Prints line ∷ []) i x
+  cut_in_line d p deeds line i x entries holds begun = record {
+    done = deeds;
+    next = Prints line ∷ [];
+    left = [];
+    split = refl;
+    one = omega arith;
+    begun = λ t. subst (λ (text : List ℕ). Begins (p ++ texts seal deeds) x text) (sym (append-nil line)) (begun t);
+    kept = deeds;
+    kept_is = inl refl;
+    found = after_deeds d deeds;
+    stands = holds.has;
+    scanned = body_found reads number_of 0 i (after_deeds d deeds) holds.has;
+    fits = holds.fits;
+    follows = deeds_follow d deeds;
+    receipts = entered_in (deeds ++ Prints line ∷ []) deeds (Prints line ∷ []) [] deeds (line_has_entries deeds line entries) refl (omega arith) (inl refl);
+  }

@@ -1,0 +1,60 @@
+-- Acts on a store, one after the other.
+use Rattle.std.proofs.Common.{◌≡◌, ℕ, zero, suc, ◌+◌, ◌*◌, ◌≤◌, ◌<◌, List, [], ◌∷◌, ◌++◌, All, length, take, drop, get_or, sym, ap, subst, ◌∙◌, arith}
+use Rattle.std.proofs.lemmas.List.{append-nil, take-append-drop, take_more}
+use Rattle.std.proofs.lemmas.List.Elements.{All-head, All-tail}
+use Rattle.outside.specs.declared.board.Board.{Ghosts}
+use Rattle.tariff_compile.specs.Tables.{TableParts}
+use Rattle.seal_store.specs.declared.seal.Seal.{Seal}
+use Rattle.totaliser_store.specs.declared.durable.Durable.{Durable}
+use Rattle.meter_states.specs.declared.act.Act.{Act}
+use Rattle.meter_run.specs.Commits.{after_acts, commits_in}
+use Rattle.meter_run.specs.Deeds.{Deed, Does, act_text, deeds_of, texts}
+use Rattle.meter_run.specs.PointLaws.{deeds_joined, keeps_longer, keeps_next, text_next}
+use Rattle.meter_run.specs.Points.{KeepsTo}
+use Rattle.meter_run.specs.RunLaws.{after_deeds_of}
+use Rattle.meter_run.proofs.Committing.{commits_append}
+
+deeds_more : (acts : List Act) (n : ℕ) (x : Act) → n < length acts → deeds_of (take (n + 1) acts) ≡ deeds_of (take n acts) ++ Does (get_or acts n x) ∷ []
+deeds_more acts n x lt = ap deeds_of (take_more acts n x lt) ∙ deeds_joined (take n acts) (get_or acts n x ∷ [])
+
+deeds_whole : (acts : List Act) (n : ℕ) → deeds_of (take n acts) ++ deeds_of (drop n acts) ≡ deeds_of acts
+deeds_whole acts n = sym (deeds_joined (take n acts) (drop n acts)) ∙ ap deeds_of (take-append-drop n acts)
+
+commits_more : (acts : List Act) (n : ℕ) (x : Act) → n < length acts → commits_in (take (n + 1) acts) ≡ commits_in (take n acts) + commits_in (get_or acts n x ∷ [])
+commits_more acts n x lt = ap commits_in (take_more acts n x lt) ∙ commits_append (take n acts) (get_or acts n x ∷ [])
+
+commits_part : (acts : List Act) (n : ℕ) → commits_in (take n acts) ≤ commits_in acts
+commits_part acts n = omega (arith, commits_append (take n acts) (drop n acts), ap commits_in (take-append-drop n acts))
+
+-- the steps of an act more, and of all acts where it's one of them
+pub steps_more : (acts : List Act) (n : ℕ) (x : Act) (a b c : ℕ) → n < length acts → b ≤ a + n + 5 * commits_in (take n acts) → c ≤ b + 1 + 5 * commits_in (get_or acts n x ∷ [])
+    → c ≤ a + (n + 1) + 5 * commits_in (take (n + 1) acts)
+steps_more acts n x a b c lt so_far next = omega (arith, so_far, next, commits_more acts n x lt)
+
+pub steps_whole : (acts : List Act) (n : ℕ) (x : Act) (a b c : ℕ) → n < length acts → b ≤ a + n + 5 * commits_in (take n acts) → c ≤ b + 1 + 5 * commits_in (get_or acts n x ∷ [])
+    → c ≤ a + length acts + 5 * commits_in acts
+steps_whole acts n x a b c lt so_far next = omega (arith, lt, steps_more acts n x a b c lt so_far next, commits_part acts (n + 1))
+
+-- what holds of each act holds of the one at a place
+pub all_at : (P : Act → Type 0) (acts : List Act) (n : ℕ) (x : Act) → n < length acts → All P acts → P (get_or acts n x)
+all_at P [] n x lt all = absurd (omega arith)
+all_at P (act ∷ acts) zero x lt all = All-head P act acts all
+all_at P (act ∷ acts) (suc n) x lt all = all_at P acts n x (omega arith) (All-tail P act acts all)
+
+module _ {D L : Type 0} (B : Ghosts D L) (tables : TableParts) (seal : Seal) where
+  module _ (a b c : D) (acts : List Act) (n : ℕ) (x : Act) (lt : n < length acts) (text : B.tells_text → B.printed b ≡ B.printed a ++ texts seal (deeds_of (take n acts))) where
+    -- an act more
+    pub points_more : (d e : Durable) → e ≡ after_acts d (take n acts) → KeepsTo B tables seal a b d (deeds_of (take n acts)) → KeepsTo B tables seal b c e (Does (get_or acts n x) ∷ [])
+        → KeepsTo B tables seal a c d (deeds_of (take (n + 1) acts))
+    points_more d e is h k = subst (λ (deeds : List Deed). KeepsTo B tables seal a c d deeds) (sym (deeds_more acts n x lt))
+        (keeps_next B tables seal a b c d (deeds_of (take n acts)) (Does (get_or acts n x) ∷ []) text h
+        (subst (λ (y : Durable). KeepsTo B tables seal b c y (Does (get_or acts n x) ∷ [])) (is ∙ sym (after_deeds_of d (take n acts))) k))
+
+    pub text_more : (B.tells_text → B.printed c ≡ B.printed b ++ act_text seal (get_or acts n x)) → B.tells_text → B.printed c ≡ B.printed a ++ texts seal (deeds_of (take (n + 1) acts))
+    text_more next = subst (λ (deeds : List Deed). B.tells_text → B.printed c ≡ B.printed a ++ texts seal deeds) (sym (deeds_more acts n x lt))
+        (text_next B tables seal a b c (deeds_of (take n acts)) (Does (get_or acts n x) ∷ []) text
+        (λ t. next t ∙ ap (λ (p : List ℕ). B.printed b ++ p) (sym (append-nil (act_text seal (get_or acts n x))))))
+
+  pub points_whole : (a b : D) (d : Durable) (acts : List Act) (n : ℕ) → KeepsTo B tables seal a b d (deeds_of (take n acts)) → KeepsTo B tables seal a b d (deeds_of acts)
+  points_whole a b d acts n h = subst (λ (deeds : List Deed). KeepsTo B tables seal a b d deeds) (deeds_whole acts n)
+      (keeps_longer B tables seal a b d (deeds_of (take n acts)) (deeds_of (drop n acts)) h)

@@ -1,0 +1,230 @@
+-- One event on a store.
+use Rattle.std.proofs.Common.{◌≡◌, ◌≢◌, inl, ℕ, List, [], ◌∷◌, ◌++◌, Option, Some, None, IfSome, refl, sym, ap, subst, ◌∙◌}
+use Rattle.std.specs.Option.{ForSome}
+use Rattle.std.proofs.lemmas.List.{append-nil}
+use Rattle.outside.specs.Runs.{KeepsStore}
+use Rattle.outside.specs.declared.board.Board.{Ghosts}
+use Rattle.taxi_units.specs.declared.event.Event.{Event}
+use Rattle.taxi_units.specs.declared.event.Event.TheVariants.{Up, Down, Pulses, Tick, Clock, Key}
+use Rattle.taxi_units.specs.declared.event.Operating.TheVariants.{Off}
+use Rattle.taxi_units.specs.declared.event.Why.TheVariants.{NotNow}
+use Rattle.tariff_compile.specs.Tables.{TableParts}
+use Rattle.seal_store.specs.declared.seal.Seal.{Seal}
+use Rattle.slot_store.specs.declared.pair.Place.{Place}
+use Rattle.totaliser_store.specs.Ranges.{IsDurable, IsHeld}
+use Rattle.totaliser_store.specs.Stored.{KeepsState}
+use Rattle.totaliser_store.specs.declared.durable.Durable.{Durable}
+use Rattle.totaliser_store.specs.declared.trip.Trip as store
+use Rattle.meter_states.specs.Core.{Meets, Stands}
+use Rattle.meter_states.specs.Facts.{Whole}
+use Rattle.meter_states.specs.Fits.{Fits}
+use Rattle.meter_states.specs.Kept as kept
+use Rattle.meter_states.specs.Lawful.{IsLawful}
+use Rattle.meter_states.specs.Meter.{Meter, Outcome, refused}
+use Rattle.meter_states.specs.Run.{opened, run}
+use Rattle.meter_states.specs.Setting.{Setting, IsSettingOf, IsTariffOf}
+use Rattle.meter_states.specs.Step.{step}
+use Rattle.meter_states.specs.declared.act.Act.{Act}
+use Rattle.meter_states.specs.declared.act.Act.TheVariants.{Refuse}
+use Rattle.meter_states.proofs.Laws.{the_store_keeps_the_trip-begins, the_store_keeps_the_trip-fits}
+use Rattle.meter_run.specs.Commits.{after_acts}
+use Rattle.meter_run.specs.Deeds.{Deed, Does, deeds_of, texts}
+use Rattle.meter_run.specs.Dry.{IsReady}
+use Rattle.meter_run.specs.Kept.{StandsWith}
+use Rattle.meter_run.specs.OnStore.{Agrees, CarriesOut, Has, IsSecured, StandsOn, StopsAmid, WritesTotals}
+use Rattle.meter_run.specs.PointLaws.{keeps_longer, keeps_next}
+use Rattle.meter_run.specs.Points.{KeepsTo}
+use Rattle.meter_run.specs.StoreLaws.{beside_then, has_settled}
+use Rattle.meter_run.specs.declared.stored.Known.{Known}
+use Rattle.meter_run.specs.declared.stored.StoreMeter.{StoreMeter}
+use Rattle.meter_run.proofs.Dropping.{off_of, stands_after}
+use Rattle.meter_run.proofs.Leaves.{settled_kept}
+
+-- ---- a meter that opens with a durable state
+
+hold_fits : (s : Setting) (tables : TableParts) (number : ℕ) (hold : Option store.Trip) → IsTariffOf s tables → IfSome hold (IsHeld number) → ForSome hold (Fits tables) → kept.HoldFits s hold
+hold_fits s tables number None is held fits = tt
+hold_fits s tables number (Some trip) is held fits = the_store_keeps_the_trip-fits s tables trip is (fits trip refl) held.ranges.extras.0
+
+pub stands_opened : (s : Setting) (tables : TableParts) (core : Whole) (d : Durable) → IsTariffOf s tables → core.plain.operating ≡ Off → IsDurable d → ForSome d.hold (Fits tables) → StandsWith s core.plain d (opened s d)
+stands_opened s tables core d is off range fits = record {
+  core = inl (off, refl);
+  durable = refl;
+  kept = the_store_keeps_the_trip-begins s d (hold_fits s tables d.number d.hold is range.held fits);
+}
+
+pub ready_opened : (tables : TableParts) (seal : Seal) (core : Whole) (d : Durable) → IsSecured tables seal → core.plain.operating ≡ Off → IsLawful tables seal core → IsDurable d → ForSome d.hold (Fits tables) → IsReady tables seal core d
+ready_opened tables seal core d secured off lawful range fits = record {
+  lawful = lawful;
+  range = range;
+  fits = fits;
+  way = record {
+    setting = secured.setting;
+    meter = opened secured.setting d;
+    is = secured.is;
+    stands = stands_opened secured.setting tables core d secured.is.tariff off range fits;
+  };
+}
+
+-- ---- one event
+
+refused_event : (s : Setting) (event : Event) (m : Meter) → m.operating ≡ Off → ((second : ℕ) → event ≢ Up second) → step s event m ≡ refused NotNow m
+refused_event s (Up second) m off other = absurd (other second refl)
+refused_event s Down m off other = rw off refl
+refused_event s (Pulses n) m off other = rw off refl
+refused_event s Tick m off other = rw off refl
+refused_event s (Clock second) m off other = rw off refl
+refused_event s (Key key) m off other = rw off refl
+
+-- acts under another name
+pub meets_as : (tables : TableParts) (seal : Seal) (core : Whole) (d : Durable) (core' : Whole) (event : Event) (xs ys : List Act) → xs ≡ ys
+    → ((s : Setting) (m : Meter) → IsSettingOf s tables seal → StandsWith s core.plain d m → Meets s core'.plain ys (step s event m))
+    → (s : Setting) (m : Meter) → IsSettingOf s tables seal → StandsWith s core.plain d m → Meets s core'.plain xs (step s event m)
+meets_as tables seal core d core' event xs ys same meets s m is st = subst (λ (acts : List Act). Meets s core'.plain acts (step s event m)) (sym same) (meets s m is st)
+
+-- what was found is one
+pub found_same : (o : Option Known) (a b : Known) (d : Durable) → o ≡ Some a → o ≡ Some b → a.durable ≡ d → b.durable ≡ d
+found_same o a b d one other is = ap (λ (k : Known). k.durable) (by (sym other ∙ one)) ∙ is
+  where
+    by : Some b ≡ Some a → b ≡ a
+    by same = cc
+
+pub never_found : (o : Option Known) (a : Known) → o ≡ Some a → o ≡ None → ⊥
+never_found o a one none = by (sym one ∙ none)
+  where
+    by : Some a ≡ None → ⊥
+    by bad = absurd cc
+
+module _ {D L : Type 0} (B : Ghosts D L) (tables : TableParts) (seal : Seal) where
+  -- the state that is known
+  known_is : (known : Option Known) (k : Known) (a : D) (d : Durable) → known ≡ Some k → Has B known a d → (d ≡ k.durable) × KeepsState B k.place a k.durable
+  known_is known k a d is has = subst (λ (o : Option Known). Has B o a d) is has
+
+  stands_known : (s : Setting) (x : StoreMeter) (k : Known) (a : D) (m : Meter) → x.known ≡ Some k → StandsOn B tables s x a m → StandsWith s x.core.plain k.durable m
+  stands_known s x k a m is h = record { core = h.stands.core; durable = sym (known_is x.known k a m.durable is h.has).0; kept = h.stands.kept }
+
+  -- from a state that is known, by the acts of the core
+  module _ (x : StoreMeter) (a : D) (k : Known) (core : Whole) (b : D) (event : Event) (acts : List Act) (known : x.known ≡ Some k)
+      (meets : (s : Setting) (m : Meter) → IsSettingOf s tables seal → StandsWith s x.core.plain k.durable m → Meets s core.plain acts (step s event m))
+      (points : B.tells_image → KeepsTo B tables seal a b k.durable (deeds_of acts)) (beside : B.tells_image → WritesTotals B a b) where
+    acts_are : (s : Setting) (m : Meter) → IsSettingOf s tables seal → StandsOn B tables s x a m → acts ≡ (step s event m).acts
+    acts_are s m is h = (meets s m is (stands_known s x k a m known h)).done
+
+    points_are : B.tells_image → (s : Setting) (m : Meter) → IsSettingOf s tables seal → StandsOn B tables s x a m → KeepsTo B tables seal a b m.durable (deeds_of (step s event m).acts)
+    points_are told s m is h =
+        subst (λ (d : Durable). KeepsTo B tables seal a b d (deeds_of (step s event m).acts)) (sym (known_is x.known k a m.durable known h.has).0)
+        (subst (λ (xs : List Act). KeepsTo B tables seal a b k.durable (deeds_of xs)) (acts_are s m is h) (points told))
+
+    pub amid_event : StopsAmid B tables seal (λ s m. step s event m) x a b
+    amid_event = record { points = points_are; beside = beside }
+
+    pub out_event : (y : StoreMeter) (l : Known) → y.core ≡ core → y.known ≡ Some l → l.durable ≡ after_acts k.durable acts → Agrees B tables l b
+        → (B.tells_text → B.printed b ≡ B.printed a ++ texts seal (deeds_of acts)) → CarriesOut B tables seal (λ s m. step s event m) x a y b
+    out_event y l core_is known_now durable agrees whole = record {
+      stands = λ told s m is h.
+          let st = stands_known s x k a m known h in
+          let after = stands_after s event x.core core k.durable l.durable acts m st (meets s m is st) durable in
+          record {
+            stands = record { core = subst (λ (c : Whole). Stands s c.plain (step s event m).next) (sym core_is) after.core; durable = refl; kept = after.kept };
+            has = subst (λ (o : Option Known). Has B o b (step s event m).next.durable) (sym known_now) (sym after.durable, agrees.settled told);
+            fits = subst (λ (d : Durable). ForSome d.hold (Fits tables)) after.durable agrees.fits;
+          };
+      printed = λ told s m is h t. subst (λ (xs : List Act). B.printed b ≡ B.printed a ++ texts seal (deeds_of xs)) (acts_are s m is h) (whole t);
+      points = points_are;
+      beside = beside;
+    }
+
+  -- a refusal while the meter is off
+  module _ (x : StoreMeter) (a b : D) (event : Event) (off : x.core.plain.operating ≡ Off) (other : (second : ℕ) → event ≢ Up second) (kept : KeepsStore B a b) (beside : WritesTotals B a b)
+      (points : (place : Place) (d : Durable) → KeepsState B place a d → ForSome d.hold (Fits tables) → KeepsTo B tables seal a b d (Does (Refuse NotNow) ∷ [])) where
+    refuses : (s : Setting) (m : Meter) → StandsOn B tables s x a m → step s event m ≡ refused NotNow m
+    refuses s m h = refused_event s event m (off_of s x.core m h.stands.core off) other
+
+    refused_points : (s : Setting) (m : Meter) → StandsOn B tables s x a m → KeepsTo B tables seal a b m.durable (deeds_of (step s event m).acts)
+    refused_points s m h =
+        let at = has_settled B x.known a m.durable h.has in
+        subst (λ (o : Outcome). KeepsTo B tables seal a b m.durable (deeds_of o.acts)) (sym (refuses s m h)) (points at.0 m.durable at.1 h.fits)
+
+    pub amid_refused : StopsAmid B tables seal (λ s m. step s event m) x a b
+    amid_refused = record { points = λ told s m is h. refused_points s m h; beside = λ told. beside }
+
+    has_kept : (known : Option Known) (d : Durable) → Has B known a d → Has B known b d
+    has_kept None d h = (h.0, settled_kept B h.0 d a b kept h.1)
+    has_kept (Some k) d h = (h.0, settled_kept B k.place k.durable a b kept h.1)
+
+    pub out_refused : (B.tells_text → B.printed b ≡ B.printed a ++ texts seal (Does (Refuse NotNow) ∷ [])) → CarriesOut B tables seal (λ s m. step s event m) x a x b
+    out_refused whole = record {
+      stands = λ told s m is h. subst (λ (o : Outcome). StandsOn B tables s x b o.next) (sym (refuses s m h)) (record { stands = h.stands; has = has_kept x.known m.durable h.has; fits = h.fits });
+      printed = λ told s m is h t. subst (λ (o : Outcome). B.printed b ≡ B.printed a ++ texts seal (deeds_of o.acts)) (sym (refuses s m h)) (whole t);
+      points = λ told s m is h. refused_points s m h;
+      beside = λ told. beside;
+    }
+
+  -- ---- the supply comes
+
+  -- a scan before it: what is found is the state of the store
+  module _ (x : StoreMeter) (a b : D) (second : ℕ)
+      (points : B.tells_image → (place : Place) (d : Durable) → KeepsState B place a d → ForSome d.hold (Fits tables) → KeepsTo B tables seal a b d [])
+      (text : B.printed b ≡ B.printed a) (beside : B.tells_image → WritesTotals B a b) where
+    -- the board failed in it
+    pub amid_scan : StopsAmid B tables seal (λ s m. step s (Up second) m) x a b
+    amid_scan = record {
+      points = λ told s m is h. let at = has_settled B x.known a m.durable h.has in
+          keeps_longer B tables seal a b m.durable [] (deeds_of (step s (Up second) m).acts) (points told at.0 m.durable at.1 h.fits);
+      beside = beside;
+    }
+
+    -- nothing was found, which isn't so on a board that tells its image
+    pub out_blank : (y : StoreMeter) → ((s : Setting) (m : Meter) → B.tells_image → StandsOn B tables s x a m → ⊥) → CarriesOut B tables seal (λ s m. step s (Up second) m) x a y b
+    out_blank y never = record {
+      stands = λ told s m is h. absurd (never s m told h);
+      printed = λ told s m is h t. absurd (never s m told h);
+      points = amid_scan.points;
+      beside = beside;
+    }
+
+    module _ (k : Known) (agrees : Agrees B tables k b) (finds : B.tells_image → (place : Place) (d : Durable) → KeepsState B place a d → ForSome d.hold (Fits tables) → k.durable ≡ d) where
+      abbrev found : StoreMeter
+      found = record { core = x.core; known = Some k }
+
+      stands_found : B.tells_image → (s : Setting) (m : Meter) → StandsOn B tables s x a m → StandsOn B tables s found b m
+      stands_found told s m h = let at = has_settled B x.known a m.durable h.has in record {
+        stands = h.stands;
+        has = (sym (finds told at.0 m.durable at.1 h.fits), agrees.settled told);
+        fits = h.fits;
+      }
+
+      behind_scan : (c : D) (d : Durable) (deeds : List Deed) → KeepsTo B tables seal a b d [] → KeepsTo B tables seal b c d deeds → KeepsTo B tables seal a c d deeds
+      behind_scan c d deeds h k = keeps_next B tables seal a b c d [] deeds (λ t. text ∙ sym (append-nil (B.printed a))) h k
+
+      points_found : (c : D) → StopsAmid B tables seal (λ s m. step s (Up second) m) found b c → B.tells_image → (s : Setting) (m : Meter) → IsSettingOf s tables seal → StandsOn B tables s x a m
+          → KeepsTo B tables seal a c m.durable (deeds_of (step s (Up second) m).acts)
+      points_found c h told s m is st = let at = has_settled B x.known a m.durable st.has in
+          behind_scan c m.durable (deeds_of (step s (Up second) m).acts) (points told at.0 m.durable at.1 st.fits) (h.points told s m is (stands_found told s m st))
+
+      pub amid_found : (c : D) → StopsAmid B tables seal (λ s m. step s (Up second) m) found b c → StopsAmid B tables seal (λ s m. step s (Up second) m) x a c
+      amid_found c h = record { points = points_found c h; beside = λ told. beside_then B a b c (beside told) (h.beside told) }
+
+      pub out_found : (y : StoreMeter) (c : D) → CarriesOut B tables seal (λ s m. step s (Up second) m) found b y c → CarriesOut B tables seal (λ s m. step s (Up second) m) x a y c
+      out_found y c h = record {
+        stands = λ told s m is st. h.stands told s m is (stands_found told s m st);
+        printed = λ told s m is st t. subst (λ (p : List ℕ). B.printed c ≡ p ++ texts seal (deeds_of (step s (Up second) m).acts)) text (h.printed told s m is (stands_found told s m st) t);
+        points = points_found c (record { points = h.points; beside = h.beside });
+        beside = λ told. beside_then B a b c (beside told) (h.beside told);
+      }
+
+  -- ---- an event as a list of one
+
+  pub out_one : (x : StoreMeter) (a : D) (y : StoreMeter) (b : D) (event : Event) → CarriesOut B tables seal (λ s m. step s event m) x a y b → CarriesOut B tables seal (λ s m. run s (event ∷ []) m) x a y b
+  out_one x a y b event h = record {
+    stands = h.stands;
+    printed = λ told s m is st t. subst (λ (xs : List Act). B.printed b ≡ B.printed a ++ texts seal (deeds_of xs)) (sym (append-nil (step s event m).acts)) (h.printed told s m is st t);
+    points = λ told s m is st. subst (λ (xs : List Act). KeepsTo B tables seal a b m.durable (deeds_of xs)) (sym (append-nil (step s event m).acts)) (h.points told s m is st);
+    beside = h.beside;
+  }
+
+  pub amid_one : (x : StoreMeter) (a b : D) (event : Event) → StopsAmid B tables seal (λ s m. step s event m) x a b → StopsAmid B tables seal (λ s m. run s (event ∷ []) m) x a b
+  amid_one x a b event h = record {
+    points = λ told s m is st. subst (λ (xs : List Act). KeepsTo B tables seal a b m.durable (deeds_of xs)) (sym (append-nil (step s event m).acts)) (h.points told s m is st);
+    beside = h.beside;
+  }

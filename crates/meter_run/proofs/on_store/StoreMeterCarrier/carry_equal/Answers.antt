@@ -1,0 +1,23 @@
+use Rattle.std.proofs.Common.{List, subst}
+use Rattle.drive_text.specs.Runs.{intervals_events}
+use Rattle.taxi_units.specs.declared.event.Event.{Event}
+use Rattle.meter_states.specs.Equals.{intervals_of}
+use Rattle.meter_states.specs.Run.{run}
+use Rattle.meter_run.specs.OnStore.{CarriesOut}
+use Rattle.meter_run.proofs.Equal.{intervals_are, knows_still, out_still}
+use Rattle.meter_run.proofs.on_store.StoreMeterCarrier.carry_equal.Goals as goal
+
+pub returns-clause-ready : goal.returns-clause-ready
+returns-clause-ready g c = record {
+  secured = c.requires.ready.secured;
+  lawful = c.equal_intervals.ensures.lawful;
+  knows = knows_still c.args.tables.now c.args.seal.now (intervals_of c.args.pulses c.equal_intervals.result) c.args.self.now.core c.equal_intervals.new.self
+      c.equal_intervals.ensures.meets c.equal_intervals.ensures.lawful g.B.Board c.args.self.now.known c.args.board.now c.equal_intervals.ensures.same.0 c.requires.ready.knows;
+}
+
+pub returns-clause-carried : goal.returns-clause-carried
+returns-clause-carried g c =
+    let n = c.equal_intervals.result in
+    let x = c.args.self.now in
+    subst (λ (es : List Event). CarriesOut g.B.Board c.args.tables.now c.args.seal.now (λ s m. run s es m) x c.args.board.now (record x { core = c.equal_intervals.new.self }) c.args.board.now) (intervals_are c.args.pulses n)
+    (out_still g.B.Board c.args.tables.now c.args.seal.now (intervals_of c.args.pulses n) x c.equal_intervals.new.self c.args.board.now (g.met.B.Board.only_now c.args.board.now) c.equal_intervals.ensures.meets)

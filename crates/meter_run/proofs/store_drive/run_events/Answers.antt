@@ -1,0 +1,99 @@
+use Rattle.std.proofs.Common.{Ok, ap, refl}
+use Rattle.drive_text.specs.Drive.{events_in}
+use Rattle.meter_run.specs.StoreLaws.{beside_then}
+use Rattle.meter_run.proofs.Whole.{all_done, done_whole, end_stopped, points_done, points_part, ready_new, rose_later, run_breaks, run_ends, run_stopped, secured_of}
+use Rattle.meter_run.proofs.store_drive.run_events.Goals as goal
+
+pub carry_drive-requires : goal.carry_drive-requires
+carry_drive-requires g c = record {
+  ready = ready_new g.B.Board c.args.tables.now c.args.seal.now c.new-meter.result c.args.board.now (secured_of c.args.tables.now c.args.seal.now c.measure.ensures.compiled c.requires.constant c.requires.seal)
+      (c.new-meter.ensures.lawful c.args.tables.now c.args.seal.now) c.new-meter.ensures.off c.new-meter.ensures.unknown;
+}
+
+pub returns-in-Ok-end-clause-ends : goal.returns-in-Ok-end-clause-ends
+returns-in-Ok-end-clause-ends g c = λ tells.
+    let t = c.args.tables.now in
+    let k = c.args.seal.now in
+    let a = c.args.board.now in
+    let x = c.new-meter.result in
+    let drive = g.F.Files.rest c.args.files.now c.args.word in
+    let left = g.F.Files.rest c.carry_drive.new.files c.args.word in
+    let h = c.in-Ok.ensures.carried in
+    rw c.answer.ensures (run_ends g.B.Board t k a c.end.new.board drive left h.taken c.in-Ok.stop h.few (h.split tells) (h.ends tells) (all_done g.B.Board t k x a c.new-meter.ensures.off c.new-meter.ensures.unknown (events_in h.taken) c.carry_drive.new.meter c.carry_drive.new.board c.end.new.meter c.end.new.board h.carried c.in-Ok-end.ensures.carried))
+
+pub returns-in-Ok-end-clause-cuts : goal.returns-in-Ok-end-clause-cuts
+returns-in-Ok-end-clause-cuts g c = λ tells.
+    let t = c.args.tables.now in
+    let k = c.args.seal.now in
+    let a = c.args.board.now in
+    let x = c.new-meter.result in
+    let drive = g.F.Files.rest c.args.files.now c.args.word in
+    let left = g.F.Files.rest c.carry_drive.new.files c.args.word in
+    let h = c.in-Ok.ensures.carried in
+    points_done g.B.Board t k a c.end.new.board drive left h.taken h.few (h.split tells) (all_done g.B.Board t k x a c.new-meter.ensures.off c.new-meter.ensures.unknown (events_in h.taken) c.carry_drive.new.meter c.carry_drive.new.board c.end.new.meter c.end.new.board h.carried c.in-Ok-end.ensures.carried)
+
+pub returns-in-Ok-end-clause-beside : goal.returns-in-Ok-end-clause-beside
+returns-in-Ok-end-clause-beside g c = λ told. beside_then g.B.Board c.args.board.now c.carry_drive.new.board c.end.new.board (c.in-Ok.ensures.carried.carried.beside told) (c.end.ensures.stopped.beside told)
+
+pub returns-in-Err-end-clause-ends : goal.returns-in-Err-end-clause-ends
+returns-in-Err-end-clause-ends g c = λ tells.
+    let t = c.args.tables.now in
+    let k = c.args.seal.now in
+    let a = c.args.board.now in
+    let x = c.new-meter.result in
+    let drive = g.F.Files.rest c.args.files.now c.args.word in
+    let left = g.F.Files.rest c.carry_drive.new.files c.args.word in
+    let h = c.in-Ok.ensures.carried in
+    run_breaks g.B.Board t k a c.end.new.board drive left h.taken h.few (h.split tells) (end_stopped g.B.Board t k x a c.new-meter.ensures.off c.new-meter.ensures.unknown (events_in h.taken) c.carry_drive.new.meter c.carry_drive.new.board c.end.new.board h.carried c.end.ensures.stopped)
+
+pub returns-in-Err-end-clause-cuts : goal.returns-in-Err-end-clause-cuts
+returns-in-Err-end-clause-cuts g c = λ tells.
+    let t = c.args.tables.now in
+    let k = c.args.seal.now in
+    let a = c.args.board.now in
+    let x = c.new-meter.result in
+    let drive = g.F.Files.rest c.args.files.now c.args.word in
+    let left = g.F.Files.rest c.carry_drive.new.files c.args.word in
+    let h = c.in-Ok.ensures.carried in
+    points_part g.B.Board t k a c.end.new.board drive left h.taken h.few (h.split tells) (end_stopped g.B.Board t k x a c.new-meter.ensures.off c.new-meter.ensures.unknown (events_in h.taken) c.carry_drive.new.meter c.carry_drive.new.board c.end.new.board h.carried c.end.ensures.stopped)
+
+pub returns-in-Err-end-clause-beside : goal.returns-in-Err-end-clause-beside
+returns-in-Err-end-clause-beside g c = λ told. beside_then g.B.Board c.args.board.now c.carry_drive.new.board c.end.new.board (c.in-Ok.ensures.carried.carried.beside told) (c.end.ensures.stopped.beside told)
+
+pub returns-in-Err-clause-ends : goal.returns-in-Err-clause-ends
+returns-in-Err-clause-ends g c = λ tells.
+    let t = c.args.tables.now in
+    let k = c.args.seal.now in
+    let a = c.args.board.now in
+    let x = c.new-meter.result in
+    let drive = g.F.Files.rest c.args.files.now c.args.word in
+    let left = g.F.Files.rest c.carry_drive.new.files c.args.word in
+    let h = c.in-Err.ensures.broke_off in
+    run_breaks g.B.Board t k a c.carry_drive.new.board drive left h.taken h.few (h.split tells) (run_stopped g.B.Board t k x a c.new-meter.ensures.off c.new-meter.ensures.unknown (events_in h.taken) c.carry_drive.new.board h.broke_off)
+
+pub returns-in-Err-clause-cuts : goal.returns-in-Err-clause-cuts
+returns-in-Err-clause-cuts g c = λ tells.
+    let t = c.args.tables.now in
+    let k = c.args.seal.now in
+    let a = c.args.board.now in
+    let x = c.new-meter.result in
+    let drive = g.F.Files.rest c.args.files.now c.args.word in
+    let left = g.F.Files.rest c.carry_drive.new.files c.args.word in
+    let h = c.in-Err.ensures.broke_off in
+    points_part g.B.Board t k a c.carry_drive.new.board drive left h.taken h.few (h.split tells) (run_stopped g.B.Board t k x a c.new-meter.ensures.off c.new-meter.ensures.unknown (events_in h.taken) c.carry_drive.new.board h.broke_off)
+
+pub returns-in-Err-clause-beside : goal.returns-in-Err-clause-beside
+returns-in-Err-clause-beside g c = λ told. c.in-Err.ensures.broke_off.broke_off.beside told
+
+pub returns-in-Ok-end-clause-complete : goal.returns-in-Ok-end-clause-complete
+returns-in-Ok-end-clause-complete g c = λ tells whole calm still.
+    let h = c.in-Ok.ensures.carried in
+    rw c.answer.ensures (done_whole (g.F.Files.rest c.args.files.now c.args.word) (g.F.Files.rest c.carry_drive.new.files c.args.word) h.taken c.in-Ok.stop (h.ends tells) whole
+    (λ fault. calm (c.in-Ok.ensures.read_fault (ap Ok fault))))
+
+pub returns-in-Err-end-clause-complete : goal.returns-in-Err-end-clause-complete
+returns-in-Err-end-clause-complete g c = λ tells whole calm still.
+    absurd (still (rose_later (g.B.Board.faults c.args.board.now) (g.B.Board.faults c.carry_drive.new.board) (g.B.Board.faults c.end.new.board) c.carry_drive.ensures.cause.later (c.in-Err-end.ensures.cause.failed refl)))
+
+pub returns-in-Err-clause-complete : goal.returns-in-Err-clause-complete
+returns-in-Err-clause-complete g c = λ tells whole calm still. absurd (still (c.in-Err.ensures.cause.failed refl))

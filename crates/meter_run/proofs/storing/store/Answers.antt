@@ -1,0 +1,34 @@
+use Rattle.std.proofs.Common.{subst, sym}
+use Rattle.std.specs.Option.{ForSome}
+use Rattle.meter_states.specs.Fits.{Fits}
+use Rattle.totaliser_store.specs.States.{after}
+use Rattle.totaliser_store.specs.declared.durable.Durable.{Durable}
+use Rattle.meter_run.proofs.Leaves.{beside_commit, commit_point}
+use Rattle.meter_run.proofs.storing.store.Goals as goal
+
+pub returns-in-Ok-clause-agrees : goal.returns-in-Ok-clause-agrees
+returns-in-Ok-clause-agrees g c = record {
+  slot = c.in-Ok.ensures.slot_in;
+  settled = c.in-Ok.ensures.settled;
+  fits = subst (λ (d : Durable). ForSome d.hold (Fits c.args.tables.now)) (sym c.in-Ok.ensures.state) c.requires.fits;
+}
+
+pub returns-in-Ok-clause-points : goal.returns-in-Ok-clause-points
+returns-in-Ok-clause-points g c = λ told deed is.
+    let d = c.args.known.now.durable in
+    commit_point g.B.Board c.args.tables.now c.args.seal.now c.args.board.now c.commit.new.board d (after d c.args.change.now) deed is c.requires.agrees.fits c.requires.fits (c.commit.ensures.any_moment told) c.commit.ensures.beside.text
+
+pub returns-in-Ok-clause-beside : goal.returns-in-Ok-clause-beside
+returns-in-Ok-clause-beside g c = λ told.
+    let d = c.args.known.now.durable in
+    beside_commit g.B.Board d (after d c.args.change.now) c.args.board.now c.commit.new.board c.commit.ensures.beside (c.commit.ensures.any_moment told)
+
+pub returns-in-Err-clause-points : goal.returns-in-Err-clause-points
+returns-in-Err-clause-points g c = λ told deed is.
+    let d = c.args.known.now.durable in
+    commit_point g.B.Board c.args.tables.now c.args.seal.now c.args.board.now c.commit.new.board d (after d c.args.change.now) deed is c.requires.agrees.fits c.requires.fits (c.commit.ensures.any_moment told) c.commit.ensures.beside.text
+
+pub returns-in-Err-clause-beside : goal.returns-in-Err-clause-beside
+returns-in-Err-clause-beside g c = λ told.
+    let d = c.args.known.now.durable in
+    beside_commit g.B.Board d (after d c.args.change.now) c.args.board.now c.commit.new.board c.commit.ensures.beside (c.commit.ensures.any_moment told)

@@ -1,0 +1,60 @@
+-- What a run does, deed by deed: the acts of the meter, and lines that whoever calls prints behind them.
+use Rattle.std.specs.Prelude.{ℕ, List, [], ◌∷◌, ◌++◌}
+use Rattle.receipt_text.specs.Receipts.{receipt_text}
+use Rattle.receipt_text.specs.SealParts.{part_of}
+use Rattle.receipt_text.specs.Texts.{display_text, refusal_text}
+use Rattle.seal_store.specs.declared.seal.Seal.{Seal}
+use Rattle.totaliser_store.specs.declared.change.Change.{Change}
+use Rattle.totaliser_store.specs.declared.durable.Durable.{Durable}
+use Rattle.meter_states.specs.Pairs.{commits_of}
+use Rattle.meter_states.specs.declared.act.Act.{Act}
+use Rattle.meter_states.specs.declared.act.Act.TheVariants.{Show, Refuse, Enter, Hold, Receipt}
+use Rattle.meter_run.specs.Commits.{after_act}
+
+-- a deed is an act of the meter, or the print of a line
+pub data Deed : Type 0 where
+  Does : Act → Deed
+  Prints : (line : List ℕ) → Deed
+
+-- the text that an act prints under a seal: a display's, a refusal's or a receipt's, and none of a commit
+abbrev pub act_text : Seal → Act → List ℕ
+act_text seal (Show display) = display_text display
+act_text seal (Refuse why) = refusal_text why
+act_text seal (Enter entry) = []
+act_text seal (Hold trip) = []
+act_text seal (Receipt receipt) = receipt_text receipt (part_of seal)
+
+-- the text that a deed prints
+abbrev pub text_in : Seal → Deed → List ℕ
+text_in seal (Does act) = act_text seal act
+text_in seal (Prints line) = line
+
+-- the texts of deeds, one behind the other
+abbrev pub texts : Seal → List Deed → List ℕ
+texts seal [] = []
+texts seal (deed ∷ deeds) = text_in seal deed ++ texts seal deeds
+
+-- the durable state after a deed: a print leaves it
+abbrev pub after_deed : Durable → Deed → Durable
+after_deed durable (Does act) = after_act durable act
+after_deed durable (Prints line) = durable
+
+-- the durable state after deeds, one after the other
+abbrev pub after_deeds : Durable → List Deed → Durable
+after_deeds durable [] = durable
+after_deeds durable (deed ∷ deeds) = after_deeds (after_deed durable deed) deeds
+
+-- what a deed commits
+abbrev pub changes_in : Deed → List Change
+changes_in (Does act) = commits_of (act ∷ [])
+changes_in (Prints line) = []
+
+-- what deeds commit, in their order
+abbrev pub changes_of : List Deed → List Change
+changes_of [] = []
+changes_of (deed ∷ deeds) = changes_in deed ++ changes_of deeds
+
+-- acts are deeds
+abbrev pub deeds_of : List Act → List Deed
+deeds_of [] = []
+deeds_of (act ∷ acts) = Does act ∷ deeds_of acts

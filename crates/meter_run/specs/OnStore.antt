@@ -1,0 +1,99 @@
+-- The meter on a store: what it knows of the store, which state of the meter it stands for, and what events leave.
+use Rattle.std.specs.Prelude.{◌≡◌, ℕ, ◌≤◌, List, ◌++◌, Option, Some, None}
+use Rattle.std.specs.Option.{ForSome}
+use Rattle.outside.specs.Disk.{SameBut}
+use Rattle.outside.specs.Runs.{LeavesOnly, MayHold}
+use Rattle.outside.specs.declared.board.Board.{Ghosts}
+use Rattle.seal_store.specs.Ranges.{IsSeal}
+use Rattle.seal_store.specs.declared.seal.Seal.{Seal}
+use Rattle.slot_store.specs.Writes.{OrWithin}
+use Rattle.slot_store.specs.declared.pair.Place.{Place}
+use Rattle.tariff_compile.specs.Tables.{TableParts}
+use Rattle.taxi_units.specs.declared.event.Operating.TheVariants.{Off}
+use Rattle.totaliser_store.specs.Stored.{KeepsState}
+use Rattle.totaliser_store.specs.declared.durable.Durable.{Durable}
+use Rattle.meter_states.specs.Facts.{Whole}
+use Rattle.meter_states.specs.Fits.{Fits}
+use Rattle.meter_states.specs.Lawful.{IsLawful}
+use Rattle.meter_states.specs.Meter.{Meter, Outcome}
+use Rattle.meter_states.specs.Setting.{Setting, IsSettingOf}
+use Rattle.meter_run.specs.Deeds.{deeds_of, texts}
+use Rattle.meter_run.specs.Dry.{IsReady}
+use Rattle.meter_run.specs.Kept.{StandsWith}
+use Rattle.meter_run.specs.Points.{KeepsTo}
+use Rattle.meter_run.specs.declared.stored.Known.{Known}
+use Rattle.meter_run.specs.declared.stored.StoreMeter.{StoreMeter}
+
+-- the seal is in its ranges, and some setting is that of the tables and the seal
+pub record IsSecured (tables : TableParts) (seal : Seal) : Type 0 where
+  pub range : IsSeal seal
+  pub setting : Setting
+  pub is : IsSettingOf setting tables seal
+
+-- ---- the bytes outside the pair of totals
+
+module _ {D L : Type 0} (B : Ghosts D L) where
+  -- an image has outside the pair of totals what a cut might have left there of this board
+  abbrev pub HasBeside : D → List ℕ → Type 0
+  HasBeside board image = MayHold (B.image board) (OrWithin (B.in_flight board) 0 1024) image
+
+  -- outside the pair of totals the store is as it was but for what was in flight, and so a cut leaves it at each moment
+  pub record WritesTotals (old new : D) : Type 0 where
+    pub rest : SameBut (OrWithin (B.in_flight old) 0 1024) (B.image old) (B.image new)
+    pub flight : (place : ℕ) → B.in_flight new place → OrWithin (B.in_flight old) 0 1024 place
+    pub leaves : LeavesOnly B old new (λ image text. HasBeside old image)
+
+-- ---- between two events
+
+module _ {D L : Type 0} (B : Ghosts D L) where
+  -- the pair of totals is settled with this state: where the meter knows it, at the place that it knows, with the state
+  -- that it knows
+  abbrev pub Has : Option Known → D → Durable → Type 0
+  Has None board durable = (place : Place) × KeepsState B place board durable
+  Has (Some known) board durable = (durable ≡ known.durable) × KeepsState B known.place board known.durable
+
+  -- a meter and a board stand for a state of the meter, whose held trip fits
+  pub record StandsOn (tables : TableParts) (s : Setting) (x : StoreMeter) (board : D) (m : Meter) : Type 0 where
+    pub stands : StandsWith s x.core.plain m.durable m
+    pub has : Has x.known board m.durable
+    pub fits : ForSome m.durable.hold (Fits tables)
+
+  -- the board, where it tells its image, has the state that the meter knows, whose held trip fits
+  pub record Agrees (tables : TableParts) (known : Known) (board : D) : Type 0 where
+    pub slot : known.place.slot ≤ 1
+    pub settled : B.tells_image → KeepsState B known.place board known.durable
+    pub fits : ForSome known.durable.hold (Fits tables)
+
+  -- an unpowered meter knows nothing of the store; for a powered one the next event may come, and the board agrees
+  abbrev pub Knows : TableParts → Seal → Whole → Option Known → D → Type 0
+  Knows tables seal core None board = core.plain.operating ≡ Off
+  Knows tables seal core (Some known) board = IsReady tables seal core known.durable × Agrees tables known board
+
+  -- the next event may come, whatever the store has
+  pub record IsReadyOn (tables : TableParts) (seal : Seal) (x : StoreMeter) (board : D) : Type 0 where
+    pub secured : IsSecured tables seal
+    pub lawful : IsLawful tables seal x.core
+    pub knows : Knows tables seal x.core x.known board
+
+-- ---- what events leave
+
+module _ {D L : Type 0} (B : Ghosts D L) (tables : TableParts) (seal : Seal) where
+  -- where the image is told: for each state that a meter and a board stand for
+  abbrev pub ForEach : StoreMeter → D → (Setting → Meter → Type 0) → Type 0
+  ForEach x board Holding =
+      B.tells_image → (s : Setting) (m : Meter) → IsSettingOf s tables seal → StandsOn B tables s x board m → Holding s m
+
+  -- an outcome was carried out: meter and board stand for its state, its acts were done, and a cut at each moment
+  -- leaves a point of them
+  pub record CarriesOut (outcome : Setting → Meter → Outcome) (x : StoreMeter) (old : D) (y : StoreMeter)
+      (new : D) : Type 0 where
+    pub stands : ForEach x old (λ s m. StandsOn B tables s y new (outcome s m).next)
+    pub printed : ForEach x old (λ s m. B.tells_text
+        → B.printed new ≡ B.printed old ++ texts seal (deeds_of (outcome s m).acts))
+    pub points : ForEach x old (λ s m. KeepsTo B tables seal old new m.durable (deeds_of (outcome s m).acts))
+    pub beside : B.tells_image → WritesTotals B old new
+
+  -- the board failed amid an outcome: a cut at each moment leaves a point of its acts, and the board is at one
+  pub record StopsAmid (outcome : Setting → Meter → Outcome) (x : StoreMeter) (old new : D) : Type 0 where
+    pub points : ForEach x old (λ s m. KeepsTo B tables seal old new m.durable (deeds_of (outcome s m).acts))
+    pub beside : B.tells_image → WritesTotals B old new

@@ -1,0 +1,133 @@
+-- Points of lists of deeds that are joined, and calls that carry deeds out, one behind the other.
+use Rattle.std.proofs.Common.{◌≡◌, inl, inr, ℕ, List, [], ◌∷◌, ◌++◌, Some, refl, sym, ap, subst, ◌∙◌, append_assoc}
+use Rattle.std.specs.Option.{ForSome}
+use Rattle.std.proofs.lemmas.List.{append-nil}
+use Rattle.outside.specs.Disk.{SameBut}
+use Rattle.outside.specs.Printing.{Begins}
+use Rattle.outside.specs.Runs.{LeavesNow}
+use Rattle.outside.specs.declared.board.Board.{Ghosts}
+use Rattle.outside.proofs.Laws.{begins_not, leaves_none, leaves_then, leaves_wider}
+use Rattle.seal_store.specs.declared.seal.Seal.{Seal}
+use Rattle.slot_store.specs.declared.pair.Place.{Place}
+use Rattle.slot_store.specs.Slots.{IsSettled}
+use Rattle.slot_store.proofs.Laws.{ready_left}
+use Rattle.tariff_compile.specs.Tables.{TableParts}
+use Rattle.totaliser_store.specs.Reading.{reads}
+use Rattle.totaliser_store.specs.Stored.{HasState, KeepsState, number_of}
+use Rattle.totaliser_store.specs.declared.durable.Durable.{Durable}
+use Rattle.meter_states.specs.Fits.{Fits}
+use Rattle.meter_states.specs.declared.act.Act.{Act}
+use Rattle.meter_run.specs.Deeds.{Deed, Does, after_deed, after_deeds, deeds_of, text_in, texts}
+use Rattle.meter_run.specs.Points.{AtPoint, KeepsTo}
+
+-- ---- lists of deeds
+
+pub texts_joined : (seal : Seal) (xs ys : List Deed) → texts seal (xs ++ ys) ≡ texts seal xs ++ texts seal ys
+texts_joined seal [] ys = refl
+texts_joined seal (x ∷ xs) ys =
+    ap (λ (t : List ℕ). text_in seal x ++ t) (texts_joined seal xs ys)
+    ∙ sym (append_assoc (text_in seal x) (texts seal xs) (texts seal ys))
+
+pub after_joined : (d : Durable) (xs ys : List Deed) → after_deeds d (xs ++ ys) ≡ after_deeds (after_deeds d xs) ys
+after_joined d [] ys = refl
+after_joined d (x ∷ xs) ys = after_joined (after_deed d x) xs ys
+
+pub deeds_joined : (xs ys : List Act) → deeds_of (xs ++ ys) ≡ deeds_of xs ++ deeds_of ys
+deeds_joined [] ys = refl
+deeds_joined (x ∷ xs) ys = ap (λ (deeds : List Deed). Does x ∷ deeds) (deeds_joined xs ys)
+
+-- ---- points
+
+module _ (tables : TableParts) (seal : Seal) (told : Type 0) where
+  abbrev At : Durable → List ℕ → List Deed → List ℕ → List ℕ → Type 0
+  At d p deeds i x = AtPoint tables seal told d p deeds i x
+
+  -- what was printed before is asked of a told text alone
+  pub at_same : (d : Durable) (p q : List ℕ) (deeds : List Deed) (i x : List ℕ) → (told → p ≡ q) → At d p deeds i x
+      → At d q deeds i x
+  at_same d p q [] i x is h = (h.0, λ t. h.1 t ∙ is t)
+  at_same d p q (deed ∷ deeds) i x is (inl amid) = inl (record {
+    holds = amid.holds;
+    begun = λ t. subst (λ (before : List ℕ). Begins before x (text_in seal deed)) (is t) (amid.begun t);
+  })
+  at_same d p q (deed ∷ deeds) i x is (inr later) = inr (at_same (after_deed d deed) (p ++ text_in seal deed)
+      (q ++ text_in seal deed) deeds i x (λ t. ap (λ (before : List ℕ). before ++ text_in seal deed) (is t)) later)
+
+  -- a point of a list is one of that list with more behind it
+  pub at_longer : (d : Durable) (p : List ℕ) (xs ys : List Deed) (i x : List ℕ) → At d p xs i x → At d p (xs ++ ys) i x
+  at_longer d p [] [] i x h = h
+  at_longer d p [] (y ∷ ys) i x h =
+      inl (record { holds = inl h.0; begun = λ t. begins_not p x (text_in seal y) (h.1 t) })
+  at_longer d p (deed ∷ xs) ys i x (inl amid) = inl amid
+  at_longer d p (deed ∷ xs) ys i x (inr later) =
+      inr (at_longer (after_deed d deed) (p ++ text_in seal deed) xs ys i x later)
+
+  -- and so is a point of what stands behind
+  pub at_later : (d : Durable) (p : List ℕ) (xs ys : List Deed) (i x : List ℕ)
+      → At (after_deeds d xs) (p ++ texts seal xs) ys i x → At d p (xs ++ ys) i x
+  at_later d p [] ys i x h = at_same d (p ++ []) p ys i x (λ t. append-nil p) h
+  at_later d p (deed ∷ xs) ys i x h = inr (at_later (after_deed d deed) (p ++ text_in seal deed) xs ys i x
+      (at_same (after_deeds (after_deed d deed) xs) (p ++ (text_in seal deed ++ texts seal xs))
+      ((p ++ text_in seal deed) ++ texts seal xs) ys i x
+      (λ t. sym (append_assoc p (text_in seal deed) (texts seal xs))) h))
+
+-- ---- what a settled board has
+
+-- a cut leaves the state of a settled pair
+pub left_has : (place : Place) (d : Durable) (image : List ℕ) (flying : ℕ → Type 0) (left : List ℕ)
+    → IsSettled reads number_of 0 place image flying d → SameBut flying image left → HasState left d
+left_has place d image flying left settled same =
+    ready_left reads number_of (record { at = 0; latest = Some place }) (Some d) image flying left settled same
+
+-- and so it stands in the image itself
+pub settled_has : (place : Place) (d : Durable) (image : List ℕ) (flying : ℕ → Type 0)
+    → IsSettled reads number_of 0 place image flying d → HasState image d
+settled_has place d image flying settled =
+    left_has place d image flying image settled (record { size = refl; rest = λ byte none. refl })
+
+-- ---- calls that carry deeds out
+
+module _ {D L : Type 0} (B : Ghosts D L) (tables : TableParts) (seal : Seal) where
+  abbrev Keeps : D → D → Durable → List Deed → Type 0
+  Keeps old new d deeds = KeepsTo B tables seal old new d deeds
+
+  abbrev Point : D → Durable → List Deed → List ℕ → List ℕ → Type 0
+  Point old d deeds i x = AtPoint tables seal B.tells_text d (B.printed old) deeds i x
+
+  -- no call
+  pub keeps_still : (a : D) (place : Place) (d : Durable) → LeavesNow B a → KeepsState B place a d
+      → ForSome d.hold (Fits tables) → Keeps a a d []
+  keeps_still a place d now settled fits = record {
+    leaves = leaves_none B (Point a d []) a
+        (λ i x left. let may = now i x left in
+        (record { has = left_has place d (B.image a) (B.in_flight a) i settled may.bytes; fits = fits }, λ t. may.text));
+    stops = (record { has = settled_has place d (B.image a) (B.in_flight a) settled; fits = fits }, λ t. refl);
+  }
+
+  pub keeps_longer : (a b : D) (d : Durable) (xs ys : List Deed) → Keeps a b d xs → Keeps a b d (xs ++ ys)
+  keeps_longer a b d xs ys h = record {
+    leaves = leaves_wider B (Point a d xs) (Point a d (xs ++ ys)) a b
+        (λ i x at. at_longer tables seal B.tells_text d (B.printed a) xs ys i x at) h.leaves;
+    stops = at_longer tables seal B.tells_text d (B.printed a) xs ys (B.image b) (B.printed b) h.stops;
+  }
+
+  pub keeps_next : (a b c : D) (d : Durable) (xs ys : List Deed)
+      → (B.tells_text → B.printed b ≡ B.printed a ++ texts seal xs)
+      → Keeps a b d xs → Keeps b c (after_deeds d xs) ys → Keeps a c d (xs ++ ys)
+  keeps_next a b c d xs ys text h k = record {
+    leaves = leaves_then B (Point a d (xs ++ ys)) a b c (keeps_longer a b d xs ys h).leaves
+        (leaves_wider B (Point b (after_deeds d xs) ys) (Point a d (xs ++ ys)) b c (λ i x at. shifted i x at) k.leaves);
+    stops = shifted (B.image c) (B.printed c) k.stops;
+  }
+    where
+      shifted : (i x : List ℕ) → Point b (after_deeds d xs) ys i x → Point a d (xs ++ ys) i x
+      shifted i x at = at_later tables seal B.tells_text d (B.printed a) xs ys i x
+          (at_same tables seal B.tells_text (after_deeds d xs) (B.printed b) (B.printed a ++ texts seal xs) ys i x text at)
+
+  pub text_next : (a b c : D) (xs ys : List Deed) → (B.tells_text → B.printed b ≡ B.printed a ++ texts seal xs)
+      → (B.tells_text → B.printed c ≡ B.printed b ++ texts seal ys)
+      → B.tells_text → B.printed c ≡ B.printed a ++ texts seal (xs ++ ys)
+  text_next a b c xs ys first second t =
+      second t ∙ ap (λ (p : List ℕ). p ++ texts seal ys) (first t)
+      ∙ append_assoc (B.printed a) (texts seal xs) (texts seal ys)
+      ∙ ap (λ (p : List ℕ). B.printed a ++ p) (sym (texts_joined seal xs ys))

@@ -1,0 +1,124 @@
+-- Events that a meter carries out on a store, one behind the other.
+use Rattle.std.proofs.Common.{◌≡◌, inl, inr, ⊎_elim, ℕ, List, [], ◌++◌, Option, Some, None, refl, sym, ap, subst, ◌∙◌}
+use Rattle.std.proofs.lemmas.List.{append-nil}
+use Rattle.outside.specs.Disk.{SameBut}
+use Rattle.outside.specs.Runs.{LeavesNow}
+use Rattle.outside.specs.declared.board.Board.{Ghosts}
+use Rattle.outside.proofs.Laws.{leaves_none, leaves_then, leaves_wider}
+use Rattle.seal_store.specs.declared.seal.Seal.{Seal}
+use Rattle.slot_store.specs.Writes.{OrWithin}
+use Rattle.slot_store.specs.declared.pair.Place.{Place}
+use Rattle.tariff_compile.specs.Tables.{TableParts}
+use Rattle.taxi_units.specs.declared.event.Event.{Event}
+use Rattle.totaliser_store.specs.Stored.{KeepsState}
+use Rattle.totaliser_store.specs.declared.durable.Durable.{Durable}
+use Rattle.meter_states.specs.Meter.{Meter}
+use Rattle.meter_states.specs.Run.{run}
+use Rattle.meter_states.specs.Setting.{Setting}
+use Rattle.meter_run.specs.Deeds.{Deed, deeds_of, texts}
+use Rattle.meter_run.specs.OnStore.{CarriesOut, Has, HasBeside, StandsOn, StopsAmid, WritesTotals}
+use Rattle.meter_run.specs.PointLaws.{deeds_joined, keeps_longer, keeps_next, keeps_still, text_next}
+use Rattle.meter_run.specs.Points.{KeepsTo}
+use Rattle.meter_run.specs.RunLaws.{run_acts, run_durable, run_next}
+use Rattle.meter_run.specs.declared.stored.Known.{Known}
+use Rattle.meter_run.specs.declared.stored.StoreMeter.{StoreMeter}
+
+run_deeds : (s : Setting) (m : Meter) (es fs : List Event)
+    → deeds_of (run s (es ++ fs) m).acts ≡ deeds_of (run s es m).acts ++ deeds_of (run s fs (run s es m).next).acts
+run_deeds s m es fs =
+    ap deeds_of (run_acts s m es fs) ∙ deeds_joined (run s es m).acts (run s fs (run s es m).next).acts
+
+-- what was in flight at a board, and what is at a later one
+pub beside_more : (flown flying : ℕ → Type 0) (a b c : List ℕ) → ((place : ℕ) → flying place → OrWithin flown 0 1024 place)
+    → SameBut (OrWithin flown 0 1024) a b → SameBut (OrWithin flying 0 1024) b c → SameBut (OrWithin flown 0 1024) a c
+beside_more flown flying a b c flight h k = record {
+  size = k.size ∙ h.size;
+  rest = λ place none.
+      k.rest place (⊎_elim (λ flies. none (flight place flies)) (λ within. none (inr within))) ∙ h.rest place none;
+}
+
+module _ {D L : Type 0} (B : Ghosts D L) where
+  -- the state that the store has is settled somewhere
+  pub has_settled : (known : Option Known) (a : D) (d : Durable) → Has B known a d
+      → (place : Place) × KeepsState B place a d
+  has_settled None a d h = h
+  has_settled (Some known) a d h =
+      (known.place, subst (λ (x : Durable). KeepsState B known.place a x) (sym h.0) h.1)
+
+  -- ---- outside the pair of totals
+
+  pub beside_none : (a : D) → LeavesNow B a → WritesTotals B a a
+  beside_none a now = record {
+    rest = record { size = refl; rest = λ place none. refl };
+    flight = λ place flies. inl flies;
+    leaves = leaves_none B (λ i x. HasBeside B a i) a (λ i x left. let may = now i x left in record {
+      bytes = record { size = may.bytes.size; rest = λ place none. may.bytes.rest place (λ flies. none (inl flies)) };
+      small = may.small;
+    });
+  }
+
+  pub beside_then : (a b c : D) → WritesTotals B a b → WritesTotals B b c → WritesTotals B a c
+  beside_then a b c h k = record {
+    rest = beside_more (B.in_flight a) (B.in_flight b) (B.image a) (B.image b) (B.image c) h.flight h.rest k.rest;
+    flight = λ place flies. ⊎_elim (λ before. h.flight place before) (λ within. inr within) (k.flight place flies);
+    leaves = leaves_then B (λ i x. HasBeside B a i) a b c h.leaves
+        (leaves_wider B (λ i x. HasBeside B b i) (λ i x. HasBeside B a i) b c (λ i x left. record {
+          bytes = beside_more (B.in_flight a) (B.in_flight b) (B.image a) (B.image b) i h.flight h.rest left.bytes;
+          small = left.small;
+        }) k.leaves);
+  }
+
+module _ {D L : Type 0} (B : Ghosts D L) (tables : TableParts) (seal : Seal) where
+  abbrev Out : List Event → StoreMeter → D → StoreMeter → D → Type 0
+  Out events x a y b = CarriesOut B tables seal (λ s m. run s events m) x a y b
+
+  abbrev Amid : List Event → StoreMeter → D → D → Type 0
+  Amid events x a b = StopsAmid B tables seal (λ s m. run s events m) x a b
+
+  abbrev Keeps : D → D → Durable → List Deed → Type 0
+  Keeps a b d deeds = KeepsTo B tables seal a b d deeds
+
+  pub out_none : (x : StoreMeter) (a : D) → LeavesNow B a → Out [] x a x a
+  out_none x a now = record {
+    stands = λ told s m is h. h;
+    printed = λ told s m is h t. sym (append-nil (B.printed a));
+    points = λ told s m is h. let at = has_settled B x.known a m.durable h.has in
+        keeps_still B tables seal a at.0 m.durable now at.1 h.fits;
+    beside = λ told. beside_none B a now;
+  }
+
+  pub out_then : (es fs : List Event) (x : StoreMeter) (a : D) (y : StoreMeter) (b : D) (z : StoreMeter) (c : D)
+      → Out es x a y b → Out fs y b z c → Out (es ++ fs) x a z c
+  out_then es fs x a y b z c first next = record {
+    stands = λ told s m is h. subst (λ (n : Meter). StandsOn B tables s z c n) (sym (run_next s m es fs))
+        (next.stands told s (run s es m).next is (first.stands told s m is h));
+    printed = λ told s m is h t. subst (λ (deeds : List Deed). B.printed c ≡ B.printed a ++ texts seal deeds)
+        (sym (run_deeds s m es fs))
+        (text_next B tables seal a b c (deeds_of (run s es m).acts) (deeds_of (run s fs (run s es m).next).acts)
+        (first.printed told s m is h) (next.printed told s (run s es m).next is (first.stands told s m is h)) t);
+    points = λ told s m is h. subst (λ (deeds : List Deed). Keeps a c m.durable deeds) (sym (run_deeds s m es fs))
+        (keeps_next B tables seal a b c m.durable (deeds_of (run s es m).acts)
+        (deeds_of (run s fs (run s es m).next).acts) (first.printed told s m is h) (first.points told s m is h)
+        (subst (λ (d : Durable). Keeps b c d (deeds_of (run s fs (run s es m).next).acts)) (run_durable s es m)
+        (next.points told s (run s es m).next is (first.stands told s m is h))));
+    beside = λ told. beside_then B a b c (first.beside told) (next.beside told);
+  }
+
+  pub amid_later : (es fs : List Event) (x : StoreMeter) (a : D) (y : StoreMeter) (b c : D)
+      → Out es x a y b → Amid fs y b c → Amid (es ++ fs) x a c
+  amid_later es fs x a y b c first next = record {
+    points = λ told s m is h. subst (λ (deeds : List Deed). Keeps a c m.durable deeds) (sym (run_deeds s m es fs))
+        (keeps_next B tables seal a b c m.durable (deeds_of (run s es m).acts)
+        (deeds_of (run s fs (run s es m).next).acts) (first.printed told s m is h) (first.points told s m is h)
+        (subst (λ (d : Durable). Keeps b c d (deeds_of (run s fs (run s es m).next).acts)) (run_durable s es m)
+        (next.points told s (run s es m).next is (first.stands told s m is h))));
+    beside = λ told. beside_then B a b c (first.beside told) (next.beside told);
+  }
+
+  pub amid_sooner : (es fs : List Event) (x : StoreMeter) (a c : D) → Amid es x a c → Amid (es ++ fs) x a c
+  amid_sooner es fs x a c h = record {
+    points = λ told s m is st. subst (λ (deeds : List Deed). Keeps a c m.durable deeds) (sym (run_deeds s m es fs))
+        (keeps_longer B tables seal a c m.durable (deeds_of (run s es m).acts)
+        (deeds_of (run s fs (run s es m).next).acts) (h.points told s m is st));
+    beside = h.beside;
+  }

@@ -1,0 +1,86 @@
+//! What a run on the store and a cut of the power in it mean, in words that share nothing with how the code works.
+ghost use Rattle.std.specs.Prelude.{◌≡◌, ℕ, ◌+◌, ◌≤◌, List, [], ◌∷◌, ◌++◌, length, get_or};
+ghost use Rattle.outside.specs.Disk.{MayLeaveAmid};
+ghost use Rattle.outside.specs.Printing.{Begins};
+ghost use Rattle.outside.specs.Runs.{IsSettled, KeepsStore, LeavesOnly};
+ghost use Rattle.seal_store.specs.Sealing.{HasSeal, KeepsSeal};
+ghost use Rattle.seal_store.specs.declared.seal.Seal.{Seal};
+ghost use Rattle.slot_store.specs.declared.pair.Place.{Place};
+ghost use Rattle.tariff_compile.specs.Tables.{TableParts};
+ghost use Rattle.taxi_units.specs.declared.receipt.Receipt as receipts;
+ghost use Rattle.totaliser_store.specs.States.{IsHeldAfter, entries_of};
+ghost use Rattle.totaliser_store.specs.Sums.{AddsUp};
+ghost use Rattle.totaliser_store.specs.declared.durable.Durable.{Durable};
+ghost use Rattle.meter_states.specs.Setting.{Setting};
+ghost use Rattle.meter_states.specs.declared.act.Act.TheVariants.{Receipt};
+ghost use Rattle.meter_run.specs.Deeds.{Deed, Does, Prints, changes_of};
+ghost use Rattle.meter_run.specs.OnStore.{HasBeside, WritesTotals};
+ghost use Rattle.meter_run.specs.Points.{HasEntries, HasEntryOf, IsCut};
+ghost use Rattle.meter_run.specs.Runs.{HasDone, HasStopped, OpensWith, run_deeds};
+
+use outside::Board;
+use std::sync::ledger::Ledger;
+
+/// The deeds that an image has which a cut left are a beginning of the run's. The stored number less the
+/// opening one is the number of commits among them, the totals found are the opening ones plus the sums
+/// over their entries, and the trip that is held is the last one that no closing entry follows.
+pub fn the_number_tells_the_commits<B: Board<L>, L: Ledger>()
+    ensures beginning { (tables : TableParts) (seal : Seal) (opening : Durable) (printed : List ℕ) (deeds : List Deed)
+        (image text : List ℕ) → (cut : IsCut tables seal B.tells_text opening printed deeds image text)
+        → (more : List Deed) × (deeds ≡ cut.kept ++ more) }
+    ensures number { (tables : TableParts) (seal : Seal) (opening : Durable) (printed : List ℕ) (deeds : List Deed)
+        (image text : List ℕ) → (cut : IsCut tables seal B.tells_text opening printed deeds image text)
+        → cut.found.number ≡ opening.number + length (changes_of cut.kept) }
+    ensures totals { (tables : TableParts) (seal : Seal) (opening : Durable) (printed : List ℕ) (deeds : List Deed)
+        (image text : List ℕ) → (cut : IsCut tables seal B.tells_text opening printed deeds image text)
+        → AddsUp opening.totals cut.found.totals (entries_of (changes_of cut.kept)) }
+    ensures held { (tables : TableParts) (seal : Seal) (opening : Durable) (printed : List ℕ) (deeds : List Deed)
+        (image text : List ℕ) → (cut : IsCut tables seal B.tells_text opening printed deeds image text)
+        → IsHeldAfter opening.hold (changes_of cut.kept) cut.found.hold }
+{}
+
+/// In what a run does each receipt stands directly behind its entry. So of a receipt of which a byte may
+/// have been printed when the power was cut, the entry is among those whose sums the store has.
+pub fn receipts_have_their_entries<B: Board<L>, L: Ledger>()
+    ensures run { (s : Setting) (opening : Durable) (drive : List ℕ) → HasEntries (run_deeds s opening drive) }
+    ensures cut { (tables : TableParts) (seal : Seal) (opening : Durable) (printed : List ℕ) (deeds : List Deed)
+        (image text : List ℕ) → (cut : IsCut tables seal B.tells_text opening printed deeds image text)
+        → (earlier later : List Deed) (receipt : receipts.Receipt)
+        → cut.done ++ cut.next ≡ earlier ++ Does (Receipt receipt) ∷ later
+        → HasEntryOf receipt (entries_of (changes_of cut.kept)) }
+{}
+
+/// A board whose image a cut left, with nothing in flight, opens the next run: with the state found.
+pub fn cuts_open_the_next_run<B: Board<L>, C: Board<L>, L: Ledger>()
+    ensures { (tables : TableParts) (seal : Seal) (opening : Durable) (printed : List ℕ) (deeds : List Deed)
+        (image text : List ℕ) → (cut : IsCut tables seal B.tells_text opening printed deeds image text)
+        → (board : C) → C.image board ≡ image → IsSettled C.Board board
+        → OpensWith C.Board tables board cut.found }
+{}
+
+/// A run leaves the seals as they are: each byte from place 1,024 on that isn't in flight, and so the pair
+/// of seals that is settled with a seal, in each image that a cut leaves and at the end.
+pub fn runs_leave_the_seals<B: Board<L>, L: Ledger>()
+    ensures bytes { (board : B) (left_image : List ℕ) (place : ℕ) → HasBeside B.Board board left_image
+        → 1024 ≤ place → ¬ B.in_flight board place → get_or left_image place 0 ≡ get_or (B.image board) place 0 }
+    ensures left { (board : B) (left_image : List ℕ) (place : Place) (seal : Seal) → HasBeside B.Board board left_image
+        → KeepsSeal B.Board place board seal → HasSeal left_image seal }
+    ensures kept { (old new : B) (place : Place) (seal : Seal) → WritesTotals B.Board old new
+        → KeepsSeal B.Board place old seal → KeepsSeal B.Board place new seal }
+{}
+
+/// A line that is printed behind a run, whole or in part, is one deed more of it.
+pub fn lines_follow_a_run<B: Board<L>, L: Ledger>()
+    ensures whole { (tables : TableParts) (seal : Seal) (old mid new : B) (opening : Durable) (deeds : List Deed)
+        (line : List ℕ) → HasEntries deeds → HasDone B.Board tables seal old mid opening deeds
+        → WritesTotals B.Board old mid → KeepsStore B.Board mid new
+        → LeavesOnly B.Board mid new (MayLeaveAmid (B.image mid) (B.in_flight mid) (B.printed mid) line)
+        → (B.tells_text → B.printed new ≡ B.printed mid ++ line)
+        → HasDone B.Board tables seal old new opening (deeds ++ Prints line ∷ []) }
+    ensures begun { (tables : TableParts) (seal : Seal) (old mid new : B) (opening : Durable) (deeds : List Deed)
+        (line : List ℕ) → HasEntries deeds → HasDone B.Board tables seal old mid opening deeds
+        → WritesTotals B.Board old mid → KeepsStore B.Board mid new
+        → LeavesOnly B.Board mid new (MayLeaveAmid (B.image mid) (B.in_flight mid) (B.printed mid) line)
+        → (B.tells_text → Begins (B.printed mid) (B.printed new) line)
+        → HasStopped B.Board tables seal old new opening (deeds ++ Prints line ∷ []) }
+{}

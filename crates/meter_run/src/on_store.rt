@@ -1,0 +1,225 @@
+//! The meter on a store carries out events.
+ghost use Rattle.std.specs.Prelude.{◌≡◌, ◌≢◌, ℕ, ◌+◌, ◌≤◌, None, OnOk};
+ghost use Rattle.outside.specs.Faults.{HasCause};
+ghost use Rattle.meter_states.specs.Lawful.{IsTimely};
+ghost use Rattle.meter_states.specs.Step.{step};
+ghost use Rattle.taxi_units.specs.Time.{IsSecond};
+ghost use Rattle.taxi_units.specs.declared.event.Event.TheVariants.{Up};
+ghost use Rattle.taxi_units.specs.declared.event.Operating.TheVariants.{Off};
+ghost use Rattle.totaliser_store.specs.Ranges.{IsDurable};
+ghost use Rattle.meter_run.specs.OnStore.{Agrees, CarriesOut, IsReadyOn, StopsAmid};
+
+use crate::advancing::{advance, is_off};
+use crate::carrier::Carrier;
+use crate::printing::print_refusal;
+use crate::reading::read_store;
+use crate::stored::{Known, StoreMeter};
+use crate::storing::do_acts;
+use meter_states::{Acts, Core};
+use outside::{Board, Failed};
+use seal_store::Seal;
+use std::sync::ledger::Ledger;
+use tariff_compile::Tables;
+use taxi_units::{Event, Steps, Why};
+
+/// An event, but the coming of the supply while the meter is off. At most 57 steps.
+fn go_on<B: Board<L>, L: Ledger>(
+    meter: &mut StoreMeter,
+    tables: &Tables,
+    seal: &Seal,
+    event: Event,
+    acts: &mut Acts,
+    board: &mut B,
+    steps: &mut Steps<L>,
+) -> Result<(), Failed>
+    requires ready { IsReadyOn B.Board tables.now seal.now meter.old board.old }
+    requires timely { IsTimely event }
+    requires supply { (second : ℕ) → meter.old.core.plain.operating ≡ Off → event ≢ Up second }
+    ensures ready { OnOk result (IsReadyOn B.Board tables.now seal.now meter.new board.new) }
+    ensures carried { OnOk result (CarriesOut B.Board tables.now seal.now (λ s m. step s event m)
+        meter.old board.old meter.new board.new) }
+    ensures stopped { StopsAmid B.Board tables.now seal.now (λ s m. step s event m) meter.old board.old board.new }
+    ensures cause { HasCause (B.faults board.old) (B.faults board.new) result }
+    ensures steps { steps.new ≤ steps.old + 57 }
+{
+    match &mut meter.known {
+        None => print_refusal(Why::NotNow, board, steps),
+        Some(known) => {
+            acts.clear();
+            advance(
+                &mut meter.core,
+                tables,
+                seal,
+                &known.durable,
+                event,
+                acts,
+                steps,
+            );
+            do_acts(known, acts.as_slice(), tables, seal, board, steps)
+        }
+    }
+}
+
+/// The supply comes, and what the store has was read. At most 21 steps.
+fn resume<B: Board<L>, L: Ledger>(
+    meter: &mut StoreMeter,
+    found: Known,
+    tables: &Tables,
+    seal: &Seal,
+    second: u64,
+    board: &mut B,
+    steps: &mut Steps<L>,
+) -> Result<(), Failed>
+    requires ready { IsReadyOn B.Board tables.now seal.now meter.old board.old }
+    requires off { meter.old.core.plain.operating ≡ Off }
+    requires range { IsDurable found.durable }
+    requires agrees { Agrees B.Board tables.now found board.old }
+    requires second { IsSecond second }
+    ensures ready { OnOk result (IsReadyOn B.Board tables.now seal.now meter.new board.new) }
+    ensures carried { OnOk result (CarriesOut B.Board tables.now seal.now (λ s m. step s (Up second) m)
+        (record { core = meter.old.core; known = Some found }) board.old meter.new board.new) }
+    ensures stopped { StopsAmid B.Board tables.now seal.now (λ s m. step s (Up second) m)
+        (record { core = meter.old.core; known = Some found }) board.old board.new }
+    ensures cause { HasCause (B.faults board.old) (B.faults board.new) result }
+    ensures steps { steps.new ≤ steps.old + 21 }
+{
+    let mut known = found;
+    let (core, acts) = Core::resume(tables, seal, &known.durable, second, steps);
+    do_acts(&mut known, acts.as_slice(), tables, seal, board, steps)?;
+    meter.core = core;
+    meter.known = Some(known);
+    Ok(())
+}
+
+/// The supply comes while the meter is off: it goes on from what a scan of the store finds. Where it finds
+/// no durable state, or one whose held trip doesn't fit, the meter stays off. At most 40 steps.
+fn power_up<B: Board<L>, L: Ledger>(
+    meter: &mut StoreMeter,
+    tables: &Tables,
+    seal: &Seal,
+    second: u64,
+    board: &mut B,
+    steps: &mut Steps<L>,
+) -> Result<(), Failed>
+    requires ready { IsReadyOn B.Board tables.now seal.now meter.old board.old }
+    requires off { meter.old.core.plain.operating ≡ Off }
+    requires second { IsSecond second }
+    ensures ready { OnOk result (IsReadyOn B.Board tables.now seal.now meter.new board.new) }
+    ensures carried { OnOk result (CarriesOut B.Board tables.now seal.now (λ s m. step s (Up second) m)
+        meter.old board.old meter.new board.new) }
+    ensures stopped { StopsAmid B.Board tables.now seal.now (λ s m. step s (Up second) m)
+        meter.old board.old board.new }
+    ensures cause { HasCause (B.faults board.old) (B.faults board.new) result }
+    ensures steps { steps.new ≤ steps.old + 40 }
+{
+    meter.known = None;
+    match read_store(tables, seal, board, steps)? {
+        None => Ok(()),
+        Some(found) => resume(meter, found, tables, seal, second, board, steps),
+    }
+}
+
+/// The supply comes. At most 57 steps.
+fn take_supply<B: Board<L>, L: Ledger>(
+    meter: &mut StoreMeter,
+    tables: &Tables,
+    seal: &Seal,
+    second: u64,
+    acts: &mut Acts,
+    board: &mut B,
+    steps: &mut Steps<L>,
+) -> Result<(), Failed>
+    requires ready { IsReadyOn B.Board tables.now seal.now meter.old board.old }
+    requires second { IsSecond second }
+    ensures ready { OnOk result (IsReadyOn B.Board tables.now seal.now meter.new board.new) }
+    ensures carried { OnOk result (CarriesOut B.Board tables.now seal.now (λ s m. step s (Up second) m)
+        meter.old board.old meter.new board.new) }
+    ensures stopped { StopsAmid B.Board tables.now seal.now (λ s m. step s (Up second) m)
+        meter.old board.old board.new }
+    ensures cause { HasCause (B.faults board.old) (B.faults board.new) result }
+    ensures steps { steps.new ≤ steps.old + 57 }
+{
+    if is_off(&meter.core) {
+        return power_up(meter, tables, seal, second, board, steps);
+    }
+    go_on(meter, tables, seal, Event::Up(second), acts, board, steps)
+}
+
+/// Any event. At most 57 steps.
+fn carry<B: Board<L>, L: Ledger>(
+    meter: &mut StoreMeter,
+    tables: &Tables,
+    seal: &Seal,
+    event: Event,
+    acts: &mut Acts,
+    board: &mut B,
+    steps: &mut Steps<L>,
+) -> Result<(), Failed>
+    requires ready { IsReadyOn B.Board tables.now seal.now meter.old board.old }
+    requires timely { IsTimely event }
+    ensures ready { OnOk result (IsReadyOn B.Board tables.now seal.now meter.new board.new) }
+    ensures carried { OnOk result (CarriesOut B.Board tables.now seal.now (λ s m. step s event m)
+        meter.old board.old meter.new board.new) }
+    ensures stopped { StopsAmid B.Board tables.now seal.now (λ s m. step s event m) meter.old board.old board.new }
+    ensures cause { HasCause (B.faults board.old) (B.faults board.new) result }
+    ensures steps { steps.new ≤ steps.old + 57 }
+{
+    match event {
+        Event::Up(second) => take_supply(meter, tables, seal, second, acts, board, steps),
+        event => go_on(meter, tables, seal, event, acts, board, steps),
+    }
+}
+
+impl<B: Board<L>, L: Ledger> Carrier<B, L> for StoreMeter {
+    ghost use Rattle.meter_states.specs.Run.{run};
+    ghost use Rattle.meter_run.specs.OnStore.{CarriesOut, IsReadyOn, StopsAmid};
+    ghost use Rattle.meter_run.specs.StoreLaws.{amid_later, amid_sooner, out_none, out_then};
+
+    ghost ready = { λ tables seal meter board. IsReadyOn B.Board tables seal meter board };
+
+    ghost carried = { λ tables seal x a events y b.
+        CarriesOut B.Board tables seal (λ s m. run s events m) x a y b };
+
+    ghost broke_off = { λ tables seal x a events b. StopsAmid B.Board tables seal (λ s m. run s events m) x a b };
+
+    ghost nothing = { λ t k x a ready. out_none (record {
+      tells_image = B.tells_image;
+      tells_text = B.tells_text;
+      image = B.image;
+      in_flight = B.in_flight;
+      printed = B.printed;
+      moment = B.moment;
+      left_since = B.left_since;
+      faults = B.faults;
+    }) t k x a (B.only_now a) };
+
+    ghost behind = { λ t k es fs x a y b z c first next. out_then _ t k es fs x a y b z c first next };
+
+    ghost later = { λ t k es fs x a y b c first next. amid_later _ t k es fs x a y b c first next };
+
+    ghost sooner = { λ t k es fs x a c h. amid_sooner _ t k es fs x a c h };
+
+    fn carry_out(
+        &mut self,
+        tables: &Tables,
+        seal: &Seal,
+        event: Event,
+        acts: &mut Acts,
+        board: &mut B,
+        steps: &mut Steps<L>,
+    ) -> Result<(), Failed> {
+        carry(self, tables, seal, event, acts, board, steps)
+    }
+
+    fn carry_equal(
+        &mut self,
+        tables: &Tables,
+        seal: &Seal,
+        pulses: u32,
+        count: u32,
+        board: &B,
+    ) -> u32 {
+        let _ = board;
+        self.core.equal_intervals(tables, seal, pulses, count)
+    }
+}

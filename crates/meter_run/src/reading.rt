@@ -1,0 +1,77 @@
+//! Reads what the store has as the supply comes.
+ghost use Rattle.std.specs.Prelude.{◌≡◌, ◌+◌, ◌≤◌, [], Some, IfOk};
+ghost use Rattle.std.specs.Option.{ForSome};
+ghost use Rattle.outside.specs.Faults.{HasCause};
+ghost use Rattle.meter_states.specs.Fits.{Fits};
+ghost use Rattle.slot_store.specs.declared.pair.Place.{Place};
+ghost use Rattle.totaliser_store.specs.Ranges.{IsDurable};
+ghost use Rattle.totaliser_store.specs.Stored.{KeepsState};
+ghost use Rattle.totaliser_store.specs.declared.durable.Durable.{Durable};
+ghost use Rattle.meter_run.specs.OnStore.{Agrees, WritesTotals};
+ghost use Rattle.meter_run.specs.Points.{KeepsTo};
+ghost use Rattle.meter_run.specs.declared.stored.Known.{Known};
+
+use crate::stored::Known;
+use meter_states::fits;
+use outside::{Board, Failed};
+use seal_store::Seal;
+use slot_store::{Found, SlotFault, scan};
+use std::sync::ledger::Ledger;
+use tariff_compile::Tables;
+use taxi_units::Steps;
+use totaliser_store::Durable;
+
+/// Scans the pair of totals. `None` where it stands for no durable state, or for one whose held trip doesn't
+/// fit the tables: on a board that tells its image that comes only where the image says so. At most 19 steps.
+pub(crate) fn read_store<B: Board<L>, L: Ledger>(
+    tables: &Tables,
+    seal: &Seal,
+    board: &mut B,
+    steps: &mut Steps<L>,
+) -> Result<Option<Known>, Failed>
+    ensures agrees { IfOk result (λ found. ForSome found (λ known. Agrees B.Board tables.now known board.new)) }
+    ensures range { IfOk result (λ found. ForSome found (λ known. IsDurable known.durable)) }
+    ensures finds { B.tells_image → (place : Place) (durable : Durable) → KeepsState B.Board place board.old durable
+        → ForSome durable.hold (Fits tables.now)
+        → IfOk result (λ found. (known : Known) × ((found ≡ Some known) × (known.durable ≡ durable))) }
+    ensures points { B.tells_image → (place : Place) (durable : Durable) → KeepsState B.Board place board.old durable
+        → ForSome durable.hold (Fits tables.now)
+        → KeepsTo B.Board tables.now seal.now board.old board.new durable [] }
+    ensures text { B.printed board.new ≡ B.printed board.old }
+    ensures beside { B.tells_image → WritesTotals B.Board board.old board.new }
+    ensures cause { HasCause (B.faults board.old) (B.faults board.new) result }
+    ensures steps { steps.new ≤ steps.old + 19 }
+{
+    match scan::<Durable, B, L>(board, 0, steps) {
+        Ok(Found::Latest { place, body }) => {
+            let known = Known {
+                durable: body,
+                place,
+            };
+            Ok(where_it_fits(known, tables, steps))
+        }
+        Ok(Found::Blank) => Ok(None),
+        Err(SlotFault::DeviceFailed) => Err(Failed),
+        Err(SlotFault::BadBody(_)) => Ok(None),
+        Err(SlotFault::SameNumber(_)) => Ok(None),
+    }
+}
+
+/// What was found, where its held trip fits. At most 16 steps.
+fn where_it_fits<L: Ledger>(known: Known, tables: &Tables, steps: &mut Steps<L>) -> Option<Known>
+    ensures same { ForSome result (λ found. found ≡ known) }
+    ensures fits { ForSome result (λ found. ForSome found.durable.hold (Fits tables.now)) }
+    ensures finds { ForSome known.durable.hold (Fits tables.now) → result ≡ Some known }
+    ensures steps { steps.new ≤ steps.old + 16 }
+{
+    match &known.durable.hold {
+        None => Some(known),
+        Some(trip) => {
+            if fits(trip, tables, steps) {
+                Some(known)
+            } else {
+                None
+            }
+        }
+    }
+}

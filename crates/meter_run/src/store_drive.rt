@@ -1,0 +1,98 @@
+//! A drive that is carried out on a store.
+ghost use Rattle.std.specs.Prelude.{◌≡◌, ◌≢◌, ℕ, ◌+◌, ◌≤◌, Err, IsOk, OnOk};
+ghost use Rattle.drive_text.specs.Ending.{Whole, drive_end};
+ghost use Rattle.outside.specs.Faults.{HasCause, Rose};
+ghost use Rattle.meter_states.specs.Run.{ended};
+ghost use Rattle.seal_store.specs.Ranges.{IsSeal};
+ghost use Rattle.meter_run.specs.Drives.{IsBoundedBy};
+ghost use Rattle.meter_run.specs.OnStore.{CarriesOut, IsReadyOn, StopsAmid, WritesTotals};
+ghost use Rattle.meter_run.specs.Runs.{EndsRun, LeavesPoints};
+
+use crate::advancing::is_off;
+use crate::carrier::Carrier;
+use crate::drive::carry_drive;
+use crate::dry_drive::answer;
+use crate::fault::RunFault;
+use crate::stored::StoreMeter;
+use meter_states::Acts;
+use outside::{Board, Failed, Files};
+use seal_store::Seal;
+use std::sync::ledger::Ledger;
+use tariff_compile::Tables;
+use taxi_units::{Event, Steps};
+
+/// Reads the drive of a word to its end, and carries out each event on the board as soon as its line is
+/// read, under tables that were compiled with the constant of a seal in its ranges. Displays, refusals and
+/// receipts are printed; entries and held trips are committed to the pair of totals; and an `Up` while the
+/// meter is off scans that pair, and goes on from what it finds. At most 64 steps an event, the supply drop
+/// at the end counting as one. It takes no memory.
+///
+/// `BadDrive` with the first line that is no line of a drive; `TooLong` where 2^40 bytes were taken, none
+/// of their lines is bad, and the end wasn't told; `ReadFault` only where the count of faults of the word
+/// rose; `BoardFault` only where the board's did, so a drive without a bad line and without a fault ends in
+/// `Ok`. At the drive's end and before each of these but `BoardFault` the supply drops, where the meter is
+/// powered; where the board fails in that, the answer is `BoardFault`, and after a fault of the board
+/// nothing more is done.
+///
+/// It asks nothing of the board. Where the board tells its image, and opens with a durable state whose held
+/// trip fits, all that the run does was done at each answer but `BoardFault`, and a part of it there; and a
+/// cut of the power at any moment leaves a point of it. A board that tells nothing may answer a scan by
+/// anything: where that is no durable state, or one whose held trip doesn't fit, the meter stays off. All of
+/// this is this project's own.
+pub fn run_events<F: Files, B: Board<L>, L: Ledger>(
+    tables: &Tables,
+    seal: &Seal,
+    files: &mut F,
+    word: usize,
+    board: &mut B,
+    steps: &mut Steps<L>,
+) -> Result<(), RunFault>
+    requires constant { tables.now.constant ≡ seal.now.params.constant }
+    requires seal { IsSeal seal.now }
+    ensures ends { F.tells → EndsRun B.Board tables.now seal.now board.old board.new
+        (F.rest files.old word) (F.rest files.new word) result }
+    ensures cuts { F.tells → LeavesPoints B.Board tables.now seal.now board.old board.new
+        (F.rest files.old word) (F.rest files.new word) }
+    ensures beside { B.tells_image → WritesTotals B.Board board.old board.new }
+    ensures complete { F.tells → drive_end (F.rest files.old word) ≡ Whole
+        → ¬ Rose (F.faults files.old word) (F.faults files.new word)
+        → ¬ Rose (B.faults board.old) (B.faults board.new) → IsOk result }
+    ensures steps { F.tells → IsBoundedBy 64 (F.rest files.old word) (F.rest files.new word) steps.old steps.new }
+    ensures others { (other : ℕ) → other ≢ word → F.rest files.new other ≡ F.rest files.old other }
+    ensures read_fault { result ≡ Err RunFault.ReadFault → Rose (F.faults files.old word) (F.faults files.new word) }
+    ensures board_fault { result ≡ Err RunFault.BoardFault → Rose (B.faults board.old) (B.faults board.new) }
+    ensures counts { (other : ℕ) → F.faults files.old other ≤ F.faults files.new other }
+    ensures count { B.faults board.old ≤ B.faults board.new }
+{
+    let _ = tables.measure();
+    let mut meter = StoreMeter::new();
+    match carry_drive(&mut meter, tables, seal, files, word, board, steps) {
+        Ok(stop) => match end(&mut meter, tables, seal, board, steps) {
+            Ok(()) => answer(stop),
+            Err(_) => Err(RunFault::BoardFault),
+        },
+        Err(_) => Err(RunFault::BoardFault),
+    }
+}
+
+/// The supply drops, where the meter is powered. At most 64 steps.
+fn end<B: Board<L>, L: Ledger>(
+    meter: &mut StoreMeter,
+    tables: &Tables,
+    seal: &Seal,
+    board: &mut B,
+    steps: &mut Steps<L>,
+) -> Result<(), Failed>
+    requires ready { IsReadyOn B.Board tables.now seal.now meter.old board.old }
+    ensures carried { OnOk result (CarriesOut B.Board tables.now seal.now (λ s m. ended s m)
+        meter.old board.old meter.new board.new) }
+    ensures stopped { StopsAmid B.Board tables.now seal.now (λ s m. ended s m) meter.old board.old board.new }
+    ensures cause { HasCause (B.faults board.old) (B.faults board.new) result }
+    ensures steps { steps.new ≤ steps.old + 64 }
+{
+    if is_off(&meter.core) {
+        return Ok(());
+    }
+    let mut acts = Acts::new();
+    meter.carry_out(tables, seal, Event::Down, &mut acts, board, steps)
+}
