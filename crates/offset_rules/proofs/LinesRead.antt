@@ -1,0 +1,121 @@
+-- Lines are read by their forms.
+use Rattle.std.proofs.Common.{◌≡◌, ◌∙◌, ℕ, ℤ, List, [], ◌∷◌, ◌++◌, Some, refl, sym, ap, subst, arith, append_assoc}
+use Rattle.taxi_units.specs.Number.{NoDigitFirst}
+use Rattle.taxi_units.specs.Reading.{word_at}
+use Rattle.taxi_units.proofs.Laws.{words_are_read_by_their_text}
+use Rattle.offset_rules.specs.Forms.{IsChangeLine, IsChangeText, IsOffsetLine}
+use Rattle.offset_rules.specs.Names.{day_names, month_names, number_names}
+use Rattle.offset_rules.specs.Reading.{change_at, change_line_at, numbered_at, offset_line_at, seconds_at, time_at}
+use Rattle.offset_rules.specs.Rule.{Change}
+use Rattle.offset_rules.proofs.Forms.{read_on, seconds_from, seconds_is, time_from, time_is}
+use Rattle.offset_rules.proofs.NamesRead.{day_from, month_from, name_is, number_from}
+
+-- a word stands at the front
+word_is : (word text rest : List ℕ) → word_at word text ≡ Some rest → text ≡ word ++ rest
+word_is word text rest = (words_are_read_by_their_text word text rest).0
+
+word_again : (word rest : List ℕ) → word_at word (word ++ rest) ≡ Some rest
+word_again word rest = (words_are_read_by_their_text word (word ++ rest) rest).1 refl
+
+same_pair : {A B : Type 0} (x y : A × B) → Some x ≡ Some y → x ≡ y
+same_pair x y e = cc
+
+-- a text of a form stands at the front
+pub record StandsAt {A : Type 0} (Form : List ℕ → A → Type 0) (text : List ℕ) (value : A) (rest : List ℕ) : Type 0 where
+  pub front : List ℕ
+  pub text_is : text ≡ front ++ rest
+  pub is : Form front value
+
+four_parts : (a b c d rest : List ℕ) → a ++ (32 ∷ (b ++ (32 ∷ (c ++ (32 ∷ (d ++ rest)))))) ≡ (a ++ (32 ∷ (b ++ (32 ∷ (c ++ (32 ∷ d)))))) ++ rest
+four_parts a b c d rest = sym (simp append_assoc)
+
+pub change_is : (text : List ℕ) (x : Change × List ℕ) → change_at text ≡ Some x → StandsAt IsChangeText text x.0 x.1
+unfolding change_at
+change_is text x e =
+    let number = read_on (numbered_at number_names 1 text) _ x e in
+    let days = read_on (word_at (32 ∷ []) number.0.1) _ x number.2 in
+    let weekday = read_on (numbered_at day_names 1 days.0) _ x days.2 in
+    let months = read_on (word_at (32 ∷ []) weekday.0.1) _ x weekday.2 in
+    let month = read_on (numbered_at month_names 1 months.0) _ x months.2 in
+    let time = read_on (word_at (32 ∷ []) month.0.1) _ x month.2 in
+    let minute = read_on (time_at time.0) _ x time.2 in
+    let n = name_is number_names text number.0 number.1 in
+    let w = name_is day_names days.0 weekday.0 weekday.1 in
+    let m = name_is month_names months.0 month.0 month.1 in
+    let t = time_is time.0 minute.0 minute.1 in
+    let change : Change = record { number = number.0.0; weekday = weekday.0.0; month = month.0.0; minute = minute.0.0 } in
+    let last : month.0.1 ≡ 32 ∷ (t.time ++ minute.0.1) = word_is (32 ∷ []) month.0.1 time.0 time.1 ∙ ap (λ (r : List ℕ). 32 ∷ r) t.text_is in
+    let third : weekday.0.1 ≡ 32 ∷ (m.name ++ (32 ∷ (t.time ++ minute.0.1))) = word_is (32 ∷ []) weekday.0.1 months.0 months.1 ∙ ap (λ (r : List ℕ). 32 ∷ r) (m.text_is ∙ ap (λ (r : List ℕ). m.name ++ r) last) in
+    let second : number.0.1 ≡ 32 ∷ (w.name ++ (32 ∷ (m.name ++ (32 ∷ (t.time ++ minute.0.1))))) = word_is (32 ∷ []) number.0.1 days.0 days.1 ∙ ap (λ (r : List ℕ). 32 ∷ r) (w.text_is ∙ ap (λ (r : List ℕ). w.name ++ r) third) in
+    let there : StandsAt IsChangeText text change minute.0.1 = record {
+      front = n.name ++ (32 ∷ (w.name ++ (32 ∷ (m.name ++ (32 ∷ t.time)))));
+      text_is = n.text_is ∙ (ap (λ (r : List ℕ). n.name ++ r) second ∙ four_parts n.name w.name m.name t.time minute.0.1);
+      is = record { number = n.name; weekday = w.name; month = m.name; time = t.time; text_is = refl; number_is = n.is; weekday_is = w.is; month_is = m.is; time_is = t.is };
+    } in
+    subst (λ (z : Change × List ℕ). StandsAt IsChangeText text z.0 z.1) (same_pair (change, minute.0.1) x minute.2) there
+
+pub change_from : (text rest : List ℕ) (change : Change) → IsChangeText text change → NoDigitFirst rest → change_at (text ++ rest) ≡ Some (change, rest)
+unfolding change_at
+change_from text rest change is stops =
+    let parts : text ++ rest ≡ is.number ++ (32 ∷ (is.weekday ++ (32 ∷ (is.month ++ (32 ∷ (is.time ++ rest)))))) = ap (λ (t : List ℕ). t ++ rest) is.text_is ∙ sym (four_parts is.number is.weekday is.month is.time rest) in
+    let last = is.time ++ rest in
+    let third = is.month ++ (32 ∷ last) in
+    let second = is.weekday ++ (32 ∷ third) in
+    rw (
+      parts,
+      number_from is.number (32 ∷ second) change.number is.number_is,
+      word_again (32 ∷ []) second,
+      day_from is.weekday (32 ∷ third) change.weekday is.weekday_is,
+      word_again (32 ∷ []) third,
+      month_from is.month (32 ∷ last) change.month is.month_is,
+      word_again (32 ∷ []) last,
+      time_from is.time rest change.minute is.time_is stops,
+    ) refl
+
+-- lines
+pub record LineFirst {A : Type 0} (Form : List ℕ → A → Type 0) (text : List ℕ) (value : A) (rest : List ℕ) : Type 0 where
+  pub line : List ℕ
+  pub text_is : text ≡ line ++ 10 ∷ rest
+  pub is : Form line value
+
+pub offset_line_is : (name text : List ℕ) (x : ℤ × List ℕ) → offset_line_at name text ≡ Some x → LineFirst (IsOffsetLine name) text x.0 x.1
+unfolding offset_line_at
+offset_line_is name text x e =
+    let value = read_on (word_at name text) _ x e in
+    let offset = read_on (seconds_at value.0) _ x value.2 in
+    let rest = read_on (word_at (10 ∷ []) offset.0.1) _ x offset.2 in
+    let o = seconds_is value.0 offset.0 offset.1 in
+    let after = word_is (10 ∷ []) offset.0.1 rest.0 rest.1 in
+    let there : LineFirst (IsOffsetLine name) text offset.0.0 rest.0 = record {
+      line = name ++ o.value;
+      text_is = word_is name text value.0 value.1 ∙ (ap (λ (t : List ℕ). name ++ t) (o.text_is ∙ ap (λ (t : List ℕ). o.value ++ t) after) ∙ sym (append_assoc name o.value (10 ∷ rest.0)));
+      is = record { value = o.value; line_is = refl; value_is = o.seconds };
+    } in
+    subst (λ (z : ℤ × List ℕ). LineFirst (IsOffsetLine name) text z.0 z.1) (same_pair (offset.0.0, rest.0) x rest.2) there
+
+pub offset_line_from : (name line rest : List ℕ) (offset : ℤ) → IsOffsetLine name line offset → offset_line_at name (line ++ 10 ∷ rest) ≡ Some (offset, rest)
+unfolding offset_line_at
+offset_line_from name line rest offset is =
+    let text : line ++ 10 ∷ rest ≡ name ++ (is.value ++ 10 ∷ rest) = ap (λ (t : List ℕ). t ++ 10 ∷ rest) is.line_is ∙ append_assoc name is.value (10 ∷ rest) in
+    rw (text, word_again name (is.value ++ 10 ∷ rest), seconds_from is.value (10 ∷ rest) offset is.value_is (omega arith), word_again (10 ∷ []) rest) refl
+
+pub change_line_is : (name text : List ℕ) (x : Change × List ℕ) → change_line_at name text ≡ Some x → LineFirst (IsChangeLine name) text x.0 x.1
+unfolding change_line_at
+change_line_is name text x e =
+    let value = read_on (word_at name text) _ x e in
+    let change = read_on (change_at value.0) _ x value.2 in
+    let rest = read_on (word_at (10 ∷ []) change.0.1) _ x change.2 in
+    let c = change_is value.0 change.0 change.1 in
+    let after = word_is (10 ∷ []) change.0.1 rest.0 rest.1 in
+    let there : LineFirst (IsChangeLine name) text change.0.0 rest.0 = record {
+      line = name ++ c.front;
+      text_is = word_is name text value.0 value.1 ∙ (ap (λ (t : List ℕ). name ++ t) (c.text_is ∙ ap (λ (t : List ℕ). c.front ++ t) after) ∙ sym (append_assoc name c.front (10 ∷ rest.0)));
+      is = record { value = c.front; line_is = refl; value_is = c.is };
+    } in
+    subst (λ (z : Change × List ℕ). LineFirst (IsChangeLine name) text z.0 z.1) (same_pair (change.0.0, rest.0) x rest.2) there
+
+pub change_line_from : (name line rest : List ℕ) (change : Change) → IsChangeLine name line change → change_line_at name (line ++ 10 ∷ rest) ≡ Some (change, rest)
+unfolding change_line_at
+change_line_from name line rest change is =
+    let text : line ++ 10 ∷ rest ≡ name ++ (is.value ++ 10 ∷ rest) = ap (λ (t : List ℕ). t ++ 10 ∷ rest) is.line_is ∙ append_assoc name is.value (10 ∷ rest) in
+    rw (text, word_again name (is.value ++ 10 ∷ rest), change_from is.value (10 ∷ rest) change is.value_is (omega arith), word_again (10 ∷ []) rest) refl

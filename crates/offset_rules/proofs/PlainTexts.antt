@@ -1,0 +1,165 @@
+-- A plain text is read as its rule, and what is read is in its ranges.
+use Rattle.std.proofs.Common.{◌≡◌, ◌∙◌, ℕ, zero, suc, ◌-◌, ◌/◌, ◌%◌, ◌^◌, ◌<◌, ◌≤◌, ℤ, pos, negsuc, true, leb, get_or, List, [], ◌∷◌, ◌++◌, length, Result, Ok, refl, sym, arith, length-append}
+use Rattle.std.specs.Prelude.{codes}
+use Rattle.std.specs.Fmt.{decimal}
+use Rattle.std.specs.List.{list_all}
+use Rattle.std.proofs.lemmas.Bool.{leb-true, le-leb}
+use Rattle.std.proofs.lemmas.Bool.Decides.{Decides-and}
+use Rattle.std.proofs.lemmas.Int.{ints}
+use Rattle.interval_clock.specs.Offsets.{IsOffset}
+use Rattle.taxi_units.specs.Number.{padded_text}
+use Rattle.taxi_units.proofs.Laws.{numbers_are_short, numbers_are_written_by_their_digits, padded_numbers_are_written_by_their_digits}
+use Rattle.offset_rules.specs.Forms.{IsChangeLine, IsChangeText, IsFigure, IsOffsetLine, IsSeconds, IsTime}
+use Rattle.offset_rules.specs.Forms.IsSeconds.{ahead, behind}
+use Rattle.offset_rules.specs.Names.{day_names, month_names, name_of, number_names}
+use Rattle.offset_rules.specs.Reading.{rules_read}
+use Rattle.offset_rules.specs.Rule.{Change, IsChange, IsRule, Rule}
+use Rattle.offset_rules.specs.Says.{AreLinesOf, IsReadAs}
+use Rattle.offset_rules.specs.Texts.{change_text, offset_text, plain_text, time_text}
+use Rattle.offset_rules.specs.declared.fault.RuleFault.{RuleFault}
+use Rattle.offset_rules.proofs.TextsRead.{texts_say_rules}
+
+-- ---- a plain text
+
+number_figure : (widest greatest n : ℕ) → 0 < widest → widest ≤ 64 → n < 10 ^ widest → n < 2 ^ 128 → n ≤ greatest → IsFigure 1 widest greatest (decimal n) n
+number_figure widest greatest n some narrow small fits most =
+    let is = (numbers_are_written_by_their_digits n (decimal n) fits).0 refl in
+    let long = numbers_are_short widest n some narrow small in
+    record { numeral = is.digits; some = omega (arith, long); few = long.1; value = is.value_is; small = most }
+
+seconds_text : (offset : ℤ) → IsOffset offset → IsSeconds (offset_text offset) offset
+seconds_text (pos n) is =
+    let below : n ≤ 50400 = omega (arith, ints, is.1) in
+    ahead (decimal n) n (number_figure 5 50400 n (omega arith) (omega arith) (omega (arith, below)) (omega (arith, below)) below)
+seconds_text (negsuc n) is =
+    let below : suc n ≤ 50400 = omega (arith, ints, is.0) in
+    behind (decimal (suc n)) (suc n) (number_figure 5 50400 (suc n) (omega arith) (omega arith) (omega (arith, below)) (omega (arith, below)) below)
+
+two_digits : (greatest n : ℕ) → n ≤ greatest → greatest ≤ 99 → IsFigure 2 2 greatest (padded_text 2 n) n
+two_digits greatest n most small =
+    let is = (padded_numbers_are_written_by_their_digits 2 n (padded_text 2 n) (omega (arith, most, small))).0 refl in
+    let long = numbers_are_short 2 n (omega arith) (omega arith) (omega (arith, most, small)) in
+    record { numeral = is.digits; some = omega (arith, is.length_is, long); few = omega (arith, is.length_is, long); value = is.value_is; small = most }
+
+time_again : (minute : ℕ) → minute ≤ 1439 → IsTime (time_text minute) minute
+time_again minute most = record {
+  hours = padded_text 2 (minute / 60);
+  minutes = padded_text 2 (minute % 60);
+  text_is = refl;
+  hour = minute / 60;
+  rest = minute % 60;
+  hour_is = two_digits 23 (minute / 60) (omega arith) (omega arith);
+  rest_is = two_digits 59 (minute % 60) (omega arith) (omega arith);
+  minute_is = omega arith;
+}
+
+change_again : (change : Change) → IsChange change → IsChangeText (change_text change) change
+change_again change is = record {
+  number = name_of number_names change.number;
+  weekday = name_of day_names change.weekday;
+  month = name_of month_names change.month;
+  time = time_text change.minute;
+  text_is = refl;
+  number_is = (is.number.0, is.number.1, refl);
+  weekday_is = (is.weekday.0, is.weekday.1, refl);
+  month_is = (is.month.0, is.month.1, refl);
+  time_is = time_again change.minute is.minute;
+}
+
+offset_line_again : (name : List ℕ) (offset : ℤ) → IsOffset offset → IsOffsetLine name (name ++ offset_text offset) offset
+offset_line_again name offset is = record { value = offset_text offset; line_is = refl; value_is = seconds_text offset is }
+
+change_line_again : (name : List ℕ) (change : Change) → IsChange change → IsChangeLine name (name ++ change_text change) change
+change_line_again name change is = record { value = change_text change; line_is = refl; value_is = change_again change is }
+
+plain_lines : (rule : Rule) → IsRule rule → AreLinesOf (plain_text rule) rule
+plain_lines rule is = record {
+  first = codes "standard " ++ offset_text rule.standard;
+  second = codes "summer " ++ offset_text rule.summer;
+  third = codes "begin " ++ change_text rule.begin;
+  fourth = codes "end " ++ change_text rule.end;
+  text_is = refl;
+  standard = offset_line_again (codes "standard ") rule.standard is.standard;
+  summer = offset_line_again (codes "summer ") rule.summer is.summer;
+  begin = change_line_again (codes "begin ") rule.begin is.begin;
+  end = change_line_again (codes "end ") rule.end is.end;
+}
+
+-- ---- its length
+
+short_names : (names : List (List ℕ)) → list_all (λ name. leb (length name) 6) names ≡ true → (place : ℕ) → length (get_or names place []) ≤ 6
+short_names [] all place = omega arith
+short_names (name ∷ names) all place = by name names place ((Decides-and (leb (length name) 6) (list_all (λ name. leb (length name) 6) names) (leb-true (length name) 6, le-leb (length name) 6) (λ (h : list_all (λ name. leb (length name) 6) names ≡ true). h, λ (h : list_all (λ name. leb (length name) 6) names ≡ true). h)).0 all) (λ rest k. short_names names rest k)
+  where
+    by : (name : List ℕ) (names : List (List ℕ)) (place : ℕ) → (length name ≤ 6) × (list_all (λ name. leb (length name) 6) names ≡ true) → (list_all (λ name. leb (length name) 6) names ≡ true → (k : ℕ) → length (get_or names k []) ≤ 6) → length (get_or (name ∷ names) place []) ≤ 6
+    by name names zero both rest = both.0
+    by name names (suc place) both rest = rest both.1 place
+
+short_offset : (offset : ℤ) → IsOffset offset → length (offset_text offset) ≤ 6
+short_offset (pos n) is =
+    let below : n ≤ 50400 = omega (arith, ints, is.1) in
+    omega (arith, numbers_are_short 5 n (omega arith) (omega arith) (omega (arith, below)))
+short_offset (negsuc n) is =
+    let below : suc n ≤ 50400 = omega (arith, ints, is.0) in
+    omega (arith, numbers_are_short 5 (suc n) (omega arith) (omega arith) (omega (arith, below)))
+
+short_change : (change : Change) → IsChange change → length (change_text change) ≤ 26
+short_change change is =
+    let n = short_names number_names refl (change.number - 1) in
+    let w = short_names day_names refl (change.weekday - 1) in
+    let m = short_names month_names refl (change.month - 1) in
+    let h = (two_digits 23 (change.minute / 60) (omega (arith, is.minute)) (omega arith)).few in
+    let l = (two_digits 59 (change.minute % 60) (omega arith) (omega arith)).few in
+    let hours = padded_text 2 (change.minute / 60) in
+    let minutes = padded_text 2 (change.minute % 60) in
+    let t = length-append hours (58 ∷ minutes) in
+    let c = length-append (name_of month_names change.month) (32 ∷ (hours ++ 58 ∷ minutes)) in
+    let b = length-append (name_of day_names change.weekday) (32 ∷ (name_of month_names change.month ++ (32 ∷ (hours ++ 58 ∷ minutes)))) in
+    let a = length-append (name_of number_names change.number) (32 ∷ (name_of day_names change.weekday ++ (32 ∷ (name_of month_names change.month ++ (32 ∷ (hours ++ 58 ∷ minutes)))))) in
+    omega (arith, n, w, m, h, l, t, c, b, a)
+
+plain_is_short : (rule : Rule) → IsRule rule → length (plain_text rule) ≤ 4096
+plain_is_short rule is =
+    let a = short_offset rule.standard is.standard in
+    let b = short_offset rule.summer is.summer in
+    let c = short_change rule.begin is.begin in
+    let d = short_change rule.end is.end in
+    let e = length-append (offset_text rule.standard) (10 ∷ ((codes "summer " ++ offset_text rule.summer) ++ 10 ∷ ((codes "begin " ++ change_text rule.begin) ++ 10 ∷ ((codes "end " ++ change_text rule.end) ++ codes "\n")))) in
+    let f = length-append (offset_text rule.summer) (10 ∷ ((codes "begin " ++ change_text rule.begin) ++ 10 ∷ ((codes "end " ++ change_text rule.end) ++ codes "\n"))) in
+    let g = length-append (change_text rule.begin) (10 ∷ ((codes "end " ++ change_text rule.end) ++ codes "\n")) in
+    let h = length-append (change_text rule.end) (codes "\n") in
+    omega (arith, a, b, c, d, e, f, g, h)
+
+pub plain_texts_are_read_back : (rule : Rule) → IsRule rule → rules_read (plain_text rule) ≡ Ok rule
+plain_texts_are_read_back rule is = (texts_say_rules (plain_text rule) (Ok rule)).1 (plain_is_short rule is, plain_lines rule is, is.months)
+
+-- ---- ranges
+
+offset_said : (value : List ℕ) (offset : ℤ) → IsSeconds value offset → IsOffset offset
+offset_said value offset (ahead digits n is) = (omega (arith, ints), omega (arith, ints, is.small))
+offset_said value offset (behind digits n is) = (omega (arith, ints, is.small), omega (arith, ints))
+
+change_said : (value : List ℕ) (change : Change) → IsChangeText value change → IsChange change
+change_said value change is = record {
+  number = (is.number_is.0, is.number_is.1);
+  weekday = (is.weekday_is.0, is.weekday_is.1);
+  month = (is.month_is.0, is.month_is.1);
+  minute = omega (arith, is.time_is.minute_is, is.time_is.hour_is.small, is.time_is.rest_is.small);
+}
+
+rule_said : (text : List ℕ) (rule : Rule) → IsReadAs text (Ok rule) → IsRule rule
+rule_said text rule is = record {
+  standard = offset_said is.1.standard.value rule.standard is.1.standard.value_is;
+  summer = offset_said is.1.summer.value rule.summer is.1.summer.value_is;
+  begin = change_said is.1.begin.value rule.begin is.1.begin.value_is;
+  end = change_said is.1.end.value rule.end is.1.end.value_is;
+  months = is.2;
+}
+
+pub rules_are_lawful : (text : List ℕ) (rule : Rule) → rules_read text ≡ Ok rule → IsRule rule
+rules_are_lawful text rule e = rule_said text rule ((texts_say_rules text (Ok rule)).0 e)
+
+-- ---- one answer
+
+pub one_answer : (text : List ℕ) (a b : Result Rule RuleFault) → IsReadAs text a → IsReadAs text b → a ≡ b
+one_answer text a b p q = sym ((texts_say_rules text a).1 p) ∙ (texts_say_rules text b).1 q

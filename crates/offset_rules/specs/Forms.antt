@@ -1,0 +1,53 @@
+-- The forms of the four lines, in words that share nothing with how they are read.
+use Rattle.std.specs.Prelude.{◌≡◌, ℕ, ◌+◌, ◌*◌, ◌≤◌, ℤ, pos, neg_ℤ, List, ◌∷◌, ◌++◌, length, codes}
+use Rattle.std.specs.Str.Parse.{IsNumeral, digits_value}
+use Rattle.offset_rules.specs.Names.{IsName, day_names, month_names, number_names}
+use Rattle.offset_rules.specs.Rule.{Change}
+
+-- so few to so many digits write a number that is no greater than this
+pub record IsFigure (fewest widest greatest : ℕ) (digits : List ℕ) (number : ℕ) : Type 0 where
+  pub numeral : IsNumeral 10 digits
+  pub some : fewest ≤ length digits
+  pub few : length digits ≤ widest
+  pub value : digits_value 10 digits ≡ number
+  pub small : number ≤ greatest
+
+-- an offset in seconds: 1 to 5 digits, at most 50400, with a minus before them or not
+pub data IsSeconds : List ℕ → ℤ → Type 0 where
+  ahead : (digits : List ℕ) (n : ℕ) → IsFigure 1 5 50400 digits n → IsSeconds digits (pos n)
+  behind : (digits : List ℕ) (n : ℕ) → IsFigure 1 5 50400 digits n → IsSeconds (45 ∷ digits) (neg_ℤ (pos n))
+
+-- HH:MM, and its minute of the day
+pub record IsTime (text : List ℕ) (minute : ℕ) : Type 0 where
+  pub hours : List ℕ
+  pub minutes : List ℕ
+  pub text_is : text ≡ hours ++ (codes ":" ++ minutes)
+  pub hour : ℕ
+  pub rest : ℕ
+  pub hour_is : IsFigure 2 2 23 hours hour
+  pub rest_is : IsFigure 2 2 59 minutes rest
+  pub minute_is : minute ≡ hour * 60 + rest
+
+-- a change: its number, its weekday, its month and its time in UTC, with a blank between them
+pub record IsChangeText (text : List ℕ) (change : Change) : Type 0 where
+  pub number : List ℕ
+  pub weekday : List ℕ
+  pub month : List ℕ
+  pub time : List ℕ
+  pub text_is : text ≡ number ++ (codes " " ++ (weekday ++ (codes " " ++ (month ++ (codes " " ++ time)))))
+  pub number_is : IsName number_names change.number number
+  pub weekday_is : IsName day_names change.weekday weekday
+  pub month_is : IsName month_names change.month month
+  pub time_is : IsTime time change.minute
+
+-- a line of a name and an offset
+pub record IsOffsetLine (name line : List ℕ) (offset : ℤ) : Type 0 where
+  pub value : List ℕ
+  pub line_is : line ≡ name ++ value
+  pub value_is : IsSeconds value offset
+
+-- a line of a name and a change
+pub record IsChangeLine (name line : List ℕ) (change : Change) : Type 0 where
+  pub value : List ℕ
+  pub line_is : line ≡ name ++ value
+  pub value_is : IsChangeText value change

@@ -1,0 +1,9 @@
+pub mod Changes
+pub mod Forms
+pub mod Names
+pub mod Pairs
+pub mod Reading
+pub mod Rule
+pub mod Says
+pub mod Summer
+pub mod Texts

@@ -1,0 +1,95 @@
+-- How rules are read from the front of a text: what is found, and what stands after it.
+use Rattle.std.specs.Prelude.{ℕ, ◌+◌, ◌*◌, ◌==◌, ◌&&◌, nat_le, nat_lt, if◌then◌else◌, ℤ, pos, neg_ℤ, List, [], ◌∷◌, length, Option, Some, None, Result, Ok, Err, codes}
+use Rattle.taxi_units.specs.Number.{number_at}
+use Rattle.taxi_units.specs.Reading.{◌>>=◌, word_at}
+use Rattle.offset_rules.specs.Names.{day_names, month_names, number_names}
+use Rattle.offset_rules.specs.Rule.{Change, Rule}
+use Rattle.offset_rules.specs.declared.fault.RuleFault.{RuleFault}
+use Rattle.offset_rules.specs.declared.fault.RuleFault.TheVariants.{TooLong, BadLine, SameMonth}
+
+-- a number at the front, where it has so few to so many digits and is no greater than this
+abbrev pub where_fits : (fewest widest greatest : ℕ) → (text : List ℕ) → ℕ × List ℕ → Option (ℕ × List ℕ)
+where_fits fewest widest greatest text x =
+    if (nat_le (length x.1 + fewest) (length text)
+    && (nat_le (length text) (length x.1 + widest) && nat_le x.0 greatest))
+    then Some x else None
+
+unfoldable pub figure_at : (fewest widest greatest : ℕ) → List ℕ → Option (ℕ × List ℕ)
+figure_at fewest widest greatest text = number_at text >>= where_fits fewest widest greatest text
+
+-- an offset in seconds
+unfoldable pub seconds_at : List ℕ → Option (ℤ × List ℕ)
+seconds_at text = signed_at text (word_at (codes "-") text)
+  where
+    signed_at : List ℕ → Option (List ℕ) → Option (ℤ × List ℕ)
+    signed_at text (Some digits) = figure_at 1 5 50400 digits >>= (λ n. Some (neg_ℤ (pos n.0), n.1))
+    signed_at text None = figure_at 1 5 50400 text >>= (λ n. Some (pos n.0, n.1))
+
+-- a number, where its name was found, and else what other names give
+abbrev pub found_or : ℕ → Option (List ℕ) → Option (ℕ × List ℕ) → Option (ℕ × List ℕ)
+found_or number (Some rest) others = Some (number, rest)
+found_or number None others = others
+
+-- the number of the first of some names that stands at the front, where they are numbered from one on
+abbrev pub numbered_at : (names : List (List ℕ)) → (number : ℕ) → (text : List ℕ) → Option (ℕ × List ℕ)
+numbered_at [] number text = None
+numbered_at (name ∷ names) number text = found_or number (word_at name text) (numbered_at names (number + 1) text)
+
+-- the minute of the day of hours and minutes
+unfoldable pub time_at : List ℕ → Option (ℕ × List ℕ)
+time_at text = do
+  hour ← figure_at 2 2 23 text
+  minutes ← word_at (codes ":") hour.1
+  minute ← figure_at 2 2 59 minutes
+  Some (hour.0 * 60 + minute.0, minute.1)
+
+-- a change
+unfoldable pub change_at : List ℕ → Option (Change × List ℕ)
+change_at text = do
+  number ← numbered_at number_names 1 text
+  days ← word_at (codes " ") number.1
+  weekday ← numbered_at day_names 1 days
+  months ← word_at (codes " ") weekday.1
+  month ← numbered_at month_names 1 months
+  time ← word_at (codes " ") month.1
+  minute ← time_at time
+  Some (record { number = number.0; weekday = weekday.0; month = month.0; minute = minute.0 }, minute.1)
+
+-- a line of a name and an offset
+unfoldable pub offset_line_at : (name text : List ℕ) → Option (ℤ × List ℕ)
+offset_line_at name text = do
+  value ← word_at name text
+  offset ← seconds_at value
+  rest ← word_at (codes "\n") offset.1
+  Some (offset.0, rest)
+
+-- a line of a name and a change
+unfoldable pub change_line_at : (name text : List ℕ) → Option (Change × List ℕ)
+change_line_at name text = do
+  value ← word_at name text
+  change ← change_at value
+  rest ← word_at (codes "\n") change.1
+  Some (change.0, rest)
+
+-- read on, or name the line
+abbrev pub or_bad : {A : Type 0} → (line : ℕ) → Option A → (A → Result Rule RuleFault) → Result Rule RuleFault
+or_bad line (Some x) on = on x
+or_bad line None on = Err (BadLine line)
+
+-- the rule of four lines, and what stands after them
+abbrev pub whole : Rule → (rest : List ℕ) → Result Rule RuleFault
+whole rule [] = if rule.begin.month == rule.end.month then Err SameMonth else Ok rule
+whole rule (c ∷ cs) = Err (BadLine 5)
+
+-- the four lines
+unfoldable pub lines_read : List ℕ → Result Rule RuleFault
+lines_read text =
+    or_bad 1 (offset_line_at (codes "standard ") text) (λ standard.
+    or_bad 2 (offset_line_at (codes "summer ") standard.1) (λ summer.
+    or_bad 3 (change_line_at (codes "begin ") summer.1) (λ begin.
+    or_bad 4 (change_line_at (codes "end ") begin.1) (λ end.
+    whole (record { standard = standard.0; summer = summer.0; begin = begin.0; end = end.0 }) end.1))))
+
+-- the answer to a text
+unfoldable pub rules_read : List ℕ → Result Rule RuleFault
+rules_read text = if nat_lt 4096 (length text) then Err TooLong else lines_read text

@@ -1,0 +1,80 @@
+//! Offsets, times and changes at the front of a text, and what stands after them.
+ghost use Rattle.std.specs.Prelude.{◌≡◌, ◌+◌, ◌≤◌, IfSome};
+ghost use Rattle.interval_clock.specs.Offsets.{IsOffset};
+ghost use Rattle.offset_rules.specs.Reading as spec;
+ghost use Rattle.offset_rules.specs.Rule.{IsChange};
+ghost use Rattle.taxi_units.specs.Reading.{Gives};
+
+use crate::names::{month, number, weekday};
+use crate::rules::Change;
+use taxi_units::{number_at, word};
+
+/// A number of so few to so many digits that is no greater than this.
+#[tactic(auto, unfolding(crate::specs::Reading::figure_at))]
+fn figure(text: &[u8], fewest: usize, widest: usize, greatest: u64) -> Option<(u64, &[u8])>
+    requires fewest { fewest ≤ 12 }
+    requires widest { widest ≤ 12 }
+    ensures value { Gives (λ x. (x.0, x.1.now)) result (spec.figure_at fewest widest greatest text.now) }
+    ensures small { IfSome result (λ x. x.0 ≤ greatest) }
+{
+    let (number, rest) = number_at(text)?;
+    if rest.len() + fewest <= text.len()
+        && text.len() <= rest.len() + widest
+        && number <= greatest
+    {
+        return Some((number, rest));
+    }
+    None
+}
+
+/// An offset of at most 14 hours, in seconds.
+#[tactic(auto, unfolding(crate::specs::Reading::seconds_at))]
+pub(crate) fn seconds(text: &[u8]) -> Option<(i32, &[u8])>
+    ensures value { Gives (λ x. (x.0, x.1.now)) result (spec.seconds_at text.now) }
+    ensures range { IfSome result (λ x. IsOffset x.0) }
+{
+    match word(text, b"-") {
+        Some(digits) => {
+            let (seconds, rest) = figure(digits, 1, 5, 50_400)?;
+            Some((-(seconds as i32), rest))
+        }
+        None => {
+            let (seconds, rest) = figure(text, 1, 5, 50_400)?;
+            Some((seconds as i32, rest))
+        }
+    }
+}
+
+/// The minute of the day of HH:MM.
+#[tactic(auto, unfolding(crate::specs::Reading::time_at))]
+fn time(text: &[u8]) -> Option<(u16, &[u8])>
+    ensures value { Gives (λ x. (x.0, x.1.now)) result (spec.time_at text.now) }
+    ensures range { IfSome result (λ x. x.0 ≤ 1439) }
+{
+    let (hour, rest) = figure(text, 2, 2, 23)?;
+    let rest = word(rest, b":")?;
+    let (minute, rest) = figure(rest, 2, 2, 59)?;
+    Some(((hour * 60 + minute) as u16, rest))
+}
+
+/// A change: its number, its weekday, its month and its time.
+#[tactic(auto, unfolding(crate::specs::Reading::change_at))]
+pub(crate) fn change(text: &[u8]) -> Option<(Change, &[u8])>
+    ensures value { Gives (λ x. (x.0, x.1.now)) result (spec.change_at text.now) }
+    ensures ranges { IfSome result (λ x. IsChange x.0) }
+{
+    let (number, rest) = number(text)?;
+    let rest = word(rest, b" ")?;
+    let (weekday, rest) = weekday(rest)?;
+    let rest = word(rest, b" ")?;
+    let (month, rest) = month(rest)?;
+    let rest = word(rest, b" ")?;
+    let (minute, rest) = time(rest)?;
+    let change = Change {
+        number,
+        weekday,
+        month,
+        minute,
+    };
+    Some((change, rest))
+}
