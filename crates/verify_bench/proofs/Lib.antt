@@ -1,0 +1,16 @@
+mod Adds
+mod BenchSupply
+mod Benches
+mod Capped
+mod Carried
+mod Fields
+mod GeneratedLaws
+mod Lines
+mod LinesRead
+mod Permitted
+mod Ranged
+mod ReceiptList
+mod ReportRows
+mod Rows
+mod TreeParts
+mod Trips

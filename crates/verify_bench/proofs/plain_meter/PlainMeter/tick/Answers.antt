@@ -1,0 +1,31 @@
+use Rattle.meter_states.specs.Closing.{roaming_checked}
+use Rattle.meter_states.specs.Display.{shown}
+use Rattle.meter_states.specs.Interval.{interval_begun, interval_counted, ticks_so_far}
+use Rattle.meter_states.specs.Meter.{Meter, ◌>>=◌}
+use Rattle.meter_states.specs.Step.{expired_or_pressed}
+use Rattle.verify_bench.specs.Settings.{setting_of}
+use Rattle.verify_bench.proofs.Benches.{moves_begun, moves_quietly, moves_shown, moves_then}
+use Rattle.verify_bench.proofs.plain_meter.PlainMeter.tick.Goals as goal
+
+pub returns-clause-moves : goal.returns-clause-moves
+returns-clause-moves g c m stands =
+    let s = setting_of c.args.checked.now c.args.seal.now in
+    let a = c.args.found.now.items in
+    let b = c.expire_or_press.new.found.items in
+    let one = c.count_interval.new.self in
+    let two = c.expire_or_press.new.self in
+    let three = c.check_roaming.new.self in
+    let m1 = (interval_counted s m).next in
+    let t = ticks_so_far m1.trip in
+    let counted = c.in_default.ensures.stands m stands in
+    let acted = c.in_default-expire_or_press.ensures.moves m1 counted in
+    let m2 = (expired_or_pressed s m1).next in
+    let roamed = c.check_roaming.ensures.moves s t b m2 acted.state in
+    let m3 = (roaming_checked s m2).next in
+    let seen = moves_shown s t b three m3 roamed.state in
+    let begun = moves_begun s t b three (shown s m3).next seen.state in
+    let four = moves_then s t b b b three _ (shown s m3) interval_begun seen begun in
+    let five = moves_then s t b b b three _ (roaming_checked s m2) (λ (n : Meter). shown s n >>= interval_begun) roamed four in
+    let six = moves_then s t a b b two _ (expired_or_pressed s m1) (λ (n : Meter). roaming_checked s n >>= (λ (n : Meter). shown s n >>= interval_begun)) acted five in
+    moves_then s t a a b one _ (interval_counted s m) (λ (n : Meter). expired_or_pressed s n >>= (λ (n : Meter). roaming_checked s n >>= (λ (n : Meter). shown s n >>= interval_begun)))
+    (moves_quietly s t a one m1 counted) six

@@ -1,0 +1,18 @@
+use Rattle.std.proofs.Common.{◌≡◌, arith, ◌∙◌, sym, Some, None}
+use Rattle.csv.specs.Records.{fields_of}
+use Rattle.verify_bench.specs.Readings.{AreGood, reading_said}
+use Rattle.verify_bench.proofs.Rows.{good_more, good_length, bad_behind}
+use Rattle.verify_bench.proofs.readings.take_row.Goals as goal
+
+pub returns-in_default-clause-err : goal.returns-in_default-clause-err
+returns-in_default-clause-err c rows given =
+    let good : AreGood c.args.decimals rows c.args.readings.now.items = rw c.if-not-headed.false at given in
+    let many = good_length c.args.decimals rows c.args.readings.now.items good in
+    let none : reading_said c.args.decimals (fields_of c.args.row.now) ≡ None = sym c.reading_of.ensures ∙ c.in_default.is in
+    (omega (arith, c.len.ensures, many), bad_behind c.args.decimals rows c.args.readings.now.items (fields_of c.args.row.now) good none)
+
+pub returns-in-Ok-clause-ok : goal.returns-in-Ok-clause-ok
+returns-in-Ok-clause-ok c rows given =
+    let good : AreGood c.args.decimals rows c.args.readings.now.items = rw c.if-not-headed.false at given in
+    let said : reading_said c.args.decimals (fields_of c.args.row.now) ≡ Some c.in-Some.reading = sym c.reading_of.ensures ∙ c.in-Some.is in
+    rw c.in-Ok.ensures.items (good_more c.args.decimals rows c.args.readings.now.items (fields_of c.args.row.now) c.in-Some.reading good said)

@@ -1,0 +1,10 @@
+use Rattle.std.proofs.Common.{◌+◌}
+use Rattle.taxi_units.specs.declared.event.Key.TheVariants.{Extra}
+use Rattle.verify_bench.specs.Generated.{Place, key_pressed, value}
+use Rattle.verify_bench.proofs.Adds.{adds_drawn}
+use Rattle.verify_bench.proofs.writing.Writing.put_extra.Goals as goal
+
+pub returns : goal.returns
+returns c =
+    adds_drawn c.args.self.now c.draw-number.new.self c.press.new.self 23 1 3 (λ (place : Place). key_pressed (Extra (1 + value 3 place)) place)
+    c.draw-number.ensures.state (rw c.draw-number.ensures.value at c.press.ensures)

@@ -1,0 +1,14 @@
+pub mod Adding
+pub mod Bench
+pub mod Carrying
+pub mod Expecting
+pub mod Generated
+pub mod Hirings
+pub mod Left
+pub mod Readings
+pub mod Report
+pub mod Settings
+pub mod Supplied
+pub mod Tree
+pub mod Verdicts
+pub mod Writing

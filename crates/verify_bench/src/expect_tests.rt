@@ -1,0 +1,132 @@
+//! What drives should come to, by example: the rates, fares and distances are worked out by hand from the
+//! rules of a meter.
+ghost use Rattle.std.specs.Prelude.{◌+◌, ◌<◌, ◌^◌, length};
+
+use crate::{Expected, expect};
+use arrayvec::ArrayVec;
+use drive_modes::Mode;
+use drive_text::{Reader, Run};
+use interval_clock::Offsets;
+use pulse_input::Constant;
+use seal_store::{Params, Seal};
+use std::alloc::Global;
+use tariff_check::check;
+use tariff_syntax::{parse, texts_have_their_numbers};
+use taxi_units::Kind;
+
+const PLAIN: &str = "decimals 2
+step 0.20 ahead
+initial 3.80 covers 0.40
+rate 0.20 per 117.4 m, 0.20 per 25.2 s
+";
+
+const CITY: &str = "decimals 2
+step 0.20 ahead
+positions 2
+zones 2
+holiday 2026-01-01
+holiday 2026-12-25
+supplement 1 2.00 max 4
+supplement 2 0.50 max 9
+supplement 3 5.00 max 1
+initial 5.00 covers 0.40 when time 22:00..06:00 or day sun or holiday
+initial 4.20 covers 0.40
+rate 0.20 per 80.0 m, 0.20 per 20.0 s when position 2 or zone 2
+rate 0.20 per 90.0 m, 0.20 per 20.0 s when time 22:00..06:00 or day sun or holiday
+rate 0.20 per 100.0 m, 0.20 per 20.0 s when after 5000.0 m
+rate 0.20 per 125.0 m, 0.20 per 25.0 s
+";
+
+/// A seal with a constant of 10,000, an hour before UTC, and a hold of a minute.
+fn sealed(mode: Mode) -> Option<Seal> {
+    Some(Seal {
+        seal_number: 1,
+        params: Params {
+            taxi: ArrayVec::new(),
+            constant: Constant::new(10_000).ok()?,
+            mode,
+            hold: 60,
+            offsets: Offsets::from_pairs(&[(946_684_800, 3600)]).ok()?,
+            secured: 10_957,
+        },
+        digest: [0; 32],
+        decimals: 2,
+    })
+}
+
+/// What a drive should come to.
+fn expected(alloc: Global, tariff: &str, mode: Mode, drive: &str) -> Option<Vec<Expected>> {
+    let tariff = parse(alloc, tariff.as_bytes()).ok()?;
+    texts_have_their_numbers();
+    let checked = check(alloc, tariff).ok()?;
+    let seal = sealed(mode)?;
+    let mut reader = Reader::new();
+    let mut runs: ArrayVec<Run, 64> = ArrayVec::new();
+    reader.feed(drive.as_bytes(), &mut runs).ok()?;
+    reader.finish().ok()?;
+    expect(alloc, &checked, &seal, runs.as_slice()).ok()
+}
+
+const fn closed(kind: Kind, fare: u64, hired_mm: u128, ticks: u32) -> Expected {
+    Expected {
+        kind,
+        fare,
+        hired_mm,
+        ticks,
+    }
+}
+
+#[test]
+fn drives_come_to_their_receipts(rt: HostRuntime) {
+    let first = "U 1767225600\nK H\nI 0 1\nI 20 117\nK S\nI 8 1\nK C\nI 0 1\n";
+    let further = "U 1767225600\nK H\nI 0 1\nI 20 117\nI 8 1\nK S\nI 1 1\nK C\nI 0 1\n";
+    let resumed =
+        "U 1767225600\nK H\nI 0 1\nI 20 10\nD\nU 1767225660\nI 20 107\nK S\nI 8 1\nK C\nI 0 1\n";
+    let aborted =
+        "U 1767225600\nK H\nI 0 1\nI 20 10\nD\nU 1767225661\nI 20 107\nK S\nI 8 1\nK C\nI 0 1\n";
+    let held = "U 1767225600\nK H\nI 0 1\nI 20 10\n";
+    let city =
+        "U 1772442000\nK H\nI 0 1\nI 0 600\nK E 1\nI 10 5999\nC 1772442660\nK S\nI 10 1\nK C\nI 0 1\n";
+    for (tariff, mode, drive, want) in [
+        (
+            PLAIN,
+            Mode::Single,
+            first,
+            [closed(Kind::Closed, 380, 234_800, 119)].as_slice(),
+        ),
+        (
+            PLAIN,
+            Mode::Double,
+            first,
+            [closed(Kind::Closed, 400, 234_800, 119)].as_slice(),
+        ),
+        (
+            PLAIN,
+            Mode::Single,
+            further,
+            [closed(Kind::Closed, 400, 234_900, 120)].as_slice(),
+        ),
+        (
+            PLAIN,
+            Mode::Single,
+            resumed,
+            [closed(Kind::Closed, 380, 234_800, 119)].as_slice(),
+        ),
+        (
+            PLAIN,
+            Mode::Single,
+            aborted,
+            [closed(Kind::Aborted, 380, 20_000, 10)].as_slice(),
+        ),
+        (PLAIN, Mode::Single, held, [].as_slice()),
+        (
+            CITY,
+            Mode::Single,
+            city,
+            [closed(Kind::Closed, 1440, 6_000_000, 6601)].as_slice(),
+        ),
+    ] {
+        let found = expected(rt.alloc(), tariff, mode, drive).expect(&rt, "memory");
+        assert_eq!(rt; found.as_slice(), want, "{drive}");
+    }
+}

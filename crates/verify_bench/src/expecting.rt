@@ -1,0 +1,202 @@
+//! What a drive should come to.
+ghost use Rattle.std.specs.Prelude.{◌≡◌, ◌≢◌, ℕ, ◌<◌, ◌≤◌, ◌∷◌, [], All, List, flat_map, IfOk, OnOk};
+ghost use Rattle.drive_text.specs.Ranges.{IsInRange, IsRunInRange};
+ghost use Rattle.drive_text.specs.Runs.{interval_events, intervals_events, run_events};
+ghost use Rattle.meter_states.specs.Run.{opened};
+ghost use Rattle.meter_states.specs.Setting.{Setting};
+ghost use Rattle.totaliser_store.specs.States.{first_state};
+ghost use Rattle.verify_bench.specs.Carrying.{Carries};
+ghost use Rattle.verify_bench.specs.Expecting.{expected_of};
+ghost use Rattle.verify_bench.specs.Settings.{setting_of};
+
+use crate::expected::Expected;
+use crate::plain_meter::PlainMeter;
+use drive_text::Run;
+use seal_store::Seal;
+use std::alloc::Global;
+use std::marker::Brand;
+use std::sync::ledger::{Blank, Ledger};
+use tariff_check::Checked;
+use taxi_units::{Event, FIRST_SECOND, NoMemory, Operating, Steps};
+
+/// What a drive should come to: the receipts of its hirings, from an empty store of number 1, with the
+/// supply dropping at its end. It keeps every interval of a trip with the context of its beginning, and
+/// adds their charges up over the tariff's tree when the trip is closed; so it is the plain program of the
+/// definition, beside which a meter is judged. A trip that is held at the end has no receipt.
+///
+/// `NoMemory` only where memory ran out. The numbers in the runs are those that a line of a drive may have.
+pub fn expect(
+    alloc: Global,
+    checked: &Checked,
+    seal: &Seal,
+    runs: &[Run],
+) -> Result<Vec<Expected>, NoMemory>
+    requires { All IsRunInRange runs.now }
+    ensures { IfOk result (λ list. list.items
+        ≡ expected_of (setting_of checked.now seal.now) (flat_map run_events runs.now)) }
+{
+    expect_counted::<Brand>(Blank::new(1), alloc, checked, seal, runs)
+}
+
+/// The same, with a counter of the steps that local times take.
+fn expect_counted<L: Ledger>(
+    blank: Blank,
+    alloc: Global,
+    checked: &Checked,
+    seal: &Seal,
+    runs: &[Run],
+) -> Result<Vec<Expected>, NoMemory>
+    requires name { blank.name ≡ L.name }
+    requires parts { blank.parts ≡ L.parts }
+    requires some { 0 < blank.parts }
+    requires range { All IsRunInRange runs.now }
+    ensures { IfOk result (λ list. list.items
+        ≡ expected_of (setting_of checked.now seal.now) (flat_map run_events runs.now)) }
+{
+    let mut steps: Steps<L> = Steps::open(blank);
+    let mut meter = PlainMeter::new();
+    let mut found = Vec::new(alloc);
+    for run in runs {
+        match meter.follow(*run, alloc, checked, seal, &mut found, &mut steps) {
+            Ok(()) => {}
+            Err(_) => return Err(NoMemory),
+        }
+    }
+    match meter.end(checked, seal, &mut found) {
+        Ok(()) => Ok(found),
+        Err(_) => Err(NoMemory),
+    }
+}
+
+impl PlainMeter {
+    ghost use Rattle.verify_bench.specs.Bench.{IsSound, Stands};
+
+    /// Before the supply first comes, over an empty store.
+    fn new() -> PlainMeter
+        ensures stands { (s : Setting) → Stands s result (opened s first_state) }
+        ensures sound { IsSound 8639999 0 result }
+    {
+        PlainMeter {
+            operating: Operating::Off,
+            clock: FIRST_SECOND,
+            began: FIRST_SECOND,
+            taken: 0,
+            latch: None,
+            position: 1,
+            zone: 1,
+            roam: 0,
+            number: 1,
+            held: None,
+            hiring: None,
+        }
+    }
+
+    /// A run of a drive.
+    fn follow<L: Ledger>(
+        &mut self,
+        run: Run,
+        alloc: Global,
+        checked: &Checked,
+        seal: &Seal,
+        found: &mut Vec<Expected>,
+        steps: &mut Steps<L>,
+    ) -> Result<(), NoMemory>
+        requires sound { IsSound 8639999 0 self.old }
+        requires range { IsRunInRange run }
+        ensures carries { OnOk result (Carries (setting_of checked.now seal.now) (run_events run)
+            self.old self.new found.old.items found.new.items) }
+        ensures sound { OnOk result (IsSound 8639999 0 self.new) }
+    {
+        match run {
+            Run::One(event) => match self.carry(event, alloc, checked, seal, found, steps) {
+                Ok(()) => Ok(()),
+                Err(_) => Err(NoMemory),
+            },
+            Run::Many { pulses, count } => {
+                match self.intervals(pulses, count, alloc, checked, seal, found, steps) {
+                    Ok(()) => Ok(()),
+                    Err(_) => Err(NoMemory),
+                }
+            }
+        }
+    }
+
+    /// So many intervals.
+    fn intervals<L: Ledger>(
+        &mut self,
+        pulses: u32,
+        count: u32,
+        alloc: Global,
+        checked: &Checked,
+        seal: &Seal,
+        found: &mut Vec<Expected>,
+        steps: &mut Steps<L>,
+    ) -> Result<(), NoMemory>
+        requires sound { IsSound 8639999 0 self.old }
+        requires pulses { pulses ≤ 65535 }
+        ensures carries { OnOk result (Carries (setting_of checked.now seal.now) (intervals_events pulses count)
+            self.old self.new found.old.items found.new.items) }
+        ensures sound { OnOk result (IsSound 8639999 0 self.new) }
+    {
+        for place in 0..count {
+            match self.interval(pulses, alloc, checked, seal, found, steps) {
+                Ok(()) => {}
+                Err(_) => return Err(NoMemory),
+            }
+        }
+        Ok(())
+    }
+
+    /// An interval.
+    fn interval<L: Ledger>(
+        &mut self,
+        pulses: u32,
+        alloc: Global,
+        checked: &Checked,
+        seal: &Seal,
+        found: &mut Vec<Expected>,
+        steps: &mut Steps<L>,
+    ) -> Result<(), NoMemory>
+        requires sound { IsSound 8639999 0 self.old }
+        requires pulses { pulses ≤ 65535 }
+        ensures carries { OnOk result (Carries (setting_of checked.now seal.now) (interval_events pulses)
+            self.old self.new found.old.items found.new.items) }
+        ensures sound { OnOk result (IsSound 8639999 0 self.new) }
+    {
+        if pulses == 0 {
+            return match self.carry(Event::Tick, alloc, checked, seal, found, steps) {
+                Ok(()) => Ok(()),
+                Err(_) => Err(NoMemory),
+            };
+        }
+        match self.carry(Event::Pulses(pulses), alloc, checked, seal, found, steps) {
+            Ok(()) => match self.carry(Event::Tick, alloc, checked, seal, found, steps) {
+                Ok(()) => Ok(()),
+                Err(_) => Err(NoMemory),
+            },
+            Err(_) => Err(NoMemory),
+        }
+    }
+
+    /// An event.
+    fn carry<L: Ledger>(
+        &mut self,
+        event: Event,
+        alloc: Global,
+        checked: &Checked,
+        seal: &Seal,
+        found: &mut Vec<Expected>,
+        steps: &mut Steps<L>,
+    ) -> Result<(), NoMemory>
+        requires sound { IsSound 8639999 0 self.old }
+        requires range { IsInRange event }
+        ensures carries { OnOk result (Carries (setting_of checked.now seal.now) (event ∷ [])
+            self.old self.new found.old.items found.new.items) }
+        ensures sound { OnOk result (IsSound 8639999 0 self.new) }
+    {
+        match self.event(event, alloc, checked, seal, found, steps) {
+            Ok(()) => Ok(()),
+            Err(_) => Err(NoMemory),
+        }
+    }
+}

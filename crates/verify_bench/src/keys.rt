@@ -1,0 +1,218 @@
+//! What keys do to the meter of the bench.
+ghost use Rattle.std.specs.Prelude.{◌≡◌, ◌≢◌, ℕ, ◌≤◌, List, Some, OnOk, true};
+ghost use Rattle.meter_states.specs.Interval.{ticks_so_far};
+ghost use Rattle.meter_states.specs.Keys.{extra_added, hiring, key_in, latched, position_set, zone_set};
+ghost use Rattle.meter_states.specs.Keys as keys;
+ghost use Rattle.meter_states.specs.Meter.{Meter};
+ghost use Rattle.meter_states.specs.Setting.{Setting};
+ghost use Rattle.tariff_compile.specs.Tables.{supplement_at};
+ghost use Rattle.tariff_syntax.specs.Tree.{tree_of};
+ghost use Rattle.verify_bench.specs.Settings.{setting_of};
+ghost use Rattle.verify_bench.specs.declared.expected.Expected.{Expected};
+
+use crate::expected::Expected;
+use crate::hiring::Hiring;
+use crate::lookups::supplement_at;
+use crate::plain_meter::{HIRINGS_END, PlainMeter};
+use crate::pricing::hire_fee;
+use seal_store::Seal;
+use std::alloc::Global;
+use std::sync::ledger::Ledger;
+use tariff_check::Checked;
+use tariff_compile::Supplement;
+use taxi_units::{Key, Kind, NoMemory, Operating, Steps};
+
+impl PlainMeter {
+    ghost use Rattle.verify_bench.specs.Bench.{IsSound, Moves, Stands};
+
+    /// A key waits, where none does.
+    pub(crate) fn latch_key(&mut self, key: Key)
+        requires sound { IsSound 8639999 0 self.old }
+        ensures moves { (s : Setting) (ticks : ℕ) (found : List Expected) (m : Meter) → Stands s self.old m
+            → Moves s ticks found found self.new (latched m.latch key m) }
+        ensures sound { IsSound 8639999 0 self.new }
+    {
+        match self.latch {
+            None => self.latch = Some(key),
+            Some(_) => {}
+        }
+    }
+
+    /// A trip begins.
+    #[tactic(auto, using(crate::proofs::Benches::looser))]
+    pub(crate) fn hire<L: Ledger>(
+        &mut self,
+        alloc: Global,
+        checked: &Checked,
+        seal: &Seal,
+        steps: &mut Steps<L>,
+    )
+        requires sound { IsSound 8639999 0 self.old }
+        ensures moves { (ticks : ℕ) (found : List Expected) (m : Meter)
+            → Stands (setting_of checked.now seal.now) self.old m
+            → Moves (setting_of checked.now seal.now) ticks found found self.new
+            (hiring (setting_of checked.now seal.now) m) }
+        ensures sound { IsSound 8639999 0 self.new }
+    {
+        if self.number >= HIRINGS_END {
+            return;
+        }
+        let x = self.context(self.clock, checked, seal, steps);
+        let fee = hire_fee(checked, &x);
+        self.hiring = Some(Hiring::new(alloc, fee));
+        self.operating = Operating::Hired;
+        self.roam = 0;
+    }
+
+    /// A tariff position is set.
+    fn set_position(&mut self, number: u8, checked: &Checked, seal: &Seal)
+        requires sound { IsSound 8639999 0 self.old }
+        ensures moves { (ticks : ℕ) (found : List Expected) (m : Meter)
+            → Stands (setting_of checked.now seal.now) self.old m
+            → Moves (setting_of checked.now seal.now) ticks found found self.new
+            (position_set (setting_of checked.now seal.now) number m) }
+        ensures sound { IsSound 8639999 0 self.new }
+    {
+        if 1 <= number && number <= checked.positions() {
+            self.position = number;
+        }
+    }
+
+    /// A zone is set.
+    fn set_zone(&mut self, number: u8, checked: &Checked, seal: &Seal)
+        requires sound { IsSound 8639999 0 self.old }
+        ensures moves { (ticks : ℕ) (found : List Expected) (m : Meter)
+            → Stands (setting_of checked.now seal.now) self.old m
+            → Moves (setting_of checked.now seal.now) ticks found found self.new
+            (zone_set (setting_of checked.now seal.now) number m) }
+        ensures sound { IsSound 8639999 0 self.new }
+    {
+        if 1 <= number && number <= checked.zones() {
+            self.zone = number;
+        }
+    }
+
+    /// A supplement is added to the trip, where the tariff has it, up to its most.
+    fn add_supplement(&mut self, number: u8, checked: &Checked, seal: &Seal) -> Result<(), NoMemory>
+        requires sound { IsSound 8639999 0 self.old }
+        ensures moves { OnOk result ((ticks : ℕ) (found : List Expected) (m : Meter)
+            → Stands (setting_of checked.now seal.now) self.old m
+            → Moves (setting_of checked.now seal.now) ticks found found self.new
+            (extra_added number (supplement_at (tree_of checked.now) number) m)) }
+        ensures sound { OnOk result (IsSound 8639999 0 self.new) }
+    {
+        match supplement_at(checked.tariff().lines.as_slice(), number) {
+            None => Ok(()),
+            Some(supplement) => match self.add_up_to(number, supplement) {
+                Ok(()) => Ok(()),
+                Err(_) => Err(NoMemory),
+            },
+        }
+    }
+
+    /// It is added up to its most.
+    fn add_up_to(&mut self, number: u8, supplement: Supplement) -> Result<(), NoMemory>
+        requires sound { IsSound 8639999 0 self.old }
+        ensures moves { OnOk result ((s : Setting) (ticks : ℕ) (found : List Expected) (m : Meter) → Stands s self.old m
+            → Moves s ticks found found self.new (extra_added number (Some supplement) m)) }
+        ensures sound { OnOk result (IsSound 8639999 0 self.new) }
+    {
+        match &mut self.hiring {
+            None => Ok(()),
+            Some(hiring) => {
+                if hiring.times(number) >= supplement.max as usize {
+                    Ok(())
+                } else {
+                    hiring.add_extra(number)
+                }
+            }
+        }
+    }
+
+    /// A key acts.
+    #[tactic(auto, using(crate::proofs::Benches::looser))]
+    pub(crate) fn act<L: Ledger>(
+        &mut self,
+        key: Key,
+        alloc: Global,
+        checked: &Checked,
+        seal: &Seal,
+        found: &mut Vec<Expected>,
+        steps: &mut Steps<L>,
+    ) -> Result<(), NoMemory>
+        requires sound { IsSound 8639999 0 self.old }
+        ensures moves { OnOk result ((m : Meter) → Stands (setting_of checked.now seal.now) self.old m
+            → Moves (setting_of checked.now seal.now) (ticks_so_far m.trip) found.old.items found.new.items self.new
+            (key_in (setting_of checked.now seal.now) key m.operating m)) }
+        ensures sound { OnOk result (IsSound 8639999 0 self.new) }
+    {
+        match (key, self.operating) {
+            (Key::Hire, Operating::ForHire) => {
+                self.hire(alloc, checked, seal, steps);
+                Ok(())
+            }
+            (Key::Hire, Operating::Stopped) => {
+                self.operating = Operating::Hired;
+                Ok(())
+            }
+            (Key::Stop, Operating::Hired) => {
+                self.operating = Operating::Stopped;
+                Ok(())
+            }
+            (Key::Clear, Operating::Stopped) => self.close(Kind::Closed, checked, seal, found),
+            (Key::Position(number), Operating::ForHire) => {
+                self.set_position(number, checked, seal);
+                Ok(())
+            }
+            (Key::Position(number), Operating::Hired) => {
+                self.set_position(number, checked, seal);
+                Ok(())
+            }
+            (Key::Zone(number), Operating::ForHire) => {
+                self.set_zone(number, checked, seal);
+                Ok(())
+            }
+            (Key::Zone(number), Operating::Hired) => {
+                self.set_zone(number, checked, seal);
+                Ok(())
+            }
+            (Key::Extra(number), Operating::Hired) => {
+                match self.add_supplement(number, checked, seal) {
+                    Ok(()) => Ok(()),
+                    Err(_) => Err(NoMemory),
+                }
+            }
+            (Key::Extra(number), Operating::Stopped) => {
+                match self.add_supplement(number, checked, seal) {
+                    Ok(()) => Ok(()),
+                    Err(_) => Err(NoMemory),
+                }
+            }
+            _ => Ok(()),
+        }
+    }
+
+    /// A key that waits leaves the latch and acts.
+    pub(crate) fn press<L: Ledger>(
+        &mut self,
+        alloc: Global,
+        checked: &Checked,
+        seal: &Seal,
+        found: &mut Vec<Expected>,
+        steps: &mut Steps<L>,
+    ) -> Result<(), NoMemory>
+        requires sound { IsSound 8639999 0 self.old }
+        ensures moves { OnOk result ((m : Meter) → Stands (setting_of checked.now seal.now) self.old m
+            → Moves (setting_of checked.now seal.now) (ticks_so_far m.trip) found.old.items found.new.items self.new
+            (keys.key_pressed (setting_of checked.now seal.now) m)) }
+        ensures sound { OnOk result (IsSound 8639999 0 self.new) }
+    {
+        match self.latch {
+            None => Ok(()),
+            Some(key) => {
+                self.latch = None;
+                self.act(key, alloc, checked, seal, found, steps)
+            }
+        }
+    }
+}

@@ -1,0 +1,39 @@
+//! The verification bench: what the hirings of a drive should come to, by the definition's plain program;
+//! readings that were taken at a meter, read and judged against that; and a generator of large drives.
+#![tactic(auto)]
+
+mod events;
+#[cfg(test)]
+mod expect_tests;
+mod expected;
+mod expecting;
+mod generated;
+mod generator;
+mod hiring;
+mod judging;
+mod keys;
+mod lookups;
+mod plain_meter;
+mod pricing;
+mod reading;
+mod readings;
+mod receipts;
+mod remaining;
+mod reporting;
+mod row;
+mod supply;
+#[cfg(test)]
+mod tests;
+mod ticking;
+mod trip;
+mod writing;
+
+pub use expected::Expected;
+pub use expecting::expect;
+pub use generated::{generated_drives_mean_their_lines, generated_events};
+pub use generator::Generator;
+pub use judging::{Verdict, judge, verdicts_name_the_first_fault};
+pub use reading::{Reading, ReadingsFault};
+pub use readings::read_readings;
+pub use receipts::expected_hirings_are_the_receipts;
+pub use reporting::report;

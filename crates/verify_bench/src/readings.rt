@@ -1,0 +1,80 @@
+//! Reads texts of readings.
+ghost use Rattle.std.specs.Prelude.{◌≡◌, ℕ, ◌++◌, ◌∷◌, [], List, Ok, Err, IfOk, IfErr, OnOk, true};
+ghost use Rattle.csv.specs.Records.{fields_of};
+ghost use Rattle.verify_bench.specs.Readings.{Row, HaveGiven, IsReadAs, IsRowFault};
+
+use crate::reading::{Reading, ReadingsFault};
+use crate::row::{is_header, reading_of};
+use csv::{ByteRecord, ReaderBuilder};
+use std::alloc::Global;
+
+/// A text of readings has at most so many bytes.
+const LONGEST: usize = 1_048_576;
+
+/// Reads a text of readings: rows as `csv` reads them, the first of which is the header
+/// `fare,distance,time`, and each other one a reading, with a fare of the tariff's decimals, a distance
+/// in metres of three and a time in seconds of one.
+///
+/// `TooLong` above 1,048,576 bytes; `BadRow` with the first row, counted from 1 as `csv` gives them,
+/// that isn't so, which is 1 for a text without rows; `NoMemory` where memory ran out. The form is this
+/// project's own.
+pub fn read_readings(
+    alloc: Global,
+    text: &[u8],
+    decimals: u8,
+) -> Result<Vec<Reading>, ReadingsFault>
+    ensures ok { IfOk result (λ readings. IsReadAs decimals text.now (Ok readings.items)) }
+    ensures err { IfErr result (λ fault. IsReadAs decimals text.now (Err fault)) }
+{
+    if text.len() > LONGEST {
+        return Err(ReadingsFault::TooLong);
+    }
+    let reader = ReaderBuilder::new()
+        .has_headers(false)
+        .flexible(true)
+        .from_reader(alloc, text);
+    let mut headed = false;
+    let mut readings = Vec::new(alloc);
+    for row in reader.into_byte_records() {
+        let Ok(row) = row else {
+            return Err(ReadingsFault::NoMemory);
+        };
+        if let Err(fault) = take_row(&row, decimals, headed, &mut readings) {
+            return Err(fault);
+        }
+        headed = true;
+    }
+    if headed {
+        Ok(readings)
+    } else {
+        Err(ReadingsFault::BadRow(1))
+    }
+}
+
+/// Takes a row behind those that gave these readings: the header, where none was taken yet, and else a
+/// reading.
+fn take_row(
+    row: &ByteRecord,
+    decimals: u8,
+    headed: bool,
+    readings: &mut Vec<Reading>,
+) -> Result<(), ReadingsFault>
+    ensures ok { OnOk result ((rows : List Row) → HaveGiven decimals rows headed readings.old.items
+        → HaveGiven decimals (rows ++ fields_of row.now ∷ []) true readings.new.items) }
+    ensures err { IfErr result (λ fault. (rows : List Row) → HaveGiven decimals rows headed readings.old.items
+        → IsRowFault decimals rows (fields_of row.now) fault) }
+{
+    if !headed {
+        if is_header(row) {
+            return Ok(());
+        }
+        return Err(ReadingsFault::BadRow(1));
+    }
+    let Some(reading) = reading_of(row, decimals) else {
+        return Err(ReadingsFault::BadRow(readings.len() as u64 + 2));
+    };
+    match readings.push(reading) {
+        Ok(()) => Ok(()),
+        Err(_) => Err(ReadingsFault::NoMemory),
+    }
+}

@@ -1,0 +1,14 @@
+//! What the expected list is, by the actions of the meter.
+ghost use Rattle.std.specs.Prelude.{◌≡◌, List, map};
+ghost use Rattle.meter_states.specs.Run.{actions_of};
+ghost use Rattle.meter_states.specs.Setting.{Setting};
+ghost use Rattle.taxi_units.specs.declared.event.Event.{Event};
+ghost use Rattle.totaliser_store.specs.States.{first_state};
+ghost use Rattle.verify_bench.specs.Expecting.{expected_of, hirings_in, untimed};
+
+/// The expected list has one hiring for each receipt of the meter's actions, from an empty store, in order,
+/// with the receipt's kind, fare and distance.
+pub fn expected_hirings_are_the_receipts()
+    ensures { (s : Setting) (events : List Event)
+        → map untimed (expected_of s events) ≡ hirings_in 0 (actions_of s first_state events) }
+{}

@@ -1,0 +1,272 @@
+//! What the supply does to the meter of the bench.
+ghost use Rattle.std.specs.Prelude.{◌≡◌, ◌≢◌, ℕ, ◌+◌, ◌<◌, ◌≤◌, ◌&&◌, nat_le, List, None, Some, OnOk};
+ghost use Rattle.meter_states.specs.Interval.{ticks_so_far};
+ghost use Rattle.meter_states.specs.Meter.{Meter, held};
+ghost use Rattle.meter_states.specs.Trip.{Trip, held_trip};
+ghost use Rattle.meter_states.specs.Run.{ended};
+ghost use Rattle.meter_states.specs.Setting.{Setting};
+ghost use Rattle.meter_states.specs.Supply.{aborted, hold_taken, is_stopped, kept, powered, resumed, supply_came, supply_dropped};
+ghost use Rattle.taxi_units.specs.Time.{IsSecond};
+ghost use Rattle.taxi_units.specs.declared.event.Operating.TheVariants.{Off};
+ghost use Rattle.totaliser_store.specs.declared.trip.Trip as store;
+ghost use Rattle.verify_bench.specs.Bench.{held_of};
+ghost use Rattle.verify_bench.specs.Settings.{setting_of};
+ghost use Rattle.verify_bench.specs.Supplied.{waking};
+ghost use Rattle.verify_bench.specs.declared.expected.Expected.{Expected};
+
+use crate::expected::Expected;
+use crate::plain_meter::{HOLDS_END, Held, PlainMeter};
+use seal_store::Seal;
+use tariff_check::Checked;
+use taxi_units::{Kind, NoMemory, Operating};
+
+impl PlainMeter {
+    ghost use Rattle.verify_bench.specs.Bench.{IsSound, Moves, Stands};
+
+    /// The supply comes.
+    pub(crate) fn come_up(
+        &mut self,
+        second: u64,
+        checked: &Checked,
+        seal: &Seal,
+        found: &mut Vec<Expected>,
+    ) -> Result<(), NoMemory>
+        requires sound { IsSound 8639999 0 self.old }
+        requires second { IsSecond second }
+        ensures moves { OnOk result ((m : Meter) → Stands (setting_of checked.now seal.now) self.old m
+            → Moves (setting_of checked.now seal.now) (ticks_so_far m.trip) found.old.items found.new.items self.new
+            (supply_came (setting_of checked.now seal.now) second m)) }
+        ensures sound { OnOk result (IsSound 8639999 0 self.new) }
+    {
+        self.wake(second);
+        match self.take_hold(second, checked, seal, found) {
+            Ok(()) => Ok(()),
+            Err(_) => Err(NoMemory),
+        }
+    }
+
+    /// It is powered, and still off.
+    fn wake(&mut self, second: u64)
+        requires sound { IsSound 8639999 0 self.old }
+        requires second { IsSecond second }
+        ensures stands { (s : Setting) (m : Meter) → Stands s self.old m → Stands s self.new (waking second m) }
+        ensures sound { IsSound 8639999 0 self.new }
+    {
+        self.operating = Operating::Off;
+        self.clock = second;
+        self.began = second;
+        self.taken = 0;
+        self.latch = None;
+        self.position = 1;
+        self.zone = 1;
+        self.roam = 0;
+    }
+
+    /// What becomes of the held trip.
+    fn take_hold(
+        &mut self,
+        second: u64,
+        checked: &Checked,
+        seal: &Seal,
+        found: &mut Vec<Expected>,
+    ) -> Result<(), NoMemory>
+        requires sound { IsSound 8639999 0 self.old }
+        requires second { IsSecond second }
+        ensures moves { OnOk result ((m : Meter) → Stands (setting_of checked.now seal.now) self.old (waking second m)
+            → Moves (setting_of checked.now seal.now) (ticks_so_far m.trip) found.old.items found.new.items self.new
+            (hold_taken (setting_of checked.now seal.now) second m.durable.hold (powered second m))) }
+        ensures sound { OnOk result (IsSound 8639999 0 self.new) }
+    {
+        match self.held {
+            None => {
+                self.hiring = None;
+                self.operating = Operating::ForHire;
+                Ok(())
+            }
+            Some(held) => {
+                if is_within(held, second, seal.params.hold) {
+                    self.resume(held);
+                    Ok(())
+                } else {
+                    match self.abort(held, checked, seal, found) {
+                        Ok(()) => Ok(()),
+                        Err(_) => Err(NoMemory),
+                    }
+                }
+            }
+        }
+    }
+
+    /// A held trip goes on.
+    fn resume(&mut self, held: Held)
+        requires sound { IsSound 8639999 0 self.old }
+        ensures moves { (s : Setting) (ticks : ℕ) (found : List Expected) (trip : store.Trip) (m : Meter) → held ≡ held_of trip
+            → Stands s self.old m → Moves s ticks found found self.new (resumed trip m) }
+        ensures sound { IsSound 8639999 0 self.new }
+    {
+        self.operating = if held.stopped {
+            Operating::Stopped
+        } else {
+            Operating::Hired
+        };
+        self.position = held.position;
+        self.zone = held.zone;
+    }
+
+    /// A held trip is closed at its position.
+    fn abort(
+        &mut self,
+        held: Held,
+        checked: &Checked,
+        seal: &Seal,
+        found: &mut Vec<Expected>,
+    ) -> Result<(), NoMemory>
+        requires sound { IsSound 8639999 0 self.old }
+        ensures moves { OnOk result ((trip : store.Trip) (m : Meter) → held ≡ held_of trip
+            → Stands (setting_of checked.now seal.now) self.old m
+            → Moves (setting_of checked.now seal.now) (ticks_so_far m.trip) found.old.items found.new.items self.new
+            (aborted (setting_of checked.now seal.now) trip m)) }
+        ensures sound { OnOk result (IsSound 8639999 0 self.new) }
+    {
+        self.position = held.position;
+        match self.close(Kind::Aborted, checked, seal, found) {
+            Ok(()) => {
+                self.position = 1;
+                self.zone = 1;
+                Ok(())
+            }
+            Err(_) => Err(NoMemory),
+        }
+    }
+
+    /// The supply drops.
+    pub(crate) fn go_down(
+        &mut self,
+        checked: &Checked,
+        seal: &Seal,
+        found: &mut Vec<Expected>,
+    ) -> Result<(), NoMemory>
+        requires sound { IsSound 8639999 0 self.old }
+        ensures moves { OnOk result ((m : Meter) → Stands (setting_of checked.now seal.now) self.old m
+            → Moves (setting_of checked.now seal.now) (ticks_so_far m.trip) found.old.items found.new.items self.new
+            (supply_dropped (setting_of checked.now seal.now) m)) }
+        ensures sound { OnOk result (IsSound 8639999 0 self.new) }
+    {
+        if let Err(NoMemory) = self.leave_interval() {
+            return Err(NoMemory);
+        }
+        if let Err(NoMemory) = self.keep(checked, seal, found) {
+            return Err(NoMemory);
+        }
+        self.operating = Operating::Off;
+        self.latch = None;
+        Ok(())
+    }
+
+    /// A trip is held, or closed; without one roaming is entered.
+    fn keep(
+        &mut self,
+        checked: &Checked,
+        seal: &Seal,
+        found: &mut Vec<Expected>,
+    ) -> Result<(), NoMemory>
+        requires sound { IsSound 8639999 1 self.old }
+        ensures moves { OnOk result ((m : Meter) → Stands (setting_of checked.now seal.now) self.old m
+            → Moves (setting_of checked.now seal.now) (ticks_so_far m.trip) found.old.items found.new.items self.new
+            (kept (setting_of checked.now seal.now) m.trip m)) }
+        ensures sound { OnOk result (IsSound 8639999 0 self.new) }
+    {
+        match &self.hiring {
+            None => {
+                self.keep_roaming();
+                Ok(())
+            }
+            Some(_) => {
+                if self.number < HOLDS_END {
+                    self.hold();
+                    return Ok(());
+                }
+                match self.close(Kind::Aborted, checked, seal, found) {
+                    Ok(()) => Ok(()),
+                    Err(_) => Err(NoMemory),
+                }
+            }
+        }
+    }
+
+    /// Without a trip roaming is entered, where there is any.
+    #[tactic(auto, using(crate::proofs::Benches::sound_without))]
+    fn keep_roaming(&mut self)
+        requires sound { IsSound 8639999 1 self.old }
+        requires none { self.old.hiring ≡ None }
+        ensures moves { (s : Setting) (ticks : ℕ) (found : List Expected) (m : Meter) → Stands s self.old m
+            → Moves s ticks found found self.new (kept s m.trip m) }
+        ensures sound { IsSound 8639999 0 self.new }
+    {
+        if self.roam == 0 {
+            return;
+        }
+        self.enter_roaming();
+    }
+
+    /// The trip is held.
+    fn hold(&mut self)
+        requires sound { IsSound 8639999 1 self.old }
+        requires room { self.old.number < 2000000000000000 }
+        ensures moves { (s : Setting) (ticks : ℕ) (found : List Expected) (trip : Trip) (m : Meter) → Stands s self.old m
+            → Moves s ticks found found self.new
+            (held (held_trip s m.clock (is_stopped m.operating) m.position m.zone trip) m) }
+        ensures sound { IsSound 8639999 0 self.new }
+    {
+        self.held = Some(Held {
+            saved: self.clock,
+            stopped: is_stopped(self.operating),
+            position: self.position,
+            zone: self.zone,
+        });
+        self.number = self.number.saturating_add(1);
+    }
+
+    /// The drive ends: the supply drops, where the meter is powered.
+    pub(crate) fn end(
+        &mut self,
+        checked: &Checked,
+        seal: &Seal,
+        found: &mut Vec<Expected>,
+    ) -> Result<(), NoMemory>
+        requires sound { IsSound 8639999 0 self.old }
+        ensures { OnOk result ((m : Meter) → Stands (setting_of checked.now seal.now) self.old m
+            → Moves (setting_of checked.now seal.now) (ticks_so_far m.trip) found.old.items found.new.items self.new
+            (ended (setting_of checked.now seal.now) m)) }
+    {
+        match self.operating {
+            Operating::Off => Ok(()),
+            Operating::ForHire | Operating::Hired | Operating::Stopped => {
+                match self.go_down(checked, seal, found) {
+                    Ok(()) => Ok(()),
+                    Err(_) => Err(NoMemory),
+                }
+            }
+        }
+    }
+}
+
+/// Whether the meter is in Stopped.
+fn is_stopped(operating: Operating) -> bool
+    ensures { result ≡ is_stopped operating }
+{
+    match operating {
+        Operating::Off | Operating::ForHire | Operating::Hired => false,
+        Operating::Stopped => true,
+    }
+}
+
+/// Whether the supply was away for the hold at most.
+fn is_within(held: Held, second: u64, hold: u16) -> bool
+    ensures { result ≡ nat_le held.saved second && nat_le second (held.saved + hold) }
+{
+    if held.saved > second {
+        return false;
+    }
+    second - held.saved <= hold as u64
+}
