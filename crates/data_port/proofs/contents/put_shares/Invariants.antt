@@ -1,0 +1,12 @@
+use Rattle.std.proofs.Common.{◌≡◌, ◌+◌, ◌*◌, ◌++◌, take}
+use Rattle.std.specs.List.{flat_map}
+use Rattle.arrayvec.specs.ArrayVec.{array_vec_len}
+use Rattle.totaliser_store.specs.Spelling.{share_bytes}
+use Rattle.data_port.proofs.contents.put_shares.Given as goal
+
+-- the shares so far were appended
+abbrev pub invariant-loop-share : goal.invariant-loop-share
+invariant-loop-share l = record {
+  items : l.line.items ≡ l.fn.line.items ++ flat_map share_bytes (take l.share-index l.totals.shares);
+  len : array_vec_len l.line ≡ array_vec_len l.fn.line + 24 * l.share-index;
+}

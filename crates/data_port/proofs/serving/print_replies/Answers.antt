@@ -1,0 +1,41 @@
+use Rattle.std.proofs.Common.{◌≡◌, ◌∙◌, ◌++◌, ◌≤◌, ℕ, List, length, take, ap, arith}
+use Rattle.std.proofs.lemmas.List.{take_all}
+use Rattle.outside.proofs.Laws.{begins_whole, keeps_then}
+use Rattle.seal_store.specs.declared.seal.Seal.{Seal}
+use Rattle.totaliser_store.specs.declared.durable.Durable.{Durable}
+use Rattle.data_port.specs.declared.request.Request.{Request}
+use Rattle.data_port.specs.Serving.{replies}
+use Rattle.data_port.proofs.Pieces.{begun_one, printed_one}
+use Rattle.data_port.proofs.serving.print_replies.Goals as goal
+
+pub loop-request-preserved : goal.loop-request-preserved
+loop-request-preserved g c =
+    let printed = g.B.Board.printed in
+    record {
+      printed = λ tells. printed_one c.args.durable.now c.args.seal.now (printed c.args.board.now) (printed c.loop-request.board) (printed c.print_reply.new.board) c.args.requests.now c.loop-request.request-index c.request-item.result
+          c.loop-request-test.true c.request-item.is (c.loop-request.invariant.printed tells) (c.in_ok-print_reply.ensures.whole tells);
+      faults = omega (arith, c.loop-request.invariant.faults, c.print_reply.ensures.cause.later);
+      store = keeps_then g.B.Board c.args.board.now c.loop-request.board c.print_reply.new.board c.loop-request.invariant.store c.print_reply.ensures.store;
+      steps = omega (arith, c.loop-request.invariant.steps, c.print_reply.ensures.steps);
+    }
+
+pub returns-in_err-print_reply-clause-begun : goal.returns-in_err-print_reply-clause-begun
+returns-in_err-print_reply-clause-begun g c = λ tells.
+    let printed = g.B.Board.printed in
+    begun_one c.args.durable.now c.args.seal.now (printed c.args.board.now) (printed c.loop-request.board) (printed c.print_reply.new.board) c.args.requests.now c.loop-request.request-index c.request-item.result
+    c.loop-request-test.true c.request-item.is (c.loop-request.invariant.printed tells) (c.print_reply.ensures.begun tells)
+
+-- at the end all were printed
+whole_at : (durable : Durable) (seal : Seal) (requests : List Request) (i : ℕ) (a b : List ℕ) → length requests ≤ i → b ≡ a ++ replies durable seal (take i requests) → b ≡ a ++ replies durable seal requests
+whole_at durable seal requests i a b all h = h ∙ ap (λ (rs : List Request). a ++ replies durable seal rs) (take_all i requests all)
+
+pub returns-clause-whole : goal.returns-clause-whole
+returns-clause-whole g c = λ tells.
+    let all : length c.args.requests.now ≤ c.loop-request.request-index = omega (arith, c.loop-request-test.false) in
+    whole_at c.args.durable.now c.args.seal.now c.args.requests.now c.loop-request.request-index (g.B.Board.printed c.args.board.now) (g.B.Board.printed c.loop-request.board) all (c.loop-request.invariant.printed tells)
+
+pub returns-clause-begun : goal.returns-clause-begun
+returns-clause-begun g c = λ tells.
+    let all : length c.args.requests.now ≤ c.loop-request.request-index = omega (arith, c.loop-request-test.false) in
+    begins_whole (g.B.Board.printed c.args.board.now) (g.B.Board.printed c.loop-request.board) (replies c.args.durable.now c.args.seal.now c.args.requests.now)
+    (whole_at c.args.durable.now c.args.seal.now c.args.requests.now c.loop-request.request-index (g.B.Board.printed c.args.board.now) (g.B.Board.printed c.loop-request.board) all (c.loop-request.invariant.printed tells))

@@ -1,0 +1,18 @@
+use Rattle.std.proofs.Common.{◌≡◌, ◌≢◌, ◌≤◌, ℕ}
+use Rattle.outside.specs.Runs.{KeepsStore}
+use Rattle.data_port.proofs.Pieces.{ServedSoFar}
+use Rattle.data_port.proofs.serving.serve.Given as goal
+
+-- the replies to the requests of the bytes that were taken were printed
+abbrev pub invariant-loop-left : goal.invariant-loop-left
+invariant-loop-left g l = record {
+  so_far : ServedSoFar g.F.Files.tells g.B.Board.tells_text l.durable l.seal l.port (g.F.Files.rest l.fn.files l.word) (g.F.Files.rest l.files l.word)
+      (g.B.Board.printed l.fn.board) (g.B.Board.printed l.board) l.left l.fn.steps l.steps;
+  others : (other : ℕ) → other ≢ l.word → g.F.Files.rest l.files other ≡ g.F.Files.rest l.fn.files other;
+  counts : (other : ℕ) → g.F.Files.faults l.fn.files other ≤ g.F.Files.faults l.files other;
+  faults : g.B.Board.faults l.fn.board ≤ g.B.Board.faults l.board;
+  store : KeepsStore g.B.Board l.fn.board l.board;
+}
+
+abbrev pub decreases-loop-left : goal.decreases-loop-left
+decreases-loop-left g l = l.left

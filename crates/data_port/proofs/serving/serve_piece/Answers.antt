@@ -1,0 +1,41 @@
+use Rattle.std.proofs.Common.{◌∙◌, sym, arith}
+use Rattle.outside.proofs.Laws.{keeps_then}
+use Rattle.data_port.proofs.Pieces.{breaks_by, ok_of, piece_bad, piece_bad_shown, piece_begun, piece_more, piece_sense, piece_steps, starts_by, takes_by}
+use Rattle.data_port.proofs.serving.serve_piece.Goals as goal
+
+pub returns-then-is_err-clause-serves : goal.returns-then-is_err-clause-serves
+returns-then-is_err-clause-serves g c =
+    piece_begun (g.B.Board.tells_text) c.args.durable.now c.args.seal.now c.args.port.now c.loop-rest.port c.args.piece.now c.loop-rest.rest.now (g.B.Board.printed c.args.board.now) (g.B.Board.printed c.loop-rest.board) c.args.steps.now c.loop-rest.steps c.loop-rest.invariant.so_far
+    c.as_slice.result.now (g.B.Board.printed c.print_replies.new.board) (starts_by c.loop-rest.port c.loop-rest.rest.now c.new-requests.result.items c.feed-fed.new.out.items c.as_slice.result.now c.feed-fed.result c.new-requests.ensures c.as_slice.ensures.value (piece_sense (g.B.Board.tells_text) c.args.durable.now c.args.seal.now c.args.port.now c.loop-rest.port c.args.piece.now c.loop-rest.rest.now (g.B.Board.printed c.args.board.now) (g.B.Board.printed c.loop-rest.board) c.args.steps.now c.loop-rest.steps c.loop-rest.invariant.so_far c.requires.sense) c.loop-rest.invariant.so_far.going c.feed-fed.ensures.requests c.feed-fed.ensures.bad)
+    c.print_replies.ensures.begun
+
+pub returns-then-is_err-clause-steps : goal.returns-then-is_err-clause-steps
+returns-then-is_err-clause-steps g c =
+    piece_steps (g.B.Board.tells_text) c.args.durable.now c.args.seal.now c.args.port.now c.loop-rest.port c.args.piece.now c.loop-rest.rest.now (g.B.Board.printed c.args.board.now) (g.B.Board.printed c.loop-rest.board) c.args.steps.now c.loop-rest.steps c.loop-rest.invariant.so_far
+    c.as_slice.result.now c.print_replies.new.steps (starts_by c.loop-rest.port c.loop-rest.rest.now c.new-requests.result.items c.feed-fed.new.out.items c.as_slice.result.now c.feed-fed.result c.new-requests.ensures c.as_slice.ensures.value (piece_sense (g.B.Board.tells_text) c.args.durable.now c.args.seal.now c.args.port.now c.loop-rest.port c.args.piece.now c.loop-rest.rest.now (g.B.Board.printed c.args.board.now) (g.B.Board.printed c.loop-rest.board) c.args.steps.now c.loop-rest.steps c.loop-rest.invariant.so_far c.requires.sense) c.loop-rest.invariant.so_far.going c.feed-fed.ensures.requests c.feed-fed.ensures.bad)
+    c.print_replies.ensures.steps
+
+pub returns-in-Err-clause-serves : goal.returns-in-Err-clause-serves
+returns-in-Err-clause-serves g c = (
+  piece_bad (g.B.Board.tells_text) c.args.durable.now c.args.seal.now c.args.port.now c.loop-rest.port c.args.piece.now c.loop-rest.rest.now (g.B.Board.printed c.args.board.now) (g.B.Board.printed c.loop-rest.board) c.args.steps.now c.loop-rest.steps c.loop-rest.invariant.so_far
+      c.as_slice.result.now c.in-Err.bad.place c.requires.sense (breaks_by c.loop-rest.port c.loop-rest.rest.now c.new-requests.result.items c.feed-fed.new.out.items c.as_slice.result.now c.in-Err.bad.place c.new-requests.ensures c.as_slice.ensures.value c.in-Err.ensures.bad),
+  piece_bad_shown (g.B.Board.tells_text) c.args.durable.now c.args.seal.now c.args.port.now c.loop-rest.port c.args.piece.now c.loop-rest.rest.now (g.B.Board.printed c.args.board.now) (g.B.Board.printed c.loop-rest.board) c.args.steps.now c.loop-rest.steps c.loop-rest.invariant.so_far
+      c.as_slice.result.now (g.B.Board.printed c.print_replies.new.board) c.in-Err.bad.place c.requires.sense (breaks_by c.loop-rest.port c.loop-rest.rest.now c.new-requests.result.items c.feed-fed.new.out.items c.as_slice.result.now c.in-Err.bad.place c.new-requests.ensures c.as_slice.ensures.value c.in-Err.ensures.bad)
+      (λ t. ok_of c.print_replies.result _ (sym c.is_err.ensures.value ∙ c.if-is_err.false) (c.print_replies.ensures.whole t)),
+)
+
+pub returns-in-Err-clause-steps : goal.returns-in-Err-clause-steps
+returns-in-Err-clause-steps g c =
+    piece_steps (g.B.Board.tells_text) c.args.durable.now c.args.seal.now c.args.port.now c.loop-rest.port c.args.piece.now c.loop-rest.rest.now (g.B.Board.printed c.args.board.now) (g.B.Board.printed c.loop-rest.board) c.args.steps.now c.loop-rest.steps c.loop-rest.invariant.so_far
+    c.as_slice.result.now c.print_replies.new.steps (starts_by c.loop-rest.port c.loop-rest.rest.now c.new-requests.result.items c.feed-fed.new.out.items c.as_slice.result.now c.feed-fed.result c.new-requests.ensures c.as_slice.ensures.value (piece_sense (g.B.Board.tells_text) c.args.durable.now c.args.seal.now c.args.port.now c.loop-rest.port c.args.piece.now c.loop-rest.rest.now (g.B.Board.printed c.args.board.now) (g.B.Board.printed c.loop-rest.board) c.args.steps.now c.loop-rest.steps c.loop-rest.invariant.so_far c.requires.sense) c.loop-rest.invariant.so_far.going c.feed-fed.ensures.requests c.feed-fed.ensures.bad)
+    c.print_replies.ensures.steps
+
+pub loop-rest-preserved : goal.loop-rest-preserved
+loop-rest-preserved g c = record {
+  so_far = piece_more (g.B.Board.tells_text) c.args.durable.now c.args.seal.now c.args.port.now c.loop-rest.port c.args.piece.now c.loop-rest.rest.now (g.B.Board.printed c.args.board.now) (g.B.Board.printed c.loop-rest.board) c.args.steps.now c.loop-rest.steps c.loop-rest.invariant.so_far
+      c.feed-fed.new.self c.behind-left.result.now (g.B.Board.printed c.print_replies.new.board) c.as_slice.result.now c.print_replies.new.steps c.in-Ok.count c.requires.sense
+      c.in-Ok.ensures.within c.behind-left.ensures c.in-Ok.ensures.taken (takes_by c.loop-rest.port c.loop-rest.rest.now c.new-requests.result.items c.feed-fed.new.out.items c.as_slice.result.now c.in-Ok.count c.new-requests.ensures c.as_slice.ensures.value c.in-Ok.ensures.requests)
+      c.in-Ok.ensures.stands.2 c.in-Ok.ensures.count (λ t. ok_of c.print_replies.result _ (sym c.is_err.ensures.value ∙ c.if-is_err.false) (c.print_replies.ensures.whole t)) c.print_replies.ensures.steps;
+  faults = omega (arith, c.loop-rest.invariant.faults, c.print_replies.ensures.cause.later);
+  store = keeps_then g.B.Board c.args.board.now c.loop-rest.board c.print_replies.new.board c.loop-rest.invariant.store c.print_replies.ensures.store;
+}

@@ -1,0 +1,100 @@
+-- The reply to a request, from the durable state and the seal. Numbers have their greatest byte first.
+use Rattle.std.specs.Prelude.{ℕ, ◌-◌, List, [], ◌∷◌, ◌++◌, length, get_or, replicate, Option, Some, None}
+use Rattle.std.specs.Int.{w16, to_be_bytes}
+use Rattle.std.specs.List.{flat_map}
+use Rattle.pulse_input.specs.Distance.{millimetres_of}
+use Rattle.seal_store.specs.declared.seal.Seal.{Seal}
+use Rattle.seal_store.specs.Spelling.{mode_byte, padded, signed_bytes}
+use Rattle.totaliser_store.specs.declared.durable.Durable.{Durable}
+use Rattle.totaliser_store.specs.declared.totals.Totals.{Totals}
+use Rattle.totaliser_store.specs.declared.trip.Trip.{Trip}
+use Rattle.totaliser_store.specs.Bytes.{four, eight, sixteen}
+use Rattle.totaliser_store.specs.Spelling.{share_bytes}
+use Rattle.data_port.specs.declared.request.Request.{Request}
+use Rattle.data_port.specs.Requests.{codes_of}
+
+-- what is told of a held trip: the seconds of its start and of its saving, the distance when hired in millimetres, its
+-- ticks, its supplements, its initial hire fee, and its full display steps
+pub record HeldTrip : Type 0 where
+  pub started : ℕ
+  pub saved : ℕ
+  pub hired_mm : ℕ
+  pub ticks : ℕ
+  pub extras_sum : ℕ
+  pub initial : ℕ
+  pub steps_full : ℕ
+
+-- its distance is that of its pulses by the constant
+abbrev pub held_trip : (constant : ℕ) → Trip → HeldTrip
+held_trip constant trip = record {
+  started = trip.started;
+  saved = trip.saved;
+  hired_mm = millimetres_of constant trip.pulses;
+  ticks = trip.ticks;
+  extras_sum = trip.extras_sum;
+  initial = trip.initial;
+  steps_full = trip.meterage.steps_full;
+}
+
+-- what is told of the trip that is held, where one is
+abbrev pub held_values : (constant : ℕ) → Option Trip → Option HeldTrip
+held_values constant None = None
+held_values constant (Some trip) = Some (held_trip constant trip)
+
+-- 8, 8, 16, 4, 8, 4 and 8 bytes
+abbrev pub trip_content : HeldTrip → List ℕ
+trip_content held =
+    eight held.started
+    ++ (eight held.saved
+    ++ (sixteen held.hired_mm
+    ++ (four held.ticks
+    ++ (eight held.extras_sum
+    ++ (four held.initial
+    ++ eight held.steps_full)))))
+
+-- 1 and what is told of the held trip, or zeros where none is held
+abbrev pub held_content : Option HeldTrip → List ℕ
+held_content None = replicate 57 0
+held_content (Some held) = 1 ∷ trip_content held
+
+-- the nine shares, then what was counted before there were shares
+abbrev pub shares_content : Totals → List ℕ
+shares_content totals = flat_map share_bytes totals.shares ++ share_bytes totals.before
+
+-- the table of contents, a row an item, from item 1 on
+abbrev pub rows : Durable → Seal → List (List ℕ)
+rows durable seal =
+    padded 16 seal.params.taxi.items
+    ∷ (four seal.params.constant
+    ∷ (signed_bytes seal.params.secured
+    ∷ (seal.digest
+    ∷ ((mode_byte seal.params.mode ∷ [])
+    ∷ (eight durable.number
+    ∷ (sixteen durable.totals.distance_mm
+    ∷ (sixteen durable.totals.hired_mm
+    ∷ (eight durable.totals.hirings
+    ∷ (sixteen durable.totals.supplements
+    ∷ (sixteen durable.totals.fare
+    ∷ (held_content (held_values seal.params.constant durable.hold)
+    ∷ (shares_content durable.totals
+    ∷ []))))))))))))
+
+-- the content of the item with this code
+abbrev pub content : Durable → Seal → (code : ℕ) → List ℕ
+content durable seal code = get_or (rows durable seal) (code - 1) []
+
+-- its code, and then its content
+abbrev pub item_bytes : Durable → Seal → (code : ℕ) → List ℕ
+item_bytes durable seal code = code ∷ content durable seal code
+
+-- the items with these codes, in order
+abbrev pub items_bytes : Durable → Seal → (codes : List ℕ) → List ℕ
+items_bytes durable seal codes = flat_map (item_bytes durable seal) codes
+
+-- 0x02, the number of these bytes in two bytes, the bytes, and 0x03
+abbrev pub framed : List ℕ → List ℕ
+framed bytes = 2 ∷ (to_be_bytes w16 (length bytes) ++ (bytes ++ 3 ∷ []))
+
+-- the reply to a request
+abbrev pub reply_to : Durable → Seal → Request → List ℕ
+reply_to durable seal request = framed (items_bytes durable seal (codes_of request))

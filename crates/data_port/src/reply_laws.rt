@@ -1,0 +1,23 @@
+//! What holds of replies.
+ghost use Rattle.std.specs.Prelude.{◌≡◌, map, ℕ};
+ghost use Rattle.seal_store.specs.declared.seal.Seal.{Seal};
+ghost use Rattle.seal_store.specs.Ranges.{IsSeal};
+ghost use Rattle.totaliser_store.specs.declared.durable.Durable.{Durable};
+ghost use Rattle.totaliser_store.specs.Ranges.{IsDurable};
+ghost use Rattle.data_port.specs.declared.request.Request.{Request};
+ghost use Rattle.data_port.specs.Reply.{content, reply_to};
+ghost use Rattle.data_port.specs.Replies.{AgreeOn, answers_in};
+ghost use Rattle.data_port.specs.Requests.{IsRequest, codes_of};
+
+/// Two stores that agree on what the items of a request speak of give the same reply.
+pub fn replies_speak_of_their_items()
+    ensures { (request : Request) (one other : Durable) (seal another : Seal)
+        → AgreeOn one seal other another request → reply_to one seal request ≡ reply_to other another request }
+{}
+
+/// From the bytes of a reply the codes of its request and the content of each item can be read back.
+pub fn replies_are_read_back()
+    ensures { (request : Request) (durable : Durable) (seal : Seal)
+        → IsRequest request → IsDurable durable → IsSeal seal → answers_in (reply_to durable seal request)
+        ≡ map (λ (code : ℕ). (code, content durable seal code)) (codes_of request) }
+{}

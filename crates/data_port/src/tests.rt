@@ -1,0 +1,416 @@
+//! Streams of requests over stores in memory. All bytes are written by hand from the tables of formats.
+ghost use Rattle.std.specs.Prelude.{◌≡◌, ◌<◌};
+
+use crate::{BadFrame, Port, PortFault, Request, serve};
+use arrayvec::ArrayVec;
+use outside::{MemoryBoard, MemoryFiles};
+use seal_store::Seal;
+use slot_store::{Found, scan};
+use std::alloc::Global;
+use std::marker::Brand;
+use std::sync::ledger::{Blank, Ledger};
+use std::test::Fail;
+use taxi_units::Steps;
+use totaliser_store::Durable;
+
+/// The bytes of a sealed store, by their places: the totals of one hiring in the first slot, beside a
+/// seal of taxi LX-4711 with 10,000 pulses a kilometre.
+const STORE: [(usize, u8); 33] = [
+    (0, 0xa5),
+    (8, 2),
+    (22, 0x03),
+    (23, 0x95),
+    (24, 0x30),
+    (38, 0x03),
+    (39, 0x95),
+    (40, 0x30),
+    (48, 1),
+    (79, 0x01),
+    (80, 0x7c),
+    (1024, 0xa5),
+    (1032, 1),
+    (1033, b'L'),
+    (1034, b'X'),
+    (1035, b'-'),
+    (1036, b'4'),
+    (1037, b'7'),
+    (1038, b'1'),
+    (1039, b'1'),
+    (1051, 0x27),
+    (1052, 0x10),
+    (1055, 60),
+    (1090, 0x4f),
+    (1091, 0xc7),
+    (1092, 1),
+    (1097, 0x38),
+    (1098, 0x6d),
+    (1099, 0x43),
+    (1100, 0x80),
+    (1103, 0x0e),
+    (1104, 0x10),
+    (1477, 2),
+];
+
+/// What each layout has more, and layout 2 with a held trip.
+const FIRST_LAYOUT: [(usize, u8); 2] = [(511, 1), (1535, 1)];
+
+const SECOND_LAYOUT: [(usize, u8); 5] = [(196, 1), (211, 0x01), (212, 0x7c), (511, 2), (1535, 1)];
+
+const WITH_TRIP: [(usize, u8); 25] = [
+    (81, 1),
+    (86, 0x69),
+    (87, 0x55),
+    (88, 0xb9),
+    (89, 0x00),
+    (94, 0x69),
+    (95, 0x55),
+    (96, 0xb9),
+    (97, 0x3c),
+    (99, 1),
+    (100, 1),
+    (111, 0x09),
+    (112, 0x2c),
+    (115, 0x01),
+    (116, 0x2c),
+    (119, 0x01),
+    (120, 0x7c),
+    (144, 11),
+    (161, 2),
+    (184, 200),
+    (196, 1),
+    (211, 0x01),
+    (212, 0x7c),
+    (511, 2),
+    (1535, 1),
+];
+
+/// An image with these bytes, and a digest of 1, 2, 3 and so on.
+fn image_of(more: &[(usize, u8)]) -> [u8; 2048] {
+    let mut image = [0; 2048];
+    for (place, byte) in STORE.iter().chain(more) {
+        if let Some(here) = image.get_mut(*place) {
+            *here = *byte;
+        }
+    }
+    for byte in 1..33 {
+        image[1055 + byte] = byte as u8;
+    }
+    image
+}
+
+/// Serves a stream over the store that a board holds, under a new counter.
+fn counted<L: Ledger>(
+    blank: Blank,
+    files: &mut MemoryFiles,
+    board: &mut MemoryBoard,
+) -> Result<Result<(), PortFault>, Fail>
+    requires name { blank.name ≡ L.name }
+    requires parts { blank.parts ≡ L.parts }
+    requires some { 0 < blank.parts }
+{
+    let mut steps: Steps<L> = Steps::open(blank);
+    let Ok(Found::Latest { body: durable, .. }) = scan::<Durable, MemoryBoard, L>(
+        board, 0, &mut steps,
+    ) else {
+        return Err(Fail::new("no totals"));
+    };
+    let Ok(Found::Latest { body: seal, .. }) = scan::<Seal, MemoryBoard, L>(board, 1024, &mut steps)
+    else {
+        return Err(Fail::new("no seal"));
+    };
+    Ok(serve(&durable, &seal, files, 0, board, &mut steps))
+}
+
+/// The same of a stream, where the reads of these numbers fail.
+fn served(
+    alloc: Global,
+    stream: &[u8],
+    fail: &[u64],
+    board: &mut MemoryBoard,
+) -> Result<Result<(), PortFault>, Fail> {
+    let mut files = MemoryFiles::new(alloc, fail)?;
+    files.add(stream)?;
+    counted::<Brand>(Blank::new(1), &mut files, board)
+}
+
+/// Whether a text is these parts, one behind the other.
+fn is_joined(text: &[u8], parts: &[&[u8]]) -> bool {
+    let mut rest = text;
+    for part in parts {
+        match rest.strip_prefix(*part) {
+            Some(left) => rest = left,
+            None => return false,
+        }
+    }
+    rest.is_empty()
+}
+
+const TAXI: &[u8] = b"\x01LX-4711\0\0\0\0\0\0\0\0\0";
+
+const CONSTANT: &[u8] = b"\x02\x00\x00\x27\x10";
+
+const SECURED: &[u8] = b"\x03\x00\x00\x4f\xc7";
+
+const DIGEST: &[u8] = &[
+    0x04, 0x01, 0x02, 0x03, 0x04, 0x05, 0x06, 0x07, 0x08, 0x09, 0x0a, 0x0b, 0x0c, 0x0d, 0x0e, 0x0f,
+    0x10, 0x11, 0x12, 0x13, 0x14, 0x15, 0x16, 0x17, 0x18, 0x19, 0x1a, 0x1b, 0x1c, 0x1d, 0x1e, 0x1f,
+    0x20,
+];
+
+const MODE: &[u8] = b"\x05\x00";
+
+const NUMBER: &[u8] = b"\x06\0\0\0\0\0\0\0\x02";
+
+const DISTANCE: &[u8] = b"\x07\0\0\0\0\0\0\0\0\0\0\0\0\0\x03\x95\x30";
+
+const HIRED: &[u8] = b"\x08\0\0\0\0\0\0\0\0\0\0\0\0\0\x03\x95\x30";
+
+const HIRINGS: &[u8] = b"\x09\0\0\0\0\0\0\0\x01";
+
+const SUPPLEMENTS: &[u8] = b"\x0a\0\0\0\0\0\0\0\0\0\0\0\0\0\0\0\0";
+
+const FARE: &[u8] = b"\x0b\0\0\0\0\0\0\0\0\0\0\0\0\0\0\x01\x7c";
+
+const NONE_HELD: &[u8] = &[
+    0x0c, 0, 0, 0, 0, 0, 0, 0, 0, 0, 0, 0, 0, 0, 0, 0, 0, 0, 0, 0, 0, 0, 0, 0, 0, 0, 0, 0, 0, 0, 0,
+    0, 0, 0, 0, 0, 0, 0, 0, 0, 0, 0, 0, 0, 0, 0, 0, 0, 0, 0, 0, 0, 0, 0, 0, 0, 0, 0,
+];
+
+const HELD: &[u8] = &[
+    0x0c, 0x01, 0, 0, 0, 0, 0x69, 0x55, 0xb9, 0, 0, 0, 0, 0, 0x69, 0x55, 0xb9, 0x3c, 0, 0, 0, 0, 0,
+    0, 0, 0, 0, 0, 0, 0, 0, 0x03, 0x95, 0x30, 0, 0, 0x01, 0x2c, 0, 0, 0, 0, 0, 0, 0, 0xc8, 0, 0,
+    0x01, 0x7c, 0, 0, 0, 0, 0, 0, 0, 0x0b,
+];
+
+const ONE_HIRING: &[u8] = b"\0\0\0\0\0\0\0\x01\0\0\0\0\0\0\0\0\0\0\0\0\0\0\x01\x7c";
+
+/// No hirings, nine times.
+const NO_HIRINGS: &[u8] = &[0; 216];
+
+const CODE: &[u8] = b"\x0d";
+
+const END: &[u8] = b"\x03";
+
+const FIRST: &[u8] = b"\x02\x01\x06\x03";
+
+const SECOND: &[u8] = b"\x02\x02\x02\x09\x03";
+
+const BOTH: &[u8] = b"\x02\x01\x06\x03\x02\x02\x02\x09\x03";
+
+const ALL: &[u8] = b"\x02\x0d\x01\x02\x03\x04\x05\x06\x07\x08\x09\x0a\x0b\x0c\x0d\x03";
+
+const LENGTH_OF_FIRST: &[u8] = b"\x02\x00\x09";
+
+const LENGTH_OF_SECOND: &[u8] = b"\x02\x00\x0e";
+
+const LENGTH_OF_ALL: &[u8] = b"\x02\x01\xbf";
+
+const LENGTH_OF_SHARES: &[u8] = b"\x02\x00\xf1";
+
+const OF_FIRST: &[&[u8]] = &[LENGTH_OF_FIRST, NUMBER, END];
+
+const OF_SECOND: &[&[u8]] = &[LENGTH_OF_SECOND, CONSTANT, HIRINGS, END];
+
+const OF_BOTH: &[&[u8]] = &[
+    LENGTH_OF_FIRST,
+    NUMBER,
+    END,
+    LENGTH_OF_SECOND,
+    CONSTANT,
+    HIRINGS,
+    END,
+];
+
+const OF_ALL: &[&[u8]] = &[
+    LENGTH_OF_ALL,
+    TAXI,
+    CONSTANT,
+    SECURED,
+    DIGEST,
+    MODE,
+    NUMBER,
+    DISTANCE,
+    HIRED,
+    HIRINGS,
+    SUPPLEMENTS,
+    FARE,
+    NONE_HELD,
+    CODE,
+    ONE_HIRING,
+    NO_HIRINGS,
+    END,
+];
+
+const OF_ALL_HELD: &[&[u8]] = &[
+    LENGTH_OF_ALL,
+    TAXI,
+    CONSTANT,
+    SECURED,
+    DIGEST,
+    MODE,
+    NUMBER,
+    DISTANCE,
+    HIRED,
+    HIRINGS,
+    SUPPLEMENTS,
+    FARE,
+    HELD,
+    CODE,
+    ONE_HIRING,
+    NO_HIRINGS,
+    END,
+];
+
+const SHARED: &[&[u8]] = &[LENGTH_OF_SHARES, CODE, ONE_HIRING, NO_HIRINGS, END];
+
+const COUNTED_BEFORE: &[&[u8]] = &[LENGTH_OF_SHARES, CODE, NO_HIRINGS, ONE_HIRING, END];
+
+const NONE: &[&[u8]] = &[];
+
+/// A stream that ends with a bad place.
+const BROKEN: &[u8] = b"\x02\x01\x06\x03\x02\x02\x0d\x03";
+
+/// What a store has more, a stream, the parts of the replies, and how serving ends.
+const ROWS: [(&[(usize, u8)], &[u8], &[&[u8]], Result<(), PortFault>); 11] = [
+    (&SECOND_LAYOUT, FIRST, OF_FIRST, Ok(())),
+    (&SECOND_LAYOUT, SECOND, OF_SECOND, Ok(())),
+    (&SECOND_LAYOUT, BOTH, OF_BOTH, Ok(())),
+    (&FIRST_LAYOUT, b"\x02\x01\x0d\x03", COUNTED_BEFORE, Ok(())),
+    (&SECOND_LAYOUT, b"\x02\x01\x0d\x03", SHARED, Ok(())),
+    (&SECOND_LAYOUT, ALL, OF_ALL, Ok(())),
+    (&WITH_TRIP, ALL, OF_ALL_HELD, Ok(())),
+    (&SECOND_LAYOUT, b"", NONE, Ok(())),
+    (
+        &SECOND_LAYOUT,
+        b"\x02\x01\x0e\x03",
+        NONE,
+        Err(PortFault::Frame(2)),
+    ),
+    (&SECOND_LAYOUT, b"\x02\x01", NONE, Err(PortFault::Frame(2))),
+    (&SECOND_LAYOUT, BROKEN, OF_FIRST, Err(PortFault::Frame(6))),
+];
+
+#[test]
+fn replies(rt: HostRuntime) -> Result<(), Fail> {
+    for (more, stream, parts, answer) in ROWS {
+        let image = image_of(more);
+        let mut board = MemoryBoard::new(rt.alloc(), &image, &[])?;
+        assert_eq!(rt; served(rt.alloc(), stream, &[], &mut board)?, answer);
+        assert!(rt; is_joined(board.printed(), parts));
+        assert!(rt; *board.image() == image);
+    }
+    Ok(())
+}
+
+/// The numbers of the reads and of the calls of the board that fail, what is printed, and how serving ends:
+/// the store is scanned by six calls.
+const FAILURES: [(&[u64], &[u64], &[&[u8]], Result<(), PortFault>); 5] = [
+    (&[1], &[], NONE, Err(PortFault::ReadFault)),
+    (&[2], &[], OF_BOTH, Err(PortFault::ReadFault)),
+    (&[], &[7], NONE, Err(PortFault::BoardFault)),
+    (&[], &[8], OF_FIRST, Err(PortFault::BoardFault)),
+    (&[], &[9], OF_BOTH, Ok(())),
+];
+
+#[test]
+fn failures(rt: HostRuntime) -> Result<(), Fail> {
+    let image = image_of(&SECOND_LAYOUT);
+    for (reads, calls, parts, answer) in FAILURES {
+        let mut board = MemoryBoard::new(rt.alloc(), &image, calls)?;
+        assert_eq!(rt; served(rt.alloc(), BOTH, reads, &mut board)?, answer);
+        assert!(rt; is_joined(board.printed(), parts));
+    }
+    Ok(())
+}
+
+/// Feeds a port two pieces, and tells how the stream ends.
+fn fed(one: &[u8], other: &[u8], out: &mut ArrayVec<Request, 64>) -> Result<(), BadFrame> {
+    let mut port = Port::new();
+    port.feed(one, out)?;
+    port.feed(other, out)?;
+    port.finish()
+}
+
+/// Whether these are requests for items with these codes.
+fn ask_for(requests: &[Request], codes: &[&[u8]]) -> bool {
+    if requests.len() != codes.len() {
+        return false;
+    }
+    for (request, items) in requests.iter().zip(codes) {
+        if request.items.as_slice() != *items {
+            return false;
+        }
+    }
+    true
+}
+
+const CODES_OF_ALL: &[u8] = b"\x01\x02\x03\x04\x05\x06\x07\x08\x09\x0a\x0b\x0c\x0d";
+
+/// A stream, the places at which it may end, its first bad place, and the codes of its requests.
+const STREAMS: [(&[u8], &[u64], Option<u64>, &[&[u8]]); 11] = [
+    (BOTH, &[0, 4, 9], None, &[b"\x06", b"\x02\x09"]),
+    (ALL, &[0, 16], None, &[CODES_OF_ALL]),
+    (BROKEN, &[0, 4], Some(6), &[b"\x06"]),
+    (b"\x02\x00\x03", &[0], Some(1), NONE),
+    (b"\x02\x0e\x01", &[0], Some(1), NONE),
+    (b"\x02\x02\x05\x05\x03", &[0], Some(3), NONE),
+    (b"\x02\x02\x05\x04\x03", &[0], Some(3), NONE),
+    (b"\x02\x01\x0e\x03", &[0], Some(2), NONE),
+    (b"\x02\x01\x00\x03", &[0], Some(2), NONE),
+    (b"\x02\x01\x06\x04", &[0], Some(3), NONE),
+    (b"\x03", &[0], Some(0), NONE),
+];
+
+/// How a stream ends that is cut off at a place.
+fn ending(wholes: &[u64], bad: Option<u64>, end: u64) -> Result<(), BadFrame> {
+    match bad {
+        Some(place) if place < end => Err(BadFrame { place }),
+        _ if wholes.contains(&end) => Ok(()),
+        _ => Err(BadFrame { place: end }),
+    }
+}
+
+/// Each stream is cut at each place, and ended there.
+#[test]
+fn pieces(rt: HostRuntime) {
+    for (stream, wholes, bad, codes) in STREAMS {
+        for cut in 0..stream.len() + 1 {
+            let (one, other) = stream.split_at(cut);
+            let mut out = ArrayVec::new();
+            let answer = ending(wholes, bad, stream.len() as u64);
+            assert_eq!(rt; fed(one, other, &mut out), answer, "cut at {cut}");
+            assert!(rt; ask_for(out.as_slice(), codes), "cut at {cut}");
+            let mut out = ArrayVec::new();
+            let answer = ending(wholes, bad, cut as u64);
+            assert_eq!(rt; fed(one, b"", &mut out), answer, "ended at {cut}");
+        }
+    }
+}
+
+/// Sixty-five requests and a bad byte: the list is full before the last request.
+#[test]
+fn full_lists(rt: HostRuntime) {
+    let mut stream = [0; 261];
+    for place in 0..65 {
+        stream[4 * place] = 2;
+        stream[4 * place + 1] = 1;
+        stream[4 * place + 2] = 6;
+        stream[4 * place + 3] = 3;
+    }
+    let mut port = Port::new();
+    let mut out = ArrayVec::new();
+    assert_eq!(rt; port.feed(&stream, &mut out), Ok(256));
+    assert_eq!(rt; out.len(), 64);
+    assert_eq!(rt; port.feed(&stream[256..], &mut out), Ok(0));
+    out.clear();
+    assert_eq!(rt;
+        port.feed(&stream[256..], &mut out),
+        Err(BadFrame { place: 260 })
+    );
+    assert_eq!(rt; out.len(), 1);
+    assert_eq!(rt;
+        port.feed(&stream[256..], &mut out),
+        Err(BadFrame { place: 260 })
+    );
+    assert_eq!(rt; port.finish(), Err(BadFrame { place: 260 }));
+}
