@@ -1,0 +1,41 @@
+-- The report from its lines.
+use Rattle.std.proofs.Common.{◌≡◌, ℕ, List, [], ◌++◌, ap, ◌∙◌, subst, arith, append_assoc, codes}
+use Rattle.shift_book.specs.declared.numbers.Numbers.{Numbers}
+use Rattle.shift_book.specs.declared.shift.Shift.{Shift}
+use Rattle.shift_book.specs.Marks.{Signing}
+use Rattle.shift_book.specs.Report.{IsReport, growth_text, shift_lines, driver_lines}
+use Rattle.shift_book.specs.Shares.{Driver, Rise, shifts_in, unsigned_in, growth_in, AreSums, AreOrdered}
+use Rattle.shift_book.proofs.Rising.{shifts_add_up}
+
+-- texts behind one another
+assembled : (s d u g r0 r1 r2 r3 r4 : List ℕ) → r0 ≡ [] → r1 ≡ r0 ++ s → r2 ≡ r1 ++ d → r3 ≡ r2 ++ u → r4 ≡ r3 ++ g → r4 ≡ s ++ (d ++ (u ++ g))
+assembled s d u g r0 r1 r2 r3 r4 e0 e1 e2 e3 e4 =
+    let one : r1 ≡ s = e1 ∙ ap (λ (l : List ℕ). l ++ s) e0 in
+    let two : r2 ≡ s ++ d = e2 ∙ ap (λ (l : List ℕ). l ++ d) one in
+    let three : r3 ≡ (s ++ d) ++ u = e3 ∙ ap (λ (l : List ℕ). l ++ u) two in
+    let four : r4 ≡ ((s ++ d) ++ u) ++ g = e4 ∙ ap (λ (l : List ℕ). l ++ g) three in
+    let right : ((s ++ d) ++ u) ++ g ≡ s ++ (d ++ (u ++ g)) = simp append_assoc in
+    four ∙ right
+
+pub report_is : (decimals : ℕ) (now : Numbers) (marks : List Signing) (listed : List Shift) (sums : List (Driver × Numbers)) (unsigned growth : Numbers)
+    (r0 r1 r2 r3 r4 : List ℕ) → listed ≡ shifts_in now marks → unsigned ≡ unsigned_in now marks → growth ≡ growth_in now marks → r0 ≡ []
+    → r1 ≡ r0 ++ shift_lines decimals 1 listed → r2 ≡ r1 ++ driver_lines decimals sums
+    → r3 ≡ r2 ++ (codes "UNSIGNED" ++ growth_text decimals unsigned)
+    → r4 ≡ r3 ++ (codes "GROWTH" ++ growth_text decimals growth)
+    → AreOrdered sums → AreSums sums listed → Rise now marks → IsReport decimals now marks r4
+report_is decimals now marks listed sums unsigned growth r0 r1 r2 r3 r4 l u g e0 e1 e2 e3 e4 ordered are rise =
+    let same : AreSums sums (shifts_in now marks) = subst (λ (x : List Shift). AreSums sums x) l are in
+    record {
+      sums = sums;
+      text_is = assembled (shift_lines decimals 1 (shifts_in now marks)) (driver_lines decimals sums)
+          (codes "UNSIGNED" ++ growth_text decimals (unsigned_in now marks))
+          (codes "GROWTH" ++ growth_text decimals (growth_in now marks)) r0 r1 r2 r3 r4 e0
+          (e1 ∙ ap (λ (x : List Shift). r0 ++ shift_lines decimals 1 x) l)
+          e2
+          (e3 ∙ ap (λ (n : Numbers). r2 ++ (codes "UNSIGNED" ++ growth_text decimals n)) u)
+          (e4 ∙ ap (λ (n : Numbers). r3 ++ (codes "GROWTH" ++ growth_text decimals n)) g);
+      ordered = ordered;
+      are_sums = same;
+      shifts_add_up = shifts_add_up now marks rise;
+      drivers_add_up = λ c. omega (arith, same.all c, shifts_add_up now marks rise c);
+    }

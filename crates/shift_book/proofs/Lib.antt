@@ -1,0 +1,10 @@
+pub mod Again
+pub mod Assembling
+pub mod Drivers
+pub mod Figures
+pub mod Growing
+pub mod Lines
+pub mod Nexts
+pub mod Once
+pub mod Rising
+pub mod Sharing

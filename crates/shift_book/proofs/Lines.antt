@@ -1,0 +1,60 @@
+-- The line of a mark says the mark.
+use Rattle.std.proofs.Common.{◌≡◌, ℕ, ◌↔◌, List, [], ◌∷◌, ◌++◌, refl, ap, sym, ◌∙◌, arith, append_assoc}
+use Rattle.std.specs.Fmt.{decimal}
+use Rattle.taxi_units.proofs.Laws.{numbers_are_written_by_their_digits}
+use Rattle.shift_book.specs.declared.numbers.Numbers.{Numbers}
+use Rattle.shift_book.specs.Following.{Fit}
+use Rattle.shift_book.specs.Marks.{Signing, HasDriver, SaysNumbers, IsMarkLine, head_text, numbers_text, mark_text, six_fields}
+
+fields_are : (a b c d e f : List ℕ) → (32 ∷ a) ++ ((32 ∷ b) ++ ((32 ∷ c) ++ ((32 ∷ d) ++ ((32 ∷ e) ++ ((32 ∷ f) ++ 10 ∷ []))))) ≡ six_fields a b c d e f
+fields_are a b c d e f = simp append_assoc
+
+says : (n : Numbers) → Fit n → SaysNumbers (numbers_text n) n
+says n fit =
+    record {
+      one = decimal n.number;
+      two = decimal n.distance_mm;
+      three = decimal n.hired_mm;
+      four = decimal n.hirings;
+      five = decimal n.supplements;
+      six = decimal n.fare;
+      text_is = fields_are (decimal n.number) (decimal n.distance_mm) (decimal n.hired_mm) (decimal n.hirings) (decimal n.supplements) (decimal n.fare);
+      number = (numbers_are_written_by_their_digits n.number (decimal n.number) (omega (arith, fit.number))).0 refl;
+      distance = (numbers_are_written_by_their_digits n.distance_mm (decimal n.distance_mm) fit.distance).0 refl;
+      hired = (numbers_are_written_by_their_digits n.hired_mm (decimal n.hired_mm) fit.hired).0 refl;
+      hirings = (numbers_are_written_by_their_digits n.hirings (decimal n.hirings) (omega (arith, fit.hirings))).0 refl;
+      supplements = (numbers_are_written_by_their_digits n.supplements (decimal n.supplements) fit.supplements).0 refl;
+      fare = (numbers_are_written_by_their_digits n.fare (decimal n.fare) fit.fare).0 refl;
+    }
+
+-- the line that is written says the mark
+pub said : (mark : Signing) → Fit mark.numbers → HasDriver mark.on mark.driver → IsMarkLine (mark_text mark) mark
+said mark fit valid = record { numbers = numbers_text mark.numbers; text_is = refl; driver = valid; says = says mark.numbers fit }
+
+fields_same : (n : Numbers) (a b c d e f : List ℕ) → decimal n.number ≡ a → decimal n.distance_mm ≡ b → decimal n.hired_mm ≡ c → decimal n.hirings ≡ d
+    → decimal n.supplements ≡ e → decimal n.fare ≡ f → six_fields a b c d e f ≡ numbers_text n
+fields_same n a b c d e f one two three four five six =
+    rw (← one, ← two, ← three, ← four, ← five, ← six)
+    (sym (fields_are (decimal n.number) (decimal n.distance_mm) (decimal n.hired_mm) (decimal n.hirings) (decimal n.supplements) (decimal n.fare)))
+
+written : (text : List ℕ) (n : Numbers) → Fit n → SaysNumbers text n → text ≡ numbers_text n
+written text n fit s =
+    s.text_is ∙ fields_same n s.one s.two s.three s.four s.five s.six
+    ((numbers_are_written_by_their_digits n.number s.one (omega (arith, fit.number))).1 s.number)
+    ((numbers_are_written_by_their_digits n.distance_mm s.two fit.distance).1 s.distance)
+    ((numbers_are_written_by_their_digits n.hired_mm s.three fit.hired).1 s.hired)
+    ((numbers_are_written_by_their_digits n.hirings s.four (omega (arith, fit.hirings))).1 s.hirings)
+    ((numbers_are_written_by_their_digits n.supplements s.five fit.supplements).1 s.supplements)
+    ((numbers_are_written_by_their_digits n.fare s.six fit.fare).1 s.fare)
+
+pub marks_are_their_lines : (line : List ℕ) (mark : Signing) → Fit mark.numbers
+    → IsMarkLine line mark ↔ (HasDriver mark.on mark.driver × (line ≡ mark_text mark))
+marks_are_their_lines line mark fit = (
+  (λ (m : IsMarkLine line mark). (m.driver, m.text_is ∙ ap (λ (t : List ℕ). head_text mark.on mark.driver ++ t) (written m.numbers mark.numbers fit m.says))),
+  (λ (h : HasDriver mark.on mark.driver × (line ≡ mark_text mark)). record {
+    numbers = numbers_text mark.numbers;
+    text_is = h.1;
+    driver = h.0;
+    says = says mark.numbers fit;
+  }),
+)

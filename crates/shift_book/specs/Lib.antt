@@ -1,0 +1,6 @@
+pub mod Books
+pub mod Following
+pub mod Marks
+pub mod Reading
+pub mod Report
+pub mod Shares

@@ -1,0 +1,57 @@
+//! Books: the marks that a keeper put behind one another.
+ghost use Rattle.std.specs.Prelude.{MatchResult};
+ghost use Rattle.shift_book.specs.Books.{IsBook, IsFault};
+
+use crate::following::next_mark;
+use crate::mark::Mark;
+use std::alloc::Global;
+use thiserror::Error;
+use totaliser_store::Durable;
+
+/// Why a text is no book.
+#[derive(Clone, Copy, Debug, PartialEq, Eq, Error)]
+pub enum BookFault {
+    /// The text has more than 1,048,576 bytes.
+    #[error("the book has more than 1048576 bytes")]
+    TooLong,
+    /// This line, counted from 1, is the first that is no line of a mark, or of none that may follow
+    /// those before it, or isn't ended by LF.
+    #[error("line {0} is no mark that may follow")]
+    BadLine(u64),
+    /// Memory ran out.
+    #[error("no memory")]
+    NoMemory,
+}
+
+/// The greatest length of a book, in bytes.
+const LONGEST: usize = 1_048_576;
+
+/// Reads a book: the marks of its lines, in order, beside a state of the store. A mark signs on where
+/// nobody is on, and off where somebody is; no number of it is smaller than in the mark before it, or
+/// greater than in the store. Each line ends in LF.
+///
+/// `TooLong` exactly above 1,048,576 bytes, before any line counts. Else `BadLine` with the first line
+/// that is none of a mark that may follow, where there is one. `NoMemory` where memory runs out before
+/// that is known. The form and the limit are this project's own.
+pub fn read_book(alloc: Global, text: &[u8], now: &Durable) -> Result<Vec<Mark>, BookFault>
+    ensures { MatchResult result (λ marks. IsBook now.now text.now marks.items)
+        (λ fault. IsFault now.now text.now fault) }
+{
+    if text.len() > LONGEST {
+        return Err(BookFault::TooLong);
+    }
+    let mut marks = Vec::new(alloc);
+    let mut rest = text;
+    while !rest.is_empty() {
+        match next_mark(rest, marks.as_slice(), now) {
+            Some((mark, after)) => {
+                if marks.push(mark).is_err() {
+                    return Err(BookFault::NoMemory);
+                }
+                rest = after;
+            }
+            None => return Err(BookFault::BadLine(marks.len() as u64 + 1)),
+        }
+    }
+    Ok(marks)
+}

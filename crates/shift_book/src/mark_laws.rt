@@ -1,0 +1,10 @@
+//! What the lines of marks mean, in words that share nothing with how they are written and read.
+ghost use Rattle.std.specs.Prelude.{◌≡◌, ℕ, ◌↔◌, List};
+ghost use Rattle.shift_book.specs.Following.{Fit};
+ghost use Rattle.shift_book.specs.Marks.{HasDriver, IsMarkLine, Signing, mark_text};
+
+/// A law: the line of a mark is the one that is written of it, where the mark's driver is as said.
+pub fn marks_are_their_lines()
+    ensures { (line : List ℕ) (mark : Signing) → Fit mark.numbers
+        → IsMarkLine line mark ↔ (HasDriver mark.on mark.driver × (line ≡ mark_text mark)) }
+{}

@@ -1,0 +1,85 @@
+//! The mark that a line says, if it is one.
+ghost use Rattle.std.specs.Prelude.{◌≡◌, ◌≤◌, length, IfSome};
+ghost use Rattle.std.specs.List.{prefix_len};
+ghost use Rattle.taxi_units.specs.Reading.{Gives};
+ghost use Rattle.shift_book.specs.Marks.{HasDriver, IsDriver, is_driver_character};
+ghost use Rattle.shift_book.specs.Reading as spec;
+
+use crate::mark::Mark;
+use crate::numbers::numbers_at;
+use arrayvec::ArrayVec;
+use taxi_units::word;
+
+/// The only mark whose line may stand at the front of a text. Whether it does, its own line says.
+#[tactic(auto, unfolding(crate::specs::Reading::mark_at))]
+pub(crate) fn mark_at(text: &[u8]) -> Option<Mark>
+    ensures mark { Gives (λ x. x) result (spec.mark_at text.now) }
+    ensures driver { IfSome result (λ x. HasDriver x.on x.driver) }
+{
+    match word(text, b"ON ") {
+        Some(rest) => on_at(rest),
+        None => off_at(text),
+    }
+}
+
+/// A mark that signs on, behind its word.
+#[tactic(auto, unfolding(crate::specs::Reading::on_at))]
+fn on_at(text: &[u8]) -> Option<Mark>
+    ensures mark { Gives (λ x. x) result (spec.on_at text.now) }
+    ensures driver { IfSome result (λ x. HasDriver x.on x.driver) }
+{
+    let (driver, rest) = driver_at(text)?;
+    let numbers = numbers_at(rest)?;
+    Some(Mark::with(driver, true, &numbers))
+}
+
+/// A mark that signs off.
+#[tactic(auto, unfolding(crate::specs::Reading::off_at))]
+fn off_at(text: &[u8]) -> Option<Mark>
+    ensures mark { Gives (λ x. x) result (spec.off_at text.now) }
+    ensures driver { IfSome result (λ x. HasDriver x.on x.driver) }
+{
+    let rest = word(text, b"OFF")?;
+    let numbers = numbers_at(rest)?;
+    Some(Mark::with(ArrayVec::new(), false, &numbers))
+}
+
+/// A driver at the front of a text, and what stands after.
+#[tactic(auto, unfolding(crate::specs::Reading::driver_at), using(crate::proofs::Drivers::characters_in_front))]
+fn driver_at(text: &[u8]) -> Option<(ArrayVec<u8, 16>, &[u8])>
+    ensures text { Gives (λ x. (x.0.items, x.1.now)) result (spec.driver_at text.now) }
+    ensures driver { IfSome result (λ x. IsDriver x.0.items) }
+{
+    let count = count_characters(text);
+    if count == 0 || count > 16 {
+        return None;
+    }
+    let (characters, rest) = text.split_at(count);
+    let mut driver = ArrayVec::new();
+    match driver.try_extend_from_slice(characters) {
+        Ok(()) => Some((driver, rest)),
+        Err(_) => None,
+    }
+}
+
+/// Whether a byte is a character of drivers.
+pub(crate) fn is_driver_character(byte: u8) -> bool
+    ensures { result ≡ is_driver_character byte }
+{
+    (65 <= byte && byte <= 90) || ((48 <= byte && byte <= 57) || byte == 45)
+}
+
+/// How many characters of drivers stand at the front.
+fn count_characters(text: &[u8]) -> usize
+    ensures count { result ≡ prefix_len is_driver_character text.now }
+    ensures within { result ≤ length text.now }
+{
+    let mut count = 0;
+    for byte in text {
+        if !is_driver_character(*byte) {
+            return count;
+        }
+        count += 1;
+    }
+    count
+}

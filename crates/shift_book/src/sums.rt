@@ -1,0 +1,70 @@
+//! The sums of the drivers over their shifts.
+ghost use Rattle.std.specs.Prelude.{◌≡◌, Some, if◌then◌else◌, IfOk, OnOk};
+ghost use Rattle.std.specs.BTreeMap.{insert_entry, is_at};
+ghost use Rattle.std.specs.Map.{lookup};
+ghost use Rattle.shift_book.specs.Following.{Fit};
+ghost use Rattle.shift_book.specs.Shares.{AreOrdered, AreSums, Driver, driver_cmp, is_of, plus, sum_so_far, total_of};
+
+use crate::numbers::Numbers;
+use crate::shift::{NOTHING, Shift, plus};
+use arrayvec::ArrayVec;
+use std::alloc::Global;
+use std::collections::BTreeMap;
+use taxi_units::NoMemory;
+
+/// The sums of drivers, in the order of their bytes.
+pub(crate) type Sums = BTreeMap<ArrayVec<u8, 16>, Numbers>;
+
+/// The drivers who have a shift, each with the sum over that driver's shifts.
+pub(crate) fn sums_of(alloc: Global, shifts: &[Shift]) -> Result<Sums, NoMemory>
+    requires { Fit (total_of shifts.now) }
+    ensures sums { IfOk result (λ sums. AreSums sums.entries shifts.now) }
+    ensures ordered { IfOk result (λ sums. AreOrdered sums.entries) }
+{
+    let mut sums = BTreeMap::new(alloc);
+    let mut left = shifts;
+    while let Some((shift, rest)) = left.split_first() {
+        let _count = sums.len();
+        add_shift(&mut sums, shift)?;
+        left = rest;
+    }
+    let _count = sums.len();
+    Ok(sums)
+}
+
+/// Adds a shift to its driver's sum.
+fn add_shift(sums: &mut Sums, shift: &Shift) -> Result<(), NoMemory>
+    requires { Fit (plus (sum_so_far shift.now.driver sums.old.entries) shift.now.growth) }
+    ensures entries { OnOk result (sums.new.entries ≡ insert_entry driver_cmp sums.old.entries shift.now.driver
+        (plus (sum_so_far shift.now.driver sums.old.entries) shift.now.growth)) }
+    ensures found { OnOk result ((driver : Driver) → lookup (is_at (driver_cmp driver)) sums.new.entries
+        ≡ (if is_of driver shift.now
+        then Some (plus (sum_so_far shift.now.driver sums.old.entries) shift.now.growth)
+        else lookup (is_at (driver_cmp driver)) sums.old.entries)) }
+{
+    let driver = copied(&shift.driver);
+    let sum = plus(&sum_so_far(sums, &driver), &shift.growth);
+    match sums.insert(driver, sum) {
+        Ok(_) => Ok(()),
+        Err(_) => Err(NoMemory),
+    }
+}
+
+/// A copy of a driver.
+fn copied(driver: &ArrayVec<u8, 16>) -> ArrayVec<u8, 16>
+    ensures { result ≡ driver.now }
+{
+    let mut copy = ArrayVec::new();
+    copy.try_extend_from_slice(driver.as_slice()).unwrap();
+    copy
+}
+
+/// The sum that a driver has; nothing where there is none yet.
+fn sum_so_far(sums: &Sums, driver: &ArrayVec<u8, 16>) -> Numbers
+    ensures { result ≡ sum_so_far driver.now sums.now.entries }
+{
+    match sums.get(driver) {
+        Some(sum) => *sum,
+        None => NOTHING,
+    }
+}
