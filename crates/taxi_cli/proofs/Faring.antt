@@ -45,16 +45,16 @@ pub refused-fare : (k : ℕ) (o : Result Tree Refusal) (drive : List ℕ) (why :
 refused-fare k o drive why e = ap (λ (x : Result Tree Refusal). fare_answer k x drive) e
 
 -- how a drive ends
-end_of-status : (shown : List ℕ) (reached : DriveEnd) → ((drive_answer shown reached).status ≡ 0 → reached ≡ Whole) × ((drive_answer shown reached).status ≢ 2)
+pub end_of-status : (shown : List ℕ) (reached : DriveEnd) → ((drive_answer shown reached).status ≡ 0 → reached ≡ Whole) × ((drive_answer shown reached).status ≢ 2)
 end_of-status shown Whole = (λ is. refl, λ is. absurd cc)
 end_of-status shown (BadAt n) = (λ is. absurd cc, λ is. absurd cc)
 end_of-status shown Endless = (λ is. absurd cc, λ is. absurd cc)
 
 -- a drive that was told whole has nothing left
-left-whole : (drive left : List ℕ) → TellsEnd drive left → drive_end drive ≡ Whole → left ≡ []
+pub left-whole : (drive left : List ℕ) → TellsEnd drive left → drive_end drive ≡ Whole → left ≡ []
 left-whole drive left t e = subst (λ (x : DriveEnd). ShowsEnd x t.taken left) e t.shows
 
-one_of : (contents left : ℕ → List ℕ) (word : ℕ) → (word ≡ 1) ⊎ (word ≡ 2) → left 1 ≡ [] → left 2 ≡ [] → left word ≡ []
+pub one_of : (contents left : ℕ → List ℕ) (word : ℕ) → (word ≡ 1) ⊎ (word ≡ 2) → left 1 ≡ [] → left 2 ≡ [] → left word ≡ []
 one_of contents left word (inl e) one two = ap left e ∙ one
 one_of contents left word (inr e) one two = ap left e ∙ two
 

@@ -1,5 +1,5 @@
 -- The opening of the store, from its two scans.
-use Rattle.std.proofs.Common.{◌≡◌, ℕ, List, Option, Result, Ok, Err, refl, sym, ap, subst, ◌∙◌, arith}
+use Rattle.std.proofs.Common.{◌≡◌, ℕ, List, Option, Result, Ok, Err, refl, sym, ap, subst, ◌∙◌}
 use Rattle.slot_store.specs.declared.found.Found.{Found}
 use Rattle.slot_store.specs.declared.found.Found.TheVariants.{Blank, Latest}
 use Rattle.slot_store.specs.declared.found.SlotFault.{SlotFault}
@@ -11,7 +11,6 @@ use Rattle.totaliser_store.specs.Reading as totals
 use Rattle.totaliser_store.specs.Stored as states
 use Rattle.seal_store.specs.declared.seal.Seal.{Seal}
 use Rattle.seal_store.specs.Decoding as seals
-use Rattle.taxi_cli.specs.declared.opening.StoreFault.{StoreFault}
 use Rattle.taxi_cli.specs.declared.opening.StoreFault.TheVariants.{BoardFault}
 use Rattle.taxi_cli.specs.Opening.{fault_from, opened, opening_of}
 

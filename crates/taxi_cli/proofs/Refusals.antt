@@ -21,7 +21,7 @@ module _ (c : Command) (contents left : ℕ → List ℕ) (image : List ℕ) (re
   }
 
   -- a tariff was refused
-  comes-bad_tariff : (why : Refusal) → c.answer contents image ≡ bad_tariff why → ComesUnprinted c contents left image read_failed (ended.BadTariff why)
+  pub comes-bad_tariff : (why : Refusal) → c.answer contents image ≡ bad_tariff why → ComesUnprinted c contents left image read_failed (ended.BadTariff why)
   comes-bad_tariff why e =
       let two : (c.answer contents image).status ≡ 2 = ap (λ (a : Answer). a.status) e in
       record {

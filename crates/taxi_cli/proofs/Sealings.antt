@@ -1,26 +1,14 @@
--- The command `seal`: what it answers, and what it leaves of the store.
-use Rattle.std.proofs.Common.{◌≡◌, ◌≢◌, ◌⊎◌, ⊎_elim, inl, inr, ℕ, List, [], ◌++◌, Option, None, Some, Result, Ok, Err, refl, sym, ap, subst, ◌∙◌, arith}
+-- The command `seal`: what it answers.
+use Rattle.std.proofs.Common.{◌≡◌, ◌≢◌, ◌⊎◌, ⊎_elim, inl, inr, ℕ, List, [], ◌++◌, Option, None, Some, Result, Ok, Err, refl, sym, ap, subst, ◌∙◌}
 use Rattle.std.specs.Prelude.{◌==◌, if◌then◌else◌, Bool, true, false}
 use Rattle.sha2.specs.Sha256.{sha256}
-use Rattle.outside.specs.declared.board.Board.{Ghosts}
-use Rattle.outside.specs.Disk.{MayLeave, SameBut}
 use Rattle.outside.specs.Printing.{Begins}
-use Rattle.outside.specs.Runs.{KeepsStore, LeavesOnly, MayHold}
-use Rattle.outside.proofs.Laws.{leaves_then, leaves_wider}
-use Rattle.slot_store.specs.declared.pair.Place.{Place}
-use Rattle.slot_store.specs.Slots.{IsSettled, StandsFor}
-use Rattle.slot_store.specs.Writes.{LeavesBeside}
-use Rattle.slot_store.proofs.Laws.{at_stands, same_at}
 use Rattle.tariff_syntax.specs.Tree.{Tree}
-use Rattle.totaliser_store.specs.declared.durable.Durable.{Durable}
-use Rattle.totaliser_store.specs.Reading as totals
-use Rattle.totaliser_store.specs.Stored as states
 use Rattle.seal_store.specs.declared.params.Params.{Params}
 use Rattle.seal_store.specs.declared.params.ParamFault.{ParamFault}
 use Rattle.seal_store.specs.declared.seal.Seal.{Seal}
-use Rattle.seal_store.specs.Decoding as seals
 use Rattle.seal_store.specs.Reading.{params_read}
-use Rattle.seal_store.specs.Sealing.{IsAmid, IsSealed, KeepsSealed, KeepsTotals, LeavesSealing, Sealing, first_written, found_number, next_number, old_seal, places_written, totals_after}
+use Rattle.seal_store.specs.Sealing.{Sealing, found_number, next_number, old_seal}
 use Rattle.taxi_cli.specs.declared.ending.Ended.{Ended}
 use Rattle.taxi_cli.specs.declared.ending.Ended.TheVariants as ended
 use Rattle.taxi_cli.specs.declared.opening.Opening.{Opening}
@@ -35,10 +23,9 @@ use Rattle.taxi_cli.specs.declared.tariff.TextFault.TheVariants as texts
 use Rattle.taxi_cli.specs.Answer.{Answer}
 use Rattle.taxi_cli.specs.Course.{Answered, NoMemory, ReadFailed}
 use Rattle.taxi_cli.specs.Ending.{Comes, ended_for, ended_for_params, store_ended}
-use Rattle.taxi_cli.specs.Call.{IsEnd}
-use Rattle.taxi_cli.specs.LastLine.{line_of, sealed_line, status_of}
-use Rattle.taxi_cli.specs.Opening.{ReadsOnly, opening_of}
-use Rattle.taxi_cli.specs.Seal.{HasDecimals, HasSealed, IsAmidOf, IsNoSeal, IsNoTariff, IsSealable, IsTariffWith, MayStand, Rests, Seals, are_decimals, base_in, over_totals, seal_answer, seal_command, seal_read, sealing_of, sealing_over, sealing_with, where_decimals, with_params, with_tariff}
+use Rattle.taxi_cli.specs.LastLine.{sealed_line, status_of}
+use Rattle.taxi_cli.specs.Opening.{opening_of}
+use Rattle.taxi_cli.specs.Seal.{HasDecimals, IsNoSeal, IsNoTariff, IsSealable, IsTariffWith, are_decimals, base_in, over_totals, seal_answer, seal_command, seal_read, sealing_of, sealing_over, sealing_with, where_decimals, with_params, with_tariff}
 use Rattle.taxi_cli.specs.Tariffs.{tariff_in}
 use Rattle.taxi_cli.proofs.Answering.{comes-refusal, none}
 
@@ -82,7 +69,10 @@ no_seal-tariff number found tariff params read_failed ended.NotSealed h = absurd
 no_seal-tariff number found tariff params read_failed (ended.BadSlot slot) h = absurd h
 no_seal-tariff number found tariff params read_failed (ended.SameNumber first second) h = absurd h
 no_seal-tariff number found tariff params read_failed ended.TripHeld h = absurd h
+no_seal-tariff number found tariff params read_failed ended.BadTrip h = absurd h
+no_seal-tariff number found tariff params read_failed (ended.WrongTariff digest own) h = absurd h
 no_seal-tariff number found tariff params read_failed ended.SealEnded h = absurd h
+no_seal-tariff number found tariff params read_failed (ended.BadRules fault) h = absurd h
 no_seal-tariff number found tariff params read_failed (ended.BadParams fault) h = absurd h
 no_seal-tariff number found tariff params read_failed (ended.Sealed n) h = absurd h
 no_seal-tariff number found tariff params read_failed (ended.BadDrive line) h = absurd h
@@ -166,7 +156,10 @@ not_0-no_seal number found tariff text read_failed ended.NotSealed h = absurd h
 not_0-no_seal number found tariff text read_failed (ended.BadSlot slot) h = absurd h
 not_0-no_seal number found tariff text read_failed (ended.SameNumber first second) h = absurd h
 not_0-no_seal number found tariff text read_failed ended.TripHeld h = absurd h
+not_0-no_seal number found tariff text read_failed ended.BadTrip h = absurd h
+not_0-no_seal number found tariff text read_failed (ended.WrongTariff digest own) h = absurd h
 not_0-no_seal number found tariff text read_failed ended.SealEnded h = absurd h
+not_0-no_seal number found tariff text read_failed (ended.BadRules fault) h = absurd h
 not_0-no_seal number found tariff text read_failed (ended.BadDrive line) h = absurd h
 not_0-no_seal number found tariff text read_failed ended.EndlessDrive h = absurd h
 not_0-no_seal number found tariff text read_failed ended.BoardFault h = absurd h
@@ -230,8 +223,11 @@ module _ (contents left : ℕ → List ℕ) (image : List ℕ) (read_failed : �
       by (ended.BadSlot slot) h = absurd h
       by (ended.SameNumber first second) h = absurd h
       by ended.TripHeld h = absurd h
+      by ended.BadTrip h = absurd h
+      by (ended.WrongTariff digest own) h = absurd h
       by ended.SealEnded h = absurd h
       by (ended.Sealed n) h = absurd h
+      by (ended.BadRules fault) h = absurd h
       by (ended.BadDrive line) h = absurd h
       by ended.EndlessDrive h = absurd h
       by ended.BoardFault h = absurd h
@@ -258,110 +254,3 @@ module _ (contents left : ℕ → List ℕ) (image : List ℕ) (read_failed : �
     where
       three : (n : ℕ) → n ≡ 0 → n ≢ 3
       three n e f = absurd cc
-
--- ---- the store
-
--- a pair of which nothing is in flight stands in what a cut leaves
-stays_settled : {T : Type 0} (reads : List ℕ → Option T) (number_of : T → ℕ) (at : ℕ) (place : Place) (image left : List ℕ) (flying : ℕ → Type 0) (body : T)
-    → IsSettled reads number_of at place image flying body → SameBut flying image left → StandsFor reads number_of at left body
-stays_settled reads number_of at place image left flying body h same =
-    at_stands reads number_of at place left body
-    (same_at reads number_of at place image left body h.is_at (record { size = same.size; bytes = λ byte within. same.rest byte (h.quiet byte within) }))
-
-module _ {D L : Type 0} (B : Ghosts D L) where
-  -- what a cut might leave where nothing was written
-  held-read : (old new : D) → ReadsOnly B old new → (image : List ℕ) → MayHold (B.image new) (B.in_flight new) image → MayHold (B.image old) (B.in_flight old) image
-  held-read old new reads image h = record {
-    bytes = record {
-      size = h.bytes.size ∙ reads.image.size;
-      rest = λ place grounded. h.bytes.rest place (λ flies. grounded (reads.flight place flies)) ∙ reads.image.rest place grounded;
-    };
-    small = h.small;
-  }
-
-  leaves-read : (sealing : Result Sealing Ended) (old new : D) → ReadsOnly B old new → LeavesOnly B old new (λ i x. MayStand B sealing old i)
-  leaves-read sealing old new reads =
-      leaves_wider B (MayLeave (B.image old) (B.in_flight old) (B.printed old)) (λ i x. MayStand B sealing old i) old new
-      (λ i x h. inl (record { bytes = h.bytes; small = h.small })) reads.leaves
-
-  -- nothing was written
-  pub seals-read : (sealing : Result Sealing Ended) (old new : D) (status : ℕ) → status ≢ 0 → ReadsOnly B old new → Seals B sealing old new status
-  seals-read sealing old new status not_0 reads = record { sealed = λ z. absurd (not_0 z); leaves = leaves-read sealing old new reads }
-
-  pub rests-read : (sealing : Result Sealing Ended) (old new : D) → ReadsOnly B old new → Rests B sealing old new
-  rests-read sealing old new reads image h = inl (held-read old new reads image h)
-
-  amid : (sealing : Result Sealing Ended) (s : Sealing) → sealing ≡ Ok s → (image : List ℕ) → IsAmid s image → IsAmidOf sealing image
-  amid sealing s e image h = subst (λ (r : Result Sealing Ended). IsAmidOf r image) (sym e) h
-
-  -- the seal was put in, or the board failed amid it
-  pub seals-placed : (sealing : Result Sealing Ended) (s : Sealing) (old mid new : D) (status : ℕ) → sealing ≡ Ok s → ReadsOnly B old mid → LeavesSealing B s mid new
-      → (status ≡ 0 → IsSealed s (B.image new)) → Seals B sealing old new status
-  seals-placed sealing s old mid new status e reads placed is = record {
-    sealed = λ z. subst (λ (r : Result Sealing Ended). HasSealed r (B.image new)) (sym e) (is z);
-    leaves = leaves_then B (λ i x. MayStand B sealing old i) old mid new (leaves-read sealing old mid reads)
-        (leaves_wider B (LeavesBeside (B.image mid) (B.in_flight mid) (B.printed mid) (first_written s.totals) (places_written s.totals) (IsAmid s))
-        (λ i x. MayStand B sealing old i) mid new (λ i x h. inr (amid sealing s e i h.stands)) placed.leaves);
-  }
-
-  -- the store stands for what the sealing says, also behind a cut
-  sealed_left : (s : Sealing) (board : D) → KeepsSealed B s.totals s.new board → (image : List ℕ) → SameBut (B.in_flight board) (B.image board) image → IsSealed s image
-  sealed_left s board h image same = record {
-    totals = stays_settled totals.reads states.number_of 0 h.totals.0 (B.image board) image (B.in_flight board) (totals_after s.totals) h.totals.1 same;
-    seal = stays_settled seals.reads seals.number_of 1024 h.seal_is.0 (B.image board) image (B.in_flight board) s.new h.seal_is.1 same;
-  }
-
-  pub is_sealed : (s : Sealing) (board : D) → KeepsSealed B s.totals s.new board → IsSealed s (B.image board)
-  is_sealed s board h = sealed_left s board h (B.image board) (record { size = refl; rest = λ place none. refl })
-
-  kept_totals : (found : Option Durable) (image : List ℕ) → states.HasState image (totals_after found) → KeepsTotals found image
-  kept_totals None image h = inr h
-  kept_totals (Some durable) image h = h
-
-  pub rests-placed : (sealing : Result Sealing Ended) (s : Sealing) (old new : D) → sealing ≡ Ok s → KeepsSealed B s.totals s.new new → Rests B sealing old new
-  rests-placed sealing s old new e h image held =
-      let is = sealed_left s new h image held.bytes in
-      inr (amid sealing s e image (record { totals = kept_totals s.totals image is.totals; seal = inr is }))
-
-  -- the last line keeps what was sealed, and is none where the board had failed
-  or_not : (end : Ended) → (end ≡ ended.BoardFault) ⊎ (end ≢ ended.BoardFault)
-  or_not ended.BoardFault = inl refl
-  or_not ended.Done = inr (λ e. absurd cc)
-  or_not (ended.Sound cells measure) = inr (λ e. absurd cc)
-  or_not ended.BadWords = inr (λ e. absurd cc)
-  or_not (ended.BadTariff why) = inr (λ e. absurd cc)
-  or_not ended.NotSealed = inr (λ e. absurd cc)
-  or_not (ended.BadSlot slot) = inr (λ e. absurd cc)
-  or_not (ended.SameNumber first second) = inr (λ e. absurd cc)
-  or_not ended.TripHeld = inr (λ e. absurd cc)
-  or_not ended.SealEnded = inr (λ e. absurd cc)
-  or_not (ended.OtherDecimals one own) = inr (λ e. absurd cc)
-  or_not (ended.BadParams fault) = inr (λ e. absurd cc)
-  or_not (ended.Sealed n) = inr (λ e. absurd cc)
-  or_not (ended.BadDrive line) = inr (λ e. absurd cc)
-  or_not ended.EndlessDrive = inr (λ e. absurd cc)
-  or_not ended.ReadFault = inr (λ e. absurd cc)
-  or_not ended.NoMemory = inr (λ e. absurd cc)
-
-  leaves-kept : (sealing : Result Sealing Ended) (old mid new : D) (end : Ended) → LeavesOnly B old mid (λ i x. MayStand B sealing old i)
-      → (end ≢ ended.BoardFault → Rests B sealing old mid) → KeepsStore B mid new → (line_of end ≡ [] → new ≡ mid)
-      → (end ≡ ended.BoardFault) ⊎ (end ≢ ended.BoardFault) → LeavesOnly B old new (λ i x. MayStand B sealing old i)
-  leaves-kept sealing old mid new end leaves rests kept silent (inl is) =
-      subst (λ (board : D). LeavesOnly B old board (λ i x. MayStand B sealing old i)) (sym (silent (ap line_of is))) leaves
-  leaves-kept sealing old mid new end leaves rests kept silent (inr good) = record {
-    later = omega (arith, leaves.later, kept.later);
-    each = λ i x left. ⊎_elim (leaves.each i x) (rests good i) (kept.before (B.moment old) i x leaves.later left);
-    before = λ start i x le left. ⊎_elim (leaves.before start i x le) (λ held. inr (rests good i held)) (kept.before start i x (omega (arith, le, leaves.later)) left);
-  }
-
-  pub seals-finished : (sealing : Result Sealing Ended) (old mid new : D) (end : Ended) (status : ℕ) (told failed : Type 0) (line before now : List ℕ)
-      → Seals B sealing old mid (status_of end) → (end ≢ ended.BoardFault → Rests B sealing old mid) → KeepsStore B mid new → (line_of end ≡ [] → new ≡ mid)
-      → IsEnd told failed (status_of end) line status before now → Seals B sealing old new status
-  seals-finished sealing old mid new end status told failed line before now h rests kept silent ends = record {
-    sealed = λ z. subst (λ (image : List ℕ). HasSealed sealing image) (sym kept.same) (h.sealed (zero z ends));
-    leaves = leaves-kept sealing old mid new end h.leaves rests kept silent (or_not end);
-  }
-    where
-      zero : status ≡ 0 → IsEnd told failed (status_of end) line status before now → status_of end ≡ 0
-      zero z (inl whole) = sym whole.status_is ∙ z
-      zero z (inr cut) = let eight = cut.status_is in absurd cc

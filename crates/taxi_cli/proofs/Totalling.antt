@@ -1,12 +1,11 @@
 -- The totals of a sealed store.
-use Rattle.std.proofs.Common.{◌≡◌, ◌≢◌, ℕ, List, [], ◌++◌, Option, Some, None, Result, Ok, Err, refl, sym, ap, subst, ◌∙◌, inl, inr}
+use Rattle.std.proofs.Common.{◌≡◌, ◌≢◌, ℕ, List, ◌++◌, Option, Some, Ok, refl, sym, ap, subst, ◌∙◌, inl, inr}
 use Rattle.std.proofs.lemmas.List.{append-nil}
 use Rattle.outside.specs.Printing.{Begins}
 use Rattle.totaliser_store.specs.declared.durable.Durable.{Durable}
 use Rattle.taxi_cli.specs.declared.ending.Ended.{Ended}
 use Rattle.taxi_cli.specs.declared.ending.Ended.TheVariants as ended
 use Rattle.taxi_cli.specs.declared.opening.Opening.{Opening}
-use Rattle.taxi_cli.specs.declared.opening.StoreFault.{StoreFault}
 use Rattle.taxi_cli.specs.Answer.{Answer}
 use Rattle.taxi_cli.specs.Call.{MayTake}
 use Rattle.taxi_cli.specs.Course.{Answered}

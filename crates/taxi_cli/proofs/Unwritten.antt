@@ -1,10 +1,10 @@
 -- Calls that write nothing, one after another.
-use Rattle.std.proofs.Common.{◌≡◌, ◌⊎◌, ⊎_elim, inl, inr, ℕ, ◌≤◌, List, get_or, length, refl, sym, ap, subst, ◌∙◌, arith}
+use Rattle.std.proofs.Common.{◌≡◌, ⊎_elim, inl, inr, ℕ, List, get_or, length, ap, ◌∙◌, arith}
 use Rattle.outside.specs.declared.board.Board.{Ghosts}
 use Rattle.outside.specs.Disk.{MayLeave, SameBut}
-use Rattle.outside.specs.Runs.{KeepsStore, LeavesOnly, MayHold}
+use Rattle.outside.specs.Runs.{KeepsStore, MayHold}
 use Rattle.outside.proofs.Laws.{leaves_then, leaves_wider}
-use Rattle.taxi_cli.specs.Opening.{ReadsOnly}
+use Rattle.slot_store.specs.Syncs.{ReadsOnly}
 use Rattle.taxi_cli.specs.Unwritten.{KeepsBytes}
 
 -- the same bytes are the same but anywhere

@@ -4,13 +4,16 @@ use Rattle.taxi_cli.specs.Answer.{Answer}
 use Rattle.taxi_cli.specs.Check.{check_command}
 use Rattle.taxi_cli.specs.Course.{Command}
 use Rattle.taxi_cli.specs.Fare.{fare_command}
+use Rattle.taxi_cli.specs.Generate.{gen_command}
 use Rattle.taxi_cli.specs.NoCommand.{no_command}
+use Rattle.taxi_cli.specs.Offsets.{offsets_command}
+use Rattle.taxi_cli.specs.Run.{run_command}
 use Rattle.taxi_cli.specs.Seal.{seal_command}
 use Rattle.taxi_cli.specs.Tables.{tables_command}
 use Rattle.taxi_cli.specs.Totals.{totals_command}
 use Rattle.taxi_cli.specs.Words.{row_of}
 use Rattle.taxi_cli.specs.declared.words.Row.{Row}
-use Rattle.taxi_cli.specs.declared.words.Row.TheVariants.{Check, Tables, Fare, Totals, Seal}
+use Rattle.taxi_cli.specs.declared.words.Row.TheVariants.{Check, Tables, Fare, Totals, Seal, Run, Gen, Offsets}
 
 -- the command of a row
 abbrev pub command_of : Option Row → Command
@@ -20,6 +23,9 @@ command_of (Some (Tables k)) = tables_command k
 command_of (Some (Fare k)) = fare_command k
 command_of (Some Totals) = totals_command
 command_of (Some Seal) = seal_command
+command_of (Some Run) = run_command
+command_of (Some (Gen seed trips)) = gen_command seed trips
+command_of (Some (Offsets years)) = offsets_command years
 
 -- the command that words call
 abbrev pub called : List (List ℕ) → Command

@@ -5,6 +5,10 @@ use Rattle.taxi_cli.specs.declared.ending.Ended.TheVariants.{Done, Sound, BadWor
 use Rattle.taxi_cli.specs.declared.ending.Ended.TheVariants.{SameNumber, BadDrive, EndlessDrive, ReadFault}
 use Rattle.taxi_cli.specs.declared.ending.Ended.TheVariants.{BoardFault, NoMemory}
 use Rattle.taxi_cli.specs.declared.ending.Ended.TheVariants.{TripHeld, SealEnded, OtherDecimals, BadParams, Sealed}
+use Rattle.taxi_cli.specs.declared.ending.Ended.TheVariants.{BadTrip, WrongTariff, BadRules}
+use Rattle.offset_rules.specs.declared.fault.RuleFault.{RuleFault}
+use Rattle.offset_rules.specs.declared.fault.RuleFault.TheVariants as rules
+use Rattle.receipt_text.specs.Receipts.{hex_text}
 use Rattle.seal_store.specs.declared.params.Name.{Name}
 use Rattle.seal_store.specs.declared.params.Name.TheVariants as names
 use Rattle.seal_store.specs.declared.params.ParamFault.{ParamFault}
@@ -74,6 +78,10 @@ same_number_line first second = codes "BAD STORE " ++ (decimal first ++ (codes "
 abbrev pub other_decimals_line : (found own : ℕ) → List ℕ
 other_decimals_line found own = codes "OTHER DECIMALS " ++ (decimal found ++ (codes " " ++ (decimal own ++ codes "\n")))
 
+-- the sealed digest, and that of the text, in hexadecimal digits
+abbrev pub wrong_tariff_line : (digest own : List ℕ) → List ℕ
+wrong_tariff_line digest own = codes "WRONG TARIFF " ++ (hex_text digest ++ (codes " " ++ (hex_text own ++ codes "\n")))
+
 -- the name of a parameter
 abbrev pub name_text : Name → List ℕ
 name_text names.Taxi = codes "Taxi"
@@ -98,6 +106,12 @@ bad_params_line fault = codes "BAD PARAMS " ++ (param_fault_text fault ++ codes 
 abbrev pub sealed_line : ℕ → List ℕ
 sealed_line number = codes "SEALED " ++ (decimal number ++ codes "\n")
 
+-- why rules of offsets aren't accepted, and the first bad line where there is one
+abbrev pub bad_rules_line : RuleFault → List ℕ
+bad_rules_line rules.TooLong = codes "BAD RULES TooLong\n"
+bad_rules_line (rules.BadLine line) = codes "BAD RULES BadLine " ++ (decimal line ++ codes "\n")
+bad_rules_line rules.SameMonth = codes "BAD RULES SameMonth\n"
+
 abbrev pub endless_drive_line : List ℕ
 endless_drive_line = codes "BAD DRIVE TOO LONG\n"
 
@@ -116,11 +130,14 @@ status_of (BadTariff why) = 2
 status_of NotSealed = 4
 status_of (BadSlot slot) = 5
 status_of (SameNumber first second) = 5
+status_of BadTrip = 5
+status_of (WrongTariff digest own) = 6
 status_of TripHeld = 13
 status_of SealEnded = 14
 status_of (OtherDecimals found own) = 15
 status_of (BadParams fault) = 9
 status_of (Sealed number) = 0
+status_of (BadRules fault) = 17
 status_of (BadDrive line) = 3
 status_of EndlessDrive = 3
 status_of ReadFault = 7
@@ -136,11 +153,14 @@ line_of (BadTariff why) = bad_tariff_line why
 line_of NotSealed = codes "NOT SEALED\n"
 line_of (BadSlot slot) = bad_slot_line slot
 line_of (SameNumber first second) = same_number_line first second
+line_of BadTrip = codes "BAD STORE TRIP\n"
+line_of (WrongTariff digest own) = wrong_tariff_line digest own
 line_of TripHeld = codes "TRIP HELD\n"
 line_of SealEnded = codes "SEAL ENDED\n"
 line_of (OtherDecimals found own) = other_decimals_line found own
 line_of (BadParams fault) = bad_params_line fault
 line_of (Sealed number) = sealed_line number
+line_of (BadRules fault) = bad_rules_line fault
 line_of (BadDrive line) = bad_drive_line line
 line_of EndlessDrive = endless_drive_line
 line_of ReadFault = read_fault_line

@@ -5,9 +5,13 @@ pub mod Command
 pub mod Course
 pub mod Ending
 pub mod Fare
+pub mod Generate
 pub mod LastLine
 pub mod NoCommand
+pub mod Offsets
 pub mod Opening
+pub mod Run
+pub mod RunSteps
 pub mod Seal
 pub mod Tables
 pub mod Tariffs
@@ -15,3 +19,4 @@ pub mod Totals
 pub mod TotalsText
 pub mod Unwritten
 pub mod Words
+pub mod Years

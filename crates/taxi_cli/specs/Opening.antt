@@ -1,8 +1,6 @@
 -- The opening of the store: what its two pairs of slots stand for, the totals' at 0 and the seal's at 1,024.
-use Rattle.std.specs.Prelude.{◌≡◌, ℕ, ◌+◌, ◌==◌, if◌then◌else◌, List, Option, Some, None, Result, Ok, Err}
+use Rattle.std.specs.Prelude.{ℕ, ◌+◌, ◌==◌, if◌then◌else◌, List, Option, Some, None, Result, Ok, Err}
 use Rattle.outside.specs.declared.board.Board.{Ghosts}
-use Rattle.outside.specs.Disk.{MayLeave, SameBut}
-use Rattle.outside.specs.Runs.{LeavesOnly}
 use Rattle.slot_store.specs.declared.found.Found.{Found}
 use Rattle.slot_store.specs.declared.found.Found.TheVariants.{Blank, Latest}
 use Rattle.slot_store.specs.declared.found.SlotFault.{SlotFault}
@@ -35,6 +33,12 @@ opened (Ok durable) (Ok seal) = Ok (record { totals = durable; seal = seal })
 abbrev pub opening_of : (image : List ℕ) → Result Opening StoreFault
 opening_of image = opened (found_at totals.reads states.number_of 0 image) (found_at seals.reads seals.number_of 1024 image)
 
+-- the totals and the seal of a store that is sealed
+abbrev pub sealed_store : Found Durable → Found Seal → Option (Durable × Seal)
+sealed_store Blank seal = None
+sealed_store (Latest place durable) Blank = None
+sealed_store (Latest place durable) (Latest other seal) = Some (durable, seal)
+
 -- what holds of an opening on every board
 pub record IsSoundOpening (opening : Opening) : Type 0 where
   pub totals : IsSound IsDurable opening.totals
@@ -45,11 +49,3 @@ module _ {D L : Type 0} (B : Ghosts D L) where
   pub record IsOpened (board : D) (opening : Opening) : Type 0 where
     pub totals : IsAsFound totals.reads states.number_of 0 (B.image board) (B.in_flight board) opening.totals
     pub seal : IsAsFound seals.reads seals.number_of 1024 (B.image board) (B.in_flight board) opening.seal
-
-  -- nothing was written or printed: bytes may have changed only where some were in flight, nothing more is in flight, and a
-  -- cut leaves what it might have left at the old board
-  pub record ReadsOnly (old new : D) : Type 0 where
-    pub leaves : LeavesOnly B old new (MayLeave (B.image old) (B.in_flight old) (B.printed old))
-    pub image : SameBut (B.in_flight old) (B.image old) (B.image new)
-    pub flight : (place : ℕ) → B.in_flight new place → B.in_flight old place
-    pub text : B.printed new ≡ B.printed old

@@ -11,7 +11,8 @@ use Rattle.seal_store.specs.declared.seal.Seal.{Seal}
 use Rattle.seal_store.specs.Reading.{params_read}
 use Rattle.seal_store.specs.Sealing.{IsAmid, IsSealed, Sealing, found_number, next_number, old_seal}
 use Rattle.outside.specs.declared.board.Board.{Ghosts}
-use Rattle.outside.specs.Runs.{LeavesOnly, MayHold}
+use Rattle.outside.specs.Runs.{MayHold}
+use Rattle.slot_store.specs.Syncs.{LeavesFromSync}
 use Rattle.taxi_cli.specs.Answer.{Answer, says}
 use Rattle.taxi_cli.specs.Course.{Command}
 use Rattle.taxi_cli.specs.Ending.{refused_as, store_ended}
@@ -68,8 +69,8 @@ with_tariff number found digest (Err why) params = Err (BadTariff why)
 with_tariff number found digest (Ok t) params =
     where_decimals (are_decimals found t.decimals) (with_params number digest t.decimals params)
 
--- the seal of this number that a tariff's text and a parameter text give, beside decimals that were found; or the first
--- refusal
+-- the seal of this number that a tariff's text and a parameter text give, beside decimals that were found; or the
+-- first refusal
 abbrev pub seal_read : (number : ℕ) → Option ℕ → (tariff params : List ℕ) → Result Seal Ended
 seal_read number found tariff params = with_tariff number found (sha256 tariff) (tariff_in tariff) (params_read params)
 
@@ -138,7 +139,8 @@ pub record IsFitting (tariff image : List ℕ) : Type 0 where
   pub is : base_in (opening_of image) ≡ Ok base
   pub fits : HasDecimals base.decimals tariff
 
--- it opens the store, reads its tariff and then its parameters, and writes: at most 64 steps, and one for the last line
+-- it opens the store, reads its tariff and then its parameters, and writes: at most 64 steps, and one for the last
+-- line
 abbrev pub seal_command : Command
 seal_command = record {
   answer = λ contents image. seal_answer (sealing_of (opening_of image) (contents 1) (contents 2));
@@ -161,22 +163,20 @@ abbrev pub HasSealed : Result Sealing Ended → List ℕ → Type 0
 HasSealed (Err ended) image = ⊥
 HasSealed (Ok sealing) image = IsSealed sealing image
 
--- an image that a cut amid a sealing may leave
-abbrev pub IsAmidOf : Result Sealing Ended → List ℕ → Type 0
-IsAmidOf (Err ended) image = ⊥
-IsAmidOf (Ok sealing) image = IsAmid sealing image
+-- what a cut may leave from the opening sync on: an image amid the sealing, or the opening one where nothing is sealed
+abbrev pub IsAmidOf : Result Sealing Ended → (image left_image : List ℕ) → Type 0
+IsAmidOf (Err ended) image left_image = left_image ≡ image
+IsAmidOf (Ok sealing) image left_image = IsAmid sealing left_image
 
 module _ {D L : Type 0} (B : Ghosts D L) where
-  -- an image amid a sealing, or one that a cut might have left at the old board
-  abbrev pub MayStand : Result Sealing Ended → D → List ℕ → Type 0
-  MayStand sealing old image = MayHold (B.image old) (B.in_flight old) image ⊎ IsAmidOf sealing image
+  -- a cut of this board leaves nothing else, if the call began with that image
+  abbrev pub RestsAmid : Result Sealing Ended → (image : List ℕ) → D → Type 0
+  RestsAmid sealing image board =
+      (left_image : List ℕ) → MayHold (B.image board) (B.in_flight board) left_image → IsAmidOf sealing image left_image
 
-  -- and a cut of the new board leaves no other
-  abbrev pub Rests : Result Sealing Ended → (old new : D) → Type 0
-  Rests sealing old new = (image : List ℕ) → MayHold (B.image new) (B.in_flight new) image → MayStand sealing old image
-
-  -- at 0 the store stands for what the sealing says; a cut since the old board might have left an image amid the
-  -- sealing, or one that it might have left at the old board
+  -- at 0 the store stands for what the sealing says; a cut from the opening sync on leaves an image amid the
+  -- sealing, and one before that sync has succeeded what it might have left before the call
   pub record Seals (sealing : Result Sealing Ended) (old new : D) (ended : ℕ) : Type 0 where
     pub sealed : ended ≡ 0 → HasSealed sealing (B.image new)
-    pub leaves : LeavesOnly B old new (λ left_image left_text. MayStand sealing old left_image)
+    pub leaves : LeavesFromSync B (ended ≡ 8) old new
+        (λ left_image left_text. IsAmidOf sealing (B.image old) left_image)

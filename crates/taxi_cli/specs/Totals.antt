@@ -1,23 +1,25 @@
 -- The command `totals`.
-use Rattle.std.specs.Prelude.{ℕ, ◌+◌, ◌≤◌, List, [], Option, None, Some, Result, Ok, Err}
+use Rattle.std.specs.Prelude.{ℕ, ◌+◌, ◌≤◌, [], Option, None, Some, Result, Ok, Err}
 use Rattle.slot_store.specs.declared.found.Found.{Found}
-use Rattle.slot_store.specs.declared.found.Found.TheVariants.{Blank, Latest}
 use Rattle.totaliser_store.specs.declared.durable.Durable.{Durable}
 use Rattle.seal_store.specs.declared.seal.Seal.{Seal}
 use Rattle.taxi_cli.specs.Answer.{Answer, shows}
 use Rattle.taxi_cli.specs.Course.{Command}
 use Rattle.taxi_cli.specs.Ending.{refused_as, store_ended}
-use Rattle.taxi_cli.specs.Opening.{opening_of}
+use Rattle.taxi_cli.specs.Opening.{opening_of, sealed_store}
 use Rattle.taxi_cli.specs.TotalsText.{totals_text}
 use Rattle.taxi_cli.specs.declared.ending.Ended.TheVariants.{NotSealed}
 use Rattle.taxi_cli.specs.declared.opening.Opening.{Opening}
 use Rattle.taxi_cli.specs.declared.opening.StoreFault.{StoreFault}
 
+-- the decimals of the seal beside the totals
+abbrev pub with_decimals : Option (Durable × Seal) → Option (Durable × ℕ)
+with_decimals None = None
+with_decimals (Some (durable, seal)) = Some (durable, seal.decimals)
+
 -- the totals, and the decimals of their money, where the store is sealed
 abbrev pub sealed_totals : Found Durable → Found Seal → Option (Durable × ℕ)
-sealed_totals Blank seal = None
-sealed_totals (Latest place durable) Blank = None
-sealed_totals (Latest place durable) (Latest other seal) = Some (durable, seal.decimals)
+sealed_totals totals seal = with_decimals (sealed_store totals seal)
 
 abbrev pub sealed_answer : Option (Durable × ℕ) → Answer
 sealed_answer None = refused_as NotSealed

@@ -1,5 +1,5 @@
 -- The text of totals.
-use Rattle.std.specs.Prelude.{ℕ, ◌+◌, List, [], ◌++◌, get_or, nat_lt, if◌then◌else◌, is_some, Option, Some, None, codes, decimal}
+use Rattle.std.specs.Prelude.{ℕ, ◌+◌, List, [], ◌++◌, get_or, nat_lt, if◌then◌else◌, Option, Some, None, codes, decimal}
 use Rattle.std.specs.List.{flat_map, range_with_len}
 use Rattle.taxi_units.specs.Number.{money_text}
 use Rattle.totaliser_store.specs.declared.durable.Durable.{Durable}

@@ -1,10 +1,12 @@
 -- The words of a command.
-use Rattle.std.specs.Prelude.{ℕ, Bool, List, [], ◌∷◌, length, Option, Some, None, if◌then◌else◌, nat_le, nat_eq, ◌&&◌, ◌==◌, codes}
+use Rattle.std.specs.Prelude.{ℕ, ◌^◌, Bool, List, [], ◌∷◌, length, Option, Some, None, if◌then◌else◌, nat_le, nat_lt, nat_eq, ◌&&◌, ◌==◌, codes}
 use Rattle.std.specs.Cmp.Lexicographic.{pointwise}
 use Rattle.std.specs.Option.{option_map}
-use Rattle.taxi_units.specs.Number.{number_at}
+use Rattle.std.specs.Str.Parse.{digits_value}
+use Rattle.taxi_units.specs.Number.{digits_at_front, number_at}
+use Rattle.taxi_cli.specs.Years.{years_of}
 use Rattle.taxi_cli.specs.declared.words.Row.{Row}
-use Rattle.taxi_cli.specs.declared.words.Row.TheVariants.{Check, Tables, Fare, Totals, Seal}
+use Rattle.taxi_cli.specs.declared.words.Row.TheVariants.{Check, Tables, Fare, Totals, Seal, Run, Gen, Offsets}
 
 -- a number of at most 6 digits that is a constant
 abbrev pub constant_in : List ℕ → Option (ℕ × List ℕ) → Option ℕ
@@ -14,6 +16,30 @@ constant_in word (Some (k, rest)) =
 
 unfoldable pub constant_of : List ℕ → Option ℕ
 constant_of word = constant_in word (number_at word)
+
+-- a number, where 64 bits hold it
+abbrev pub fitting : ℕ → Option ℕ
+fitting number = if nat_lt number (2 ^ 64) then Some number else None
+
+-- a word of 1 to 20 digits is a seed, where 64 bits hold its number
+unfoldable pub seed_of : List ℕ → Option ℕ
+seed_of word =
+    if (nat_le 1 (length word) && (nat_le (length word) 20 && digits_at_front word == length word))
+    then fitting (digits_value 10 word) else None
+
+-- a number of at most 4 digits that is one of trips: 1 to 1,000
+abbrev pub trips_in : List ℕ → Option (ℕ × List ℕ) → Option ℕ
+trips_in word None = None
+trips_in word (Some (count, rest)) =
+    if (length rest == 0 && (nat_le (length word) 4 && (nat_le 1 count && nat_le count 1000))) then Some count else None
+
+unfoldable pub trips_of : List ℕ → Option ℕ
+trips_of word = trips_in word (number_at word)
+
+-- a seed and a number of trips make the command `gen`
+abbrev pub gen_of : Option ℕ → Option ℕ → Option Row
+gen_of None trips = None
+gen_of (Some seed) trips = option_map (Gen seed) trips
 
 -- a word is this one
 abbrev pub is_word : List ℕ → List ℕ → Bool
@@ -27,20 +53,24 @@ one_word command = if is_word command (codes "totals") then Some Totals else Non
 abbrev pub two_words : (command : List ℕ) → Option Row
 two_words command = if is_word command (codes "check") then Some Check else None
 
--- `tables TARIFF CONSTANT` or `seal TARIFF PARAMS`,
-abbrev pub three_words : (command last : List ℕ) → Option Row
-three_words command last =
+-- `tables TARIFF CONSTANT`, `seal TARIFF PARAMS`, `run TARIFF DRIVE` or `gen SEED N`,
+abbrev pub three_words : (command middle last : List ℕ) → Option Row
+three_words command middle last =
     if is_word command (codes "tables") then option_map Tables (constant_of last)
-    else if is_word command (codes "seal") then Some Seal else None
+    else (if is_word command (codes "seal") then Some Seal
+    else (if is_word command (codes "run") then Some Run
+    else (if is_word command (codes "gen") then gen_of (seed_of middle) (trips_of last) else None)))
 
--- and `fare TARIFF DRIVE CONSTANT`
-abbrev pub four_words : (command last : List ℕ) → Option Row
-four_words command last = if is_word command (codes "fare") then option_map Fare (constant_of last) else None
+-- and `fare TARIFF DRIVE CONSTANT` or `offsets RULES FROM TO`
+abbrev pub four_words : (command third last : List ℕ) → Option Row
+four_words command third last =
+    if is_word command (codes "fare") then option_map Fare (constant_of last)
+    else (if is_word command (codes "offsets") then option_map Offsets (years_of third last) else None)
 
 -- the command that words are
 abbrev pub row_of : List (List ℕ) → Option Row
 row_of (command ∷ []) = one_word command
 row_of (command ∷ tariff ∷ []) = two_words command
-row_of (command ∷ tariff ∷ last ∷ []) = three_words command last
-row_of (command ∷ tariff ∷ drive ∷ last ∷ []) = four_words command last
+row_of (command ∷ middle ∷ last ∷ []) = three_words command middle last
+row_of (command ∷ file ∷ third ∷ last ∷ []) = four_words command third last
 row_of words = None

@@ -1,15 +1,18 @@
 //! How a command ends: its last line, and its status.
 ghost use Rattle.std.specs.Prelude.{◌≡◌, ◌+◌, ◌≤◌, []};
 ghost use Rattle.outside.specs.Faults.{Rose};
-ghost use Rattle.outside.specs.Runs.{KeepsStore};
+ghost use Rattle.outside.specs.Disk.{MayLeaveAmid};
+ghost use Rattle.outside.specs.Runs.{KeepsStore, LeavesOnly};
 ghost use Rattle.taxi_cli.specs.Call.{IsEnd};
-ghost use Rattle.taxi_cli.specs.Ending.{ended_for, ended_for_params, store_ended};
+ghost use Rattle.taxi_cli.specs.Ending.{ended_by, ended_for, ended_for_params, store_ended};
 ghost use Rattle.taxi_cli.specs.LastLine.{line_of, status_of};
 
 use crate::last_line::last_line;
 use crate::opening::StoreFault;
 use crate::params::ParamsFault;
 use crate::tariff::{Refusal, TextFault};
+use meter_run::RunFault;
+use offset_rules::RuleFault;
 use outside::Board;
 use seal_store::ParamFault;
 use std::sync::ledger::Ledger;
@@ -32,6 +35,10 @@ pub enum Ended {
     BadSlot(u8),
     /// These two slots of the store have bodies of one number.
     SameNumber(u8, u8),
+    /// The trip that the store holds doesn't fit the tariff.
+    BadTrip,
+    /// The sealed digest is this, and that of the tariff's text the other.
+    WrongTariff([u8; 32], [u8; 32]),
     /// The store holds a trip.
     TripHeld,
     /// The found seal has the last number.
@@ -42,6 +49,8 @@ pub enum Ended {
     BadParams(ParamFault),
     /// The store was sealed, with this number.
     Sealed(u64),
+    /// The rules of offsets aren't accepted, and why.
+    BadRules(RuleFault),
     /// The line of this number is no line of a drive.
     BadDrive(u64),
     /// As many bytes as a drive may have were taken, and its end wasn't reached.
@@ -87,6 +96,19 @@ pub fn refused_store(fault: StoreFault) -> Ended
     }
 }
 
+/// How a command ended where the run of its drive ended so.
+pub fn ended_of(ran: Result<(), RunFault>) -> Ended
+    ensures { result ≡ ended_by ran }
+{
+    match ran {
+        Ok(()) => Ended::Done,
+        Err(RunFault::ReadFault) => Ended::ReadFault,
+        Err(RunFault::BoardFault) => Ended::BoardFault,
+        Err(RunFault::BadDrive(line)) => Ended::BadDrive(line),
+        Err(RunFault::TooLong) => Ended::EndlessDrive,
+    }
+}
+
 /// The status of an end whose last line was printed.
 fn status(ended: Ended) -> u8
     ensures { result ≡ status_of ended }
@@ -99,11 +121,14 @@ fn status(ended: Ended) -> u8
         Ended::NotSealed => 4,
         Ended::BadSlot(_) => 5,
         Ended::SameNumber(_, _) => 5,
+        Ended::BadTrip => 5,
+        Ended::WrongTariff(_, _) => 6,
         Ended::TripHeld => 13,
         Ended::SealEnded => 14,
         Ended::OtherDecimals(_, _) => 15,
         Ended::BadParams(_) => 9,
         Ended::Sealed(_) => 0,
+        Ended::BadRules(_) => 17,
         Ended::BadDrive(_) => 3,
         Ended::EndlessDrive => 3,
         Ended::ReadFault => 7,
@@ -113,13 +138,15 @@ fn status(ended: Ended) -> u8
 }
 
 /// Prints the last line of an end, and gives its status, or 8 where the board fails.
-#[tactic(auto, using(crate::proofs::Run::keeps_none, crate::proofs::Run::keeps_print, crate::proofs::Run::keeps_then))]
+#[tactic(auto, using(crate::proofs::BoardRuns::keeps_none, crate::proofs::BoardRuns::keeps_print, crate::proofs::BoardRuns::keeps_then))]
 pub fn finish<B: Board<L>, L: Ledger>(ended: Ended, board: &mut B, steps: &mut Steps<L>) -> u8
     ensures ends { IsEnd B.tells_text (Rose (B.faults board.old) (B.faults board.new)) (status_of ended) (line_of ended)
         result (B.printed board.old) (B.printed board.new) }
     ensures count { B.faults board.old ≤ B.faults board.new }
     ensures steps { steps.new ≤ steps.old + 1 }
     ensures store { KeepsStore B.Board board.old board.new }
+    ensures leaves { LeavesOnly B.Board board.old board.new
+        (MayLeaveAmid (B.image board.old) (B.in_flight board.old) (B.printed board.old) (line_of ended)) }
     ensures silent { line_of ended ≡ [] → board.new ≡ board.old }
 {
     let line = last_line(ended);

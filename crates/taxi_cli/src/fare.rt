@@ -4,13 +4,13 @@ ghost use Rattle.meter_run.specs.Drives.{IsBoundedBy};
 ghost use Rattle.outside.specs.Faults.{Rose};
 ghost use Rattle.outside.specs.Runs.{KeepsStore};
 ghost use Rattle.taxi_cli.specs.Call.{HasReadFault};
-ghost use Rattle.taxi_cli.specs.Ending.{ComesOn, ended_by};
+ghost use Rattle.taxi_cli.specs.Ending.{ComesOn};
 ghost use Rattle.taxi_cli.specs.Fare.{fare_command};
 
-use crate::ending::{Ended, refused_by};
+use crate::ending::{Ended, ended_of, refused_by};
 use crate::fare_seal::fare_seal;
 use crate::tariff::read_tariff;
-use meter_run::{RunFault, dry_run};
+use meter_run::dry_run;
 use outside::{Board, Files};
 use pulse_input::Constant;
 use std::alloc::Global;
@@ -19,7 +19,7 @@ use tariff_compile::compile;
 use taxi_units::Steps;
 
 /// Reads the tariff of word 1, and carries out the drive of word 2 under it, without a store.
-#[tactic(auto, using(crate::proofs::Run::keeps_none, crate::proofs::Run::keeps_print, crate::proofs::Run::keeps_then))]
+#[tactic(auto, using(crate::proofs::BoardRuns::keeps_none, crate::proofs::BoardRuns::keeps_print, crate::proofs::BoardRuns::keeps_then))]
 pub fn fare<F: Files, B: Board<L>, L: Ledger>(
     alloc: Global,
     constant: Constant,
@@ -47,17 +47,4 @@ pub fn fare<F: Files, B: Board<L>, L: Ledger>(
     let seal = fare_seal(constant, tables.decimals());
     let ran = dry_run(&tables, &seal, files, 2, board, steps);
     ended_of(ran)
-}
-
-/// How the command ended where the run of its drive ended so.
-fn ended_of(ran: Result<(), RunFault>) -> Ended
-    ensures { result ≡ ended_by ran }
-{
-    match ran {
-        Ok(()) => Ended::Done,
-        Err(RunFault::ReadFault) => Ended::ReadFault,
-        Err(RunFault::BoardFault) => Ended::BoardFault,
-        Err(RunFault::BadDrive(line)) => Ended::BadDrive(line),
-        Err(RunFault::TooLong) => Ended::EndlessDrive,
-    }
 }

@@ -1,10 +1,7 @@
 //! Drives under `fare`, over clocks, keys, supplements and losses of supply.
-use crate::tests::call;
+use crate::tests::{A, call};
 use outside::MemoryBoard;
 use std::test::Fail;
-
-const A: &str =
-    "decimals 2\nstep 0.20 ahead\ninitial 3.80 covers 0.40\nrate 0.20 per 117.4 m, 0.20 per 25.2 s\n";
 
 /// Tariff A with two positions and a supplement that may be added twice.
 const EXTRAS: &str =

@@ -1,16 +1,17 @@
 //! The last lines of the program.
 ghost use Rattle.std.specs.Prelude.{◌≡◌, ◌+◌, ◌≤◌, ◌++◌, [], length};
 ghost use Rattle.arrayvec.specs.ArrayVec.{array_vec_len};
-ghost use Rattle.taxi_cli.specs.LastLine.{bad_drive_line, bad_slot_line, bad_tariff_line, dimension_text, fault_text};
+ghost use Rattle.taxi_cli.specs.LastLine.{bad_drive_line, bad_rules_line, bad_slot_line, bad_tariff_line, dimension_text, fault_text};
 ghost use Rattle.taxi_cli.specs.LastLine.{bad_params_line, line_of, name_text, numbered, other_decimals_line};
-ghost use Rattle.taxi_cli.specs.LastLine.{param_fault_text, same_number_line, sealed_line, sound_line};
+ghost use Rattle.taxi_cli.specs.LastLine.{param_fault_text, same_number_line, sealed_line, sound_line, wrong_tariff_line};
 
 use crate::ending::Ended;
 use crate::tariff::Refusal;
-use crate::text::{push, push_number};
+use offset_rules::RuleFault;
+use receipt_text::push_hex;
 use seal_store::{Name, ParamFault};
 use tariff_check::{CheckFault, Dimension};
-use taxi_units::Line;
+use taxi_units::{Line, push_bytes, push_number};
 
 /// The last line, which is empty where there is none.
 pub fn last_line(ended: Ended) -> Line
@@ -20,21 +21,24 @@ pub fn last_line(ended: Ended) -> Line
     match ended {
         Ended::Done => {}
         Ended::Sound(cells, measure) => push_sound(&mut line, cells, measure),
-        Ended::BadWords => push(&mut line, b"BAD WORDS\n"),
+        Ended::BadWords => push_bytes(&mut line, b"BAD WORDS\n"),
         Ended::BadTariff(why) => push_bad_tariff(&mut line, why),
-        Ended::NotSealed => push(&mut line, b"NOT SEALED\n"),
+        Ended::NotSealed => push_bytes(&mut line, b"NOT SEALED\n"),
         Ended::BadSlot(slot) => push_bad_slot(&mut line, slot),
         Ended::SameNumber(first, second) => push_same_number(&mut line, first, second),
-        Ended::TripHeld => push(&mut line, b"TRIP HELD\n"),
-        Ended::SealEnded => push(&mut line, b"SEAL ENDED\n"),
+        Ended::BadTrip => push_bytes(&mut line, b"BAD STORE TRIP\n"),
+        Ended::WrongTariff(digest, own) => push_wrong_tariff(&mut line, &digest, &own),
+        Ended::TripHeld => push_bytes(&mut line, b"TRIP HELD\n"),
+        Ended::SealEnded => push_bytes(&mut line, b"SEAL ENDED\n"),
         Ended::OtherDecimals(found, own) => push_other_decimals(&mut line, found, own),
         Ended::BadParams(fault) => push_bad_params(&mut line, fault),
         Ended::Sealed(number) => push_sealed(&mut line, number),
+        Ended::BadRules(fault) => push_bad_rules(&mut line, fault),
         Ended::BadDrive(number) => push_bad_drive(&mut line, number),
-        Ended::EndlessDrive => push(&mut line, b"BAD DRIVE TOO LONG\n"),
-        Ended::ReadFault => push(&mut line, b"READ FAULT\n"),
+        Ended::EndlessDrive => push_bytes(&mut line, b"BAD DRIVE TOO LONG\n"),
+        Ended::ReadFault => push_bytes(&mut line, b"READ FAULT\n"),
         Ended::BoardFault => {}
-        Ended::NoMemory => push(&mut line, b"NO MEMORY\n"),
+        Ended::NoMemory => push_bytes(&mut line, b"NO MEMORY\n"),
     }
     line
 }
@@ -44,11 +48,11 @@ fn push_sound(line: &mut Line, cells: u64, measure: u64)
     requires { line.old.items ≡ [] }
     ensures { line.new.items ≡ sound_line cells measure }
 {
-    push(line, b"OK CELLS ");
-    push_number(line, cells);
-    push(line, b" MEASURE ");
-    push_number(line, measure);
-    push(line, b"\n");
+    push_bytes(line, b"OK CELLS ");
+    push_number(line, cells as u128);
+    push_bytes(line, b" MEASURE ");
+    push_number(line, measure as u128);
+    push_bytes(line, b"\n");
 }
 
 /// Appends the line of a tariff that isn't accepted.
@@ -57,16 +61,16 @@ fn push_bad_tariff(line: &mut Line, why: Refusal)
     ensures { line.new.items ≡ bad_tariff_line why }
 {
     match why {
-        Refusal::TooLong => push(line, b"BAD TARIFF TooLong\n"),
+        Refusal::TooLong => push_bytes(line, b"BAD TARIFF TooLong\n"),
         Refusal::Syntax(number) => {
-            push(line, b"BAD TARIFF Syntax ");
-            push_number(line, number as u64);
-            push(line, b"\n");
+            push_bytes(line, b"BAD TARIFF Syntax ");
+            push_number(line, number as u128);
+            push_bytes(line, b"\n");
         }
         Refusal::Unsound(fault) => {
-            push(line, b"BAD TARIFF ");
+            push_bytes(line, b"BAD TARIFF ");
             push_fault(line, fault);
-            push(line, b"\n");
+            push_bytes(line, b"\n");
         }
     }
 }
@@ -78,36 +82,36 @@ fn push_fault(line: &mut Line, fault: CheckFault)
     ensures len { array_vec_len line.new ≤ array_vec_len line.old + 80 }
 {
     match fault {
-        CheckFault::NoStep => push(line, b"NoStep"),
-        CheckFault::StepZero => push(line, b"StepZero"),
+        CheckFault::NoStep => push_bytes(line, b"NoStep"),
+        CheckFault::StepZero => push_bytes(line, b"StepZero"),
         CheckFault::Duplicate(at) => push_numbered(line, b"Duplicate", at as u64),
         CheckFault::TooManyLines(at) => push_numbered(line, b"TooManyLines", at as u64),
         CheckFault::UnknownNumber(at) => push_numbered(line, b"UnknownNumber", at as u64),
-        CheckFault::NoDefaultRate => push(line, b"NoDefaultRate"),
-        CheckFault::NoDefaultInitial => push(line, b"NoDefaultInitial"),
+        CheckFault::NoDefaultRate => push_bytes(line, b"NoDefaultRate"),
+        CheckFault::NoDefaultInitial => push_bytes(line, b"NoDefaultInitial"),
         CheckFault::LineAfterDefault(at) => push_numbered(line, b"LineAfterDefault", at as u64),
         CheckFault::BadDate(at) => push_numbered(line, b"BadDate", at as u64),
         CheckFault::AmountTooBig(at) => push_numbered(line, b"AmountTooBig", at as u64),
         CheckFault::MeasureZero(at) => push_numbered(line, b"MeasureZero", at as u64),
-        CheckFault::NoCommonMeasure => push(line, b"NoCommonMeasure"),
+        CheckFault::NoCommonMeasure => push_bytes(line, b"NoCommonMeasure"),
         CheckFault::TooManyCuts(dimension, count) => {
-            push(line, b"TooManyCuts ");
+            push_bytes(line, b"TooManyCuts ");
             push_numbered(line, dimension_name(dimension), count as u64);
         }
         CheckFault::TooManyCells(count) => push_numbered(line, b"TooManyCells", count),
-        CheckFault::NoMemory => push(line, b"NoMemory"),
+        CheckFault::NoMemory => push_bytes(line, b"NoMemory"),
     }
 }
 
 /// Appends a name and a number.
 fn push_numbered(line: &mut Line, name: &[u8], number: u64)
-    requires { array_vec_len line.old + length name.now + 21 ≤ 512 }
+    requires { array_vec_len line.old + length name.now + 40 ≤ 512 }
     ensures text { line.new.items ≡ line.old.items ++ numbered name.now number }
-    ensures len { array_vec_len line.new ≤ array_vec_len line.old + length name.now + 21 }
+    ensures len { array_vec_len line.new ≤ array_vec_len line.old + length name.now + 40 }
 {
-    push(line, name);
-    push(line, b" ");
-    push_number(line, number);
+    push_bytes(line, name);
+    push_bytes(line, b" ");
+    push_number(line, number as u128);
 }
 
 /// The name of a dimension.
@@ -128,9 +132,9 @@ fn push_bad_drive(line: &mut Line, number: u64)
     requires { line.old.items ≡ [] }
     ensures { line.new.items ≡ bad_drive_line number }
 {
-    push(line, b"BAD DRIVE ");
-    push_number(line, number);
-    push(line, b"\n");
+    push_bytes(line, b"BAD DRIVE ");
+    push_number(line, number as u128);
+    push_bytes(line, b"\n");
 }
 
 /// Appends the line of a slot whose body isn't read.
@@ -138,9 +142,9 @@ fn push_bad_slot(line: &mut Line, slot: u8)
     requires { line.old.items ≡ [] }
     ensures { line.new.items ≡ bad_slot_line slot }
 {
-    push(line, b"BAD STORE ");
-    push_number(line, slot as u64);
-    push(line, b"\n");
+    push_bytes(line, b"BAD STORE ");
+    push_number(line, slot as u128);
+    push_bytes(line, b"\n");
 }
 
 /// Appends the line of two slots of one number.
@@ -148,11 +152,23 @@ fn push_same_number(line: &mut Line, first: u8, second: u8)
     requires { line.old.items ≡ [] }
     ensures { line.new.items ≡ same_number_line first second }
 {
-    push(line, b"BAD STORE ");
-    push_number(line, first as u64);
-    push(line, b" ");
-    push_number(line, second as u64);
-    push(line, b"\n");
+    push_bytes(line, b"BAD STORE ");
+    push_number(line, first as u128);
+    push_bytes(line, b" ");
+    push_number(line, second as u128);
+    push_bytes(line, b"\n");
+}
+
+/// Appends the line of a tariff that has another digest than the sealed one.
+fn push_wrong_tariff(line: &mut Line, digest: &[u8; 32], own: &[u8; 32])
+    requires { line.old.items ≡ [] }
+    ensures { line.new.items ≡ wrong_tariff_line digest.now own.now }
+{
+    push_bytes(line, b"WRONG TARIFF ");
+    push_hex(line, digest);
+    push_bytes(line, b" ");
+    push_hex(line, own);
+    push_bytes(line, b"\n");
 }
 
 /// Appends the line of decimals that differ.
@@ -160,11 +176,11 @@ fn push_other_decimals(line: &mut Line, found: u8, own: u8)
     requires { line.old.items ≡ [] }
     ensures { line.new.items ≡ other_decimals_line found own }
 {
-    push(line, b"OTHER DECIMALS ");
-    push_number(line, found as u64);
-    push(line, b" ");
-    push_number(line, own as u64);
-    push(line, b"\n");
+    push_bytes(line, b"OTHER DECIMALS ");
+    push_number(line, found as u128);
+    push_bytes(line, b" ");
+    push_number(line, own as u128);
+    push_bytes(line, b"\n");
 }
 
 /// Appends the line of parameters that aren't accepted.
@@ -172,9 +188,9 @@ fn push_bad_params(line: &mut Line, fault: ParamFault)
     requires { line.old.items ≡ [] }
     ensures { line.new.items ≡ bad_params_line fault }
 {
-    push(line, b"BAD PARAMS ");
+    push_bytes(line, b"BAD PARAMS ");
     push_param_fault(line, fault);
-    push(line, b"\n");
+    push_bytes(line, b"\n");
 }
 
 /// Appends the name of a fault of parameters, and its line or the parameter.
@@ -184,16 +200,16 @@ fn push_param_fault(line: &mut Line, fault: ParamFault)
     ensures len { array_vec_len line.new ≤ array_vec_len line.old + 80 }
 {
     match fault {
-        ParamFault::TooLong => push(line, b"TooLong"),
+        ParamFault::TooLong => push_bytes(line, b"TooLong"),
         ParamFault::Unknown(at) => push_numbered(line, b"Unknown", at as u64),
         ParamFault::BadValue(at) => push_numbered(line, b"BadValue", at as u64),
         ParamFault::Twice(name) => {
-            push(line, b"Twice ");
-            push(line, name_of(name));
+            push_bytes(line, b"Twice ");
+            push_bytes(line, name_of(name));
         }
         ParamFault::Missing(name) => {
-            push(line, b"Missing ");
-            push(line, name_of(name));
+            push_bytes(line, b"Missing ");
+            push_bytes(line, name_of(name));
         }
     }
 }
@@ -218,7 +234,23 @@ fn push_sealed(line: &mut Line, number: u64)
     requires { line.old.items ≡ [] }
     ensures { line.new.items ≡ sealed_line number }
 {
-    push(line, b"SEALED ");
-    push_number(line, number);
-    push(line, b"\n");
+    push_bytes(line, b"SEALED ");
+    push_number(line, number as u128);
+    push_bytes(line, b"\n");
+}
+
+/// Appends the line of rules of offsets that aren't accepted.
+fn push_bad_rules(line: &mut Line, fault: RuleFault)
+    requires { line.old.items ≡ [] }
+    ensures { line.new.items ≡ bad_rules_line fault }
+{
+    match fault {
+        RuleFault::TooLong => push_bytes(line, b"BAD RULES TooLong\n"),
+        RuleFault::BadLine(number) => {
+            push_bytes(line, b"BAD RULES BadLine ");
+            push_number(line, number as u128);
+            push_bytes(line, b"\n");
+        }
+        RuleFault::SameMonth => push_bytes(line, b"BAD RULES SameMonth\n"),
+    }
 }

@@ -7,21 +7,32 @@ mod fare;
 mod fare_seal;
 #[cfg(test)]
 mod fare_tests;
+mod generate;
+#[cfg(test)]
+mod generate_tests;
 mod last_line;
+mod offsets;
+#[cfg(test)]
+mod offsets_tests;
 mod opening;
 mod params;
+mod run;
+#[cfg(test)]
+mod run_tests;
 mod seal;
+#[cfg(test)]
+mod seal_tests;
 #[cfg(test)]
 mod store_tests;
 mod tables;
 mod tariff;
 #[cfg(test)]
 mod tests;
-mod text;
 mod top;
 mod totals;
 mod totals_text;
 mod words;
+mod years;
 
 ghost use Rattle.std.specs.Prelude.{◌≡◌, ◌<◌};
 

@@ -1,7 +1,11 @@
 //! The opening of the store, with which some commands begin.
-ghost use Rattle.std.specs.Prelude.{◌≡◌, ◌+◌, ◌≤◌, IfOk, IsErrOf};
+ghost use Rattle.std.specs.Prelude.{◌≡◌, ◌+◌, ◌≤◌, IfOk, IfSome, IsErrOf};
 ghost use Rattle.outside.specs.Faults.{Rose};
-ghost use Rattle.taxi_cli.specs.Opening.{IsOpened, IsSoundOpening, ReadsOnly, fault_from, opening_of};
+ghost use Rattle.outside.specs.Runs.{IsSettled};
+ghost use Rattle.slot_store.specs.Syncs.{IsAsHeld, LeavesFromSync, ReadsOnly};
+ghost use Rattle.seal_store.specs.Ranges.{IsSeal};
+ghost use Rattle.taxi_cli.specs.Opening as spec;
+ghost use Rattle.taxi_cli.specs.Opening.{IsOpened, IsSoundOpening, fault_from, opening_of};
 
 use outside::Board;
 use seal_store::Seal;
@@ -31,7 +35,8 @@ pub enum StoreFault {
 /// Scans the pair of totals, and then that of seals. Nothing is written or printed.
 ///
 /// `BadSlot` and `SameNumber` come exactly by the image, for the totals' pair before the seal's.
-/// `BoardFault` comes only where the board's count of faults rose.
+/// `BoardFault` comes only where the board's count of faults rose. From the first sync on a cut leaves
+/// the image as it was, and after each other answer nothing is in flight.
 pub fn open_store<B: Board<L>, L: Ledger>(
     board: &mut B,
     steps: &mut Steps<L>,
@@ -40,6 +45,9 @@ pub fn open_store<B: Board<L>, L: Ledger>(
     ensures opened { B.tells_image → IfOk result (IsOpened B.Board board.new) }
     ensures sound { IfOk result IsSoundOpening }
     ensures reads { ReadsOnly B.Board board.old board.new }
+    ensures synced { B.tells_image → LeavesFromSync B.Board (IsErrOf result StoreFault.BoardFault)
+        board.old board.new (IsAsHeld B.Board board.old) }
+    ensures settled { B.tells_image → ¬ IsErrOf result StoreFault.BoardFault → IsSettled B.Board board.new }
     ensures same { ¬ IsErrOf result StoreFault.BoardFault → B.image board.new ≡ B.image board.old }
     ensures count { B.faults board.old ≤ B.faults board.new }
     ensures cause { IsErrOf result StoreFault.BoardFault → Rose (B.faults board.old) (B.faults board.new) }
@@ -66,5 +74,20 @@ fn fault_of_pair(first: u8, fault: SlotFault) -> StoreFault
         SlotFault::BadBody(_) => StoreFault::BadSlot(first + 1),
         SlotFault::SameNumber(_) => StoreFault::SameNumber(first, first + 1),
         SlotFault::DeviceFailed => StoreFault::BoardFault,
+    }
+}
+
+/// The totals and the seal of a store that is sealed.
+pub fn sealed_store(opening: Opening) -> Option<(Durable, Seal)>
+    requires { IsSoundOpening opening }
+    ensures answer { result ≡ spec.sealed_store opening.totals opening.seal }
+    ensures seal { IfSome result (λ store. IsSeal store.1) }
+{
+    match opening.totals {
+        Found::Blank => None,
+        Found::Latest { body: durable, .. } => match opening.seal {
+            Found::Blank => None,
+            Found::Latest { body: seal, .. } => Some((durable, seal)),
+        },
     }
 }

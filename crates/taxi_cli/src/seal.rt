@@ -9,7 +9,7 @@ ghost use Rattle.taxi_cli.specs.Call.{HasReadFault};
 ghost use Rattle.taxi_cli.specs.Ending.{ComesOn};
 ghost use Rattle.taxi_cli.specs.LastLine.{status_of};
 ghost use Rattle.taxi_cli.specs.Opening.{IsSoundOpening, opening_of};
-ghost use Rattle.taxi_cli.specs.Seal.{IsNoSeal, IsNoTariff, IsTariffWith, Rests, Seals};
+ghost use Rattle.taxi_cli.specs.Seal.{IsNoSeal, IsNoTariff, IsTariffWith, RestsAmid, Seals};
 ghost use Rattle.taxi_cli.specs.Seal.{seal_command, seal_read, sealing_of};
 ghost use Rattle.taxi_cli.specs.Seal as spec;
 ghost use Rattle.taxi_cli.specs.Unwritten.{KeepsBytes};
@@ -189,8 +189,8 @@ pub fn seal_store<F: Files, B: Board<L>, L: Ledger>(
         → Seals B.Board (sealing_of (opening_of (B.image board.old)) (F.rest files.old 1) (F.rest files.old 2))
         board.old board.new (status_of result) }
     ensures rests { F.tells → B.tells_image → result ≢ Ended.BoardFault
-        → Rests B.Board (sealing_of (opening_of (B.image board.old)) (F.rest files.old 1) (F.rest files.old 2))
-        board.old board.new }
+        → RestsAmid B.Board (sealing_of (opening_of (B.image board.old)) (F.rest files.old 1) (F.rest files.old 2))
+        (B.image board.old) board.new }
     ensures unwritten { result ≢ Ended.BoardFault → status_of result ≢ 0 → KeepsBytes B.Board board.old board.new }
     ensures same { result ≢ Ended.BoardFault → status_of result ≢ 0 → B.image board.new ≡ B.image board.old }
     ensures read_fault { result ≡ Ended.ReadFault → HasReadFault F.Files seal_command files.old files.new }
@@ -198,7 +198,7 @@ pub fn seal_store<F: Files, B: Board<L>, L: Ledger>(
     ensures others { (other : ℕ) → other ≢ 1 → other ≢ 2 → F.rest files.new other ≡ F.rest files.old other }
     ensures count { B.faults board.old ≤ B.faults board.new }
     ensures counts { (other : ℕ) → F.faults files.old other ≤ F.faults files.new other }
-    ensures steps { steps.new ≤ steps.old + 18 }
+    ensures steps { steps.new ≤ steps.old + 16 }
 {
     let opening = match open_store(board, steps) {
         Ok(opening) => opening,

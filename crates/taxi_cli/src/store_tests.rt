@@ -44,7 +44,13 @@ const STORE: [(usize, u8); 33] = [
 /// What layout 1 has more, and layout 2 with a share of position 1, and a store that breaks its sums.
 const FIRST_LAYOUT: [(usize, u8); 2] = [(511, 1), (1535, 1)];
 
-const SECOND_LAYOUT: [(usize, u8); 5] = [(196, 1), (211, 0x01), (212, 0x7c), (511, 2), (1535, 1)];
+pub(crate) const SECOND_LAYOUT: [(usize, u8); 5] = [
+    (196, 1),
+    (211, 0x01),
+    (212, 0x7c),
+    (511, 2),
+    (1535, 1),
+];
 
 const TOO_MANY_BEFORE: [(usize, u8); 6] = [
     (196, 1),
@@ -57,10 +63,30 @@ const TOO_MANY_BEFORE: [(usize, u8); 6] = [
 
 const NO_SEAL: [(usize, u8); 5] = [(196, 1), (211, 0x01), (212, 0x7c), (511, 2), (1024, 0)];
 
+/// Second slots that are open with the number of the first.
+const SAME_TOTALS: [(usize, u8); 16] = [
+    (196, 1),
+    (211, 0x01),
+    (212, 0x7c),
+    (511, 2),
+    (512, 0xa5),
+    (520, 2),
+    (534, 0x03),
+    (535, 0x95),
+    (536, 0x30),
+    (560, 1),
+    (591, 0x01),
+    (592, 0x7c),
+    (708, 1),
+    (723, 0x01),
+    (724, 0x7c),
+    (1023, 2),
+];
+
 const BAD_SEAL: [(usize, u8); 5] = [(196, 1), (211, 0x01), (212, 0x7c), (511, 2), (1535, 2)];
 
 /// An image with these bytes.
-fn image_of(more: &[(usize, u8)]) -> [u8; 2048] {
+pub(crate) fn image_of(more: &[(usize, u8)]) -> [u8; 2048] {
     let mut image = [0; 2048];
     for (place, byte) in STORE.iter().chain(more) {
         if let Some(here) = image.get_mut(*place) {
@@ -70,7 +96,16 @@ fn image_of(more: &[(usize, u8)]) -> [u8; 2048] {
     image
 }
 
-const SUMMARY: &str =
+/// A sealed store whose second seal is the first again.
+fn same_seals() -> [u8; 2048] {
+    let mut image = image_of(&SECOND_LAYOUT);
+    for place in 1024..1536 {
+        image[place + 512] = image[place];
+    }
+    image
+}
+
+pub(crate) const SUMMARY: &str =
     "NUMBER 2\nDISTANCE 234.800 m\nHIRED 234.800 m\nHIRINGS 1\nSUPPLEMENTS 0.00\nFARE 3.80\nHELD no\n";
 
 #[test]
@@ -105,6 +140,8 @@ fn stores_without_totals(rt: HostRuntime) -> Result<(), Fail> {
         (image_of(&NO_SEAL), "NOT SEALED\n", 4),
         (image_of(&TOO_MANY_BEFORE), "BAD STORE 0\n", 5),
         (image_of(&BAD_SEAL), "BAD STORE 2\n", 5),
+        (image_of(&SAME_TOTALS), "BAD STORE 0 1\n", 5),
+        (same_seals(), "BAD STORE 2 3\n", 5),
     ] {
         let mut board = MemoryBoard::new(rt.alloc(), &image, &[])?;
         assert_eq!(rt;
@@ -128,78 +165,6 @@ fn faults_at_the_opening(rt: HostRuntime) -> Result<(), Fail> {
             "{failed}"
         );
         assert_eq!(rt; board.printed(), b"".as_slice(), "{failed}");
-    }
-    Ok(())
-}
-
-const A: &str =
-    "decimals 2\nstep 0.20 ahead\ninitial 3.80 covers 0.40\nrate 0.20 per 117.4 m, 0.20 per 25.2 s\n";
-
-const P: &str =
-    "taxi LX-4711\nconstant 10000\nmode single\nhold 60\noffset 946684800 3600\nsecured 2025-12-01\n";
-
-const WORDS: [&str; 3] = ["seal", "t", "p"];
-
-#[test]
-fn sealing(rt: HostRuntime) -> Result<(), Fail> {
-    let mut board = MemoryBoard::new(rt.alloc(), &[0; 2048], &[])?;
-    assert_eq!(rt; call(rt.alloc(), &WORDS, A, P, &[], &mut board)?, 0);
-    let first = [0xa5, 0, 0, 0, 0, 0, 0, 0, 1];
-    assert!(rt; board.image().starts_with(&first));
-    assert_eq!(rt; call(rt.alloc(), &WORDS, A, P, &[], &mut board)?, 0);
-    assert!(rt; board.image().starts_with(&first));
-    assert_eq!(rt; board.printed(), b"SEALED 1\nSEALED 2\n".as_slice());
-    let mut board = MemoryBoard::new(rt.alloc(), &image_of(&SECOND_LAYOUT), &[])?;
-    assert_eq!(rt; call(rt.alloc(), &WORDS, A, P, &[], &mut board)?, 0);
-    assert_eq!(rt; call(rt.alloc(), &["totals"], "", "", &[], &mut board)?, 0);
-    let mut output = String::from_str(rt.alloc(), "SEALED 2\n")?;
-    output.push_str(SUMMARY)?;
-    output.push_str("LAYOUT 2\nBEFORE 0 0.00\nPOSITION 1 1 3.80\n")?;
-    assert_eq!(rt; board.printed(), output.as_bytes());
-    Ok(())
-}
-
-/// Texts that are refused over the sealed store, and the answers.
-const REFUSED: [(&str, &str, &str, u8); 5] = [
-    (
-        "decimals 3\nstep 0.200\ninitial 3.800\nrate 0.200 per 117.4 m, 0.200 per 25.2 s\n",
-        P,
-        "OTHER DECIMALS 2 3\n",
-        15,
-    ),
-    (
-        A,
-        "taxi LX-4711\nconstant 10000\nmode single\noffset 946684800 3600\nsecured 2025-12-01\n",
-        "BAD PARAMS Missing Hold\n",
-        9,
-    ),
-    (
-        A,
-        "taxi LX-4711\nconstant 10000\nmode triple\nhold 60\noffset 946684800 3600\nsecured 2025-12-01\n",
-        "BAD PARAMS BadValue 3\n",
-        9,
-    ),
-    (
-        A,
-        "taxi LX-4711\ntaxi LX-4711\n",
-        "BAD PARAMS Twice Taxi\n",
-        9,
-    ),
-    ("", P, "BAD TARIFF NoStep\n", 2),
-];
-
-#[test]
-fn refused_sealings(rt: HostRuntime) -> Result<(), Fail> {
-    let image = image_of(&SECOND_LAYOUT);
-    for (tariff, params, output, status) in REFUSED {
-        let mut board = MemoryBoard::new(rt.alloc(), &image, &[])?;
-        assert_eq!(rt;
-            call(rt.alloc(), &WORDS, tariff, params, &[], &mut board)?,
-            status,
-            "{output}"
-        );
-        assert_eq!(rt; board.printed(), output.as_bytes());
-        assert!(rt; *board.image() == image);
     }
     Ok(())
 }

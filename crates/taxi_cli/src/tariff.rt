@@ -42,9 +42,12 @@ pub fn text_of_word<F: Files>(
     word: usize,
 ) -> Result<Vec<u8>, TextFault>
     ensures text { F.tells → IfOk result (λ text. text.items ≡ F.rest files.old word) }
+    ensures few { IfOk result (λ text. vec_len text ≤ 65536) }
     ensures ended { F.tells → OnOk result (F.rest files.new word ≡ []) }
     ensures refused { (why : Refusal) → F.tells → result ≡ Err (TextFault.Refused why)
         → tariff_in (F.rest files.old word) ≡ Err why }
+    ensures long { (why : Refusal) → F.tells → result ≡ Err (TextFault.Refused why)
+        → (why ≡ Refusal.TooLong) × (65536 < length (F.rest files.old word)) }
     ensures read_fault { result ≡ Err TextFault.ReadFault → Rose (F.faults files.old word) (F.faults files.new word) }
     ensures others { (other : ℕ) → other ≢ word → F.rest files.new other ≡ F.rest files.old other }
     ensures counts { (other : ℕ) → F.faults files.old other ≤ F.faults files.new other }

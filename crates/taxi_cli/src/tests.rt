@@ -2,15 +2,30 @@
 ghost use Rattle.std.specs.Prelude.{◌≡◌, ◌<◌};
 
 use crate::top::taxi;
-use outside::{MemoryBoard, MemoryFiles};
+use outside::{Fill, MemoryBoard, MemoryFiles};
 use std::alloc::Global;
 use std::marker::Brand;
 use std::sync::ledger::{Blank, Ledger};
 use std::test::Fail;
 use taxi_units::Steps;
 
-const A: &str =
+/// The tariff of examples/a.tariff.
+pub(crate) const A: &str =
     "decimals 2\nstep 0.20 ahead\ninitial 3.80 covers 0.40\nrate 0.20 per 117.4 m, 0.20 per 25.2 s\n";
+
+/// Parameters with one offset.
+pub(crate) const P: &str =
+    "taxi LX-4711\nconstant 10000\nmode single\nhold 60\noffset 946684800 3600\nsecured 2025-12-01\n";
+
+/// What a cut may leave of the bytes in flight.
+pub(crate) const FILLS: [Fill; 6] = [
+    Fill::Old,
+    Fill::New,
+    Fill::Half,
+    Fill::Byte(0),
+    Fill::Byte(0xA5),
+    Fill::Byte(0xFF),
+];
 
 const FIRST: &str = "U 1767225600\nK H\nI 0 1\nI 0 504\nI 0 1\n";
 

@@ -1,19 +1,24 @@
 //! The top call: words in, a status out.
 ghost use Rattle.std.specs.Prelude.{◌≡◌, ◌≢◌, ◌⊎◌, ℕ, ◌+◌, ◌≤◌, None, Some, map, string_bytes};
 ghost use Rattle.outside.specs.Faults.{Rose};
-ghost use Rattle.outside.specs.Runs.{KeepsStore};
+ghost use Rattle.outside.specs.Runs.{IsSettled, KeepsStore, LeavesOnly};
 ghost use Rattle.taxi_cli.specs.Call.{HasReadFault, IsCall};
 ghost use Rattle.taxi_cli.specs.Command.{called, command, command_of};
 ghost use Rattle.taxi_cli.specs.Ending.{ComesOn};
 ghost use Rattle.taxi_cli.specs.LastLine.{status_of};
 ghost use Rattle.taxi_cli.specs.Opening.{opening_of};
-ghost use Rattle.taxi_cli.specs.Seal.{Rests, Seals, sealing_of};
+ghost use Rattle.taxi_cli.specs.Run.{IsRun};
+ghost use Rattle.taxi_cli.specs.RunSteps.{RunComes};
+ghost use Rattle.taxi_cli.specs.Seal.{IsAmidOf, RestsAmid, Seals, sealing_of};
 ghost use Rattle.taxi_cli.specs.Unwritten.{KeepsBytes, WritesNothing};
 ghost use Rattle.taxi_cli.specs.Words.{row_of};
 
 use crate::check::check_tariff;
 use crate::ending::{Ended, finish};
 use crate::fare::fare;
+use crate::generate::generate;
+use crate::offsets::print_offsets;
+use crate::run::run;
 use crate::seal::seal_store;
 use crate::tables::print_tables;
 use crate::totals::print_store;
@@ -24,7 +29,7 @@ use std::sync::ledger::Ledger;
 use taxi_units::Steps;
 
 /// Carries out a command, but for its last line.
-#[tactic(auto, using(crate::proofs::Run::keeps_none, crate::proofs::Run::keeps_print, crate::proofs::Run::keeps_then))]
+#[tactic(auto, using(crate::proofs::BoardRuns::keeps_none, crate::proofs::BoardRuns::keeps_print, crate::proofs::BoardRuns::keeps_then))]
 fn carry_out<F: Files, B: Board<L>, L: Ledger>(
     alloc: Global,
     row: Row,
@@ -49,8 +54,10 @@ fn carry_out<F: Files, B: Board<L>, L: Ledger>(
         → Seals B.Board (sealing_of (opening_of (B.image board.old)) (F.rest files.old 1) (F.rest files.old 2))
         board.old board.new (status_of result) }
     ensures rests { row ≡ Row.Seal → F.tells → B.tells_image → result ≢ Ended.BoardFault
-        → Rests B.Board (sealing_of (opening_of (B.image board.old)) (F.rest files.old 1) (F.rest files.old 2))
-        board.old board.new }
+        → RestsAmid B.Board (sealing_of (opening_of (B.image board.old)) (F.rest files.old 1) (F.rest files.old 2))
+        (B.image board.old) board.new }
+    ensures runs { row ≡ Row.Run → F.tells → B.tells_image
+        → RunComes F.Files B.Board files.old files.new board.old board.new result }
 {
     match row {
         Row::Check => check_tariff(alloc, files),
@@ -58,11 +65,14 @@ fn carry_out<F: Files, B: Board<L>, L: Ledger>(
         Row::Fare(k) => fare(alloc, k, files, board, steps),
         Row::Totals => print_store(board, steps),
         Row::Seal => seal_store(alloc, files, board, steps),
+        Row::Run => run(alloc, files, board, steps),
+        Row::Gen(seed, trips) => generate(alloc, seed, trips.get(), board, steps),
+        Row::Offsets(years) => print_offsets(years, files, board, steps),
     }
 }
 
 /// Carries out the words of a call.
-#[tactic(auto, using(crate::proofs::Run::keeps_none, crate::proofs::Run::keeps_print, crate::proofs::Run::keeps_then))]
+#[tactic(auto, using(crate::proofs::BoardRuns::keeps_none, crate::proofs::BoardRuns::keeps_print, crate::proofs::BoardRuns::keeps_then))]
 fn answer<F: Files, B: Board<L>, L: Ledger>(
     alloc: Global,
     words: &[String],
@@ -85,6 +95,8 @@ fn answer<F: Files, B: Board<L>, L: Ledger>(
     ensures seals { row_of (map string_bytes words.now) ≡ Some Row.Seal → F.tells → B.tells_image
         → Seals B.Board (sealing_of (opening_of (B.image board.old)) (F.rest files.old 1) (F.rest files.old 2))
         board.old board.new result }
+    ensures runs { row_of (map string_bytes words.now) ≡ Some Row.Run → F.tells → B.tells_image
+        → IsRun F.Files B.Board files.old files.new board.old board.new result }
 {
     match row_in(words) {
         None => finish(Ended::BadWords, board, steps),
@@ -105,6 +117,9 @@ fn answer<F: Files, B: Board<L>, L: Ledger>(
 /// | `fare TARIFF DRIVE CONSTANT` | the displays and refusals of the drive under the tariff |
 /// | `totals` | the totals of the store |
 /// | `seal TARIFF PARAMS` | `SEALED n`, with the number of the seal that is put in |
+/// | `run TARIFF DRIVE` | the displays, refusals and receipts of the drive on the sealed store |
+/// | `gen SEED N` | the totals that the generated drive of a seed and N trips comes to on a new store |
+/// | `offsets RULES FROM TO` | the `offset` lines of the rules for the years from FROM to TO, at most fifteen of 2000 to 2199 |
 ///
 /// | Status | Last line | Where |
 /// |---|---|---|
@@ -112,8 +127,9 @@ fn answer<F: Files, B: Board<L>, L: Ledger>(
 /// | 1 | `BAD WORDS` | exactly: the words are no command |
 /// | 2 | `BAD TARIFF` with `TooLong`, `Syntax n`, or the fault | exactly: the tariff has more than 65,536 bytes; its line n is the first that is no line of a tariff; this is its first fault |
 /// | 3 | `BAD DRIVE n`, `BAD DRIVE TOO LONG` | exactly: line n is the first that is no line of a drive; 2^40 bytes were taken, and the end wasn't told |
-/// | 4 | `NOT SEALED` | exactly, for `totals`: the store's pair of totals or of seals is blank |
-/// | 5 | `BAD STORE s`, `BAD STORE s t` | exactly, for a command that opens the store: slot s is open, and its body isn't read; slots s and t are open, with bodies of one number |
+/// | 4 | `NOT SEALED` | exactly, for `totals` and `run`: the store's pair of totals or of seals is blank |
+/// | 5 | `BAD STORE s`, `BAD STORE s t`, `BAD STORE TRIP` | exactly, for a command that opens the store: slot s is open, and its body isn't read; slots s and t are open, with bodies of one number; for `run`, the held trip doesn't fit the tariff |
+/// | 6 | `WRONG TARIFF x y` | exactly, for `run`: the sealed digest x and that of the tariff's text, y, differ |
 /// | 7 | `READ FAULT` | only where the count of faults of a file that the command reads rose |
 /// | 8 | none | only where the board's count of faults rose |
 /// | 9 | `BAD PARAMS` with the fault | exactly: the parameters have this first fault |
@@ -121,9 +137,10 @@ fn answer<F: Files, B: Board<L>, L: Ledger>(
 /// | 13 | `TRIP HELD` | exactly: the totals of the store hold a trip |
 /// | 14 | `SEAL ENDED` | exactly: the found seal has the last number, 10^15 |
 /// | 15 | `OTHER DECIMALS x y` | exactly: the found seal has x decimals, and the tariff y |
+/// | 17 | `BAD RULES` with `TooLong`, `BadLine n`, or `SameMonth` | exactly: the rules have more than 4,096 bytes; their line n is the first that isn't as it should be or is absent, or 5 where bytes follow the four; both changes are in one month |
 ///
 /// The words, the statuses and the lines are this project's own.
-#[tactic(auto, using(crate::proofs::Run::keeps_none, crate::proofs::Run::keeps_print, crate::proofs::Run::keeps_then))]
+#[tactic(auto, using(crate::proofs::BoardRuns::keeps_none, crate::proofs::BoardRuns::keeps_print, crate::proofs::BoardRuns::keeps_then))]
 pub fn taxi<F: Files, B: Board<L>, L: Ledger>(
     alloc: Global,
     words: &[String],
@@ -151,7 +168,8 @@ pub fn taxi<F: Files, B: Board<L>, L: Ledger>(
         → (result ≡ (command (map string_bytes words.now) (F.rest files.old) (B.image board.old)).status)
         ⊎ ((result ≡ 12) × (called (map string_bytes words.now)).may_lack (F.rest files.old) (B.image board.old)) }
 
-    // One step for the last line, one for each row of tables, and 64 for each event of a drive.
+    // One step for the last line, one for each row of tables, at most 31 for offsets, 64 for an opening of the store,
+    // and 64 for each event of a drive.
     ensures steps { (called (map string_bytes words.now)).steps F.tells (F.rest files.old) (F.rest files.new)
         steps.old steps.new }
 
@@ -160,10 +178,24 @@ pub fn taxi<F: Files, B: Board<L>, L: Ledger>(
     ensures unwritten { ¬ (called (map string_bytes words.now)).writes result
         → WritesNothing B.Board board.old board.new result }
 
-    // Sealing leaves what it says, at 0 and under any cut.
+    // Sealing leaves what it says at 0. A cut of the power from its opening sync on leaves the store that was found, or
+    // one amid the sealing; a cut before that sync has succeeded leaves what it might have left before the call. So
+    // where nothing was in flight before, a cut at any moment of the call leaves an image amid the sealing.
     ensures seals { row_of (map string_bytes words.now) ≡ Some Row.Seal → F.tells → B.tells_image
         → Seals B.Board (sealing_of (opening_of (B.image board.old)) (F.rest files.old 1) (F.rest files.old 2))
         board.old board.new result }
+    ensures settled { row_of (map string_bytes words.now) ≡ Some Row.Seal → F.tells → B.tells_image
+        → IsSettled B.Board board.old → LeavesOnly B.Board board.old board.new (λ left_image left_text. IsAmidOf
+        (sealing_of (opening_of (B.image board.old)) (F.rest files.old 1) (F.rest files.old 2))
+        (B.image board.old) left_image) }
+
+    // The headline. A run prints the displays, refusals and receipts that the tariff's text means for its drive, and no
+    // others; in the end the store has the state after all its commits. A cut of the power from the run's opening sync
+    // on leaves a place in the list of what the run does: the totals found are the opening ones plus the sums over the
+    // entries before that place, as many commits as the stored number says, and every hiring of whose receipt a byte
+    // was printed has its entry among them. `IsRun` says it clause by clause.
+    ensures runs { row_of (map string_bytes words.now) ≡ Some Row.Run → F.tells → B.tells_image
+        → IsRun F.Files B.Board files.old files.new board.old board.new result }
 {
     answer(alloc, words, files, board, steps)
 }

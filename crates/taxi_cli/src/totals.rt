@@ -11,10 +11,9 @@ ghost use Rattle.taxi_cli.specs.TotalsText.{position_at, positions_text, totals_
 ghost use Rattle.taxi_cli.specs.Unwritten.{KeepsBytes};
 
 use crate::ending::{Ended, refused_store};
-use crate::opening::{Opening, open_store};
+use crate::opening::{Opening, open_store, sealed_store};
 use crate::totals_text::{heading, position_line};
 use outside::{Board, Failed};
-use slot_store::Found;
 use std::sync::ledger::Ledger;
 use taxi_units::Steps;
 use totaliser_store::{Durable, Share};
@@ -49,17 +48,14 @@ fn sealed_totals(opening: Opening) -> Option<(Durable, u8)>
     ensures answer { result ≡ spec.sealed_totals opening.totals opening.seal }
     ensures range { IfSome result (λ sealed. sealed.1 ≤ 3) }
 {
-    match opening.totals {
-        Found::Blank => None,
-        Found::Latest { body: durable, .. } => match opening.seal {
-            Found::Blank => None,
-            Found::Latest { body: seal, .. } => Some((durable, seal.decimals)),
-        },
+    match sealed_store(opening) {
+        None => None,
+        Some((durable, seal)) => Some((durable, seal.decimals)),
     }
 }
 
 /// Prints totals.
-#[tactic(auto, using(crate::proofs::Run::keeps_none, crate::proofs::Run::keeps_print, crate::proofs::Run::keeps_then))]
+#[tactic(auto, using(crate::proofs::BoardRuns::keeps_none, crate::proofs::BoardRuns::keeps_print, crate::proofs::BoardRuns::keeps_then))]
 fn print_totals<B: Board<L>, L: Ledger>(
     durable: &Durable,
     decimals: u8,
@@ -81,7 +77,7 @@ fn print_totals<B: Board<L>, L: Ledger>(
 }
 
 /// Prints the lines of the tariff positions.
-#[tactic(auto, using(crate::proofs::Run::keeps_none, crate::proofs::Run::keeps_print, crate::proofs::Run::keeps_then))]
+#[tactic(auto, using(crate::proofs::BoardRuns::keeps_none, crate::proofs::BoardRuns::keeps_print, crate::proofs::BoardRuns::keeps_then))]
 fn print_positions<B: Board<L>, L: Ledger>(
     shares: &[Share; 9],
     decimals: u8,
@@ -104,7 +100,7 @@ fn print_positions<B: Board<L>, L: Ledger>(
 }
 
 /// Prints the line of the tariff position whose share is at a place, where it has hirings.
-#[tactic(auto, using(crate::proofs::Run::keeps_none, crate::proofs::Run::keeps_print, crate::proofs::Run::keeps_then))]
+#[tactic(auto, using(crate::proofs::BoardRuns::keeps_none, crate::proofs::BoardRuns::keeps_print, crate::proofs::BoardRuns::keeps_then))]
 fn print_position<B: Board<L>, L: Ledger>(
     shares: &[Share; 9],
     place: usize,

@@ -3,38 +3,37 @@ ghost use Rattle.std.specs.Prelude.{◌≡◌, ◌+◌, ◌<◌, ◌≤◌, ◌+
 ghost use Rattle.arrayvec.specs.ArrayVec.{array_vec_len};
 ghost use Rattle.taxi_cli.specs.TotalsText.{amount_line, distances_text, heading_text, held_line, money_lines, number_line, position_text, share_text, summary_text};
 
-use crate::text::{push, push_amount, push_number};
-use taxi_units::Line;
+use taxi_units::{Line, push_bytes, push_money, push_number};
 use totaliser_store::{Durable, Share, Totals, Trip};
 
 /// Appends a line of a name and a number.
-fn push_number_line(line: &mut Line, name: &[u8], number: u64)
-    requires { array_vec_len line.old + length name.now + 21 ≤ 512 }
+pub fn push_number_line(line: &mut Line, name: &[u8], number: u64)
+    requires { array_vec_len line.old + length name.now + 40 ≤ 512 }
     ensures text { line.new.items ≡ line.old.items ++ number_line name.now number }
-    ensures len { array_vec_len line.new ≤ array_vec_len line.old + length name.now + 21 }
+    ensures len { array_vec_len line.new ≤ array_vec_len line.old + length name.now + 40 }
 {
-    push(line, name);
-    push_number(line, number);
-    push(line, b"\n");
+    push_bytes(line, name);
+    push_number(line, number as u128);
+    push_bytes(line, b"\n");
 }
 
 /// Appends a line of a name, an amount and an end.
 fn push_amount_line(line: &mut Line, name: &[u8], amount: u128, decimals: u8, end: &[u8])
-    requires room { array_vec_len line.old + length name.now + 44 + length end.now ≤ 512 }
+    requires room { array_vec_len line.old + length name.now + 40 + length end.now ≤ 512 }
     requires decimals { decimals ≤ 3 }
     ensures text { line.new.items ≡ line.old.items ++ amount_line name.now decimals amount end.now }
-    ensures len { array_vec_len line.new ≤ array_vec_len line.old + length name.now + 44 + length end.now }
+    ensures len { array_vec_len line.new ≤ array_vec_len line.old + length name.now + 40 + length end.now }
 {
-    push(line, name);
-    push_amount(line, amount, decimals);
-    push(line, end);
+    push_bytes(line, name);
+    push_money(line, amount, decimals);
+    push_bytes(line, end);
 }
 
 /// Appends the distances.
 fn push_distances(line: &mut Line, totals: &Totals)
-    requires { array_vec_len line.old + 109 ≤ 512 }
+    requires { array_vec_len line.old + 101 ≤ 512 }
     ensures text { line.new.items ≡ line.old.items ++ distances_text totals.now }
-    ensures len { array_vec_len line.new ≤ array_vec_len line.old + 109 }
+    ensures len { array_vec_len line.new ≤ array_vec_len line.old + 101 }
 {
     push_amount_line(line, b"DISTANCE ", totals.distance_mm, 3, b" m\n");
     push_amount_line(line, b"HIRED ", totals.hired_mm, 3, b" m\n");
@@ -42,21 +41,21 @@ fn push_distances(line: &mut Line, totals: &Totals)
 
 /// Appends the money.
 fn push_money_lines(line: &mut Line, totals: &Totals, decimals: u8)
-    requires room { array_vec_len line.old + 107 ≤ 512 }
+    requires room { array_vec_len line.old + 99 ≤ 512 }
     requires decimals { decimals ≤ 3 }
     ensures text { line.new.items ≡ line.old.items ++ money_lines decimals totals.now }
-    ensures len { array_vec_len line.new ≤ array_vec_len line.old + 107 }
+    ensures len { array_vec_len line.new ≤ array_vec_len line.old + 99 }
 {
     push_amount_line(line, b"SUPPLEMENTS ", totals.supplements, decimals, b"\n");
     push_amount_line(line, b"FARE ", totals.fare, decimals, b"\n");
 }
 
 /// Appends the number and the five totals.
-fn push_summary(line: &mut Line, durable: &Durable, decimals: u8)
-    requires room { array_vec_len line.old + 273 ≤ 512 }
+pub fn push_summary(line: &mut Line, durable: &Durable, decimals: u8)
+    requires room { array_vec_len line.old + 295 ≤ 512 }
     requires decimals { decimals ≤ 3 }
     ensures text { line.new.items ≡ line.old.items ++ summary_text decimals durable.now }
-    ensures len { array_vec_len line.new ≤ array_vec_len line.old + 273 }
+    ensures len { array_vec_len line.new ≤ array_vec_len line.old + 295 }
 {
     push_number_line(line, b"NUMBER ", durable.number);
     push_distances(line, &durable.totals);
@@ -71,22 +70,22 @@ fn push_held(line: &mut Line, hold: &Option<Trip>)
     ensures len { array_vec_len line.new ≤ array_vec_len line.old + 9 }
 {
     match hold {
-        None => push(line, b"HELD no\n"),
-        Some(_) => push(line, b"HELD yes\n"),
+        None => push_bytes(line, b"HELD no\n"),
+        Some(_) => push_bytes(line, b"HELD yes\n"),
     }
 }
 
 /// Appends hirings and their fare.
 fn push_share(line: &mut Line, share: &Share, decimals: u8)
-    requires room { array_vec_len line.old + 66 ≤ 512 }
+    requires room { array_vec_len line.old + 81 ≤ 512 }
     requires decimals { decimals ≤ 3 }
     ensures text { line.new.items ≡ line.old.items ++ share_text decimals share.now }
-    ensures len { array_vec_len line.new ≤ array_vec_len line.old + 66 }
+    ensures len { array_vec_len line.new ≤ array_vec_len line.old + 81 }
 {
-    push_number(line, share.hirings);
-    push(line, b" ");
-    push_amount(line, share.fare, decimals);
-    push(line, b"\n");
+    push_number(line, share.hirings as u128);
+    push_bytes(line, b" ");
+    push_money(line, share.fare, decimals);
+    push_bytes(line, b"\n");
 }
 
 /// All lines of totals but those of the tariff positions.
@@ -99,7 +98,7 @@ pub fn heading(durable: &Durable, decimals: u8) -> Line
     push_summary(&mut line, durable, decimals);
     push_held(&mut line, &durable.hold);
     push_number_line(&mut line, b"LAYOUT ", durable.layout as u64);
-    push(&mut line, b"BEFORE ");
+    push_bytes(&mut line, b"BEFORE ");
     push_share(&mut line, &durable.totals.before, decimals);
     line
 }
@@ -113,9 +112,9 @@ pub fn position_line(position: u64, share: &Share, decimals: u8) -> Line
     ensures some { 0 < array_vec_len result }
 {
     let mut line = Line::new();
-    push(&mut line, b"POSITION ");
-    push_number(&mut line, position);
-    push(&mut line, b" ");
+    push_bytes(&mut line, b"POSITION ");
+    push_number(&mut line, position as u128);
+    push_bytes(&mut line, b" ");
     push_share(&mut line, share, decimals);
     line
 }

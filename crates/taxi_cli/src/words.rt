@@ -1,11 +1,43 @@
 //! The words of a command.
-ghost use Rattle.std.specs.Prelude.{◌≡◌, ℕ, ◌≤◌, Some, map, string_bytes};
+ghost use Rattle.std.specs.Prelude.{◌≡◌, ℕ, ◌≤◌, ◌==◌, Some, length, map, string_bytes};
+ghost use Rattle.std.specs.Str.Parse.{digits_value};
+ghost use Rattle.taxi_units.specs.Number.{digits_at_front};
 ghost use Rattle.taxi_units.specs.Reading.{Gives};
-ghost use Rattle.taxi_cli.specs.Words.{constant_of, row_of};
+ghost use Rattle.taxi_cli.specs.Words.{constant_of, fitting, row_of, seed_of, trips_of};
 ghost use Rattle.taxi_cli.specs.Words as spec;
 
+use crate::years::Years;
 use pulse_input::Constant;
+use std::marker::Model;
 use taxi_units::number_at;
+
+/// How many trips a generated drive has: 1 to 1,000.
+#[derive(Clone, Copy, Debug)]
+pub struct Trips {
+    count: u32,
+}
+
+impl Model for Trips {
+    ghost use Rattle.std.specs.Prelude.{ℕ, ◌≤◌};
+
+    ghost Value = { ℕ };
+
+    ghost view = { λ t. t.count };
+
+    ghost inverse = { λ n. record { count = n } };
+
+    ghost invariant = { λ t. (1 ≤ t.count) × (t.count ≤ 1000) };
+}
+
+impl Trips {
+    /// Their number.
+    pub fn get(&self) -> u32
+        ensures value { result ≡ self.now }
+        ensures range { (1 ≤ result) × (result ≤ 1000) }
+    {
+        self.count
+    }
+}
 
 /// A command that the program knows.
 #[derive(Clone, Copy, Debug)]
@@ -20,6 +52,12 @@ pub enum Row {
     Totals,
     /// `seal TARIFF PARAMS`
     Seal,
+    /// `run TARIFF DRIVE`
+    Run,
+    /// `gen SEED N`
+    Gen(u64, Trips),
+    /// `offsets RULES FROM TO`
+    Offsets(Years),
 }
 
 /// The constant that a word is: 1 to 6 digits, 500 to 200,000.
@@ -30,6 +68,61 @@ fn constant(word: &[u8]) -> Option<Constant>
     let (k, rest) = number_at(word)?;
     if rest.is_empty() && word.len() <= 6 && 500 <= k && k <= 200_000 {
         Constant::new(k as u32).ok()
+    } else {
+        None
+    }
+}
+
+/// Whether a word is of digits alone.
+fn are_digits(word: &[u8]) -> bool
+    ensures { result ≡ (digits_at_front word.now == length word.now) }
+{
+    for byte in word {
+        if !byte.is_ascii_digit() {
+            return false;
+        }
+    }
+    true
+}
+
+/// The number that digits make, where 64 bits hold it.
+fn number_of(digits: &[u8]) -> Option<u64>
+    requires { digits_at_front digits.now ≡ length digits.now }
+    ensures { result ≡ fitting (digits_value 10 digits.now) }
+{
+    let mut number = 0u64;
+    for byte in digits {
+        let next = number as u128 * 10 + (*byte - b'0') as u128;
+        if next > u64::MAX as u128 {
+            return None;
+        }
+        number = next as u64;
+    }
+    Some(number)
+}
+
+/// The seed that a word is: 1 to 20 digits, whose number 64 bits hold.
+#[tactic(auto, unfolding(crate::specs::Words::seed_of))]
+fn seed(word: &[u8]) -> Option<u64>
+    ensures { result ≡ seed_of word.now }
+{
+    if 1 <= word.len() && word.len() <= 20 && are_digits(word) {
+        number_of(word)
+    } else {
+        None
+    }
+}
+
+/// The number of trips that a word is: 1 to 4 digits, 1 to 1,000.
+#[tactic(auto, unfolding(crate::specs::Words::trips_of))]
+fn trip_count(word: &[u8]) -> Option<Trips>
+    ensures { Gives (λ n. n) result (trips_of word.now) }
+{
+    let (count, rest) = number_at(word)?;
+    if rest.is_empty() && word.len() <= 4 && 1 <= count && count <= 1000 {
+        Some(Trips {
+            count: count as u32,
+        })
     } else {
         None
     }
@@ -65,24 +158,30 @@ fn two_words(command: &[u8]) -> Option<Row>
 }
 
 /// The command of three words.
-fn three_words(command: &[u8], last: &[u8]) -> Option<Row>
-    ensures { result ≡ spec.three_words command.now last.now }
+fn three_words(command: &[u8], middle: &[u8], last: &[u8]) -> Option<Row>
+    ensures { result ≡ spec.three_words command.now middle.now last.now }
 {
     if is_word(command, b"tables") {
         Some(Row::Tables(constant(last)?))
     } else if is_word(command, b"seal") {
         Some(Row::Seal)
+    } else if is_word(command, b"run") {
+        Some(Row::Run)
+    } else if is_word(command, b"gen") {
+        Some(Row::Gen(seed(middle)?, trip_count(last)?))
     } else {
         None
     }
 }
 
 /// The command of four words.
-fn four_words(command: &[u8], last: &[u8]) -> Option<Row>
-    ensures { result ≡ spec.four_words command.now last.now }
+fn four_words(command: &[u8], third: &[u8], last: &[u8]) -> Option<Row>
+    ensures { result ≡ spec.four_words command.now third.now last.now }
 {
     if is_word(command, b"fare") {
         Some(Row::Fare(constant(last)?))
+    } else if is_word(command, b"offsets") {
+        Some(Row::Offsets(Years::of(third, last)?))
     } else {
         None
     }
@@ -95,8 +194,12 @@ pub fn row_in(words: &[String]) -> Option<Row>
     match words {
         [command] => one_word(command.as_bytes()),
         [command, _] => two_words(command.as_bytes()),
-        [command, _, last] => three_words(command.as_bytes(), last.as_bytes()),
-        [command, _, _, last] => four_words(command.as_bytes(), last.as_bytes()),
+        [command, middle, last] => {
+            three_words(command.as_bytes(), middle.as_bytes(), last.as_bytes())
+        }
+        [command, _, third, last] => {
+            four_words(command.as_bytes(), third.as_bytes(), last.as_bytes())
+        }
         _ => None,
     }
 }

@@ -8,7 +8,7 @@ returns-in-TooManyCuts-clause-text c =
     let old = c.args.line.now.items in
     let name = codes "TooManyCuts " in
     let count = c.in-TooManyCuts.count in
-    let first : c.push-in-TooManyCuts.new.line.items ≡ old ++ name = c.push-in-TooManyCuts.ensures.text in
+    let first : c.push_bytes-in-TooManyCuts.new.line.items ≡ old ++ name = c.push_bytes-in-TooManyCuts.ensures.text in
     c.push_numbered-in-TooManyCuts.ensures.text
     ∙ ap (λ (t : List ℕ). t ++ numbered c.dimension_name.result.now count) first
     ∙ append_assoc old name (numbered c.dimension_name.result.now count)

@@ -13,7 +13,8 @@ use Rattle.taxi_cli.specs.Opening.{opening_of}
 use Rattle.taxi_cli.specs.Seal.{IsNoSeal, seal_answer, seal_command, seal_read, sealing_of}
 use Rattle.taxi_cli.proofs.Answering.{board_fault-store, comes-board, comes-store, not_read-store}
 use Rattle.taxi_cli.proofs.Openings.{no_fault, same_fault}
-use Rattle.taxi_cli.proofs.Sealings.{barred-fault, comes-barred, comes-no_seal, comes-sealed, is_sealed, not_0-barred, not_0-no_seal, not_0-store, rests-placed, rests-read, sealing-barred, sealing-over, seals-placed, seals-read}
+use Rattle.taxi_cli.proofs.Sealings.{barred-fault, comes-barred, comes-no_seal, comes-sealed, not_0-barred, not_0-no_seal, not_0-store, sealing-barred, sealing-over}
+use Rattle.taxi_cli.proofs.Amid.{amid_already, is_sealed, rests-placed, rests-read, seals-placed, seals-read}
 use Rattle.taxi_cli.proofs.Unwritten.{bytes-read}
 use Rattle.taxi_cli.proofs.seal.seal_store.Goals as goal
 
@@ -33,10 +34,20 @@ returns-in-Err-clause-ends g c = λ read tells.
 
 pub returns-in-Err-clause-seals : goal.returns-in-Err-clause-seals
 returns-in-Err-clause-seals g c = λ read tells.
-    seals-read g.B.Board _ c.args.board.now c.open_store.new.board _ (λ z. not_0-store c.in-Err.fault (ap status_of (sym c.refused_store.ensures) ∙ z)) c.open_store.ensures.reads
+    let rest = g.F.Files.rest in
+    let fault = c.in-Err.fault in
+    seals-read g.B.Board _ (c.open_store.result ≡ Err stores.BoardFault) c.args.board.now c.open_store.new.board _
+    (amid_already (g.B.Board.image c.args.board.now) (rest c.args.files.now 1) (rest c.args.files.now 2))
+    (λ z. not_0-store fault (ap status_of (sym c.refused_store.ensures) ∙ z))
+    (λ e. ap status_of (c.refused_store.ensures ∙ ap store_ended (same_fault c.open_store.result fault stores.BoardFault c.in-Err.is e)))
+    (c.open_store.ensures.synced tells)
 
 pub returns-in-Err-clause-rests : goal.returns-in-Err-clause-rests
-returns-in-Err-clause-rests g c = λ read tells good. rests-read g.B.Board _ c.args.board.now c.open_store.new.board c.open_store.ensures.reads
+returns-in-Err-clause-rests g c = λ read tells good.
+    let rest = g.F.Files.rest in
+    let went : ¬ (c.open_store.result ≡ Err stores.BoardFault) = λ e. good (c.refused_store.ensures ∙ ap store_ended (same_fault c.open_store.result c.in-Err.fault stores.BoardFault c.in-Err.is e)) in
+    rests-read g.B.Board _ (g.B.Board.image c.args.board.now) c.open_store.new.board
+    (amid_already (g.B.Board.image c.args.board.now) (rest c.args.files.now 1) (rest c.args.files.now 2)) (c.open_store.ensures.same went) (c.open_store.ensures.settled tells went)
 
 pub returns-in-Err-clause-unwritten : goal.returns-in-Err-clause-unwritten
 returns-in-Err-clause-unwritten g c = λ good not_0. bytes-read g.B.Board c.args.board.now c.open_store.new.board c.open_store.ensures.reads
@@ -65,10 +76,18 @@ returns-in-Err-base_of-clause-ends g c = λ read tells.
 
 pub returns-in-Err-base_of-clause-seals : goal.returns-in-Err-base_of-clause-seals
 returns-in-Err-base_of-clause-seals g c = λ read tells.
-    seals-read g.B.Board _ c.args.board.now c.open_store.new.board _ (not_0-barred c.in-Err-base_of.ended (c.base_of.ensures.refused c.in-Err-base_of.ended c.in-Err-base_of.is)) c.open_store.ensures.reads
+    let rest = g.F.Files.rest in
+    let went : ¬ (c.open_store.result ≡ Err stores.BoardFault) = no_fault c.open_store.result c.in-Ok.opening stores.BoardFault c.in-Ok.is in
+    seals-read g.B.Board _ (c.open_store.result ≡ Err stores.BoardFault) c.args.board.now c.open_store.new.board _
+    (amid_already (g.B.Board.image c.args.board.now) (rest c.args.files.now 1) (rest c.args.files.now 2))
+    (not_0-barred c.in-Err-base_of.ended (c.base_of.ensures.refused c.in-Err-base_of.ended c.in-Err-base_of.is)) (λ e. absurd (went e)) (c.open_store.ensures.synced tells)
 
 pub returns-in-Err-base_of-clause-rests : goal.returns-in-Err-base_of-clause-rests
-returns-in-Err-base_of-clause-rests g c = λ read tells good. rests-read g.B.Board _ c.args.board.now c.open_store.new.board c.open_store.ensures.reads
+returns-in-Err-base_of-clause-rests g c = λ read tells good.
+    let rest = g.F.Files.rest in
+    let went : ¬ (c.open_store.result ≡ Err stores.BoardFault) = no_fault c.open_store.result c.in-Ok.opening stores.BoardFault c.in-Ok.is in
+    rests-read g.B.Board _ (g.B.Board.image c.args.board.now) c.open_store.new.board
+    (amid_already (g.B.Board.image c.args.board.now) (rest c.args.files.now 1) (rest c.args.files.now 2)) (c.open_store.ensures.same went) (c.open_store.ensures.settled tells went)
 
 pub returns-in-Err-base_of-clause-unwritten : goal.returns-in-Err-base_of-clause-unwritten
 returns-in-Err-base_of-clause-unwritten g c = λ good not_0. bytes-read g.B.Board c.args.board.now c.open_store.new.board c.open_store.ensures.reads
@@ -104,12 +123,18 @@ returns-in-Err-read_seal-clause-seals g c = λ read tells.
     let rest = g.F.Files.rest in
     let faults = g.F.Files.faults in
     let end = c.in-Err-read_seal.ended in
-    seals-read g.B.Board _ c.args.board.now c.open_store.new.board _
+    let went : ¬ (c.open_store.result ≡ Err stores.BoardFault) = no_fault c.open_store.result c.in-Ok.opening stores.BoardFault c.in-Ok.is in
+    seals-read g.B.Board _ (c.open_store.result ≡ Err stores.BoardFault) c.args.board.now c.open_store.new.board _
+    (amid_already (g.B.Board.image c.args.board.now) (rest c.args.files.now 1) (rest c.args.files.now 2))
     (not_0-no_seal _ c.in-Ok-base_of.base.decimals (rest c.args.files.now 1) (rest c.args.files.now 2) (λ word. Rose (faults c.args.files.now word) (faults c.read_seal.new.files word)) end
-    (c.read_seal.ensures.refused end read c.in-Err-read_seal.is)) c.open_store.ensures.reads
+    (c.read_seal.ensures.refused end read c.in-Err-read_seal.is)) (λ e. absurd (went e)) (c.open_store.ensures.synced tells)
 
 pub returns-in-Err-read_seal-clause-rests : goal.returns-in-Err-read_seal-clause-rests
-returns-in-Err-read_seal-clause-rests g c = λ read tells good. rests-read g.B.Board _ c.args.board.now c.open_store.new.board c.open_store.ensures.reads
+returns-in-Err-read_seal-clause-rests g c = λ read tells good.
+    let rest = g.F.Files.rest in
+    let went : ¬ (c.open_store.result ≡ Err stores.BoardFault) = no_fault c.open_store.result c.in-Ok.opening stores.BoardFault c.in-Ok.is in
+    rests-read g.B.Board _ (g.B.Board.image c.args.board.now) c.open_store.new.board
+    (amid_already (g.B.Board.image c.args.board.now) (rest c.args.files.now 1) (rest c.args.files.now 2)) (c.open_store.ensures.same went) (c.open_store.ensures.settled tells went)
 
 pub returns-in-Err-read_seal-clause-unwritten : goal.returns-in-Err-read_seal-clause-unwritten
 returns-in-Err-read_seal-clause-unwritten g c = λ good not_0. bytes-read g.B.Board c.args.board.now c.open_store.new.board c.open_store.ensures.reads
@@ -171,7 +196,8 @@ returns-in-Ok-place_seal-clause-seals g c = λ read tells.
     let found : FoundSeal g.B.Board c.open_store.new.board base.found (old_seal opening.seal) =
     subst (λ (f : Option (Place × ℕ)). FoundSeal g.B.Board c.open_store.new.board f (old_seal opening.seal)) (sym c.in-Ok-base_of.ensures.found)
     (seal_is_found g.B.Board c.open_store.new.board opening.seal (c.in-Ok.ensures.opened tells).seal) in
-    seals-placed g.B.Board _ s c.args.board.now c.open_store.new.board c.place_seal.new.board _ is c.open_store.ensures.reads
+    seals-placed g.B.Board _ s (c.open_store.result ≡ Err stores.BoardFault) c.args.board.now c.open_store.new.board c.place_seal.new.board _ is
+    (amid_already image (rest c.args.files.now 1) (rest c.args.files.now 2)) (no_fault c.open_store.result opening stores.BoardFault c.in-Ok.is) (c.open_store.ensures.synced tells)
     (c.place_seal.ensures.any_moment tells (old_seal opening.seal) found) (λ z. is_sealed g.B.Board s c.place_seal.new.board (c.in-Ok-place_seal.ensures.sealed tells))
 
 pub returns-in-Ok-place_seal-clause-rests : goal.returns-in-Ok-place_seal-clause-rests
@@ -188,7 +214,7 @@ returns-in-Ok-place_seal-clause-rests g c = λ read tells good.
     subst (λ (n : ℕ). seal_read n base.decimals (rest c.args.files.now 1) (rest c.args.files.now 2) ≡ Ok seal) c.number_after-number.ensures.value (c.in-Ok-read_seal.ensures.read read) in
     let is : sealing_of (opening_of image) (rest c.args.files.now 1) (rest c.args.files.now 2) ≡ Ok s =
     sealing-over (opening_of image) opening base (rest c.args.files.now 1) (rest c.args.files.now 2) (Ok seal) opened (sym c.base_of.ensures.answer ∙ c.in-Ok-base_of.is) made in
-    rests-placed g.B.Board _ s c.args.board.now c.place_seal.new.board is (c.in-Ok-place_seal.ensures.sealed tells)
+    rests-placed g.B.Board _ s image c.place_seal.new.board is (c.in-Ok-place_seal.ensures.sealed tells)
 
 pub returns-in-Err-place_seal-clause-ends : goal.returns-in-Err-place_seal-clause-ends
 returns-in-Err-place_seal-clause-ends g c = λ read tells.
@@ -216,7 +242,8 @@ returns-in-Err-place_seal-clause-seals g c = λ read tells.
     let found : FoundSeal g.B.Board c.open_store.new.board base.found (old_seal opening.seal) =
     subst (λ (f : Option (Place × ℕ)). FoundSeal g.B.Board c.open_store.new.board f (old_seal opening.seal)) (sym c.in-Ok-base_of.ensures.found)
     (seal_is_found g.B.Board c.open_store.new.board opening.seal (c.in-Ok.ensures.opened tells).seal) in
-    seals-placed g.B.Board _ s c.args.board.now c.open_store.new.board c.place_seal.new.board _ is c.open_store.ensures.reads
+    seals-placed g.B.Board _ s (c.open_store.result ≡ Err stores.BoardFault) c.args.board.now c.open_store.new.board c.place_seal.new.board _ is
+    (amid_already image (rest c.args.files.now 1) (rest c.args.files.now 2)) (no_fault c.open_store.result opening stores.BoardFault c.in-Ok.is) (c.open_store.ensures.synced tells)
     (c.place_seal.ensures.any_moment tells (old_seal opening.seal) found) (λ z. absurd cc)
 
 pub returns-in-Err-place_seal-clause-rests : goal.returns-in-Err-place_seal-clause-rests

@@ -1,41 +1,41 @@
-use Rattle.std.proofs.Common.{◌≡◌, ◌∙◌, arith, subst, Some}
+use Rattle.std.proofs.Common.{◌≡◌, ◌∙◌, subst, Some}
 use Rattle.std.specs.Prelude.{Option}
-use Rattle.outside.specs.Faults.{Rose}
+use Rattle.outside.specs.Runs.{KeepsStore}
+use Rattle.outside.proofs.Laws.{keeps_then}
 use Rattle.taxi_cli.specs.declared.words.Row.{Row}
+use Rattle.taxi_cli.specs.declared.words.Row.TheVariants as rows
 use Rattle.taxi_cli.specs.Call.{IsCall}
 use Rattle.taxi_cli.specs.Command.{command_of}
-use Rattle.taxi_cli.specs.Ending.{ComesOn}
-use Rattle.taxi_cli.proofs.Endings.{ends-with, finishes-later, may-then}
-use Rattle.taxi_cli.specs.declared.words.Row.TheVariants as rows
-use Rattle.taxi_cli.proofs.Sealings.{seals-finished}
+use Rattle.taxi_cli.specs.Run.{run_command}
+use Rattle.taxi_cli.specs.Unwritten.{WritesNothing}
+use Rattle.taxi_cli.proofs.Amid.{seals-finished}
+use Rattle.taxi_cli.proofs.Calls.{call_course, call_from, nothing_written}
+use Rattle.taxi_cli.proofs.RunEnds.{run-finished}
+use Rattle.taxi_cli.proofs.Unwritten.{bytes-kept, bytes-then}
 use Rattle.taxi_cli.proofs.top.answer.Goals as goal
 
 is_seal : (row : Row) → Some row ≡ Some rows.Seal → row ≡ rows.Seal
 is_seal row e = cc
 
+is_run : (row : Row) → Some row ≡ Some rows.Run → row ≡ rows.Run
+is_run row e = cc
+
 pub returns-in-Some-clause-call : goal.returns-in-Some-clause-call
 returns-in-Some-clause-call g c =
-    let rest = g.F.Files.rest in
-    let printed = g.B.Board.printed in
-    let faults = g.B.Board.faults in
-    let old = c.args.board.now in
-    let mid = c.carry_out-ended.new.board in
-    let new = c.finish-in-Some.new.board in
-    let command = command_of (Some c.in-Some.row) in
-    let more : Rose (faults old) (faults mid) → Rose (faults old) (faults new) = λ rose. omega (arith, rose, c.finish-in-Some.ensures.count) in
-    let later : Rose (faults mid) (faults new) → Rose (faults old) (faults new) = λ rose. omega (arith, rose, c.carry_out-ended.ensures.count) in
     subst (λ (o : Option Row). (command_of o).known g.F.Files.tells g.B.Board.tells_image
-    → IsCall g.F.Files g.B.Board (command_of o) c.args.files.now c.carry_out-ended.new.files old new c.finish-in-Some.result)
+    → IsCall g.F.Files g.B.Board (command_of o) c.args.files.now c.carry_out-ended.new.files c.args.board.now c.finish-in-Some.new.board c.finish-in-Some.result)
     c.in-Some.ensures
-    (λ known.
-    let h : ComesOn g.F.Files g.B.Board command c.args.files.now c.carry_out-ended.new.files old mid c.carry_out-ended.result = c.carry_out-ended.ensures.ends known in
-    record {
-      course = h.course;
-      may = may-then command (rest c.args.files.now) (rest c.carry_out-ended.new.files) (g.B.Board.image old) _ (Rose (faults old) (faults mid)) (Rose (faults old) (faults new)) more h.course h.may;
-      ends = ends-with command (rest c.args.files.now) (rest c.carry_out-ended.new.files) (g.B.Board.image old) _ (Rose (faults old) (faults mid)) (Rose (faults old) (faults new)) g.B.Board.tells_text
-          (printed old) (printed mid) (printed new) c.carry_out-ended.result c.finish-in-Some.result h more
-          (finishes-later g.B.Board.tells_text (Rose (faults mid) (faults new)) (Rose (faults old) (faults new)) c.carry_out-ended.result c.finish-in-Some.result (printed mid) (printed new) later c.finish-in-Some.ensures.ends);
-    })
+    (λ known. call_from g.F.Files g.B.Board c.args.files.now c.carry_out-ended.new.files c.args.board.now c.carry_out-ended.new.board c.finish-in-Some.new.board
+    c.carry_out-ended.result c.finish-in-Some.result c.carry_out-ended.ensures.count c.finish-in-Some.ensures.count c.finish-in-Some.ensures.ends
+    (command_of (Some c.in-Some.row)) (c.carry_out-ended.ensures.ends known))
+
+pub returns-in-Some-clause-unwritten : goal.returns-in-Some-clause-unwritten
+returns-in-Some-clause-unwritten g c =
+    subst (λ (o : Option Row). ¬ ((command_of o).writes c.finish-in-Some.result) → WritesNothing g.B.Board c.args.board.now c.finish-in-Some.new.board c.finish-in-Some.result)
+    c.in-Some.ensures
+    (nothing_written g.F.Files g.B.Board c.args.files.now c.carry_out-ended.new.files c.args.board.now c.carry_out-ended.new.board c.finish-in-Some.new.board
+    c.carry_out-ended.result c.finish-in-Some.result c.carry_out-ended.ensures.count c.finish-in-Some.ensures.count c.finish-in-Some.ensures.ends
+    c.in-Some.row c.finish-in-Some.ensures.store c.carry_out-ended.ensures.unwritten c.carry_out-ended.ensures.same)
 
 pub returns-in-Some-clause-seals : goal.returns-in-Some-clause-seals
 returns-in-Some-clause-seals g c = λ e read tells.
@@ -44,8 +44,33 @@ returns-in-Some-clause-seals g c = λ e read tells.
     let mid = c.carry_out-ended.new.board in
     let new = c.finish-in-Some.new.board in
     let row : c.in-Some.row ≡ rows.Seal = is_seal c.in-Some.row (c.in-Some.ensures ∙ e) in
-    seals-finished g.B.Board _ old mid new c.carry_out-ended.result c.finish-in-Some.result g.B.Board.tells_text _ _ (printed mid) (printed new)
+    seals-finished g.B.Board _ old mid new c.carry_out-ended.result c.finish-in-Some.result g.B.Board.tells_text _ (printed mid) (printed new)
     (c.carry_out-ended.ensures.seals row read tells) (c.carry_out-ended.ensures.rests row read tells) c.finish-in-Some.ensures.store c.finish-in-Some.ensures.silent c.finish-in-Some.ensures.ends
 
 pub returns-in-None-clause-seals : goal.returns-in-None-clause-seals
 returns-in-None-clause-seals g c = λ e. let none = c.in-None.ensures in absurd cc
+
+pub returns-in-Some-clause-runs : goal.returns-in-Some-clause-runs
+returns-in-Some-clause-runs g c = λ e read tells.
+    let files = c.args.files.now in
+    let files' = c.carry_out-ended.new.files in
+    let old = c.args.board.now in
+    let mid = c.carry_out-ended.new.board in
+    let new = c.finish-in-Some.new.board in
+    let end = c.carry_out-ended.result in
+    let status = c.finish-in-Some.result in
+    let row : c.in-Some.row ≡ rows.Run = is_run c.in-Some.row (c.in-Some.ensures ∙ e) in
+    let comes = c.carry_out-ended.ensures.runs row read tells in
+    let call = call_from g.F.Files g.B.Board files files' old mid new end status c.carry_out-ended.ensures.count c.finish-in-Some.ensures.count c.finish-in-Some.ensures.ends run_command comes.comes in
+    run-finished g.F.Files g.B.Board files files' old mid new end status comes c.finish-in-Some.ensures.store c.finish-in-Some.ensures.leaves c.finish-in-Some.ensures.silent
+    call (call_course g.F.Files g.B.Board files files' old mid new end status c.carry_out-ended.ensures.count c.finish-in-Some.ensures.count c.finish-in-Some.ensures.ends run_command comes.comes)
+    c.finish-in-Some.ensures.ends (λ bytes. bytes-then g.B.Board old mid new bytes (bytes-kept g.B.Board mid new c.finish-in-Some.ensures.store))
+
+pub returns-in-None-clause-runs : goal.returns-in-None-clause-runs
+returns-in-None-clause-runs g c = λ e. let none = c.in-None.ensures in absurd cc
+
+pub returns-in-Some-clause-kept : goal.returns-in-Some-clause-kept
+returns-in-Some-clause-kept g c =
+    subst (λ (o : Option Row). ¬ ((command_of o).opens) → KeepsStore g.B.Board c.args.board.now c.finish-in-Some.new.board)
+    c.in-Some.ensures
+    (λ not. keeps_then g.B.Board c.args.board.now c.carry_out-ended.new.board c.finish-in-Some.new.board (c.carry_out-ended.ensures.kept not) c.finish-in-Some.ensures.store)

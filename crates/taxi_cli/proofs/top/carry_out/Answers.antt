@@ -1,4 +1,7 @@
+use Rattle.std.proofs.Common.{ℕ, subst}
+use Rattle.taxi_cli.specs.Ending.{ComesOn}
 use Rattle.taxi_cli.specs.Check.{check_command}
+use Rattle.taxi_cli.specs.Generate.{gen_command}
 use Rattle.taxi_cli.specs.Totals.{totals_command}
 use Rattle.taxi_cli.proofs.Endings.{comes-unprinted, comes-unread}
 use Rattle.taxi_cli.proofs.top.carry_out.Goals as goal
@@ -45,3 +48,54 @@ returns-in-Fare-clause-seals g c = λ e. let is = c.in-Fare.is in absurd cc
 
 pub returns-in-Fare-clause-rests : goal.returns-in-Fare-clause-rests
 returns-in-Fare-clause-rests g c = λ e. let is = c.in-Fare.is in absurd cc
+
+pub returns-in-Run-clause-ends : goal.returns-in-Run-clause-ends
+returns-in-Run-clause-ends g c = rw c.in-Run.is (λ known. (c.run.ensures.runs known.0 known.1).comes)
+
+pub returns-in-Run-clause-seals : goal.returns-in-Run-clause-seals
+returns-in-Run-clause-seals g c = λ e. let is = c.in-Run.is in absurd cc
+
+pub returns-in-Run-clause-rests : goal.returns-in-Run-clause-rests
+returns-in-Run-clause-rests g c = λ e. let is = c.in-Run.is in absurd cc
+
+pub returns-in-Check-clause-runs : goal.returns-in-Check-clause-runs
+returns-in-Check-clause-runs g c = λ e. let is = c.in-Check.is in absurd cc
+
+pub returns-in-Tables-clause-runs : goal.returns-in-Tables-clause-runs
+returns-in-Tables-clause-runs g c = λ e. let is = c.in-Tables.is in absurd cc
+
+pub returns-in-Fare-clause-runs : goal.returns-in-Fare-clause-runs
+returns-in-Fare-clause-runs g c = λ e. let is = c.in-Fare.is in absurd cc
+
+pub returns-in-Totals-clause-runs : goal.returns-in-Totals-clause-runs
+returns-in-Totals-clause-runs g c = λ e. let is = c.in-Totals.is in absurd cc
+
+pub returns-in-Seal-clause-runs : goal.returns-in-Seal-clause-runs
+returns-in-Seal-clause-runs g c = λ e. let is = c.in-Seal.is in absurd cc
+
+pub returns-in-Gen-clause-ends : goal.returns-in-Gen-clause-ends
+returns-in-Gen-clause-ends g c =
+    let rest = g.F.Files.rest in
+    let image = g.B.Board.image c.args.board.now in
+    rw c.in-Gen.is
+    (λ known. subst (λ (n : ℕ). ComesOn g.F.Files g.B.Board (gen_command c.in-Gen.seed n) c.args.files.now c.args.files.now c.args.board.now c.generate.new.board c.generate.result) c.get.ensures.value
+    (comes-unread (gen_command c.in-Gen.seed c.get.result) (rest c.args.files.now) (rest c.args.files.now) image _ _ _ _ c.generate.result
+    (c.generate.ensures.ends (rest c.args.files.now) (rest c.args.files.now))))
+
+pub returns-in-Gen-clause-seals : goal.returns-in-Gen-clause-seals
+returns-in-Gen-clause-seals g c = λ e. let is = c.in-Gen.is in absurd cc
+
+pub returns-in-Gen-clause-rests : goal.returns-in-Gen-clause-rests
+returns-in-Gen-clause-rests g c = λ e. let is = c.in-Gen.is in absurd cc
+
+pub returns-in-Gen-clause-runs : goal.returns-in-Gen-clause-runs
+returns-in-Gen-clause-runs g c = λ e. let is = c.in-Gen.is in absurd cc
+
+pub returns-in-Offsets-clause-seals : goal.returns-in-Offsets-clause-seals
+returns-in-Offsets-clause-seals g c = λ e. let is = c.in-Offsets.is in absurd cc
+
+pub returns-in-Offsets-clause-rests : goal.returns-in-Offsets-clause-rests
+returns-in-Offsets-clause-rests g c = λ e. let is = c.in-Offsets.is in absurd cc
+
+pub returns-in-Offsets-clause-runs : goal.returns-in-Offsets-clause-runs
+returns-in-Offsets-clause-runs g c = λ e. let is = c.in-Offsets.is in absurd cc

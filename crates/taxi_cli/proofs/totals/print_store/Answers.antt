@@ -1,17 +1,16 @@
-use Rattle.std.proofs.Common.{◌≡◌, ◌≢◌, ◌∙◌, ◌++◌, ◌≤◌, ℕ, List, [], Result, Option, Some, None, Ok, Err, refl, sym, ap, subst, arith}
+use Rattle.std.proofs.Common.{◌∙◌, ◌++◌, ℕ, List, Some, None, Err, refl, sym, ap, subst, arith}
 use Rattle.std.specs.Prelude.{is_err}
 use Rattle.taxi_cli.specs.declared.ending.Ended.{Ended}
 use Rattle.taxi_cli.specs.declared.ending.Ended.TheVariants as ended
 use Rattle.taxi_cli.specs.declared.opening.StoreFault.TheVariants as stores
 use Rattle.taxi_cli.specs.Ending.{ComesFrom, store_ended}
-use Rattle.taxi_cli.specs.Opening.{opening_of}
 use Rattle.outside.specs.Printing.{Begins}
 use Rattle.taxi_cli.specs.Totals.{totals_answer, totals_command}
 use Rattle.taxi_cli.specs.TotalsText.{totals_text}
 use Rattle.taxi_cli.proofs.Answering.{board_fault-store, comes-refusal, comes-store, not_read-store}
 use Rattle.taxi_cli.proofs.Openings.{no_fault, same_fault}
 use Rattle.taxi_cli.proofs.Totalling.{answer-sealed, comes-totals, comes-totals_begun}
-use Rattle.taxi_cli.proofs.Unwritten.{bytes-kept, bytes-read, bytes-then}
+use Rattle.taxi_cli.proofs.Unwritten.{bytes-read}
 use Rattle.taxi_cli.proofs.totals.print_store.Goals as goal
 
 pub returns-in-Err-clause-ends : goal.returns-in-Err-clause-ends

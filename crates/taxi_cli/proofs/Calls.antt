@@ -1,0 +1,72 @@
+-- A call, from how its command came to its last line, and that line.
+use Rattle.std.proofs.Common.{◌≡◌, ◌≢◌, inl, inr, ℕ, ◌≤◌, Some, refl, sym, ap, subst, ◌∙◌, arith}
+use Rattle.outside.specs.declared.board.Board.{Ghosts}
+use Rattle.outside.specs.declared.files.Files.{Ghosts as FileGhosts}
+use Rattle.outside.specs.Faults.{Rose}
+use Rattle.outside.specs.Runs.{KeepsStore}
+use Rattle.taxi_cli.specs.declared.ending.Ended.{Ended}
+use Rattle.taxi_cli.specs.declared.ending.Ended.TheVariants as ended
+use Rattle.taxi_cli.specs.declared.words.Row.{Row}
+use Rattle.taxi_cli.specs.declared.words.Row.TheVariants as rows
+use Rattle.taxi_cli.specs.Call.{IsCall, IsEnd}
+use Rattle.taxi_cli.specs.Command.{command_of}
+use Rattle.taxi_cli.specs.Course.{Command}
+use Rattle.taxi_cli.specs.Ending.{ComesOn}
+use Rattle.taxi_cli.specs.LastLine.{line_of, status_of}
+use Rattle.taxi_cli.specs.Unwritten.{KeepsBytes, WritesNothing}
+use Rattle.taxi_cli.proofs.Endings.{ends-with, finishes-later, may-then}
+use Rattle.taxi_cli.proofs.Unwritten.{bytes-kept, bytes-then}
+
+-- where a command may write at all, it may where the board fails
+writes_eight : (row : Row) (status : ℕ) → (command_of (Some row)).writes status → (command_of (Some row)).writes 8
+writes_eight rows.Check status h = absurd h
+writes_eight (rows.Tables k) status h = absurd h
+writes_eight (rows.Fare k) status h = absurd h
+writes_eight rows.Totals status h = absurd h
+writes_eight rows.Seal status h = inr refl
+writes_eight rows.Run status h = inr (inr (inr refl))
+writes_eight (rows.Gen seed trips) status h = absurd h
+writes_eight (rows.Offsets years) status h = absurd h
+
+module _ {E D L : Type 0} (F : FileGhosts E) (B : Ghosts D L) (files files' : E) (old mid new : D) (end : Ended) (status : ℕ)
+    (count : B.faults old ≤ B.faults mid) (later : B.faults mid ≤ B.faults new)
+    (finish : IsEnd B.tells_text (Rose (B.faults mid) (B.faults new)) (status_of end) (line_of end) status (B.printed mid) (B.printed new)) where
+  pub call_from : (command : Command) → ComesOn F B command files files' old mid end → IsCall F B command files files' old new status
+  call_from command h =
+      let more : Rose (B.faults old) (B.faults mid) → Rose (B.faults old) (B.faults new) = λ rose. omega (arith, rose, later) in
+      let after : Rose (B.faults mid) (B.faults new) → Rose (B.faults old) (B.faults new) = λ rose. omega (arith, rose, count) in
+      record {
+        course = h.course;
+        may = may-then command (F.rest files) (F.rest files') (B.image old) _ (Rose (B.faults old) (B.faults mid)) (Rose (B.faults old) (B.faults new)) more h.course h.may;
+        ends = ends-with command (F.rest files) (F.rest files') (B.image old) _ (Rose (B.faults old) (B.faults mid)) (Rose (B.faults old) (B.faults new)) B.tells_text
+            (B.printed old) (B.printed mid) (B.printed new) end status h more
+            (finishes-later B.tells_text (Rose (B.faults mid) (B.faults new)) (Rose (B.faults old) (B.faults new)) end status (B.printed mid) (B.printed new) after finish);
+      }
+
+  pub call_course : (command : Command) (h : ComesOn F B command files files' old mid end) → (call_from command h).course ≡ h.course
+  unfolding call_from
+  call_course command h = refl
+
+  -- a status with which nothing is written
+  status_before : (row : Row) → ¬ ((command_of (Some row)).writes status) → ¬ ((command_of (Some row)).writes (status_of end))
+  status_before row not = by finish
+    where
+      by : IsEnd B.tells_text (Rose (B.faults mid) (B.faults new)) (status_of end) (line_of end) status (B.printed mid) (B.printed new) → ¬ ((command_of (Some row)).writes (status_of end))
+      by (inl whole) w = not (subst (λ (n : ℕ). (command_of (Some row)).writes n) (sym whole.status_is) w)
+      by (inr cut) w = not (subst (λ (n : ℕ). (command_of (Some row)).writes n) (sym cut.status_is) (writes_eight row (status_of end) w))
+
+  no_board : status ≢ 8 → end ≢ ended.BoardFault
+  no_board not_8 e = by finish
+    where
+      by : IsEnd B.tells_text (Rose (B.faults mid) (B.faults new)) (status_of end) (line_of end) status (B.printed mid) (B.printed new) → ⊥
+      by (inl whole) = not_8 (whole.status_is ∙ ap status_of e)
+      by (inr cut) = not_8 cut.status_is
+
+  pub nothing_written : (row : Row) → KeepsStore B mid new
+      → (¬ ((command_of (Some row)).writes (status_of end)) → KeepsBytes B old mid)
+      → (¬ ((command_of (Some row)).writes (status_of end)) → end ≢ ended.BoardFault → B.image mid ≡ B.image old)
+      → ¬ ((command_of (Some row)).writes status) → WritesNothing B old new status
+  nothing_written row kept bytes same not = record {
+    bytes = bytes-then B old mid new (bytes (status_before row not)) (bytes-kept B mid new kept);
+    same = λ not_8. kept.same ∙ same (status_before row not) (no_board not_8);
+  }

@@ -1,0 +1,39 @@
+-- The command `offsets RULES FROM TO`.
+use Rattle.std.specs.Prelude.{◌≡◌, ℕ, ◌+◌, ◌≤◌, [], None, Result, Ok, Err}
+use Rattle.offset_rules.specs.Pairs.{pairs_of}
+use Rattle.offset_rules.specs.Reading.{rules_read}
+use Rattle.offset_rules.specs.Rule.{Rule}
+use Rattle.offset_rules.specs.Texts.{offset_lines}
+use Rattle.offset_rules.specs.declared.fault.RuleFault.{RuleFault}
+use Rattle.taxi_cli.specs.Answer.{Answer, refuses, shows}
+use Rattle.taxi_cli.specs.Course.{Command}
+use Rattle.taxi_cli.specs.LastLine.{bad_rules_line}
+use Rattle.taxi_cli.specs.declared.ending.Ended.{Ended}
+use Rattle.taxi_cli.specs.declared.ending.Ended.TheVariants as ended
+use Rattle.taxi_cli.specs.declared.offsets.RulesFault.{RulesFault}
+use Rattle.taxi_cli.specs.declared.offsets.RulesFault.TheVariants as rules
+
+-- the lines of the list of offsets that a rule gives for some years, the first and the last
+abbrev pub offsets_answer : (years : ℕ × ℕ) → Result Rule RuleFault → Answer
+offsets_answer years (Err fault) = refuses 17 (bad_rules_line fault)
+offsets_answer years (Ok rule) = shows (offset_lines (pairs_of rule years.0 years.1))
+
+-- it reads its rules, and prints each line by itself; it takes no memory
+abbrev pub offsets_command : (years : ℕ × ℕ) → Command
+offsets_command years = record {
+  answer = λ contents image. offsets_answer years (rules_read (contents 1));
+  drive = None;
+  shown = λ contents image taken. [];
+  reads = λ word. word ≡ 1;
+  comes_to = λ contents image word taken. word ≡ 1;
+  may_lack = λ contents image. ⊥;
+  known = λ files_tell image_told. files_tell;
+  opens = ⊥;
+  writes = λ ended. ⊥;
+  steps = λ files_tell contents left before now. now ≤ before + 31 + 1;
+}
+
+-- how the command ended where its rules weren't read
+abbrev pub ended_for_rules : RulesFault → Ended
+ended_for_rules rules.ReadFault = ended.ReadFault
+ended_for_rules (rules.Refused why) = ended.BadRules why

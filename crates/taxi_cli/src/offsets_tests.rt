@@ -1,0 +1,206 @@
+//! The lines of rules of offsets, over files and boards in memory.
+ghost use Rattle.std.specs.Prelude.{◌≡◌, ◌<◌};
+ghost use Rattle.interval_clock.specs.Offsets.{IsSecond};
+
+use crate::tests::call;
+use interval_clock::civil;
+use outside::MemoryBoard;
+use seal_store::read_params;
+use std::marker::Brand;
+use std::sync::ledger::{Blank, Ledger};
+use std::test::Fail;
+use taxi_units::{FIRST_SECOND, LAST_SECOND, Steps};
+
+/// Summer time of the European Union, where the clock is an hour ahead of UTC in winter.
+const NORTH: &str =
+    "standard 3600\nsummer 7200\nbegin last sun mar 01:00\nend last sun oct 01:00\n";
+
+/// Summer time over the turn of the year.
+const SOUTH: &str =
+    "standard 36000\nsummer 39600\nbegin first sun oct 00:00\nend first sun apr 00:00\n";
+
+/// Summer time west of Greenwich.
+const WEST: &str =
+    "standard -14400\nsummer -10800\nbegin first sun oct 04:00\nend fourth sun mar 03:00\n";
+
+const NEW_YEAR: &str =
+    "standard 3600\nsummer 7200\nbegin first sat jan 00:00\nend last sun oct 01:00\n";
+
+const NORTH_2026: &str = "offset 946684800 3600\noffset 1774746000 7200\noffset 1792890000 3600\n";
+
+/// Rules, the years, a read and a print that fail, the output and the status. The seconds are those of
+/// Python's datetime and calendar.
+const LISTS: [(&str, &str, &str, u64, u64, &str, u8); 22] = [
+    (NORTH, "2026", "2026", 0, 0, NORTH_2026, 0),
+    (
+        SOUTH,
+        "2026",
+        "2026",
+        0,
+        0,
+        "offset 946684800 39600\noffset 1775347200 36000\noffset 1791072000 39600\n",
+        0,
+    ),
+    (
+        WEST,
+        "2014",
+        "2014",
+        0,
+        0,
+        "offset 946684800 -10800\noffset 1395543600 -14400\noffset 1412481600 -10800\n",
+        0,
+    ),
+    (
+        NORTH,
+        "2199",
+        "2199",
+        0,
+        0,
+        "offset 946684800 3600\noffset 7234275600 7200\noffset 7252419600 3600\n",
+        0,
+    ),
+    (
+        NEW_YEAR,
+        "2000",
+        "2000",
+        0,
+        0,
+        "offset 946684800 7200\noffset 972781200 3600\n",
+        0,
+    ),
+    (
+        "standard 3600\nsummer 7200\nbegin last sun mar 01:00\nend first sun mar 01:00\n",
+        "2026",
+        "2026",
+        0,
+        0,
+        "BAD RULES SameMonth\n",
+        17,
+    ),
+    ("", "2026", "2026", 0, 0, "BAD RULES BadLine 1\n", 17),
+    (
+        "standard 3600\nsummer 7200\nbegin last sun mar 01:00\nend last sun oct 01:00",
+        "2026",
+        "2026",
+        0,
+        0,
+        "BAD RULES BadLine 4\n",
+        17,
+    ),
+    (
+        "standard 3600\nsummer 7200\nbegin last sun mar 01:00\nend last sun oct 01:00\n\n",
+        "2026",
+        "2026",
+        0,
+        0,
+        "BAD RULES BadLine 5\n",
+        17,
+    ),
+    (NORTH, "2026", "2041", 0, 0, "BAD WORDS\n", 1),
+    (NORTH, "2026", "2025", 0, 0, "BAD WORDS\n", 1),
+    (NORTH, "1999", "2000", 0, 0, "BAD WORDS\n", 1),
+    (NORTH, "2199", "2200", 0, 0, "BAD WORDS\n", 1),
+    (NORTH, "02026", "2026", 0, 0, "BAD WORDS\n", 1),
+    (NORTH, "2026", "+2026", 0, 0, "BAD WORDS\n", 1),
+    (NORTH, "2026", "", 0, 0, "BAD WORDS\n", 1),
+    // The words are asked before the rules.
+    ("", "2026", "2041", 0, 0, "BAD WORDS\n", 1),
+    // Reads 1 and 2 are those of the rules.
+    (NORTH, "2026", "2026", 1, 0, "READ FAULT\n", 7),
+    (NORTH, "2026", "2026", 2, 0, "READ FAULT\n", 7),
+    (NORTH, "2026", "2026", 0, 1, "", 8),
+    (
+        NORTH,
+        "2026",
+        "2026",
+        0,
+        3,
+        "offset 946684800 3600\noffset 1774746000 7200\n",
+        8,
+    ),
+    ("", "2026", "2026", 0, 1, "", 8),
+];
+
+#[test]
+fn lists_of_offsets(rt: HostRuntime) -> Result<(), Fail> {
+    for (rules, from, to, read, print, output, status) in LISTS {
+        let mut board = MemoryBoard::new(rt.alloc(), &[7; 2048], &[print])?;
+        let words = ["offsets", "r", from, to];
+        let ended = call(rt.alloc(), &words, rules, "", &[read], &mut board)?;
+        assert_eq!(rt; ended, status, "{rules} {from} {to}");
+        assert_eq!(rt; board.printed(), output.as_bytes(), "{rules} {from} {to}");
+        assert!(rt; *board.image() == [7; 2048]);
+    }
+    Ok(())
+}
+
+/// Fifteen years at once have a line for each change, and one before them; a text of 4,097 bytes is too long.
+#[test]
+fn the_longest_texts(rt: HostRuntime) -> Result<(), Fail> {
+    for (size, to, start, lines) in [
+        (NORTH.len(), "2040", NORTH_2026, 31),
+        (4096, "2026", "BAD RULES BadLine 5\n", 1),
+        (4097, "2026", "BAD RULES TooLong\n", 1),
+        (4098, "2026", "BAD RULES TooLong\n", 1),
+    ] {
+        let mut rules = String::from_str(rt.alloc(), NORTH)?;
+        for _ in NORTH.len()..size {
+            rules.push('#')?;
+        }
+        let mut board = MemoryBoard::new(rt.alloc(), &[0; 2048], &[])?;
+        let words = ["offsets", "r", "2026", to];
+        let _ = call(rt.alloc(), &words, rules.as_str(), "", &[], &mut board)?;
+        assert!(rt; board.printed().starts_with(start.as_bytes()));
+        let ends = board
+            .printed()
+            .iter()
+            .filter(|byte| **byte == b'\n')
+            .count();
+        assert_eq!(rt; ends, lines, "{size}");
+    }
+    Ok(())
+}
+
+/// The local minute of the day at a second, by the offsets of a text of parameters.
+fn minute_at<L: Ledger>(blank: Blank, params: &[u8], second: u64) -> Option<u16>
+    requires name { blank.name ≡ L.name }
+    requires parts { blank.parts ≡ L.parts }
+    requires some { 0 < blank.parts }
+    requires second { IsSecond second }
+{
+    let mut steps: Steps<L> = Steps::open(blank);
+    let params = read_params(params).ok()?;
+    Some(civil(&params.offsets, second, &mut steps).minute)
+}
+
+/// The same, under a ledger of its own.
+fn minute_afresh(params: &[u8], second: u64) -> Option<u16>
+    requires { IsSecond second }
+{
+    minute_at::<Brand>(Blank::new(1), params, second)
+}
+
+/// The printed lines stand in parameters in the place of their offsets, and the clock goes from 2 to 3 in
+/// March and from 3 back to 2 in October.
+#[test]
+fn the_printed_lines_are_offsets_of_parameters(rt: HostRuntime) -> Result<(), Fail> {
+    let mut board = MemoryBoard::new(rt.alloc(), &[0; 2048], &[])?;
+    let words = ["offsets", "r", "2026", "2026"];
+    let ended = call(rt.alloc(), &words, NORTH, "", &[], &mut board)?;
+    assert_eq!(rt; ended, 0);
+    let mut params = Vec::new(rt.alloc());
+    params.extend_from_slice(b"taxi LX-4711\nconstant 10000\nmode single\nhold 60\n")?;
+    params.extend_from_slice(board.printed())?;
+    params.extend_from_slice(b"secured 2025-12-01\n")?;
+    for (second, minute) in [
+        (1_774_745_999, 119),
+        (1_774_746_000, 180),
+        (1_792_889_999, 179),
+        (1_792_890_000, 120),
+    ] {
+        assert!(rt; FIRST_SECOND <= second && second <= LAST_SECOND);
+        let shown = minute_afresh(params.as_slice(), second);
+        assert_eq!(rt; shown, Some(minute), "{second}");
+    }
+    Ok(())
+}

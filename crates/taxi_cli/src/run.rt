@@ -1,0 +1,182 @@
+//! The command `run`.
+ghost use Rattle.std.specs.Prelude.{◌≡◌, ◌≢◌, ◌↔◌, ℕ, ◌+◌, ◌≤◌, [], length, nat_eq, IfOk, OnOk, IsErrOf, IsTrue, Err};
+ghost use Rattle.std.specs.Cmp.Lexicographic.{pointwise};
+ghost use Rattle.std.specs.Option.{ForSome};
+ghost use Rattle.outside.specs.Faults.{Rose};
+ghost use Rattle.outside.specs.Runs.{IsSettled};
+ghost use Rattle.slot_store.specs.Syncs.{IsAsHeld, LeavesFromSync, ReadsOnly};
+ghost use Rattle.meter_run.specs.Drives.{IsBoundedBy};
+ghost use Rattle.meter_states.specs.Fits.{Fits};
+ghost use Rattle.seal_store.specs.Ranges.{IsSeal};
+ghost use Rattle.taxi_cli.specs.Call.{HasReadFault};
+ghost use Rattle.taxi_cli.specs.LastLine.{status_of};
+ghost use Rattle.taxi_cli.specs.Run.{does_hold_fit, run_command};
+ghost use Rattle.taxi_cli.specs.RunSteps.{AreNoTables, AreSealedTables, AreTablesOfText, HasBegun};
+ghost use Rattle.taxi_cli.specs.RunSteps.{HasNotBegun, IsNoTables, RunComes};
+ghost use Rattle.taxi_cli.specs.Unwritten.{KeepsBytes};
+
+use crate::ending::{Ended, ended_of, refused_by, refused_store};
+use crate::opening::{open_store, sealed_store};
+use crate::tariff::{tariff_of_text, text_of_word};
+use meter_run::run_events;
+use meter_states::fits;
+use outside::{Board, Files};
+use pulse_input::Constant;
+use seal_store::Seal;
+use sha2::{Digest, Sha256};
+use std::alloc::Global;
+use std::sync::ledger::Ledger;
+use tariff_compile::{Tables, compile};
+use taxi_units::Steps;
+use totaliser_store::Trip;
+
+/// What a run goes by: the seal of its store, and the tables of its tariff.
+#[derive(Drop)]
+pub struct Begun {
+    pub seal: Seal,
+    pub tables: Tables,
+}
+
+/// The tables of the tariff of a text, under a constant.
+fn tables_of_text(alloc: Global, text: &[u8], constant: Constant) -> Result<Tables, Ended>
+    ensures found { IfOk result (AreTablesOfText text.now constant) }
+    ensures constant { IfOk result (λ tables. tables.constant ≡ constant) }
+    ensures refused { (why : Ended) → result ≡ Err why → IsNoTables text.now why }
+{
+    let checked = match tariff_of_text(alloc, text) {
+        Ok(checked) => checked,
+        Err(fault) => return Err(refused_by(fault)),
+    };
+    match compile(alloc, &checked, constant) {
+        Ok(tables) => Ok(tables),
+        Err(_) => Err(Ended::NoMemory),
+    }
+}
+
+/// Whether a digest is the sealed one.
+fn is_sealed(digest: &[u8; 32], own: &[u8; 32]) -> bool
+    ensures { result ≡ pointwise nat_eq digest.now own.now }
+{
+    digest.as_slice() == own.as_slice()
+}
+
+/// The tables of the tariff of a text, where it is the one that was sealed: its digest is asked before its
+/// content.
+fn sealed_tables(alloc: Global, text: &[u8], seal: &Seal) -> Result<Tables, Ended>
+    requires { length text.now ≤ 65536 }
+    ensures found { IfOk result (AreSealedTables seal.now text.now) }
+    ensures constant { IfOk result (λ tables. tables.constant ≡ seal.now.params.constant) }
+    ensures refused { (why : Ended) → result ≡ Err why → AreNoTables seal.now.digest text.now ⊥ why }
+{
+    let own = Sha256::digest(text);
+    if is_sealed(&seal.digest, &own) {
+        return tables_of_text(alloc, text, seal.params.constant);
+    }
+    let digest = seal.digest;
+    Err(Ended::WrongTariff(digest, own))
+}
+
+/// Reads the tariff of word 1, and makes its tables, where it is the one that was sealed: its length is
+/// asked before its digest.
+fn read_tables<F: Files>(alloc: Global, files: &mut F, seal: &Seal) -> Result<Tables, Ended>
+    ensures found { F.tells → IfOk result (AreSealedTables seal.now (F.rest files.old 1)) }
+    ensures constant { IfOk result (λ tables. tables.constant ≡ seal.now.params.constant) }
+    ensures ended { F.tells → OnOk result (F.rest files.new 1 ≡ []) }
+    ensures refused { (why : Ended) → F.tells → result ≡ Err why
+        → AreNoTables seal.now.digest (F.rest files.old 1) (Rose (F.faults files.old 1) (F.faults files.new 1)) why }
+    ensures read_fault { result ≡ Err Ended.ReadFault → Rose (F.faults files.old 1) (F.faults files.new 1) }
+    ensures not_board { result ≢ Err Ended.BoardFault }
+    ensures others { (other : ℕ) → other ≢ 1 → F.rest files.new other ≡ F.rest files.old other }
+    ensures counts { (other : ℕ) → F.faults files.old other ≤ F.faults files.new other }
+{
+    let text = match text_of_word(alloc, files, 1) {
+        Ok(text) => text,
+        Err(fault) => return Err(refused_by(fault)),
+    };
+    sealed_tables(alloc, text.as_slice(), seal)
+}
+
+/// Whether a held trip fits the tables, where there is one. At most 16 steps.
+fn hold_fits<L: Ledger>(hold: &Option<Trip>, tables: &Tables, steps: &mut Steps<L>) -> bool
+    ensures value { result ≡ does_hold_fit tables.now hold.now }
+    ensures decides { IsTrue result ↔ ForSome hold.now (Fits tables.now) }
+    ensures steps { steps.new ≤ steps.old + 16 }
+{
+    match hold {
+        None => true,
+        Some(trip) => fits(trip, tables, steps),
+    }
+}
+
+/// Scans the store, reads the tariff of word 1, and asks whether the held trip fits it. Nothing is written
+/// or printed.
+fn begin<F: Files, B: Board<L>, L: Ledger>(
+    alloc: Global,
+    files: &mut F,
+    board: &mut B,
+    steps: &mut Steps<L>,
+) -> Result<Begun, Ended>
+    ensures begun { F.tells → B.tells_image → IfOk result (λ begun.
+        HasBegun B.Board (B.image board.old) (F.rest files.old 1) board.new begun.seal begun.tables) }
+    ensures seal { IfOk result (λ begun. IsSeal begun.seal) }
+    ensures constant { IfOk result (λ begun. begun.tables.constant ≡ begun.seal.params.constant) }
+    ensures ended { F.tells → OnOk result (F.rest files.new 1 ≡ []) }
+    ensures refused { (why : Ended) → F.tells → B.tells_image → result ≡ Err why
+        → HasNotBegun (B.image board.old) (F.rest files.old 1) (Rose (F.faults files.old 1) (F.faults files.new 1))
+        (Rose (B.faults board.old) (B.faults board.new)) why }
+    ensures reads { ReadsOnly B.Board board.old board.new }
+    ensures synced { B.tells_image → LeavesFromSync B.Board (IsErrOf result Ended.BoardFault)
+        board.old board.new (IsAsHeld B.Board board.old) }
+    ensures settled { B.tells_image → ¬ IsErrOf result Ended.BoardFault → IsSettled B.Board board.new }
+    ensures same { ¬ IsErrOf result Ended.BoardFault → B.image board.new ≡ B.image board.old }
+    ensures read_fault { result ≡ Err Ended.ReadFault → Rose (F.faults files.old 1) (F.faults files.new 1) }
+    ensures board_fault { result ≡ Err Ended.BoardFault → Rose (B.faults board.old) (B.faults board.new) }
+    ensures others { (other : ℕ) → other ≢ 1 → F.rest files.new other ≡ F.rest files.old other }
+    ensures count { B.faults board.old ≤ B.faults board.new }
+    ensures counts { (other : ℕ) → F.faults files.old other ≤ F.faults files.new other }
+    ensures steps { steps.new ≤ steps.old + 22 }
+{
+    let opening = match open_store(board, steps) {
+        Ok(opening) => opening,
+        Err(fault) => return Err(refused_store(fault)),
+    };
+    let Some((durable, seal)) = sealed_store(opening) else {
+        return Err(Ended::NotSealed);
+    };
+    let tables = match read_tables(alloc, files, &seal) {
+        Ok(tables) => tables,
+        Err(why) => return Err(why),
+    };
+    if !hold_fits(&durable.hold, &tables, steps) {
+        return Err(Ended::BadTrip);
+    }
+    Ok(Begun { seal, tables })
+}
+
+/// Scans the store, reads the tariff of word 1, which has to be the sealed one, and carries out the drive of
+/// word 2 on the store.
+pub fn run<F: Files, B: Board<L>, L: Ledger>(
+    alloc: Global,
+    files: &mut F,
+    board: &mut B,
+    steps: &mut Steps<L>,
+) -> Ended
+    ensures runs { F.tells → B.tells_image
+        → RunComes F.Files B.Board files.old files.new board.old board.new result }
+    ensures unwritten { ¬ run_command.writes (status_of result) → KeepsBytes B.Board board.old board.new }
+    ensures same { ¬ run_command.writes (status_of result) → result ≢ Ended.BoardFault
+        → B.image board.new ≡ B.image board.old }
+    ensures read_fault { result ≡ Ended.ReadFault → HasReadFault F.Files run_command files.old files.new }
+    ensures board_fault { result ≡ Ended.BoardFault → Rose (B.faults board.old) (B.faults board.new) }
+    ensures others { (other : ℕ) → other ≢ 1 → other ≢ 2 → F.rest files.new other ≡ F.rest files.old other }
+    ensures count { B.faults board.old ≤ B.faults board.new }
+    ensures counts { (other : ℕ) → F.faults files.old other ≤ F.faults files.new other }
+    ensures steps { F.tells → IsBoundedBy 86 (F.rest files.old 2) (F.rest files.new 2) steps.old steps.new }
+{
+    let begun = match begin(alloc, files, board, steps) {
+        Ok(begun) => begun,
+        Err(why) => return why,
+    };
+    let ran = run_events(&begun.tables, &begun.seal, files, 2, board, steps);
+    ended_of(ran)
+}
