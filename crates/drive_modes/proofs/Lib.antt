@@ -1,4 +1,8 @@
+-- mode S charges the time below the cross-over speed and the distance from it on
 mod Crossover
+-- the laws that the crates above may cite
 pub mod Laws
+-- display steps are whole steps: the most that an amount fills, or the fewest that hold it
 mod Steps
+-- a meterage that is kept from charge to charge is what their sum makes of it
 mod Sums

@@ -1,11 +1,11 @@
--- The charge of a measuring interval.
+-- Rules: the charge of a measuring interval.
 use Rattle.std.specs.Prelude.{ℕ, ◌+◌, ◌*◌, if◌then◌else◌, nat_lt}
 use Rattle.drive_modes.specs.declared.charges.Mode.{Mode}
 use Rattle.drive_modes.specs.declared.charges.Mode.TheVariants.{Single, Double}
 use Rattle.drive_modes.specs.declared.charges.Weights.{Weights}
 
--- the charge of an interval of p pulses: in mode S the time where the distance costs less, else the distance; in mode
--- D both
+-- the charge of a measuring interval of p pulses is, in mode S, the charge of its time where its distance costs less,
+-- and else the charge of its distance; in mode D it is the charge of both together
 abbrev pub charge_of : Mode → Weights → ℕ → ℕ
 charge_of Single w p = if nat_lt (p * w.per_pulse) w.per_tick then w.per_tick else p * w.per_pulse
 charge_of Double w p = p * w.per_pulse + w.per_tick

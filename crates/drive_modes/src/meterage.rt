@@ -23,6 +23,7 @@ pub struct Meterage {
     pub rest: u128,
 }
 
+/// The greatest fare that is shown, in the smallest units of money.
 const LARGEST_FARE: u128 = 99_999_999;
 
 impl Meterage {
@@ -52,7 +53,8 @@ impl Meterage {
         requires modulus { modulus ≤ 2 * 10 ^ 29 }
         requires charge { charge ≤ 202 * 10 ^ 29 }
         requires cover { self.old.cover_left ≤ 2 * 10 ^ 31 }
-        requires steps { self.old.steps_full + (self.old.rest + (charge - self.old.cover_left)) / modulus ≤ 4 * 10 ^ 17 }
+        requires steps { self.old.steps_full + (self.old.rest + (charge - self.old.cover_left)) / modulus
+            ≤ 4 * 10 ^ 17 }
         ensures exact { self.new ≡ added modulus self.old charge }
         ensures sum { (cover above charged : ℕ)
             → let opening : Opening = record { cover = cover; above = above; modulus = modulus } in

@@ -1,10 +1,11 @@
--- The distance that pulses make, where k of them make a kilometre.
+-- Rules: the distance that pulses make, where k pulses make a kilometre.
 use Rattle.std.specs.Prelude.{ℕ, ◌*◌, ◌/◌, ◌≤◌}
 
--- the distance of p pulses in whole millimetres
+-- p pulses make this distance in whole millimetres, rounded down, where k pulses make a kilometre of 1,000,000 mm
 abbrev pub millimetres_of : (k p : ℕ) → ℕ
 millimetres_of k p = 1000000 * p / k
 
--- p pulses make at least dm decimetres
+-- p pulses have reached dm decimetres where k * dm is at most 10000 * p: k pulses make a kilometre, which has 10,000
+-- decimetres
 abbrev pub HasReached : (k p dm : ℕ) → Type 0
 HasReached k p dm = k * dm ≤ 10000 * p

@@ -5,6 +5,7 @@ ghost use Rattle.pulse_input.specs.Gate.{counted};
 
 use std::marker::Model;
 
+/// The most pulses of a measuring interval.
 const MOST_PULSES: u32 = 2000;
 
 /// The gate that counts the pulses of the measuring interval that runs: at most 2,000, which is this

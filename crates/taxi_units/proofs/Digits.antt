@@ -7,7 +7,8 @@ use Rattle.std.proofs.Math.Nat.{one-le-pow, pow-suc, pow-le-pow_right, mul_assoc
 use Rattle.std.proofs.lemmas.Bool.{le-ltb, lt-ltb}
 use Rattle.std.proofs.lemmas.Bool.Decides.{nat_tests}
 use Rattle.taxi_units.specs.declared.decimal.NumberFault.TheVariants.{TooBig}
-use Rattle.taxi_units.specs.Number.{digits_at_front, units_of, units_read}
+use Rattle.taxi_units.specs.Decimal.{units_of}
+use Rattle.taxi_units.specs.NumberStages.{digits_at_front, units_read}
 
 one_more : (xs : List ℕ) (i : ℕ) → i < length xs → drop i xs ≡ get_or xs i 0 ∷ drop (i + 1) xs
 one_more xs i h = rw add-one (drop-cons xs i 0 h)
@@ -109,3 +110,9 @@ pub large_with_zeros : (number few zeros : ℕ) → few < zeros → 10 ^ 12 < nu
 large_with_zeros number few zeros lt large =
     let more : 10 ^ (few + 1) ≤ 10 ^ zeros = pow-le-pow_right (omega arith) (omega arith) in
     omega (arith, one_zero_more number few, mul-le-mul_left number more)
+
+-- at most twelve digits in front, and their number
+pub ruleset few_digits_in_front = (digits_in_front, twelve_digits)
+
+-- the units of the digits before the point and after it, within the limit and beyond it
+pub ruleset units_of_both_parts = (units_by_parts, too_big_by_parts, too_big_by_whole)

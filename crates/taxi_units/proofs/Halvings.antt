@@ -4,12 +4,7 @@ use Rattle.std.proofs.Math.Nat.{pow-suc}
 use Rattle.std.proofs.lemmas.List.Sums.{sum_by-cons}
 use Rattle.std.specs.List.Sorted.{IsPartitionedBy}
 use Rattle.taxi_units.specs.Counted.{IsElement}
-
--- with `spent` steps taken, a stretch of that width is halved down to nothing by `bound` steps
-pub record EndsWithin (spent bound width : ℕ) : Type 0 where
-  pub rounds : ℕ
-  pub room : spent + rounds ≤ bound
-  pub fits : width < 2 ^ rounds
+use Rattle.taxi_units.specs.Halving.{EndsWithin}
 
 -- a halving is one step, and leaves at most half
 halved : (spent bound width half rounds : ℕ) → spent + rounds ≤ bound → width < 2 ^ rounds → 0 < width → half ≤ width / 2 → EndsWithin (spent + 1) bound half

@@ -1,12 +1,24 @@
+-- what is written as an amount is read as that amount
 mod Amounts
+-- digits at the front of a text, and the numbers and units that they make
 mod Digits
+-- the answer to a text of a decimal is the one that its form has
 mod Form
+-- a text is parted where its first digits end, and read so
 mod Front
+-- look-ups by halving: how many elements they count, and in how many steps
 mod Halvings
+-- the laws that the crates above may cite
 pub mod Laws
+-- how long texts of numbers and amounts are
 mod Lengths
+-- a number at the front of a text is read by its digits
 mod Numbers
+-- dates and their places in a leap year go back and forth
 mod Places
+-- texts of numbers and amounts are the ones that have their digits
 mod Spelled
+-- a word is read where it stands at the front of a text
 mod Words
+-- numbers are written digit by digit
 mod Written

@@ -91,3 +91,12 @@ padded_within k width n some narrow small h = omega (arith, length_of_padded wid
 
 pub padded_fills : (width n : ℕ) → 0 < width → n < 10 ^ width → n < 2 ^ 128 → length (padded_text width n) ≡ width
 padded_fills width n some small h = omega (arith, length_of_padded width n, length-decimal-le_wide width n some small (omega arith))
+
+-- the parts of an amount are short enough for a draft
+pub ruleset amounts_are_short = (decimal_short, padded_short, powers_of_ten)
+
+-- a number is its one digit, or the digits of a tenth of it and its last digit
+pub ruleset number_digit_by_digit = (decimal_of_one, length_of_more, append_of_more)
+
+-- a padded number is the number, or a tenth of it in a narrower width and its last digit
+pub ruleset padded_digit_by_digit = (padded_of_none, length_padded_of_more, append_padded_of_more)

@@ -1,46 +1,48 @@
--- The proleptic Gregorian calendar, from the year 0 on: leap years, months, and the places of dates in a leap year.
+-- Rules: the proleptic Gregorian calendar, from the year 0 on: leap years, months, and the places of dates in a leap
+-- year.
 use Rattle.std.specs.Prelude.{ℕ, ◌+◌, ◌-◌, ◌%◌, ◌≤◌, Bool, true, not, ◌&&◌, ◌||◌, ◌==◌, nat_le, nat_lt, if◌then◌else◌, List, [], ◌∷◌, sum, take, slice_index, Option, Some, None}
 
--- every fourth year is a leap year, but of the centuries only every fourth
+-- a year is a leap year where 4 divides it, except where 100 divides it and 400 doesn't
 abbrev pub is_leap_year : ℕ → Bool
 is_leap_year year = (year % 4 == 0) && (not (year % 100 == 0) || (year % 400 == 0))
 
--- the days of the months, from January to December: February has one more in a leap year
+-- the months from January to December have these numbers of days, and February has one more in a leap year
 abbrev pub month_lengths : (leap : Bool) → List ℕ
 month_lengths leap =
     31 ∷ (if leap then 29 else 28) ∷ 31 ∷ 30 ∷ 31 ∷ 30 ∷ 31 ∷ 31 ∷ 30 ∷ 31 ∷ 30 ∷ 31 ∷ []
 
--- a month, 1 for January to 12 for December
+-- a month is a number from 1, for January, to 12, for December
 abbrev pub IsMonth : ℕ → Type 0
 IsMonth month = (1 ≤ month) × (month ≤ 12)
 
--- the days of a month
+-- a month of a year has as many days as stand at its place in the list of the months' days
 abbrev pub days_of_month : (year month : ℕ) → ℕ
 days_of_month year month = slice_index (month_lengths (is_leap_year year)) (month - 1)
 
--- the calendar has a date: the year has the month, and the month the date
+-- the calendar has a date where its month is 1 to 12, and its day 1 to the number of days of that month in that year
 abbrev pub IsDate : (year month date : ℕ) → Type 0
 IsDate year month date = IsMonth month × (1 ≤ date) × (date ≤ days_of_month year month)
 
--- the test whether it has
+-- the test whether the calendar has a date
 abbrev pub is_date : (year month date : ℕ) → Bool
 is_date year month date =
     nat_le 1 month && (nat_le month 12 && (nat_le 1 date && nat_le date (days_of_month year month)))
 
--- every leap year has a date of this month, as 2000 has
+-- a leap year has a month and date where the leap year 2000 has them
 abbrev pub IsLeapYearDate : (month date : ℕ) → Type 0
 IsLeapYearDate month date = IsDate 2000 month date
 
--- the place of a month and date in a leap year: the days of the months before it, and those before it in its month
+-- the place of a date in a leap year is the number of days before it: those of the earlier months, and those of its own
 abbrev pub date_place : (month date : ℕ) → ℕ
 date_place month date = sum (take (month - 1) (month_lengths true)) + (date - 1)
 
--- the month and date so many days after the first of a month, where the months from that one on have these lengths
+-- the month and date that come a number of days after the first of a month, where the lengths of the months from that
+-- one on are listed; none where the listed months have no more days than that number
 abbrev pub date_from : (month : ℕ) → List ℕ → (days : ℕ) → Option (ℕ × ℕ)
 date_from month [] days = None
 date_from month (length ∷ lengths) days =
     if nat_lt days length then Some (month, days + 1) else date_from (month + 1) lengths (days - length)
 
--- the month and date at a place in a leap year, 0 for 1 January; a place above 365 has none
+-- the month and date at a place in a leap year, where place 0 is 1 January; a place above 365 has none
 abbrev pub date_of_place : (place : ℕ) → Option (ℕ × ℕ)
 date_of_place place = date_from 1 (month_lengths true) place

@@ -1,36 +1,42 @@
--- What a decimal text is, where a text breaks that form, and what is read from it.
-use Rattle.std.specs.Prelude.{◌≡◌, ◌≢◌, ℕ, ◌+◌, ◌<◌, ◌≤◌, ◌^◌, ◌⊎◌, List, [], ◌∷◌, ◌++◌, length, take, Result, Ok, Err}
-use Rattle.std.specs.Str.Parse.{AllDigits, IsNumeral}
+-- Rules: what a decimal text is, where a text breaks that form, and what is read from it.
+use Rattle.std.specs.Prelude.{◌≡◌, ◌≢◌, ℕ, ◌+◌, ◌-◌, ◌*◌, ◌<◌, ◌≤◌, ◌^◌, ◌⊎◌, List, [], ◌∷◌, ◌++◌, length, take, Result, Ok, Err}
+use Rattle.std.specs.Str.Parse.{AllDigits, IsNumeral, digits_value}
 use Rattle.taxi_units.specs.declared.decimal.NumberFault.{NumberFault}
 use Rattle.taxi_units.specs.declared.decimal.NumberFault.TheVariants.{Empty, BadDigit, TooManyDecimals, TooBig}
-use Rattle.taxi_units.specs.Number.{units_of}
 
--- the text is one or more digits, and with parts a point and these further digits
+-- digits before the point and after it make this many units, where a unit is 1 in the last of `decimals` decimals
+abbrev pub units_of : (decimals : ℕ) → (whole parts : List ℕ) → ℕ
+units_of decimals whole parts = digits_value 10 (whole ++ parts) * 10 ^ (decimals - length parts)
+
+-- a decimal text is one or more digits (`whole`), or those, a point, and one or more digits (`parts`)
 abbrev pub IsDecimal : List ℕ → List ℕ → List ℕ → Type 0
 IsDecimal text whole [] = IsNumeral 10 whole × (text ≡ whole)
 IsDecimal text whole (c ∷ cs) = IsNumeral 10 whole × AllDigits 10 (c ∷ cs) × (text ≡ whole ++ 46 ∷ c ∷ cs)
 
--- the text is decimal
+-- a text has the form of a decimal where it is some digits, or some digits, a point and some digits
 abbrev pub HasDecimalForm : List ℕ → Type 0
 HasDecimalForm text = (whole : List ℕ) × (parts : List ℕ) × IsDecimal text whole parts
 
--- some decimal text begins with these bytes
+-- bytes begin a decimal text where some bytes after them make one
 abbrev pub IsBegun : List ℕ → Type 0
 IsBegun bytes = (rest : List ℕ) × HasDecimalForm (bytes ++ rest)
 
--- the text ends at the place, and a digit is missing there
+-- a text ends too early at a place where that is its end and the text is no decimal
 abbrev pub EndsEarly : List ℕ → ℕ → Type 0
 EndsEarly text place = (place ≡ length text) × ¬ (HasDecimalForm text)
 
--- the byte at the place is wrong: no decimal text begins with the bytes up to it
+-- the byte at a place is wrong where no decimal text begins with the bytes up to and with it
 abbrev pub IsWrongAt : List ℕ → ℕ → Type 0
 IsWrongAt text place = (place < length text) × ¬ (IsBegun (take (place + 1) text))
 
--- the place is the first that breaks the form: what stands before it begins a decimal text
+-- a place is the first that breaks the form where the bytes before it begin a decimal text, and the text ends there too
+-- early or has a wrong byte there
 abbrev pub BreaksAt : List ℕ → ℕ → Type 0
 BreaksAt text place = IsBegun (take place text) × (EndsEarly text place ⊎ IsWrongAt text place)
 
--- the answer to a text, with so many decimals: its amount, or what is wrong with it
+-- the answer to a text of at most `decimals` decimals is Empty for the empty text; BadDigit with the first place that
+-- breaks the form of a decimal; TooManyDecimals with the place of the first decimal too many, where the form is good;
+-- TooBig above 10^12 units, where neither is wrong; and else its units
 abbrev pub IsReadAs : ℕ → List ℕ → Result ℕ NumberFault → Type 0
 IsReadAs decimals text (Err Empty) = text ≡ []
 IsReadAs decimals text (Err (BadDigit place)) = (text ≢ []) × BreaksAt text place

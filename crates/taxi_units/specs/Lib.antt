@@ -1,7 +1,9 @@
 pub mod Calendar
 pub mod Counted
 pub mod Decimal
+pub mod Halving
 pub mod Number
+pub mod NumberStages
 pub mod Reading
 pub mod Shown
 pub mod Time

@@ -1,4 +1,4 @@
--- What is asked of a display and of a receipt, so that their texts say all of them.
+-- Rules: what displays and receipts may say, so that their texts tell all of them.
 use Rattle.std.specs.Prelude.{◌≡◌, ◌≢◌, ℕ, ◌+◌, ◌*◌, ◌^◌, ◌<◌, ◌≤◌, min, max}
 use Rattle.taxi_units.specs.declared.event.Operating.TheVariants.{Off}
 use Rattle.taxi_units.specs.declared.receipt.Kind.TheVariants.{Roam}
@@ -7,26 +7,27 @@ use Rattle.taxi_units.specs.declared.receipt.Receipt.{Receipt}
 use Rattle.taxi_units.specs.declared.receipt.Stamp.{Stamp}
 use Rattle.taxi_units.specs.Calendar.{IsDate}
 
--- an amount is written with 0 to 3 decimals
+-- an amount of money is written with 0 to 3 decimals
 abbrev pub AreDecimals : ℕ → Type 0
 AreDecimals decimals = decimals ≤ 3
 
--- a display of a meter that is on
+-- a display is shown by a meter that isn't off, and its amounts have 0 to 3 decimals
 pub record IsShown (display : Display) : Type 0 where
   pub operating : display.operating ≢ Off
   pub decimals : AreDecimals display.decimals
 
--- a real date of the years 1999 to 2200, and a second of a day
+-- a stamp is a date that the calendar has, of the years 1999 to 2200, and a second of a day, 0 to 86,399
 pub record IsStamp (stamp : Stamp) : Type 0 where
   pub year : (1999 ≤ stamp.year) × (stamp.year ≤ 2200)
   pub date : IsDate stamp.year stamp.month stamp.date
   pub second : stamp.second ≤ 86399
 
--- the fare that a receipt calculates: no less than its minimum, and no more than eight digits
+-- the fare of a receipt is its initial hire fee and its step for each display step, or its minimum where that is more,
+-- and at most 99,999,999
 abbrev pub fare_of : Receipt → ℕ
 fare_of receipt = min 99999999 (max receipt.minimum (receipt.initial + receipt.steps * receipt.step))
 
--- a receipt for a hiring, with each number in its range
+-- a receipt is for a hiring and not for roaming, has each number in its range, and the fare that its parts make
 pub record IsReceipt (receipt : Receipt) : Type 0 where
   pub kind : receipt.kind ≢ Roam
   pub number : (1 ≤ receipt.number) × (receipt.number ≤ 2 * 10 ^ 15 + 1)

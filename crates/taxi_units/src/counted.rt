@@ -1,7 +1,8 @@
 //! Lists whose reads are counted.
-ghost use Rattle.std.specs.Prelude.{◌≡◌, ℕ, ◌+◌, ◌<◌, Bool, true, false, ◌↔◌, IsTrue, length, count_by, MatchOption};
+ghost use Rattle.std.specs.Prelude.{◌≡◌, ℕ, ◌+◌, ◌/◌, ◌<◌, ◌≤◌, Bool, true, false, ◌↔◌, IsTrue, length, count_by, MatchOption};
 ghost use Rattle.std.specs.List.Sorted.{IsPartitionPoint, IsPartitionedBy};
 ghost use Rattle.taxi_units.specs.Counted.{HalvesIn, IsElement, IsLastOf};
+ghost use Rattle.taxi_units.specs.Halving.{EndsWithin};
 
 use crate::steps::Steps;
 use std::marker::Model;
@@ -143,50 +144,12 @@ impl<'a, T: Keyed> Counted<'a, T> {
     }
 }
 
+/// A law: where a step leaves at most half of what was to be looked through, the steps that are left are
+/// enough for that half.
+pub fn each_step_halves()
+    ensures { (spent bound width half : ℕ) → EndsWithin spent bound width → 0 < width → half ≤ width / 2
+        → EndsWithin (spent + 1) bound half }
+{}
+
 #[cfg(test)]
-mod tests {
-    use super::{AtMost, Counted};
-    use crate::steps::Steps;
-    use std::marker::Brand;
-    use std::sync::ledger::{Blank, Ledger};
-
-    /// What is found in a list that doesn't fall.
-    fn found<L: Ledger>(blank: Blank, list: &[u64], key: u64) -> Option<AtMost<u64>>
-        requires name { blank.name ≡ L.name }
-        requires parts { blank.parts ≡ L.parts }
-        requires some { 0 < blank.parts }
-    {
-        let mut steps: Steps<L> = Steps::open(blank);
-        if !list.is_sorted() {
-            return None;
-        }
-        Some(Counted::of(list).at_most(key, &mut steps))
-    }
-
-    /// Rows of a key, and the count that Python's bisect gives.
-    #[test]
-    fn finds_the_last_at_most(rt: HostRuntime) {
-        let list = [0, 59, 60, 60, 121, 365];
-        for (key, count, last) in [
-            (0, 1, Some(0)),
-            (58, 1, Some(0)),
-            (59, 2, Some(59)),
-            (60, 4, Some(60)),
-            (364, 5, Some(121)),
-            (u64::MAX, 6, Some(365)),
-        ] {
-            let want = AtMost { count, last };
-            assert_eq!(rt;
-                found::<Brand>(Blank::new(1), &list, key),
-                Some(want),
-                "{key}"
-            );
-        }
-        let none = AtMost {
-            count: 0,
-            last: None,
-        };
-        assert_eq!(rt; found::<Brand>(Blank::new(1), &list[1..], 58), Some(none));
-        assert_eq!(rt; found::<Brand>(Blank::new(1), &[], 58), Some(none));
-    }
-}
+mod tests;

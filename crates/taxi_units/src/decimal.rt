@@ -4,7 +4,7 @@ ghost use Rattle.std.specs.Char.{is_ascii_digit};
 ghost use Rattle.std.specs.List.{prefix_len};
 ghost use Rattle.std.specs.Str.Parse.{digits_value_after};
 ghost use Rattle.taxi_units.specs.Number as spec;
-ghost use Rattle.taxi_units.specs.Number.{digits_at_front, decimal_read, whole_read, parts_read, units_read};
+ghost use Rattle.taxi_units.specs.NumberStages.{digits_at_front, decimal_read, whole_read, parts_read, units_read};
 ghost use Rattle.taxi_units.specs.Reading.{Gives};
 
 /// Why a text is no amount. A place is a byte's, from 0.
@@ -50,7 +50,7 @@ pub fn read_decimal(text: &[u8], decimals: u8) -> Result<u64, NumberFault>
 ///
 /// `None` where no digit, or more than 12, stand at the front. The limit is this project's own;
 /// `numbers_are_read_by_their_digits` says what each answer means.
-#[tactic(auto, unfolding(crate::specs::Number::number_at), using(crate::proofs::Digits::digits_in_front, crate::proofs::Digits::twelve_digits))]
+#[tactic(auto, unfolding(crate::specs::Number::number_at), using(crate::proofs::Digits::few_digits_in_front))]
 pub fn number_at(bytes: &[u8]) -> Option<(u64, &[u8])>
     ensures { Gives (λ x. (x.0, x.1.now)) result (spec.number_at bytes.now) }
 {
@@ -109,7 +109,7 @@ fn read_parts(whole: &[u8], parts: &[u8], decimals: u8) -> Result<u64, NumberFau
 }
 
 /// The units of a text of good form.
-#[tactic(auto, using(crate::proofs::Digits::units_by_parts, crate::proofs::Digits::too_big_by_parts, crate::proofs::Digits::too_big_by_whole))]
+#[tactic(auto, using(crate::proofs::Digits::units_of_both_parts))]
 fn read_units(whole: &[u8], parts: &[u8], decimals: u8) -> Result<u64, NumberFault>
     requires whole { digits_at_front whole.now ≡ length whole.now }
     requires parts { digits_at_front parts.now ≡ length parts.now }
@@ -165,44 +165,4 @@ fn number_from(start: u64, digits: &[u8]) -> Option<u64>
 }
 
 #[cfg(test)]
-mod tests {
-    use super::{NumberFault, number_at, read_decimal};
-
-    #[test]
-    fn reads_decimals(rt: HostRuntime) {
-        for (text, decimals, want) in [
-            ("", 2, Err(NumberFault::Empty)),
-            ("1.", 2, Err(NumberFault::BadDigit(2))),
-            (".5", 2, Err(NumberFault::BadDigit(0))),
-            ("1x", 2, Err(NumberFault::BadDigit(1))),
-            ("1.2x", 2, Err(NumberFault::BadDigit(3))),
-            ("1.234x", 2, Err(NumberFault::BadDigit(5))),
-            ("0.205", 2, Err(NumberFault::TooManyDecimals(4))),
-            ("1.5", 0, Err(NumberFault::TooManyDecimals(2))),
-            ("0.2", 2, Ok(20)),
-            ("007", 3, Ok(7000)),
-            ("0", 255, Ok(0)),
-            ("1", 12, Ok(1_000_000_000_000)),
-            ("1", 13, Err(NumberFault::TooBig)),
-            ("10000000000.00", 2, Ok(1_000_000_000_000)),
-            ("10000000000.01", 2, Err(NumberFault::TooBig)),
-        ] {
-            assert_eq!(rt; read_decimal(text.as_bytes(), decimals), want, "{text}");
-        }
-        assert_eq!(rt; read_decimal(&[b'9'; 400], 0), Err(NumberFault::TooBig));
-    }
-
-    #[test]
-    fn reads_numbers_in_front(rt: HostRuntime) {
-        for (text, want) in [
-            ("", None),
-            ("x1", None),
-            ("0042 x", Some((42, " x"))),
-            ("999999999999.", Some((999_999_999_999, "."))),
-            ("0000000000001", None),
-        ] {
-            let want = want.map(|(value, rest)| (value, rest.as_bytes()));
-            assert_eq!(rt; number_at(text.as_bytes()), want, "{text}");
-        }
-    }
-}
+mod tests;

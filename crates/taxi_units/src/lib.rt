@@ -17,7 +17,7 @@ mod time;
 pub use calendar::{
     date_of_place, date_place, dates_go_by_their_places, days_of_month, is_date, is_leap_year,
 };
-pub use counted::{AtMost, Counted, Keyed};
+pub use counted::{AtMost, Counted, Keyed, each_step_halves};
 pub use decimal::{NumberFault, number_at, read_decimal};
 pub use event::{Event, Key, Operating, Why};
 pub use line::{Line, LineFull, put_bytes, put_money, put_number, put_padded};

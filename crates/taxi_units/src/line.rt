@@ -26,10 +26,7 @@ pub fn put_bytes(line: &mut Line, bytes: &[u8]) -> Result<(), LineFull>
     ensures ok { OnOk result (line.new.items ≡ line.old.items ++ bytes.now) }
     ensures err { OnErr result (line.new ≡ line.old) }
 {
-    match line.try_extend_from_slice(bytes) {
-        Ok(()) => Ok(()),
-        Err(_) => Err(LineFull),
-    }
+    line.try_extend_from_slice(bytes).map_err(|_| LineFull)
 }
 
 /// Appends a number in decimal, without leading zeros.
@@ -65,7 +62,7 @@ pub fn put_padded(line: &mut Line, value: u64, width: u8) -> Result<(), LineFull
 /// digits, and where it has decimals a point and so many digits. The form is this project's own.
 ///
 /// `LineFull` where it doesn't fit; the line is then unchanged.
-#[tactic(auto, using(crate::proofs::Written::decimal_short, crate::proofs::Written::padded_short, crate::proofs::Written::powers_of_ten))]
+#[tactic(auto, using(crate::proofs::Written::amounts_are_short))]
 pub fn put_money(line: &mut Line, units: u128, decimals: u8) -> Result<(), LineFull>
     requires { decimals ≤ 3 }
     ensures variant { IsOk result ↔ (array_vec_len line.old + length (money_text decimals units) ≤ 512) }
@@ -84,7 +81,7 @@ pub fn put_money(line: &mut Line, units: u128, decimals: u8) -> Result<(), LineF
 }
 
 /// Appends a number in decimal.
-#[tactic(auto, using(crate::proofs::Written::decimal_of_one, crate::proofs::Written::length_of_more, crate::proofs::Written::append_of_more))]
+#[tactic(auto, using(crate::proofs::Written::number_digit_by_digit))]
 fn push_number(draft: &mut Draft, value: u128)
     requires { array_vec_len draft.old + length (decimal value) ≤ 256 }
     ensures items { draft.new.items ≡ draft.old.items ++ decimal value }
@@ -99,7 +96,7 @@ fn push_number(draft: &mut Draft, value: u128)
 }
 
 /// Appends a number in decimal, with zeros in front up to the width.
-#[tactic(auto, using(crate::proofs::Written::padded_of_none, crate::proofs::Written::length_padded_of_more, crate::proofs::Written::append_padded_of_more))]
+#[tactic(auto, using(crate::proofs::Written::padded_digit_by_digit))]
 fn push_padded(draft: &mut Draft, value: u64, width: u8)
     requires { array_vec_len draft.old + length (padded_text width value) ≤ 256 }
     ensures items { draft.new.items ≡ draft.old.items ++ padded_text width value }
@@ -114,55 +111,4 @@ fn push_padded(draft: &mut Draft, value: u64, width: u8)
 }
 
 #[cfg(test)]
-mod tests {
-    use super::{Line, LineFull, put_bytes, put_money, put_number, put_padded};
-
-    #[test]
-    fn writes_numbers(rt: HostRuntime) {
-        for (value, want) in [
-            (0, "0"),
-            (1080, "1080"),
-            (u128::MAX, "340282366920938463463374607431768211455"),
-        ] {
-            let mut line = Line::new();
-            assert_eq!(rt; put_number(&mut line, value), Ok(()), "{want}");
-            assert_eq!(rt; line.as_slice(), want.as_bytes(), "{want}");
-        }
-        for (value, width, want) in [
-            (7, 2, "07"),
-            (123, 2, "123"),
-            (0, 0, "0"),
-            (40, 5, "00040"),
-            (u64::MAX, 21, "018446744073709551615"),
-        ] {
-            let mut line = Line::new();
-            assert_eq!(rt; put_padded(&mut line, value, width), Ok(()), "{want}");
-            assert_eq!(rt; line.as_slice(), want.as_bytes(), "{want}");
-        }
-        for (units, decimals, want) in [
-            (0, 2, "0.00"),
-            (5, 2, "0.05"),
-            (12345, 3, "12.345"),
-            (7, 0, "7"),
-            (u128::MAX, 3, "340282366920938463463374607431768211.455"),
-        ] {
-            let mut line = Line::new();
-            assert!(rt; decimals <= 3);
-            assert_eq!(rt; put_money(&mut line, units, decimals), Ok(()), "{want}");
-            assert_eq!(rt; line.as_slice(), want.as_bytes(), "{want}");
-        }
-    }
-
-    #[test]
-    fn refuses_what_does_not_fit(rt: HostRuntime) {
-        let mut line = Line::new();
-        assert_eq!(rt; put_bytes(&mut line, &[b'x'; 500]), Ok(()));
-        assert_eq!(rt; put_bytes(&mut line, b"13 characters"), Err(LineFull));
-        assert_eq!(rt; put_number(&mut line, 1_000_000_000_000), Err(LineFull));
-        assert_eq!(rt; put_padded(&mut line, 7, 13), Err(LineFull));
-        assert_eq!(rt; put_money(&mut line, 100_000_000_000, 2), Err(LineFull));
-        assert_eq!(rt; line.as_slice(), [b'x'; 500].as_slice());
-        assert_eq!(rt; put_money(&mut line, 12_345_678_901, 2), Ok(()));
-        assert_eq!(rt; line.len(), 512);
-    }
-}
+mod tests;
