@@ -4,7 +4,7 @@ use Rattle.std.proofs.lemmas.Bool.{lt-ltb, le-ltb}
 use Rattle.std.proofs.lemmas.List.{append-nil, take_all}
 use Rattle.std.proofs.Math.Seq.{take-append-add}
 use Rattle.drive_text.specs.Drive.{events_in, first_bad, bad_at_end}
-use Rattle.drive_text.specs.Ending.{DriveEnd, Whole, BadAt, Endless, drive_limit, drive_end, end_by, events_of, IsSplit, ShowsEnd, TellsEnd, ReachesEnd}
+use Rattle.drive_text.specs.Ending.{DriveEnd, Whole, BadAt, Endless, drive_limit, drive_end, end_by, events_of, ShowsEnd, TellsEnd, ReachesEnd}
 use Rattle.drive_text.specs.Runs.{run_events}
 use Rattle.drive_text.proofs.Cuts.{first_bad-append, runs_in-append_bad}
 

@@ -1,4 +1,5 @@
--- What a line of a drive gives: none or one run.
+-- For proofs: what a line of a drive gives, read field by field as the code reads it. The law
+-- lines_give_what_the_table_says says what a line means, by the table in Table.
 use Rattle.std.specs.Prelude.{ℕ, List, [], ◌∷◌, length, Bool, nat_le, nat_lt, nat_eq, ◌&&◌, ◌==◌, if◌then◌else◌, Option, Some, None, codes}
 use Rattle.std.specs.Option.{option_map}
 use Rattle.std.specs.List.{list_all, slice_split}
@@ -16,26 +17,26 @@ use Rattle.taxi_units.specs.declared.event.Key.TheVariants.{Hire, Stop, Clear, P
 use Rattle.drive_text.specs.declared.run.Run.{Run}
 use Rattle.drive_text.specs.declared.run.Run.TheVariants.{One, Many}
 
--- whether a field is this word
+-- a test whether a field is the word
 abbrev pub is_word : List ℕ → List ℕ → Bool
 is_word word field = pointwise nat_eq field word
 
--- 1 to 12 digits
+-- a test whether a field is 1 to 12 digits
 abbrev pub is_number : List ℕ → Bool
 is_number field = list_all is_ascii_digit field && nat_le 1 (length field) && nat_le (length field) 12
 
--- the number that a field is, where it is one in this range
+-- the number of a field, where the field is one of `low` to `high`
 unfoldable pub number_in : ℕ → ℕ → List ℕ → Option ℕ
 number_in low high field =
     if is_number field && nat_le low (digits_value 10 field) && nat_le (digits_value 10 field) high
     then Some (digits_value 10 field)
     else None
 
--- a second of the years 2000 to 2199
+-- the second of a field, where the field is a number of the meter's seconds
 abbrev pub second_in : List ℕ → Option ℕ
 second_in field = number_in first_second last_second field
 
--- H, S, C
+-- the key of a field H, S or C
 unfoldable pub plain_key : List ℕ → Option Key
 plain_key name =
     if is_word (codes "H") name then Some Hire
@@ -43,7 +44,7 @@ plain_key name =
     else if is_word (codes "C") name then Some Clear
     else None
 
--- P n, Z n, E n
+-- the key of the fields P n, Z n or E n
 unfoldable pub numbered_key : List ℕ → List ℕ → Option Key
 numbered_key name number =
     if is_word (codes "P") name then option_map Position (number_in 0 99 number)
@@ -51,18 +52,18 @@ numbered_key name number =
     else if is_word (codes "E") name then option_map Extra (number_in 0 99 number)
     else None
 
--- the run of one event, of what was found
+-- the run of the one event that is made of what was found, if anything was
 abbrev pub one : {A : Type 0} → (A → Event) → Option A → Option Run
 one event found = option_map (λ x. One (event x)) found
 
--- D, T
+-- the run of a line of one field, D or T
 unfoldable pub run_of_one_field : List ℕ → Option Run
 run_of_one_field name =
     if is_word (codes "D") name then Some (One Down)
     else if is_word (codes "T") name then Some (One Tick)
     else None
 
--- U s, C s, P p, K with a plain key
+-- the run of a line of two fields: U s, C s, P p, or K with a key that has no number
 unfoldable pub run_of_two_fields : List ℕ → List ℕ → Option Run
 run_of_two_fields name field =
     if is_word (codes "U") name then one Up (second_in field)
@@ -71,21 +72,21 @@ run_of_two_fields name field =
     else if is_word (codes "K") name then one events.Key (plain_key field)
     else None
 
--- so many intervals, each with so many pulses
+-- the run of intervals that have the pulses of the first field each, as many as the second field says
 abbrev pub intervals_of : List ℕ → List ℕ → Option Run
 intervals_of first second = do
   pulses ← number_in 0 65535 first
   count ← number_in 1 36000 second
   Some (Many pulses count)
 
--- I p n, K with a numbered key
+-- the run of a line of three fields: I p n, or K with a key that has a number
 unfoldable pub run_of_three_fields : List ℕ → List ℕ → List ℕ → Option Run
 run_of_three_fields name first second =
     if is_word (codes "I") name then intervals_of first second
     else if is_word (codes "K") name then one events.Key (numbered_key first second)
     else None
 
--- by the number of fields
+-- the run of a line, by how many fields it has
 abbrev pub run_of_fields : List (List ℕ) → Option Run
 run_of_fields [] = None
 run_of_fields (name ∷ []) = run_of_one_field name
@@ -93,8 +94,8 @@ run_of_fields (name ∷ first ∷ []) = run_of_two_fields name first
 run_of_fields (name ∷ first ∷ second ∷ []) = run_of_three_fields name first second
 run_of_fields (name ∷ first ∷ second ∷ third ∷ more) = None
 
--- a line without its CR: nothing where it is empty or a comment, and else at most 80 bytes of fields, parted by one
--- blank each
+-- the runs of a line without its CR: none where it is empty or a comment, and else the one of its fields, which a blank
+-- parts and which have at most 80 bytes together
 unfoldable pub text_runs : List ℕ → Option (List Run)
 text_runs [] = Some []
 text_runs (c ∷ cs) =
@@ -102,6 +103,6 @@ text_runs (c ∷ cs) =
     else if nat_lt 80 (length (c ∷ cs)) then None
     else option_map (λ run. run ∷ []) (run_of_fields (slice_split (λ b. b == 32) (c ∷ cs)))
 
--- the runs that a whole line without its LF gives, where it is a line of a drive
+-- the runs of a line without its LF, where it is a line of a drive
 abbrev pub line_runs : List ℕ → Option (List Run)
 line_runs line = text_runs (strip_carriage_return line)

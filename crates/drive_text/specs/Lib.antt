@@ -1,6 +1,7 @@
 pub mod Drive
 pub mod Ending
 pub mod Fields
+pub mod Keeping
 pub mod Lines
 pub mod Part
 pub mod Ranges

@@ -1,4 +1,5 @@
--- What becomes of one part of a piece: a line with its LF, or what is left of the piece where no LF comes.
+-- For proofs: what becomes of one part of a piece, which is a line with its LF, or what is left of the piece where no
+-- LF comes.
 use Rattle.std.specs.Prelude.{◌≡◌, ℕ, ◌+◌, ◌<◌, ◌≤◌, List, ◌++◌, length, take, true, false, All}
 use Rattle.drive_text.specs.declared.run.Run.{Run}
 use Rattle.drive_text.specs.declared.state.State.{State}
@@ -6,12 +7,13 @@ use Rattle.drive_text.specs.Drive.{runs_in}
 use Rattle.drive_text.specs.Ranges.{IsRunInRange}
 use Rattle.drive_text.specs.Reading.{Reading, HasTaken}
 
--- what contracts see of a state
+-- the state of a reader, as contracts see it
 abbrev pub reading_of : State → Reading
 reading_of state =
     record { begun = state.begun; kept = state.kept.items; comment = state.comment; failed = state.failed }
 
--- the part in front of the rest is taken, and its runs are appended; before its end it gives none
+-- a reader takes the part of a piece that stands in front of the rest: it appends the part's runs, of which none comes
+-- before the part's end
 pub record TakesPart (old new : Reading) (piece rest : List ℕ) (before after : List Run) : Type 0 where
   pub part : List ℕ
   pub split : piece ≡ part ++ rest
@@ -25,7 +27,7 @@ pub record TakesPart (old new : Reading) (piece rest : List ℕ) (before after :
   pub read : (bytes : List ℕ) → HasTaken old bytes → runs_in (bytes ++ part) ≡ runs_in bytes ++ runs
   pub quiet : (bytes : List ℕ) (count : ℕ) → count < length part → runs_in (bytes ++ take count part) ≡ runs_in bytes
 
--- the reader fails in the piece, at this line
+-- a reader fails in a piece at the line of this number
 pub record FailsIn (old new : Reading) (piece : List ℕ) (line : ℕ) : Type 0 where
   pub failed : new.failed ≡ true
   pub number : new.begun ≡ line

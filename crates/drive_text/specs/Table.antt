@@ -1,4 +1,4 @@
--- The lines of a drive, as a table.
+-- Rules: the lines of a drive, as a table.
 use Rattle.std.specs.Prelude.{◌≡◌, ℕ, ◌≤◌, List, [], ◌∷◌, ◌++◌, length, codes}
 use Rattle.std.specs.Str.Parse.{IsNumeral, digits_value}
 use Rattle.taxi_units.specs.Time.{first_second, last_second}
@@ -8,7 +8,7 @@ use Rattle.taxi_units.specs.declared.event.Key.TheVariants.{Hire, Stop, Clear, P
 use Rattle.drive_text.specs.declared.run.Run.{Run}
 use Rattle.drive_text.specs.declared.run.Run.TheVariants.{One, Many}
 
--- these 1 to 12 digits write a number of this range
+-- digits write a number of a range where they are 1 to 12 decimal digits that have its value, and it lies in the range
 pub record IsNumberIn (low high : ℕ) (digits : List ℕ) (number : ℕ) : Type 0 where
   pub numeral : IsNumeral 10 digits
   pub few : length digits ≤ 12
@@ -16,7 +16,8 @@ pub record IsNumberIn (low high : ℕ) (digits : List ℕ) (number : ℕ) : Type
   pub above : low ≤ number
   pub below : number ≤ high
 
--- what a line without its line end gives: none or one run
+-- a line without its line end means no run where it is empty or a comment, and else the one run that its word and its
+-- numbers say
 pub data Means : List ℕ → List Run → Type 0 where
   empty : Means [] []
   comment : (text : List ℕ) → Means (codes "#" ++ text) []

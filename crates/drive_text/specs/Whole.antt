@@ -1,4 +1,4 @@
--- What the whole text of a drive says, line by line, and what pieces of it give.
+-- Rules: what the whole text of a drive says, line by line, and what pieces of it give.
 use Rattle.std.specs.Prelude.{◌≡◌, ◌⊎◌, ℕ, ◌+◌, List, [], ◌∷◌, ◌++◌, length, Option, Some, None, All, true, false, flat_map}
 use Rattle.std.specs.Str.Lines.{strip_carriage_return}
 use Rattle.drive_text.specs.declared.run.Run.{Run}
@@ -6,17 +6,18 @@ use Rattle.drive_text.specs.Drive.{runs_after}
 use Rattle.drive_text.specs.Lines.{text_of, is_too_long, IsOneLine}
 use Rattle.drive_text.specs.Table.{Means}
 
--- lines that give these runs, one after another, each by the table after one CR at its end is dropped
+-- lines give runs where each line gives what the table says of it, after one CR at its end is dropped, one after
+-- another
 pub data GiveAll : List (List ℕ) → List Run → Type 0 where
   no_line : GiveAll [] []
   one_more : (line : List ℕ) (lines : List (List ℕ)) (these others : List Run)
       → Means (strip_carriage_return line) these → GiveAll lines others → GiveAll (line ∷ lines) (these ++ others)
 
--- it is no line of a drive
+-- a line is bad where the table has no meaning for it, after one CR at its end is dropped
 abbrev pub IsBad : List ℕ → Type 0
 IsBad line = (runs : List Run) → ¬ (Means (strip_carriage_return line) runs)
 
--- the ended lines give these runs, and the unfinished one isn't too long as far as it goes
+-- bytes are good and give runs where their ended lines give these runs and their unfinished line isn't too long so far
 pub record IsGood (bytes : List ℕ) (runs : List Run) : Type 0 where
   pub lines : List (List ℕ)
   pub unfinished : List ℕ
@@ -26,13 +27,13 @@ pub record IsGood (bytes : List ℕ) (runs : List Run) : Type 0 where
   pub give : GiveAll lines runs
   pub short : is_too_long unfinished ≡ false
 
--- after the lines a bad one is ended, and other bytes follow, or one is too long that isn't ended
+-- bytes have a bad line behind some good lines where that line is ended and bad, or not ended and too long
 abbrev pub HasBadLine : List ℕ → List (List ℕ) → List ℕ → Type 0
 HasBadLine bytes lines line =
     ((behind : List ℕ) × (bytes ≡ text_of lines (line ++ 10 ∷ behind)) × IsBad line)
     ⊎ ((bytes ≡ text_of lines line) × (is_too_long line ≡ true))
 
--- the line of this number is the first bad one, and those before it give these runs
+-- bytes break at the line of a number where that line is bad and the lines before it are good and give the runs
 pub record BreaksAt (bytes : List ℕ) (number : ℕ) (runs : List Run) : Type 0 where
   pub lines : List (List ℕ)
   pub line : List ℕ
@@ -42,23 +43,24 @@ pub record BreaksAt (bytes : List ℕ) (number : ℕ) (runs : List Run) : Type 0
   pub number_is : number ≡ length lines + 1
   pub bad : HasBadLine bytes lines line
 
--- the first bad line, if there is one, and the runs before it
+-- bytes are read as good with their runs where no line is bad, and else as the number of their first bad line and the
+-- runs before it
 abbrev pub IsReadAs : List ℕ → Option ℕ → List Run → Type 0
 IsReadAs bytes None runs = IsGood bytes runs
 IsReadAs bytes (Some number) runs = BreaksAt bytes number runs
 
--- all lines are ended, and they give these runs
+-- bytes end whole with runs where all their lines are ended and give these runs
 pub record EndsWhole (bytes : List ℕ) (runs : List Run) : Type 0 where
   pub lines : List (List ℕ)
   pub text : bytes ≡ text_of lines []
   pub ended : All IsOneLine lines
   pub give : GiveAll lines runs
 
--- the bytes of pieces
+-- the bytes of some pieces are the bytes of each piece, one after another
 abbrev pub bytes_of : List (List ℕ) → List ℕ
 bytes_of pieces = flat_map (λ piece. piece) pieces
 
--- the runs that pieces give, taken in turn after other bytes
+-- pieces that are taken in turn after other bytes give the runs that each adds to the bytes before it
 abbrev pub given_by : List ℕ → List (List ℕ) → List Run
 given_by before [] = []
 given_by before (piece ∷ pieces) = runs_after before piece ++ given_by (before ++ piece) pieces

@@ -1,4 +1,4 @@
--- The line of one event.
+-- Rules: the line that is written for an event.
 use Rattle.std.specs.Prelude.{ℕ, List, ◌++◌, codes, decimal}
 use Rattle.taxi_units.specs.declared.event.Event.{Event}
 use Rattle.taxi_units.specs.declared.event.Event.TheVariants.{Up, Down, Pulses, Tick, Clock}
@@ -6,7 +6,7 @@ use Rattle.taxi_units.specs.declared.event.Event.TheVariants as events
 use Rattle.taxi_units.specs.declared.event.Key.{Key}
 use Rattle.taxi_units.specs.declared.event.Key.TheVariants.{Hire, Stop, Clear, Position, Zone, Extra}
 
--- the fields of a key
+-- a key is written by its letter, and by its number in decimal where it has one
 unfoldable pub key_text : Key → List ℕ
 key_text Hire = codes "H"
 key_text Stop = codes "S"
@@ -15,7 +15,7 @@ key_text (Position number) = codes "P " ++ decimal number
 key_text (Zone number) = codes "Z " ++ decimal number
 key_text (Extra number) = codes "E " ++ decimal number
 
--- the fields of an event, parted by blanks
+-- an event is written by its letter and its number or key, with a blank between them
 unfoldable pub event_fields : Event → List ℕ
 event_fields (Up second) = codes "U " ++ decimal second
 event_fields Down = codes "D"
@@ -24,6 +24,6 @@ event_fields Tick = codes "T"
 event_fields (Clock second) = codes "C " ++ decimal second
 event_fields (events.Key key) = codes "K " ++ key_text key
 
--- the line of an event, without leading zeros, and its LF
+-- the line of an event is its fields, without leading zeros, and an LF
 abbrev pub event_text : Event → List ℕ
 event_text event = event_fields event ++ codes "\n"

@@ -164,10 +164,7 @@ fn run_of_fields(bytes: &[u8]) -> Option<Run>
 pub(crate) fn is_comment(line: &[u8]) -> bool
     ensures { result ≡ lines.is_comment line.now }
 {
-    match line.split_first() {
-        None => false,
-        Some((first, _)) => *first == b'#',
-    }
+    line.starts_with(b"#")
 }
 
 /// Whether a line without its CR is too long, where it is no comment.
@@ -181,10 +178,7 @@ pub(crate) fn is_long(text: &[u8]) -> bool
 pub(crate) fn without_carriage_return(line: &[u8]) -> &[u8]
     ensures { result.now ≡ strip_carriage_return line.now }
 {
-    match line.strip_suffix(b"\r") {
-        None => line,
-        Some(text) => text,
-    }
+    line.strip_suffix(b"\r").unwrap_or(line)
 }
 
 /// The run of a whole line without its LF and its CR: none where the line is empty or a comment.

@@ -140,11 +140,7 @@ impl State {
         requires { is_comment self.now.kept.items ≡ false }
         ensures { result ≡ is_comment (self.now.kept.items ++ part.now) }
     {
-        if self.kept.is_empty() {
-            fields::is_comment(part)
-        } else {
-            false
-        }
+        self.kept.is_empty() && fields::is_comment(part)
     }
 
     /// The number of the line in which the next byte stands.

@@ -1,25 +1,25 @@
--- The dates of changes, in the words of the calendar.
+-- Rules: the dates of changes, in the words of the calendar.
 use Rattle.std.specs.Prelude.{◌≡◌, ◌≢◌, ◌⊎◌, ℕ, ◌+◌, ◌-◌, ◌*◌, ◌<◌, ◌≤◌, ◌==◌, if◌then◌else◌, pos, List, length, filter, slice_index}
 use Rattle.std.specs.List.{range_with_len}
 use Rattle.interval_clock.specs.Calendar.{IsDate, day_number_of, days_of_month, weekday_of}
 use Rattle.offset_rules.specs.Rule.{Change}
 
--- the weekday of a date of 1970 or later
+-- the weekday of a date of 1970 or later is that of its day number
 abbrev pub weekday_on : (year month date : ℕ) → ℕ
 weekday_on year month date = weekday_of (pos (day_number_of year month date))
 
--- how often a weekday comes in a month before a date
+-- a weekday comes this many times in a month before a date
 unfoldable pub times_before : (year month weekday date : ℕ) → ℕ
 times_before year month weekday date =
     length (filter (λ earlier. weekday_on year month earlier == weekday) (range_with_len 1 (date - 1)))
 
--- a weekday doesn't come again in a month after a date
+-- a weekday comes no more in a month after a date where each later date of the month has another weekday
 abbrev pub ComesNoMore : (year month weekday date : ℕ) → Type 0
 ComesNoMore year month weekday date =
     (later : ℕ) → date < later → IsDate year month later → weekday_on year month later ≢ weekday
 
--- a change comes on the date of its month that has its weekday and before which the weekday comes one time less than
--- its number says; or, for the last, after which it doesn't come again
+-- a change comes on the date of its month that has its weekday and before which that weekday comes one time less than
+-- the change's number says; or, for the number 5, which means the last, after which that weekday comes no more
 pub record IsDateOfChange (year : ℕ) (change : Change) (date : ℕ) : Type 0 where
   pub there : IsDate year change.month date
   pub weekday : weekday_on year change.month date ≡ change.weekday
@@ -27,22 +27,22 @@ pub record IsDateOfChange (year : ℕ) (change : Change) (date : ℕ) : Type 0 w
       ((change.number ≤ 4) × (times_before year change.month change.weekday date + 1 ≡ change.number))
       ⊎ ((change.number ≡ 5) × ComesNoMore year change.month change.weekday date)
 
--- the dates of a month that have a weekday, in order
+-- the dates of a month that fall on a weekday, in order
 abbrev pub dates_on : (year month weekday : ℕ) → List ℕ
 dates_on year month weekday =
     filter (λ date. weekday_on year month date == weekday) (range_with_len 1 (days_of_month year month))
 
--- the place of a change among them, from 0: the last for 5, and else by its number
+-- a change stands among the dates of its weekday at the place of its number, counted from 1, and at the last for 5
 abbrev pub place_among : (number : ℕ) → (dates : List ℕ) → ℕ
 place_among number dates = if number == 5 then length dates - 1 else number - 1
 
--- the date of a change in a year
+-- the date of a change in a year is the one at its place among the dates of its month that fall on its weekday
 unfoldable pub date_of_change : (year : ℕ) → Change → ℕ
 date_of_change year change =
     slice_index (dates_on year change.month change.weekday)
     (place_among change.number (dates_on year change.month change.weekday))
 
--- the second of a change in a year: its minute in UTC on its date
+-- the second of a change in a year is the beginning of its minute, in UTC, on its date
 unfoldable pub second_of_change : (year : ℕ) → Change → ℕ
 second_of_change year change =
     day_number_of year change.month (date_of_change year change) * 86400 + change.minute * 60

@@ -1,10 +1,11 @@
--- The forms of the four lines, in words that share nothing with how they are read.
+-- Rules: the forms of the four lines of a text of rules.
 use Rattle.std.specs.Prelude.{◌≡◌, ℕ, ◌+◌, ◌*◌, ◌≤◌, ℤ, pos, neg_ℤ, List, ◌∷◌, ◌++◌, length, codes}
 use Rattle.std.specs.Str.Parse.{IsNumeral, digits_value}
 use Rattle.offset_rules.specs.Names.{IsName, day_names, month_names, number_names}
 use Rattle.offset_rules.specs.Rule.{Change}
 
--- so few to so many digits write a number that is no greater than this
+-- digits are a figure of a number where they are at least `fewest` and at most `widest` decimal digits that have its
+-- value, and it is at most `greatest`
 pub record IsFigure (fewest widest greatest : ℕ) (digits : List ℕ) (number : ℕ) : Type 0 where
   pub numeral : IsNumeral 10 digits
   pub some : fewest ≤ length digits
@@ -12,12 +13,12 @@ pub record IsFigure (fewest widest greatest : ℕ) (digits : List ℕ) (number :
   pub value : digits_value 10 digits ≡ number
   pub small : number ≤ greatest
 
--- an offset in seconds: 1 to 5 digits, at most 50400, with a minus before them or not
+-- a text says an offset in seconds where it is 1 to 5 digits of a number up to 50400, or a minus and then such digits
 pub data IsSeconds : List ℕ → ℤ → Type 0 where
   ahead : (digits : List ℕ) (n : ℕ) → IsFigure 1 5 50400 digits n → IsSeconds digits (pos n)
   behind : (digits : List ℕ) (n : ℕ) → IsFigure 1 5 50400 digits n → IsSeconds (45 ∷ digits) (neg_ℤ (pos n))
 
--- HH:MM, and its minute of the day
+-- a text says a minute of the day where it has the form HH:MM, with an hour up to 23 and a minute up to 59
 pub record IsTime (text : List ℕ) (minute : ℕ) : Type 0 where
   pub hours : List ℕ
   pub minutes : List ℕ
@@ -28,7 +29,8 @@ pub record IsTime (text : List ℕ) (minute : ℕ) : Type 0 where
   pub rest_is : IsFigure 2 2 59 minutes rest
   pub minute_is : minute ≡ hour * 60 + rest
 
--- a change: its number, its weekday, its month and its time in UTC, with a blank between them
+-- a text says a change by the names of its number, its weekday and its month, and its time in UTC, with a blank between
+-- each two of them
 pub record IsChangeText (text : List ℕ) (change : Change) : Type 0 where
   pub number : List ℕ
   pub weekday : List ℕ
@@ -40,13 +42,13 @@ pub record IsChangeText (text : List ℕ) (change : Change) : Type 0 where
   pub month_is : IsName month_names change.month month
   pub time_is : IsTime time change.minute
 
--- a line of a name and an offset
+-- a line says an offset where it is the name, which ends in a blank, and then the offset
 pub record IsOffsetLine (name line : List ℕ) (offset : ℤ) : Type 0 where
   pub value : List ℕ
   pub line_is : line ≡ name ++ value
   pub value_is : IsSeconds value offset
 
--- a line of a name and a change
+-- a line says a change where it is the name, which ends in a blank, and then the change
 pub record IsChangeLine (name line : List ℕ) (change : Change) : Type 0 where
   pub value : List ℕ
   pub line_is : line ≡ name ++ value

@@ -1,4 +1,4 @@
--- The list of offsets that a rule gives for some years.
+-- Rules: the list of offsets that a rule gives for some years.
 use Rattle.std.specs.Prelude.{◌≡◌, ◌≢◌, ◌↔◌, ℕ, ◌+◌, ◌-◌, ◌≤◌, Bool, not, ◌==◌, nat_lt, if◌then◌else◌, ℤ, List, [], ◌∷◌, Contains, filter, flat_map}
 use Rattle.std.specs.List.{range_with_len}
 use Rattle.interval_clock.specs.Offsets.{EachPlace, RisesAt}
@@ -7,14 +7,14 @@ use Rattle.offset_rules.specs.Changes.{second_of_change}
 use Rattle.offset_rules.specs.Rule.{Rule}
 use Rattle.offset_rules.specs.Summer.{first_second_of, offset_by}
 
--- years that are asked for: at most fifteen of 2000 to 2199
+-- a list may be asked for one to fifteen years, one after another, of 2000 to 2199
 pub record AreYears (from to : ℕ) : Type 0 where
   pub first : 2000 ≤ from
   pub order : from ≤ to
   pub last : to ≤ 2199
   pub few : to ≤ from + 14
 
--- the two changes of a year in order of time, each with the offset that begins there
+-- a year has two changes, in order of time, each with the offset that begins there
 unfoldable pub changes_of_year : Rule → (year : ℕ) → List (ℕ × ℤ)
 changes_of_year rule year =
     let begins = second_of_change year rule.begin in
@@ -22,30 +22,30 @@ changes_of_year rule year =
     if nat_lt begins ends then (begins, rule.summer) ∷ (ends, rule.standard) ∷ []
     else (ends, rule.standard) ∷ (begins, rule.summer) ∷ []
 
--- the changes of the years from one to another, year by year
+-- the years from one to another have the changes of each year, year by year
 abbrev pub changes_of_years : Rule → (from to : ℕ) → List (ℕ × ℤ)
 changes_of_years rule from to = flat_map (changes_of_year rule) (range_with_len from (to + 1 - from))
 
--- a change comes after the first second of all
+-- a test whether a change comes at another second than the meter's first
 abbrev pub is_later : ℕ × ℤ → Bool
 is_later pair = not (pair.0 == first_second)
 
--- the first second of all with the offset at the beginning of the first year, then the changes of the years, without
--- one at the first second of all
+-- the pairs of a rule for some years are the meter's first second with the offset at the beginning of the first year,
+-- and then the changes of the years, except one at the meter's first second
 unfoldable pub pairs_of : Rule → (from to : ℕ) → List (ℕ × ℤ)
 pairs_of rule from to =
     (first_second, offset_by rule (first_second_of from)) ∷ filter is_later (changes_of_years rule from to)
 
--- a pair is a change of one of the years: the second at which summer time begins or ends in it, and the offset that
--- begins there
+-- a pair is a change in some years where its second is the one at which summer time begins or ends in one of them, and
+-- its offset is the one that begins there
 pub data IsChangeIn (rule : Rule) (from to : ℕ) : ℕ × ℤ → Type 0 where
   begins : (year : ℕ) → from ≤ year → year ≤ to
       → IsChangeIn rule from to (second_of_change year rule.begin, rule.summer)
   ends : (year : ℕ) → from ≤ year → year ≤ to
       → IsChangeIn rule from to (second_of_change year rule.end, rule.standard)
 
--- the list that is asked for: first the first second of all with the offset at the beginning of the first year; then
--- exactly the changes of the years, but none at that second; in order of time
+-- a list of pairs is that of a rule for some years where it begins with the meter's first second and the offset at the
+-- beginning of the first year, then has exactly the changes of the years at other seconds, and its seconds rise
 pub record IsListOf (rule : Rule) (from to : ℕ) (pairs : List (ℕ × ℤ)) : Type 0 where
   pub later : List (ℕ × ℤ)
   pub pairs_are : pairs ≡ (first_second, offset_by rule (first_second_of from)) ∷ later

@@ -1,4 +1,5 @@
--- How rules are read from the front of a text: what is found, and what stands after it.
+-- For proofs: how rules are read from the front of a text, in the stages of the code. The law
+-- texts_say_rules_line_by_line says what the answers mean.
 use Rattle.std.specs.Prelude.{ℕ, ◌+◌, ◌*◌, ◌==◌, ◌&&◌, nat_le, nat_lt, if◌then◌else◌, ℤ, pos, neg_ℤ, List, [], ◌∷◌, length, Option, Some, None, Result, Ok, Err, codes}
 use Rattle.taxi_units.specs.Number.{number_at}
 use Rattle.taxi_units.specs.Reading.{◌>>=◌, word_at}
@@ -7,17 +8,18 @@ use Rattle.offset_rules.specs.Rule.{Change, Rule}
 use Rattle.offset_rules.specs.declared.fault.RuleFault.{RuleFault}
 use Rattle.offset_rules.specs.declared.fault.RuleFault.TheVariants.{TooLong, BadLine, SameMonth}
 
--- a number at the front, where it has so few to so many digits and is no greater than this
+-- a number that was found and the rest after it, where it has `fewest` to `widest` digits and is at most `greatest`
 abbrev pub where_fits : (fewest widest greatest : ℕ) → (text : List ℕ) → ℕ × List ℕ → Option (ℕ × List ℕ)
 where_fits fewest widest greatest text x =
     if (nat_le (length x.1 + fewest) (length text)
     && (nat_le (length text) (length x.1 + widest) && nat_le x.0 greatest))
     then Some x else None
 
+-- the number at the front of a text, where it has `fewest` to `widest` digits and is at most `greatest`, and the rest
 unfoldable pub figure_at : (fewest widest greatest : ℕ) → List ℕ → Option (ℕ × List ℕ)
 figure_at fewest widest greatest text = number_at text >>= where_fits fewest widest greatest text
 
--- an offset in seconds
+-- the offset in seconds at the front of a text, and the rest
 unfoldable pub seconds_at : List ℕ → Option (ℤ × List ℕ)
 seconds_at text = signed_at text (word_at (codes "-") text)
   where
@@ -25,17 +27,18 @@ seconds_at text = signed_at text (word_at (codes "-") text)
     signed_at text (Some digits) = figure_at 1 5 50400 digits >>= (λ n. Some (neg_ℤ (pos n.0), n.1))
     signed_at text None = figure_at 1 5 50400 text >>= (λ n. Some (pos n.0, n.1))
 
--- a number, where its name was found, and else what other names give
+-- the number whose name was found and the rest, and where it wasn't found what the other names give
 abbrev pub found_or : ℕ → Option (List ℕ) → Option (ℕ × List ℕ) → Option (ℕ × List ℕ)
 found_or number (Some rest) others = Some (number, rest)
 found_or number None others = others
 
--- the number of the first of some names that stands at the front, where they are numbered from one on
+-- the number of the first of some names that a text begins with, where the names are numbered from `number` on, and the
+-- rest
 abbrev pub numbered_at : (names : List (List ℕ)) → (number : ℕ) → (text : List ℕ) → Option (ℕ × List ℕ)
 numbered_at [] number text = None
 numbered_at (name ∷ names) number text = found_or number (word_at name text) (numbered_at names (number + 1) text)
 
--- the minute of the day of hours and minutes
+-- the minute of the day of the hours and minutes at the front of a text, and the rest
 unfoldable pub time_at : List ℕ → Option (ℕ × List ℕ)
 time_at text = do
   hour ← figure_at 2 2 23 text
@@ -43,7 +46,7 @@ time_at text = do
   minute ← figure_at 2 2 59 minutes
   Some (hour.0 * 60 + minute.0, minute.1)
 
--- a change
+-- the change at the front of a text, and the rest
 unfoldable pub change_at : List ℕ → Option (Change × List ℕ)
 change_at text = do
   number ← numbered_at number_names 1 text
@@ -55,7 +58,7 @@ change_at text = do
   minute ← time_at time
   Some (record { number = number.0; weekday = weekday.0; month = month.0; minute = minute.0 }, minute.1)
 
--- a line of a name and an offset
+-- the offset of a line of a name and an offset at the front of a text, and the rest after its LF
 unfoldable pub offset_line_at : (name text : List ℕ) → Option (ℤ × List ℕ)
 offset_line_at name text = do
   value ← word_at name text
@@ -63,7 +66,7 @@ offset_line_at name text = do
   rest ← word_at (codes "\n") offset.1
   Some (offset.0, rest)
 
--- a line of a name and a change
+-- the change of a line of a name and a change at the front of a text, and the rest after its LF
 unfoldable pub change_line_at : (name text : List ℕ) → Option (Change × List ℕ)
 change_line_at name text = do
   value ← word_at name text
@@ -71,17 +74,17 @@ change_line_at name text = do
   rest ← word_at (codes "\n") change.1
   Some (change.0, rest)
 
--- read on, or name the line
+-- reading goes on with what was found in a line, and names the line where nothing was found
 abbrev pub or_bad : {A : Type 0} → (line : ℕ) → Option A → (A → Result Rule RuleFault) → Result Rule RuleFault
 or_bad line (Some x) on = on x
 or_bad line None on = Err (BadLine line)
 
--- the rule of four lines, and what stands after them
+-- the answer to four good lines and what stands after them
 abbrev pub whole : Rule → (rest : List ℕ) → Result Rule RuleFault
 whole rule [] = if rule.begin.month == rule.end.month then Err SameMonth else Ok rule
 whole rule (c ∷ cs) = Err (BadLine 5)
 
--- the four lines
+-- the answer to a text that isn't too long, read line by line
 unfoldable pub lines_read : List ℕ → Result Rule RuleFault
 lines_read text =
     or_bad 1 (offset_line_at (codes "standard ") text) (λ standard.
@@ -90,6 +93,6 @@ lines_read text =
     or_bad 4 (change_line_at (codes "end ") begin.1) (λ end.
     whole (record { standard = standard.0; summer = summer.0; begin = begin.0; end = end.0 }) end.1))))
 
--- the answer to a text
+-- the answer to any text
 unfoldable pub rules_read : List ℕ → Result Rule RuleFault
 rules_read text = if nat_lt 4096 (length text) then Err TooLong else lines_read text

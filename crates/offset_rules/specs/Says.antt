@@ -1,11 +1,11 @@
--- What a text of rules says, in words that share nothing with how it is read.
+-- Rules: what a text of rules says.
 use Rattle.std.specs.Prelude.{◌≡◌, ◌≢◌, ℕ, ◌<◌, ◌≤◌, ℤ, List, [], ◌∷◌, ◌++◌, length, Result, Ok, Err, codes}
 use Rattle.offset_rules.specs.Forms.{IsChangeLine, IsOffsetLine}
 use Rattle.offset_rules.specs.Rule.{Change, Rule}
 use Rattle.offset_rules.specs.declared.fault.RuleFault.{RuleFault}
 use Rattle.offset_rules.specs.declared.fault.RuleFault.TheVariants.{TooLong, BadLine, SameMonth}
 
--- the text is four lines, each ended by an LF, that say the parts of a rule
+-- a text says a rule where it is four lines, each ended by an LF, that say the rule's parts in their order
 pub record AreLinesOf (text : List ℕ) (rule : Rule) : Type 0 where
   pub first : List ℕ
   pub second : List ℕ
@@ -17,28 +17,32 @@ pub record AreLinesOf (text : List ℕ) (rule : Rule) : Type 0 where
   pub begin : IsChangeLine (codes "begin ") third rule.begin
   pub end : IsChangeLine (codes "end ") fourth rule.end
 
--- the forms of the four lines, whatever they say
+-- a line has the form of a `standard` line where it says some offset by that name
 abbrev pub IsStandard : List ℕ → Type 0
 IsStandard line = (offset : ℤ) × IsOffsetLine (codes "standard ") line offset
 
+-- a line has the form of a `summer` line where it says some offset by that name
 abbrev pub IsSummer : List ℕ → Type 0
 IsSummer line = (offset : ℤ) × IsOffsetLine (codes "summer ") line offset
 
+-- a line has the form of a `begin` line where it says some change by that name
 abbrev pub IsBegin : List ℕ → Type 0
 IsBegin line = (change : Change) × IsChangeLine (codes "begin ") line change
 
+-- a line has the form of an `end` line where it says some change by that name
 abbrev pub IsEnd : List ℕ → Type 0
 IsEnd line = (change : Change) × IsChangeLine (codes "end ") line change
 
--- a line of a form stands first, and this after its LF
+-- a line of a form stands first in a text where the text is that line, an LF, and then the rest
 abbrev pub StandsFirst : (Form : List ℕ → Type 0) → (text rest : List ℕ) → Type 0
 StandsFirst Form text rest = (line : List ℕ) × (text ≡ line ++ 10 ∷ rest) × Form line
 
--- no line of a form stands first
+-- a text lacks a form where no line of that form stands first in it
 abbrev pub Lacks : (Form : List ℕ → Type 0) → (text : List ℕ) → Type 0
 Lacks Form text = (rest : List ℕ) → ¬ (StandsFirst Form text rest)
 
--- the first of the lines 1 to 4 that is not as it should be or is absent; or 5, where bytes follow the four
+-- a text breaks at the first of its lines 1 to 4 that doesn't have its form or is absent; or at line 5, where all four
+-- have their forms and bytes follow them
 pub data BreaksAt : (text : List ℕ) → (line : ℕ) → Type 0 where
   at_first : (text : List ℕ) → Lacks IsStandard text → BreaksAt text 1
   at_second : (text a : List ℕ) → StandsFirst IsStandard text a → Lacks IsSummer a → BreaksAt text 2
@@ -49,8 +53,8 @@ pub data BreaksAt : (text : List ℕ) → (line : ℕ) → Type 0 where
   after_them : (text a b c d : List ℕ) → StandsFirst IsStandard text a → StandsFirst IsSummer a b
       → StandsFirst IsBegin b c → StandsFirst IsEnd c d → d ≢ [] → BreaksAt text 5
 
--- the answer to a text: a text of at most 4,096 bytes says a rule with changes in two different months; else its fault
--- is that it is too long, or its first bad line, or that it has both changes in one month
+-- the answer to a text is TooLong above 4,096 bytes; else the line at which it breaks; else SameMonth where it says a
+-- rule with both changes in one month; and else the rule that it says
 abbrev pub IsReadAs : (text : List ℕ) → Result Rule RuleFault → Type 0
 IsReadAs text (Ok rule) = (length text ≤ 4096) × AreLinesOf text rule × (rule.begin.month ≢ rule.end.month)
 IsReadAs text (Err TooLong) = 4096 < length text

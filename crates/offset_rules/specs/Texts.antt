@@ -1,28 +1,28 @@
--- The texts that are written: the lines of a list of offsets, and a plain text of rules.
+-- Rules: the texts that are written, which are the lines of a list of offsets and a plain text of rules.
 use Rattle.std.specs.Prelude.{ℕ, suc, ◌/◌, ◌%◌, ℤ, pos, negsuc, List, ◌∷◌, ◌++◌, flat_map, codes}
 use Rattle.std.specs.Fmt.{decimal}
 use Rattle.taxi_units.specs.Number.{padded_text}
 use Rattle.offset_rules.specs.Names.{day_names, month_names, name_of, number_names}
 use Rattle.offset_rules.specs.Rule.{Change, Rule}
 
--- an offset in seconds, with a minus before it where it is below zero
+-- an offset is written in decimal seconds, with a minus before them where it is below zero
 abbrev pub offset_text : ℤ → List ℕ
 offset_text (pos n) = decimal n
 offset_text (negsuc n) = 45 ∷ decimal (suc n)
 
--- the line of a pair: its second, and the offset that is in force from it on
+-- the line of a pair says its second and the offset that is in force from that second on
 abbrev pub offset_line : ℕ × ℤ → List ℕ
 offset_line pair = codes "offset " ++ (decimal pair.0 ++ (codes " " ++ (offset_text pair.1 ++ codes "\n")))
 
--- the lines of a list of offsets, in its order
+-- a list of offsets is written as the line of each of its pairs, in order
 unfoldable pub offset_lines : List (ℕ × ℤ) → List ℕ
 offset_lines pairs = flat_map offset_line pairs
 
--- HH:MM
+-- a minute of the day is written HH:MM
 abbrev pub time_text : (minute : ℕ) → List ℕ
 time_text minute = padded_text 2 (minute / 60) ++ (codes ":" ++ padded_text 2 (minute % 60))
 
--- a change: its number, its weekday, its month and its time
+-- a change is written by the names of its number, its weekday and its month, and its time, with blanks between them
 abbrev pub change_text : Change → List ℕ
 change_text change =
     name_of number_names change.number
@@ -30,7 +30,7 @@ change_text change =
     ++ (codes " " ++ (name_of month_names change.month
     ++ (codes " " ++ time_text change.minute)))))
 
--- a text of a rule: four lines, each ended by an LF
+-- the plain text of a rule is its four lines, each ended by an LF
 abbrev pub plain_text : Rule → List ℕ
 plain_text rule =
     (codes "standard " ++ offset_text rule.standard) ++ 10

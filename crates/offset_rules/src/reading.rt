@@ -35,7 +35,7 @@ pub fn read_rules(text: &[u8]) -> Result<Rules, RuleFault>
     read_text(text)
 }
 
-/// The same, as the answer alone.
+/// Reads rules, as the answer of the code's stages.
 #[tactic(auto, unfolding(crate::specs::Reading::rules_read))]
 fn read_text(text: &[u8]) -> Result<Rules, RuleFault>
     ensures { result ≡ rules_read text.now }
