@@ -1,4 +1,4 @@
--- The cuts and the holidays of a tariff under a constant.
+-- Rules: the cuts and the holidays of a tariff under a constant.
 use Rattle.std.specs.Prelude.{ℕ, ◌+◌, ◌*◌, ◌/◌, ◌<◌, ◌≤◌, Bool, ◌&&◌, ◌==◌, nat_le, nat_lt, List, [], map, length, get_or, ℤ, pos}
 use Rattle.std.specs.List.{list_any, count_by}
 use Rattle.std.specs.Ordering.{int_eq}
@@ -9,8 +9,9 @@ use Rattle.tariff_check.specs.Parts.{DateNumbers, holidays_of}
 use Rattle.tariff_check.specs.declared.fault.Dimension.{Dimension}
 use Rattle.tariff_check.specs.declared.fault.Dimension.TheVariants.{MonthDay, Minute, Distance, Time}
 
--- Numbers in order: the cuts of each dimension, places in a leap year, minutes, pulses and ticks, and the day numbers
--- of the holidays. Cuts that are different distances may be the same number of pulses, so those don't fall.
+-- the lists of a tariff are numbers in order: the cuts of each dimension, which are places in a leap year, minutes,
+-- pulses and ticks, and the day numbers of the holidays; different distances may be the same number of pulses, so a
+-- number may come twice among the pulses
 pub record CutLists : Type 0 where
   pub month_days : List ℕ
   pub minutes : List ℕ
@@ -18,15 +19,15 @@ pub record CutLists : Type 0 where
   pub times : List ℕ
   pub holidays : List ℕ
 
--- the fewest pulses that are so many decimetres, k pulses being a kilometre
+-- a distance in decimetres has passed with this many pulses, and not with fewer, where k pulses make a kilometre
 abbrev pub pulses_for : (k decimetres : ℕ) → ℕ
 pulses_for k decimetres = (k * decimetres + 9999) / 10000
 
--- the day number of a date
+-- a date has the day number that the calendar gives it
 abbrev pub day_of : DateNumbers → ℕ
 day_of d = day_number_of d.year d.month d.date
 
--- the lists of a tariff under a constant
+-- a tariff has these lists where k pulses make a kilometre
 abbrev pub lists_of : Tree → (k : ℕ) → CutLists
 lists_of t k =
     record {
@@ -37,27 +38,27 @@ lists_of t k =
       holidays = with_each [] (map day_of (holidays_of t.lines));
     }
 
--- the list of a dimension
+-- a dimension has this one of the lists
 abbrev pub list_in : CutLists → Dimension → List ℕ
 list_in lists MonthDay = lists.month_days
 list_in lists Minute = lists.minutes
 list_in lists Distance = lists.distances
 list_in lists Time = lists.times
 
--- how many cuts are at most a value
+-- a value has this many cuts at or below it
 abbrev pub count_at_most : (value : ℕ) → List ℕ → ℕ
 count_at_most value cuts = count_by (λ cut. nat_le cut value) cuts
 
--- no number is less than one before it
+-- numbers don't fall where none is less than one before it
 abbrev pub IsNotFalling : List ℕ → Type 0
 IsNotFalling xs = (i j : ℕ) → i < j → j < length xs → get_or xs i 0 ≤ get_or xs j 0
 
--- numbers that don't fall, and no more than so many
+-- numbers are ordered where they don't fall and are at most `most`
 pub record IsOrdered (most : ℕ) (xs : List ℕ) : Type 0 where
   pub few : length xs ≤ most
   pub not_falling : IsNotFalling xs
 
--- the lists of a sound tariff: none is longer than a look-up reaches
+-- the lists of a sound tariff are ordered, and none is longer than a look-up reaches
 pub record AreOrdered (lists : CutLists) : Type 0 where
   pub month_days : IsOrdered 63 lists.month_days
   pub minutes : IsOrdered 63 lists.minutes
@@ -65,22 +66,22 @@ pub record AreOrdered (lists : CutLists) : Type 0 where
   pub times : IsOrdered 15 lists.times
   pub holidays : IsOrdered 255 lists.holidays
 
--- how many cuts may be read for that
+-- a look-up in a dimension reads at most this many cuts
 abbrev pub most_reads : Dimension → ℕ
 most_reads MonthDay = 6
 most_reads Minute = 6
 most_reads Distance = 4
 most_reads Time = 4
 
--- a day number is that of a holiday
+-- a test whether a day number is that of a holiday
 abbrev pub has_day : List ℕ → ℤ → Bool
 has_day holidays day = list_any (λ holiday. int_eq (pos holiday) day) holidays
 
--- whether there is a holiday
+-- a test whether the lists have a holiday
 abbrev pub has_days : CutLists → Bool
 has_days lists = nat_lt 0 (length lists.holidays)
 
--- a date stands in a holiday line
+-- a test whether a date stands in a holiday line
 abbrev pub is_holiday : List Line → (year month date : ℕ) → Bool
 is_holiday lines year month date =
     list_any (λ (d : DateNumbers). (d.year == year) && ((d.month == month) && (d.date == date))) (holidays_of lines)

@@ -1,4 +1,4 @@
--- Contexts that a trip may have, and those between the same cuts.
+-- Rules: contexts that a trip may have, and those between the same cuts.
 use Rattle.std.specs.Prelude.{◌≡◌, ℕ, ◌*◌, ◌^◌, ◌≤◌, Bool, true}
 use Rattle.taxi_units.specs.Time.{longest_trip}
 use Rattle.tariff_syntax.specs.Tree.{Tree}
@@ -7,7 +7,8 @@ use Rattle.tariff_syntax.specs.declared.context.Context.{Context}
 use Rattle.tariff_check.specs.Parts.{positions_of, zones_of, has_holidays}
 use Rattle.tariff_calendar.specs.Lists.{CutLists, count_at_most}
 
--- a context that a trip may have, where there are so many positions and zones, and holidays or none
+-- a context is one that a trip may have where its constant is k, its position and its zone are among those that there
+-- are, it is a holiday only where there are holidays, and its other numbers are in their ranges
 pub record IsInRange (k positions zones : ℕ) (holidays : Bool) (x : Context) : Type 0 where
   pub constant : x.constant ≡ k
   pub position : IsFromTo 1 positions x.position
@@ -19,12 +20,13 @@ pub record IsInRange (k positions zones : ℕ) (holidays : Bool) (x : Context) :
   pub pulses : x.pulses ≤ 5 * 10 ^ 18
   pub ticks : x.ticks ≤ longest_trip
 
--- a context that a trip under a tariff may have
+-- a context is one that a trip under a tariff may have where its position, its zone and its kind of day are among the
+-- tariff's, and its numbers in their ranges
 abbrev pub IsInRangeOf : Tree → (k : ℕ) → Context → Type 0
 IsInRangeOf t k x = IsInRange k (positions_of t.lines) (zones_of t.lines) (has_holidays t.lines) x
 
--- two contexts in one cell: the same position, zone, weekday and kind of day, and in each dimension between the same
--- cuts
+-- two contexts are in one cell where they have the same position, zone, weekday and kind of day, and lie between the
+-- same cuts in each dimension
 pub record IsSameCell (lists : CutLists) (x y : Context) : Type 0 where
   pub position : x.position ≡ y.position
   pub zone : x.zone ≡ y.zone

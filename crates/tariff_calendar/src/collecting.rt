@@ -45,13 +45,10 @@ pub fn holiday_days(alloc: Global, lines: &[TariffLine]) -> Result<Vec<u64>, NoM
     ensures { IfOk result (λ v. v.items ≡ with_each [] (map day_of (holidays_of (map line_of lines.now)))) }
 {
     let days = different_days(alloc, lines)?;
-    match days.iter().copied().collect(alloc) {
-        Ok(days) => Ok(days),
-        Err(_) => Err(NoMemory),
-    }
+    days.iter().copied().collect(alloc).map_err(|_| NoMemory)
 }
 
-/// The same, as a set.
+/// The day numbers of the holidays of some lines, as a set.
 fn different_days(alloc: Global, lines: &[TariffLine]) -> Result<BTreeSet<u64>, NoMemory>
     requires { All IsSoundHoliday (holidays_of (map line_of lines.now)) }
     ensures { IfOk result (λ s. s.keys ≡ with_each [] (map day_of (holidays_of (map line_of lines.now)))) }

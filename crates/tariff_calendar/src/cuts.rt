@@ -122,7 +122,7 @@ impl Cuts {
         self.ordered(dimension)
     }
 
-    /// The same, with what a look-up needs.
+    /// The cuts of a dimension, with what a look-up needs.
     fn ordered(&self, dimension: Dimension) -> &[u64]
         ensures value { result.now ≡ list_in self.now dimension }
         ensures ordered { IsOrdered (most_cuts dimension) result.now }

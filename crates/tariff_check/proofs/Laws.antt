@@ -3,13 +3,14 @@ use Rattle.std.proofs.Common.{◌≡◌, ◌↔◌, ℕ, ◌<◌, ◌≤◌, ◌
 use Rattle.tariff_syntax.specs.Meaning.{initial_place, minimum_place, rate_place}
 use Rattle.tariff_syntax.specs.Reads.{RiseInNumber}
 use Rattle.tariff_syntax.specs.Tree.{Tree, Line}
-use Rattle.tariff_syntax.specs.Writable.{IsWritable}
+use Rattle.tariff_syntax.specs.Writable.{IsFromTo, IsWritable}
 use Rattle.tariff_syntax.specs.declared.context.Context.{Context}
 use Rattle.tariff_check.specs.Cuts.{IsInOrder, all_cuts, cuts_of}
 use Rattle.tariff_check.specs.Faults.{IsSound, fault_of}
 use Rattle.tariff_check.specs.Lines.{LineTest, IsFirstLine, IsNowhere, first_line}
 use Rattle.tariff_check.specs.Measure.{IsLeastCommonMultiple, measures_of, measure_of}
 use Rattle.tariff_check.specs.Parts.{initials_of, minimums_of, rates_of}
+use Rattle.tariff_check.specs.Parts.{supplement_of}
 use Rattle.tariff_check.specs.Sound.{HasSoundParts}
 use Rattle.tariff_check.specs.declared.fault.CheckFault.TheVariants.{NoCommonMeasure}
 use Rattle.tariff_check.specs.declared.fault.Dimension.{Dimension}
@@ -19,6 +20,7 @@ use Rattle.tariff_check.proofs.DefaultLines.{initial_always, minimum_there, rate
 use Rattle.tariff_check.proofs.FirstLine.{first_line_is, nowhere_is, smallest_line}
 use Rattle.tariff_check.proofs.SoundParts.{sound_parts}
 use Rattle.tariff_check.proofs.Staging.{none_if_sound, sound_if_none}
+use Rattle.tariff_check.proofs.Supplements.{none_of_other_numbers}
 
 pub faults_name_the_first_line-named : (test : LineTest) (lines : List Line) (number : ℕ) → (first_line test lines ≡ Some number) ↔ IsFirstLine test lines number
 faults_name_the_first_line-named = first_line_is
@@ -47,6 +49,9 @@ measures_are_least-sound = sound_measures
 
 pub measures_are_least-refused : (t : Tree) → fault_of t ≡ Some NoCommonMeasure → All (λ n. 0 < n) (measures_of t.lines)
 measures_are_least-refused = refused_measures
+
+pub supplements_are_numbered_to_16 : (t : Tree) (number : ℕ) → IsWritable t → (IsFromTo 1 16 number → ⊥) → supplement_of t.lines number ≡ None
+supplements_are_numbered_to_16 = none_of_other_numbers
 
 pub lines_that_hold_are_there-rate : (t : Tree) (x : Context) → IsSound t → (place : ℕ) × (rate_place t x ≡ Some place) × (place < length (rates_of t.lines))
 lines_that_hold_are_there-rate = rate_always

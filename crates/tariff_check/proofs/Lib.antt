@@ -1,12 +1,26 @@
+-- the common measure is the least common multiple of all measures
 mod CommonMeasure
+-- how cuts are put among others
 mod CutLaws
+-- cuts are in order, each once
 mod CutOrder
+-- some line always holds
 mod DefaultLines
+-- the first line that is so
 mod FirstLine
+-- the laws that the crates above may cite
 pub mod Laws
+-- what holds of each line of a sound tariff whose numbers a text can have
 mod LineFacts
+-- the common measure of more than two measures
 mod MeasureLaws
+-- the least common multiple of two numbers is what its name says
 mod LeastMultiples
+-- what holds of the lines of a tariff holds of its parts
 mod PartLaws
+-- a sound tariff has its parts in their ranges
 mod SoundParts
+-- the first fault, stage by stage
 mod Staging
+-- supplements outside the numbers that a text can have
+mod Supplements

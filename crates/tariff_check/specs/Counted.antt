@@ -1,4 +1,4 @@
--- The numbers of a tariff, as the code has them.
+-- For proofs: the numbers of a tariff, as the code has them. Cuts, Cells, Measure and Parts say what they are.
 use Rattle.std.specs.Prelude.{◌≡◌, ◌≤◌, List, Some, None}
 use Rattle.tariff_syntax.specs.Tree.{Line}
 use Rattle.tariff_check.specs.Cells.{cells_of}
@@ -10,14 +10,14 @@ use Rattle.tariff_check.specs.declared.cells.Counts.{Counts}
 use Rattle.tariff_check.specs.declared.numbers.Numbers.{Numbers}
 use Rattle.tariff_check.specs.declared.fault.Dimension.TheVariants.{MonthDay, Minute, Distance, Time}
 
--- these are how many cuts there are in each dimension, and they aren't too many
+-- counts are those of the cuts of lines, in each dimension, and none is above the most that there may be
 pub record HasCounts (lines : List Line) (counts : Counts) : Type 0 where
   pub month_day : (counts.month_day ≡ count_of MonthDay lines) × (counts.month_day ≤ 63)
   pub minute : (counts.minute ≡ count_of Minute lines) × (counts.minute ≤ 63)
   pub distance : (counts.distance ≡ count_of Distance lines) × (counts.distance ≤ 15)
   pub time : (counts.time ≡ count_of Time lines) × (counts.time ≤ 15)
 
--- lines have no fault, and these are their numbers
+-- numbers are those of lines that have no fault
 pub record HasNumbers (lines : List Line) (n : Numbers) : Type 0 where
   pub sound : first_some (faults_of lines) ≡ None
   pub step : step_of lines ≡ Some (n.step, n.rounding)

@@ -1,4 +1,4 @@
--- The cuts of a tariff: the numbers with which its conditions compare.
+-- Rules: the cuts of a tariff, which are the numbers with which its conditions compare.
 use Rattle.std.specs.Prelude.{ℕ, ◌+◌, ◌<◌, ◌||◌, ◌==◌, if◌then◌else◌, List, [], ◌∷◌, ◌++◌, length, get_or, Contains}
 use Rattle.std.specs.Prelude.{◌↔◌}
 use Rattle.std.specs.BTreeSet.{insert_key}
@@ -12,15 +12,16 @@ use Rattle.tariff_check.specs.Lines.{atoms_in}
 use Rattle.tariff_check.specs.declared.fault.Dimension.{Dimension}
 use Rattle.tariff_check.specs.declared.fault.Dimension.TheVariants.{MonthDay, Minute, Distance, Time}
 
--- a place where a range of days begins or ends; the year's begin and end cut nothing
+-- a range of days that begins at a place of the year, or ends before it, cuts there, except at the year's begin and end
 abbrev pub day_cut : ℕ → List ℕ
 day_cut place = if (place == 0) || (place == 366) then [] else place ∷ []
 
--- a minute where a range begins or ends; midnight cuts nothing
+-- a range of minutes that begins or ends at a minute cuts there, except at midnight
 abbrev pub minute_cut : ℕ → List ℕ
 minute_cut minute = if minute == 0 then [] else minute ∷ []
 
--- the cuts of an atom: a range of days is cut before its first day and after its last
+-- an atom has these cuts in a dimension: a range of dates before its first day and after its last, a range of minutes
+-- at its two ends, a distance at its decimetres, a time at its tenths of a second
 abbrev pub atom_cuts : Dimension → Condition → List ℕ
 atom_cuts MonthDay (tree.date from_month from_date to_month to_date) =
     day_cut (date_place from_month from_date) ++ day_cut (date_place to_month to_date + 1)
@@ -29,35 +30,35 @@ atom_cuts Distance (tree.after_distance decimetres) = decimetres ∷ []
 atom_cuts Time (tree.after_time tenths) = tenths ∷ []
 atom_cuts dimension atom = []
 
--- the cuts of all conditions, as they stand in the text
+-- lines have the cuts of all atoms of their conditions, in the order of the text
 abbrev pub all_cuts : Dimension → List Line → List ℕ
 all_cuts dimension lines = flat_map (λ (l : Line). flat_map (atom_cuts dimension) (atoms_in l.entry)) lines
 
--- more numbers at their places among numbers in order, each once
+-- more numbers are put among numbers in order, each at its place, and once only
 abbrev pub with_each : (numbers more : List ℕ) → List ℕ
 with_each numbers [] = numbers
 with_each numbers (n ∷ ns) = with_each (insert_key nat_cmp numbers n) ns
 
--- the different cuts of a dimension, in order
+-- a dimension has these different cuts, in order
 abbrev pub cuts_of : Dimension → List Line → List ℕ
 cuts_of dimension lines = with_each [] (all_cuts dimension lines)
 
--- how many different cuts there are
+-- a dimension has this many different cuts
 abbrev pub count_of : Dimension → List Line → ℕ
 count_of dimension lines = length (cuts_of dimension lines)
 
--- how many there may be
+-- a dimension may have at most this many different cuts
 abbrev pub most_cuts : Dimension → ℕ
 most_cuts MonthDay = 63
 most_cuts Minute = 63
 most_cuts Distance = 15
 most_cuts Time = 15
 
--- each number is greater than the one before it
+-- numbers rise where each is greater than those before it
 abbrev pub IsRising : List ℕ → Type 0
 IsRising xs = (i j : ℕ) → i < j → j < length xs → get_or xs i 0 < get_or xs j 0
 
--- these are some numbers in order, each once
+-- a list is some numbers in order where it rises and has exactly these numbers
 pub record IsInOrder (numbers ordered : List ℕ) : Type 0 where
   pub rising : IsRising ordered
   pub same : (n : ℕ) → Contains numbers n ↔ Contains ordered n

@@ -1,4 +1,4 @@
--- The faults of a tariff, in their order.
+-- Rules: the faults of a tariff, in their order.
 use Rattle.std.specs.Prelude.{◌≡◌, ℕ, ◌^◌, Bool, true, false, not, ◌==◌, nat_lt, List, [], ◌∷◌, ◌++◌, Option, Some}
 use Rattle.std.specs.Prelude.{None, is_none, All}
 use Rattle.std.specs.List.{list_any}
@@ -22,32 +22,32 @@ use Rattle.tariff_check.specs.declared.fault.CheckFault.TheVariants.{LineAfterDe
 use Rattle.tariff_check.specs.declared.fault.CheckFault.TheVariants.{MeasureZero, NoCommonMeasure, TooManyCuts}
 use Rattle.tariff_check.specs.declared.fault.CheckFault.TheVariants.{TooManyCells}
 
--- a fault where something is so
+-- the fault is there where the test is true
 abbrev pub fault_if : Bool → CheckFault → Option CheckFault
 fault_if true fault = Some fault
 fault_if false fault = None
 
--- a fault of the first line that is so
+-- the fault is there with the number of a line, where there is such a line
 abbrev pub fault_at : (ℕ → CheckFault) → Option ℕ → Option CheckFault
 fault_at fault None = None
 fault_at fault (Some line) = Some (fault line)
 
--- the display step is 0
+-- a test whether there is a display step, and it is 0
 abbrev pub is_step_zero : Option (ℕ × Rounding) → Bool
 is_step_zero None = false
 is_step_zero (Some s) = s.0 == 0
 
--- too many cuts in a dimension
+-- the fault TooManyCuts is there where a dimension has more cuts than it may have
 abbrev pub cuts_fault : List Line → Dimension → Option CheckFault
 cuts_fault lines dimension =
     fault_if (nat_lt (most_cuts dimension) (count_of dimension lines))
     (TooManyCuts dimension (count_of dimension lines))
 
--- whether a line without a condition is there
+-- a test whether one of some lines has no condition
 abbrev pub has_default : List (Option Condition) → Bool
 has_default conditions = list_any is_none conditions
 
--- the faults of lines and of their common measure where their conditions hold, in their order
+-- the first twelve faults, each there or not, are these in order
 abbrev pub faults_before_cuts : List Line → List (Option CheckFault)
 faults_before_cuts ls =
     fault_if (is_none (step_of ls)) NoStep
@@ -64,7 +64,7 @@ faults_before_cuts ls =
     ∷ fault_if (nat_lt (10 ^ 18) (measure_of ls)) NoCommonMeasure
     ∷ []
 
--- those of cuts and cells
+-- the last faults, those of the cuts of each dimension and of cells, each there or not, are these in order
 abbrev pub faults_from_cuts : List Line → List (Option CheckFault)
 faults_from_cuts ls =
     cuts_fault ls MonthDay
@@ -74,20 +74,20 @@ faults_from_cuts ls =
     ∷ fault_if (nat_lt 64512 (cells_of ls)) (TooManyCells (cells_of ls))
     ∷ []
 
--- each fault where its condition holds, in their order
+-- all faults, each there or not, stand in this order
 abbrev pub faults_of : List Line → List (Option CheckFault)
 faults_of ls = faults_before_cuts ls ++ faults_from_cuts ls
 
--- none of some faults is there
+-- a list of faults that are each there or not has none
 abbrev pub HasNone : List (Option CheckFault) → Type 0
 HasNone faults = All (λ (f : Option CheckFault). f ≡ None) faults
 
--- the first that is there
+-- the first of a list of values that are each there or not
 abbrev pub first_some : {A : Type 0} → List (Option A) → Option A
 first_some [] = None
 first_some (x ∷ xs) = option_or x (first_some xs)
 
--- the first fault of a tariff
+-- the fault of a tariff is the first, in the order of all faults, that is there
 abbrev pub fault_of : Tree → Option CheckFault
 fault_of t = first_some (faults_of t.lines)
 

@@ -1,4 +1,4 @@
--- What may be wrong with a line, where the lines before it are known.
+-- Rules: what may be wrong with a line, where the lines before it are known.
 use Rattle.std.specs.Prelude.{◌≡◌, ℕ, ◌^◌, Bool, true, false, not, ◌&&◌, ◌||◌, ◌==◌, if◌then◌else◌, nat_le, nat_lt}
 use Rattle.std.specs.Prelude.{List, [], ◌∷◌, ◌++◌, Option, Some, None}
 use Rattle.std.specs.List.{list_any, count_by}
@@ -8,7 +8,7 @@ use Rattle.tariff_syntax.specs.Condition.{Condition}
 use Rattle.tariff_syntax.specs.Tree.{Line, Entry, step, positions, zones, holiday, supplement, initial, rate, minimum}
 use Rattle.tariff_check.specs.Parts.{when_part}
 
--- the atoms of a condition, in order
+-- a condition has these atoms, in order
 abbrev pub atoms_of : Condition → List Condition
 atoms_of (tree.and left right) = atoms_of left ++ atoms_of right
 atoms_of (tree.or left right) = atoms_of left ++ atoms_of right
@@ -22,16 +22,17 @@ atoms_of tree.holiday = tree.holiday ∷ []
 atoms_of (tree.after_distance decimetres) = tree.after_distance decimetres ∷ []
 atoms_of (tree.after_time tenths) = tree.after_time tenths ∷ []
 
--- those of a condition that may not be there
+-- a condition that may be none has its atoms, or none
 abbrev pub atoms_if : Option Condition → List Condition
 atoms_if None = []
 atoms_if (Some when) = atoms_of when
 
--- the atoms of a line's condition
+-- a line has the atoms of its condition
 abbrev pub atoms_in : Entry → List Condition
 atoms_in entry = atoms_if (when_part entry)
 
--- two lines of which a tariff may have only one
+-- a test whether a tariff may have only one of two lines: two steps, two numbers of positions, two of zones, two
+-- supplements of one number, or one holiday twice
 abbrev pub excludes : Entry → Entry → Bool
 excludes (step amount rounding) (step other also) = true
 excludes (positions number) (positions other) = true
@@ -41,7 +42,7 @@ excludes (holiday year month date) (holiday year₂ month₂ date₂) =
     (year == year₂) && ((month == month₂) && (date == date₂))
 excludes entry other = false
 
--- two rates, two initial hire fees, two minimum fares or two holidays
+-- a test whether two lines are both rates, both initial hire fees, both minimum fares or both holidays
 abbrev pub is_alike : Entry → Entry → Bool
 is_alike (rate a b c e when) (rate a₂ b₂ c₂ e₂ when₂) = true
 is_alike (initial amount covers when) (initial amount₂ covers₂ when₂) = true
@@ -49,43 +50,43 @@ is_alike (minimum amount when) (minimum amount₂ when₂) = true
 is_alike (holiday year month date) (holiday year₂ month₂ date₂) = true
 is_alike entry other = false
 
--- how many rates, initial hire fees, minimum fares or holidays there may be
+-- a tariff may have at most 255 holidays, 64 rates, 64 initial hire fees and 64 minimum fares
 abbrev pub most_alike : Entry → ℕ
 most_alike (holiday year month date) = 255
 most_alike entry = 64
 
--- a line, and one of the same kind without a condition
+-- a test whether the second line is the default for the first: it is of the same kind and has no condition
 abbrev pub is_default_for : Entry → Entry → Bool
 is_default_for (rate a b c e when) (rate a₂ b₂ c₂ e₂ None) = true
 is_default_for (initial amount covers when) (initial amount₂ covers₂ None) = true
 is_default_for (minimum amount when) (minimum amount₂ None) = true
 is_default_for entry other = false
 
--- an atom that names a position or a zone above the highest
+-- a test whether an atom names a position or a zone above the highest
 abbrev pub is_unknown : (highest_position highest_zone : ℕ) → Condition → Bool
 is_unknown highest_position highest_zone (tree.position number) = nat_lt highest_position number
 is_unknown highest_position highest_zone (tree.zone number) = nat_lt highest_zone number
 is_unknown highest_position highest_zone atom = false
 
--- an atom with a month and date that no leap year has
+-- a test whether an atom has a month and date that no leap year has
 abbrev pub is_undated : Condition → Bool
 is_undated (tree.date from_month from_date to_month to_date) =
     not (is_date 2000 from_month from_date && is_date 2000 to_month to_date)
 is_undated atom = false
 
--- an `after` of 0
+-- a test whether an atom is an `after` of 0
 abbrev pub is_after_nothing : Condition → Bool
 is_after_nothing (tree.after_distance decimetres) = decimetres == 0
 is_after_nothing (tree.after_time tenths) = tenths == 0
 is_after_nothing atom = false
 
--- a holiday that is no date of the years 2000 to 2199
+-- a test whether a line is a holiday that is no date of the years 2000 to 2199
 abbrev pub is_no_holiday : Entry → Bool
 is_no_holiday (holiday year month date) = not (nat_le 2000 year && (nat_le year 2199 && is_date year month date))
 is_no_holiday entry = false
 
--- a step, an amount of a rate or a supplement above 1,000,000, or an initial hire fee, its cover
--- or a minimum fare above 99,999,999
+-- a test whether a line has an amount that is too great: a step, an amount of a rate or a supplement above 1,000,000,
+-- or an initial hire fee, its cover or a minimum fare above 99,999,999
 abbrev pub is_great : Entry → Bool
 is_great (step amount rounding) = nat_lt (10 ^ 6) amount
 is_great (supplement number amount most) = nat_lt (10 ^ 6) amount
@@ -94,59 +95,60 @@ is_great (initial amount covers when) = nat_lt 99999999 amount || nat_lt 9999999
 is_great (minimum amount when) = nat_lt 99999999 amount
 is_great entry = false
 
--- a rate with a measure of 0
+-- a test whether a line is a rate with a measure of 0
 abbrev pub is_for_nothing : Entry → Bool
 is_for_nothing (rate a b c e when) = (b == 0) || (e == 0)
 is_for_nothing entry = false
 
--- what a line may have, with the lines before it
+-- a line is tested by what it says and by the lines before it
 abbrev pub LineTest : Type 0
 LineTest = List Line → Entry → Bool
 
--- an earlier line excludes it
+-- a line is a duplicate where an earlier line excludes it
 abbrev pub is_duplicate : LineTest
 is_duplicate before entry = list_any (λ (l : Line). excludes entry l.entry) before
 
--- as many lines of its kind as there may be stand before it
+-- a line is one too many where as many lines of its kind as there may be stand before it
 abbrev pub is_one_too_many : LineTest
 is_one_too_many before entry = nat_le (most_alike entry) (count_by (λ (l : Line). is_alike entry l.entry) before)
 
--- its condition names a position or a zone that there isn't
+-- a line names something unknown where its condition names a position or a zone above the highest
 abbrev pub names_unknown : (highest_position highest_zone : ℕ) → LineTest
 names_unknown highest_position highest_zone before entry =
     list_any (is_unknown highest_position highest_zone) (atoms_in entry)
 
--- a line of its kind without a condition stands before it
+-- a line is after its default where a line of its kind without a condition stands before it
 abbrev pub is_after_default : LineTest
 is_after_default before entry = list_any (λ (l : Line). is_default_for entry l.entry) before
 
--- it has a bad date
+-- a line has a bad date where it is a holiday out of range or its condition has a date that no leap year has
 abbrev pub has_bad_date : LineTest
 has_bad_date before entry = is_no_holiday entry || list_any is_undated (atoms_in entry)
 
--- it has an amount that is too big
+-- a line has a great amount where one of its amounts is above its limit
 abbrev pub has_great_amount : LineTest
 has_great_amount before entry = is_great entry
 
--- it has a measure of 0
+-- a line has a measure of 0 where it is a rate for 0, or its condition has an `after` of 0
 abbrev pub has_measure_zero : LineTest
 has_measure_zero before entry = is_for_nothing entry || list_any is_after_nothing (atoms_in entry)
 
--- the number of the first of some lines that is so, after the lines before them
+-- the first of some lines that passes a test, with other lines before them, is told by its number
 abbrev pub first_after : LineTest → (before : List Line) → List Line → Option ℕ
 first_after test before [] = None
 first_after test before (l ∷ ls) = if test before l.entry then Some l.line else first_after test (before ++ l ∷ []) ls
 
--- the number of the first line that is so
+-- the first of all lines that passes a test is told by its number
 abbrev pub first_line : LineTest → List Line → Option ℕ
 first_line test lines = first_after test [] lines
 
--- no line is so, after the lines before it
+-- a test is passed nowhere where no line passes it with the lines before it
 abbrev pub IsNowhere : LineTest → List Line → Type 0
 IsNowhere test lines =
     (before after : List Line) (line : Line) → lines ≡ before ++ line ∷ after → test before line.entry ≡ false
 
--- the same in words: this is a line's number, the line is so, and no line before it is
+-- a number is that of the first line that passes a test where a line has it, that line passes, and no line before it
+-- does
 pub record IsFirstLine (test : LineTest) (lines : List Line) (number : ℕ) : Type 0 where
   pub before : List Line
   pub line : Line

@@ -1,4 +1,4 @@
--- The rules for a line and for an atom, as the code names them.
+-- For proofs: the rules for a line and for an atom, as the code names them. Lines says what each rule is.
 use Rattle.std.specs.Prelude.{ℕ, Bool, List, [], ◌∷◌, Option, Some, None}
 use Rattle.tariff_syntax.specs.Condition.{Condition}
 use Rattle.tariff_check.specs.Lines.{LineTest, is_unknown, is_undated, is_after_nothing, is_duplicate, is_one_too_many}
@@ -12,13 +12,13 @@ use Rattle.tariff_check.specs.declared.fault.CheckFault.TheVariants.{MeasureZero
 use Rattle.tariff_check.specs.declared.rules.LineRule.{LineRule}
 use Rattle.tariff_check.specs.declared.rules.LineRule.TheVariants as line
 
--- an atom breaks a rule
+-- a test whether an atom breaks a rule
 abbrev pub breaks_atom_rule : AtomRule → Condition → Bool
 breaks_atom_rule (atom.Known highest_position highest_zone) = is_unknown highest_position highest_zone
 breaks_atom_rule atom.Dated = is_undated
 breaks_atom_rule atom.AfterSome = is_after_nothing
 
--- a line breaks a rule, where the lines before it are known
+-- a test whether a line breaks a rule, with the lines before it
 abbrev pub breaks_rule : LineRule → LineTest
 breaks_rule line.Once = is_duplicate
 breaks_rule line.Few = is_one_too_many
@@ -28,7 +28,7 @@ breaks_rule line.Dated = has_bad_date
 breaks_rule line.Moderate = has_great_amount
 breaks_rule line.Measured = has_measure_zero
 
--- the fault of a line that breaks a rule
+-- the fault of a line that breaks a rule, with the line's number
 abbrev pub fault_of_rule : LineRule → (line : ℕ) → CheckFault
 fault_of_rule line.Once = Duplicate
 fault_of_rule line.Few = TooManyLines
@@ -38,7 +38,7 @@ fault_of_rule line.Dated = BadDate
 fault_of_rule line.Moderate = AmountTooBig
 fault_of_rule line.Measured = MeasureZero
 
--- two cuts, each of which may not be there, as a list
+-- the list of two cuts that are each there or not
 abbrev pub cut_list : Option ℕ × Option ℕ → List ℕ
 cut_list (None, None) = []
 cut_list (Some a, None) = a ∷ []

@@ -1,4 +1,4 @@
--- What a sound tariff is made of.
+-- Rules: what a sound tariff is made of.
 use Rattle.std.specs.Prelude.{◌≡◌, ℕ, ◌^◌, ◌≤◌, true, Some, length, All, IsTrue}
 use Rattle.drive_modes.specs.declared.meterage.Rounding.{Rounding}
 use Rattle.taxi_units.specs.Calendar.{is_date}
@@ -16,29 +16,29 @@ use Rattle.tariff_check.specs.Parts.{RateNumbers, InitialNumbers, SupplementNumb
 use Rattle.tariff_check.specs.Parts.{zones_of, holidays_of, supplement_of, initials_of, minimums_of, rates_of}
 use Rattle.tariff_check.specs.declared.fault.Dimension.{Dimension}
 
--- the numbers of a rate
+-- a rate is sound where its amounts are at most 1,000,000 and its measures 1 to 10^12
 pub record IsSoundRate (r : RateNumbers) : Type 0 where
   pub distance_amount : r.a ≤ 10 ^ 6
   pub distance : IsFromTo 1 (10 ^ 12) r.b
   pub time_amount : r.c ≤ 10 ^ 6
   pub time : IsFromTo 1 (10 ^ 12) r.e
 
--- those of an initial hire fee
+-- an initial hire fee is sound where its amount and its cover are at most 99,999,999
 pub record IsSoundInitial (i : InitialNumbers) : Type 0 where
   pub amount : i.amount ≤ 99999999
   pub covers : i.covers ≤ 99999999
 
--- those of a supplement
+-- a supplement is sound where its amount is at most 1,000,000 and it may be added 1 to 99 times
 pub record IsSoundSupplement (s : SupplementNumbers) : Type 0 where
   pub amount : s.amount ≤ 10 ^ 6
   pub most : IsFromTo 1 99 s.most
 
--- a holiday is a date of the years 2000 to 2199
+-- a holiday is sound where it is a date of the years 2000 to 2199
 pub record IsSoundHoliday (d : DateNumbers) : Type 0 where
   pub year : IsFromTo 2000 2199 d.year
   pub date : IsTrue (is_date d.year d.month d.date)
 
--- an atom: dates of a leap year, and an `after` of more than 0
+-- an atom is sound where its dates are ones that a leap year has, and where its `after` is more than 0
 abbrev pub IsSoundAtom : Condition → Type 0
 IsSoundAtom (tree.date from_month from_date to_month to_date) =
     IsTrue (is_date 2000 from_month from_date) × IsTrue (is_date 2000 to_month to_date)
@@ -46,11 +46,11 @@ IsSoundAtom (tree.after_distance decimetres) = 1 ≤ decimetres
 IsSoundAtom (tree.after_time tenths) = 1 ≤ tenths
 IsSoundAtom atom = Unit {0}
 
--- an atom of a sound tariff whose numbers a text can have
+-- an atom is good where it is sound and a text can have its numbers
 abbrev pub IsGoodAtom : Condition → Type 0
 IsGoodAtom atom = IsWritableCondition atom × IsSoundAtom atom
 
--- a sound tariff, part by part
+-- a tariff has sound parts where each of them is sound and there are no more of them than there may be
 pub record HasSoundParts (t : Tree) : Type 0 where
   pub decimals : t.decimals ≤ 3
   pub step : (s : ℕ × Rounding) × (step_of t.lines ≡ Some s) × IsFromTo 1 (10 ^ 6) s.0

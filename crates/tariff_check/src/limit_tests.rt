@@ -111,6 +111,46 @@ fn counts_cuts_up_to_their_limits(rt: HostRuntime) -> Result<(), Fail> {
     Ok(())
 }
 
+/// The cells, or the fault, of nine positions under a condition that cuts two dimensions, and perhaps time.
+const CELLS: [(
+    (Dimension, u8),
+    (Dimension, u8),
+    &str,
+    Result<u64, CheckFault>,
+); 3] = [
+    (
+        (Dimension::Minute, 63),
+        (Dimension::Distance, 15),
+        "",
+        Ok(64_512),
+    ),
+    (
+        (Dimension::Minute, 63),
+        (Dimension::Distance, 15),
+        " or after 60.0 s",
+        Err(CheckFault::TooManyCells(129_024)),
+    ),
+    (
+        (Dimension::MonthDay, 24),
+        (Dimension::Minute, 40),
+        "",
+        Err(CheckFault::TooManyCells(64_575)),
+    ),
+];
+
+#[test]
+fn counts_cells_up_to_their_limit(rt: HostRuntime) -> Result<(), Fail> {
+    for (first, second, more, want) in CELLS {
+        let one = cuts_of(rt.alloc(), first.0, first.1)?;
+        let other = cuts_of(rt.alloc(), second.0, second.1)?;
+        let text = format!(in rt.alloc();
+            "positions 9\nstep 1\ninitial 1\nminimum 2 when {one} or {other}{more}\nrate 1 per 1 m, 1 per 1 s\n"
+        )?;
+        assert_eq!(rt; cells_of(rt.alloc(), text.as_str()), want, "{text}");
+    }
+    Ok(())
+}
+
 /// Lines of which there may be 64: what stands before them, the lines, the last of them, and the line
 /// that is one too many.
 const LINES: [(&str, &str, &str, u32); 3] = [

@@ -15,51 +15,6 @@ fn outcome(alloc: Global, text: &str) -> Result<(u64, u64), CheckFault> {
     }
 }
 
-/// Nine positions, the minutes 1 to 63 and the distances 100 m to 1500 m.
-const FULL: &str =
-    "positions 9\nstep 0.10\ninitial 4.00\nrate 0.10 per 100.0 m, 0.10 per 20.0 s when time \
-    00:00..00:01 or time 00:02..00:03 or time 00:04..00:05 or time 00:06..00:07 or time \
-    00:08..00:09 or time 00:10..00:11 or time 00:12..00:13 or time 00:14..00:15 or time \
-    00:16..00:17 or time 00:18..00:19 or time 00:20..00:21 or time 00:22..00:23 or time \
-    00:24..00:25 or time 00:26..00:27 or time 00:28..00:29 or time 00:30..00:31 or time \
-    00:32..00:33 or time 00:34..00:35 or time 00:36..00:37 or time 00:38..00:39 or time \
-    00:40..00:41 or time 00:42..00:43 or time 00:44..00:45 or time 00:46..00:47 or time \
-    00:48..00:49 or time 00:50..00:51 or time 00:52..00:53 or time 00:54..00:55 or time \
-    00:56..00:57 or time 00:58..00:59 or time 01:00..01:01 or time 01:02..01:03 or after \
-    100.0 m or after 200.0 m or after 300.0 m or after 400.0 m or after 500.0 m or after \
-    600.0 m or after 700.0 m or after 800.0 m or after 900.0 m or after 1000.0 m or after \
-    1100.0 m or after 1200.0 m or after 1300.0 m or after 1400.0 m or after 1500.0 m\nrate \
-    0.10 per 100.0 m, 0.10 per 20.0 s\n";
-
-/// The same with a time.
-const OVER: &str =
-    "positions 9\nstep 0.10\ninitial 4.00\nrate 0.10 per 100.0 m, 0.10 per 20.0 s when time \
-    00:00..00:01 or time 00:02..00:03 or time 00:04..00:05 or time 00:06..00:07 or time \
-    00:08..00:09 or time 00:10..00:11 or time 00:12..00:13 or time 00:14..00:15 or time \
-    00:16..00:17 or time 00:18..00:19 or time 00:20..00:21 or time 00:22..00:23 or time \
-    00:24..00:25 or time 00:26..00:27 or time 00:28..00:29 or time 00:30..00:31 or time \
-    00:32..00:33 or time 00:34..00:35 or time 00:36..00:37 or time 00:38..00:39 or time \
-    00:40..00:41 or time 00:42..00:43 or time 00:44..00:45 or time 00:46..00:47 or time \
-    00:48..00:49 or time 00:50..00:51 or time 00:52..00:53 or time 00:54..00:55 or time \
-    00:56..00:57 or time 00:58..00:59 or time 01:00..01:01 or time 01:02..01:03 or after \
-    100.0 m or after 200.0 m or after 300.0 m or after 400.0 m or after 500.0 m or after \
-    600.0 m or after 700.0 m or after 800.0 m or after 900.0 m or after 1000.0 m or after \
-    1100.0 m or after 1200.0 m or after 1300.0 m or after 1400.0 m or after 1500.0 m or \
-    after 60.0 s\nrate 0.10 per 100.0 m, 0.10 per 20.0 s\n";
-
-/// Nine positions, 24 cuts of days and 40 of minutes.
-const DAYS: &str =
-    "positions 9\nstep 0.10\ninitial 4.00\nrate 0.10 per 100.0 m, 0.10 per 20.0 s when date \
-    01-02..01-02 or date 01-04..01-04 or date 01-06..01-06 or date 01-08..01-08 or date \
-    01-10..01-10 or date 01-12..01-12 or date 01-14..01-14 or date 01-16..01-16 or date \
-    01-18..01-18 or date 01-20..01-20 or date 01-22..01-22 or date 01-24..01-24 or time \
-    01:00..01:01 or time 01:02..01:03 or time 01:04..01:05 or time 01:06..01:07 or time \
-    01:08..01:09 or time 01:10..01:11 or time 01:12..01:13 or time 01:14..01:15 or time \
-    01:16..01:17 or time 01:18..01:19 or time 01:20..01:21 or time 01:22..01:23 or time \
-    01:24..01:25 or time 01:26..01:27 or time 01:28..01:29 or time 01:30..01:31 or time \
-    01:32..01:33 or time 01:34..01:35 or time 01:36..01:37 or time 01:38..01:39\nrate 0.10 \
-    per 100.0 m, 0.10 per 20.0 s\n";
-
 /// A tariff of a city.
 const CITY: &str = "decimals 2
 step 0.20 ahead
@@ -79,8 +34,7 @@ rate 0.20 per 125.0 m, 0.20 per 25.0 s
 ";
 
 /// Sound tariffs, with their cells and their measures.
-const SOUND: [(&str, (u64, u64)); 6] = [
-    (FULL, (64_512, 1000)),
+const SOUND: [(&str, (u64, u64)); 5] = [
     (CITY, (336, 180_000)),
     (
         "decimals 2\nstep 0.20 ahead\ninitial 3.80 covers 0.40\nrate 0.20 per 117.4 m, 0.20 per 25.2 s\n",
@@ -102,7 +56,7 @@ const SOUND: [(&str, (u64, u64)); 6] = [
 ];
 
 /// Texts, and the fault of each. Those that have two faults have the one that is looked for first.
-const FAULTY: [(&str, CheckFault); 31] = [
+const FAULTY: [(&str, CheckFault); 29] = [
     ("", CheckFault::NoStep),
     ("initial 1\nzones 2\nzones 2\n", CheckFault::NoStep),
     ("step 0\nstep 1\n", CheckFault::StepZero),
@@ -182,8 +136,6 @@ const FAULTY: [(&str, CheckFault); 31] = [
          rate 1 per 1 m, 1 per 1 s\n",
         CheckFault::TooManyCuts(Dimension::Time, 16),
     ),
-    (OVER, CheckFault::TooManyCells(129_024)),
-    (DAYS, CheckFault::TooManyCells(64_575)),
     (
         "step 1\nminimum 1 when zone 2\n",
         CheckFault::UnknownNumber(2),

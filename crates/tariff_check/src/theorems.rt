@@ -4,14 +4,14 @@ ghost use Rattle.tariff_check.specs.Cuts.{IsInOrder, all_cuts, cuts_of};
 ghost use Rattle.tariff_check.specs.Faults.{IsSound, fault_of};
 ghost use Rattle.tariff_check.specs.Lines.{LineTest, IsFirstLine, IsNowhere, first_line};
 ghost use Rattle.tariff_check.specs.Measure.{IsLeastCommonMultiple, measures_of, measure_of};
-ghost use Rattle.tariff_check.specs.Parts.{initials_of, minimums_of, rates_of};
+ghost use Rattle.tariff_check.specs.Parts.{initials_of, minimums_of, rates_of, supplement_of};
 ghost use Rattle.tariff_check.specs.Sound.{HasSoundParts};
 ghost use Rattle.tariff_check.specs.declared.fault.CheckFault.TheVariants.{NoCommonMeasure};
 ghost use Rattle.tariff_check.specs.declared.fault.Dimension.{Dimension};
 ghost use Rattle.tariff_syntax.specs.Meaning.{initial_place, minimum_place, rate_place};
 ghost use Rattle.tariff_syntax.specs.Reads.{RiseInNumber};
 ghost use Rattle.tariff_syntax.specs.Tree.{Tree, Line};
-ghost use Rattle.tariff_syntax.specs.Writable.{IsWritable};
+ghost use Rattle.tariff_syntax.specs.Writable.{IsFromTo, IsWritable};
 ghost use Rattle.tariff_syntax.specs.declared.context.Context.{Context};
 
 /// The law of the faults of lines: the number that is named is that of the first line that is so, and none
@@ -47,6 +47,12 @@ pub fn measures_are_least()
         → IsLeastCommonMultiple (measures_of lines) (measure_of lines) }
     ensures sound { (t : Tree) → IsSound t → All (λ n. 0 < n) (measures_of t.lines) }
     ensures refused { (t : Tree) → fault_of t ≡ Some NoCommonMeasure → All (λ n. 0 < n) (measures_of t.lines) }
+{}
+
+/// The law of supplements: a tariff whose numbers a text can have has no supplement of another number than 1
+/// to 16.
+pub fn supplements_are_numbered_to_16()
+    ensures { (t : Tree) (number : ℕ) → IsWritable t → ¬ (IsFromTo 1 16 number) → supplement_of t.lines number ≡ None }
 {}
 
 /// The law of lines that hold: in a sound tariff a rate and an initial hire fee hold in each context, and

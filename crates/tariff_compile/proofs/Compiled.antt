@@ -36,7 +36,7 @@ use Rattle.tariff_check.proofs.Laws.{lines_that_hold_are_there-initial, lines_th
 use Rattle.tariff_compile.proofs.Fits.{weights_of-fit}
 use Rattle.tariff_compile.proofs.Looked.{bands_at-below, cell_has_lines}
 use Rattle.tariff_compile.proofs.Numbering.{bands_of-below}
-use Rattle.tariff_compile.proofs.Supplements.{supplement_of-none}
+use Rattle.tariff_check.proofs.Laws.{supplements_are_numbered_to_16}
 
 -- the parts of the tariff of which these are the tables
 pub parts_of_tree : (t : Tree) (tables : TableParts) → IsTablesOf t tables → HasSoundParts t
@@ -261,7 +261,7 @@ supplement-there t tables number d is range =
 
 -- and no other number has one
 pub supplement-none : (t : Tree) (tables : TableParts) (number : ℕ) → IsTablesOf t tables → (IsFromTo 1 16 number → ⊥) → None ≡ supplement_at t number
-supplement-none t tables number is out = sym (ap (option_map supplement_in) (supplement_of-none t number is.writable out))
+supplement-none t tables number is out = sym (ap (option_map supplement_in) (supplements_are_numbered_to_16 t number is.writable out))
 
 -- a day is a holiday where its date is in a holiday line
 pub holiday-dates : (t : Tree) (tables : TableParts) (day : ℤ) (year month date : ℕ) → IsTablesOf t tables → IsDateOf day year month date → has_day tables.cuts.holidays day ≡ is_holiday t.lines year month date

@@ -8,8 +8,9 @@ use Rattle.tariff_syntax.specs.Meaning.{holds_if}
 use Rattle.tariff_syntax.specs.Tree.{Line, entry_of, line_of}
 use Rattle.tariff_syntax.specs.declared.context.Context.{Context}
 use Rattle.tariff_syntax.specs.declared.tariff.TariffLine.{TariffLine}
-use Rattle.tariff_compile.specs.Marks.{MarkEach, MarksThose, conditions_of, is_marked, when_of}
-use Rattle.tariff_compile.specs.declared.marking.Kind.{Kind}
+use Rattle.tariff_compile.specs.Marks.{MarkEach, MarksThose, conditions_of, is_marked}
+use Rattle.tariff_syntax.specs.Parts.{when_of}
+use Rattle.tariff_syntax.specs.declared.meaning.LineKind.{LineKind}
 use Rattle.tariff_compile.specs.declared.marks.Marks.{Marks}
 
 -- those of the first contexts are marked that pass a test, and no later place is
@@ -48,7 +49,7 @@ first_by_answers f g n (x ∷ xs) (y ∷ ys) same =
     rw (head, first_by_answers f g (n + 1) xs ys tail)
 
 -- so where these are the marks of each line of a kind, the first marks that a place has are those of the first that holds
-pub first_holds : (kind : Kind) (lines own : List Line) (xs : List Context) (all read : List Marks) (place : ℕ) (x : Context) (found : Option ℕ)
+pub first_holds : (kind : LineKind) (lines own : List Line) (xs : List Context) (all read : List Marks) (place : ℕ) (x : Context) (found : Option ℕ)
     → MarkEach (conditions_of kind own) xs all → own ≡ lines → read ≡ all → slice_get xs place ≡ Some x
     → found ≡ position_from (λ (marks : Marks). is_marked marks place) 0 read → found ≡ position_from (holds_if x) 0 (conditions_of kind lines)
 first_holds kind lines own xs all read place x found each its same at is =
@@ -57,19 +58,19 @@ first_holds kind lines own xs all read place x found each its same at is =
     ∙ ap (λ (ls : List Line). position_from (holds_if x) 0 (conditions_of kind ls)) its))
 
 -- the marks of a line more
-pub record HasMarksOf (kind : Kind) (lines : List TariffLine) (xs : List Context) (n : ℕ) (all : List Marks) : Type 0 where
+pub record HasMarksOf (kind : LineKind) (lines : List TariffLine) (xs : List Context) (n : ℕ) (all : List Marks) : Type 0 where
   pub each : (place : ℕ) (x : Context) → slice_get xs place ≡ Some x
       → map (λ (marks : Marks). is_marked marks place) all ++ map (holds_if x) (conditions_of kind (map line_of (drop n lines)))
       ≡ map (holds_if x) (conditions_of kind (map line_of lines))
 
-line_next : (kind : Kind) (lines : List TariffLine) (n : ℕ) (line : TariffLine) → n < length lines → line ≡ get_or lines n line
+line_next : (kind : LineKind) (lines : List TariffLine) (n : ℕ) (line : TariffLine) → n < length lines → line ≡ get_or lines n line
     → conditions_of kind (map line_of (drop n lines)) ≡ cons_option (when_of kind (entry_of line.item)) (conditions_of kind (map line_of (drop (n + 1) lines)))
 line_next kind lines n line within is =
     ap (λ (ls : List TariffLine). conditions_of kind (map line_of ls)) (drop-cons lines n line within)
     ∙ rw (← is, add-one)
 
 -- one that is of the kind
-pub marks_of_line : (kind : Kind) (lines : List TariffLine) (xs : List Context) (n : ℕ) (all : List Marks) (line : TariffLine) (cond : Option Condition) (marks : Marks)
+pub marks_of_line : (kind : LineKind) (lines : List TariffLine) (xs : List Context) (n : ℕ) (all : List Marks) (line : TariffLine) (cond : Option Condition) (marks : Marks)
     → HasMarksOf kind lines xs n all → n < length lines → line ≡ get_or lines n line
     → when_of kind (entry_of line.item) ≡ Some cond → MarksThose (λ x. holds_if x cond) xs marks
     → HasMarksOf kind lines xs (n + 1) (all ++ marks ∷ [])
@@ -83,7 +84,7 @@ marks_of_line kind lines xs n all line cond marks has within is of those =
     }
 
 -- and one that isn't
-pub marks_of_none : (kind : Kind) (lines : List TariffLine) (xs : List Context) (n : ℕ) (all : List Marks) (line : TariffLine)
+pub marks_of_none : (kind : LineKind) (lines : List TariffLine) (xs : List Context) (n : ℕ) (all : List Marks) (line : TariffLine)
     → HasMarksOf kind lines xs n all → n < length lines → line ≡ get_or lines n line
     → when_of kind (entry_of line.item) ≡ None
     → HasMarksOf kind lines xs (n + 1) all

@@ -1,11 +1,12 @@
--- The cells of a tariff: how they are numbered, and a context of each.
+-- Rules: the cells of a tariff, how they are numbered, and a context of each.
 use Rattle.std.specs.Prelude.{◌≡◌, ◌⊎◌, ℕ, ◌+◌, ◌-◌, ◌*◌, ◌/◌, ◌%◌, ◌^◌, ◌<◌, ◌==◌, if◌then◌else◌, List, [], ◌∷◌, length, get_or, min, All}
 use Rattle.tariff_syntax.specs.declared.context.Context.{Context}
 use Rattle.tariff_calendar.specs.Lists.{CutLists, count_at_most}
 use Rattle.taxi_units.specs.Time.{longest_trip}
 use Rattle.tariff_compile.specs.declared.parts.Bands.{Bands}
 
--- how many numbers each dimension has
+-- each dimension has this many numbers: as many as there are positions, zones, weekdays and kinds of days, and one more
+-- than there are cuts in the others
 abbrev pub sizes_of : (positions zones day_kinds : ℕ) → CutLists → Bands
 sizes_of positions zones day_kinds lists =
     record {
@@ -19,7 +20,7 @@ sizes_of positions zones day_kinds lists =
       time = length lists.times + 1;
     }
 
--- the numbers of a cell are ones that the dimensions have
+-- the numbers of a cell are below the sizes of its dimensions
 pub record IsBelow (sizes b : Bands) : Type 0 where
   pub position : b.position < sizes.position
   pub zone : b.zone < sizes.zone
@@ -30,27 +31,27 @@ pub record IsBelow (sizes b : Bands) : Type 0 where
   pub distance : b.distance < sizes.distance
   pub time : b.time < sizes.time
 
--- the numbers of a cell one after another
+-- a cell has these numbers, one after another
 abbrev pub places_of : Bands → List ℕ
 places_of b =
     b.position ∷ b.zone ∷ b.weekday ∷ b.holiday ∷ b.month_day ∷ b.minute ∷ b.distance ∷ b.time ∷ []
 
--- the first numbers that differ are lower in the one than in the other
+-- numbers come before others where, at the first place at which they differ, the former have the lower one
 abbrev pub IsBefore : List ℕ → List ℕ → Type 0
 IsBefore (x ∷ xs) (y ∷ ys) = (x < y) ⊎ ((x ≡ y) × IsBefore xs ys)
 IsBefore xs ys = ⊥
 
--- how many cells there are
+-- there are as many cells as the product of the sizes of all dimensions
 abbrev pub cell_count : (sizes : Bands) → ℕ
 cell_count s = s.position * s.zone * s.weekday * s.holiday * s.month_day * s.minute * s.distance * s.time
 
--- cells are numbered from 0 over the dimensions, the last running fastest
+-- a cell has this number, counted from 0 over the dimensions, where the last runs fastest
 abbrev pub cell_number : (sizes b : Bands) → ℕ
 cell_number s b =
-    ((((((b.position * s.zone + b.zone) * s.weekday + b.weekday) * s.holiday + b.holiday) * s.month_day + b.month_day) * s.minute + b.minute)
-    * s.distance + b.distance) * s.time + b.time
+    ((((((b.position * s.zone + b.zone) * s.weekday + b.weekday) * s.holiday + b.holiday) * s.month_day + b.month_day)
+    * s.minute + b.minute) * s.distance + b.distance) * s.time + b.time
 
--- the numbers of a cell in each dimension
+-- the cell of a number has these numbers in each dimension
 abbrev pub bands_of : (sizes : Bands) (cell : ℕ) → Bands
 bands_of s n =
     let distances = n / s.time in
@@ -70,7 +71,8 @@ bands_of s n =
       time = n % s.time;
     }
 
--- the numbers of the cell in which a context is
+-- a context is in the cell of these numbers: its position, zone and weekday from 0, 1 for a holiday, and in each other
+-- dimension the number of cuts at or below it
 abbrev pub bands_at : CutLists → Context → Bands
 bands_at lists x =
     record {
@@ -84,12 +86,12 @@ bands_at lists x =
       time = count_at_most x.ticks lists.times;
     }
 
--- where a band begins: at its cut, and the first at 0
+-- a band begins at its cut, and the first one at 0
 abbrev pub beginning : List ℕ → (band : ℕ) → ℕ
 beginning cuts band = get_or (0 ∷ cuts) band 0
 
--- A context of a cell: it is at the beginning of each band. No trip has more than 8,640,000 ticks, but a cell that no
--- trip can reach has its lines too.
+-- a cell has this context, at the beginning of each band; no trip has more than 8,640,000 ticks, and a cell beyond them
+-- has its lines too, those at 8,640,000 ticks
 abbrev pub context_in : (k : ℕ) → CutLists → Bands → Context
 context_in k lists b =
     record {
@@ -104,13 +106,13 @@ context_in k lists b =
       ticks = min longest_trip (beginning lists.times b.time);
     }
 
--- numbers of a cell that a tariff may have in the dimensions without cuts
+-- the numbers of a cell are narrow where its position, zone and weekday are ones that a tariff may have
 pub record IsNarrow (b : Bands) : Type 0 where
   pub position : b.position < 9
   pub zone : b.zone < 9
   pub weekday : b.weekday < 7
 
--- days of a year and minutes of a day
+-- lists have low cuts where the places of days and the minutes are below 2^16
 pub record HasLowCuts (lists : CutLists) : Type 0 where
   pub month_days : All (λ cut. cut < 2 ^ 16) lists.month_days
   pub minutes : All (λ cut. cut < 2 ^ 16) lists.minutes

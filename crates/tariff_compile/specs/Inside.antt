@@ -1,8 +1,8 @@
--- The parts of a value of the program.
+-- For proofs: the parts of a value of the program.
 use Rattle.tariff_compile.specs.Tables.{TableParts}
 use Rattle.tariff_compile.specs.declared.tables.Tables.TheInside.{Inside}
 
--- the parts of the tables
+-- a value of the program has these parts of tables
 abbrev pub parts_of : Inside → TableParts
 parts_of t =
     record {

@@ -1,8 +1,9 @@
--- Contexts of one trip that follow each other shortly.
+-- Rules: contexts of one trip that follow each other shortly.
 use Rattle.std.specs.Prelude.{◌≡◌, ℕ, ◌+◌, ◌≤◌}
 use Rattle.tariff_syntax.specs.declared.context.Context.{Context}
 
--- the second context differs from the first in at most so many more pulses and ticks
+-- the second context is near the first where it has at most `further` more pulses and at most `longer` more ticks, and
+-- is the same otherwise
 pub record IsNear (further longer : ℕ) (x y : Context) : Type 0 where
   pub position : y.position ≡ x.position
   pub zone : y.zone ≡ x.zone

@@ -1,4 +1,4 @@
--- The rows of the tables, as texts.
+-- Rules: the rows of the tables, as texts.
 use Rattle.std.specs.Prelude.{ℕ, ◌+◌, ◌-◌, ◌==◌, Bool, if◌then◌else◌, nat_lt, List, [], ◌∷◌, ◌++◌, length, get_or, codes, decimal}
 use Rattle.std.specs.List.{flat_map, range_with_len}
 use Rattle.taxi_units.specs.Number.{money_text}
@@ -7,17 +7,17 @@ use Rattle.tariff_compile.specs.Tables.{TableParts}
 use Rattle.tariff_compile.specs.declared.parts.CellLines.{CellLines}
 use Rattle.tariff_compile.specs.declared.parts.Fee.{Fee}
 
--- the row of the measure
+-- the row of the measure says how many units of charge make the smallest unit of money
 abbrev pub measure_row : (measure : ℕ) → List ℕ
 measure_row measure = codes "MEASURE " ++ (decimal measure ++ codes "\n")
 
--- the row of a rate, by its number
+-- the row of a rate says its number, the weight of a pulse and the weight of a tick
 abbrev pub rate_row : (number : ℕ) → Weights → List ℕ
 rate_row number w =
     codes "RATE " ++
     (decimal number ++ (codes " " ++ (decimal w.per_pulse ++ (codes " " ++ (decimal w.per_tick ++ codes "\n")))))
 
--- the row of an initial hire fee, by its number
+-- the row of an initial hire fee says its number, its amount and its cover
 abbrev pub initial_row : (decimals number : ℕ) → Fee → List ℕ
 initial_row decimals number fee =
     codes "INITIAL " ++
@@ -25,16 +25,16 @@ initial_row decimals number fee =
     (codes " " ++
     (money_text decimals fee.amount ++ (codes " " ++ (money_text decimals fee.covers ++ codes "\n")))))
 
--- the row of a minimum fare, by its number
+-- the row of a minimum fare says its number and its amount
 abbrev pub minimum_row : (decimals number amount : ℕ) → List ℕ
 minimum_row decimals number amount =
     codes "MINIMUM " ++ (decimal number ++ (codes " " ++ (money_text decimals amount ++ codes "\n")))
 
--- the end of the row of a cell: where the tariff has minimum fares, the number of the cell's
+-- the row of a cell ends with the number of its minimum fare, where the tariff has minimum fares
 abbrev pub minimum_field : (minimums : Bool) (number : ℕ) → List ℕ
 minimum_field minimums number = if minimums then codes " " ++ (decimal number ++ codes "\n") else codes "\n"
 
--- the row of a cell, by its number, with the numbers of its lines from 1
+-- the row of a cell says its number, and the numbers of its rate, its initial hire fee and its minimum fare, from 1 on
 abbrev pub cell_row : (minimums : Bool) (number : ℕ) → CellLines → List ℕ
 cell_row minimums number lines =
     codes "CELL " ++
@@ -43,20 +43,21 @@ cell_row minimums number lines =
     (decimal (lines.rate + 1) ++
     (codes " " ++ (decimal (lines.initial + 1) ++ minimum_field minimums lines.minimum)))))
 
--- the rows of the elements of a list, each by its number, which count on from the first
+-- the elements of a list have these rows, each with its number, counted from `first` on
 abbrev pub numbered : {A : Type 0} → (row : ℕ → A → List ℕ) → (first : ℕ) → List A → List (List ℕ)
 numbered row first [] = []
 numbered row first (x ∷ xs) = row first x ∷ numbered row (first + 1) xs
 
--- whether the tariff has minimum fares
+-- a test whether the tariff has minimum fares
 abbrev pub has_minimums : TableParts → Bool
 has_minimums tables = nat_lt 0 (length tables.minimums)
 
--- how many rows there are
+-- tables have this many rows
 abbrev pub row_count : TableParts → ℕ
 row_count tables = 1 + length tables.weights + length tables.initials + length tables.minimums + length tables.cells
 
--- a row: the measure, then each rate, then each initial hire fee, then each minimum fare, then each cell
+-- tables have this row at a place: first the measure, then each rate, each initial hire fee, each minimum fare, each
+-- cell
 abbrev pub row_text : TableParts → (row : ℕ) → List ℕ
 row_text tables row =
     if row == 0 then measure_row tables.measure
@@ -72,12 +73,12 @@ row_text tables row =
     else (let cell = minimum - length tables.minimums in
     cell_row (has_minimums tables) cell (get_or tables.cells cell (record { rate = 0; initial = 0; minimum = 0 }))))))
 
--- all rows in order
+-- tables are written as all of their rows, in order
 abbrev pub rows_text : TableParts → List ℕ
 rows_text tables = flat_map (row_text tables) (range_with_len 0 (row_count tables))
 
--- the same part by part: the measure, then the rates, the initial hire fees and the minimum fares from 1, then the
--- cells from 0
+-- tables have these rows, part by part: the measure, then the rates, the initial hire fees and the minimum fares,
+-- numbered from 1, then the cells, numbered from 0
 abbrev pub all_rows : TableParts → List (List ℕ)
 all_rows tables =
     measure_row tables.measure

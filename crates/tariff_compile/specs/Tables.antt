@@ -1,4 +1,4 @@
--- The tables of a tariff under a constant, and what they are looked up for.
+-- Rules: the tables of a tariff under a constant, and what they are looked up for.
 use Rattle.std.specs.Prelude.{◌≡◌, ℕ, ◌+◌, ◌*◌, ◌/◌, ◌^◌, ◌<◌, ◌≤◌, if◌then◌else◌, List, ◌∷◌, map, get_or, Option, Some, None, MatchOption}
 use Rattle.std.specs.List.{range_with_len, slice_get}
 use Rattle.std.specs.Option.{unwrap_or, option_map}
@@ -22,7 +22,7 @@ use Rattle.tariff_compile.specs.declared.parts.Fee.{Fee}
 use Rattle.tariff_compile.specs.declared.parts.Initial.{Initial}
 use Rattle.tariff_compile.specs.declared.parts.Supplement.{Supplement}
 
--- the parts of the tables
+-- tables have these parts
 pub record TableParts : Type 0 where
   pub cuts : CutLists
   pub weights : List Weights
@@ -38,36 +38,38 @@ pub record TableParts : Type 0 where
   pub positions : ℕ
   pub zones : ℕ
 
--- in units of 1/M of the smallest money unit, M being k times the common measure: what a pulse and what a tick weighs
+-- a rate has these weights of a pulse and of a tick, in units of charge, of which k times the common measure make the
+-- smallest unit of money
 abbrev pub weights_of : (k common : ℕ) → RateNumbers → Weights
 weights_of k common r = record { per_pulse = 10000 * r.a * (common / r.b); per_tick = r.c * k * (common / r.e) }
 
--- an initial hire fee in the tables
+-- an initial hire fee stands in the tables as its amount and its cover
 abbrev pub fee_of : InitialNumbers → Fee
 fee_of i = record { amount = i.amount; covers = i.covers }
 
--- a supplement in the tables
+-- a supplement stands in the tables as its amount and how often a hiring may have it
 abbrev pub supplement_in : SupplementNumbers → Supplement
 supplement_in s = record { amount = s.amount; max = s.most }
 
--- the weights of each rate
+-- a tariff has these weights of its rates, in order
 abbrev pub all_weights : Tree → (k : ℕ) → List Weights
 all_weights t k = map (weights_of k (measure_of t.lines)) (rates_of t.lines)
 
--- the initial hire fees
+-- a tariff has these initial hire fees in its tables, in order
 abbrev pub all_initials : Tree → List Fee
 all_initials t = map fee_of (initials_of t.lines)
 
--- the supplement of a number, where the tariff has it
+-- a tariff has this supplement of a number in its tables, where it has one
 abbrev pub supplement_at : Tree → (number : ℕ) → Option Supplement
 supplement_at t number = option_map supplement_in (supplement_of t.lines number)
 
--- the number of a place, from 1; 0 where there is none
+-- a place that may be none is numbered from 1 on, and none is 0
 abbrev pub number_of : Option ℕ → ℕ
 number_of None = 0
 number_of (Some place) = place + 1
 
--- the lines that hold first in a context
+-- a context has these lines: the rate that holds first in it, and the initial hire fee and the minimum fare that hold
+-- first at its hiring
 abbrev pub lines_at : Tree → Context → CellLines
 lines_at t x =
     record {
@@ -76,33 +78,34 @@ lines_at t x =
       minimum = number_of (minimum_place t x);
     }
 
--- the numbers that each dimension of a tariff's cells has
+-- a tariff's cells have dimensions of these sizes
 abbrev pub sizes_in : Tree → (k : ℕ) → Bands
 sizes_in t k = sizes_of (positions_of t.lines) (zones_of t.lines) (day_kinds t.lines) (lists_of t k)
 
--- a context of the cell of this number
+-- the cell of a number has this context
 abbrev pub context_of : Tree → (k cell : ℕ) → Context
 context_of t k cell = context_in k (lists_of t k) (bands_of (sizes_in t k) cell)
 
--- the number of a context's cell
+-- a context is in the cell of this number
 abbrev pub cell_of : Tree → (k : ℕ) → Context → ℕ
 cell_of t k x = cell_number (sizes_in t k) (bands_at (lists_of t k) x)
 
--- the lines of a cell are those that hold first in a context
+-- the lines of a cell are those of a context where they are the rate that holds first in it, and the initial hire fee
+-- and the minimum fare that hold first at its hiring
 pub record HasLinesOf (t : Tree) (x : Context) (lines : CellLines) : Type 0 where
   pub rate : rate_place t x ≡ Some lines.rate
   pub initial : initial_place t x ≡ Some lines.initial
   pub minimum : number_of (minimum_place t x) ≡ lines.minimum
 
--- the lines of each cell
+-- a tariff has these lines of each cell, in the order of the cells
 abbrev pub all_cells : Tree → (k : ℕ) → List CellLines
 all_cells t k = map (λ cell. lines_at t (context_of t k cell)) (range_with_len 0 (cell_count (sizes_in t k)))
 
--- the display step, and how the fare is rounded to it
+-- a tariff has this display step and this rounding to it
 abbrev pub step_in : Tree → ℕ × Rounding
 step_in t = unwrap_or (step_of t.lines) (0, Behind)
 
--- the tables of a tariff under a constant
+-- a tariff has these tables where k pulses make a kilometre
 abbrev pub tables_of : Tree → (k : ℕ) → TableParts
 tables_of t k =
     record {
@@ -121,40 +124,42 @@ tables_of t k =
       zones = zones_of t.lines;
     }
 
--- the numbers that each dimension of the tables' cells has
+-- the cells of tables have dimensions of these sizes
 abbrev pub sizes_for : TableParts → Bands
 sizes_for tables = sizes_of tables.positions tables.zones (if has_days tables.cuts then 2 else 1) tables.cuts
 
--- a context that a trip under these tables may have
+-- a context is one that a trip under the tables may have where its position, its zone and its kind of day are among the
+-- tables', and its numbers in their ranges
 abbrev pub IsInRangeFor : TableParts → Context → Type 0
 IsInRangeFor tables x = IsInRange tables.constant tables.positions tables.zones (has_days tables.cuts) x
 
--- these are the tables of a sound tariff
+-- tables are those of a tariff where the tariff is sound, a text can have its numbers, the constant is 500 to 200,000,
+-- and the parts are the tariff's
 pub record IsTablesOf (t : Tree) (tables : TableParts) : Type 0 where
   pub writable : IsWritable t
   pub sound : IsSound t
   pub constant : (500 ≤ tables.constant) × (tables.constant ≤ 200000)
   pub parts : tables ≡ tables_of t tables.constant
 
--- these are tables
+-- parts are compiled where they are the tables of some tariff
 abbrev pub IsCompiled : TableParts → Type 0
 IsCompiled tables = (t : Tree) × IsTablesOf t tables
 
--- the weights of the rate that holds first in a context
+-- a context has the weights of the rate that holds first in it
 abbrev pub rate_by : Tree → (k : ℕ) → Context → Weights
 rate_by t k x = get_or (all_weights t k) (unwrap_or (rate_place t x) 0) (record { per_pulse = 0; per_tick = 0 })
 
--- what is looked up by the lines that hold first in a context at the hiring
+-- an initial hire fee and a minimum fare are looked up together
 abbrev pub initial_with : Fee → (minimum : ℕ) → Initial
 initial_with fee minimum = record { amount = fee.amount; covers = fee.covers; minimum = minimum }
 
--- the initial hire fee and the minimum fare that hold first in a context at the hiring
+-- a context has the initial hire fee and the minimum fare that hold first at its hiring, and 0 where no minimum fare does
 abbrev pub initial_by : Tree → Context → Initial
 initial_by t x =
     initial_with (get_or (all_initials t) (unwrap_or (initial_place t x) 0) (record { amount = 0; covers = 0 }))
     (get_or (0 ∷ minimums_of t.lines) (number_of (minimum_place t x)) 0)
 
--- the same in words: these are the weights of the rate that holds first
+-- weights are those of a context where they are made of the numbers of the rate that holds first in it
 pub record HasWeightsOf (t : Tree) (k : ℕ) (x : Context) (w : Weights) : Type 0 where
   pub place : ℕ
   pub rate : RateNumbers
@@ -162,8 +167,8 @@ pub record HasWeightsOf (t : Tree) (k : ℕ) (x : Context) (w : Weights) : Type 
   pub there : slice_get (rates_of t.lines) place ≡ Some rate
   pub weights : w ≡ weights_of k (measure_of t.lines) rate
 
--- and these are the amounts of the initial hire fee that holds first at the hiring, and of the minimum fare, if one
--- holds
+-- amounts are those of a context where they are the ones of the initial hire fee that holds first at its hiring, and of
+-- the minimum fare that does, or 0 where none holds
 pub record HasAmountsOf (t : Tree) (x : Context) (i : Initial) : Type 0 where
   pub place : ℕ
   pub fee : InitialNumbers
@@ -174,20 +179,21 @@ pub record HasAmountsOf (t : Tree) (x : Context) (i : Initial) : Type 0 where
   pub minimum : MatchOption (minimum_place t x) (i.minimum ≡ 0)
       (λ n. slice_get (minimums_of t.lines) n ≡ Some i.minimum)
 
--- how large the weights of a rate are: a pulse is at most 20,000,000 units of money, a tick at most 1,000,000
+-- weights are fit where they are within the limits of charges, and a pulse is at most 20,000,000 of the smallest units
+-- of money and a tick at most 1,000,000
 pub record AreFit (measure : ℕ) (w : Weights) : Type 0 where
   pub per_pulse : w.per_pulse ≤ 10 ^ 28
   pub per_tick : w.per_tick ≤ 2 * 10 ^ 29
   pub pulse_units : w.per_pulse ≤ 2 * 10 ^ 7 * measure
   pub tick_units : w.per_tick ≤ 10 ^ 6 * measure
 
--- how large an initial hire fee, its cover and a minimum fare are
+-- an initial hire fee is fit where it, its cover and its minimum fare are at most 99,999,999
 pub record IsFitInitial (i : Initial) : Type 0 where
   pub amount : i.amount ≤ 99999999
   pub covers : i.covers ≤ 99999999
   pub minimum : i.minimum ≤ 99999999
 
--- how large the numbers of tables are
+-- tables are fit where their measure, step, decimals, positions and zones are within their limits
 pub record IsFit (tables : TableParts) : Type 0 where
   pub measure : (0 < tables.measure) × (tables.measure ≤ 2 * 10 ^ 23)
   pub step : IsFromTo 1 (10 ^ 6) tables.step

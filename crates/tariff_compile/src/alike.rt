@@ -40,7 +40,7 @@ impl Alike {
         alike
     }
 
-    /// Those of these parts that are the same in two contexts too.
+    /// The parts that are alike here and are the same in two contexts too.
     fn and_in(self, first: &Context, x: &Context) -> Alike
         ensures added { Agree result first.now x.now }
         ensures kept { (y : Context) → Agree self first.now y → Agree result first.now y }

@@ -10,13 +10,13 @@ ghost use Rattle.tariff_syntax.specs.Tree.{tree_of};
 
 use crate::bands::{bands_of, sizes_of};
 use crate::contexts::context_in;
-use crate::marking::{Kind, first_marked, marks_of_each};
+use crate::marking::{first_marked, marks_of_each};
 use crate::parts::{Bands, CellLines};
 use pulse_input::Constant;
 use std::alloc::Global;
 use tariff_calendar::Cuts;
 use tariff_check::Checked;
-use tariff_syntax::Context;
+use tariff_syntax::{Context, LineKind};
 use taxi_units::NoMemory;
 
 /// The lines of each cell. `NoMemory` where memory runs out.
@@ -101,9 +101,9 @@ fn push_lines(
 {
     let lines = checked.tariff().lines.as_slice();
     let hirings = hirings(alloc, contexts)?;
-    let rates = marks_of_each(alloc, Kind::Rate, lines, contexts)?;
-    let initials = marks_of_each(alloc, Kind::Initial, lines, hirings.as_slice())?;
-    let minimums = marks_of_each(alloc, Kind::Minimum, lines, hirings.as_slice())?;
+    let rates = marks_of_each(alloc, LineKind::Rate, lines, contexts)?;
+    let initials = marks_of_each(alloc, LineKind::Initial, lines, hirings.as_slice())?;
+    let minimums = marks_of_each(alloc, LineKind::Minimum, lines, hirings.as_slice())?;
     for place in 0..contexts.len() {
         let rate = first_marked(rates.as_slice(), place);
         let initial = first_marked(initials.as_slice(), place);

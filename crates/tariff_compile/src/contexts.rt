@@ -97,7 +97,7 @@ pub(crate) fn bands_until<L: Ledger>(
     (bands, further, longer)
 }
 
-/// The same, of a context that lies before each cut of distance and time. At most 12 steps.
+/// The numbers of the cell of a context, as if it lay before each cut of distance and time. At most 12 steps.
 fn first_bands<L: Ledger>(cuts: &Cuts, x: &Context, steps: &mut Steps<L>) -> Bands
     requires position { 1 ≤ x.now.position }
     requires zone { 1 ≤ x.now.zone }

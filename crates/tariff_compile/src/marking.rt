@@ -2,31 +2,22 @@
 //! once.
 ghost use Rattle.std.specs.List.{position_from};
 ghost use Rattle.std.specs.Prelude.{◌≡◌, ◌<◌, ◌≤◌, IfOk, length, map};
-ghost use Rattle.taxi_units.specs.Reading.{Gives};
 ghost use Rattle.tariff_compile.specs.Alike.{AllAgree};
-ghost use Rattle.tariff_compile.specs.Marks.{MarkEach, MarksThose, conditions_of, is_marked, when_of};
+ghost use Rattle.tariff_compile.specs.Marks.{MarkEach, MarksThose, conditions_of, is_marked};
 ghost use Rattle.tariff_syntax.specs.Condition.{condition_if, condition_of};
 ghost use Rattle.tariff_syntax.specs.Meaning.{holds, holds_if};
-ghost use Rattle.tariff_syntax.specs.Tree.{entry_of, line_of};
+ghost use Rattle.tariff_syntax.specs.Tree.{line_of};
 
 use crate::alike::Alike;
 use crate::marks::Marks;
 use std::alloc::Global;
-use tariff_syntax::{Cond, Context, Item, TariffLine, sat};
+use tariff_syntax::{Cond, Context, LineKind, TariffLine, sat, when_of};
 use taxi_units::NoMemory;
-
-/// A kind of lines, of which the first that holds is the one that counts.
-#[derive(Clone, Copy, Debug, PartialEq, Eq)]
-pub(crate) enum Kind {
-    Rate,
-    Initial,
-    Minimum,
-}
 
 /// The marks of each line of a kind, in order: the contexts in which it holds.
 pub(crate) fn marks_of_each(
     alloc: Global,
-    kind: Kind,
+    kind: LineKind,
     lines: &[TariffLine],
     contexts: &[Context],
 ) -> Result<Vec<Marks>, NoMemory>
@@ -36,7 +27,7 @@ pub(crate) fn marks_of_each(
     let alike = Alike::of(contexts);
     let mut all = Vec::new(alloc);
     for line in lines {
-        if let Some(cond) = when(kind, &line.item) {
+        if let Some(cond) = when_of(kind, &line.item) {
             if all.push(marks_if(cond, alike, contexts)).is_err() {
                 return Err(NoMemory);
             }
@@ -56,18 +47,6 @@ pub(crate) fn first_marked(all: &[Marks], place: usize) -> Option<usize>
         }
     }
     None
-}
-
-/// The condition of a line of a kind, which may have none. `None` where the line is of another kind.
-fn when(kind: Kind, item: &Item) -> Option<&Option<Cond>>
-    ensures { Gives (λ cond. condition_if cond.now) result (when_of kind (entry_of item.now)) }
-{
-    match (kind, item) {
-        (Kind::Rate, Item::Rate(rate)) => Some(&rate.cond),
-        (Kind::Initial, Item::Initial(initial)) => Some(&initial.cond),
-        (Kind::Minimum, Item::Minimum(minimum)) => Some(&minimum.cond),
-        _ => None,
-    }
 }
 
 /// The contexts in which a line holds that may have a condition.
@@ -100,7 +79,7 @@ fn marks_of(cond: &Cond, alike: Alike, contexts: &[Context]) -> Marks
     }
 }
 
-/// The same, by asking the condition once, where it asks for what the contexts have in common.
+/// The contexts in which an atom holds. It is asked once, where it asks for what the contexts have in common.
 fn marks_of_atom(cond: &Cond, alike: Alike, contexts: &[Context]) -> Marks
     requires few { length contexts.now ≤ 64 }
     requires alike { AllAgree alike contexts.now }
@@ -115,7 +94,7 @@ fn marks_of_atom(cond: &Cond, alike: Alike, contexts: &[Context]) -> Marks
     }
 }
 
-/// The same, by asking the condition in each context.
+/// The contexts in which a condition holds, asked in each.
 fn marks_one_by_one(cond: &Cond, contexts: &[Context]) -> Marks
     requires { length contexts.now ≤ 64 }
     ensures { MarksThose (holds (condition_of cond.now)) contexts.now result }

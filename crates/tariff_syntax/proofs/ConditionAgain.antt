@@ -5,7 +5,7 @@ use Rattle.tariff_syntax.specs.Condition.{Condition}
 use Rattle.tariff_syntax.specs.Grammar.{chain_on, and_joined, or_joined, term_by, condition_by, factor_first}
 use Rattle.tariff_syntax.specs.Weight.{weight}
 use Rattle.tariff_syntax.specs.IsCondition.{IsCondition, atom, negation, parentheses, one_factor, conjunction, one_term, disjunction, size_of}
-use Rattle.tariff_syntax.specs.PrintedCondition.{Place, whole, term, factor}
+use Rattle.tariff_syntax.specs.PrintedCondition.{Level, whole, term, factor}
 use Rattle.tariff_syntax.specs.Token.{Token, word, sign}
 use Rattle.tariff_syntax.specs.Words.{after_word, after_sign}
 use Rattle.tariff_syntax.proofs.AtomLaws.{atom_again, atom_weighs}
@@ -17,7 +17,7 @@ weight-append [] ys = omega arith
 weight-append (x ∷ xs) ys = omega (arith, weight-append xs ys)
 
 -- the reader counts, before it reads, what a condition is made of
-pub size_is : (place : Place) (ts : List Token) (c : Condition) (h : IsCondition place ts c) → size_of place ts c h ≡ weight ts
+pub size_is : (place : Level) (ts : List Token) (c : Condition) (h : IsCondition place ts c) → size_of place ts c h ≡ weight ts
 size_is factor ts c (atom ts' c' h) = sym (atom_weighs ts' c' h)
 size_is factor ts c (negation ts' c' h) = omega (arith, size_is factor ts' c' h)
 size_is factor ts c (parentheses ts' c' h) = omega (arith, weight-append ts' (sign (codes ")") ∷ []), size_is whole ts' c' h)
@@ -29,13 +29,13 @@ size_is whole ts c (disjunction left right p q h g) =
     omega (arith, weight-append left (word (codes "or") ∷ right), size_is whole left p h, size_is term right q g)
 
 -- nothing follows that a condition of the place goes on with
-abbrev pub Free : Place → List Token → Type 0
+abbrev pub Free : Level → List Token → Type 0
 Free factor rest = after_sign (codes "..") rest ≡ None
 Free term rest = (after_sign (codes "..") rest ≡ None) × (after_word (codes "and") rest ≡ None)
 Free whole rest = (after_sign (codes "..") rest ≡ None) × (after_word (codes "and") rest ≡ None) × (after_word (codes "or") rest ≡ None)
 
 -- what is read of a condition: a term and a whole condition up to the joint behind it
-abbrev Claim : Place → (depth : ℕ) → List Token → Condition → Type 0
+abbrev Claim : Level → (depth : ℕ) → List Token → Condition → Type 0
 Claim factor depth ts c = (1 ≤ weight ts) × ((rest : List Token) → Free factor rest → factor_first depth (ts ++ rest) ≡ Some (c, rest))
 Claim term depth ts c =
     (n : ℕ) × (n + 1 ≤ weight ts) × ((rest : List Token) → Free factor rest → term_by (factor_first depth) (ts ++ rest) ≡ chain_on (codes "and") (and_joined (factor_first depth)) (64 - n) c rest)
@@ -94,7 +94,7 @@ parentheses_read : (depth : ℕ) (ts : List Token) (c : Condition) (rest : List 
 parentheses_read depth ts c rest some e =
     factor_step depth (depth - 1) (sign (codes "(") ∷ ((ts ++ sign (codes ")") ∷ []) ++ rest)) (omega arith) ∙ rw (append_assoc ts (sign (codes ")") ∷ []) rest, e, after_sign_here (codes ")") rest) refl
 
-claimed : (place : Place) (ts : List Token) (c : Condition) → IsCondition place ts c → (depth : ℕ) → weight ts ≤ depth → depth ≤ 64 → Claim place depth ts c
+claimed : (place : Level) (ts : List Token) (c : Condition) → IsCondition place ts c → (depth : ℕ) → weight ts ≤ depth → depth ≤ 64 → Claim place depth ts c
 claimed factor ts c (atom ts' c' h) depth few deep =
     let counts = atom_weighs ts' c' h in
     (omega (arith, counts), λ rest free. factor_step depth (depth - 1) (ts' ++ rest) (omega arith) ∙ atom_again (factor_first (depth - 1)) (condition_by (factor_first (depth - 1))) ts' c' rest free h)

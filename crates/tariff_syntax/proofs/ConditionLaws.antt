@@ -6,7 +6,7 @@ use Rattle.tariff_syntax.specs.Condition as tree
 use Rattle.tariff_syntax.specs.Condition.{Condition}
 use Rattle.tariff_syntax.specs.Grammar.{Reader, negated, closed_after, factor_by, chain_on, and_joined, or_joined, term_by, condition_by, factor_first}
 use Rattle.tariff_syntax.specs.IsCondition.{IsCondition, atom, negation, parentheses, one_factor, conjunction, one_term, disjunction}
-use Rattle.tariff_syntax.specs.PrintedCondition.{Place, whole, term, factor}
+use Rattle.tariff_syntax.specs.PrintedCondition.{Level, whole, term, factor}
 use Rattle.tariff_syntax.specs.Token.{Token, word, figure, sign}
 use Rattle.tariff_syntax.specs.Words.{after_word, after_sign}
 use Rattle.tariff_syntax.proofs.AtomLaws.{atom_is}
@@ -14,18 +14,18 @@ use Rattle.tariff_syntax.proofs.GrammarSteps.{chain_ends, chain_goes}
 use Rattle.tariff_syntax.proofs.Tools.{bind_some, chosen, same_text, after_word_is, after_sign_is, some_same}
 
 -- a reader finds conditions of a place
-abbrev Finds : Place → Reader → Type 0
+abbrev Finds : Level → Reader → Type 0
 Finds place read = (ts : List Token) (x : Condition × List Token) → read ts ≡ Some x → (used : List Token) × (ts ≡ used ++ x.1) × IsCondition place used x.0
 
 -- what was read, with what stands to its left, is a condition of a place
-abbrev Grows : Place → (left : List Token) → List Token → Condition × List Token → Type 0
+abbrev Grows : Level → (left : List Token) → List Token → Condition × List Token → Type 0
 Grows place left ts x = (used : List Token) × (left ++ ts ≡ used ++ x.1) × IsCondition place used x.0
 
 -- joining to what stands to the left makes a condition of the place
-abbrev Joins : Place → (joint : List ℕ) → (Condition → Reader) → Type 0
+abbrev Joins : Level → (joint : List ℕ) → (Condition → Reader) → Type 0
 Joins place joint joined = (left ts rest : List Token) (p : Condition) (x : Condition × List Token) → IsCondition place left p → ts ≡ word joint ∷ rest → joined p rest ≡ Some x → Grows place left ts x
 
-chain_by : (place : Place) (joint : List ℕ) (joined : Condition → Reader) → Joins place joint joined → (most : ℕ) → ((left ts : List Token) (p : Condition) (x : Condition × List Token) → IsCondition place left p → chain_on joint joined most p ts ≡ Some x → Grows place left ts x) → (left ts : List Token) (p : Condition) (x : Condition × List Token) → IsCondition place left p → (more : Option (List Token)) → after_word joint ts ≡ more → chain_on joint joined (suc most) p ts ≡ Some x → Grows place left ts x
+chain_by : (place : Level) (joint : List ℕ) (joined : Condition → Reader) → Joins place joint joined → (most : ℕ) → ((left ts : List Token) (p : Condition) (x : Condition × List Token) → IsCondition place left p → chain_on joint joined most p ts ≡ Some x → Grows place left ts x) → (left ts : List Token) (p : Condition) (x : Condition × List Token) → IsCondition place left p → (more : Option (List Token)) → after_word joint ts ≡ more → chain_on joint joined (suc most) p ts ≡ Some x → Grows place left ts x
 chain_by place joint joined joins most chain left ts p x h None here e =
     let found = some_same (p, ts) x (sym (chain_ends joint joined (suc most) p ts (omega arith) here) ∙ e) in
     subst (Grows place left ts) found (left, refl, h)
@@ -35,7 +35,7 @@ chain_by place joint joined joins most chain left ts p x h (Some rest) here e =
     let more = chain grown.0 one.0.1 one.0.0 x grown.2 one.2 in
     (more.0, grown.1 ∙ more.1, more.2)
 
-chain_grows : (place : Place) (joint : List ℕ) (joined : Condition → Reader) → Joins place joint joined → (most : ℕ) (left ts : List Token) (p : Condition) (x : Condition × List Token) → IsCondition place left p → chain_on joint joined most p ts ≡ Some x → Grows place left ts x
+chain_grows : (place : Level) (joint : List ℕ) (joined : Condition → Reader) → Joins place joint joined → (most : ℕ) (left ts : List Token) (p : Condition) (x : Condition × List Token) → IsCondition place left p → chain_on joint joined most p ts ≡ Some x → Grows place left ts x
 unfolding chain_on
 chain_grows place joint joined joins zero left ts p x h e = absurd cc
 chain_grows place joint joined joins (suc most) left ts p x h e =

@@ -8,7 +8,7 @@ use Rattle.tariff_syntax.specs.Condition.{Condition, position, zone, time, day, 
 use Rattle.tariff_syntax.specs.Forms.{IsAtom, IsDigits, IsMinute, AreWeekdays}
 use Rattle.tariff_syntax.specs.IsCondition.{IsCondition, atom, negation, parentheses, one_factor, conjunction, one_term, disjunction}
 use Rattle.tariff_syntax.specs.IsItem.{IsItem, IsCovers, IsWhen}
-use Rattle.tariff_syntax.specs.PrintedCondition.{Place, whole, term, factor}
+use Rattle.tariff_syntax.specs.PrintedCondition.{Level, whole, term, factor}
 use Rattle.tariff_syntax.specs.Reads.{SayLines, SayTariff, Reads}
 use Rattle.tariff_syntax.specs.TextLines.{lines_of}
 use Rattle.tariff_syntax.specs.Token.{Token}
@@ -48,7 +48,7 @@ atom_small ts (tree.and left right) h = absurd h
 atom_small ts (tree.or left right) h = absurd h
 atom_small ts (tree.not inner) h = absurd h
 
-condition_small : (place : Place) (ts : List Token) (c : Condition) → IsCondition place ts c → IsWritableCondition c
+condition_small : (place : Level) (ts : List Token) (c : Condition) → IsCondition place ts c → IsWritableCondition c
 condition_small factor ts c (atom ts' c' h) = atom_small ts' c' h
 condition_small factor ts c (negation ts' c' h) = condition_small factor ts' c' h
 condition_small factor ts c (parentheses ts' c' h) = condition_small whole ts' c' h

@@ -8,7 +8,7 @@ use Rattle.tariff_syntax.specs.Condition.{Condition, position, zone, time, day, 
 use Rattle.tariff_syntax.specs.Forms.{IsNumber, IsDate, IsMinute, IsAmount, AreWeekdays, IsAtom}
 use Rattle.tariff_syntax.specs.Weight.{weight}
 use Rattle.tariff_syntax.specs.IsCondition.{IsCondition, atom, negation, parentheses, one_factor, conjunction, one_term, disjunction}
-use Rattle.tariff_syntax.specs.PrintedCondition.{Place, whole, term, factor, and_is_closed, or_is_closed, condition_at, days_text, minute_text, date_text}
+use Rattle.tariff_syntax.specs.PrintedCondition.{Level, whole, term, factor, and_is_closed, or_is_closed, condition_at, days_text, minute_text, date_text}
 use Rattle.tariff_syntax.specs.Token.{Token, word, figure, sign}
 use Rattle.tariff_syntax.specs.Weekdays.{day_word}
 use Rattle.tariff_syntax.proofs.AtomLaws.{atom_weighs, day_light, each_day}
@@ -22,7 +22,7 @@ extra true = 1
 extra false = 0
 
 -- printed at a place, a condition has no more atoms, `not` and `(` than a number
-abbrev pub Fits : Place → Condition → ℕ → Type 0
+abbrev pub Fits : Level → Condition → ℕ → Type 0
 Fits place (tree.and p q) w = (a : ℕ) × (b : ℕ) × Fits term p a × Fits factor q b × (a + b + extra (and_is_closed place) ≤ w)
 Fits place (tree.or p q) w = (a : ℕ) × (b : ℕ) × Fits whole p a × Fits term q b × (a + b + extra (or_is_closed place) ≤ w)
 Fits place (tree.not p) w = (a : ℕ) × Fits factor p a × (a + 1 ≤ w)
@@ -88,7 +88,7 @@ as_whole (after_distance n) w h = h
 as_whole (after_time n) w h = h
 
 -- a condition has no more of them printed than where it stands
-pub fits : (place : Place) (ts : List Token) (c : Condition) → IsCondition place ts c → Fits place c (weight ts)
+pub fits : (place : Level) (ts : List Token) (c : Condition) → IsCondition place ts c → Fits place c (weight ts)
 fits factor ts c (atom ts' c' h) = atom_fits ts' c' h (omega (arith, atom_weighs ts' c' h))
 fits factor ts c (negation ts' c' h) = (weight ts', fits factor ts' c' h, omega arith)
 fits factor ts c (parentheses ts' c' h) = closes c' (weight ts') _ (omega (arith, weight-append ts' (sign (codes ")") ∷ []))) (fits whole ts' c' h)
@@ -104,14 +104,14 @@ abbrev pub Show : (List ℕ → List ℕ) → List Token → Type 0
 Show text used = (more : List ℕ) (ts : List Token) (texts : List (List ℕ)) → Ready more ts texts → Shows (text more) (used ++ ts) texts
 
 -- a condition is shown, printed at a place
-pub record Shown (place : Place) (c : Condition) (w : ℕ) : Type 0 where
+pub record Shown (place : Level) (c : Condition) (w : ℕ) : Type 0 where
   pub used : List Token
   pub is : IsCondition place used c
   pub few : weight used ≤ w
   pub show : Show (condition_at place c) used
 
 -- a factor stands at any place
-pub lift : (place : Place) (ts : List Token) (c : Condition) → IsCondition factor ts c → IsCondition place ts c
+pub lift : (place : Level) (ts : List Token) (c : Condition) → IsCondition factor ts c → IsCondition place ts c
 lift factor ts c h = h
 lift term ts c h = one_factor ts c h
 lift whole ts c h = one_term ts c (one_factor ts c h)

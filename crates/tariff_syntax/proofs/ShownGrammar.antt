@@ -3,7 +3,7 @@ use Rattle.std.proofs.Common.{ℕ, ◌+◌, ◌≤◌, List, [], ◌∷◌, ◌+
 use Rattle.tariff_syntax.specs.Condition as tree
 use Rattle.tariff_syntax.specs.Condition.{Condition, position, zone, time, day, date, holiday, after_distance, after_time}
 use Rattle.tariff_syntax.specs.IsCondition.{atom, negation, parentheses, one_factor, conjunction, one_term, disjunction}
-use Rattle.tariff_syntax.specs.PrintedCondition.{Place, whole, term, factor, condition_at}
+use Rattle.tariff_syntax.specs.PrintedCondition.{Level, whole, term, factor, condition_at}
 use Rattle.tariff_syntax.specs.Token.{Token, word, sign}
 use Rattle.tariff_syntax.proofs.ConditionAgain.{weight-append}
 use Rattle.tariff_syntax.proofs.ShownConditions.{Fits, Show, Shown, lift, position_shown, zone_shown, time_shown, day_atom_shown, date_atom_shown, holiday_shown, distance_shown, time_passed_shown}
@@ -80,11 +80,11 @@ or_as_term p q w h = record { used = h.used; is = one_factor h.used (tree.or p q
 and_as_whole : (p q : Condition) (w : ℕ) → Shown term (tree.and p q) w → Shown whole (tree.and p q) w
 and_as_whole p q w h = record { used = h.used; is = one_term h.used (tree.and p q) h.is; few = h.few; show = h.show }
 
-not_lifted : (place : Place) (p : Condition) (w : ℕ) → Shown factor (tree.not p) w → Shown place (tree.not p) w
+not_lifted : (place : Level) (p : Condition) (w : ℕ) → Shown factor (tree.not p) w → Shown place (tree.not p) w
 not_lifted place p w h = record { used = h.used; is = lift place h.used (tree.not p) h.is; few = h.few; show = h.show }
 
 -- a condition that fits is shown
-pub shown : (place : Place) (c : Condition) (w : ℕ) → Fits place c w → Shown place c w
+pub shown : (place : Level) (c : Condition) (w : ℕ) → Fits place c w → Shown place c w
 shown whole (tree.and p q) w h = and_as_whole p q w (and_shown p q h.0 h.1 w (omega (arith, h.4)) (shown term p h.0 h.2) (shown factor q h.1 h.3))
 shown term (tree.and p q) w h = and_shown p q h.0 h.1 w (omega (arith, h.4)) (shown term p h.0 h.2) (shown factor q h.1 h.3)
 shown factor (tree.and p q) w h =

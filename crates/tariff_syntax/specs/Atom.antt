@@ -1,4 +1,5 @@
--- The atoms of a condition, at the front of a list of tokens.
+-- For proofs: the atoms of a condition, read at the front of a list of tokens. The law texts_are_parsed_as_they_read
+-- says what the answers mean.
 use Rattle.std.specs.Prelude.{ℕ, List, Option, Some, None, if◌then◌else◌, codes}
 use Rattle.std.specs.Str.{bytes_eq}
 use Rattle.taxi_units.specs.Reading.{◌>>=◌}
@@ -8,7 +9,7 @@ use Rattle.tariff_syntax.specs.Figure.{number_first, amount_first, minute_first,
 use Rattle.tariff_syntax.specs.Token.{Token}
 use Rattle.tariff_syntax.specs.Words.{after_word, after_sign, word_first}
 
--- the weekday that a word names, from 1 for Monday
+-- the number of the weekday that a word names, 1 for Monday to 7 for Sunday
 abbrev pub weekday_read : List ℕ → Option ℕ
 weekday_read name =
     if bytes_eq name (codes "mon") then Some 1
@@ -20,20 +21,20 @@ weekday_read name =
     else (if bytes_eq name (codes "sun") then Some 7
     else None))))))
 
--- a weekday, and what stands after it
+-- the weekday that stands first, and the tokens after it
 unfoldable pub weekday_first : List Token → Option (ℕ × List Token)
 weekday_first ts = do
   name ← word_first ts
   number ← weekday_read name.0
   Some (number, name.1)
 
--- a number from 1 to 9, which makes a condition
+-- the condition that the number of 1 to 9 standing first makes, and the tokens after it
 unfoldable pub numbered_first : (ℕ → Condition) → List Token → Option (Condition × List Token)
 numbered_first make ts = do
   number ← number_first 1 9 ts
   Some (make number.0, number.1)
 
--- a range of minutes
+-- the range of minutes that stands first, and the tokens after it
 unfoldable pub time_first : List Token → Option (Condition × List Token)
 time_first ts = do
   from ← minute_first ts
@@ -41,20 +42,20 @@ time_first ts = do
   to ← minute_first rest
   Some (time from.0 to.0, to.1)
 
--- the second weekday, where there is one
+-- the range of weekdays from the first one to the one behind `..`, or that one day where no `..` follows
 abbrev pub until_weekday : ℕ → List Token → Option (List Token) → Option (Condition × List Token)
 until_weekday from ts None = Some (day from from, ts)
 until_weekday from ts (Some rest) = do
   to ← weekday_first rest
   Some (day from to.0, to.1)
 
--- one weekday, or a range of them
+-- the weekday or the range of weekdays that stands first, and the tokens after it
 unfoldable pub days_first : List Token → Option (Condition × List Token)
 days_first ts = do
   from ← weekday_first ts
   until_weekday from.0 from.1 (after_sign (codes "..") from.1)
 
--- a range of dates
+-- the range of dates that stands first, and the tokens after it
 unfoldable pub dates_first : List Token → Option (Condition × List Token)
 dates_first ts = do
   from ← date_first ts
@@ -62,20 +63,20 @@ dates_first ts = do
   to ← date_first rest
   Some (date from.0.0 from.0.1 to.0.0 to.0.1, to.1)
 
--- what a measure measures, by the unit behind it: metres, or else seconds
+-- the condition of a measure, by the unit behind it, metres or else seconds, and the tokens after it
 abbrev pub by_unit : ℕ → List Token → Option (List Token) → Option (Condition × List Token)
 by_unit n ts (Some rest) = Some (after_distance n, rest)
 by_unit n ts None = do
   rest ← after_word (codes "s") ts
   Some (after_time n, rest)
 
--- a measure and its unit
+-- the condition of the measure and unit that stand first, and the tokens after them
 unfoldable pub after_first : List Token → Option (Condition × List Token)
 after_first ts = do
   measure ← amount_first 1 ts
   by_unit measure.0 measure.1 (after_word (codes "m") measure.1)
 
--- an atom, after its first word
+-- the atom that begins with a word, read from the tokens after that word
 unfoldable pub atom_named : List ℕ → List Token → Option (Condition × List Token)
 atom_named name ts =
     if bytes_eq name (codes "position") then numbered_first position ts

@@ -1,23 +1,23 @@
--- What is built of a condition that is read, where memory may run out.
+-- For proofs: what is built of a condition that is read, where memory may run out.
 use Rattle.std.specs.Prelude.{◌≡◌, List, Option, Some, None, ⊤}
 use Rattle.tariff_syntax.specs.Condition.{Condition, condition_of, and, or, not}
 use Rattle.tariff_syntax.specs.Token.{Token}
 use Rattle.tariff_syntax.specs.Tree.{Entry, initial, rate, minimum}
 use Rattle.tariff_syntax.specs.declared.condition.Cond.{Cond}
 
--- a condition has parts, each of which takes memory of its own; an atom has none
+-- a condition has parts, which take memory of their own, where it is no atom
 abbrev pub HasParts : Condition → Type 0
 HasParts (and left right) = ⊤
 HasParts (or left right) = ⊤
 HasParts (not inner) = ⊤
 HasParts _ = ⊥
 
--- a line's condition has parts, where it has a condition
+-- the condition of a line that may have none has parts where there is one and it is no atom
 abbrev pub HasPartsIf : Option Condition → Type 0
 HasPartsIf None = ⊥
 HasPartsIf (Some c) = HasParts c
 
--- the condition of an entry has parts
+-- an entry has a condition with parts where its kind has a condition and that is no atom
 abbrev pub EntryHasParts : Entry → Type 0
 EntryHasParts (initial amount covers when) = HasPartsIf when
 EntryHasParts (rate a b c e when) = HasPartsIf when
@@ -29,12 +29,12 @@ abbrev pub IsBuilt : Option Cond → Condition → Type 0
 IsBuilt (Some built) c = condition_of built ≡ c
 IsBuilt None c = HasParts c
 
--- what was built, and what stands after it, is what reading gives, which gives something
+-- what was built, and the tokens after it, are what reading gives, and reading gives something
 abbrev pub IsFront : Option Cond × List Token → Option (Condition × List Token) → Type 0
 IsFront found None = ⊥
 IsFront found (Some read) = IsBuilt found.0 read.0 × (found.1 ≡ read.1)
 
--- what a function returned, seen by view, is what reading gives; it is none exactly where nothing is read
+-- a function built what reading gives, seen through `view`, and returned None exactly where reading gives nothing
 abbrev pub Builds : {X : Type 0} → (X → Option Cond × List Token) → Option X → Option (Condition × List Token) → Type 0
 Builds view None read = read ≡ None
 Builds view (Some found) read = IsFront (view found) read

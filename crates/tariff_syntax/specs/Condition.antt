@@ -1,9 +1,11 @@
--- The condition of a line, without where it lies in memory.
+-- Rules: the condition of a line, without where it lies in memory.
 use Rattle.std.specs.Prelude.{ℕ, Option, Some, None}
 use Rattle.tariff_syntax.specs.declared.condition.Cond.{Cond, And', Or', Not', Position, Zone, Time, Day, Date, Holiday}
 use Rattle.tariff_syntax.specs.declared.condition.Cond.{AfterDistance, AfterTime}
 
--- when a line holds: minutes of a day, weekdays from 1 for Monday, months and dates, decimetres, tenths of a second
+-- a condition joins others by `and`, `or` and `not`, or is an atom: a position or zone, a range of minutes of the day,
+-- of weekdays from 1 for Monday or of months and dates, a holiday, or a distance in decimetres or a time in tenths of a
+-- second that has passed
 pub data Condition : Type 0 where
   and : (left right : Condition) → Condition
   or : (left right : Condition) → Condition
@@ -17,7 +19,7 @@ pub data Condition : Type 0 where
   after_distance : (decimetres : ℕ) → Condition
   after_time : (tenths : ℕ) → Condition
 
--- the condition that a value of the program is
+-- a value of the program stands for the condition with the same parts
 abbrev pub condition_of : Cond → Condition
 condition_of (And' p left q right) = and (condition_of left) (condition_of right)
 condition_of (Or' p left q right) = or (condition_of left) (condition_of right)
@@ -31,7 +33,7 @@ condition_of Holiday = holiday
 condition_of (AfterDistance n) = after_distance n
 condition_of (AfterTime n) = after_time n
 
--- the condition of a line that may have none
+-- a line has no condition, or the one that its value stands for
 abbrev pub condition_if : Option Cond → Option Condition
 condition_if None = None
 condition_if (Some c) = Some (condition_of c)

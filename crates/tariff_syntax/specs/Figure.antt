@@ -1,4 +1,5 @@
--- What figures say: numbers of one or two digits, dates and minutes, amounts.
+-- For proofs: what figures say, read byte by byte: numbers of one or two digits, dates and minutes, amounts. The law
+-- texts_are_parsed_as_they_read says what the answers mean.
 use Rattle.std.specs.Prelude.{ℕ, ◌+◌, ◌*◌, List, length, Option, Some, None, Result, Ok, Err, if◌then◌else◌, ◌&&◌, ◌==◌}
 use Rattle.std.specs.Prelude.{nat_le, codes}
 use Rattle.taxi_units.specs.Number.{number_at, decimal_read}
@@ -7,24 +8,25 @@ use Rattle.taxi_units.specs.declared.decimal.NumberFault.{NumberFault}
 use Rattle.tariff_syntax.specs.Token.{Token}
 use Rattle.tariff_syntax.specs.Words.{figure_first, ended}
 
--- a number at the front of a text, where it is the whole text, has at most two digits and is in a range
+-- the number that was found in front of a rest, where the rest is empty, the text has at most two digits, and the
+-- number is of `least` to `most`
 abbrev pub where_small : (least most : ℕ) → (text : List ℕ) → ℕ × List ℕ → Option ℕ
 where_small least most text x =
     if (length x.1 == 0 && (nat_le (length text) 2 && (nat_le least x.0 && nat_le x.0 most))) then Some x.0 else None
 
--- a number of one or two digits in a range
+-- the number of a text of one or two digits, where it is of `least` to `most`
 unfoldable pub small_number : (least most : ℕ) → List ℕ → Option ℕ
 small_number least most text = number_at text >>= where_small least most text
 
--- a number at the front of a text, where it has so many digits
+-- the number that was found in front of a rest, where it has exactly `width` digits
 abbrev pub where_wide : (width : ℕ) → (text : List ℕ) → ℕ × List ℕ → Option (ℕ × List ℕ)
 where_wide width text x = if length text == width + length x.1 then Some x else None
 
--- a number of so many digits, and what stands after it
+-- the number at the front of a text, where it has exactly `width` digits, and the rest
 unfoldable pub digits_at : (width : ℕ) → List ℕ → Option (ℕ × List ℕ)
 digits_at width text = number_at text >>= where_wide width text
 
--- two numbers of two digits with a byte between them
+-- the two numbers of a text of two digits, `between`, and two digits
 unfoldable pub pair_read : (between : List ℕ) → List ℕ → Option (ℕ × ℕ)
 pair_read between text = do
   first ← digits_at 2 text
@@ -32,11 +34,11 @@ pair_read between text = do
   second ← digits_at 2 rest
   ended second.1 (first.0, second.0)
 
--- a date of any year: month and date
+-- the month and date of a text of two digits, `-`, and two digits
 abbrev pub date_read : List ℕ → Option (ℕ × ℕ)
 date_read text = pair_read (codes "-") text
 
--- a date: year, month and date
+-- the year, month and date of a text of four digits, `-`, and a date of a year
 unfoldable pub year_date_read : List ℕ → Option (ℕ × ℕ × ℕ)
 year_date_read text = do
   year ← digits_at 4 text
@@ -44,46 +46,46 @@ year_date_read text = do
   date ← date_read rest
   Some (year.0, date.0, date.1)
 
--- hours and minutes of a day, as a minute of the day
+-- the minute of the day of hours and minutes, where the hours are below 24 and the minutes below 60
 abbrev pub where_of_a_day : ℕ × ℕ → Option ℕ
 where_of_a_day x = if (nat_le x.0 23 && nat_le x.1 59) then Some (60 * x.0 + x.1) else None
 
--- a minute of the day
+-- the minute of the day of a text of two digits, `:`, and two digits
 unfoldable pub minute_read : List ℕ → Option ℕ
 minute_read text = pair_read (codes ":") text >>= where_of_a_day
 
--- an amount, where it was read
+-- the amount, where one was read
 abbrev pub amount_or_none : Result ℕ NumberFault → Option ℕ
 amount_or_none (Ok n) = Some n
 amount_or_none (Err fault) = None
 
--- an amount of so many decimals
+-- the amount of a text, in units of the last of `decimals` decimals
 unfoldable pub amount_read : (decimals : ℕ) → List ℕ → Option ℕ
 amount_read decimals text = amount_or_none (decimal_read decimals text)
 
--- a figure that reads as a value, and what stands after it
+-- the value that `read` gives of the figure that stands first, and the tokens after it
 abbrev pub figure_as : {A : Type 0} → (List ℕ → Option A) → List Token → Option (A × List Token)
 figure_as read ts = do
   figure ← figure_first ts
   value ← read figure.0
   Some (value, figure.1)
 
--- a number of one or two digits in a range, and what stands after it
+-- the number of one or two digits, of `least` to `most`, that stands first, and the tokens after it
 unfoldable pub number_first : (least most : ℕ) → List Token → Option (ℕ × List Token)
 number_first least most ts = figure_as (small_number least most) ts
 
--- an amount of so many decimals, and what stands after it
+-- the amount that stands first, in units of the last of `decimals` decimals, and the tokens after it
 unfoldable pub amount_first : (decimals : ℕ) → List Token → Option (ℕ × List Token)
 amount_first decimals ts = figure_as (amount_read decimals) ts
 
--- a minute of the day, and what stands after it
+-- the minute of the day that stands first, and the tokens after it
 unfoldable pub minute_first : List Token → Option (ℕ × List Token)
 minute_first ts = figure_as minute_read ts
 
--- a date of any year, and what stands after it
+-- the month and date that stand first, and the tokens after them
 unfoldable pub date_first : List Token → Option ((ℕ × ℕ) × List Token)
 date_first ts = figure_as date_read ts
 
--- a date, and what stands after it
+-- the year, month and date that stand first, and the tokens after them
 unfoldable pub year_date_first : List Token → Option ((ℕ × ℕ × ℕ) × List Token)
 year_date_first ts = figure_as year_date_read ts

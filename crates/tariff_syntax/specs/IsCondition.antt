@@ -1,14 +1,14 @@
--- The grammar of conditions, for a person to read.
+-- Rules: the grammar of conditions.
 use Rattle.std.specs.Prelude.{ℕ, ◌+◌, List, [], ◌∷◌, ◌++◌, codes}
 use Rattle.tariff_syntax.specs.Condition as tree
 use Rattle.tariff_syntax.specs.Condition.{Condition}
 use Rattle.tariff_syntax.specs.Forms.{IsAtom}
-use Rattle.tariff_syntax.specs.PrintedCondition.{Place, whole, term, factor}
+use Rattle.tariff_syntax.specs.PrintedCondition.{Level, whole, term, factor}
 use Rattle.tariff_syntax.specs.Token.{Token, word, sign}
 
--- a factor is an atom, `not` and a factor, or a condition in parentheses; a term is a factor, or a term, `and` and a
--- factor; a whole condition is a term, or a condition, `or` and a term
-pub data IsCondition : Place → List Token → Condition → Type 0 where
+-- tokens are a condition by this grammar: a factor is an atom, `not` and a factor, or a whole condition in parentheses;
+-- a term is a factor, or a term, `and` and a factor; a whole condition is a term, or a whole condition, `or` and a term
+pub data IsCondition : Level → List Token → Condition → Type 0 where
   atom : (ts : List Token) (c : Condition) → IsAtom ts c → IsCondition factor ts c
   negation : (ts : List Token) (c : Condition) → IsCondition factor ts c
       → IsCondition factor (word (codes "not") ∷ ts) (tree.not c)
@@ -21,8 +21,8 @@ pub data IsCondition : Place → List Token → Condition → Type 0 where
   disjunction : (left right : List Token) (p q : Condition) → IsCondition whole left p → IsCondition term right q
       → IsCondition whole (left ++ word (codes "or") ∷ right) (tree.or p q)
 
--- how many atoms, `not` and `(` a condition is made of
-abbrev pub size_of : (place : Place) (ts : List Token) (c : Condition) → IsCondition place ts c → ℕ
+-- a condition is made of this many atoms, `not` and `(` together
+abbrev pub size_of : (level : Level) (ts : List Token) (c : Condition) → IsCondition level ts c → ℕ
 size_of factor ts c (atom ts' c' h) = 1
 size_of factor ts c (negation ts' c' h) = 1 + size_of factor ts' c' h
 size_of factor ts c (parentheses ts' c' h) = 1 + size_of whole ts' c' h

@@ -1,4 +1,4 @@
--- What a line says, from its tokens.
+-- For proofs: what a line says, read from its tokens. The law texts_are_parsed_as_they_read says what the answers mean.
 use Rattle.std.specs.Prelude.{ℕ, List, [], ◌∷◌, Option, Some, None, if◌then◌else◌, codes}
 use Rattle.std.specs.Str.{bytes_eq}
 use Rattle.drive_modes.specs.declared.meterage.Rounding.{Rounding}
@@ -10,13 +10,13 @@ use Rattle.tariff_syntax.specs.Token.{Token}
 use Rattle.tariff_syntax.specs.Tree.{Entry, step, positions, zones, holiday, supplement, initial, rate, minimum}
 use Rattle.tariff_syntax.specs.Words.{after_word, after_sign, word_first, ended}
 
--- the rounding that a word names
+-- the rounding that a word names, `behind` or `ahead`
 abbrev pub rounding_read : List ℕ → Option Rounding
 rounding_read name =
     if bytes_eq name (codes "behind") then Some Behind
     else (if bytes_eq name (codes "ahead") then Some Ahead else None)
 
--- the rounding at the end of a line, which may leave it out
+-- the rounding at the end of a line: `behind` where the line ends, and else the one that its last word names
 unfoldable pub rounding_end : List Token → Option Rounding
 rounding_end [] = Some Behind
 rounding_end (t ∷ ts) = do
@@ -24,34 +24,34 @@ rounding_end (t ∷ ts) = do
   rounding ← rounding_read name.0
   ended name.1 rounding
 
--- a display step
+-- the display step that the tokens after `step` say
 unfoldable pub step_read : (decimals : ℕ) → List Token → Option Entry
 step_read decimals ts = do
   amount ← amount_first decimals ts
   rounding ← rounding_end amount.1
   Some (step amount.0 rounding)
 
--- a number from 1 to 9, of positions or zones
+-- the number of 1 to 9 that the tokens are
 unfoldable pub count_read : List Token → Option ℕ
 count_read ts = do
   number ← number_first 1 9 ts
   ended number.1 number.0
 
--- how many positions there are
+-- the number of positions that the tokens after `positions` say
 abbrev pub positions_read : List Token → Option Entry
 positions_read ts = count_read ts >>= λ number. Some (positions number)
 
--- how many zones there are
+-- the number of zones that the tokens after `zones` say
 abbrev pub zones_read : List Token → Option Entry
 zones_read ts = count_read ts >>= λ number. Some (zones number)
 
--- a holiday
+-- the holiday that the tokens after `holiday` say
 unfoldable pub holiday_read : List Token → Option Entry
 holiday_read ts = do
   date ← year_date_first ts
   ended date.1 (holiday date.0.0 date.0.1 date.0.2)
 
--- a supplement
+-- the supplement that the tokens after `supplement` say
 unfoldable pub supplement_read : (decimals : ℕ) → List Token → Option Entry
 supplement_read decimals ts = do
   number ← number_first 1 16 ts
@@ -60,16 +60,16 @@ supplement_read decimals ts = do
   most ← number_first 1 99 rest
   ended most.1 (supplement number.0 amount.0 most.0)
 
--- the covered amount, which may be left out
+-- the covered amount: 0 where `covers` doesn't follow, and else the amount behind it, and the tokens after it
 abbrev pub covers_after : (decimals : ℕ) → List Token → Option (List Token) → Option (ℕ × List Token)
 covers_after decimals ts None = Some (0, ts)
 covers_after decimals ts (Some rest) = amount_first decimals rest
 
--- the covered amount at the front
+-- the covered amount that stands first, or 0, and the tokens after it
 unfoldable pub covers_first : (decimals : ℕ) → List Token → Option (ℕ × List Token)
 covers_first decimals ts = covers_after decimals ts (after_word (codes "covers") ts)
 
--- an initial hire fee
+-- the initial hire fee that the tokens after `initial` say
 unfoldable pub initial_read : (decimals : ℕ) → List Token → Option Entry
 initial_read decimals ts = do
   amount ← amount_first decimals ts
@@ -77,7 +77,7 @@ initial_read decimals ts = do
   when ← when_read covers.1
   Some (initial amount.0 covers.0 when)
 
--- an amount for each measure
+-- the amount and the measure of tokens `amount per measure unit` that stand first, and the tokens after them
 unfoldable pub per_first : (decimals : ℕ) (unit : List ℕ) → List Token → Option ((ℕ × ℕ) × List Token)
 per_first decimals unit ts = do
   amount ← amount_first decimals ts
@@ -86,7 +86,7 @@ per_first decimals unit ts = do
   rest ← after_word unit measure.1
   Some ((amount.0, measure.0), rest)
 
--- a rate
+-- the rate that the tokens after `rate` say
 unfoldable pub rate_read : (decimals : ℕ) → List Token → Option Entry
 rate_read decimals ts = do
   distance ← per_first decimals (codes "m") ts
@@ -95,14 +95,14 @@ rate_read decimals ts = do
   when ← when_read time.1
   Some (rate distance.0.0 distance.0.1 time.0.0 time.0.1 when)
 
--- a minimum fare
+-- the minimum fare that the tokens after `minimum` say
 unfoldable pub minimum_read : (decimals : ℕ) → List Token → Option Entry
 minimum_read decimals ts = do
   amount ← amount_first decimals ts
   when ← when_read amount.1
   Some (minimum amount.0 when)
 
--- an entry that has no condition, after its first word
+-- the entry of a kind that has no condition, by the line's first word
 unfoldable pub plain_named : (decimals : ℕ) (name : List ℕ) → List Token → Option Entry
 plain_named decimals name ts =
     if bytes_eq name (codes "step") then step_read decimals ts
@@ -112,7 +112,7 @@ plain_named decimals name ts =
     else (if bytes_eq name (codes "supplement") then supplement_read decimals ts
     else None))))
 
--- an entry, after its first word
+-- the entry of any kind, by the line's first word
 unfoldable pub item_named : (decimals : ℕ) (name : List ℕ) → List Token → Option Entry
 item_named decimals name ts =
     if bytes_eq name (codes "initial") then initial_read decimals ts
@@ -120,11 +120,11 @@ item_named decimals name ts =
     else (if bytes_eq name (codes "minimum") then minimum_read decimals ts
     else plain_named decimals name ts))
 
--- the entry of a line
+-- the entry that the tokens of a line say
 unfoldable pub item_read : (decimals : ℕ) → List Token → Option Entry
 item_read decimals ts = word_first ts >>= λ name. item_named decimals name.0 name.1
 
--- the decimals of a line of decimals
+-- the decimals that the tokens of a line say
 unfoldable pub decimals_read : List Token → Option ℕ
 decimals_read ts = do
   rest ← after_word (codes "decimals") ts

@@ -1,4 +1,4 @@
--- When a condition holds, and which line of a tariff holds first.
+-- Rules: when a condition holds, and which line of a tariff holds first.
 use Rattle.std.specs.Prelude.{◌≡◌, ℕ, ◌*◌, Bool, true, false, not, ◌&&◌, ◌||◌, ◌==◌, if◌then◌else◌, nat_le, nat_lt}
 use Rattle.std.specs.Prelude.{List, All, Option, Some, None, take}
 use Rattle.std.specs.List.{position_from, slice_get}
@@ -9,29 +9,33 @@ use Rattle.tariff_syntax.specs.Parts.{rate_conditions, initial_conditions, minim
 use Rattle.tariff_syntax.specs.Tree.{Tree}
 use Rattle.tariff_syntax.specs.declared.context.Context.{Context}
 
--- from one end to the other, both of them too; where the first is the later one, on over the highest number
+-- a number is within a range where it is from the first end to the second, both included, or, where the first is the
+-- greater one, from the first end on or up to the second
 abbrev pub is_within : (from to n : ℕ) → Bool
 is_within from to n = if nat_le from to then nat_le from n && nat_le n to else nat_le from n || nat_le n to
 
--- from one minute and before the other; where the first is the later one, on over midnight
+-- a minute is in a range of times where it is from the first on and before the second, or, where the first is the later
+-- one, from the first on or before the second, over midnight
 abbrev pub is_in_time : (from to minute : ℕ) → Bool
 is_in_time from to minute =
     if nat_le from to then nat_le from minute && nat_lt minute to else nat_le from minute || nat_lt minute to
 
--- a month and date comes before another in the year, or is that one
+-- a month and date is by another where it comes before it in the year or is the same
 abbrev pub is_by : (first second : ℕ × ℕ) → Bool
 is_by first second = nat_lt first.0 second.0 || (first.0 == second.0 && nat_le first.1 second.1)
 
--- from one month and date to the other, both of them too; where the first is the later one, on over the year's end
+-- a month and date is in a range of dates where it is from the first to the second, both included, or, where the first
+-- is the later one, from the first on or up to the second, over the year's end
 abbrev pub is_in_dates : (from to date : ℕ × ℕ) → Bool
 is_in_dates from to date = if is_by from to then is_by from date && is_by date to else is_by from date || is_by date to
 
--- the same of the date at a place of the year, where there is one
+-- a date that may be none is on a range of dates where there is one and it is in the range
 abbrev pub is_on : (from to : ℕ × ℕ) → Option (ℕ × ℕ) → Bool
 is_on from to None = false
 is_on from to (Some date) = is_in_dates from to date
 
--- whether a condition holds in a context: pulses have come so far where 10,000 of them times ten decimetres are as far
+-- a condition holds in a context by its parts; a distance of X decimetres has passed where the constant times X is at
+-- most 10,000 times the pulses, and a time where the ticks are at least its tenths of a second
 abbrev pub holds : Condition → Context → Bool
 holds (tree.and left right) x = holds left x && holds right x
 holds (tree.or left right) x = holds left x || holds right x
@@ -46,30 +50,31 @@ holds tree.holiday x = x.holiday
 holds (tree.after_distance decimetres) x = nat_le (x.constant * decimetres) (10000 * x.pulses)
 holds (tree.after_time tenths) x = nat_le tenths x.ticks
 
--- a line without a condition holds always
+-- a line holds in a context where it has no condition or its condition holds
 abbrev pub holds_if : Context → Option Condition → Bool
 holds_if x None = true
 holds_if x (Some when) = holds when x
 
--- the place of the first that passes a test: that one does, and none before it; there is no place where none passes
+-- a place, counted from 0, is that of the first that passes a test where the one there passes and none before it does;
+-- none is the answer where none passes
 abbrev pub IsFirstPlace : {A : Type 0} → (A → Bool) → List A → Option ℕ → Type 0
 IsFirstPlace {A} passes xs None = All (λ (x : A). passes x ≡ false) xs
 IsFirstPlace {A} passes xs (Some place) =
     (x : A) × (slice_get xs place ≡ Some x) × (passes x ≡ true)
     × All (λ (before : A). passes before ≡ false) (take place xs)
 
--- the rate of a context: the first rate that holds, by its place among the rates
+-- the rate of a context is the first rate that holds in it, told by its place among the rates
 abbrev pub rate_place : Tree → Context → Option ℕ
 rate_place t x = position_from (holds_if x) 0 (rate_conditions t.lines)
 
--- a context at the hiring: no pulse and no tick of the trip yet
+-- a context at the hiring is the same one with no pulse and no tick of the trip yet
 abbrev pub at_hiring : Context → Context
 at_hiring x = record x { pulses = 0; ticks = 0 }
 
--- the initial hire fee of a context: the first that holds at the hiring, by its place among the initial hire fees
+-- the initial hire fee of a context is the first one that holds at the hiring, told by its place among them
 abbrev pub initial_place : Tree → Context → Option ℕ
 initial_place t x = position_from (holds_if (at_hiring x)) 0 (initial_conditions t.lines)
 
--- the minimum fare of a context: the first that holds at the hiring, by its place among the minimum fares
+-- the minimum fare of a context is the first one that holds at the hiring, told by its place among them
 abbrev pub minimum_place : Tree → Context → Option ℕ
 minimum_place t x = position_from (holds_if (at_hiring x)) 0 (minimum_conditions t.lines)

@@ -1,4 +1,4 @@
--- The parentheses of a printed condition.
+-- Rules: the parentheses of a printed condition.
 use Rattle.std.specs.Prelude.{◌≡◌, ℕ, List, [], ◌∷◌, ◌++◌, codes}
 use Rattle.tariff_syntax.specs.Condition.{Condition}
 use Rattle.tariff_syntax.specs.IsCondition.{IsCondition}
@@ -7,15 +7,16 @@ use Rattle.tariff_syntax.specs.Spelled.{IsSpelled}
 use Rattle.tariff_syntax.specs.TextLines.{lines_of}
 use Rattle.tariff_syntax.specs.Token.{Token, sign}
 
--- a line that is a condition's printed form
+-- a line is a condition's printed form where it is the one line that the condition is printed as
 abbrev pub IsPrinted : Condition → (line : List ℕ) → Type 0
 IsPrinted c line = lines_of (condition_text c (codes "\n")) ≡ line ∷ []
 
--- tokens with a `(` and a `)` behind it among them
+-- tokens have a pair of parentheses where they are some tokens, `(`, some tokens, `)`, and some tokens
 abbrev pub with_pair : (before inside behind : List Token) → List Token
 with_pair before inside behind = before ++ sign (codes "(") ∷ (inside ++ sign (codes ")") ∷ behind)
 
--- no pair of parentheses of its printed form could go: without it the tokens don't read as the condition
+-- a condition needs its parentheses where no pair of them could go from its printed form: the tokens without that pair
+-- don't read as the condition
 abbrev pub NeedsParentheses : Condition → Type 0
 NeedsParentheses c =
     (line : List ℕ) (before inside behind : List Token)

@@ -1,4 +1,5 @@
--- What the parser of a whole text answers.
+-- For proofs: what the parser of a whole text answers, by the stages of the code. The law texts_are_parsed_as_they_read
+-- says what the answers mean.
 use Rattle.std.specs.Prelude.{◌≡◌, ℕ, ◌<◌, ◌≤◌, List, [], ◌∷◌, length, map, Option, Some, None, Result, Ok, Err, ⊤}
 use Rattle.tariff_syntax.specs.Faults.{ReadsAs}
 use Rattle.tariff_syntax.specs.Items.{item_read}
@@ -10,50 +11,51 @@ use Rattle.tariff_syntax.specs.declared.parsing.ParseFault.TheVariants.{TooLong,
 use Rattle.tariff_syntax.specs.declared.tariff.Tariff.{Tariff}
 use Rattle.tariff_syntax.specs.declared.tariff.TariffLine.{TariffLine}
 
--- a line says an entry
+-- the tokens of a line say an entry
 abbrev pub HasEntry : (decimals : ℕ) → List Token → Type 0
 HasEntry decimals ts = ReadsAs (λ _. ⊤) (item_read decimals ts)
 
--- lines are read, one at least, so that memory is asked for
+-- lines are read, and there is at least one, so that memory is asked for
 abbrev pub HasLines : Result (List Line) ℕ → Type 0
 HasLines (Ok []) = ⊥
 HasLines (Ok (line ∷ lines)) = ⊤
 HasLines (Err bad) = ⊥
 
--- the bad line, if one is bad
+-- the number of the bad line, where one is bad
 abbrev pub bad_in : Result (List Line) ℕ → Option ℕ
 bad_in (Ok lines) = None
 bad_in (Err bad) = Some bad
 
--- why there is no tariff, where memory ran out above these lines
+-- a fault is that of the lines below one for which memory ran out: the first bad line, or else NoMemory
 abbrev pub IsFaultBelow : Result (List Line) ℕ → ParseFault → Type 0
 IsFaultBelow read TooLong = ⊥
 IsFaultBelow read (Syntax line) = bad_in read ≡ Some line
 IsFaultBelow read NoMemory = bad_in read ≡ None
 
--- why lines could not be read: one of them is bad, or none is and memory ran out
+-- a fault is that of lines where it names the first bad one, or none is bad and memory ran out for them
 abbrev pub IsBadLine : Result (List Line) ℕ → ParseFault → Type 0
 IsBadLine read TooLong = ⊥
 IsBadLine read (Syntax line) = read ≡ Err line
 IsBadLine read NoMemory = HasLines read
 
--- the lines that were read
+-- an answer is that of lines where it has the lines that were read, or their fault
 abbrev pub AreRead : Result (List Line) ℕ → Result (List TariffLine) ParseFault → Type 0
 AreRead read (Ok lines) = read ≡ Ok (map line_of lines)
 AreRead read (Err fault) = IsBadLine read fault
 
--- a tariff of lines is read
+-- a tariff is read that has at least one line
 abbrev pub IsFilled : Result Tree ℕ → Type 0
 IsFilled (Ok t) = HasLines (Ok t.lines)
 IsFilled (Err bad) = ⊥
 
--- why a text gives no tariff
+-- a text is refused as too long above 65,536 bytes, as bad with its first bad line, or for want of memory where it has
+-- a tariff of at least one line
 abbrev pub IsRefusal : List ℕ → ParseFault → Type 0
 IsRefusal text TooLong = 65536 < length text
 IsRefusal text (Syntax line) = (length text ≤ 65536) × (tree_parsed text ≡ Err line)
 IsRefusal text NoMemory = (length text ≤ 65536) × IsFilled (tree_parsed text)
 
--- the answer to a text: its tariff, or why there is none
+-- an answer is that of a text where it is the text's tariff, or the reason why it is refused
 abbrev pub IsAnswer : List ℕ → Result Tariff ParseFault → Type 0
 IsAnswer text (Ok t) = (length text ≤ 65536) × (tree_parsed text ≡ Ok (tree_of t))
 IsAnswer text (Err fault) = IsRefusal text fault

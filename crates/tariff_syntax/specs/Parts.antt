@@ -1,44 +1,44 @@
--- The lines of a kind, and their conditions.
+-- Rules: the lines of a kind, and their conditions.
 use Rattle.std.specs.Prelude.{List, Option, Some, None}
 use Rattle.std.specs.List.{filter_map}
 use Rattle.tariff_syntax.specs.Condition.{Condition}
 use Rattle.tariff_syntax.specs.Tree.{Line, Entry, initial, rate, minimum}
-use Rattle.tariff_syntax.specs.declared.meaning.Kind.{Kind}
-use Rattle.tariff_syntax.specs.declared.meaning.Kind.TheVariants.{Rate, Initial, Minimum}
+use Rattle.tariff_syntax.specs.declared.meaning.LineKind.{LineKind}
+use Rattle.tariff_syntax.specs.declared.meaning.LineKind.TheVariants.{Rate, Initial, Minimum}
 
--- what those lines have that have such a part, in order
+-- lines have these parts: the part of each line that has one, in order
 abbrev pub parts : {A : Type 0} → (Entry → Option A) → List Line → List A
 parts part lines = filter_map (λ (l : Line). part l.entry) lines
 
--- the condition of a rate, which may have none
+-- an entry that is a rate has its condition, or none; another entry isn't asked
 abbrev pub rate_when : Entry → Option (Option Condition)
 rate_when (rate a b c e when) = Some when
 rate_when _ = None
 
--- the condition of an initial hire fee, which may have none
+-- an entry that is an initial hire fee has its condition, or none; another entry isn't asked
 abbrev pub initial_when : Entry → Option (Option Condition)
 initial_when (initial amount covers when) = Some when
 initial_when _ = None
 
--- the condition of a minimum fare, which may have none
+-- an entry that is a minimum fare has its condition, or none; another entry isn't asked
 abbrev pub minimum_when : Entry → Option (Option Condition)
 minimum_when (minimum amount when) = Some when
 minimum_when _ = None
 
--- the condition of a line of a kind
-abbrev pub when_of : Kind → Entry → Option (Option Condition)
+-- an entry of a kind has its condition, or none; an entry of another kind isn't asked
+abbrev pub when_of : LineKind → Entry → Option (Option Condition)
 when_of Rate x = rate_when x
 when_of Initial x = initial_when x
 when_of Minimum x = minimum_when x
 
--- the conditions of a tariff's rates, in order
+-- the rates among some lines have these conditions, in order
 abbrev pub rate_conditions : List Line → List (Option Condition)
 rate_conditions lines = parts rate_when lines
 
--- the conditions of a tariff's initial hire fees, in order
+-- the initial hire fees among some lines have these conditions, in order
 abbrev pub initial_conditions : List Line → List (Option Condition)
 initial_conditions lines = parts initial_when lines
 
--- the conditions of a tariff's minimum fares, in order
+-- the minimum fares among some lines have these conditions, in order
 abbrev pub minimum_conditions : List Line → List (Option Condition)
 minimum_conditions lines = parts minimum_when lines

@@ -1,5 +1,5 @@
--- What a text says, for a person to read: it is cut into lines; the first line that has tokens may say the decimals;
--- each further one says an entry.
+-- Rules: what a text says. It is cut into lines; the first line that has tokens may say the decimals; each further one
+-- says an entry.
 use Rattle.std.specs.Prelude.{◌≡◌, ℕ, ◌+◌, ◌<◌, ◌≤◌, ◌⊎◌, List, [], ◌∷◌, length, Result, Ok, Err}
 use Rattle.std.specs.List.{AllPairs}
 use Rattle.tariff_syntax.specs.IsItem.{IsItem, IsDecimals}
@@ -11,19 +11,20 @@ use Rattle.tariff_syntax.specs.declared.parsing.ParseFault.{ParseFault}
 use Rattle.tariff_syntax.specs.declared.parsing.ParseFault.TheVariants.{TooLong, Syntax, NoMemory}
 use Rattle.tariff_syntax.specs.declared.tariff.Tariff.{Tariff}
 
--- a line has nothing but blanks and perhaps a comment
+-- a line is empty where it has nothing but blanks and perhaps a comment
 abbrev pub IsEmpty : List ℕ → Type 0
 IsEmpty text = IsSpelled text []
 
--- a line says the decimals
+-- a line says the decimals where its tokens do
 abbrev pub SaysDecimals : List ℕ → ℕ → Type 0
 SaysDecimals text n = (ts : List Token) × IsSpelled text ts × IsDecimals ts n
 
--- a line says an entry
+-- a line says an entry where its tokens do
 abbrev pub Says : (decimals : ℕ) → List ℕ → Entry → Type 0
 Says decimals text entry = (ts : List Token) × IsSpelled text ts × IsItem decimals ts entry
 
--- texts, which are numbered on from a number, say these lines: an empty one is passed over
+-- texts that are numbered from `number` on say lines where each says the next line's entry, and is numbered as that
+-- line is, or is empty and passed over
 abbrev pub SayLines : (decimals number : ℕ) → List (List ℕ) → List Line → Type 0
 SayLines decimals number [] lines = lines ≡ []
 SayLines decimals number (text ∷ texts) lines =
@@ -31,8 +32,8 @@ SayLines decimals number (text ∷ texts) lines =
     ⊎ ((entry : Entry) × (more : List Line) × (lines ≡ record { line = number; entry = entry } ∷ more)
     × Says decimals text entry × SayLines decimals (number + 1) texts more)
 
--- texts, which are numbered on from a number, say this tariff: the decimals are 2 where the first that isn't empty
--- doesn't say them
+-- texts that are numbered from `number` on say a tariff where the first that isn't empty says its decimals and the
+-- others say its lines, or where all of them say its lines and its decimals are 2
 abbrev pub SayTariff : (number : ℕ) → List (List ℕ) → Tree → Type 0
 SayTariff number [] t = (t.decimals ≡ 2) × (t.lines ≡ [])
 SayTariff number (text ∷ texts) t =
@@ -40,18 +41,20 @@ SayTariff number (text ∷ texts) t =
     ⊎ ((SaysDecimals text t.decimals × SayLines t.decimals (number + 1) texts t.lines)
     ⊎ (¬ (IsEmpty text) × (t.decimals ≡ 2) × SayLines 2 number (text ∷ texts) t.lines))
 
--- a text reads as a tariff
+-- a text reads as a tariff where its lines, numbered from 1 on, say the tariff
 abbrev pub Reads : List ℕ → Tree → Type 0
 Reads text t = SayTariff 1 (lines_of text) t
 
--- of texts that are numbered on from a number this is the first that is bad: it isn't empty and says no entry
+-- of texts that are numbered from `number` on the first bad one has the number `bad`: it isn't empty and says no entry,
+-- and each text before it is empty or says an entry
 abbrev pub FirstBad : (decimals number : ℕ) → List (List ℕ) → (bad : ℕ) → Type 0
 FirstBad decimals number [] bad = ⊥
 FirstBad decimals number (text ∷ texts) bad =
     ((bad ≡ number) × ¬ (IsEmpty text) × ((entry : Entry) → ¬ (Says decimals text entry)))
     ⊎ ((IsEmpty text ⊎ ((entry : Entry) × Says decimals text entry)) × FirstBad decimals (number + 1) texts bad)
 
--- the same, under the decimals that the first that isn't empty says, or else under 2
+-- of texts that are numbered from `number` on, of which the first that isn't empty may say the decimals, and else they
+-- are 2, the first bad one under these decimals has the number `bad`
 abbrev pub FirstBadBelow : (number : ℕ) → List (List ℕ) → (bad : ℕ) → Type 0
 FirstBadBelow number [] bad = ⊥
 FirstBadBelow number (text ∷ texts) bad =
@@ -59,21 +62,22 @@ FirstBadBelow number (text ∷ texts) bad =
     ⊎ (((decimals : ℕ) × SaysDecimals text decimals × FirstBad decimals (number + 1) texts bad)
     ⊎ (¬ (IsEmpty text) × ((decimals : ℕ) → ¬ (SaysDecimals text decimals)) × FirstBad 2 number (text ∷ texts) bad))
 
--- this is the first bad line of a text
+-- a text's first bad line is the first bad one of its lines, numbered from 1 on
 abbrev pub IsFirstBadLine : List ℕ → (bad : ℕ) → Type 0
 IsFirstBadLine text bad = FirstBadBelow 1 (lines_of text) bad
 
--- each line has a greater number than those above it
+-- lines rise in number where each has a greater number than those above it
 abbrev pub RiseInNumber : List Line → Type 0
 RiseInNumber lines = AllPairs (λ (above below : Line). above.line < below.line) lines
 
--- why a text gives no tariff: it is too long, or this is its first bad line, or memory ran out for a tariff of lines
+-- a text is refused as too long above 65,536 bytes, as bad with its first bad line, or for want of memory where it
+-- reads as a tariff of at least one line
 abbrev pub IsRefused : List ℕ → ParseFault → Type 0
 IsRefused text TooLong = 65536 < length text
 IsRefused text (Syntax line) = (length text ≤ 65536) × IsFirstBadLine text line
 IsRefused text NoMemory = (length text ≤ 65536) × ((t : Tree) × Reads text t × (0 < length t.lines))
 
--- the answer to a text: the tariff that it reads as, or why it gives none
+-- a text is parsed as the tariff that it reads as, where it has at most 65,536 bytes, or refused
 abbrev pub IsParsed : List ℕ → Result Tariff ParseFault → Type 0
 IsParsed text (Ok t) = (length text ≤ 65536) × Reads text (tree_of t)
 IsParsed text (Err fault) = IsRefused text fault

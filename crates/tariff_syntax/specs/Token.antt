@@ -1,30 +1,30 @@
--- The tokens of a line.
+-- Rules: the tokens of a line.
 use Rattle.std.specs.Prelude.{ℕ, List, [], ◌∷◌, Bool, false, ◌||◌, ◌&&◌, ◌==◌}
 use Rattle.std.specs.Char.{is_ascii_digit, is_ascii_lowercase}
 use Rattle.tariff_syntax.specs.declared.tokens.Token.{Token as Piece}
 use Rattle.tariff_syntax.specs.declared.tokens.Token.TheVariants.{Word, Figure, Sign}
 
--- a word is letters; a figure begins with a digit; a sign is any other text, most of which no line has
+-- a token is a word, which is letters, a figure, which begins with a digit, or a sign, which is any other text
 pub data Token : Type 0 where
   word : (text : List ℕ) → Token
   figure : (text : List ℕ) → Token
   sign : (text : List ℕ) → Token
 
--- the token that a value of the program is
+-- a value of the program stands for the token of the same kind and text
 abbrev pub token_of : Piece → Token
 token_of (Word text) = word text.now
 token_of (Figure text) = figure text.now
 token_of (Sign text) = sign text.now
 
--- a blank: space, tab, carriage return
+-- a byte is a blank where it is a space, a tab or a carriage return
 abbrev pub is_blank : ℕ → List ℕ → Bool
 is_blank c rest = c == 32 || (c == 9 || c == 13)
 
--- a letter: a to z
+-- a byte is a letter where it is a to z
 abbrev pub is_letter : ℕ → List ℕ → Bool
 is_letter c rest = is_ascii_lowercase c
 
--- the text begins with a digit
+-- a text begins with a digit where its first byte is one
 abbrev pub begins_with_digit : List ℕ → Bool
 begins_with_digit [] = false
 begins_with_digit (c ∷ cs) = is_ascii_digit c

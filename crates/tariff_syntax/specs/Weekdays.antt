@@ -1,11 +1,11 @@
--- The short names of the weekdays.
+-- Rules: the short names of the weekdays.
 use Rattle.std.specs.Prelude.{ℕ, ◌-◌, List, [], ◌∷◌, codes}
 use Rattle.std.specs.List.{slice_index_or}
 
--- from Monday to Sunday
+-- the weekdays from Monday to Sunday have these short names
 abbrev pub day_words : List (List ℕ)
 day_words = codes "mon" ∷ codes "tue" ∷ codes "wed" ∷ codes "thu" ∷ codes "fri" ∷ codes "sat" ∷ codes "sun" ∷ []
 
--- the name of a weekday, from 1 for Monday
+-- a weekday, from 1 for Monday, has the short name at its place in the list, counted from 1
 abbrev pub day_word : (weekday : ℕ) → List ℕ
 day_word weekday = slice_index_or day_words (weekday - 1) []

@@ -1,9 +1,9 @@
--- How the reader counts a condition, before it reads it: by the words and signs with which its parts begin.
+-- For proofs: how the reader counts a condition, before it reads it, by the words and signs with which its parts begin.
 use Rattle.std.specs.Prelude.{ℕ, ◌+◌, List, [], ◌∷◌, Bool, if◌then◌else◌, ◌||◌, codes}
 use Rattle.std.specs.Str.{bytes_eq}
 use Rattle.tariff_syntax.specs.Token.{Token, word, figure, sign}
 
--- a word with which an atom or a `not` begins
+-- a test whether an atom or a `not` begins with the word
 abbrev pub is_counted : List ℕ → Bool
 is_counted name =
     bytes_eq name (codes "not")
@@ -11,13 +11,13 @@ is_counted name =
     || (bytes_eq name (codes "day")
     || (bytes_eq name (codes "date") || (bytes_eq name (codes "holiday") || bytes_eq name (codes "after")))))))
 
--- 1 for the beginning of an atom, a `not` or a `(`, and 0 for other tokens
+-- the count of a token, which is 1 where an atom, a `not` or a `(` begins with it, and else 0
 abbrev pub token_weight : Token → ℕ
 token_weight (word name) = if is_counted name then 1 else 0
 token_weight (figure text) = 0
 token_weight (sign text) = if bytes_eq text (codes "(") then 1 else 0
 
--- how many atoms, `not` and `(` begin in the tokens
+-- the number of atoms, `not` and `(` that begin in the tokens
 abbrev pub weight : List Token → ℕ
 weight [] = 0
 weight (t ∷ ts) = token_weight t + weight ts

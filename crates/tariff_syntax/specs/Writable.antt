@@ -1,19 +1,19 @@
--- The tariffs whose numbers a text can have.
+-- Rules: the tariffs whose numbers a text can have.
 use Rattle.std.specs.Prelude.{ℕ, ◌^◌, ◌≤◌, Option, Some, None, All}
 use Rattle.tariff_syntax.specs.Condition as tree
 use Rattle.tariff_syntax.specs.Condition.{Condition}
 use Rattle.tariff_syntax.specs.Tree.{Tree, Line, Entry, step, positions, zones, holiday, supplement, initial, rate}
 use Rattle.tariff_syntax.specs.Tree.{minimum}
 
--- a number from the least to the most
+-- a number is from the least to the most, both included
 abbrev pub IsFromTo : (least most n : ℕ) → Type 0
 IsFromTo least most n = (least ≤ n) × (n ≤ most)
 
--- an amount of money, a distance or a time is at most this
+-- an amount of money, a distance or a time in a text is at most 10^12 units
 abbrev pub greatest : ℕ
 greatest = 10 ^ 12
 
--- the numbers of a condition
+-- a condition is writable where a text can have its numbers
 abbrev pub IsWritableCondition : Condition → Type 0
 IsWritableCondition (tree.and left right) = IsWritableCondition left × IsWritableCondition right
 IsWritableCondition (tree.or left right) = IsWritableCondition left × IsWritableCondition right
@@ -28,12 +28,12 @@ IsWritableCondition tree.holiday = Unit {0}
 IsWritableCondition (tree.after_distance decimetres) = decimetres ≤ greatest
 IsWritableCondition (tree.after_time tenths) = tenths ≤ greatest
 
--- those of the condition of a line that may have none
+-- the condition of a line is writable where there is none or a text can have its numbers
 abbrev pub IsWritableIf : Option Condition → Type 0
 IsWritableIf None = Unit {0}
 IsWritableIf (Some when) = IsWritableCondition when
 
--- those of a line
+-- an entry is writable where a text can have its numbers
 abbrev pub IsWritableEntry : Entry → Type 0
 IsWritableEntry (step amount rounding) = amount ≤ greatest
 IsWritableEntry (positions number) = IsFromTo 1 9 number
@@ -45,7 +45,7 @@ IsWritableEntry (rate a b c e when) =
     (a ≤ greatest) × (b ≤ greatest) × (c ≤ greatest) × (e ≤ greatest) × IsWritableIf when
 IsWritableEntry (minimum amount when) = (amount ≤ greatest) × IsWritableIf when
 
--- a tariff whose numbers are all such as a text can have
+-- a tariff is writable where a text can have all of its numbers
 pub record IsWritable (t : Tree) : Type 0 where
   pub decimals : t.decimals ≤ 3
   pub lines : All (λ (l : Line). IsWritableEntry l.entry) t.lines

@@ -20,7 +20,7 @@ mod writing;
 
 pub use condition::Cond;
 pub use context::Context;
-pub use meaning::{initial_of, minimum_of, rate_of, sat};
+pub use meaning::{LineKind, initial_of, minimum_of, rate_of, sat, when_of};
 pub use parsing::{ParseFault, parse};
 pub use tariff::{InitialLine, Item, Lines, MinimumLine, RateLine, Tariff, TariffLine};
 pub use theorems::{

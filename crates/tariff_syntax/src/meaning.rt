@@ -40,7 +40,7 @@ pub fn sat(cond: &Cond, x: &Context) -> bool
 pub fn rate_of(tariff: &Tariff, x: &Context) -> Option<usize>
     ensures { result ≡ rate_place (tree_of tariff.now) x.now }
 {
-    first_of(Kind::Rate, tariff.lines.as_slice(), x)
+    first_of(LineKind::Rate, tariff.lines.as_slice(), x)
 }
 
 /// The initial hire fee of a context: the first initial line that has no condition or whose condition
@@ -49,7 +49,7 @@ pub fn rate_of(tariff: &Tariff, x: &Context) -> Option<usize>
 pub fn initial_of(tariff: &Tariff, x: &Context) -> Option<usize>
     ensures { result ≡ initial_place (tree_of tariff.now) x.now }
 {
-    first_of(Kind::Initial, tariff.lines.as_slice(), &hiring(x))
+    first_of(LineKind::Initial, tariff.lines.as_slice(), &hiring(x))
 }
 
 /// The minimum fare of a context: the first minimum line that has no condition or whose condition holds
@@ -58,25 +58,25 @@ pub fn initial_of(tariff: &Tariff, x: &Context) -> Option<usize>
 pub fn minimum_of(tariff: &Tariff, x: &Context) -> Option<usize>
     ensures { result ≡ minimum_place (tree_of tariff.now) x.now }
 {
-    first_of(Kind::Minimum, tariff.lines.as_slice(), &hiring(x))
+    first_of(LineKind::Minimum, tariff.lines.as_slice(), &hiring(x))
 }
 
 /// A kind of lines, of which the first that holds is the one that counts.
 #[derive(Clone, Copy, Debug, PartialEq, Eq)]
-enum Kind {
+pub enum LineKind {
     Rate,
     Initial,
     Minimum,
 }
 
 /// The first line of a kind that holds, by its place among the lines of that kind, from 0.
-fn first_of(kind: Kind, lines: &[TariffLine], x: &Context) -> Option<usize>
+fn first_of(kind: LineKind, lines: &[TariffLine], x: &Context) -> Option<usize>
     ensures { result ≡ position_from (holds_if x.now) 0 (parts (when_of kind) (map line_of lines.now)) }
 {
     let mut place = 0;
     let mut first = None;
     for line in lines {
-        if let Some(cond) = when(kind, &line.item) {
+        if let Some(cond) = when_of(kind, &line.item) {
             if first.is_none() && sat_if(cond, x) {
                 first = Some(place);
             }
@@ -87,13 +87,13 @@ fn first_of(kind: Kind, lines: &[TariffLine], x: &Context) -> Option<usize>
 }
 
 /// The condition of a line of a kind, which may have none. `None` where the line is of another kind.
-fn when(kind: Kind, item: &Item) -> Option<&Option<Cond>>
+pub fn when_of(kind: LineKind, item: &Item) -> Option<&Option<Cond>>
     ensures { Gives (λ cond. condition_if cond.now) result (when_of kind (entry_of item.now)) }
 {
     match (kind, item) {
-        (Kind::Rate, Item::Rate(rate)) => Some(&rate.cond),
-        (Kind::Initial, Item::Initial(initial)) => Some(&initial.cond),
-        (Kind::Minimum, Item::Minimum(minimum)) => Some(&minimum.cond),
+        (LineKind::Rate, Item::Rate(rate)) => Some(&rate.cond),
+        (LineKind::Initial, Item::Initial(initial)) => Some(&initial.cond),
+        (LineKind::Minimum, Item::Minimum(minimum)) => Some(&minimum.cond),
         _ => None,
     }
 }

@@ -63,7 +63,7 @@ pub fn parse(alloc: Global, text: &[u8]) -> Result<Tariff, ParseFault>
     parse_text(alloc, text)
 }
 
-/// The same, line after line.
+/// Reads a tariff, as the answer of the code's stages.
 #[tactic(auto, unfolding(crate::specs::Parsed::tree_parsed))]
 fn parse_text(alloc: Global, text: &[u8]) -> Result<Tariff, ParseFault>
     ensures answer { IsAnswer text.now result }

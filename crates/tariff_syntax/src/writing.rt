@@ -25,13 +25,10 @@ pub fn print(alloc: Global, tariff: &Tariff) -> Result<Vec<u8>, NoMemory>
     requires { tariff.now.decimals ≤ 3 }
     ensures { IfOk result (λ text. text.items ≡ printed (tree_of tariff.now)) }
 {
-    match write_tariff(alloc, tariff) {
-        Ok(text) => Ok(text),
-        Err(_) => Err(NoMemory),
-    }
+    write_tariff(alloc, tariff).map_err(|_| NoMemory)
 }
 
-/// The same; out of memory is its only error.
+/// The printed form of a tariff; out of memory is the only error.
 fn write_tariff(alloc: Global, tariff: &Tariff) -> Result<Vec<u8>, AllocError>
     requires { tariff.now.decimals ≤ 3 }
     ensures { IfOk result (λ text. text.items ≡ printed (tree_of tariff.now)) }

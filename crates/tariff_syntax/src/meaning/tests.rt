@@ -2,422 +2,146 @@
 use super::*;
 use crate::parsing::parse;
 use pulse_input::Constant;
+use std::alloc::Global;
 use std::test::Fail;
 
-/// What conditions ask of a context, but for the taximeter's constant.
-#[derive(Clone, Copy, Debug)]
-struct Moment {
-    position: u8,
-    zone: u8,
-    weekday: u8,
-    month_day: u16,
-    holiday: bool,
-    minute: u16,
-    pulses: u64,
-    ticks: u32,
-}
-
-/// The first minute of a Monday that is a 1 January, at the hiring.
-const FIRST: Moment = Moment {
-    position: 1,
-    zone: 1,
-    weekday: 1,
-    month_day: 0,
-    holiday: false,
-    minute: 0,
-    pulses: 0,
-    ticks: 0,
-};
-
-/// The context of a moment, with constant 10,000.
-fn context(moment: Moment) -> Result<Context, Fail> {
+/// The first minute of a Monday that is a 1 January, at the hiring, with constant 10,000.
+fn first() -> Result<Context, Fail> {
     Ok(Context {
         constant: Constant::new(10_000)?,
-        position: moment.position,
-        zone: moment.zone,
-        weekday: moment.weekday,
-        month_day: moment.month_day,
-        holiday: moment.holiday,
-        minute: moment.minute,
-        pulses: moment.pulses,
-        ticks: moment.ticks,
+        position: 1,
+        zone: 1,
+        weekday: 1,
+        month_day: 0,
+        holiday: false,
+        minute: 0,
+        pulses: 0,
+        ticks: 0,
     })
 }
 
-/// Conditions, moments, and whether the conditions hold then.
-const ASKED: [(&str, Moment, bool); 58] = [
-    (
-        "position 2",
-        Moment {
-            position: 2,
-            ..FIRST
-        },
-        true,
-    ),
-    ("position 2", FIRST, false),
-    ("zone 3", Moment { zone: 3, ..FIRST }, true),
-    (
-        "zone 3",
-        Moment {
-            position: 3,
-            ..FIRST
-        },
-        false,
-    ),
-    (
-        "time 06:00..22:00",
-        Moment {
-            minute: 359,
-            ..FIRST
-        },
-        false,
-    ),
-    (
-        "time 06:00..22:00",
-        Moment {
-            minute: 360,
-            ..FIRST
-        },
-        true,
-    ),
-    (
-        "time 06:00..22:00",
-        Moment {
-            minute: 1319,
-            ..FIRST
-        },
-        true,
-    ),
-    (
-        "time 06:00..22:00",
-        Moment {
-            minute: 1320,
-            ..FIRST
-        },
-        false,
-    ),
-    (
-        "time 22:00..06:00",
-        Moment {
-            minute: 1319,
-            ..FIRST
-        },
-        false,
-    ),
-    (
-        "time 22:00..06:00",
-        Moment {
-            minute: 1320,
-            ..FIRST
-        },
-        true,
-    ),
-    (
-        "time 22:00..06:00",
-        Moment {
-            minute: 359,
-            ..FIRST
-        },
-        true,
-    ),
-    (
-        "time 22:00..06:00",
-        Moment {
-            minute: 360,
-            ..FIRST
-        },
-        false,
-    ),
-    (
-        "time 06:00..06:00",
-        Moment {
-            minute: 360,
-            ..FIRST
-        },
-        false,
-    ),
-    (
-        "day wed",
-        Moment {
-            weekday: 3,
-            ..FIRST
-        },
-        true,
-    ),
-    (
-        "day wed",
-        Moment {
-            weekday: 4,
-            ..FIRST
-        },
-        false,
-    ),
-    (
-        "day tue..fri",
-        Moment {
-            weekday: 1,
-            ..FIRST
-        },
-        false,
-    ),
-    (
-        "day tue..fri",
-        Moment {
-            weekday: 2,
-            ..FIRST
-        },
-        true,
-    ),
-    (
-        "day tue..fri",
-        Moment {
-            weekday: 5,
-            ..FIRST
-        },
-        true,
-    ),
-    (
-        "day tue..fri",
-        Moment {
-            weekday: 6,
-            ..FIRST
-        },
-        false,
-    ),
-    (
-        "day sat..mon",
-        Moment {
-            weekday: 7,
-            ..FIRST
-        },
-        true,
-    ),
-    (
-        "day sat..mon",
-        Moment {
-            weekday: 1,
-            ..FIRST
-        },
-        true,
-    ),
-    (
-        "day sat..mon",
-        Moment {
-            weekday: 2,
-            ..FIRST
-        },
-        false,
-    ),
-    (
-        "date 02-28..03-01",
-        Moment {
-            month_day: 57,
-            ..FIRST
-        },
-        false,
-    ),
-    (
-        "date 02-28..03-01",
-        Moment {
-            month_day: 58,
-            ..FIRST
-        },
-        true,
-    ),
-    (
-        "date 02-28..03-01",
-        Moment {
-            month_day: 59,
-            ..FIRST
-        },
-        true,
-    ),
-    (
-        "date 02-28..03-01",
-        Moment {
-            month_day: 60,
-            ..FIRST
-        },
-        true,
-    ),
-    (
-        "date 02-28..03-01",
-        Moment {
-            month_day: 61,
-            ..FIRST
-        },
-        false,
-    ),
-    (
-        "date 12-31..01-01",
-        Moment {
-            month_day: 364,
-            ..FIRST
-        },
-        false,
-    ),
-    (
-        "date 12-31..01-01",
-        Moment {
-            month_day: 365,
-            ..FIRST
-        },
-        true,
-    ),
-    (
-        "date 12-31..01-01",
-        Moment {
-            month_day: 0,
-            ..FIRST
-        },
-        true,
-    ),
-    (
-        "date 12-31..01-01",
-        Moment {
-            month_day: 1,
-            ..FIRST
-        },
-        false,
-    ),
-    (
-        "date 02-01..02-30",
-        Moment {
-            month_day: 59,
-            ..FIRST
-        },
-        true,
-    ),
-    (
-        "date 02-01..02-30",
-        Moment {
-            month_day: 60,
-            ..FIRST
-        },
-        false,
-    ),
-    (
-        "date 03-01..02-30",
-        Moment {
-            month_day: 60,
-            ..FIRST
-        },
-        true,
-    ),
-    (
-        "date 03-01..02-30",
-        Moment {
-            month_day: 200,
-            ..FIRST
-        },
-        true,
-    ),
-    (
-        "date 03-01..02-30",
-        Moment {
-            month_day: 31,
-            ..FIRST
-        },
-        true,
-    ),
-    (
-        "date 00-00..99-99",
-        Moment {
-            month_day: 365,
-            ..FIRST
-        },
-        true,
-    ),
-    (
-        "date 00-00..99-99",
-        Moment {
-            month_day: 366,
-            ..FIRST
-        },
-        false,
-    ),
-    (
-        "not date 01-01..12-31",
-        Moment {
-            month_day: 366,
-            ..FIRST
-        },
-        true,
-    ),
-    ("holiday", FIRST, false),
-    (
-        "holiday",
-        Moment {
-            holiday: true,
-            ..FIRST
-        },
-        true,
-    ),
-    (
-        "after 9656.1 m",
-        Moment {
-            pulses: 96_560,
-            ..FIRST
-        },
-        false,
-    ),
-    (
-        "after 9656.1 m",
-        Moment {
-            pulses: 96_561,
-            ..FIRST
-        },
-        true,
-    ),
-    ("after 0.0 m", FIRST, true),
-    (
-        "after 25.2 s",
-        Moment {
-            ticks: 251,
-            ..FIRST
-        },
-        false,
-    ),
-    (
-        "after 25.2 s",
-        Moment {
-            ticks: 252,
-            ..FIRST
-        },
-        true,
-    ),
-    (
-        "after 25.2 s",
-        Moment {
-            pulses: 252,
-            ..FIRST
-        },
-        false,
-    ),
-    ("zone 1 and position 1", FIRST, true),
-    ("zone 1 and position 2", FIRST, false),
-    ("zone 2 and position 1", FIRST, false),
-    ("zone 2 or position 1", FIRST, true),
-    ("zone 1 or position 2", FIRST, true),
-    ("zone 2 or position 2", FIRST, false),
-    ("holiday and zone 2 or zone 1", FIRST, true),
-    ("zone 1 or holiday and holiday", FIRST, true),
-    ("(zone 1 or holiday) and holiday", FIRST, false),
-    ("not holiday and holiday", FIRST, false),
-    ("not (holiday and holiday)", FIRST, true),
-];
+/// Whether the rate of a tariff whose only rate has this condition is that one.
+fn is_rate(alloc: Global, when: &str, x: &Context) -> Result<bool, Fail> {
+    let text = format!(in alloc; "rate 1 per 1 m, 1 per 1 s when {when}")?;
+    let tariff = parse(alloc, text.as_bytes())?;
+    Ok(rate_of(&tariff, x) == Some(0))
+}
 
 #[test]
-fn asks_conditions(rt: HostRuntime) -> Result<(), Fail> {
-    for (when, moment, want) in ASKED {
-        let text = format!(in rt.alloc(); "rate 1 per 1 m, 1 per 1 s when {when}")?;
-        let tariff = parse(rt.alloc(), text.as_bytes())?;
-        let place = if want { Some(0) } else { None };
-        assert_eq!(rt;
-            rate_of(&tariff, &context(moment)?),
-            place,
-            "{when} {moment:?}"
-        );
+fn minutes_are_asked(rt: HostRuntime) -> Result<(), Fail> {
+    for (when, minute, want) in [
+        ("time 06:00..22:00", 359, false),
+        ("time 06:00..22:00", 360, true),
+        ("time 06:00..22:00", 1319, true),
+        ("time 06:00..22:00", 1320, false),
+        ("time 22:00..06:00", 1319, false),
+        ("time 22:00..06:00", 1320, true),
+        ("time 22:00..06:00", 359, true),
+        ("time 22:00..06:00", 360, false),
+        ("time 06:00..06:00", 360, false),
+    ] {
+        let x = Context { minute, ..first()? };
+        assert_eq!(rt; is_rate(rt.alloc(), when, &x)?, want, "{when} {minute}");
+    }
+    Ok(())
+}
+
+#[test]
+fn weekdays_are_asked(rt: HostRuntime) -> Result<(), Fail> {
+    for (when, weekday, want) in [
+        ("day wed", 3, true),
+        ("day wed", 4, false),
+        ("day tue..fri", 1, false),
+        ("day tue..fri", 2, true),
+        ("day tue..fri", 5, true),
+        ("day tue..fri", 6, false),
+        ("day sat..mon", 7, true),
+        ("day sat..mon", 1, true),
+        ("day sat..mon", 2, false),
+    ] {
+        let x = Context {
+            weekday,
+            ..first()?
+        };
+        assert_eq!(rt; is_rate(rt.alloc(), when, &x)?, want, "{when} {weekday}");
+    }
+    Ok(())
+}
+
+#[test]
+fn dates_are_asked(rt: HostRuntime) -> Result<(), Fail> {
+    for (when, month_day, want) in [
+        ("date 02-28..03-01", 57, false),
+        ("date 02-28..03-01", 58, true),
+        ("date 02-28..03-01", 59, true),
+        ("date 02-28..03-01", 60, true),
+        ("date 02-28..03-01", 61, false),
+        ("date 12-31..01-01", 364, false),
+        ("date 12-31..01-01", 365, true),
+        ("date 12-31..01-01", 0, true),
+        ("date 12-31..01-01", 1, false),
+        ("date 02-01..02-30", 59, true),
+        ("date 02-01..02-30", 60, false),
+        ("date 03-01..02-30", 60, true),
+        ("date 03-01..02-30", 200, true),
+        ("date 03-01..02-30", 31, true),
+        ("date 00-00..99-99", 365, true),
+        ("date 00-00..99-99", 366, false),
+        ("not date 01-01..12-31", 366, true),
+    ] {
+        let x = Context {
+            month_day,
+            ..first()?
+        };
+        assert_eq!(rt; is_rate(rt.alloc(), when, &x)?, want, "{when} {month_day}");
+    }
+    Ok(())
+}
+
+#[test]
+fn positions_zones_and_measures_are_asked(rt: HostRuntime) -> Result<(), Fail> {
+    for (when, position, zone, pulses, ticks, want) in [
+        ("position 2", 2, 1, 0, 0, true),
+        ("position 2", 1, 2, 0, 0, false),
+        ("zone 3", 1, 3, 0, 0, true),
+        ("zone 3", 3, 1, 0, 0, false),
+        ("after 9656.1 m", 1, 1, 96_560, 0, false),
+        ("after 9656.1 m", 1, 1, 96_561, 0, true),
+        ("after 0.0 m", 1, 1, 0, 0, true),
+        ("after 25.2 s", 1, 1, 0, 251, false),
+        ("after 25.2 s", 1, 1, 0, 252, true),
+        ("after 25.2 s", 1, 1, 252, 0, false),
+    ] {
+        let x = Context {
+            position,
+            zone,
+            pulses,
+            ticks,
+            ..first()?
+        };
+        assert_eq!(rt; is_rate(rt.alloc(), when, &x)?, want, "{when} {x:?}");
+    }
+    Ok(())
+}
+
+#[test]
+fn parts_are_joined(rt: HostRuntime) -> Result<(), Fail> {
+    let x = first()?;
+    for (when, want) in [
+        ("zone 1 and position 1", true),
+        ("zone 1 and position 2", false),
+        ("zone 2 and position 1", false),
+        ("zone 2 or position 1", true),
+        ("zone 1 or position 2", true),
+        ("zone 2 or position 2", false),
+        ("holiday", false),
+        ("holiday and zone 2 or zone 1", true),
+        ("zone 1 or holiday and holiday", true),
+        ("(zone 1 or holiday) and holiday", false),
+        ("not holiday and holiday", false),
+        ("not (holiday and holiday)", true),
+    ] {
+        assert_eq!(rt; is_rate(rt.alloc(), when, &x)?, want, "{when}");
     }
     Ok(())
 }
@@ -435,78 +159,31 @@ rate 0.10 per 100.0 m, 0.10 per 20.0 s
 minimum 6.00 when time 22:00..06:00
 ";
 
-/// Moments, and the first rate, initial hire fee and minimum fare of the tariff that hold then.
-const FOUND: [(Moment, Option<usize>, Option<usize>, Option<usize>); 7] = [
-    (FIRST, Some(2), Some(0), Some(2)),
-    (
-        Moment {
-            minute: 720,
-            ..FIRST
-        },
-        Some(2),
-        None,
-        None,
-    ),
-    (
-        Moment {
-            minute: 720,
-            pulses: 10,
-            ticks: 10,
-            ..FIRST
-        },
-        Some(2),
-        None,
-        None,
-    ),
-    (
-        Moment {
-            minute: 720,
-            holiday: true,
-            ..FIRST
-        },
-        Some(0),
-        Some(1),
-        Some(1),
-    ),
-    (
-        Moment {
-            holiday: true,
-            ..FIRST
-        },
-        Some(0),
-        Some(0),
-        Some(1),
-    ),
-    (
-        Moment {
-            month_day: 59,
-            pulses: 10,
-            ..FIRST
-        },
-        Some(1),
-        Some(0),
-        Some(2),
-    ),
-    (
-        Moment {
-            month_day: 59,
-            holiday: true,
-            ..FIRST
-        },
-        Some(0),
-        Some(0),
-        Some(1),
-    ),
-];
-
+/// Rows of a place in the year, whether it is a holiday, a minute, and pulses and ticks of the trip; and of
+/// the first rate, initial hire fee and minimum fare that hold then.
 #[test]
 fn finds_the_first_line_that_holds(rt: HostRuntime) -> Result<(), Fail> {
     let tariff = parse(rt.alloc(), TARIFF.as_bytes())?;
-    for (moment, rate, initial, minimum) in FOUND {
-        let x = context(moment)?;
-        assert_eq!(rt; rate_of(&tariff, &x), rate, "{moment:?}");
-        assert_eq!(rt; initial_of(&tariff, &x), initial, "{moment:?}");
-        assert_eq!(rt; minimum_of(&tariff, &x), minimum, "{moment:?}");
+    for (month_day, holiday, minute, passed, rate, initial, minimum) in [
+        (0, false, 0, 0, 2, Some(0), Some(2)),
+        (0, false, 720, 0, 2, None, None),
+        (0, false, 720, 10, 2, None, None),
+        (0, true, 720, 0, 0, Some(1), Some(1)),
+        (0, true, 0, 0, 0, Some(0), Some(1)),
+        (59, false, 0, 10, 1, Some(0), Some(2)),
+        (59, true, 0, 0, 0, Some(0), Some(1)),
+    ] {
+        let x = Context {
+            month_day,
+            holiday,
+            minute,
+            pulses: passed as u64,
+            ticks: passed,
+            ..first()?
+        };
+        assert_eq!(rt; rate_of(&tariff, &x), Some(rate), "{x:?}");
+        assert_eq!(rt; initial_of(&tariff, &x), initial, "{x:?}");
+        assert_eq!(rt; minimum_of(&tariff, &x), minimum, "{x:?}");
     }
     Ok(())
 }

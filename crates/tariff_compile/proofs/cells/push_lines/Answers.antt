@@ -14,7 +14,7 @@ use Rattle.tariff_syntax.specs.declared.context.Context.{Context}
 use Rattle.tariff_syntax.specs.declared.tariff.Tariff.{Tariff}
 use Rattle.tariff_syntax.specs.declared.tariff.TariffLine.{TariffLine}
 use Rattle.tariff_compile.specs.Tables.{lines_at, number_of}
-use Rattle.tariff_compile.specs.declared.marking.Kind.TheVariants.{Rate, Initial, Minimum}
+use Rattle.tariff_syntax.specs.declared.meaning.LineKind.TheVariants.{Rate, Initial, Minimum}
 use Rattle.tariff_compile.specs.declared.parts.CellLines.{CellLines}
 use Rattle.tariff_compile.proofs.Blocks.{at_place}
 use Rattle.tariff_compile.proofs.Compiled.{initial_place-below, rate_place-below}

@@ -1,4 +1,4 @@
-use Rattle.std.proofs.Common.{◌≡◌, ℕ, ◌∙◌, ap, sym, refl}
+use Rattle.std.proofs.Common.{ℕ, ◌∙◌, ap, sym, refl}
 use Rattle.tariff_calendar.specs.Lists.{count_at_most}
 use Rattle.tariff_compile.specs.Cells.{bands_at}
 use Rattle.tariff_compile.specs.declared.parts.Bands.{Bands}

@@ -9,7 +9,7 @@ loop-line-preserved c =
     let kind = c.args.kind in
     let lines = c.args.lines.now in
     let xs = c.args.contexts.now in
-    elim c.match-when.branch [
+    elim c.match-when_of.branch [
       | in-Some+else-is_err w ↦
           let more = marks_of_line kind lines xs c.loop-line.line-index c.loop-line.all.items c.line-item.result _ w.marks_if.result c.loop-line.invariant c.loop-line-test.true c.line-item.is w.in-Some.ensures w.marks_if.ensures in
           grind (arith, common_steps, more)

@@ -20,5 +20,5 @@ no_such_lines n (l ∷ ls) out writable =
     rw (no_such_line n l.entry out (All-head P l ls writable)) (no_such_lines n ls out (All-tail P l ls writable))
 
 -- a tariff has no supplement of another number than 1 to 16
-pub supplement_of-none : (t : Tree) (n : ℕ) → IsWritable t → (IsFromTo 1 16 n → ⊥) → supplement_of t.lines n ≡ None
-supplement_of-none t n writable out = rw (no_such_lines n t.lines out writable.lines) refl
+pub none_of_other_numbers : (t : Tree) (n : ℕ) → IsWritable t → (IsFromTo 1 16 n → ⊥) → supplement_of t.lines n ≡ None
+none_of_other_numbers t n writable out = rw (no_such_lines n t.lines out writable.lines) refl
