@@ -9,9 +9,9 @@ abbrev pub kept_of : Call → Bool → Kept
 kept_of call failed = record { call = call; failed = failed }
 
 -- a write that didn't fail: its range was in flight already, and the image differs there alone
-pub write_follows : (held : Contents) (at : ℕ) (bytes : List ℕ) (old new : Replay) → Follows (begun held (Write at bytes)) old → new.image ≡ overwrite at bytes old.image
-    → SameBut (IsWithin at (length bytes)) old.image new.image → new.left ≡ old.left → Follows (done held (Write at bytes)) new
-write_follows held at bytes old new follows put same left_is = record {
+pub write_follows : (size : ℕ) (held : Contents) (at : ℕ) (bytes : List ℕ) (old new : Replay size) → Follows size (begun held (Write at bytes)) old → new.image ≡ overwrite at bytes old.image
+    → SameBut (IsWithin at (length bytes)) old.image new.image → new.left ≡ old.left → Follows size (done held (Write at bytes)) new
+write_follows size held at bytes old new follows put same left_is = record {
   image = image_is;
   left = record {
     size = ap length left_is ∙ follows.left.size ∙ sym (ap length (sym image_is) ∙ same.size ∙ ap length follows.image);

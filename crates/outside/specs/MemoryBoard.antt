@@ -45,10 +45,10 @@ left_since_of board start left_image left_text = LeftSince (opened board.start) 
 abbrev pub faults_of : BoardState → ℕ
 faults_of board = board.refused + count_by (λ kept. kept.failed) board.calls
 
--- a board in memory: its image is one that a store of 2,048 bytes may hold
-pub record Memory : Type 0 where
+-- a board in memory: its image is one that a store of this size may hold
+pub record Memory (size : ℕ) : Type 0 where
   pub state : BoardState
-  pub is_image : IsImage 2048 (image_of state)
+  pub is_image : IsImage size (image_of state)
 
 -- at moment 0 the store holds this image, nothing is in flight or printed, and there were no faults; a cut might have
 -- left that alone

@@ -4,9 +4,9 @@ ghost use Rattle.std.specs.Prelude.{◌≡◌, IsErr, IsTrue, OnErr};
 use crate::store_file::StoreFile;
 use std::alloc::Global;
 use std::fs::File;
-use std::io;
 use std::io::ErrorKind;
 use std::rt::Files as HostSystem;
+use std::{fs, io};
 
 /// The store of the system. Its file is opened at the first call that finds it, and stays open. As long
 /// as there is none, the store reads as zeros, and the first write makes the file. A store that read so
@@ -14,15 +14,19 @@ use std::rt::Files as HostSystem;
 #[derive(Drop)]
 pub(crate) struct FileStore {
     file: Option<StoreFile>,
+    name: &'static str,
+    size: u64,
     was_absent: bool,
     is_lost: bool,
 }
 
 impl FileStore {
-    /// A store of which nothing is opened yet.
-    pub(crate) fn new() -> FileStore {
+    /// A store of so many bytes in a file of this name, of which nothing is opened yet.
+    pub(crate) fn new(name: &'static str, size: u64) -> FileStore {
         FileStore {
             file: None,
+            name,
+            size,
             was_absent: false,
             is_lost: false,
         }
@@ -32,7 +36,7 @@ impl FileStore {
     pub(crate) fn read<R: HostSystem<File = File>>(
         &mut self,
         rt: &R,
-        at: u16,
+        at: u32,
         buf: &mut [u8],
     ) -> io::Result<()>
         ensures kept { self.new.is_lost ≡ self.old.is_lost }
@@ -51,7 +55,7 @@ impl FileStore {
     pub(crate) fn write_at<R: HostSystem<File = File>>(
         &mut self,
         rt: &R,
-        at: u16,
+        at: u32,
         bytes: &[u8],
     ) -> io::Result<()>
         ensures kept { self.new.is_lost ≡ self.old.is_lost }
@@ -60,7 +64,7 @@ impl FileStore {
         match &mut self.file {
             Some(file) => file.write_at(at, bytes),
             None => {
-                let mut file = StoreFile::make(rt)?;
+                let mut file = StoreFile::make(rt, self.name, self.size)?;
                 let answer = file.write_at(at, bytes);
                 self.file = Some(file);
                 answer
@@ -105,14 +109,15 @@ impl FileStore {
         if self.file.is_some() {
             return Ok(());
         }
-        if !StoreFile::exists(rt)? {
+        // A link that leads nowhere is no file.
+        if !fs::exists(rt, self.name)? {
             self.was_absent = true;
             return Ok(());
         }
         if self.was_absent {
             return Err(io::Error::from(ErrorKind::AlreadyExists));
         }
-        self.file = Some(StoreFile::open(rt)?);
+        self.file = Some(StoreFile::open(rt, self.name, self.size)?);
         Ok(())
     }
 }

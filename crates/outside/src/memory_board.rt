@@ -9,7 +9,7 @@ ghost use Rattle.outside.specs.Printing.{Begins};
 
 use crate::board::Board;
 use crate::fault::Failed;
-use crate::memory_state::MemoryState;
+use crate::memory_device::MemoryDevice;
 use crate::replay::Fill;
 use std::alloc::Global;
 use std::marker::Model;
@@ -24,14 +24,13 @@ use taxi_units::{NoMemory, Steps};
 /// the calls that failed by their numbers, together.
 #[derive(Drop)]
 pub struct MemoryBoard {
-    state: MemoryState,
-    ghost is_image: { IsImage 2048 (image_of state) },
+    device: MemoryDevice<2048>,
 }
 
 impl Model for MemoryBoard {
-    ghost Value = { Memory };
+    ghost Value = { Memory 2048 };
 
-    ghost view = { λ b. record { state = b.state; is_image = b.is_image } };
+    ghost view = { λ b. b.device };
 }
 
 impl MemoryBoard {
@@ -41,36 +40,36 @@ impl MemoryBoard {
         ensures state { IfOk result (λ b. b.state ≡ new_board image.now fail.now) }
         ensures new { IfOk result (λ b. IsNew image.now b.state) }
     {
-        let state = MemoryState::new(alloc, image, fail)?;
-        Ok(MemoryBoard { state })
+        let device = MemoryDevice::new(alloc, image, fail)?;
+        Ok(MemoryBoard { device })
     }
 
     /// How many calls were kept, those that failed by their numbers among them.
     pub fn calls(&self) -> u64
         ensures { result ≡ length self.now.state.calls }
     {
-        self.state.calls()
+        self.device.calls()
     }
 
     /// What was printed.
     pub fn printed(&self) -> &[u8]
         ensures { result.now ≡ text_of self.now.state }
     {
-        self.state.printed()
+        self.device.printed()
     }
 
     /// What a read gives: the bytes of the store.
     pub fn image(&self) -> &[u8; 2048]
         ensures { result.now ≡ image_of self.now.state }
     {
-        self.state.image()
+        self.device.image()
     }
 
     /// How many calls failed for want of memory.
     pub fn refused(&self) -> u64
         ensures { result ≡ self.now.state.refused }
     {
-        self.state.refused()
+        self.device.refused()
     }
 
     /// An image that a cut inside the call with this number may leave, 0 being before the first. What
@@ -86,7 +85,7 @@ impl MemoryBoard {
             → result ≡ (held_inside self.now.state call).image }
         ensures zero { call ≡ 0 → result ≡ self.now.state.start }
     {
-        self.state.cut(call, fill)
+        self.device.cut(call, fill)
     }
 }
 
@@ -131,7 +130,7 @@ impl<L: Ledger> Board<L> for MemoryBoard {
         ensures failed { OnErr result (IsUndone self.old.state Read self.new.state) }
     {
         steps.spend();
-        self.state.keep_read(at, buf)
+        self.device.read(u32::from(at), buf)
     }
 
     fn write_at(&mut self, at: u16, bytes: &[u8], steps: &mut Steps<L>) -> Result<(), Failed>
@@ -151,7 +150,7 @@ impl<L: Ledger> Board<L> for MemoryBoard {
         ensures failed { OnErr result (IsUndone self.old.state (Write at bytes.now) self.new.state) }
     {
         steps.spend();
-        self.state.keep_write(at, bytes)
+        self.device.write_at(u32::from(at), bytes)
     }
 
     fn sync(&mut self, steps: &mut Steps<L>) -> Result<(), Failed>
@@ -170,7 +169,7 @@ impl<L: Ledger> Board<L> for MemoryBoard {
         ensures failed { OnErr result (IsUndone self.old.state Sync self.new.state) }
     {
         steps.spend();
-        self.state.keep_sync()
+        self.device.sync()
     }
 
     fn print(&mut self, bytes: &[u8], steps: &mut Steps<L>) -> Result<(), Failed>
@@ -190,6 +189,6 @@ impl<L: Ledger> Board<L> for MemoryBoard {
         ensures failed { OnErr result (IsUndone self.old.state (Print bytes.now) self.new.state) }
     {
         steps.spend();
-        self.state.keep_print(bytes)
+        self.device.print(bytes)
     }
 }

@@ -1,5 +1,5 @@
 //! What a board in memory keeps.
-ghost use Rattle.std.specs.Prelude.{◌≡◌, ◌⊎◌, ◌↔◌, ℕ, ◌+◌, ◌≤◌, ◌++◌, List, [], ◌∷◌, length, take, drop, true, Contains, IfOk, OnOk, OnErr};
+ghost use Rattle.std.specs.Prelude.{◌≡◌, ◌⊎◌, ◌↔◌, ℕ, ◌+◌, ◌^◌, ◌≤◌, ◌++◌, List, [], ◌∷◌, length, take, drop, true, Contains, IfOk, OnOk, OnErr};
 ghost use Rattle.std.specs.List.{All};
 ghost use Rattle.outside.specs.Calls.{Contents, Read, Write, Sync, Print, IsInSome, IsInStore, after, after_all, call_end};
 ghost use Rattle.outside.specs.Disk.{IsImage, SameBut};
@@ -16,17 +16,18 @@ use taxi_units::NoMemory;
 
 /// The calls that a board in memory keeps, and what they leave.
 #[derive(Drop)]
-pub(crate) struct MemoryState {
+pub(crate) struct MemoryState<const N: usize> {
     alloc: Global,
-    start: [u8; 2048],
-    image: [u8; 2048],
+    start: [u8; N],
+    image: [u8; N],
     text: Vec<u8>,
     fail: Vec<u64>,
     calls: Vec<KeptCall>,
     refused: u64,
 }
 
-impl Model for MemoryState {
+impl<const N: usize> Model for MemoryState<N> {
+    ghost use Rattle.std.specs.Prelude.{◌^◌, ◌≤◌};
     ghost use Rattle.std.specs.List.{All};
     ghost use Rattle.outside.specs.Calls.{Mirrors, IsInStore, after_all, opened};
     ghost use Rattle.outside.specs.MemoryBoard.{BoardState};
@@ -36,18 +37,19 @@ impl Model for MemoryState {
     ghost view = { λ m. record { start = m.start; fail = m.fail.items; calls = m.calls.items; refused = m.refused } };
 
     ghost invariant = { λ m. Mirrors (after_all (opened m.start) m.calls.items) m.image m.text.items
-        × All (IsInStore 2048) m.calls.items };
+        × All (IsInStore N) m.calls.items × (N ≤ 2 ^ 32) };
 }
 
-impl MemoryState {
+impl<const N: usize> MemoryState<N> {
     /// No call was kept yet.
     pub(crate) fn new(
         alloc: Global,
-        image: &[u8; 2048],
+        image: &[u8; N],
         fail: &[u64],
-    ) -> Result<MemoryState, NoMemory>
+    ) -> Result<MemoryState<N>, NoMemory>
+        requires { N ≤ 2 ^ 32 }
         ensures state { IfOk result (λ m. m ≡ new_board image.now fail.now) }
-        ensures is_image { IfOk result (λ m. IsImage 2048 (image_of m)) }
+        ensures is_image { IfOk result (λ m. IsImage N (image_of m)) }
     {
         let Ok(fail) = Vec::from_slice(alloc, fail) else {
             return Err(NoMemory);
@@ -79,7 +81,7 @@ impl MemoryState {
     }
 
     /// What a read gives.
-    pub(crate) fn image(&self) -> &[u8; 2048]
+    pub(crate) fn image(&self) -> &[u8; N]
         ensures { result.now ≡ image_of self.now }
     {
         &self.image
@@ -96,7 +98,7 @@ impl MemoryState {
     /// was in flight before the call is still so, inside a sync too, and so is the range that the call
     /// itself writes. The bytes in flight become what `fill` says. All others are those that a read
     /// gave before the call.
-    pub(crate) fn cut(&self, call: u64, fill: Fill) -> [u8; 2048]
+    pub(crate) fn cut(&self, call: u64, fill: Fill) -> [u8; N]
         requires { call ≤ length self.now.calls }
         ensures left { left_since_of self.now 0 result (held_inside self.now call).text }
         ensures inside { SameBut (IsInSome (held_inside self.now call).ranges)
@@ -126,14 +128,14 @@ impl MemoryState {
     }
 
     /// Keeps a read, and fills the buffer where it doesn't fail.
-    pub(crate) fn keep_read(&mut self, at: u16, buf: &mut [u8]) -> Result<(), Failed>
-        requires { at + length buf.old ≤ 2048 }
+    pub(crate) fn keep_read(&mut self, at: u32, buf: &mut [u8]) -> Result<(), Failed>
+        requires { at + length buf.old ≤ N }
         ensures bytes { OnOk result (buf.new ≡ take (length buf.old) (drop at (image_of self.old))) }
         ensures kept { OnOk result (IsDone self.old Read self.new) }
         ensures failed { OnErr result (IsUndone self.old Read self.new) }
         ensures rises { self.old.refused ≤ self.new.refused }
     {
-        let Ok(failed) = keep(&mut self.calls, &self.fail, Request::Read) else {
+        let Ok(failed) = keep::<N>(&mut self.calls, &self.fail, Request::Read) else {
             return Err(self.refuse());
         };
         if failed {
@@ -141,13 +143,14 @@ impl MemoryState {
         }
         let from = at as usize;
         let to = from + buf.len();
-        buf.copy_from_slice(&self.image[from..to]);
+        let image = &self.image[..];
+        buf.copy_from_slice(&image[from..to]);
         Ok(())
     }
 
     /// Keeps a write, and puts its bytes where it doesn't fail.
-    pub(crate) fn keep_write(&mut self, at: u16, bytes: &[u8]) -> Result<(), Failed>
-        requires { at + length bytes.now ≤ 2048 }
+    pub(crate) fn keep_write(&mut self, at: u32, bytes: &[u8]) -> Result<(), Failed>
+        requires { at + length bytes.now ≤ N }
         ensures kept { OnOk result (IsDone self.old (Write at bytes.now) self.new) }
         ensures failed { OnErr result (IsUndone self.old (Write at bytes.now) self.new) }
         ensures rises { self.old.refused ≤ self.new.refused }
@@ -155,7 +158,7 @@ impl MemoryState {
         let Ok(copy) = Vec::from_slice(self.alloc, bytes) else {
             return Err(self.refuse());
         };
-        let Ok(failed) = keep(&mut self.calls, &self.fail, Request::Write(at, copy)) else {
+        let Ok(failed) = keep::<N>(&mut self.calls, &self.fail, Request::Write(at, copy)) else {
             return Err(self.refuse());
         };
         if failed {
@@ -171,7 +174,7 @@ impl MemoryState {
         ensures failed { OnErr result (IsUndone self.old Sync self.new) }
         ensures rises { self.old.refused ≤ self.new.refused }
     {
-        let Ok(failed) = keep(&mut self.calls, &self.fail, Request::Sync) else {
+        let Ok(failed) = keep::<N>(&mut self.calls, &self.fail, Request::Sync) else {
             return Err(self.refuse());
         };
         if failed { Err(Failed) } else { Ok(()) }
@@ -190,7 +193,7 @@ impl MemoryState {
         let Ok(()) = self.text.extend_from_slice(bytes) else {
             return Err(self.refuse());
         };
-        let Ok(failed) = keep(&mut self.calls, &self.fail, Request::Print(piece)) else {
+        let Ok(failed) = keep::<N>(&mut self.calls, &self.fail, Request::Print(piece)) else {
             self.text.truncate(count);
             return Err(self.refuse());
         };
@@ -203,10 +206,14 @@ impl MemoryState {
 }
 
 /// Keeps a call, and answers whether it fails by its number. A call that finds no memory isn't kept.
-fn keep(calls: &mut Vec<KeptCall>, fail: &[u64], request: Request) -> Result<bool, NoMemory>
-    requires fits { All (IsInStore 2048) calls.old.items }
-    requires inside { call_end (call_of request) ≤ 2048 }
-    ensures fits { All (IsInStore 2048) calls.new.items }
+fn keep<const N: usize>(
+    calls: &mut Vec<KeptCall>,
+    fail: &[u64],
+    request: Request,
+) -> Result<bool, NoMemory>
+    requires fits { All (IsInStore N) calls.old.items }
+    requires inside { call_end (call_of request) ≤ N }
+    ensures fits { All (IsInStore N) calls.new.items }
     ensures kept { IfOk result (λ failed.
         calls.new.items ≡ calls.old.items ++ record { call = call_of request; failed = failed } ∷ []) }
     ensures leaves { IfOk result (λ failed. (held : Contents)

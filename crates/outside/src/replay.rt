@@ -25,17 +25,17 @@ pub enum Fill {
 
 /// What a board holds after some of its calls, and what a cut then leaves.
 #[derive(Drop)]
-pub(crate) struct Replay {
+pub(crate) struct Replay<const N: usize> {
     fill: Fill,
-    image: [u8; 2048],
-    settled: [u8; 2048],
-    pub(crate) left: [u8; 2048],
+    image: [u8; N],
+    settled: [u8; N],
+    pub(crate) left: [u8; N],
 }
 
-impl Replay {
+impl<const N: usize> Replay<N> {
     /// Before the first call.
-    pub(crate) fn new(image: &[u8; 2048], fill: Fill) -> Replay
-        ensures { Follows (opened image.now) result }
+    pub(crate) fn new(image: &[u8; N], fill: Fill) -> Replay<N>
+        ensures { Follows N (opened image.now) result }
     {
         Replay {
             fill,
@@ -47,8 +47,8 @@ impl Replay {
 
     /// A call has begun.
     pub(crate) fn begin(&mut self, kept: &KeptCall)
-        requires { call_end kept.now.call ≤ 2048 }
-        ensures { (held : Contents) → Follows held self.old → Follows (begun held kept.now.call) self.new }
+        requires { call_end kept.now.call ≤ N }
+        ensures { (held : Contents) → Follows N held self.old → Follows N (begun held kept.now.call) self.new }
     {
         if let Request::Write(at, bytes) = &kept.request {
             put_fill(
@@ -63,8 +63,8 @@ impl Replay {
 
     /// A call is over.
     pub(crate) fn pass(&mut self, kept: &KeptCall)
-        requires { call_end kept.now.call ≤ 2048 }
-        ensures { (held : Contents) → Follows held self.old → Follows (after held kept.now) self.new }
+        requires { call_end kept.now.call ≤ N }
+        ensures { (held : Contents) → Follows N held self.old → Follows N (after held kept.now) self.new }
     {
         self.begin(kept);
         if kept.failed {
@@ -82,8 +82,8 @@ impl Replay {
 }
 
 /// Puts bytes from a place on.
-pub(crate) fn put(image: &mut [u8; 2048], from: usize, bytes: &[u8])
-    requires { from + length bytes.now ≤ 2048 }
+pub(crate) fn put(image: &mut [u8], from: usize, bytes: &[u8])
+    requires { from + length bytes.now ≤ length image.old }
     ensures put { image.new ≡ overwrite from bytes.now image.old }
     ensures same { SameBut (IsWithin from (length bytes.now)) image.old image.new }
 {
@@ -91,8 +91,9 @@ pub(crate) fn put(image: &mut [u8; 2048], from: usize, bytes: &[u8])
 }
 
 /// Puts what a cut leaves of bytes that were written from a place on.
-fn put_fill(left: &mut [u8; 2048], settled: &[u8; 2048], from: usize, bytes: &[u8], fill: Fill)
-    requires { from + length bytes.now ≤ 2048 }
+fn put_fill(left: &mut [u8], settled: &[u8], from: usize, bytes: &[u8], fill: Fill)
+    requires inside { from + length bytes.now ≤ length left.old }
+    requires alike { length settled.now ≡ length left.old }
     ensures { SameBut (IsWithin from (length bytes.now)) left.old left.new }
 {
     let to = from + bytes.len();

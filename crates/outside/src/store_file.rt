@@ -8,14 +8,8 @@ use std::os::unix::fs::MetadataExt;
 use std::rt::Files as HostSystem;
 use std::{fs, io};
 
-/// The name of the file, in the working folder.
-const NAME: &str = "taxi.store";
-
 /// The working folder.
 const FOLDER: &str = ".";
-
-/// How many bytes the file has.
-const SIZE: u64 = 2048;
 
 /// The last number of a standard stream.
 const LAST_STREAM: i32 = 2;
@@ -24,25 +18,28 @@ const LAST_STREAM: i32 = 2;
 #[derive(Drop)]
 pub(crate) struct StoreFile {
     file: File,
+    name: &'static str,
+    size: u64,
     is_made: bool,
     is_whole: bool,
     is_in_folder: bool,
 }
 
 impl StoreFile {
-    /// Whether there is a file of this name. A link that leads nowhere is none.
-    pub(crate) fn exists<R: HostSystem>(rt: &R) -> io::Result<bool> {
-        fs::exists(rt, NAME)
-    }
-
     /// The file that is there, for reading alone where it may not be written. It is refused where it
-    /// isn't a plain file, and where another has its lock.
-    pub(crate) fn open<R: HostSystem<File = File>>(rt: &R) -> io::Result<StoreFile> {
-        if !fs::metadata(rt, NAME)?.is_file() {
+    /// isn't a plain file, and where another has its lock. The store has so many bytes.
+    pub(crate) fn open<R: HostSystem<File = File>>(
+        rt: &R,
+        name: &'static str,
+        size: u64,
+    ) -> io::Result<StoreFile> {
+        if !fs::metadata(rt, name)?.is_file() {
             return Err(io::Error::from(ErrorKind::Unsupported));
         }
         Ok(StoreFile {
-            file: locked(rt, opened(rt)?)?,
+            file: locked(rt, name, opened(rt, name)?)?,
+            name,
+            size,
             is_made: false,
             is_whole: false,
             is_in_folder: false,
@@ -50,14 +47,20 @@ impl StoreFile {
     }
 
     /// A new file, which is empty. It fails where anything of that name is there.
-    pub(crate) fn make<R: HostSystem<File = File>>(rt: &R) -> io::Result<StoreFile> {
+    pub(crate) fn make<R: HostSystem<File = File>>(
+        rt: &R,
+        name: &'static str,
+        size: u64,
+    ) -> io::Result<StoreFile> {
         let file = OpenOptions::new()
             .read(true)
             .write(true)
             .create_new(true)
-            .open(rt, NAME)?;
+            .open(rt, name)?;
         Ok(StoreFile {
-            file: locked(rt, file)?,
+            file: locked(rt, name, file)?,
+            name,
+            size,
             is_made: true,
             is_whole: false,
             is_in_folder: false,
@@ -65,16 +68,16 @@ impl StoreFile {
     }
 
     /// Reads from a place on into the whole of `buf`, with zeros behind the end of the file.
-    pub(crate) fn read(&mut self, at: u16, buf: &mut [u8]) -> io::Result<()> {
+    pub(crate) fn read(&mut self, at: u32, buf: &mut [u8]) -> io::Result<()> {
         self.file.seek(SeekFrom::Start(u64::from(at)))?;
         read_or_zeros(&mut self.file, buf)
     }
 
     /// Writes from a place on. A file that is shorter than the store gets its whole length first.
-    pub(crate) fn write_at(&mut self, at: u16, bytes: &[u8]) -> io::Result<()> {
+    pub(crate) fn write_at(&mut self, at: u32, bytes: &[u8]) -> io::Result<()> {
         if !self.is_whole {
-            if self.file.metadata()?.len() < SIZE {
-                self.file.set_len(SIZE)?;
+            if self.file.metadata()?.len() < self.size {
+                self.file.set_len(self.size)?;
             }
             self.is_whole = true;
         }
@@ -90,12 +93,12 @@ impl StoreFile {
         alloc: Global,
     ) -> io::Result<()> {
         self.file.sync_all()?;
-        require_named(rt, &self.file)?;
+        require_named(rt, self.name, &self.file)?;
         if !self.is_in_folder {
             if self.is_made {
                 sync_folder(rt)?;
             } else {
-                let _ = sync_folder_behind_links(rt, alloc);
+                let _ = sync_folder_behind_links(rt, alloc, self.name);
             }
             self.is_in_folder = true;
         }
@@ -104,11 +107,11 @@ impl StoreFile {
 }
 
 /// The file, opened to be read and written, or to be read alone where no more is allowed.
-fn opened<R: HostSystem<File = File>>(rt: &R) -> io::Result<File> {
-    match OpenOptions::new().read(true).write(true).open(rt, NAME) {
+fn opened<R: HostSystem<File = File>>(rt: &R, name: &str) -> io::Result<File> {
+    match OpenOptions::new().read(true).write(true).open(rt, name) {
         Ok(file) => Ok(file),
         Err(error) => match error.kind() {
-            ErrorKind::PermissionDenied | ErrorKind::ReadOnlyFilesystem => fs::open(rt, NAME),
+            ErrorKind::PermissionDenied | ErrorKind::ReadOnlyFilesystem => fs::open(rt, name),
             _ => Err(error),
         },
     }
@@ -117,20 +120,20 @@ fn opened<R: HostSystem<File = File>>(rt: &R) -> io::Result<File> {
 /// The file with the system's lock on it, which no other opening may have. What is meant for a
 /// standard stream that was closed at the start must not come into the store, so the file gets a number
 /// above theirs.
-fn locked<R: HostSystem<File = File>>(rt: &R, file: File) -> io::Result<File> {
+fn locked<R: HostSystem<File = File>>(rt: &R, name: &str, file: File) -> io::Result<File> {
     let file = if file.as_raw_fd() <= LAST_STREAM {
         file.try_clone()?
     } else {
         file
     };
     file.try_lock()?;
-    require_named(rt, &file)?;
+    require_named(rt, name, &file)?;
     Ok(file)
 }
 
 /// Fails where the store's name leads to another file than this one, or to none.
-fn require_named<R: HostSystem>(rt: &R, file: &File) -> io::Result<()> {
-    let named = fs::metadata(rt, NAME)?;
+fn require_named<R: HostSystem>(rt: &R, name: &str, file: &File) -> io::Result<()> {
+    let named = fs::metadata(rt, name)?;
     let found = file.metadata()?;
     if named.dev() == found.dev() && named.ino() == found.ino() {
         Ok(())
@@ -145,11 +148,15 @@ fn sync_folder<R: HostSystem<File = File>>(rt: &R) -> io::Result<()> {
 }
 
 /// Syncs the folder where the file itself has its name, which isn't the folder of a link to it.
-fn sync_folder_behind_links<R: HostSystem<File = File>>(rt: &R, alloc: Global) -> io::Result<()> {
-    if !fs::symlink_metadata(rt, NAME)?.is_symlink() {
+fn sync_folder_behind_links<R: HostSystem<File = File>>(
+    rt: &R,
+    alloc: Global,
+    name: &str,
+) -> io::Result<()> {
+    if !fs::symlink_metadata(rt, name)?.is_symlink() {
         return sync_folder(rt);
     }
-    let mut path = rt.canonicalize(alloc, NAME)?;
+    let mut path = rt.canonicalize(alloc, name)?;
     path.pop();
     fs::open(rt, path.as_str())?.sync_all()
 }

@@ -8,10 +8,11 @@ use Rattle.outside.specs.Moments.{LeftBy}
 use Rattle.outside.specs.Replays.{Follows}
 use Rattle.outside.proofs.Cutting.{inside_is, left_first, left_inside, settled_is}
 use Rattle.outside.proofs.Keeping.{after_pushed}
+use Rattle.outside.proofs.memory_state.MemoryState.cut.Given as given
 use Rattle.outside.proofs.memory_state.MemoryState.cut.Goals as goal
 
 pub loop-kept-preserved : goal.loop-kept-preserved
-loop-kept-preserved c =
+loop-kept-preserved g c =
     let start = c.args.self.now.start in
     let calls = c.args.self.now.calls in
     let n = c.args.call - 1 in
@@ -23,10 +24,10 @@ loop-kept-preserved c =
     let is : kept ≡ get_or calls k kept = c.kept-item.is ∙ get_or-take n c.deref.result.now k kept under ∙ ap (λ (l : List Kept). get_or l k kept) calls_are in
     let next : after_all (opened start) (take (k + 1) calls) ≡ after (after_all (opened start) (take k calls)) kept =
     ap (after_all (opened start)) (take_more calls k kept below) ∙ after_pushed (opened start) (take k calls) (get_or calls k kept) ∙ ap (after (after_all (opened start) (take k calls))) (sym is) in
-    subst (λ (h : Contents). Follows h c.pass.new.self) (sym next) (c.pass.ensures (after_all (opened start) (take k calls)) c.loop-kept.invariant)
+    subst (λ (h : Contents). Follows g.row.N h c.pass.new.self) (sym next) (c.pass.ensures (after_all (opened start) (take k calls)) c.loop-kept.invariant)
 
-inside_of : (c : goal.After-known-2) → SameBut (IsInSome (held_inside c.args.self.now c.args.call).ranges) (held_inside c.args.self.now c.args.call).image c.known-2.result
-inside_of c =
+inside_of : (g : given.Over) (c : goal.After-known-2 g) → SameBut (IsInSome (held_inside c.args.self.now c.args.call).ranges) (held_inside c.args.self.now c.args.call).image c.known-2.result
+inside_of g c =
     let start = c.args.self.now.start in
     let calls = c.args.self.now.calls in
     let n = c.args.call - 1 in
@@ -35,27 +36,27 @@ inside_of c =
     let below : n < length calls = omega (arith, c.requires, number_is) in
     let all : c.loop-kept.kept-index ≡ n = omega (arith, length-take n c.deref.result.now, ap length c.deref.ensures.value, ap length calls_are, c.loop-kept.auto.kept-index-end, c.loop-kept-test.false, below) in
     let is : c.index.result.now ≡ get_or calls n c.index.result.now = c.index.ensures ∙ ap (λ (l : List Kept). get_or l n c.index.result.now) calls_are in
-    let follows = c.begin.ensures (after_all (opened start) (take n calls)) (subst (λ (k : ℕ). Follows (after_all (opened start) (take k calls)) c.loop-kept.replay) all c.loop-kept.invariant) in
+    let follows = c.begin.ensures (after_all (opened start) (take n calls)) (subst (λ (k : ℕ). Follows g.row.N (after_all (opened start) (take k calls)) c.loop-kept.replay) all c.loop-kept.invariant) in
     let found : held_inside c.args.self.now c.args.call ≡ begun (after_all (opened start) (take n calls)) c.index.result.now.call =
     ap (λ (k : ℕ). held_inside c.args.self.now k) number_is ∙ inside_is (opened start) calls n c.index.result.now below is in
     subst (λ (h : Contents). SameBut (IsInSome h.ranges) h.image c.known-2.result) (sym found)
     (subst (SameBut (IsInSome (begun (after_all (opened start) (take n calls)) c.index.result.now.call).ranges) (begun (after_all (opened start) (take n calls)) c.index.result.now.call).image) (sym c.known-2.ensures.same) follows.left)
 
 pub returns-clause-inside : goal.returns-clause-inside
-returns-clause-inside c = inside_of c
+returns-clause-inside g c = inside_of g c
 
 pub returns-clause-left : goal.returns-clause-left
-returns-clause-left c =
-    let size : length c.self.inside.start ≡ 2048 = search rules in
-    left_inside 2048 (opened c.args.self.now.start) c.args.self.now.calls c.args.call c.known-2.result c.known-2.ensures.is_image.small
+returns-clause-left g c =
+    let size : length c.self.inside.start ≡ g.row.N = search rules in
+    left_inside g.row.N (opened c.args.self.now.start) c.args.self.now.calls c.args.call c.known-2.result c.known-2.ensures.is_image.small
     (ap (λ (b : BoardState). length b.start) (sym c.self.view_is) ∙ size)
-    (subst (λ (b : BoardState). All (IsInStore 2048) b.calls) c.self.view_is c.self.invariant.1) (inside_of c)
+    (subst (λ (b : BoardState). All (IsInStore g.row.N) b.calls) c.self.view_is c.self.invariant.1) (inside_of g c)
 
 pub returns-clause-settled : goal.returns-clause-settled
-returns-clause-settled c none = settled_is (held_inside c.args.self.now c.args.call) c.known-2.result none (inside_of c)
+returns-clause-settled g c none = settled_is (held_inside c.args.self.now c.args.call) c.known-2.result none (inside_of g c)
 
 pub returns-then-count-eq0-clause-left : goal.returns-then-count-eq0-clause-left
-returns-then-count-eq0-clause-left c =
+returns-then-count-eq0-clause-left g c =
     let start = c.args.self.now.start in
     let start_is : c.known.result ≡ start = c.known.ensures.same ∙ ap (λ (b : BoardState). b.start) c.self.view_is in
     let zero_is : 0 ≡ c.args.call = omega (arith, c.if-count-eq0.true) in

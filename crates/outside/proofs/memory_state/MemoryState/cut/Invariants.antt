@@ -4,4 +4,4 @@ use Rattle.outside.specs.Replays.{Follows}
 use Rattle.outside.proofs.memory_state.MemoryState.cut.Given as goal
 
 abbrev pub invariant-loop-kept : goal.invariant-loop-kept
-invariant-loop-kept l = Follows (after_all (opened l.self.start) (take l.kept-index l.self.calls)) l.replay
+invariant-loop-kept g l = Follows g.row.N (after_all (opened l.self.start) (take l.kept-index l.self.calls)) l.replay

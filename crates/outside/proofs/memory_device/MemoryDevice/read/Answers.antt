@@ -3,7 +3,7 @@ use Rattle.outside.specs.Calls.{Read, Contents, IsInSome}
 use Rattle.outside.specs.Disk.{IsImage}
 use Rattle.outside.specs.MemoryBoard.{held_by}
 use Rattle.outside.proofs.Kept.{became, cause_is, read_same, time_is, time_of_call}
-use Rattle.outside.proofs.memory_board.MemoryBoardBoard.read.Goals as goal
+use Rattle.outside.proofs.memory_device.MemoryDevice.read.Goals as goal
 
 pub returns-clause-image : goal.returns-clause-image
 returns-clause-image g c = rw (sym c.self.view_is) (ap (λ (h : Contents). h.image) (read_same (held_by c.self.inside.state) (held_by c.keep_read.new.self) (became c.self.inside.state c.keep_read.new.self Read c.keep_read.result c.keep_read.ensures.kept c.keep_read.ensures.failed)))
@@ -21,4 +21,4 @@ pub returns-clause-cause : goal.returns-clause-cause
 returns-clause-cause g c = rw (sym c.self.view_is) (cause_is c.self.inside.state c.keep_read.new.self Read c.keep_read.result c.keep_read.ensures.rises c.keep_read.ensures.kept c.keep_read.ensures.failed)
 
 pub invariant_of-self-inside : goal.invariant_of-self-inside
-invariant_of-self-inside g c = (subst (λ (h : Contents). IsImage 2048 h.image) (sym (read_same (held_by c.self.inside.state) (held_by c.keep_read.new.self) (became c.self.inside.state c.keep_read.new.self Read c.keep_read.result c.keep_read.ensures.kept c.keep_read.ensures.failed))) c.self.inside.is_image, tt)
+invariant_of-self-inside g c = (subst (λ (h : Contents). IsImage g.row.N h.image) (sym (read_same (held_by c.self.inside.state) (held_by c.keep_read.new.self) (became c.self.inside.state c.keep_read.new.self Read c.keep_read.result c.keep_read.ensures.kept c.keep_read.ensures.failed))) c.self.inside.is_image, tt)
