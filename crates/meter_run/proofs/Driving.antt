@@ -7,18 +7,18 @@ use Rattle.drive_text.specs.Runs.{run_events}
 use Rattle.drive_text.specs.declared.run.Run.{Run}
 use Rattle.drive_text.proofs.Laws.{events_are_added}
 use Rattle.meter_run.specs.Drives.{BreaksDrive, IsBounded, TakesDrive}
-use Rattle.meter_run.specs.Source.{EndsBy, Gives, HasGiven, Place, StopsBy}
+use Rattle.meter_run.specs.Source.{EndsBy, GivesRuns, HasGiven, Progress, StopsBy}
 use Rattle.meter_run.specs.declared.source.Stop.{Stop}
 
 -- the runs of these bytes were given, and their events were carried out
-pub record IsSoFar (told : Type 0) (place : Place) (drive rest : List ℕ) (done : List Event → Type 0) (before now : ℕ) : Type 0 where
+pub record IsSoFar (told : Type 0) (place : Progress) (drive rest : List ℕ) (done : List Event → Type 0) (before now : ℕ) : Type 0 where
   pub given : List ℕ
   pub stands : HasGiven place given
   pub split : told → drive ≡ given ++ (place.ahead ++ rest)
   pub carried : done (events_in given)
   pub bounded : IsBounded before now (events_in given)
 
-pub so_far_none : (told : Type 0) (place : Place) (drive : List ℕ) (carried : List Event → Type 0) (steps : ℕ) → HasGiven place [] → place.ahead ≡ [] → carried [] → IsSoFar told place drive drive carried steps steps
+pub so_far_none : (told : Type 0) (place : Progress) (drive : List ℕ) (carried : List Event → Type 0) (steps : ℕ) → HasGiven place [] → place.ahead ≡ [] → carried [] → IsSoFar told place drive drive carried steps steps
 so_far_none told place drive carried steps stands none h = record {
   given = [];
   stands = stands;
@@ -35,7 +35,7 @@ pub record Gave (told : Type 0) (drive rest' given : List ℕ) (runs : List Run)
   pub runs_are : runs ≡ runs_after given fed
   pub split : told → drive ≡ (given ++ fed) ++ (ahead ++ rest')
 
-gave_more : (told : Type 0) (drive rest rest' given : List ℕ) (old new : Place) (runs : List Run) → (told → drive ≡ given ++ (old.ahead ++ rest)) → Gives told old new rest rest' given runs → Gave told drive rest' given runs
+gave_more : (told : Type 0) (drive rest rest' given : List ℕ) (old new : Progress) (runs : List Run) → (told → drive ≡ given ++ (old.ahead ++ rest)) → GivesRuns told old new rest rest' given runs → Gave told drive rest' given runs
 gave_more told drive rest rest' given old new runs split gives = record {
   fed = gives.fed;
   ahead = new.ahead;
@@ -44,7 +44,7 @@ gave_more told drive rest rest' given old new runs split gives = record {
   split = λ t. split t ∙ ap (λ (xs : List ℕ). given ++ xs) (gives.passes t) ∙ sym (append_assoc given gives.fed (new.ahead ++ rest'));
 }
 
-gave_last : (told : Type 0) (drive rest rest' given : List ℕ) (old : Place) (runs : List Run) (stop : Stop) → (told → drive ≡ given ++ (old.ahead ++ rest)) → StopsBy told old rest rest' given runs stop → Gave told drive rest' given runs
+gave_last : (told : Type 0) (drive rest rest' given : List ℕ) (old : Progress) (runs : List Run) (stop : Stop) → (told → drive ≡ given ++ (old.ahead ++ rest)) → StopsBy told old rest rest' given runs stop → Gave told drive rest' given runs
 gave_last told drive rest rest' given old runs stop split stops = record {
   fed = stops.fed;
   ahead = [];
@@ -53,8 +53,8 @@ gave_last told drive rest rest' given old runs stop split stops = record {
   split = λ t. split t ∙ (stops.split t).bytes;
 }
 
-pub gave : (told : Type 0) (drive rest rest' given : List ℕ) (old new : Place) (runs : List Run) (stop : Option Stop) → (told → drive ≡ given ++ (old.ahead ++ rest))
-    → (stop ≡ None → Gives told old new rest rest' given runs) → ((x : Stop) → stop ≡ Some x → StopsBy told old rest rest' given runs x) → Gave told drive rest' given runs
+pub gave : (told : Type 0) (drive rest rest' given : List ℕ) (old new : Progress) (runs : List Run) (stop : Option Stop) → (told → drive ≡ given ++ (old.ahead ++ rest))
+    → (stop ≡ None → GivesRuns told old new rest rest' given runs) → ((x : Stop) → stop ≡ Some x → StopsBy told old rest rest' given runs x) → Gave told drive rest' given runs
 gave told drive rest rest' given old new runs None split more stops = gave_more told drive rest rest' given old new runs split (more refl)
 gave told drive rest rest' given old new runs (Some x) split more stops = gave_last told drive rest rest' given old runs x split (stops x refl)
 
@@ -66,8 +66,8 @@ bounded_given : (x y z : ℕ) (given fed : List ℕ) (runs : List Run) → runs 
 bounded_given x y z given fed runs is first next = omega (arith, first, next, ap length (events_given given fed runs is), length-append (events_in given) (flat_map run_events runs))
 
 -- further runs were carried out
-pub so_far_more : (told : Type 0) (old new : Place) (drive rest rest' : List ℕ) (carried carried' : List Event → Type 0) (x y z : ℕ) (runs : List Run)
-    → (s : IsSoFar told old drive rest carried x y) → Gives told old new rest rest' s.given runs → (carried (events_in s.given) → carried' (events_in s.given ++ flat_map run_events runs)) → IsBounded y z (flat_map run_events runs)
+pub so_far_more : (told : Type 0) (old new : Progress) (drive rest rest' : List ℕ) (carried carried' : List Event → Type 0) (x y z : ℕ) (runs : List Run)
+    → (s : IsSoFar told old drive rest carried x y) → GivesRuns told old new rest rest' s.given runs → (carried (events_in s.given) → carried' (events_in s.given ++ flat_map run_events runs)) → IsBounded y z (flat_map run_events runs)
     → IsSoFar told new drive rest' carried' x z
 so_far_more told old new drive rest rest' carried carried' x y z runs s gives behind bounded = record {
   given = s.given ++ gives.fed;
@@ -78,7 +78,7 @@ so_far_more told old new drive rest rest' carried carried' x y z runs s gives be
 }
 
 -- the last runs were carried out
-pub takes_last : (told : Type 0) (old : Place) (drive rest rest' : List ℕ) (carried carried' : List Event → Type 0) (x y z : ℕ) (runs : List Run) (stop : Stop)
+pub takes_last : (told : Type 0) (old : Progress) (drive rest rest' : List ℕ) (carried carried' : List Event → Type 0) (x y z : ℕ) (runs : List Run) (stop : Stop)
     → (s : IsSoFar told old drive rest carried x y) → StopsBy told old rest rest' s.given runs stop → (carried (events_in s.given) → carried' (events_in s.given ++ flat_map run_events runs)) → IsBounded y z (flat_map run_events runs)
     → TakesDrive told drive rest' stop carried' x z
 takes_last told old drive rest rest' carried carried' x y z runs stop s stops behind bounded = record {
@@ -91,8 +91,8 @@ takes_last told old drive rest rest' carried carried' x y z runs stop s stops be
 }
 
 -- the board failed amid runs
-pub breaks_amid : (told : Type 0) (old new : Place) (drive rest rest' : List ℕ) (carried broke_off : List Event → Type 0) (x y z : ℕ) (runs : List Run) (stop : Option Stop)
-    → (s : IsSoFar told old drive rest carried x y) → (stop ≡ None → Gives told old new rest rest' s.given runs) → ((t : Stop) → stop ≡ Some t → StopsBy told old rest rest' s.given runs t)
+pub breaks_amid : (told : Type 0) (old new : Progress) (drive rest rest' : List ℕ) (carried broke_off : List Event → Type 0) (x y z : ℕ) (runs : List Run) (stop : Option Stop)
+    → (s : IsSoFar told old drive rest carried x y) → (stop ≡ None → GivesRuns told old new rest rest' s.given runs) → ((t : Stop) → stop ≡ Some t → StopsBy told old rest rest' s.given runs t)
     → (carried (events_in s.given) → broke_off (events_in s.given ++ flat_map run_events runs)) → ((es fs : List Event) → broke_off es → broke_off (es ++ fs)) → IsBounded y z (flat_map run_events runs)
     → BreaksDrive told drive rest' broke_off x z
 breaks_amid told old new drive rest rest' carried broke_off x y z runs stop s more stops later sooner bounded =
@@ -116,5 +116,5 @@ stop_at (Some y) P x is h = subst P (same y x is) h
     same a b e = cc
 
 -- fewer bytes are left than before
-pub smaller : (told : Type 0) (old new : Place) (rest rest' given : List ℕ) (runs : List Run) → HasGiven old given → Gives told old new rest rest' given runs → length new.ahead + new.left < length old.ahead + old.left
+pub smaller : (told : Type 0) (old new : Progress) (rest rest' given : List ℕ) (runs : List Run) → HasGiven old given → GivesRuns told old new rest rest' given runs → length new.ahead + new.left < length old.ahead + old.left
 smaller told old new rest rest' given runs h gives = omega (arith, h.count, gives.some, gives.goes_on.count, length-append given gives.fed)

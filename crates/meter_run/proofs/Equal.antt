@@ -10,8 +10,6 @@ use Rattle.outside.proofs.Laws.{keeps_none}
 use Rattle.seal_store.specs.declared.seal.Seal.{Seal}
 use Rattle.tariff_compile.specs.Tables.{TableParts}
 use Rattle.taxi_units.specs.declared.event.Event.{Event}
-use Rattle.taxi_units.specs.declared.event.Event.TheVariants.{Tick}
-use Rattle.taxi_units.specs.declared.event.Operating.TheVariants.{Off}
 use Rattle.totaliser_store.specs.declared.durable.Durable.{Durable}
 use Rattle.meter_states.specs.Core.{Meets, Stands}
 use Rattle.meter_states.specs.Equals.{interval_of, intervals_of}
@@ -26,7 +24,7 @@ use Rattle.meter_states.specs.declared.act.Act.{Act}
 use Rattle.meter_run.specs.Deeds.{after_deeds, deeds_of, texts}
 use Rattle.meter_run.specs.Dry.{Carries, IsReady}
 use Rattle.meter_run.specs.Kept.{IsKept, StandsWith}
-use Rattle.meter_run.specs.OnStore.{CarriesOut, Has, IsReadyOn, Knows, StandsOn}
+use Rattle.meter_run.specs.OnStore.{CarriesOut, Has, Knows}
 use Rattle.meter_run.specs.PointLaws.{keeps_still}
 use Rattle.meter_run.specs.Points.{KeepsTo}
 use Rattle.meter_run.specs.RunLaws.{run_durable}

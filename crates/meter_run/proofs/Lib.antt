@@ -1,20 +1,41 @@
+-- what acts leave of the durable state
 mod Committing
+-- what a point of a list of deeds says of an image that a cut leaves
 mod Cuts
+-- acts on a store, one after the other
 mod Doing
+-- a drive, from its first byte to where no more of it is read
 mod Driving
+-- one event, and the supply drop at the end
 mod Dropping
+-- how a dry run ends, by what its drive came to
 mod Ended
+-- equal intervals that the core carries out at once
 mod Equal
+-- what a scan of the pair of totals finds on a board that is settled
 mod Finding
+-- events, intervals and runs that are carried out, one behind the other
 mod Going
+-- one event on a store
 mod Happening
+-- a line that is printed behind a run
 mod LastLines
+-- the laws that the crates above may cite
 pub mod Laws
+-- one call of the board as a deed: a print, a commit, a scan
 mod Leaves
+-- what an image that a cut left has
 mod Leavings
+-- lines that are printed aren't empty
 mod Lines
+-- acts that are carried out, one after the other
 mod Performing
+-- what each event leaves of the store: what it holds between two events, at most one commit, and its state after the
+-- acts
 mod Sound
+-- what each event leaves of the store, in each operating position
 mod SoundEvents
+-- how a source goes on and stops
 mod Sourcing
+-- a whole run on a store: its events, and the supply drop at its end
 mod Whole

@@ -7,7 +7,7 @@ use Rattle.drive_text.specs.Ending as ends
 use Rattle.drive_text.specs.Reading.{BreaksIn, HasTaken, Reading, TakesTo}
 use Rattle.drive_text.specs.declared.run.Run.{Run}
 use Rattle.drive_text.proofs.Laws.{bad_drive_ends, endless_drive_ends, few_lines, going_reader, unfinished_drive_ends, whole_drive_ends}
-use Rattle.meter_run.specs.Source.{EndsBy, Fills, Gives, HasGiven, Place, StopsBy}
+use Rattle.meter_run.specs.Source.{EndsBy, Fills, GivesRuns, HasGiven, Progress, StopsBy}
 use Rattle.meter_run.specs.declared.source.Stop.{Stop}
 use Rattle.meter_run.specs.declared.source.Stop.TheVariants.{Whole, BadLine, TooLong, ReadFault}
 
@@ -26,9 +26,9 @@ no_runs given = ap (λ (bytes : List ℕ). drop (length (runs_in given)) (runs_i
 
 -- ---- the reader takes what is ahead
 
-pub given_fed : (old new : Place) (given rest : List ℕ) (runs : List Run) (n : ℕ) → HasGiven old given → TakesTo given old.ahead [] runs n → 0 < n
+pub given_fed : (old new : Progress) (given rest : List ℕ) (runs : List Run) (n : ℕ) → HasGiven old given → TakesTo given old.ahead [] runs n → 0 < n
     → HasTaken new.reading (given ++ take n old.ahead) → new.reading.failed ≡ false → new.ahead ≡ drop n old.ahead → new.left ≡ old.left
-    → Gives (Unit {0}) old new rest rest given runs
+    → GivesRuns (Unit {0}) old new rest rest given runs
 given_fed old new given rest runs n h takes some read going ahead left = record {
   fed = take n old.ahead;
   some = omega (arith, some, takes.within, length-take n old.ahead);
@@ -41,7 +41,7 @@ given_fed old new given rest runs n h takes some read going ahead left = record 
   passes = λ told. sym (ap (λ (xs : List ℕ). take n old.ahead ++ (xs ++ rest)) ahead ∙ sym (append_assoc (take n old.ahead) (drop n old.ahead) rest) ∙ ap (λ (xs : List ℕ). xs ++ rest) (take-append-drop n old.ahead));
 }
 
-pub stopped_fed : (old : Place) (given rest : List ℕ) (runs : List Run) (line : ℕ) → HasGiven old given → BreaksIn given old.ahead [] runs line → StopsBy (Unit {0}) old rest rest given runs (BadLine line)
+pub stopped_fed : (old : Progress) (given rest : List ℕ) (runs : List Run) (line : ℕ) → HasGiven old given → BreaksIn given old.ahead [] runs line → StopsBy (Unit {0}) old rest rest given runs (BadLine line)
 stopped_fed old given rest runs line h breaks =
     let few : length (given ++ old.ahead) ≤ drive_limit = omega (arith, h.count, length-append given old.ahead) in
     record {
@@ -53,16 +53,16 @@ stopped_fed old given rest runs line h breaks =
           (bad_drive_ends (given ++ old.ahead) rest line few breaks.bad);
     }
 
-pub few_ahead : (old : Place) (given : List ℕ) → HasGiven old given → old.reading.begun + length old.ahead < 2 ^ 64
+pub few_ahead : (old : Progress) (given : List ℕ) → HasGiven old given → old.reading.begun + length old.ahead < 2 ^ 64
 few_ahead old given h = omega (arith, h.count, few_lines old.reading given h.read h.going)
 
 -- the same of a reader and a piece that are those of the place
-pub few_fed : (place : Place) (reader : Reading) (piece given : List ℕ) → HasGiven place given → reader ≡ place.reading → piece ≡ place.ahead → reader.begun + length piece < 2 ^ 64
+pub few_fed : (place : Progress) (reader : Reading) (piece given : List ℕ) → HasGiven place given → reader ≡ place.reading → piece ≡ place.ahead → reader.begun + length piece < 2 ^ 64
 few_fed place reader piece given h same is = omega (arith, few_ahead place given h, ap length is, ap (λ (r : Reading). r.begun) same)
 
-pub fed_more : (old new : Place) (reader : Reading) (piece : List ℕ) (before runs : List Run) (given rest : List ℕ) (n : ℕ) → HasGiven old given → reader ≡ old.reading → piece ≡ old.ahead → before ≡ []
+pub fed_more : (old new : Progress) (reader : Reading) (piece : List ℕ) (before runs : List Run) (given rest : List ℕ) (n : ℕ) → HasGiven old given → reader ≡ old.reading → piece ≡ old.ahead → before ≡ []
     → 0 < n → ((b : List ℕ) → HasTaken reader b → TakesTo b piece before runs n) → ((b : List ℕ) → HasTaken reader b → HasTaken new.reading (b ++ take n piece))
-    → new.reading.failed ≡ false → new.ahead ≡ drop n piece → new.left ≡ old.left → Gives (Unit {0}) old new rest rest given runs
+    → new.reading.failed ≡ false → new.ahead ≡ drop n piece → new.left ≡ old.left → GivesRuns (Unit {0}) old new rest rest given runs
 fed_more old new reader piece before runs given rest n h same is none some takes reads going ahead left =
     let read : HasTaken reader given = subst (λ (r : Reading). HasTaken r given) (sym same) h.read in
     let one : TakesTo given piece [] runs n = subst (λ (xs : List Run). TakesTo given piece xs runs n) none (takes given read) in
@@ -70,7 +70,7 @@ fed_more old new reader piece before runs given rest n h same is none some takes
     let taken : HasTaken new.reading (given ++ take n old.ahead) = subst (λ (bytes : List ℕ). HasTaken new.reading (given ++ take n bytes)) is (reads given read) in
     given_fed old new given rest runs n h two some taken going (ahead ∙ ap (drop n) is) left
 
-pub fed_last : (old : Place) (reader : Reading) (piece : List ℕ) (before runs : List Run) (given rest : List ℕ) (line : ℕ) → HasGiven old given → reader ≡ old.reading → piece ≡ old.ahead → before ≡ []
+pub fed_last : (old : Progress) (reader : Reading) (piece : List ℕ) (before runs : List Run) (given rest : List ℕ) (line : ℕ) → HasGiven old given → reader ≡ old.reading → piece ≡ old.ahead → before ≡ []
     → (reader.failed ≡ false → (b : List ℕ) → HasTaken reader b → BreaksIn b piece before runs line) → StopsBy (Unit {0}) old rest rest given runs (BadLine line)
 fed_last old reader piece before runs given rest line h same is none breaks =
     let read : HasTaken reader given = subst (λ (r : Reading). HasTaken r given) (sym same) h.read in
@@ -80,7 +80,7 @@ fed_last old reader piece before runs given rest line h same is none breaks =
 
 -- ---- nothing is ahead, and no more is read
 
-stops_now : (told : Type 0) (old : Place) (rest rest' given : List ℕ) (stop : Stop) → old.ahead ≡ [] → length given ≤ drive_limit → (told → rest' ≡ rest)
+stops_now : (told : Type 0) (old : Progress) (rest rest' given : List ℕ) (stop : Stop) → old.ahead ≡ [] → length given ≤ drive_limit → (told → rest' ≡ rest)
     → (told → EndsBy (given ++ rest) given rest' stop) → StopsBy told old rest rest' given [] stop
 stops_now told old rest rest' given stop none few kept ends = record {
   fed = [];
@@ -93,12 +93,12 @@ stops_now told old rest rest' given stop none few kept ends = record {
     drive_is : given ++ (old.ahead ++ rest) ≡ given ++ rest
     drive_is = ap (λ (xs : List ℕ). given ++ (xs ++ rest)) none
 
-pub stops_long : (told : Type 0) (old : Place) (rest given : List ℕ) → old.ahead ≡ [] → old.left ≡ 0 → HasGiven old given → StopsBy told old rest rest given [] TooLong
+pub stops_long : (told : Type 0) (old : Progress) (rest given : List ℕ) → old.ahead ≡ [] → old.left ≡ 0 → HasGiven old given → StopsBy told old rest rest given [] TooLong
 stops_long told old rest given none full h =
     let all : length given ≡ drive_limit = omega (arith, h.count, ap length none, full) in
     stops_now told old rest rest given TooLong none (omega (arith, all)) (λ t. refl) (λ t. endless_drive_ends given rest all (going_reader old.reading given h.read h.going))
 
-pub stops_fault : (told : Type 0) (old : Place) (rest rest' given : List ℕ) → old.ahead ≡ [] → 0 < old.left → (told → rest' ≡ rest) → HasGiven old given → StopsBy told old rest rest' given [] ReadFault
+pub stops_fault : (told : Type 0) (old : Progress) (rest rest' given : List ℕ) → old.ahead ≡ [] → 0 < old.left → (told → rest' ≡ rest) → HasGiven old given → StopsBy told old rest rest' given [] ReadFault
 stops_fault told old rest rest' given none some kept h =
     stops_now told old rest rest' given ReadFault none (omega (arith, h.count)) kept
     (λ t. record { good = going_reader old.reading given h.read h.going; few = omega (arith, h.count, some) })
@@ -109,7 +109,7 @@ at_end told given rest rest' over over' t reached h =
     (subst (λ (drive : List ℕ). ReachesEnd drive [] reached (events_in given)) (sym (ap (λ (xs : List ℕ). given ++ xs) (over t) ∙ append-nil given)) h)
 
 -- at the end of the file
-pub stops_end : (told : Type 0) (old : Place) (rest rest' given : List ℕ) (stop : Stop) → old.ahead ≡ [] → 0 < old.left → (told → rest ≡ []) → (told → rest' ≡ [])
+pub stops_end : (told : Type 0) (old : Progress) (rest rest' given : List ℕ) (stop : Stop) → old.ahead ≡ [] → 0 < old.left → (told → rest ≡ []) → (told → rest' ≡ [])
     → (stop ≡ Whole → (b : List ℕ) → HasTaken old.reading b → bad_at_end b ≡ None) → ((line : ℕ) → stop ≡ BadLine line → (b : List ℕ) → HasTaken old.reading b → bad_at_end b ≡ Some line)
     → stop ≢ TooLong → stop ≢ ReadFault → HasGiven old given → StopsBy told old rest rest' given [] stop
 stops_end told old rest rest' given Whole none some over over' whole bad long fault h =
@@ -123,7 +123,7 @@ stops_end told old rest rest' given ReadFault none some over over' whole bad lon
 
 -- ---- the next piece is ahead
 
-pub fills_piece : (told : Type 0) (old new : Place) (rest rest' : List ℕ) → old.ahead ≡ [] → 0 < length new.ahead → new.reading ≡ old.reading → length new.ahead + new.left ≡ old.left → (told → rest ≡ new.ahead ++ rest') → Fills told old new rest rest'
+pub fills_piece : (told : Type 0) (old new : Progress) (rest rest' : List ℕ) → old.ahead ≡ [] → 0 < length new.ahead → new.reading ≡ old.reading → length new.ahead + new.left ≡ old.left → (told → rest ≡ new.ahead ++ rest') → Fills told old new rest rest'
 fills_piece told old new rest rest' none some same count passes = record {
   some = some;
   stands = λ given h. record {
@@ -134,12 +134,12 @@ fills_piece told old new rest rest' none some same count passes = record {
   passes = λ t. ap (λ (xs : List ℕ). xs ++ rest) none ∙ passes t;
 }
 
-pub fills_still : (told : Type 0) (old new : Place) (rest : List ℕ) → 0 < length old.ahead → new ≡ old → Fills told old new rest rest
-fills_still told old new rest some same = subst (λ (x : Place). Fills told old x rest rest) (sym same) (record { some = some; stands = λ given h. h; passes = λ t. refl })
+pub fills_still : (told : Type 0) (old new : Progress) (rest : List ℕ) → 0 < length old.ahead → new ≡ old → Fills told old new rest rest
+fills_still told old new rest some same = subst (λ (x : Progress). Fills told old x rest rest) (sym same) (record { some = some; stands = λ given h. h; passes = λ t. refl })
 
 -- ---- one after the other
 
-pub gives_filled : (told : Type 0) (old mid new : Place) (rest rest' given : List ℕ) (runs : List Run) → Fills told old mid rest rest' → Gives (Unit {0}) mid new rest' rest' given runs → Gives told old new rest rest' given runs
+pub gives_filled : (told : Type 0) (old mid new : Progress) (rest rest' given : List ℕ) (runs : List Run) → Fills told old mid rest rest' → GivesRuns (Unit {0}) mid new rest' rest' given runs → GivesRuns told old new rest rest' given runs
 gives_filled told old mid new rest rest' given runs filled gives = record {
   fed = gives.fed;
   some = gives.some;
@@ -148,7 +148,7 @@ gives_filled told old mid new rest rest' given runs filled gives = record {
   passes = λ t. filled.passes t ∙ gives.passes tt;
 }
 
-pub stops_filled : (told : Type 0) (old mid : Place) (rest rest' given : List ℕ) (runs : List Run) (stop : Stop) → Fills told old mid rest rest' → StopsBy (Unit {0}) mid rest' rest' given runs stop → StopsBy told old rest rest' given runs stop
+pub stops_filled : (told : Type 0) (old mid : Progress) (rest rest' given : List ℕ) (runs : List Run) (stop : Stop) → Fills told old mid rest rest' → StopsBy (Unit {0}) mid rest' rest' given runs stop → StopsBy told old rest rest' given runs stop
 stops_filled told old mid rest rest' given runs stop filled stops = record {
   fed = stops.fed;
   few = stops.few;

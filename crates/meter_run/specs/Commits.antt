@@ -1,4 +1,4 @@
--- What acts commit.
+-- Rules: what acts commit.
 use Rattle.std.specs.Prelude.{ℕ, zero, suc, List, [], ◌∷◌}
 use Rattle.taxi_units.specs.Shown.{IsShown}
 use Rattle.totaliser_store.specs.Ranges.{IsDurable}
@@ -8,7 +8,7 @@ use Rattle.totaliser_store.specs.declared.durable.Durable.{Durable}
 use Rattle.meter_states.specs.declared.act.Act.{Act}
 use Rattle.meter_states.specs.declared.act.Act.TheVariants.{Show, Refuse, Enter, Hold, Receipt}
 
--- the durable state after an act: entries and held trips are committed
+-- an act leaves this durable state: an entry and a held trip are committed, and other acts change nothing
 abbrev pub after_act : Durable → Act → Durable
 after_act durable (Show display) = durable
 after_act durable (Refuse why) = durable
@@ -16,12 +16,12 @@ after_act durable (Enter entry) = after durable (changes.Enter entry)
 after_act durable (Hold trip) = after durable (changes.Hold trip)
 after_act durable (Receipt receipt) = durable
 
--- and after acts, one after the other
+-- acts leave this durable state, one after the other
 abbrev pub after_acts : Durable → List Act → Durable
 after_acts durable [] = durable
 after_acts durable (act ∷ acts) = after_acts (after_act durable act) acts
 
--- how many of these acts commit
+-- acts have this many commits among them
 abbrev pub commits_in : List Act → ℕ
 commits_in [] = zero
 commits_in (Show display ∷ acts) = commits_in acts
@@ -30,7 +30,7 @@ commits_in (Enter entry ∷ acts) = suc (commits_in acts)
 commits_in (Hold trip ∷ acts) = suc (commits_in acts)
 commits_in (Receipt receipt ∷ acts) = commits_in acts
 
--- an act may be carried out at a durable state: what it shows has a text, and the state after it is in its ranges
+-- an act may be carried out at a durable state where what it shows has a text and the state after it is in its ranges
 abbrev pub IsFor : Durable → Act → Type 0
 IsFor durable (Show display) = IsShown display
 IsFor durable (Refuse why) = Unit {0}
@@ -38,7 +38,7 @@ IsFor durable (Enter entry) = IsDurable (after durable (changes.Enter entry))
 IsFor durable (Hold trip) = IsDurable (after durable (changes.Hold trip))
 IsFor durable (Receipt receipt) = Unit {0}
 
--- and so may acts, one after the other
+-- acts may be carried out at a durable state where each may be at the state that those before it leave
 abbrev pub AreFor : Durable → List Act → Type 0
 AreFor durable [] = Unit {0}
 AreFor durable (act ∷ acts) = IsFor durable act × AreFor (after_act durable act) acts

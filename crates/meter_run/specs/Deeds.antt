@@ -1,4 +1,4 @@
--- What a run does, deed by deed: the acts of the meter, and lines that whoever calls prints behind them.
+-- Rules: what a run does, deed by deed: the acts of the meter, and lines that the caller prints behind them.
 use Rattle.std.specs.Prelude.{ℕ, List, [], ◌∷◌, ◌++◌}
 use Rattle.receipt_text.specs.Receipts.{receipt_text}
 use Rattle.receipt_text.specs.SealParts.{part_of}
@@ -16,7 +16,7 @@ pub data Deed : Type 0 where
   Does : Act → Deed
   Prints : (line : List ℕ) → Deed
 
--- the text that an act prints under a seal: a display's, a refusal's or a receipt's, and none of a commit
+-- an act prints this text under a seal: that of its display, its refusal or its receipt, and none for a commit
 abbrev pub act_text : Seal → Act → List ℕ
 act_text seal (Show display) = display_text display
 act_text seal (Refuse why) = refusal_text why
@@ -24,37 +24,37 @@ act_text seal (Enter entry) = []
 act_text seal (Hold trip) = []
 act_text seal (Receipt receipt) = receipt_text receipt (part_of seal)
 
--- the text that a deed prints
+-- a deed prints this text under a seal
 abbrev pub text_in : Seal → Deed → List ℕ
 text_in seal (Does act) = act_text seal act
 text_in seal (Prints line) = line
 
--- the texts of deeds, one behind the other
+-- deeds print these texts under a seal, one behind the other
 abbrev pub texts : Seal → List Deed → List ℕ
 texts seal [] = []
 texts seal (deed ∷ deeds) = text_in seal deed ++ texts seal deeds
 
--- the durable state after a deed: a print leaves it
+-- a deed leaves this durable state: that after its act, and a print leaves it as it is
 abbrev pub after_deed : Durable → Deed → Durable
 after_deed durable (Does act) = after_act durable act
 after_deed durable (Prints line) = durable
 
--- the durable state after deeds, one after the other
+-- deeds leave this durable state, one after the other
 abbrev pub after_deeds : Durable → List Deed → Durable
 after_deeds durable [] = durable
 after_deeds durable (deed ∷ deeds) = after_deeds (after_deed durable deed) deeds
 
--- what a deed commits
+-- a deed commits these changes: those of its act
 abbrev pub changes_in : Deed → List Change
 changes_in (Does act) = commits_of (act ∷ [])
 changes_in (Prints line) = []
 
--- what deeds commit, in their order
+-- deeds commit these changes, in their order
 abbrev pub changes_of : List Deed → List Change
 changes_of [] = []
 changes_of (deed ∷ deeds) = changes_in deed ++ changes_of deeds
 
--- acts are deeds
+-- acts are these deeds, one for each
 abbrev pub deeds_of : List Act → List Deed
 deeds_of [] = []
 deeds_of (act ∷ acts) = Does act ∷ deeds_of acts

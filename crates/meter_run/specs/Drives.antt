@@ -1,4 +1,4 @@
--- A drive that is carried out from its first byte to its end.
+-- Rules: a drive that is carried out from its first byte to its end.
 use Rattle.std.specs.Prelude.{◌≡◌, ℕ, ◌+◌, ◌*◌, ◌≤◌, List, ◌++◌, length, Result, Ok, Err}
 use Rattle.outside.specs.Printing.{Begins}
 use Rattle.taxi_units.specs.declared.event.Event.{Event}
@@ -14,13 +14,14 @@ use Rattle.meter_run.specs.declared.fault.RunFault.TheVariants.{ReadFault, Board
 use Rattle.meter_run.specs.declared.source.Stop.{Stop}
 use Rattle.meter_run.specs.declared.source.Stop.TheVariants as stops
 
--- events take at most 64 steps each
+-- steps are bounded where they went from `before` to `now` by at most 64 for each event
 abbrev pub IsBounded : (before now : ℕ) → List Event → Type 0
 IsBounded before now events = now ≤ before + 64 * length events
 
 -- ---- with whatever carries out events
 
--- no more of the drive is read, and the events of the bytes that were taken were carried out
+-- a reading takes a drive where no more of it is read, for the reason `stop`, and the events of the bytes that were
+-- taken were carried out
 pub record TakesDrive (told : Type 0) (drive left : List ℕ) (stop : Stop) (done : List Event → Type 0)
     (before now : ℕ) : Type 0 where
   pub taken : List ℕ
@@ -30,7 +31,7 @@ pub record TakesDrive (told : Type 0) (drive left : List ℕ) (stop : Stop) (don
   pub carried : done (events_in taken)
   pub bounded : IsBounded before now (events_in taken)
 
--- the events of the bytes that were taken broke off
+-- a reading breaks off amid a drive where the events of the bytes that were taken broke off
 pub record BreaksDrive (told : Type 0) (drive left : List ℕ) (broken : List Event → Type 0)
     (before now : ℕ) : Type 0 where
   pub taken : List ℕ
@@ -41,13 +42,13 @@ pub record BreaksDrive (told : Type 0) (drive left : List ℕ) (broken : List Ev
 
 -- ---- what a dry run of a drive prints
 
--- at most so many steps, and 64 for each event of the bytes of the drive that were taken
+-- steps are bounded by a drive where they are at most `opening`, and 64 for each event of the bytes that were taken
 pub record IsBoundedBy (opening : ℕ) (drive left : List ℕ) (before now : ℕ) : Type 0 where
   pub taken : List ℕ
   pub split : IsSplit drive taken left
   pub bound : now ≤ before + opening + 64 * length (events_in taken)
 
--- a call stopped when these bytes of the drive had been taken
+-- a call stopped after some bytes of the drive had been taken, in a state and with a text that those bytes tell
 pub record StopsAfter (drive left : List ℕ) (state shown : List ℕ → Type 0) : Type 0 where
   pub taken : List ℕ
   pub split : IsSplit drive taken left
@@ -55,23 +56,23 @@ pub record StopsAfter (drive left : List ℕ) (state shown : List ℕ → Type 0
   pub printed : shown taken
 
 module _ (told : Type 0) (tables : TableParts) (seal : Seal) (drive left before now : List ℕ) where
-  -- what these bytes of the drive show was printed
+  -- what the bytes that were taken show was printed, where the text is told
   abbrev pub Printed : (taken : List ℕ) → Type 0
   Printed taken = told → (s : Setting) → IsSettingOf s tables seal → now ≡ before ++ drive_shown s taken
 
-  -- a beginning of it was printed
+  -- a beginning of what the bytes that were taken show was printed, where the text is told
   abbrev pub PrintedSome : (taken : List ℕ) → Type 0
   PrintedSome taken = told → (s : Setting) → IsSettingOf s tables seal → Begins before now (drive_shown s taken)
 
-  -- the drive was carried out to this end, which the bytes that were taken tell, and what it shows was printed
+  -- a dry run came to an end of the drive where the drive has that end, the bytes that were taken tell it, and what the
+  -- drive shows was printed
   pub record RunsTo (reached : DriveEnd) : Type 0 where
     pub end_is : drive_end drive ≡ reached
     pub tells : TellsEnd drive left
     pub printed : Printed drive
 
-  -- how a dry run ends. After a read that failed what the bytes show that were taken was printed, and after a fault
-  -- of the
-  -- board a beginning of it
+  -- a dry run ends as its answer says: at the drive's end; or after a read that failed, where what the bytes taken show
+  -- was printed; or after a fault of the board, where a beginning of it was
   abbrev pub RunsDrive : {T : Type 0} → Result T RunFault → Type 0
   RunsDrive (Ok done) = RunsTo Whole
   RunsDrive (Err (BadDrive line)) = RunsTo (BadAt line)
@@ -79,7 +80,7 @@ module _ (told : Type 0) (tables : TableParts) (seal : Seal) (drive left before 
   RunsDrive (Err ReadFault) = StopsAfter drive left IsGoing Printed
   RunsDrive (Err BoardFault) = StopsAfter drive left (λ taken. Unit {0}) PrintedSome
 
--- the answer of a run that stopped so
+-- a run that stopped for a reason has this answer
 abbrev pub answer_of : Stop → Result (Unit {0}) RunFault
 answer_of stops.Whole = Ok tt
 answer_of (stops.BadLine line) = Err (BadDrive line)

@@ -1,4 +1,4 @@
--- The meter whose durable state is a value, and what it prints.
+-- Rules: the meter whose durable state is a value, and what it prints.
 use Rattle.std.specs.Prelude.{◌≡◌, List, ◌++◌}
 use Rattle.std.specs.Option.{ForSome}
 use Rattle.outside.specs.Printing.{Begins}
@@ -19,14 +19,16 @@ use Rattle.meter_run.specs.Kept.{StandsWith}
 use Rattle.meter_run.specs.Texts.{shown_texts}
 use Rattle.meter_run.specs.declared.dry.DryMeter.{DryMeter}
 
--- a core and a durable state stand for some state of the meter, under some setting of the tables and the seal
+-- a core and a durable state are under way where they stand for some state of the meter, under some setting of the
+-- tables and the seal
 pub record IsUnderWay (tables : TableParts) (seal : Seal) (core : Whole) (durable : Durable) : Type 0 where
   pub setting : Setting
   pub meter : Meter
   pub is : IsSettingOf setting tables seal
   pub stands : StandsWith setting core.plain durable meter
 
--- the next event may come: the core is lawful, the durable state is in its ranges, and a held trip fits
+-- a meter is ready for the next event where its core is lawful, its durable state is in its ranges, a held trip fits,
+-- and both are under way
 pub record IsReady (tables : TableParts) (seal : Seal) (core : Whole) (durable : Durable) : Type 0 where
   pub lawful : IsLawful tables seal core
   pub range : IsDurable durable
@@ -34,26 +36,27 @@ pub record IsReady (tables : TableParts) (seal : Seal) (core : Whole) (durable :
   pub way : IsUnderWay tables seal core durable
 
 module _ {D L : Type 0} (B : Ghosts D L) (tables : TableParts) (seal : Seal) where
-  -- the displays and refusals of an outcome were printed
+  -- the displays and refusals of an outcome were printed, where the text is told
   abbrev pub Prints : (outcome : Setting → Meter → Outcome) → DryMeter → (board board' : D) → Type 0
   Prints outcome old board board' = B.tells_text → (s : Setting) (m : Meter) → IsSettingOf s tables seal
       → StandsWith s old.core.plain old.durable m → B.printed board' ≡ B.printed board ++ shown_texts (outcome s m).acts
 
-  -- a beginning of them was printed
+  -- a beginning of the displays and refusals of an outcome was printed, where the text is told
   abbrev pub PrintsSome : (outcome : Setting → Meter → Outcome) → DryMeter → (board board' : D) → Type 0
   PrintsSome outcome old board board' = B.tells_text → (s : Setting) (m : Meter) → IsSettingOf s tables seal
       → StandsWith s old.core.plain old.durable m → Begins (B.printed board) (B.printed board')
       (shown_texts (outcome s m).acts)
 
-  -- events were carried out: the new meter stands for the state after them, and their displays and refusals were
-  -- printed
+  -- a meter and a board carry events where the new meter stands for the state after them, their displays and refusals
+  -- were printed, and the store is as it was
   pub record Carries (old : DryMeter) (board : D) (events : List Event) (new : DryMeter) (board' : D) : Type 0 where
     pub stands : (s : Setting) (m : Meter) → IsSettingOf s tables seal → StandsWith s old.core.plain old.durable m
         → StandsWith s new.core.plain new.durable (run s events m).next
     pub printed : Prints (λ s m. run s events m) old board board'
     pub store : KeepsStore B board board'
 
-  -- the board failed amid these events
+  -- a meter and a board break off amid events where a beginning of their displays and refusals was printed, and the
+  -- store is as it was
   pub record BreaksOff (old : DryMeter) (board : D) (events : List Event) (board' : D) : Type 0 where
     pub begun : PrintsSome (λ s m. run s events m) old board board'
     pub store : KeepsStore B board board'

@@ -1,4 +1,4 @@
--- Events that a dry meter carries out, one behind the other.
+-- For proofs: events that a dry meter carries out, one behind the other.
 use Rattle.std.proofs.Common.{ℕ, List, [], ◌++◌, sym, ap, subst, ◌∙◌, append_assoc}
 use Rattle.std.proofs.lemmas.List.{append-nil}
 use Rattle.outside.specs.Printing.{Begins}

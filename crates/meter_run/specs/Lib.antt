@@ -1,4 +1,5 @@
 pub mod Commits
+pub mod DeedPoints
 pub mod Deeds
 pub mod Dry
 pub mod DryLaws

@@ -1,4 +1,5 @@
--- The meter on a store: what it knows of the store, which state of the meter it stands for, and what events leave.
+-- Rules: the meter on a store, what it knows of the store, which state of the meter it stands for, and what events
+-- leave.
 use Rattle.std.specs.Prelude.{◌≡◌, ℕ, ◌≤◌, List, ◌++◌, Option, Some, None}
 use Rattle.std.specs.Option.{ForSome}
 use Rattle.outside.specs.Disk.{SameBut}
@@ -24,7 +25,7 @@ use Rattle.meter_run.specs.Points.{KeepsTo}
 use Rattle.meter_run.specs.declared.stored.Known.{Known}
 use Rattle.meter_run.specs.declared.stored.StoreMeter.{StoreMeter}
 
--- the seal is in its ranges, and some setting is that of the tables and the seal
+-- tables and a seal are secured where the seal is in its ranges and they are those of some setting
 pub record IsSecured (tables : TableParts) (seal : Seal) : Type 0 where
   pub range : IsSeal seal
   pub setting : Setting
@@ -33,11 +34,12 @@ pub record IsSecured (tables : TableParts) (seal : Seal) : Type 0 where
 -- ---- the bytes outside the pair of totals
 
 module _ {D L : Type 0} (B : Ghosts D L) where
-  -- an image has outside the pair of totals what a cut might have left there of this board
+  -- an image has beside the pair of totals what a cut might have left there of this board
   abbrev pub HasBeside : D → List ℕ → Type 0
   HasBeside board image = MayHold (B.image board) (OrWithin (B.in_flight board) 0 1024) image
 
-  -- outside the pair of totals the store is as it was but for what was in flight, and so a cut leaves it at each moment
+  -- a board writes totals alone where the store beside the pair of totals is as it was but for what was in flight, and
+  -- a cut at each moment leaves it so
   pub record WritesTotals (old new : D) : Type 0 where
     pub rest : SameBut (OrWithin (B.in_flight old) 0 1024) (B.image old) (B.image new)
     pub flight : (place : ℕ) → B.in_flight new place → OrWithin (B.in_flight old) 0 1024 place
@@ -46,30 +48,33 @@ module _ {D L : Type 0} (B : Ghosts D L) where
 -- ---- between two events
 
 module _ {D L : Type 0} (B : Ghosts D L) where
-  -- the pair of totals is settled with this state: where the meter knows it, at the place that it knows, with the state
-  -- that it knows
+  -- a board has a durable state where the pair of totals is settled with it, at the place and with the state that the
+  -- meter knows, if it knows them
   abbrev pub Has : Option Known → D → Durable → Type 0
   Has None board durable = (place : Place) × KeepsState B place board durable
   Has (Some known) board durable = (durable ≡ known.durable) × KeepsState B known.place board known.durable
 
-  -- a meter and a board stand for a state of the meter, whose held trip fits
+  -- a meter and a board stand for a state of the meter where the core does, the board has the state's durable state,
+  -- and its held trip fits
   pub record StandsOn (tables : TableParts) (s : Setting) (x : StoreMeter) (board : D) (m : Meter) : Type 0 where
     pub stands : StandsWith s x.core.plain m.durable m
     pub has : Has x.known board m.durable
     pub fits : ForSome m.durable.hold (Fits tables)
 
-  -- the board, where it tells its image, has the state that the meter knows, whose held trip fits
+  -- a board agrees with what the meter knows where it has the state that the meter knows, if it tells its image, and
+  -- the held trip fits
   pub record Agrees (tables : TableParts) (known : Known) (board : D) : Type 0 where
     pub slot : known.place.slot ≤ 1
     pub settled : B.tells_image → KeepsState B known.place board known.durable
     pub fits : ForSome known.durable.hold (Fits tables)
 
-  -- an unpowered meter knows nothing of the store; for a powered one the next event may come, and the board agrees
+  -- a meter knows of the store nothing where it is off, and else a state at which the next event may come, with which
+  -- the board agrees
   abbrev pub Knows : TableParts → Seal → Whole → Option Known → D → Type 0
   Knows tables seal core None board = core.plain.operating ≡ Off
   Knows tables seal core (Some known) board = IsReady tables seal core known.durable × Agrees tables known board
 
-  -- the next event may come, whatever the store has
+  -- a meter is ready on a board for the next event, whatever the store has
   pub record IsReadyOn (tables : TableParts) (seal : Seal) (x : StoreMeter) (board : D) : Type 0 where
     pub secured : IsSecured tables seal
     pub lawful : IsLawful tables seal x.core
@@ -78,13 +83,14 @@ module _ {D L : Type 0} (B : Ghosts D L) where
 -- ---- what events leave
 
 module _ {D L : Type 0} (B : Ghosts D L) (tables : TableParts) (seal : Seal) where
-  -- where the image is told: for each state that a meter and a board stand for
+  -- something holds for each state that a meter and a board stand for, where the image is told
   abbrev pub ForEach : StoreMeter → D → (Setting → Meter → Type 0) → Type 0
   ForEach x board Holding =
-      B.tells_image → (s : Setting) (m : Meter) → IsSettingOf s tables seal → StandsOn B tables s x board m → Holding s m
+      B.tells_image → (s : Setting) (m : Meter) → IsSettingOf s tables seal → StandsOn B tables s x board m
+      → Holding s m
 
-  -- an outcome was carried out: meter and board stand for its state, its acts were done, and a cut at each moment
-  -- leaves a point of them
+  -- a meter and a board carry out an outcome where they stand for its state, its acts were done, and a cut at each
+  -- moment leaves a point of them
   pub record CarriesOut (outcome : Setting → Meter → Outcome) (x : StoreMeter) (old : D) (y : StoreMeter)
       (new : D) : Type 0 where
     pub stands : ForEach x old (λ s m. StandsOn B tables s y new (outcome s m).next)
@@ -93,7 +99,7 @@ module _ {D L : Type 0} (B : Ghosts D L) (tables : TableParts) (seal : Seal) whe
     pub points : ForEach x old (λ s m. KeepsTo B tables seal old new m.durable (deeds_of (outcome s m).acts))
     pub beside : B.tells_image → WritesTotals B old new
 
-  -- the board failed amid an outcome: a cut at each moment leaves a point of its acts, and the board is at one
+  -- a board stops amid an outcome where a cut at each moment leaves a point of its acts, and the board is at one
   pub record StopsAmid (outcome : Setting → Meter → Outcome) (x : StoreMeter) (old new : D) : Type 0 where
     pub points : ForEach x old (λ s m. KeepsTo B tables seal old new m.durable (deeds_of (outcome s m).acts))
     pub beside : B.tells_image → WritesTotals B old new

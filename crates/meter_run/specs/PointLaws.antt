@@ -1,4 +1,4 @@
--- Points of lists of deeds that are joined, and calls that carry deeds out, one behind the other.
+-- For proofs: points of lists of deeds that are joined, and calls that carry deeds out, one behind the other.
 use Rattle.std.proofs.Common.{◌≡◌, inl, inr, ℕ, List, [], ◌∷◌, ◌++◌, Some, refl, sym, ap, subst, ◌∙◌, append_assoc}
 use Rattle.std.specs.Option.{ForSome}
 use Rattle.std.proofs.lemmas.List.{append-nil}
@@ -99,8 +99,10 @@ module _ {D L : Type 0} (B : Ghosts D L) (tables : TableParts) (seal : Seal) whe
       → ForSome d.hold (Fits tables) → Keeps a a d []
   keeps_still a place d now settled fits = record {
     leaves = leaves_none B (Point a d []) a
-        (λ i x left. let may = now i x left in
-        (record { has = left_has place d (B.image a) (B.in_flight a) i settled may.bytes; fits = fits }, λ t. may.text));
+        (λ i x left. let may = now i x left in (
+          record { has = left_has place d (B.image a) (B.in_flight a) i settled may.bytes; fits = fits },
+          λ t. may.text,
+        ));
     stops = (record { has = settled_has place d (B.image a) (B.in_flight a) settled; fits = fits }, λ t. refl);
   }
 
@@ -122,7 +124,8 @@ module _ {D L : Type 0} (B : Ghosts D L) (tables : TableParts) (seal : Seal) whe
     where
       shifted : (i x : List ℕ) → Point b (after_deeds d xs) ys i x → Point a d (xs ++ ys) i x
       shifted i x at = at_later tables seal B.tells_text d (B.printed a) xs ys i x
-          (at_same tables seal B.tells_text (after_deeds d xs) (B.printed b) (B.printed a ++ texts seal xs) ys i x text at)
+          (at_same tables seal B.tells_text (after_deeds d xs) (B.printed b) (B.printed a ++ texts seal xs) ys i x
+          text at)
 
   pub text_next : (a b c : D) (xs ys : List Deed) → (B.tells_text → B.printed b ≡ B.printed a ++ texts seal xs)
       → (B.tells_text → B.printed c ≡ B.printed b ++ texts seal ys)

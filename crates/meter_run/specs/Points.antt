@@ -1,9 +1,7 @@
--- Points of a list of deeds, at which a cut of the power may find the store and the printed text.
+-- Rules: what a cut of the power may leave of a list of deeds, in the store and of the printed text.
 use Rattle.std.specs.Prelude.{◌≡◌, ◌⊎◌, ℕ, ◌≤◌, List, [], ◌∷◌, ◌++◌, length, Contains, Ok}
 use Rattle.std.specs.Option.{ForSome}
 use Rattle.outside.specs.Printing.{Begins}
-use Rattle.outside.specs.Runs.{LeavesOnly}
-use Rattle.outside.specs.declared.board.Board.{Ghosts}
 use Rattle.seal_store.specs.declared.seal.Seal.{Seal}
 use Rattle.slot_store.specs.Scan.{found_at}
 use Rattle.slot_store.specs.declared.found.Found.TheVariants.{Latest}
@@ -18,69 +16,40 @@ use Rattle.totaliser_store.specs.declared.entry.Entry.{Entry}
 use Rattle.meter_states.specs.Fits.{Fits}
 use Rattle.meter_states.specs.Pairs.{IsReceiptOf}
 use Rattle.meter_states.specs.declared.act.Act.TheVariants.{Enter, Receipt}
-use Rattle.meter_run.specs.Deeds.{Deed, Does, after_deed, changes_of, text_in, texts}
+use Rattle.meter_run.specs.Deeds.{Deed, Does, changes_of, texts}
+pub use Rattle.meter_run.specs.DeedPoints.{Holds, IsAmid, AtPoint, KeepsTo}
 
--- the image stands for a durable state whose held trip fits the tables
-pub record Holds (tables : TableParts) (image : List ℕ) (durable : Durable) : Type 0 where
-  pub has : HasState image durable
-  pub fits : ForSome durable.hold (Fits tables)
-
--- ---- points, for proofs: by recursion over the list
-
-module _ (tables : TableParts) (seal : Seal) (told : Type 0) where
-  -- a cut amid a deed: the image stands for the state before the deed or for that after it, and where the text is
-  -- told, a beginning of the deed's text was printed
-  pub record IsAmid (durable : Durable) (printed : List ℕ) (deed : Deed) (image text : List ℕ) : Type 0 where
-    pub holds : Holds tables image durable ⊎ Holds tables image (after_deed durable deed)
-    pub begun : told → Begins printed text (text_in seal deed)
-
-  -- an image and a text are at a point of a list of deeds: at its end, or amid one of the deeds
-  abbrev pub AtPoint : Durable → (printed : List ℕ) → List Deed → (image text : List ℕ) → Type 0
-  AtPoint durable printed [] image text = Holds tables image durable × (told → text ≡ printed)
-  AtPoint durable printed (deed ∷ deeds) image text =
-      IsAmid durable printed deed image text
-      ⊎ AtPoint (after_deed durable deed) (printed ++ text_in seal deed) deeds image text
-
--- calls that carried these deeds out, or a part of them: a cut at each moment leaves a point of the list, and the
--- board is at one
-module _ {D L : Type 0} (B : Ghosts D L) (tables : TableParts) (seal : Seal) where
-  pub record KeepsTo (old new : D) (durable : Durable) (deeds : List Deed) : Type 0 where
-    pub leaves : LeavesOnly B old new (AtPoint tables seal B.tells_text durable (B.printed old) deeds)
-    pub stops : AtPoint tables seal B.tells_text durable (B.printed old) deeds (B.image new) (B.printed new)
-
--- ---- what a cut leaves, for readers
-
--- a scan of the image answers this state
+-- a scan answers a durable state of an image where it finds it as the latest, at some place
 abbrev pub ScanAnswers : (image : List ℕ) → Durable → Type 0
 ScanAnswers image durable = (place : Place) × (found_at reads number_of 0 image ≡ Ok (Latest place durable))
 
--- the last of these deeds is the entry of the receipt
+-- deeds end in the entry of a receipt where their last deed is that entry
 pub record EndsInEntryOf (receipt : receipts.Receipt) (deeds : List Deed) : Type 0 where
   pub before : List Deed
   pub entry : Entry
   pub last : deeds ≡ before ++ Does (Enter entry) ∷ []
   pub is : IsReceiptOf entry receipt
 
--- each receipt among the deeds stands directly behind its entry
+-- deeds have their entries where each receipt among them stands directly behind its entry
 abbrev pub HasEntries : List Deed → Type 0
 HasEntries deeds =
     (earlier later : List Deed) (receipt : receipts.Receipt) → deeds ≡ earlier ++ Does (Receipt receipt) ∷ later
     → EndsInEntryOf receipt earlier
 
--- one of these entries is that of the receipt
+-- entries have that of a receipt where one of them is the receipt's
 pub record HasEntryOf (receipt : receipts.Receipt) (entries : List Entry) : Type 0 where
   pub entry : Entry
   pub among : Contains entries entry
   pub is : IsReceiptOf entry receipt
 
--- the entry of a receipt, which stands directly before it, is among the deeds that the store has
+-- a receipt is entered where its entry, which stands directly before it, is among the deeds that the store has
 pub record IsEntered (kept earlier : List Deed) (receipt : receipts.Receipt) : Type 0 where
   pub entry : EndsInEntryOf receipt earlier
   pub more : List Deed
   pub has : kept ≡ earlier ++ more
 
--- What a cut of the power leaves of deeds that began at a durable state, when this had been printed: these deeds had
--- been done, the cut came amid the next one, if there is one, and the others were left.
+-- an image and a text are what a cut of the power may leave of deeds that began at a durable state, when `printed` had
+-- been printed: some deeds had been done, the cut came amid the next one, if there is one, and the others were left
 pub record IsCut (tables : TableParts) (seal : Seal) (told : Type 0) (durable : Durable) (printed : List ℕ)
     (deeds : List Deed) (image text : List ℕ) : Type 0 where
   pub done : List Deed

@@ -1,4 +1,4 @@
--- A run over one list of events behind another.
+-- For proofs: a run over one list of events behind another.
 use Rattle.std.proofs.Common.{◌≡◌, ℕ, List, [], ◌∷◌, ◌++◌, refl, sym, ap, ◌∙◌, append_assoc}
 use Rattle.taxi_units.specs.declared.event.Event.{Event}
 use Rattle.meter_states.specs.Meter.{Meter, Outcome}
@@ -37,7 +37,7 @@ pub run_texts : (s : Setting) (m : Meter) (xs ys : List Event)
 run_texts s m xs ys =
     ap shown_texts (run_acts s m xs ys) ∙ texts_append (run s xs m).acts (run s ys (run s xs m).next).acts
 
--- the state after acts is that after what they commit
+-- the durable state after acts is that after what they commit
 pub after_is : (d : Durable) (acts : List Act) → after_acts d acts ≡ after_all d (commits_of acts)
 after_is d [] = refl
 after_is d (Show display ∷ acts) = after_is d acts
@@ -46,7 +46,7 @@ after_is d (Enter entry ∷ acts) = after_is (after d (changes.Enter entry)) act
 after_is d (Hold trip ∷ acts) = after_is (after d (changes.Hold trip)) acts
 after_is d (Receipt receipt ∷ acts) = after_is d acts
 
--- and as deeds they leave the same
+-- acts leave the same durable state as deeds
 pub after_deeds_of : (d : Durable) (acts : List Act) → after_deeds d (deeds_of acts) ≡ after_acts d acts
 after_deeds_of d [] = refl
 after_deeds_of d (act ∷ acts) = after_deeds_of (after_act d act) acts

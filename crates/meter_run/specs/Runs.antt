@@ -1,4 +1,4 @@
--- A run on the store: what it does, how it ends, and what a cut of the power leaves of it.
+-- Rules: a run on the store, what it does, how it ends, and what a cut of the power leaves of it.
 use Rattle.std.specs.Prelude.{◌≡◌, ℕ, List, ◌++◌, Result, Ok, Err}
 use Rattle.std.specs.Option.{ForSome}
 use Rattle.drive_text.specs.Ending.{DriveEnd, Whole, BadAt, Endless, IsGoing, IsSplit, TellsEnd, drive_end, events_of}
@@ -20,32 +20,33 @@ use Rattle.meter_run.specs.Points.{IsCut}
 use Rattle.meter_run.specs.declared.fault.RunFault.{RunFault}
 use Rattle.meter_run.specs.declared.fault.RunFault.TheVariants.{ReadFault, BoardFault, BadDrive, TooLong}
 
--- what a run over these bytes of a drive does, where the store opens with a durable state: the acts of the events,
--- and those of the supply drop at their end
+-- a run over bytes of a drive does these deeds, where the store opens with a durable state: the acts of the events, and
+-- those of the supply drop at their end
 abbrev pub run_deeds : Setting → Durable → (drive : List ℕ) → List Deed
 run_deeds s durable drive = deeds_of (actions_of s durable (events_of drive))
 
 module _ {D L : Type 0} (B : Ghosts D L) (tables : TableParts) where
-  -- a run may open with this durable state: the pair of totals is settled with it, and its held trip fits
+  -- a run opens with a durable state where the pair of totals is settled with it and its held trip fits
   pub record OpensWith (board : D) (durable : Durable) : Type 0 where
     pub place : Place
     pub settled : KeepsState B place board durable
     pub fits : ForSome durable.hold (Fits tables)
 
 module _ {D L : Type 0} (B : Ghosts D L) (tables : TableParts) (seal : Seal) (old new : D) where
-  -- where the board tells its image: for each setting of the tables and the seal, and the state that the run opens with
+  -- something holds for each setting of the tables and the seal, and the state that the run opens with, where the board
+  -- tells its image
   abbrev pub FromOpening : (Setting → Durable → Type 0) → Type 0
   FromOpening Holding =
       B.tells_image → (s : Setting) (durable : Durable) → IsSettingOf s tables seal → OpensWith B tables old durable
       → Holding s durable
 
-  -- a cut at each moment since the old board leaves a point of these deeds, and outside the pair of totals what it
-  -- might have left there at the old board
+  -- cuts leave deeds where a cut at each moment since the old board leaves a point of them, and beside the pair of
+  -- totals what it might have left there at the old board
   abbrev pub CutsLeave : Durable → List Deed → Type 0
   CutsLeave durable deeds = LeavesOnly B old new
       (λ image text. IsCut tables seal B.tells_text durable (B.printed old) deeds image text × HasBeside B old image)
 
-  -- these deeds were done: their texts were printed, where the text is told; the store has the state after their
+  -- a board has done deeds where their texts were printed, where the text is told; the store has the state after their
   -- commits, with which a run may open; and a cut leaves a point of them
   pub record HasDone (durable : Durable) (deeds : List Deed) : Type 0 where
     pub printed : B.tells_text → B.printed new ≡ B.printed old ++ texts seal deeds
@@ -53,27 +54,28 @@ module _ {D L : Type 0} (B : Ghosts D L) (tables : TableParts) (seal : Seal) (ol
     pub follows : Follows durable (after_deeds durable deeds) (changes_of deeds)
     pub cuts : CutsLeave durable deeds
 
-  -- the board failed amid these deeds, or before them: what it has is a point of them, and so is what a cut leaves
+  -- a board has stopped amid deeds where what it has is a point of them, and so is what a cut leaves
   pub record HasStopped (durable : Durable) (deeds : List Deed) : Type 0 where
     pub stops : IsCut tables seal B.tells_text durable (B.printed old) deeds (B.image new) (B.printed new)
     pub cuts : CutsLeave durable deeds
 
-  -- all that a run over these bytes of a drive does was done
+  -- a run is whole over bytes of a drive where all of its deeds were done
   abbrev pub RunsWhole : (drive : List ℕ) → Type 0
   RunsWhole drive = FromOpening (λ s durable. HasDone durable (run_deeds s durable drive))
 
-  -- a run over these bytes was stopped by the board
+  -- a run over bytes of a drive is a part where the board stopped amid its deeds
   abbrev pub RunsPart : (drive : List ℕ) → Type 0
   RunsPart drive = FromOpening (λ s durable. HasStopped durable (run_deeds s durable drive))
 
-  -- the drive came to this end, which the bytes that were taken tell, and all that a run over it does was done
+  -- a run is up to an end of the drive where the drive has that end, the bytes that were taken tell it, and the run
+  -- over the drive is whole
   pub record RunsUpTo (drive left : List ℕ) (reached : DriveEnd) : Type 0 where
     pub end_is : drive_end drive ≡ reached
     pub tells : TellsEnd drive left
     pub runs : RunsWhole drive
 
-  -- how a run ends. After a read that failed the events of the bytes that were taken were carried out, and the supply
-  -- drop; and after a fault of the board a part of that
+  -- a run ends as its answer says: at the drive's end; or after a read that failed, where the run over the bytes taken
+  -- is whole; or after a fault of the board, where it is a part
   abbrev pub EndsRun : (drive left : List ℕ) → {T : Type 0} → Result T RunFault → Type 0
   EndsRun drive left (Ok done) = RunsUpTo drive left Whole
   EndsRun drive left (Err (BadDrive line)) = RunsUpTo drive left (BadAt line)
@@ -81,7 +83,8 @@ module _ {D L : Type 0} (B : Ghosts D L) (tables : TableParts) (seal : Seal) (ol
   EndsRun drive left (Err ReadFault) = StopsAfter drive left IsGoing RunsWhole
   EndsRun drive left (Err BoardFault) = StopsAfter drive left (λ taken. Unit {0}) RunsPart
 
-  -- whatever the answer is, a cut at each moment leaves a point of the run over the bytes that were taken
+  -- a run leaves points where a cut at each moment, whatever the answer is, leaves a point of the run over the bytes
+  -- taken
   pub record LeavesPoints (drive left : List ℕ) : Type 0 where
     pub taken : List ℕ
     pub split : IsSplit drive taken left

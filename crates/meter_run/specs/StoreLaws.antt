@@ -1,4 +1,4 @@
--- Events that a meter carries out on a store, one behind the other.
+-- For proofs: events that a meter carries out on a store, one behind the other.
 use Rattle.std.proofs.Common.{◌≡◌, inl, inr, ⊎_elim, ℕ, List, [], ◌++◌, Option, Some, None, refl, sym, ap, subst, ◌∙◌}
 use Rattle.std.proofs.lemmas.List.{append-nil}
 use Rattle.outside.specs.Disk.{SameBut}
@@ -29,7 +29,8 @@ run_deeds s m es fs =
     ap deeds_of (run_acts s m es fs) ∙ deeds_joined (run s es m).acts (run s fs (run s es m).next).acts
 
 -- what was in flight at a board, and what is at a later one
-pub beside_more : (flown flying : ℕ → Type 0) (a b c : List ℕ) → ((place : ℕ) → flying place → OrWithin flown 0 1024 place)
+pub beside_more : (flown flying : ℕ → Type 0) (a b c : List ℕ)
+    → ((place : ℕ) → flying place → OrWithin flown 0 1024 place)
     → SameBut (OrWithin flown 0 1024) a b → SameBut (OrWithin flying 0 1024) b c → SameBut (OrWithin flown 0 1024) a c
 beside_more flown flying a b c flight h k = record {
   size = k.size ∙ h.size;

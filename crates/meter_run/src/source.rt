@@ -4,7 +4,7 @@ ghost use Rattle.outside.specs.Faults.{Rose};
 ghost use Rattle.drive_text.specs.Drive.{bad_at_end, first_bad, runs_after};
 ghost use Rattle.drive_text.specs.Ranges.{IsRunInRange};
 ghost use Rattle.drive_text.specs.Reading.{HasTaken};
-ghost use Rattle.meter_run.specs.Source.{Fills, Gives, HasGiven, StopsBy};
+ghost use Rattle.meter_run.specs.Source.{Fills, GivesRuns, HasGiven, StopsBy};
 
 use arrayvec::ArrayVec;
 use drive_text::{Reader, Run};
@@ -40,9 +40,9 @@ pub struct Source {
 
 impl Model for Source {
     ghost use Rattle.std.specs.Prelude.{◌-◌, ◌≤◌, drop, take};
-    ghost use Rattle.meter_run.specs.Source.{Place};
+    ghost use Rattle.meter_run.specs.Source.{Progress};
 
-    ghost Value = { Place };
+    ghost Value = { Progress };
 
     ghost view = { λ s. record {
       reading = s.reader;
@@ -81,7 +81,7 @@ impl Source {
     ) -> Option<Stop>
         requires given { (given : List ℕ) × HasGiven self.old given }
         ensures more { result ≡ None → (given : List ℕ) → HasGiven self.old given
-            → Gives F.tells self.old self.new (F.rest files.old word) (F.rest files.new word) given runs.new.items }
+            → GivesRuns F.tells self.old self.new (F.rest files.old word) (F.rest files.new word) given runs.new.items }
         ensures stops { IfSome result (λ stop. (given : List ℕ) → HasGiven self.old given
             → StopsBy F.tells self.old (F.rest files.old word) (F.rest files.new word) given runs.new.items stop) }
         ensures range { All IsRunInRange runs.new.items }
@@ -154,13 +154,13 @@ impl Source {
         }
     }
 
-    /// Gives the reader what is ahead, and appends its runs.
+    /// GivesRuns the reader what is ahead, and appends its runs.
     fn feed(&mut self, runs: &mut ArrayVec<Run, 64>) -> Option<Stop>
         requires given { (given : List ℕ) × HasGiven self.old given }
         requires some { 0 < length self.old.ahead }
         requires none { runs.old.items ≡ [] }
         ensures more { result ≡ None → (given rest : List ℕ) → HasGiven self.old given
-            → Gives (Unit {0}) self.old self.new rest rest given runs.new.items }
+            → GivesRuns (Unit {0}) self.old self.new rest rest given runs.new.items }
         ensures stops { IfSome result (λ stop. (given rest : List ℕ) → HasGiven self.old given
             → StopsBy (Unit {0}) self.old rest rest given runs.new.items stop) }
         ensures no_fault { result ≢ Some Stop.ReadFault }

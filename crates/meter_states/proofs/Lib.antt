@@ -1,20 +1,40 @@
+-- lawful acts keep the ranges of the store
 mod ActRanges
+-- counts that a tariff allows, and the sum of their amounts
 mod Amounts
+-- the weights of the tables give the charges that the rate's own numbers give
 mod Charges
+-- how often each number stands in a list
 mod Counts
+-- equal intervals in each operating position
 mod EqualIntervals
+-- what the fare of a trip depends on
 mod Fares
+-- a trip that fits the tables fits their setting
 mod HeldFits
+-- each stage of an event keeps the trip of the store
 mod KeptTrips
+-- the laws that the crates above may cite
 pub mod Laws
+-- a charge more
 mod Meterages
+-- how stages that follow one another join, and a powered core that follows an outcome meets it
 mod Outcomes
+-- intervals at which nothing is done
 mod Quiet
+-- what a refusal leaves, and when a key acts
 mod Refused
+-- a held trip that is opened is saved again as it was held
 mod Resumed
+-- a trip that is opened from its saved form has the saved form of the whole trip
 mod ResumedForms
+-- runs over lists of events
 mod Runs
+-- what tables have of their setting
 mod Settings
+-- each stage of an event commits what its acts say, and puts a receipt directly behind its entry
 mod Stages
+-- the supplements of tables are those of the tariff
 mod TableSupplements
+-- what the core keeps of a trip is its saved form
 mod Trips

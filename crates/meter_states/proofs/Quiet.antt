@@ -1,5 +1,5 @@
 -- Intervals at which nothing is done.
-use Rattle.std.proofs.Common.{◌≡◌, ◌≢◌, ℕ, zero, suc, ◌+◌, ◌-◌, ◌*◌, ◌<◌, ◌≤◌, nat_le, if◌then◌else◌, Bool, true, false, List, [], ◌∷◌, ◌++◌, Option, Some, None, option_map, sum, refl, ap, sym, subst, ◌∙◌, arith}
+use Rattle.std.proofs.Common.{◌≡◌, ◌≢◌, ℕ, zero, suc, ◌+◌, ◌<◌, ◌≤◌, nat_le, if◌then◌else◌, Bool, true, false, List, [], ◌∷◌, ◌++◌, Option, Some, None, option_map, sum, refl, ap, sym, subst, ◌∙◌, arith}
 use Rattle.std.proofs.lemmas.Grind.{common_steps}
 use Rattle.drive_modes.specs.Fare.{above_cover, quotient, saved, shown_fare, steps_above, steps_of}
 use Rattle.drive_modes.specs.Fare as fares
@@ -23,7 +23,7 @@ use Rattle.meter_states.specs.Keys.{key_pressed, latch_pressed}
 use Rattle.meter_states.specs.Meter.{Meter, Outcome, ◌>>=◌, quiet}
 use Rattle.meter_states.specs.Run.{run}
 use Rattle.meter_states.specs.Setting.{Setting, IsTariffOf, modulus_of, rounding_of, step_of}
-use Rattle.meter_states.specs.Step.{expired, expired_or_pressed, powered_step, step, step_in, ticked}
+use Rattle.meter_states.specs.Step.{expired, expired_or_pressed, powered_step, step_in, ticked}
 use Rattle.meter_states.specs.Trip.{Trip, charges_of, opening_of, saved_of}
 use Rattle.meter_states.specs.declared.act.Act.{Act}
 use Rattle.meter_states.specs.declared.act.Act.TheVariants.{Show}

@@ -1,37 +1,23 @@
 -- The supplements of tables are those of the tariff.
-use Rattle.std.proofs.Common.{◌≡◌, ◌≢◌, ℕ, zero, suc, ltb, Bool, true, ◌+◌, ◌<◌, ◌≤◌, ◌==◌, List, [], ◌∷◌, Option, Some, None, false, All, get_or, length, refl, ap, sym, ◌∙◌, arith}
+use Rattle.std.proofs.Common.{◌≡◌, ◌≢◌, ℕ, zero, suc, ltb, Bool, true, ◌+◌, ◌<◌, ◌≤◌, Option, Some, None, false, get_or, length, refl, ap, sym, ◌∙◌, arith}
 use Rattle.std.specs.Option.{option_map}
-use Rattle.std.proofs.lemmas.Bool.{ltb-false, ltb-true, ne_eqb}
-use Rattle.std.proofs.lemmas.List.Elements.{All-head, All-tail}
+use Rattle.std.proofs.lemmas.Bool.{ltb-false, ltb-true}
 use Rattle.std.proofs.lemmas.List.FromFn.{get_or-map-range_with_len, length-map-range_with_len}
 use Rattle.std.proofs.lemmas.List.{get_or_past}
-use Rattle.tariff_check.proofs.Laws.{sound_tariffs_have_sound_parts-parts}
+use Rattle.tariff_check.proofs.Laws.{sound_tariffs_have_sound_parts-parts, supplements_are_numbered_to_16}
 use Rattle.tariff_check.specs.Faults.{IsSound}
-use Rattle.tariff_check.specs.Parts.{SupplementNumbers, supplement_of, supplement_part}
+use Rattle.tariff_check.specs.Parts.{SupplementNumbers, supplement_of}
 use Rattle.tariff_compile.specs.Tables.{IsCompiled, IsTablesOf, TableParts, supplement_at}
 use Rattle.tariff_compile.specs.Tables as tables
-use Rattle.tariff_syntax.specs.Parts.{parts}
-use Rattle.tariff_syntax.specs.Tree.{Tree, Line, Entry, supplement}
-use Rattle.tariff_syntax.specs.Writable.{IsFromTo, IsWritable, IsWritableEntry}
+use Rattle.tariff_syntax.specs.Tree.{Tree}
+use Rattle.tariff_syntax.specs.Writable.{IsFromTo, IsWritable}
 use Rattle.meter_states.specs.Supplements.{amount_in, most_in, supplement_in}
 use Rattle.meter_states.proofs.Amounts.{AreBounded}
-
-no_such_line : (n : ℕ) (entry : Entry) → (IsFromTo 1 16 n → ⊥) → IsWritableEntry entry → supplement_part n entry ≡ None
-no_such_line n (supplement number amount most) out writable =
-    let other : n == number ≡ false = ne_eqb n number (λ same. out (rw same writable.0)) in
-    rw other refl
-no_such_line n entry out writable = refl
-
-no_such_lines : (n : ℕ) (lines : List Line) → (IsFromTo 1 16 n → ⊥) → All (λ (l : Line). IsWritableEntry l.entry) lines → parts (supplement_part n) lines ≡ []
-no_such_lines n [] out writable = refl
-no_such_lines n (l ∷ ls) out writable =
-    let P = λ (l : Line). IsWritableEntry l.entry in
-    rw (no_such_line n l.entry out (All-head P l ls writable)) (no_such_lines n ls out (All-tail P l ls writable))
 
 -- a tariff has no supplement of another number than 1 to 16
 pub supplement-none : (t : Tree) (n : ℕ) → IsWritable t → (IsFromTo 1 16 n → ⊥) → supplement_at t n ≡ None
 supplement-none t n writable out =
-    let none : supplement_of t.lines n ≡ None = rw (no_such_lines n t.lines out writable.lines) refl in
+    let none = supplements_are_numbered_to_16 t n writable out in
     ap (λ (o : Option SupplementNumbers). option_map tables.supplement_in o) none
 
 -- the supplements of tables

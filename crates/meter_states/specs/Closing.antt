@@ -1,4 +1,4 @@
--- Entries: of a trip that is closed, with its receipt directly behind, and of roaming.
+-- Rules: the entries of a trip that is closed, with its receipt directly behind, and of roaming.
 use Rattle.std.specs.Prelude.{ℕ, Option, Some, None, sum, [], if◌then◌else◌, nat_le}
 use Rattle.pulse_input.specs.Distance.{millimetres_of}
 use Rattle.taxi_units.specs.declared.event.Operating.{Operating}
@@ -12,7 +12,7 @@ use Rattle.meter_states.specs.Setting.{Setting, stamp_at, step_of}
 use Rattle.meter_states.specs.Supplements.{amounts_of}
 use Rattle.meter_states.specs.Trip.{Trip, fare_of, pulses_of, steps_shown}
 
--- the entry of a trip that is closed at a tariff position
+-- a trip that is closed at a tariff position is entered with its kind, its distances, its fare and its supplements
 abbrev pub entry_of : Setting → Kind → (position : ℕ) → Trip → Entry
 entry_of s kind position t = record {
   kind = kind;
@@ -23,7 +23,7 @@ entry_of s kind position t = record {
   position = position;
 }
 
--- its receipt, with the store's number after the entry
+-- a trip that is closed has this receipt, with the store's number after its entry
 abbrev pub receipt_of : Setting → Kind → (finish position : ℕ) → Trip → (number : ℕ) → Receipt
 receipt_of s kind finish position t number = record {
   number = number;
@@ -41,29 +41,30 @@ receipt_of s kind finish position t number = record {
   decimals = s.tariff.decimals;
 }
 
--- a trip is entered, and directly behind it the receipt is printed
+-- a trip that is closed, if there is one, is entered, and directly behind it its receipt is printed
 abbrev pub trip_closed : Setting → Kind → (finish : ℕ) → Option Trip → Meter → Outcome
 trip_closed s kind finish None m = quiet m
 trip_closed s kind finish (Some t) m = do
   m ← entered (entry_of s kind m.position t) m
   printed (receipt_of s kind finish m.position t m.durable.number) m
 
--- the meter closes its trip, and is for hire
+-- the meter closes its trip, has none then, and is for hire
 abbrev pub closed : Setting → Kind → (finish : ℕ) → Meter → Outcome
 closed s kind finish m = trip_closed s kind finish m.trip (record m { operating = ForHire; trip = None })
 
--- the store takes no hiring and no roaming from this number on, and no held trip from the other
+-- the store takes no hiring and no roaming from the number 10^15 on
 abbrev pub hirings_end : ℕ
 hirings_end = 1000000000000000
 
+-- the store takes no held trip from the number 2 * 10^15 on
 abbrev pub holds_end : ℕ
 holds_end = 2000000000000000
 
--- roaming pulses are entered from so many on
+-- roaming pulses are entered as soon as they are 1,000,000
 abbrev pub roaming_most : ℕ
 roaming_most = 1000000
 
--- the entry of roaming has its distance alone
+-- roaming is entered with its distance alone
 abbrev pub roaming_entry : Setting → (pulses : ℕ) → Entry
 roaming_entry s pulses = record {
   kind = Roam;
@@ -74,14 +75,15 @@ roaming_entry s pulses = record {
   position = 0;
 }
 
--- roaming pulses are entered, and are then none
+-- the roaming pulses of a meter are entered, and are none then
 abbrev pub roaming_entered : Setting → Meter → Outcome
 roaming_entered s m = entered (roaming_entry s (sum m.roaming)) (record m { roaming = [] })
 
--- they are entered for hire where they are many
+-- in For Hire the roaming pulses are entered where they are 1,000,000 or more, and in no other operating position
 abbrev pub roaming_checked_in : Setting → Operating → Meter → Outcome
 roaming_checked_in s ForHire m = if nat_le roaming_most (sum m.roaming) then roaming_entered s m else quiet m
 roaming_checked_in s operating m = quiet m
 
+-- the roaming pulses of a meter are entered where it is for hire and they are 1,000,000 or more
 abbrev pub roaming_checked : Setting → Meter → Outcome
 roaming_checked s m = roaming_checked_in s m.operating m

@@ -1,4 +1,4 @@
--- The core as plain data, and which state of the meter it stands for.
+-- For proofs: the core as plain data, and which state of the meter it stands for. Meter says what a state is.
 use Rattle.std.specs.Prelude.{◌≡◌, ◌≢◌, ◌⊎◌, ℕ, List, ◌++◌, Option, option_map, sum, false}
 use Rattle.taxi_units.specs.declared.event.Key.{Key}
 use Rattle.taxi_units.specs.declared.event.Operating.{Operating}
@@ -11,8 +11,8 @@ use Rattle.meter_states.specs.Trip as model
 use Rattle.meter_states.specs.Trip.{saved_of}
 use Rattle.meter_states.specs.declared.act.Act.{Act}
 
--- a core: counts in place of lists, the saved form in place of the intervals, and the store's number in place of what
--- it has
+-- a core has counts in place of lists, the saved form of the trip in place of its intervals, and the store's number in
+-- place of what the store has
 pub record Plain : Type 0 where
   pub operating : Operating
   pub clock : ℕ
@@ -26,7 +26,7 @@ pub record Plain : Type 0 where
   pub shown : Option Display
   pub trip : Option Trip
 
--- the core of a state of the meter
+-- a state of the meter has this core
 abbrev pub plain_of : Setting → Meter → Plain
 plain_of s m = record {
   operating = m.operating;
@@ -42,24 +42,25 @@ plain_of s m = record {
   trip = option_map (saved_of s) m.trip;
 }
 
--- the core stands for a state: both are off, or neither is and the core is that of the state
+-- a core stands for a state where both are off, or neither is and the core is the state's
 abbrev pub Stands : Setting → Plain → Meter → Type 0
 Stands s core m = (core.operating ≡ Off) × (m.operating ≡ Off) ⊎ (m.operating ≢ Off) × (core ≡ plain_of s m)
 
--- while the meter is powered: the core is that of the outcome's state, and the outcome's acts were appended
+-- a powered core follows an outcome where it is the core of the outcome's state, and the outcome's acts were appended
 pub record Follows (s : Setting) (core : Plain) (before acts : List Act) (o : Outcome) : Type 0 where
   pub state : core ≡ plain_of s o.next
   pub done : acts ≡ before ++ o.acts
 
--- the core stands for the outcome's state, and the acts are the outcome's
+-- a core and acts meet an outcome where the core stands for the outcome's state and the acts are the outcome's
 pub record Meets (s : Setting) (core : Plain) (acts : List Act) (o : Outcome) : Type 0 where
   pub state : Stands s core o.next
   pub done : acts ≡ o.acts
 
--- a held trip without what has a meaning in the store alone
+-- a held trip is forgotten what has a meaning in the store alone: when, how and where it was saved
 abbrev pub forgotten : Trip → Trip
 forgotten trip = record trip { saved = 0; stopped = false; position = 1; zone = 1 }
 
--- the held trip is the saved form of the trip
+-- a held trip is the saved form of a trip where both are none, or it is so but for what has a meaning in the store
+-- alone
 abbrev pub IsSavedIn : Setting → (hold : Option Trip) → Option model.Trip → Type 0
 IsSavedIn s hold trip = option_map forgotten hold ≡ option_map (saved_of s) trip

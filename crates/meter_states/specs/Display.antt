@@ -1,4 +1,4 @@
--- What the display shows, and when it does.
+-- Rules: what the display shows, and when it does.
 use Rattle.std.specs.Prelude.{ℕ, Bool, true, false, ◌&&◌, ◌==◌, [], ◌∷◌, Option, Some, None, if◌then◌else◌}
 use Rattle.taxi_units.specs.declared.event.Operating.{Operating}
 use Rattle.taxi_units.specs.declared.event.Operating.TheVariants.{Off, ForHire, Hired, Stopped}
@@ -9,15 +9,17 @@ use Rattle.meter_states.specs.Supplements.{amounts_of}
 use Rattle.meter_states.specs.Trip.{Trip, fare_of}
 use Rattle.meter_states.specs.declared.act.Act.TheVariants.{Show}
 
--- the fare and the supplements of the trip, 0 without one
+-- the display shows the fare of the trip, and 0 without one
 abbrev pub fare_shown : Setting → Option Trip → ℕ
 fare_shown s None = 0
 fare_shown s (Some t) = fare_of s t
 
+-- the display shows the amounts of the trip's supplements, and 0 without a trip
 abbrev pub extras_shown : Setting → Option Trip → ℕ
 extras_shown s None = 0
 extras_shown s (Some t) = amounts_of s.tariff t.extras
 
+-- a state of the meter has this display
 abbrev pub display_of : Setting → Meter → Display
 display_of s m = record {
   operating = m.operating;
@@ -28,7 +30,7 @@ display_of s m = record {
   decimals = s.tariff.decimals;
 }
 
--- the same operating position
+-- a test whether two operating positions are the same
 abbrev pub same_operating : Operating → Operating → Bool
 same_operating Off Off = true
 same_operating ForHire ForHire = true
@@ -36,7 +38,7 @@ same_operating Hired Hired = true
 same_operating Stopped Stopped = true
 same_operating a b = false
 
--- the same in each field
+-- a test whether two displays are the same in each field
 abbrev pub same_display : Display → Display → Bool
 same_display a b =
     same_operating a.operating b.operating
@@ -44,12 +46,12 @@ same_display a b =
     && (a.zone == b.zone
     && (a.fare == b.fare && (a.supplements == b.supplements && a.decimals == b.decimals))))
 
--- the display is the one that was shown last
+-- a test whether a display is the one that was shown last
 abbrev pub is_shown : Option Display → Display → Bool
 is_shown None new = false
 is_shown (Some old) new = same_display old new
 
--- the display is shown where it differs from the one that was shown last
+-- the meter shows its display where it differs from the one that was shown last, and remembers it
 abbrev pub shown : Setting → Meter → Outcome
 shown s m = record {
   next = record m { shown = Some (display_of s m) };

@@ -1,4 +1,4 @@
--- Equal measuring intervals, one after the other, at which nothing is shown, refused or entered.
+-- For proofs: equal measuring intervals, one after the other, at which nothing is shown, refused or entered.
 use Rattle.std.specs.Prelude.{◌≡◌, ℕ, zero, suc, ◌+◌, ◌-◌, ◌*◌, ◌==◌, if◌then◌else◌, nat_lt, Option, Some, None, List, [], ◌∷◌, ◌++◌}
 use Rattle.drive_modes.specs.Fare.{shown_fare, steps_of}
 use Rattle.drive_modes.specs.declared.meterage.Meterage.{Meterage}
@@ -12,26 +12,27 @@ use Rattle.totaliser_store.specs.declared.trip.Trip.{Trip}
 use Rattle.meter_states.specs.Closing.{hirings_end}
 use Rattle.meter_states.specs.Core.{Plain}
 
--- the events of one measuring interval: its pulses, if it has any, and its end
+-- a measuring interval has the event of its pulses, if it has any, and then the tick at its end
 abbrev pub interval_of : (pulses : ℕ) → List Event
 interval_of zero = Tick ∷ []
 interval_of (suc p) = Pulses (suc p) ∷ Tick ∷ []
 
--- the events of so many intervals, each with so many pulses
+-- `count` intervals with the same number of pulses each have the events of one such interval, `count` times
 abbrev pub intervals_of : (pulses count : ℕ) → List Event
 intervals_of p zero = []
 intervals_of p (suc count) = interval_of p ++ intervals_of p count
 
--- the fare and the supplements that a core shows, by the saved form of its trip
+-- a core shows this fare, by the saved form of its trip, and 0 without one
 abbrev pub fare_by : TableParts → Option Trip → ℕ
 fare_by tables None = 0
 fare_by tables (Some t) = shown_fare t.initial t.minimum tables.step (steps_of tables.rounding t.meterage)
 
+-- a core shows these amounts of supplements, by the saved form of its trip, and 0 without one
 abbrev pub extras_by : Option Trip → ℕ
 extras_by None = 0
 extras_by (Some t) = t.extras_sum
 
--- what a core shows
+-- a core has this display
 abbrev pub display_by : TableParts → Plain → Display
 display_by tables c = record {
   operating = c.operating;
@@ -42,29 +43,32 @@ display_by tables c = record {
   decimals = tables.decimals;
 }
 
--- the interval began at the clock's second and has no pulses yet, no key waits, and what the core shows was shown last
+-- a core is still where its interval began at the clock's second and has no pulses yet, no key waits, and its display
+-- was shown last
 pub record IsStill (tables : TableParts) (c : Plain) : Type 0 where
   pub latch : c.latch ≡ None
   pub gate : c.gate ≡ 0
   pub began : c.began ≡ c.clock
   pub shown : c.shown ≡ Some (display_by tables c)
 
--- what so many intervals of p pulses add to the roaming pulses, where the store has this number
+-- an interval of p pulses adds this many roaming pulses, where the store has a number: none where it takes no hiring
 abbrev pub roams : (number p : ℕ) → ℕ
 roams number p = if nat_lt number hirings_end then p else 0
 
--- a trip after so many further intervals of p pulses, of which each is free
+-- a trip has passed `count` further intervals of p pulses that are free where its pulses and ticks have grown by theirs
 abbrev pub passed : (p count : ℕ) → Trip → Trip
 passed p count t = record t { pulses = t.pulses + count * p; ticks = t.ticks + count }
 
--- a meterage after so many further charges that fill no display step
+-- a meterage after `count` further equal charges that fill no display step has used up its cover first, and then has
+-- more rest
 abbrev pub unfilled : (charge count : ℕ) → Meterage → Meterage
 unfilled charge count m = record m {
   cover_left = m.cover_left - count * charge;
   rest = m.rest + (count * charge - m.cover_left);
 }
 
--- a trip after so many further intervals of p pulses, whose charges fill no display step
+-- a trip after `count` further intervals of p pulses, whose charges fill no display step, has more pulses and ticks,
+-- and its meterage has the charges
 abbrev pub charged : (p charge count : ℕ) → Trip → Trip
 charged p charge count t = record t {
   pulses = t.pulses + count * p;
@@ -72,7 +76,7 @@ charged p charge count t = record t {
   meterage = unfilled charge count t.meterage;
 }
 
--- the charges that show no further display step
+-- a meterage can take charges of this sum without showing a further display step
 abbrev pub spare_of : Rounding → (modulus : ℕ) → Meterage → ℕ
 spare_of Behind modulus m = m.cover_left + (modulus - 1 - m.rest)
 spare_of Ahead modulus m = if m.rest == 0 then m.cover_left else m.cover_left + (modulus - 1 - m.rest)

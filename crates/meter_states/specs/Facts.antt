@@ -1,5 +1,5 @@
--- The facts that a core keeps: what was looked up, and when it still serves.
-use Rattle.std.specs.Prelude.{◌≡◌, ℕ, ◌≤◌, true, List, ℤ, Option}
+-- For proofs: the facts that a core keeps, which are what was looked up and when it still serves.
+use Rattle.std.specs.Prelude.{◌≡◌, ℕ, ◌≤◌, true}
 use Rattle.std.specs.Option.{ForSome}
 use Rattle.interval_clock.specs.LocalTime.{local_second, local_time_of}
 use Rattle.interval_clock.specs.declared.local_time.LocalTime.{LocalTime}
@@ -15,16 +15,17 @@ use Rattle.meter_states.specs.declared.facts.Facts.{Facts}
 use Rattle.meter_states.specs.declared.facts.LocalFacts.{LocalFacts}
 use Rattle.meter_states.specs.declared.facts.RateFacts.{RateFacts}
 
--- a core: its plain data, and the facts that it keeps
+-- a whole core has its plain data, and the facts that it keeps
 pub record Whole : Type 0 where
   pub plain : Plain
   pub facts : Facts
 
--- the local time at a second, by the sealed offsets
+-- a second has this local time, by the sealed offsets
 abbrev pub sealed_time : Seal → (second : ℕ) → LocalTime
 sealed_time seal second = local_time_of (local_second seal.params.offsets second)
 
--- these are the weekday, the day of the year, the minute and the holiday of a second's local time
+-- local facts are those of their second where they are the weekday, the place in the year, the minute and the holiday
+-- of its local time
 pub record AreLocal (tables : TableParts) (seal : Seal) (local : LocalFacts) : Type 0 where
   pub weekday : local.weekday ≡ (sealed_time seal local.second).weekday
   pub month_day : local.month_day ≡ (sealed_time seal local.second).month_day
@@ -36,13 +37,14 @@ pub record AreLocal (tables : TableParts) (seal : Seal) (local : LocalFacts) : T
   pub minutes : local.minute ≤ 1439
   pub holidays : local.holiday ≡ true → has_days tables.cuts ≡ true
 
--- these weights are those of each context that differs from one by so many further pulses and ticks at most
+-- rate facts last where their weights are those of each context that is near their first one, and are fit
 pub record AreLasting (tables : TableParts) (rate : RateFacts) : Type 0 where
   pub near : (t : Tree) (x : Context) → IsTablesOf t tables → IsInRangeFor tables x
-      → IsNear rate.lasting.further rate.lasting.longer rate.first x → rate.lasting.weights ≡ rate_by t tables.constant x
+      → IsNear rate.lasting.further rate.lasting.longer rate.first x
+      → rate.lasting.weights ≡ rate_by t tables.constant x
   pub fit : AreFit tables.measure rate.lasting.weights
 
--- what a core keeps is so
+-- the facts that a core keeps are true where each that is there is
 pub record AreTrue (tables : TableParts) (seal : Seal) (facts : Facts) : Type 0 where
   pub local : ForSome facts.local (AreLocal tables seal)
   pub rate : ForSome facts.rate (AreLasting tables)

@@ -1,11 +1,11 @@
--- Which saved trips fit the tables.
+-- Rules: which saved trips fit the tables.
 use Rattle.std.specs.Prelude.{◌≡◌, ◌*◌, ◌<◌, ◌≤◌}
 use Rattle.tariff_compile.specs.Tables.{TableParts}
 use Rattle.totaliser_store.specs.declared.trip.Trip.{Trip}
 use Rattle.meter_states.specs.Supplements.{AreAllowed, amounts_from, supplement_in}
 
--- the position and the zone are among the tariff's, what is charged fits the display step and the cover, and the
--- supplements are ones that the tariff allows, with their amounts
+-- a saved trip fits the tables where its position and zone are among the tariff's, what was charged fits the display
+-- step and the cover, and its supplements are ones that the tariff allows, with their amounts
 pub record Fits (tables : TableParts) (trip : Trip) : Type 0 where
   pub position : (1 ≤ trip.position) × (trip.position ≤ tables.positions)
   pub zone : (1 ≤ trip.zone) × (trip.zone ≤ tables.zones)

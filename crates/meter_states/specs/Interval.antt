@@ -1,4 +1,4 @@
--- The measuring interval: its pulses, the context of its beginning, and what it becomes at its end.
+-- Rules: the measuring interval, its pulses, the context of its beginning, and what it becomes at its end.
 use Rattle.std.specs.Prelude.{ℕ, ◌-◌, List, [], ◌∷◌, ◌++◌, Option, Some, None, option_map, sum, min, if◌then◌else◌, nat_lt}
 use Rattle.interval_clock.specs.declared.local_time.LocalTime.{LocalTime}
 use Rattle.tariff_calendar.specs.Lists.{is_holiday}
@@ -12,27 +12,28 @@ use Rattle.meter_states.specs.Setting.{Setting, local_at}
 use Rattle.meter_states.specs.Trip.{Trip, Part, InHired, InStopped, Rest, with_part, pulses_of, ticks_of}
 use Rattle.meter_states.specs.declared.act.Act.TheVariants.{Refuse}
 
--- an interval has at most 2,000 pulses: so many more has it room for
+-- the running interval has room for this many more pulses: up to 2,000 together
 abbrev pub room_of : Meter → ℕ
 room_of m = 2000 - sum m.taken
 
--- the interval takes the pulses that it has room for, and the others are refused
+-- the running interval takes the pulses that it has room for, and the others are refused as too fast
 abbrev pub pulses_taken : ℕ → Meter → Outcome
 pulses_taken n m = record {
   next = record m { taken = m.taken ++ min n (room_of m) ∷ [] };
   acts = if nat_lt 0 (n - room_of m) then Refuse (TooFast (n - room_of m)) ∷ [] else [];
 }
 
--- the pulses and the ticks of the trip so far
+-- the trip has this many pulses so far, and none is 0
 abbrev pub pulses_so_far : Option Trip → ℕ
 pulses_so_far None = 0
 pulses_so_far (Some t) = pulses_of t
 
+-- the trip has this many ticks so far, and none is 0
 abbrev pub ticks_so_far : Option Trip → ℕ
 ticks_so_far None = 0
 ticks_so_far (Some t) = ticks_of t
 
--- the context at a local time
+-- the meter has this context at a local time
 abbrev pub context_on : Setting → LocalTime → Meter → Context
 context_on s local m = record {
   constant = s.constant;
@@ -46,45 +47,50 @@ context_on s local m = record {
   ticks = ticks_so_far m.trip;
 }
 
--- the context at the beginning of the running interval
+-- the running interval has the context of its beginning
 abbrev pub context_of : Setting → Meter → Context
 context_of s m = context_on s (local_at s m.began) m
 
--- the context at the clock's second
+-- the meter has this context at the clock's second
 abbrev pub context_now : Setting → Meter → Context
 context_now s m = context_on s (local_at s m.clock) m
 
--- the trip has an interval more
+-- the trip has one interval more, and the next interval has no pulses yet
 abbrev pub with_interval : Part → Meter → Meter
 with_interval part m = record m { taken = []; trip = option_map (with_part part) m.trip }
 
--- roaming pulses count while the store takes hirings
+-- the roaming pulses have some pulses more, where the store takes hirings, and are the same otherwise
 abbrev pub roaming_with : (pulses : ℕ) → Meter → List ℕ
 roaming_with pulses m = if nat_lt m.durable.number hirings_end then m.roaming ++ pulses ∷ [] else m.roaming
 
+-- the meter has some roaming pulses more, and the next interval has no pulses yet
 abbrev pub with_roaming : (pulses : ℕ) → Meter → Meter
 with_roaming pulses m = record m { taken = []; roaming = roaming_with pulses m }
 
--- the interval ends: it roams for hire, it is charged in Hired, and it passes in Stopped
+-- the running interval ends in an operating position: its pulses roam in For Hire, it is charged in Hired, and it
+-- passes free in Stopped
 abbrev pub counted_in : Setting → Operating → (pulses : ℕ) → Meter → Meter
 counted_in s Off pulses m = m
 counted_in s ForHire pulses m = with_roaming pulses m
 counted_in s Hired pulses m = with_interval (InHired pulses (context_of s m)) m
 counted_in s Stopped pulses m = with_interval (InStopped pulses) m
 
+-- the running interval of the meter ends in the meter's operating position, and nothing is shown or entered for it
 abbrev pub interval_counted : Setting → Meter → Outcome
 interval_counted s m = quiet (counted_in s m.operating (sum m.taken) m)
 
--- a supply drop leaves the interval unfinished: it is not charged and counts no tick
+-- the running interval is left unfinished in an operating position: it is not charged and counts no tick, and its
+-- pulses roam in For Hire
 abbrev pub left_in : Operating → (pulses : ℕ) → Meter → Meter
 left_in Off pulses m = m
 left_in ForHire pulses m = with_roaming pulses m
 left_in Hired pulses m = with_interval (Rest pulses) m
 left_in Stopped pulses m = with_interval (Rest pulses) m
 
+-- a supply drop leaves the meter's running interval unfinished
 abbrev pub interval_left : Meter → Outcome
 interval_left m = quiet (left_in m.operating (sum m.taken) m)
 
--- the next interval begins, at the clock's second
+-- the next interval begins at the clock's second
 abbrev pub interval_begun : Meter → Outcome
 interval_begun m = quiet (record m { began = m.clock })

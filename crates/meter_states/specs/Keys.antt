@@ -1,4 +1,4 @@
--- Keys: one may wait for the end of the interval, and acts then.
+-- Rules: keys. One may wait for the end of the interval, and acts then.
 use Rattle.std.specs.Prelude.{ℕ, Bool, ◌&&◌, [], Option, Some, None, sum, if◌then◌else◌, nat_le}
 use Rattle.tariff_check.specs.Parts.{positions_of, zones_of}
 use Rattle.tariff_compile.specs.Tables.{initial_by, supplement_at}
@@ -16,13 +16,13 @@ use Rattle.meter_states.specs.Setting.{Setting}
 use Rattle.meter_states.specs.Supplements.{times}
 use Rattle.meter_states.specs.Trip.{Trip, begun, with_extra}
 
--- a key waits, where none does
+-- a key that is pressed waits for the end of the interval, and is refused where another one waits
 abbrev pub latched : Option Key → Key → Meter → Outcome
 latched None key m = quiet (record m { latch = Some key })
 latched (Some waiting) key m = refused KeyWaiting m
 
--- a trip begins at the clock's second, with the initial hire fee and the minimum fare that the tariff's text names
--- there; it takes the roaming pulses
+-- the meter is hired: a trip begins at the clock's second, with the initial hire fee and the minimum fare that the
+-- tariff's text names there, and takes the roaming pulses
 abbrev pub hired : Setting → Meter → Meter
 hired s m = record m {
   operating = Hired;
@@ -30,22 +30,24 @@ hired s m = record m {
   roaming = [];
 }
 
--- the key Hire, for hire
+-- the key Hire hires a meter that is for hire, and is refused where the store takes no hiring
 abbrev pub hiring : Setting → Meter → Outcome
 hiring s m = if nat_le hirings_end m.durable.number then refused Ended m else quiet (hired s m)
 
--- a number is from 1 to the most
+-- a test whether a number is from 1 to the most
 abbrev pub is_among : (most n : ℕ) → Bool
 is_among most n = nat_le 1 n && nat_le n most
 
+-- the key of a tariff position sets it, and is refused where the tariff has no such position
 abbrev pub position_set : Setting → (n : ℕ) → Meter → Outcome
 position_set s n m =
     if is_among (positions_of s.tariff.lines) n then quiet (record m { position = n }) else refused NoSuch m
 
+-- the key of a zone sets it, and is refused where the tariff has no such zone
 abbrev pub zone_set : Setting → (n : ℕ) → Meter → Outcome
 zone_set s n m = if is_among (zones_of s.tariff.lines) n then quiet (record m { zone = n }) else refused NoSuch m
 
--- a supplement that the tariff has is added to a trip, up to its most
+-- a supplement that the tariff has is added to the trip, and refused where it was added as often as it may be
 abbrev pub extra_added_to : (n : ℕ) → Supplement → Option Trip → Meter → Outcome
 extra_added_to n supplement None m = quiet m
 extra_added_to n supplement (Some t) m =
@@ -53,11 +55,12 @@ extra_added_to n supplement (Some t) m =
     then refused AtMost m
     else quiet (record m { trip = Some (with_extra n t) })
 
+-- the key of a supplement adds it, and is refused where the tariff has no such supplement
 abbrev pub extra_added : (n : ℕ) → Option Supplement → Meter → Outcome
 extra_added n None m = refused NoSuch m
 extra_added n (Some supplement) m = extra_added_to n supplement m.trip m
 
--- what a key does in an operating position
+-- a key acts in an operating position as its row says, and is refused in the others
 abbrev pub key_in : Setting → Key → Operating → Meter → Outcome
 key_in s keys.Hire ForHire m = hiring s m
 key_in s keys.Hire Stopped m = quiet (record m { operating = Hired })
@@ -71,10 +74,11 @@ key_in s (keys.Extra n) Hired m = extra_added n (supplement_at s.tariff n) m
 key_in s (keys.Extra n) Stopped m = extra_added n (supplement_at s.tariff n) m
 key_in s key operating m = refused NotNow m
 
--- a key that waits leaves the latch and acts
+-- the key that waits, if one does, waits no more and acts in the meter's operating position
 abbrev pub latch_pressed : Setting → Option Key → Meter → Outcome
 latch_pressed s None m = quiet m
 latch_pressed s (Some key) m = key_in s key m.operating (record m { latch = None })
 
+-- the key that waits in the meter acts, if one does
 abbrev pub key_pressed : Setting → Meter → Outcome
 key_pressed s m = latch_pressed s m.latch m

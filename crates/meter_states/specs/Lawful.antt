@@ -1,4 +1,4 @@
--- Which cores are lawful.
+-- Rules: which cores are lawful.
 use Rattle.std.specs.Prelude.{◌≡◌, ◌≢◌, ◌⊎◌, Bool, true, false, ℕ, ◌+◌, ◌*◌, ◌<◌, ◌≤◌, Option, Some, None, length}
 use Rattle.tariff_compile.specs.Tables.{TableParts}
 use Rattle.taxi_units.specs.Time.{IsSecond}
@@ -12,13 +12,13 @@ use Rattle.meter_states.specs.Core.{Plain}
 use Rattle.meter_states.specs.Facts.{AreTrue, Whole}
 use Rattle.meter_states.specs.Supplements.{AreAllowed, amounts_from, supplement_in}
 
--- an event's second is one of the years 2000 to 2199
+-- an event is timely where its second, if it has one, is of the years 2000 to 2199
 abbrev pub IsTimely : Event → Type 0
 IsTimely (events.Up second) = IsSecond second
 IsTimely (events.Clock second) = IsSecond second
 IsTimely event = Unit {0}
 
--- a trip of at most so many ticks that fits the tables, with its numbers in their ranges
+-- a saved trip is in range where it has at most `most` ticks, fits the tables, and has its numbers in their ranges
 pub record IsTrip (tables : TableParts) (most : ℕ) (trip : Trip) : Type 0 where
   pub started : IsSecond trip.started
   pub roam : trip.roam ≤ 1001999
@@ -32,30 +32,32 @@ pub record IsTrip (tables : TableParts) (most : ℕ) (trip : Trip) : Type 0 wher
   pub counts : AreAllowed (supplement_in tables) 1 trip.extras
   pub extras_sum : trip.extras_sum ≡ amounts_from (supplement_in tables) 1 trip.extras
 
--- the same beside a store's number: each supply drop adds one to it, and at most 2,000 pulses to the trip
+-- a saved trip is in range beside a store's number where it is in range, and has at most 2,000 pulses for each tick and
+-- for each number, since each supply drop adds one to the number and at most 2,000 pulses to the trip
 pub record IsTripBeside (tables : TableParts) (number most : ℕ) (trip : Trip) : Type 0 where
   pub range : IsTrip tables most trip
   pub pulses : trip.pulses ≤ 2000 * (trip.ticks + number)
 
--- there is no trip, or such a one
+-- a trip that may be none is in range where there is none, or it is in range beside the store's number
 abbrev pub IsTripInRange : TableParts → (number most : ℕ) → Option Trip → Type 0
 IsTripInRange tables number most None = Unit {0}
 IsTripInRange tables number most (Some trip) = IsTripBeside tables number most trip
 
--- a trip began no later than the clock's second
+-- a trip, if there is one, has begun by a second where it began no later
 abbrev pub HasBegunBy : (clock : ℕ) → Option Trip → Type 0
 HasBegunBy clock None = Unit {0}
 HasBegunBy clock (Some trip) = trip.started ≤ clock
 
--- in which operating positions there is a trip; a powered meter isn't off
+-- a powered meter has a trip in Hired and in Stopped, has none in For Hire, and isn't off
 abbrev pub HasTrip : Operating → Option Trip → Type 0
 HasTrip Off trip = ⊥
 HasTrip ForHire trip = trip ≡ None
 HasTrip Hired trip = trip ≢ None
 HasTrip Stopped trip = trip ≢ None
 
--- A powered core in its ranges, of whose trip at most so many ticks have passed, and which has at most so many roaming
--- pulses; spare is 1 where the trip has pulses of an unfinished interval that the store doesn't have yet.
+-- a powered core is in its ranges where at most `ticks` ticks of its trip have passed, it has at most `most` roaming
+-- pulses, and its other numbers are in range; `spare` is 1 where the trip has pulses of an unfinished interval that the
+-- store doesn't have yet
 pub record IsPowered (tables : TableParts) (ticks most spare : ℕ) (core : Plain) : Type 0 where
   pub on : HasTrip core.operating core.trip
   pub position : (1 ≤ core.position) × (core.position ≤ tables.positions)
@@ -71,24 +73,36 @@ pub record IsPowered (tables : TableParts) (ticks most spare : ℕ) (core : Plai
   pub begun : HasBegunBy core.clock core.trip
   pub trip : IsTripInRange tables (core.number + spare) ticks core.trip
 
--- between two events: the meter is off, or the core is in its ranges, and what it keeps is so
+-- a powered core is between two events where it is in its ranges, its trip has fewer ticks than the longest trip, and
+-- it has fewer than 1,000,000 roaming pulses
+abbrev pub IsBetweenEvents : TableParts → Plain → Type 0
+IsBetweenEvents tables core = IsPowered tables 8639999 999999 0 core
+
+-- a powered core is amid an event where it is in its ranges, its trip has fewer ticks than the longest trip, and it may
+-- have the roaming pulses of one more interval
+abbrev pub IsAmidEvent : TableParts → Plain → Type 0
+IsAmidEvent tables core = IsPowered tables 8639999 1001999 0 core
+
+-- a core is lawful between two events where it is off, or powered and in its ranges, and the facts that it keeps are
+-- true
 pub record IsLawful (tables : TableParts) (seal : Seal) (core : Whole) : Type 0 where
-  pub powered : (core.plain.operating ≡ Off) ⊎ IsPowered tables 8639999 999999 0 core.plain
+  pub powered : (core.plain.operating ≡ Off) ⊎ IsBetweenEvents tables core.plain
   pub facts : AreTrue tables seal core.facts
 
--- whether a trip runs
+-- a test whether a trip runs in an operating position
 abbrev pub is_busy : Operating → Bool
 is_busy Off = false
 is_busy ForHire = false
 is_busy Hired = true
 is_busy Stopped = true
 
--- how many steps the end of an interval takes at most: a charge looks up a local time, a holiday and a rate
+-- the end of an interval takes at most this many steps: a charge looks up a local time, a holiday and a rate
 abbrev pub counting_steps : Operating → ℕ
 counting_steps Hired = 36
 counting_steps operating = 0
 
--- and how many a key: a hiring looks up a local time, a holiday and an initial hire fee, a closing two local times
+-- a key takes at most this many steps: a hiring looks up a local time, a holiday and an initial hire fee, and a closing
+-- two local times
 abbrev pub pressing_steps : Operating → ℕ
 pressing_steps ForHire = 29
 pressing_steps operating = 12

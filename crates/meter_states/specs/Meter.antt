@@ -1,4 +1,5 @@
--- The states of the meter, and what a part of an event comes to: the next state and what the meter does, together.
+-- Rules: the states of the meter, and what a part of an event comes to, which is the next state and what the meter
+-- does.
 use Rattle.std.specs.Prelude.{ℕ, List, [], ◌∷◌, ◌++◌, Option}
 use Rattle.taxi_units.specs.declared.event.Key.{Key}
 use Rattle.taxi_units.specs.declared.event.Operating.{Operating}
@@ -15,7 +16,7 @@ use Rattle.meter_states.specs.declared.act.Act.{Act}
 use Rattle.meter_states.specs.declared.act.Act.TheVariants.{Refuse, Enter, Hold}
 use Rattle.meter_states.specs.declared.act.Act.TheVariants as acts
 
--- a state of the meter
+-- a state of the meter has these parts
 pub record Meter : Type 0 where
   pub operating : Operating
   -- the last accepted reading of the clock, and the second at which the running interval began
@@ -37,33 +38,33 @@ pub record Meter : Type 0 where
   -- what the store has after the commits so far
   pub durable : Durable
 
--- what an event, or a part of one, comes to
+-- an event, or a part of one, comes to the next state and the acts of the meter, in order
 pub record Outcome : Type 0 where
   pub next : Meter
   pub acts : List Act
 
--- one thing after the other
+-- an outcome, and then another from its state, come to the last state and the acts of both, in order
 infixl 10 ◌>>=◌
 abbrev pub ◌>>=◌ : Outcome → (Meter → Outcome) → Outcome
 o >>= f = record { next = (f o.next).next; acts = o.acts ++ (f o.next).acts }
 
--- nothing is done
+-- a meter is quiet where it does nothing and stays as it is
 abbrev pub quiet : Meter → Outcome
 quiet m = record { next = m; acts = [] }
 
--- something is refused
+-- a meter refuses something and stays as it is
 abbrev pub refused : Why → Meter → Outcome
 refused why m = record { next = m; acts = Refuse why ∷ [] }
 
--- an entry is committed
+-- a meter commits an entry, and its store has the state after it
 abbrev pub entered : Entry → Meter → Outcome
 entered entry m =
     record { next = record m { durable = after m.durable (changes.Enter entry) }; acts = Enter entry ∷ [] }
 
--- the saved form of a trip is committed
+-- a meter commits the saved form of a trip, and its store has the state after it
 abbrev pub held : store.Trip → Meter → Outcome
 held trip m = record { next = record m { durable = after m.durable (changes.Hold trip) }; acts = Hold trip ∷ [] }
 
--- a receipt is printed
+-- a meter prints a receipt and stays as it is
 abbrev pub printed : receipts.Receipt → Meter → Outcome
 printed receipt m = record { next = m; acts = acts.Receipt receipt ∷ [] }

@@ -1,4 +1,4 @@
--- Receipts and their entries, and what of a list of acts is committed.
+-- Rules: receipts and their entries, and what of a list of acts is committed.
 use Rattle.std.specs.Prelude.{◌≡◌, List, [], ◌∷◌, Option, Some, None}
 use Rattle.taxi_units.specs.declared.receipt.Kind.{Kind}
 use Rattle.taxi_units.specs.declared.receipt.Kind.TheVariants.{Roam}
@@ -9,7 +9,7 @@ use Rattle.totaliser_store.specs.declared.entry.Entry.{Entry}
 use Rattle.meter_states.specs.declared.act.Act.{Act}
 use Rattle.meter_states.specs.declared.act.Act.TheVariants.{Enter, Hold, Receipt}
 
--- the receipt is that of the entry
+-- a receipt is that of an entry where it has the entry's kind, position, distance, fare and supplements
 pub record IsReceiptOf (entry : Entry) (receipt : receipts.Receipt) : Type 0 where
   pub kind : receipt.kind ≡ entry.kind
   pub position : receipt.position ≡ entry.position
@@ -17,12 +17,13 @@ pub record IsReceiptOf (entry : Entry) (receipt : receipts.Receipt) : Type 0 whe
   pub fare : receipt.fare ≡ entry.fare
   pub supplements : receipt.supplements ≡ entry.supplements
 
--- which entry waits for its receipt: that of a hiring
+-- an entry of a kind waits for its receipt where it is one of a hiring
 abbrev pub waiting_after : Kind → Entry → Option Entry
 waiting_after Roam entry = None
 waiting_after kind entry = Some entry
 
--- each entry of a hiring stands directly before its receipt, and each receipt directly behind its entry
+-- acts are paired where each entry of a hiring stands directly before its receipt, and each receipt directly behind its
+-- entry; `waiting` is the entry directly before the acts whose receipt is still to come
 abbrev pub ArePaired : (waiting : Option Entry) → List Act → Type 0
 ArePaired None [] = Unit {0}
 ArePaired None (Enter entry ∷ acts) = ArePaired (waiting_after entry.kind entry) acts
@@ -31,7 +32,7 @@ ArePaired None (act ∷ acts) = ArePaired None acts
 ArePaired (Some entry) (Receipt receipt ∷ acts) = IsReceiptOf entry receipt × ArePaired None acts
 ArePaired (Some entry) acts = ⊥
 
--- what of a list of acts is committed, in order
+-- acts commit these changes, in order
 abbrev pub commits_of : List Act → List Change
 commits_of [] = []
 commits_of (Enter entry ∷ acts) = changes.Enter entry ∷ commits_of acts

@@ -1,8 +1,8 @@
--- The one refusal that leaves something behind.
+-- For proofs: the one refusal that leaves something behind.
 use Rattle.taxi_units.specs.declared.event.Why.{Why}
 use Rattle.taxi_units.specs.declared.event.Why.TheVariants.{TooFast}
 
--- pulses were too fast
+-- a reason is TooFast, with any number of pulses
 abbrev pub IsTooFast : Why → Type 0
 IsTooFast (TooFast n) = Unit {0}
 IsTooFast why = ⊥

@@ -1,4 +1,4 @@
--- A run: how it opens, its events one after the other, and the supply drop at its end.
+-- Rules: a run, how it opens, its events one after the other, and the supply drop at its end.
 use Rattle.std.specs.Prelude.{ℕ, ◌+◌, ◌*◌, List, [], ◌∷◌, ◌++◌, replicate, None, option_map}
 use Rattle.taxi_units.specs.Time.{first_second}
 use Rattle.taxi_units.specs.declared.event.Event.{Event}
@@ -13,12 +13,12 @@ use Rattle.meter_states.specs.Supply.{supply_dropped}
 use Rattle.meter_states.specs.Trip.{Trip}
 use Rattle.meter_states.specs.declared.act.Act.{Act}
 
--- so many of each number, from the first on
+-- counts say how often each number stands in a list, from `first` on, and this is that list in order
 abbrev pub numbers_from : (first : ℕ) → (counts : List ℕ) → List ℕ
 numbers_from first [] = []
 numbers_from first (count ∷ counts) = replicate count first ++ numbers_from (first + 1) counts
 
--- a held trip, whose list is what follows
+-- a held trip goes on as a trip whose opening has what was charged before, and whose list of intervals is what follows
 abbrev pub trip_of : Setting → store.Trip → Trip
 trip_of s trip = record {
   started = trip.started;
@@ -35,7 +35,8 @@ trip_of s trip = record {
   extras = numbers_from 1 trip.extras;
 }
 
--- the meter before the supply first comes, where the store has this durable state
+-- the meter is opened before the supply first comes, with what the store has: off, at the first second, with the held
+-- trip
 abbrev pub opened : Setting → Durable → Meter
 opened s durable = record {
   operating = Off;
@@ -51,27 +52,28 @@ opened s durable = record {
   durable = durable;
 }
 
--- the events of a list, one after the other
+-- a list of events comes to what its events come to, one after the other
 abbrev pub run : Setting → List Event → Meter → Outcome
 run s [] m = quiet m
 run s (event ∷ events) m = step s event m >>= run s events
 
--- one list, and then another
+-- two lists of events come to what the first comes to, and then the second
 abbrev pub run_both : Setting → (first second : List Event) → Meter → Outcome
 run_both s first second m = run s first m >>= run s second
 
--- the supply drops at the end, where the meter is powered
+-- a run ends in an operating position with a supply drop, where the meter is powered, and with nothing where it is off
 abbrev pub ended_in : Setting → Operating → Meter → Outcome
 ended_in s Off m = quiet m
 ended_in s operating m = supply_dropped s m
 
+-- a run ends in the meter's operating position
 abbrev pub ended : Setting → Meter → Outcome
 ended s m = ended_in s m.operating m
 
--- a whole run
+-- a whole run opens with what the store has, has its events, and ends
 abbrev pub whole_run : Setting → Durable → List Event → Outcome
 whole_run s durable events = run s events (opened s durable) >>= ended s
 
--- and what the meter does in it
+-- the meter does these acts in a whole run, in order
 abbrev pub actions_of : Setting → Durable → List Event → List Act
 actions_of s durable events = (whole_run s durable events).acts

@@ -1,4 +1,4 @@
--- What the meter goes by: its tariff and its secured parameters.
+-- Rules: what the meter goes by, its tariff and its secured parameters.
 use Rattle.std.specs.Prelude.{◌≡◌, ℕ, ◌*◌, List, ℤ}
 use Rattle.drive_modes.specs.declared.charges.Mode.{Mode}
 use Rattle.drive_modes.specs.declared.meterage.Rounding.{Rounding}
@@ -10,8 +10,8 @@ use Rattle.tariff_compile.specs.Tables.{TableParts, IsTablesOf, step_in}
 use Rattle.tariff_syntax.specs.Tree.{Tree}
 use Rattle.taxi_units.specs.declared.receipt.Stamp.{Stamp}
 
--- the tariff, the constant of the taximeter, how time and distance share in the fare, how long a trip may be held
--- without supply and go on then, and the offsets from UTC
+-- a setting has the tariff, the constant of the taximeter, how time and distance share in the fare, how long a trip may
+-- be held without supply and go on then, and the offsets from UTC
 pub record Setting : Type 0 where
   pub tariff : Tree
   pub constant : ℕ
@@ -19,47 +19,47 @@ pub record Setting : Type 0 where
   pub hold : ℕ
   pub offsets : List (ℕ × ℤ)
 
--- the tables are those of the tariff, under the constant
+-- tables are those of a setting where they are compiled from its tariff under its constant
 pub record IsTariffOf (s : Setting) (tables : TableParts) : Type 0 where
   pub compiled : IsTablesOf s.tariff tables
   pub constant : tables.constant ≡ s.constant
 
--- the seal secures the other settings
+-- a seal is that of a setting where it secures its constant, its mode, its hold and its offsets
 pub record IsSealOf (s : Setting) (seal : Seal) : Type 0 where
   pub constant : seal.params.constant ≡ s.constant
   pub mode : seal.params.mode ≡ s.mode
   pub hold : seal.params.hold ≡ s.hold
   pub offsets : seal.params.offsets ≡ s.offsets
 
--- so the tables were compiled with the seal's constant
+-- tables and a seal are those of a setting where both are, so the tables were compiled with the seal's constant
 pub record IsSettingOf (s : Setting) (tables : TableParts) (seal : Seal) : Type 0 where
   pub tariff : IsTariffOf s tables
   pub secured : IsSealOf s seal
 
--- M, the constant times the common measure: a unit of charge is 1/M of the smallest money unit
+-- the constant times the common measure of the tariff, this many units of charge make the smallest unit of money
 abbrev pub unit_of : Setting → ℕ
 unit_of s = s.constant * measure_of s.tariff.lines
 
--- the display step
+-- the tariff has this display step
 abbrev pub step_of : Setting → ℕ
 step_of s = (step_in s.tariff).0
 
--- how the fare is rounded to it
+-- the tariff rounds the fare to the display step so
 abbrev pub rounding_of : Setting → Rounding
 rounding_of s = (step_in s.tariff).1
 
--- what a display step takes, in units of charge
+-- a display step takes this many units of charge
 abbrev pub modulus_of : Setting → ℕ
 modulus_of s = step_of s * unit_of s
 
--- the local time at a second
+-- a second has this local time, by the offsets of the setting
 abbrev pub local_at : Setting → (second : ℕ) → LocalTime
 local_at s second = local_time_of (local_second s.offsets second)
 
--- the date and the second of the day of a local time
+-- a local time has the stamp of its date and its second of the day
 abbrev pub stamp_of : LocalTime → Stamp
 stamp_of local = record { year = local.year; month = local.month; date = local.date; second = local.second }
 
--- the local date and time at a second
+-- a second has the stamp of its local time
 abbrev pub stamp_at : Setting → (second : ℕ) → Stamp
 stamp_at s second = stamp_of (local_at s second)

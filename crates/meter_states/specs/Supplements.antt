@@ -1,47 +1,47 @@
--- The supplements of a trip, and how often each was added.
+-- Rules: the supplements of a trip, and how often each was added.
 use Rattle.std.specs.Prelude.{ℕ, zero, suc, ◌+◌, ◌*◌, ◌≤◌, ◌==◌, List, [], ◌∷◌, Option, Some, None, sum, map, count_by, get_or}
 use Rattle.tariff_compile.specs.Tables.{TableParts, supplement_at}
 use Rattle.tariff_compile.specs.declared.parts.Supplement.{Supplement}
 use Rattle.tariff_syntax.specs.Tree.{Tree}
 
--- the amount of a supplement, 0 without one
+-- a supplement that may be none has this amount, and none has 0
 abbrev pub amount_in : Option Supplement → ℕ
 amount_in None = 0
 amount_in (Some supplement) = supplement.amount
 
--- how often a hiring may have it, 0 without one
+-- a hiring may have a supplement that may be none this often, and none 0 times
 abbrev pub most_in : Option Supplement → ℕ
 most_in None = 0
 most_in (Some supplement) = supplement.max
 
--- the amounts of a list of supplement numbers, under a tariff
+-- supplements, listed by their numbers, have these amounts together under a tariff
 abbrev pub amounts_of : Tree → List ℕ → ℕ
 amounts_of t numbers = sum (map (λ number. amount_in (supplement_at t number)) numbers)
 
--- how often a number stands in a list
+-- a number stands this often in a list
 abbrev pub times : ℕ → List ℕ → ℕ
 times number numbers = count_by (λ n. n == number) numbers
 
--- how often each of so many numbers, from the first on, stands in a list
+-- each of `many` numbers, from `first` on, stands this often in a list
 unfoldable pub counts_from : (many first : ℕ) → List ℕ → List ℕ
 counts_from zero first numbers = []
 counts_from (suc many) first numbers = times first numbers ∷ counts_from many (first + 1) numbers
 
--- how often each of the numbers 1 to 16 stands in a list
+-- each of the numbers 1 to 16 stands this often in a list
 abbrev pub counts_of : List ℕ → List ℕ
 counts_of numbers = counts_from 16 1 numbers
 
--- the supplement of a number in the tables
+-- the tables have this supplement of a number, and none of the number 0
 abbrev pub supplement_in : TableParts → (number : ℕ) → Option Supplement
 supplement_in tables number = get_or (None ∷ tables.supplements) number None
 
--- no count of the numbers from the first on is above what a hiring may have
+-- counts of the numbers from `first` on are allowed where none is above what a hiring may have of its supplement
 abbrev pub AreAllowed : (supplement : ℕ → Option Supplement) → (first : ℕ) → (counts : List ℕ) → Type 0
 AreAllowed supplement first [] = Unit {0}
 AreAllowed supplement first (count ∷ counts) =
     (count ≤ most_in (supplement first)) × AreAllowed supplement (first + 1) counts
 
--- the sum of these counts times their amounts
+-- counts of the numbers from `first` on have these amounts together: each count times its supplement's amount
 abbrev pub amounts_from : (supplement : ℕ → Option Supplement) → (first : ℕ) → (counts : List ℕ) → ℕ
 amounts_from supplement first [] = 0
 amounts_from supplement first (count ∷ counts) =

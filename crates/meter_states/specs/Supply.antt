@@ -1,4 +1,4 @@
--- The supply: what a drop of it leaves, and what its coming finds.
+-- Rules: the supply, what a drop of it leaves, and what its coming finds.
 use Rattle.std.specs.Prelude.{ℕ, ◌+◌, Bool, true, false, ◌&&◌, [], Option, Some, None, sum, if◌then◌else◌, nat_le, nat_lt}
 use Rattle.taxi_units.specs.declared.event.Operating.{Operating}
 use Rattle.taxi_units.specs.declared.event.Operating.TheVariants.{Off, ForHire, Hired, Stopped}
@@ -11,36 +11,37 @@ use Rattle.meter_states.specs.Meter.{Meter, Outcome, ◌>>=◌, quiet, held}
 use Rattle.meter_states.specs.Setting.{Setting}
 use Rattle.meter_states.specs.Trip.{Trip, held_trip}
 
+-- a test whether an operating position is Stopped
 abbrev pub is_stopped : Operating → Bool
 is_stopped Off = false
 is_stopped ForHire = false
 is_stopped Hired = false
 is_stopped Stopped = true
 
--- a trip is held, or closed where the store takes no held trip
+-- a trip is held at a supply drop, or closed as aborted where the store takes no held trip
 abbrev pub trip_kept : Setting → Trip → Meter → Outcome
 trip_kept s t m =
     if nat_lt m.durable.number holds_end
     then held (held_trip s m.clock (is_stopped m.operating) m.position m.zone t) m
     else closed s Aborted m.clock m
 
--- without a trip roaming pulses are entered
+-- at a supply drop the trip is kept, and without one the roaming pulses, if there are any, are entered
 abbrev pub kept : Setting → Option Trip → Meter → Outcome
 kept s None m = if nat_lt 0 (sum m.roaming) then roaming_entered s m else quiet m
 kept s (Some t) m = trip_kept s t m
 
--- the meter is off, and a key that waited is lost
+-- the meter is turned off, and a key that waited is lost
 abbrev pub turned_off : Meter → Outcome
 turned_off m = quiet (record m { operating = Off; latch = None })
 
--- the supply drops
+-- a supply drop leaves the interval unfinished, keeps the trip or enters the roaming pulses, and turns the meter off
 abbrev pub supply_dropped : Setting → Meter → Outcome
 supply_dropped s m = do
   m ← interval_left m
   m ← kept s m.trip m
   turned_off m
 
--- the meter is powered at a second
+-- the meter is powered at a second: for hire, at that second, in position 1 and zone 1, with nothing counted or shown
 abbrev pub powered : (second : ℕ) → Meter → Meter
 powered second m = record m {
   operating = ForHire;
@@ -54,31 +55,32 @@ powered second m = record m {
   shown = None;
 }
 
--- the operating position in which a held trip goes on
+-- a held trip goes on in Stopped where it was stopped, and else in Hired
 abbrev pub running : (stopped : Bool) → Operating
 running true = Stopped
 running false = Hired
 
--- the supply was away for the hold at most
+-- a test whether a second is not before the supply drop, and not later than the hold after it
 abbrev pub is_within_hold : Setting → (second : ℕ) → store.Trip → Bool
 is_within_hold s second trip = nat_le trip.saved second && nat_le second (trip.saved + s.hold)
 
--- a held trip goes on, with its position and zone
+-- a held trip is resumed with its operating position, its position and its zone
 abbrev pub resumed : store.Trip → Meter → Outcome
 resumed trip m = quiet (record m { operating = running trip.stopped; position = trip.position; zone = trip.zone })
 
--- a held trip is closed at its position, and the position and the zone are the first
+-- a held trip is aborted: it is closed at its position and the second of its supply drop, and then the position and the
+-- zone are 1
 abbrev pub aborted : Setting → store.Trip → Meter → Outcome
 aborted s trip m = do
   m ← closed s Aborted trip.saved (record m { position = trip.position })
   quiet (record m { position = 1; zone = 1 })
 
--- what becomes of the held trip
+-- as the supply comes a held trip is resumed within the hold, and else aborted; without one there is no trip
 abbrev pub hold_taken : Setting → (second : ℕ) → Option store.Trip → Meter → Outcome
 hold_taken s second None m = quiet (record m { trip = None })
 hold_taken s second (Some trip) m = if is_within_hold s second trip then resumed trip m else aborted s trip m
 
--- the supply comes at a second, and the display is shown
+-- the supply comes at a second: the meter is powered, takes the held trip, and shows its display
 abbrev pub supply_came : Setting → (second : ℕ) → Meter → Outcome
 supply_came s second m = do
   m ← hold_taken s second m.durable.hold (powered second m)

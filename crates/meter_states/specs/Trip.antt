@@ -1,4 +1,4 @@
--- A trip, as the whole list of its intervals, and its fare.
+-- Rules: a trip, as the whole list of its intervals, and its fare.
 use Rattle.std.specs.Prelude.{ℕ, ◌+◌, ◌*◌, Bool, false, List, [], ◌∷◌, ◌++◌, map, sum}
 use Rattle.drive_modes.specs.Fare as fares
 use Rattle.drive_modes.specs.Fare.{saved, shown_fare, steps_above}
@@ -9,23 +9,23 @@ use Rattle.meter_states.specs.Charge.{charge_at}
 use Rattle.meter_states.specs.Setting.{Setting, modulus_of, rounding_of, step_of, unit_of}
 use Rattle.meter_states.specs.Supplements.{amounts_of, counts_of}
 
--- an interval that ended in Hired, with the context at its beginning, one that ended in Stopped, or the pulses of one
--- that a supply drop left unfinished
+-- a part of a trip is an interval that ended in Hired, with the context at its beginning, one that ended in Stopped, or
+-- the pulses of one that a supply drop left unfinished
 pub data Part : Type 0 where
   InHired : (pulses : ℕ) (x : Context) → Part
   InStopped : (pulses : ℕ) → Part
   Rest : (pulses : ℕ) → Part
 
--- what stands before the list: the cover that is left and what was charged above it, in units of charge, and pulses and
--- ticks
+-- the opening of a trip is what came before its parts: the cover that is left and what was charged above it, in units
+-- of charge, and the pulses and the ticks
 pub record Opening : Type 0 where
   pub cover : ℕ
   pub above : ℕ
   pub pulses : ℕ
   pub ticks : ℕ
 
--- a trip: its start second, initial hire fee and minimum fare, the pulses that were roamed before the hiring, its
--- opening, its intervals in order, and the numbers of its supplements in order
+-- a trip has its start second, its initial hire fee and its minimum fare, the pulses that were roamed before the
+-- hiring, its opening, its parts in order, and the numbers of its supplements in order
 pub record Trip : Type 0 where
   pub started : ℕ
   pub initial : ℕ
@@ -35,48 +35,49 @@ pub record Trip : Type 0 where
   pub parts : List Part
   pub extras : List ℕ
 
+-- a part has its pulses, of whichever kind it is
 abbrev pub pulses_in : Part → ℕ
 pulses_in (InHired p x) = p
 pulses_in (InStopped p) = p
 pulses_in (Rest p) = p
 
--- an unfinished interval counts no tick
+-- a part counts one tick where its interval ended, and none where it was left unfinished
 abbrev pub ticks_in : Part → ℕ
 ticks_in (InHired p x) = 1
 ticks_in (InStopped p) = 1
 ticks_in (Rest p) = 0
 
--- and only an interval in Hired is charged
+-- a part is charged where its interval ended in Hired, by the context at its beginning, and else it is free
 abbrev pub charge_in : Setting → Part → ℕ
 charge_in s (InHired p x) = charge_at s x p
 charge_in s (InStopped p) = 0
 charge_in s (Rest p) = 0
 
--- the pulses of a trip
+-- a trip has the pulses of its opening and of its parts
 abbrev pub pulses_of : Trip → ℕ
 pulses_of t = t.opening.pulses + sum (map pulses_in t.parts)
 
--- the ticks of a trip
+-- a trip has the ticks of its opening and of its parts
 abbrev pub ticks_of : Trip → ℕ
 ticks_of t = t.opening.ticks + sum (map ticks_in t.parts)
 
--- the sum of the charges of a trip
+-- a trip has charges of this sum, over its parts
 abbrev pub charges_of : Setting → Trip → ℕ
 charges_of s t = sum (map (charge_in s) t.parts)
 
--- where its charges begin
+-- the charges of a trip begin at its opening
 abbrev pub opening_of : Setting → Trip → fares.Opening
 opening_of s t = record { cover = t.opening.cover; above = t.opening.above; modulus = modulus_of s }
 
--- the display steps above the cover
+-- a trip shows this many display steps above the cover
 abbrev pub steps_shown : Setting → Trip → ℕ
 steps_shown s t = steps_above (rounding_of s) (opening_of s t) (charges_of s t)
 
--- the fare that is shown
+-- a trip shows this fare
 abbrev pub fare_of : Setting → Trip → ℕ
 fare_of s t = shown_fare t.initial t.minimum (step_of s) (steps_shown s t)
 
--- the trip that is hired at a second, after these roaming pulses
+-- a trip that is hired at a second, after some roaming pulses, begins with its fee and its cover, and has no parts yet
 abbrev pub begun : Setting → Initial → (second roam : ℕ) → Trip
 begun s fee second roam = record {
   started = second;
@@ -88,13 +89,15 @@ begun s fee second roam = record {
   extras = [];
 }
 
+-- a trip has one part more behind its own
 abbrev pub with_part : Part → Trip → Trip
 with_part part t = record t { parts = t.parts ++ part ∷ [] }
 
+-- a trip has one supplement more behind its own
 abbrev pub with_extra : (number : ℕ) → Trip → Trip
 with_extra number t = record t { extras = t.extras ++ number ∷ [] }
 
--- the saved form of a trip, but for what a supply drop adds
+-- a trip has this saved form, but for what a supply drop adds: when, how and where it was saved
 abbrev pub saved_of : Setting → Trip → store.Trip
 saved_of s t = record {
   started = t.started;
@@ -112,7 +115,7 @@ saved_of s t = record {
   extras_sum = amounts_of s.tariff t.extras;
 }
 
--- the saved form of a trip at a supply drop
+-- a trip has this saved form at a supply drop, with the second, whether it is stopped, the position and the zone
 abbrev pub held_trip : Setting → (second : ℕ) → (stopped : Bool) → (position zone : ℕ) → Trip → store.Trip
 held_trip s second stopped position zone t =
     record (saved_of s t) { saved = second; stopped = stopped; position = position; zone = zone }

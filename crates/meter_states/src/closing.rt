@@ -3,10 +3,10 @@ ghost use Rattle.std.specs.Prelude.{◌≡◌, ◌≢◌, ◌⊎◌, ◌<◌, �
 ghost use Rattle.taxi_units.specs.Time.{IsSecond};
 ghost use Rattle.taxi_units.specs.declared.event.Operating.TheVariants.{ForHire};
 ghost use Rattle.taxi_units.specs.declared.receipt.Kind.TheVariants.{Roam};
-ghost use Rattle.meter_states.specs.Acts.{IsLawfulAct};
+ghost use Rattle.meter_states.specs.Acts.{IsLawfulAct, StayLawful};
 ghost use Rattle.meter_states.specs.Closing.{closed, entry_of, receipt_of, roaming_checked, roaming_entered, trip_closed};
 ghost use Rattle.meter_states.specs.Core.{Follows, plain_of};
-ghost use Rattle.meter_states.specs.Lawful.{IsPowered, IsTripBeside};
+ghost use Rattle.meter_states.specs.Lawful.{IsAmidEvent, IsBetweenEvents, IsPowered, IsTripBeside};
 ghost use Rattle.meter_states.specs.Meter.{Meter, entered, printed};
 ghost use Rattle.meter_states.specs.Setting.{Setting, IsSettingOf};
 ghost use Rattle.meter_states.specs.Trip as model;
@@ -19,6 +19,9 @@ use std::sync::ledger::Ledger;
 use tariff_compile::Tables;
 use taxi_units::{Kind, Operating, Steps};
 use totaliser_store::Trip;
+
+/// Roaming pulses are entered as soon as they are this many.
+const ROAMING_MOST: u32 = 1_000_000;
 
 impl State {
     /// The trip is closed, and the meter is for hire. At most 12 steps.
@@ -35,11 +38,10 @@ impl State {
         requires kind { closing.kind ≢ Roam }
         requires finish { IsSecond closing.finish }
         requires room { length acts.old.items ≤ 1 }
-        ensures lawful { IsPowered tables.now 8639999 999999 0 self.new }
+        ensures lawful { IsBetweenEvents tables.now self.new }
         ensures few { length acts.new.items ≤ length acts.old.items + 2 }
         ensures roam { self.new.roam ≡ 0 }
-        ensures ranges { All (IsLawfulAct tables.now self.old.number) acts.old.items
-            → All (IsLawfulAct tables.now self.old.number) acts.new.items }
+        ensures ranges { StayLawful tables.now self.old.number acts.old.items acts.new.items }
         ensures follows { (s : Setting) (m : Meter) → IsSettingOf s tables.now seal.now → self.old ≡ plain_of s m
             → Follows s self.new acts.old.items acts.new.items (closed s closing.kind closing.finish m) }
         ensures steps { steps.new ≤ steps.old + 12 }
@@ -70,8 +72,7 @@ impl State {
         requires room { length acts.old.items ≤ 1 }
         ensures number { self.new ≡ record self.old { number = self.old.number + 1 } }
         ensures few { length acts.new.items ≤ length acts.old.items + 2 }
-        ensures ranges { All (IsLawfulAct tables.now self.old.number) acts.old.items
-            → All (IsLawfulAct tables.now self.old.number) acts.new.items }
+        ensures ranges { StayLawful tables.now self.old.number acts.old.items acts.new.items }
         ensures follows { (s : Setting) (m : Meter) (t : model.Trip) → IsSettingOf s tables.now seal.now
             → trip.now ≡ model.saved_of s t → self.old ≡ plain_of s m
             → Follows s self.new acts.old.items acts.new.items (trip_closed s closing.kind closing.finish (Some t) m) }
@@ -90,8 +91,7 @@ impl State {
         requires room { length acts.old.items ≤ 3 }
         ensures number { self.new ≡ record self.old { number = self.old.number + 1 } }
         ensures few { length acts.new.items ≤ length acts.old.items + 1 }
-        ensures ranges { All (IsLawfulAct tables.now self.old.number) acts.old.items
-            → All (IsLawfulAct tables.now self.old.number) acts.new.items }
+        ensures ranges { StayLawful tables.now self.old.number acts.old.items acts.new.items }
         ensures follows { (s : Setting) (m : Meter) (t : model.Trip) → IsSettingOf s tables.now seal.now
             → trip.now ≡ model.saved_of s t → self.old ≡ plain_of s m
             → Follows s self.new acts.old.items acts.new.items (entered (entry_of s kind m.position t) m) }
@@ -138,9 +138,9 @@ impl State {
 
     /// Roaming pulses are entered for hire where they are many.
     pub(crate) fn check_roaming(&mut self, tables: &Tables, seal: &Seal, acts: &mut Acts)
-        requires lawful { IsPowered tables.now 8639999 1001999 0 self.old }
+        requires lawful { IsAmidEvent tables.now self.old }
         requires room { (length acts.old.items ≤ 1) ⊎ ((length acts.old.items ≤ 3) × (self.old.roam ≡ 0)) }
-        ensures lawful { IsPowered tables.now 8639999 999999 0 self.new }
+        ensures lawful { IsBetweenEvents tables.now self.new }
         ensures few { length acts.new.items ≤ 3 }
         ensures ranges { (number : ℕ) → (self.old.number ≡ number) ⊎ (self.old.roam ≡ 0)
             → All (IsLawfulAct tables.now number) acts.old.items
@@ -150,7 +150,7 @@ impl State {
     {
         match self.operating {
             Operating::ForHire => {
-                if self.roam >= 1_000_000 {
+                if self.roam >= ROAMING_MOST {
                     self.enter_roaming(tables, seal, acts);
                 }
             }
@@ -164,10 +164,9 @@ impl State {
         requires hire { self.old.operating ≡ ForHire }
         requires some { 0 < self.old.roam }
         requires room { length acts.old.items ≤ 3 }
-        ensures lawful { IsPowered tables.now 8639999 999999 0 self.new }
+        ensures lawful { IsBetweenEvents tables.now self.new }
         ensures few { length acts.new.items ≤ length acts.old.items + 1 }
-        ensures ranges { All (IsLawfulAct tables.now self.old.number) acts.old.items
-            → All (IsLawfulAct tables.now self.old.number) acts.new.items }
+        ensures ranges { StayLawful tables.now self.old.number acts.old.items acts.new.items }
         ensures follows { (s : Setting) (m : Meter) → IsSettingOf s tables.now seal.now → self.old ≡ plain_of s m
             → Follows s self.new acts.old.items acts.new.items (roaming_entered s m) }
     {

@@ -5,7 +5,7 @@ ghost use Rattle.meter_states.specs.Acts.{IsLawfulAct};
 ghost use Rattle.meter_states.specs.Core.{Follows, plain_of};
 ghost use Rattle.meter_states.specs.Display.{display_of, extras_shown, fare_shown, shown};
 ghost use Rattle.meter_states.specs.Equals.{display_by, extras_by, fare_by};
-ghost use Rattle.meter_states.specs.Lawful.{IsPowered};
+ghost use Rattle.meter_states.specs.Lawful.{IsBetweenEvents};
 ghost use Rattle.meter_states.specs.Meter.{Meter};
 ghost use Rattle.meter_states.specs.Setting.{Setting, IsSettingOf};
 
@@ -20,9 +20,9 @@ use taxi_units::Display;
 impl State {
     /// The display is shown where it differs from the one that was shown last.
     pub(crate) fn show(&mut self, tables: &Tables, seal: &Seal, acts: &mut Acts)
-        requires lawful { IsPowered tables.now 8639999 999999 0 self.old }
+        requires lawful { IsBetweenEvents tables.now self.old }
         requires room { length acts.old.items ≤ 3 }
-        ensures lawful { IsPowered tables.now 8639999 999999 0 self.new }
+        ensures lawful { IsBetweenEvents tables.now self.new }
         ensures ranges { (number : ℕ) → All (IsLawfulAct tables.now number) acts.old.items
             → All (IsLawfulAct tables.now number) acts.new.items }
         ensures follows { (s : Setting) (m : Meter) → IsSettingOf s tables.now seal.now → self.old ≡ plain_of s m
@@ -37,7 +37,7 @@ impl State {
 
     /// What is shown now.
     pub(crate) fn display(&self, tables: &Tables, seal: &Seal) -> Display
-        requires lawful { IsPowered tables.now 8639999 999999 0 self.now }
+        requires lawful { IsBetweenEvents tables.now self.now }
         ensures value { (s : Setting) (m : Meter) → IsSettingOf s tables.now seal.now → self.now ≡ plain_of s m
             → result ≡ display_of s m }
         ensures exact { result ≡ display_by tables.now self.now }
@@ -55,7 +55,7 @@ impl State {
 
     /// The fare of the trip, 0 without one.
     fn fare(&self, tables: &Tables, seal: &Seal) -> u64
-        requires lawful { IsPowered tables.now 8639999 999999 0 self.now }
+        requires lawful { IsBetweenEvents tables.now self.now }
         ensures value { (s : Setting) (m : Meter) → IsSettingOf s tables.now seal.now → self.now ≡ plain_of s m
             → result ≡ fare_shown s m.trip }
         ensures exact { result ≡ fare_by tables.now self.now.trip }

@@ -35,7 +35,7 @@ pub const ROWS: [(&[Event], u32, u32); 9] = [
     (&[Event::Down, UP], 30, 300),
 ];
 
-/// The same in each field.
+/// Whether two states are the same in each field.
 pub(crate) fn is_same(a: &State, b: &State) -> bool {
     a.operating == b.operating
         && a.clock == b.clock

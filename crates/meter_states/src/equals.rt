@@ -8,7 +8,7 @@ ghost use Rattle.meter_states.specs.Core.{Follows, Meets, Stands, plain_of};
 ghost use Rattle.meter_states.specs.Equals.{IsStill, intervals_of};
 ghost use Rattle.meter_states.specs.Facts.{AreTrue};
 ghost use Rattle.meter_states.specs.Interval.{context_of};
-ghost use Rattle.meter_states.specs.Lawful.{IsLawful, IsPowered};
+ghost use Rattle.meter_states.specs.Lawful.{IsBetweenEvents, IsLawful};
 ghost use Rattle.meter_states.specs.Meter.{Meter};
 ghost use Rattle.meter_states.specs.Run.{run};
 ghost use Rattle.meter_states.specs.Setting.{Setting, IsSettingOf};
@@ -48,7 +48,7 @@ impl Core {
 }
 
 impl State {
-    /// The same, while the meter is powered.
+    /// Takes equal intervals, as many of these as it can at once, while the meter is powered.
     fn take_equal(
         &mut self,
         facts: &Facts,
@@ -57,9 +57,9 @@ impl State {
         pulses: u32,
         count: u32,
     ) -> u32
-        requires lawful { IsPowered tables.now 8639999 999999 0 self.old }
+        requires lawful { IsBetweenEvents tables.now self.old }
         requires facts { AreTrue tables.now seal.now facts.now }
-        ensures lawful { IsPowered tables.now 8639999 999999 0 self.new }
+        ensures lawful { IsBetweenEvents tables.now self.new }
         ensures most { result ≤ count }
         ensures same { (self.new.operating ≡ self.old.operating) × (self.new.number ≡ self.old.number) }
         ensures follows { (s : Setting) (m : Meter) → IsSettingOf s tables.now seal.now → self.old ≡ plain_of s m
@@ -82,7 +82,7 @@ impl State {
     /// Whether the interval began at the clock's second and has no pulses yet, no key waits, and the
     /// display is shown.
     fn is_still(&self, tables: &Tables, seal: &Seal) -> bool
-        requires lawful { IsPowered tables.now 8639999 999999 0 self.now }
+        requires lawful { IsBetweenEvents tables.now self.now }
         ensures { IsTrue result → IsStill tables.now self.now }
     {
         let display = self.display(tables, seal);
@@ -95,11 +95,11 @@ impl State {
 
     /// As many of so many equal intervals for hire as enter no roaming.
     fn roam_equal(&mut self, tables: &Tables, seal: &Seal, pulses: u32, count: u32) -> u32
-        requires lawful { IsPowered tables.now 8639999 999999 0 self.old }
+        requires lawful { IsBetweenEvents tables.now self.old }
         requires hire { self.old.operating ≡ ForHire }
         requires still { IsStill tables.now self.old }
         requires pulses { pulses ≤ 2000 }
-        ensures lawful { IsPowered tables.now 8639999 999999 0 self.new }
+        ensures lawful { IsBetweenEvents tables.now self.new }
         ensures most { result ≤ count }
         ensures same { (self.new.operating ≡ self.old.operating) × (self.new.number ≡ self.old.number) }
         ensures follows { (s : Setting) (m : Meter) → IsSettingOf s tables.now seal.now → self.old ≡ plain_of s m
@@ -114,11 +114,11 @@ impl State {
 
     /// As many of so many equal intervals in Stopped as don't end the trip.
     fn pass_equal(&mut self, tables: &Tables, seal: &Seal, pulses: u32, count: u32) -> u32
-        requires lawful { IsPowered tables.now 8639999 999999 0 self.old }
+        requires lawful { IsBetweenEvents tables.now self.old }
         requires stopped { self.old.operating ≡ Stopped }
         requires still { IsStill tables.now self.old }
         requires pulses { pulses ≤ 2000 }
-        ensures lawful { IsPowered tables.now 8639999 999999 0 self.new }
+        ensures lawful { IsBetweenEvents tables.now self.new }
         ensures most { result ≤ count }
         ensures same { (self.new.operating ≡ self.old.operating) × (self.new.number ≡ self.old.number) }
         ensures follows { (s : Setting) (m : Meter) → IsSettingOf s tables.now seal.now → self.old ≡ plain_of s m
@@ -143,12 +143,12 @@ impl State {
         pulses: u32,
         count: u32,
     ) -> u32
-        requires lawful { IsPowered tables.now 8639999 999999 0 self.old }
+        requires lawful { IsBetweenEvents tables.now self.old }
         requires facts { AreTrue tables.now seal.now facts.now }
         requires hired { self.old.operating ≡ Hired }
         requires still { IsStill tables.now self.old }
         requires pulses { pulses ≤ 2000 }
-        ensures lawful { IsPowered tables.now 8639999 999999 0 self.new }
+        ensures lawful { IsBetweenEvents tables.now self.new }
         ensures most { result ≤ count }
         ensures same { (self.new.operating ≡ self.old.operating) × (self.new.number ≡ self.old.number) }
         ensures follows { (s : Setting) (m : Meter) → IsSettingOf s tables.now seal.now → self.old ≡ plain_of s m
@@ -172,7 +172,7 @@ impl State {
 
     /// What the running interval weighs, and for how many further pulses and ticks, where that is kept.
     fn kept_rate(&self, facts: &Facts, tables: &Tables, seal: &Seal) -> Option<Lasting>
-        requires lawful { IsPowered tables.now 8639999 999999 0 self.now }
+        requires lawful { IsBetweenEvents tables.now self.now }
         requires facts { AreTrue tables.now seal.now facts.now }
         ensures fit { IfSome result (λ lasting. AreFit tables.now.measure lasting.weights) }
         ensures range { IfSome result (λ lasting. (s : Setting) (m : Meter) → IsSettingOf s tables.now seal.now

@@ -82,7 +82,7 @@ fn is_near(rate: &RateFacts, x: &Context) -> bool
         && first.zone == x.zone
 }
 
-/// The same weights, seen from a context that they hold for.
+/// The weights of these facts, and how far they last from a context that they hold for.
 fn lasting_from(rate: &RateFacts, x: &Context) -> Lasting
     requires { IsNear rate.now.lasting.further rate.now.lasting.longer rate.now.first x.now }
     ensures weights { result.weights ≡ rate.now.lasting.weights }

@@ -1,11 +1,11 @@
 //! The measuring interval: its pulses, the context of its beginning, and what it becomes at its end.
-ghost use Rattle.std.specs.Prelude.{◌≡◌, ◌≤◌, ◌+◌, ◌≢◌, ℕ, [], All, None, sum};
+ghost use Rattle.std.specs.Prelude.{◌≡◌, ◌≤◌, ◌+◌, ◌≢◌, ℕ, [], None, sum};
 ghost use Rattle.taxi_units.specs.declared.event.Operating.TheVariants.{ForHire, Hired, Stopped};
-ghost use Rattle.meter_states.specs.Acts.{IsLawfulAct};
+ghost use Rattle.meter_states.specs.Acts.{StayLawful};
 ghost use Rattle.meter_states.specs.Core.{Follows, plain_of};
 ghost use Rattle.meter_states.specs.Facts.{AreTrue};
 ghost use Rattle.meter_states.specs.Interval.{counted_in, interval_counted, interval_left, left_in, pulses_taken};
-ghost use Rattle.meter_states.specs.Lawful.{IsPowered, counting_steps};
+ghost use Rattle.meter_states.specs.Lawful.{IsAmidEvent, IsBetweenEvents, IsPowered, counting_steps};
 ghost use Rattle.meter_states.specs.Meter.{Meter};
 ghost use Rattle.meter_states.specs.Setting.{Setting, IsSettingOf};
 
@@ -24,11 +24,10 @@ pub(crate) const HIRINGS_END: u64 = 1_000_000_000_000_000;
 impl State {
     /// The interval takes the pulses that it has room for, and the others are refused.
     pub(crate) fn take_pulses(&mut self, tables: &Tables, n: u32, acts: &mut Acts)
-        requires lawful { IsPowered tables.now 8639999 999999 0 self.old }
+        requires lawful { IsBetweenEvents tables.now self.old }
         requires room { acts.old.items ≡ [] }
-        ensures lawful { IsPowered tables.now 8639999 999999 0 self.new }
-        ensures ranges { All (IsLawfulAct tables.now self.old.number) acts.old.items
-            → All (IsLawfulAct tables.now self.old.number) acts.new.items }
+        ensures lawful { IsBetweenEvents tables.now self.new }
+        ensures ranges { StayLawful tables.now self.old.number acts.old.items acts.new.items }
         ensures follows { (s : Setting) (m : Meter) → self.old ≡ plain_of s m
             → Follows s self.new acts.old.items acts.new.items (pulses_taken n m) }
     {
@@ -46,7 +45,7 @@ impl State {
         seal: &Seal,
         steps: &mut Steps<L>,
     )
-        requires lawful { IsPowered tables.now 8639999 999999 0 self.old }
+        requires lawful { IsBetweenEvents tables.now self.old }
         requires facts { AreTrue tables.now seal.now facts.old }
         ensures lawful { IsPowered tables.now 8640000 1001999 0 self.new }
         ensures facts { AreTrue tables.now seal.now facts.new }
@@ -65,9 +64,9 @@ impl State {
 
     /// The interval roams, while the store takes hirings.
     fn roam_interval(&mut self, tables: &Tables)
-        requires lawful { IsPowered tables.now 8639999 999999 0 self.old }
+        requires lawful { IsBetweenEvents tables.now self.old }
         requires hire { self.old.operating ≡ ForHire }
-        ensures lawful { IsPowered tables.now 8639999 1001999 0 self.new }
+        ensures lawful { IsAmidEvent tables.now self.new }
         ensures same { (self.new.operating ≡ self.old.operating) × (self.new.number ≡ self.old.number) }
         ensures state { (s : Setting) (m : Meter) → self.old ≡ plain_of s m
             → self.new ≡ plain_of s (counted_in s ForHire (sum m.taken) m) }
@@ -86,7 +85,7 @@ impl State {
         seal: &Seal,
         steps: &mut Steps<L>,
     )
-        requires lawful { IsPowered tables.now 8639999 999999 0 self.old }
+        requires lawful { IsBetweenEvents tables.now self.old }
         requires facts { AreTrue tables.now seal.now facts.old }
         requires on { self.old.operating ≡ Hired }
         ensures lawful { IsPowered tables.now 8640000 999999 0 self.new }
@@ -105,7 +104,7 @@ impl State {
 
     /// The interval passes.
     fn pass_interval(&mut self, tables: &Tables)
-        requires lawful { IsPowered tables.now 8639999 999999 0 self.old }
+        requires lawful { IsBetweenEvents tables.now self.old }
         requires on { self.old.operating ≡ Stopped }
         ensures lawful { IsPowered tables.now 8640000 999999 0 self.new }
         ensures same { (self.new.operating ≡ self.old.operating) × (self.new.number ≡ self.old.number) }
@@ -120,7 +119,7 @@ impl State {
 
     /// A supply drop leaves the interval unfinished.
     pub(crate) fn leave_interval(&mut self, tables: &Tables)
-        requires lawful { IsPowered tables.now 8639999 999999 0 self.old }
+        requires lawful { IsBetweenEvents tables.now self.old }
         ensures lawful { IsPowered tables.now 8639999 1001999 1 self.new }
         ensures same { (self.new.operating ≡ self.old.operating) × (self.new.number ≡ self.old.number) }
         ensures state { (s : Setting) (m : Meter) → self.old ≡ plain_of s m
@@ -136,7 +135,7 @@ impl State {
 
     /// The trip takes the pulses of the unfinished interval.
     fn leave_trip(&mut self, tables: &Tables)
-        requires lawful { IsPowered tables.now 8639999 999999 0 self.old }
+        requires lawful { IsBetweenEvents tables.now self.old }
         requires trip { self.old.trip ≢ None }
         ensures lawful { IsPowered tables.now 8639999 999999 1 self.new }
         ensures same { (self.new.operating ≡ self.old.operating) × (self.new.number ≡ self.old.number) }

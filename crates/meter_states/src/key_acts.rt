@@ -1,14 +1,14 @@
 //! What keys do.
-ghost use Rattle.std.specs.Prelude.{◌≡◌, ◌≢◌, ◌⊎◌, ◌≤◌, ◌+◌, ℕ, [], All, None, Some, length};
+ghost use Rattle.std.specs.Prelude.{◌≡◌, ◌≢◌, ◌⊎◌, ◌≤◌, ◌+◌, ℕ, [], None, Some, length};
 ghost use Rattle.tariff_compile.specs.Tables.{IsFitInitial, initial_by, supplement_at};
 ghost use Rattle.taxi_units.specs.declared.event.Operating.TheVariants.{ForHire};
 ghost use Rattle.taxi_units.specs.declared.receipt.Kind.TheVariants.{Closed};
-ghost use Rattle.meter_states.specs.Acts.{IsLawfulAct};
+ghost use Rattle.meter_states.specs.Acts.{StayLawful};
 ghost use Rattle.meter_states.specs.Closing.{closed};
 ghost use Rattle.meter_states.specs.Core.{Follows, plain_of};
 ghost use Rattle.meter_states.specs.Interval.{context_now};
 ghost use Rattle.meter_states.specs.Keys.{extra_added, extra_added_to, hiring, key_in, key_pressed, latched, position_set, zone_set};
-ghost use Rattle.meter_states.specs.Lawful.{IsPowered, pressing_steps};
+ghost use Rattle.meter_states.specs.Lawful.{IsAmidEvent, IsBetweenEvents, pressing_steps};
 ghost use Rattle.meter_states.specs.Meter.{Meter};
 ghost use Rattle.meter_states.specs.Setting.{Setting, IsSettingOf};
 ghost use Rattle.meter_states.specs.Supplements.{supplement_in};
@@ -33,14 +33,13 @@ impl State {
         acts: &mut Acts,
         steps: &mut Steps<L>,
     )
-        requires lawful { IsPowered tables.now 8639999 1001999 0 self.old }
+        requires lawful { IsAmidEvent tables.now self.old }
         requires hire { self.old.operating ≡ ForHire }
         requires room { acts.old.items ≡ [] }
-        ensures lawful { IsPowered tables.now 8639999 1001999 0 self.new }
+        ensures lawful { IsAmidEvent tables.now self.new }
         ensures few { length acts.new.items ≤ 1 }
         ensures number { self.new.number ≡ self.old.number }
-        ensures ranges { All (IsLawfulAct tables.now self.old.number) acts.old.items
-            → All (IsLawfulAct tables.now self.old.number) acts.new.items }
+        ensures ranges { StayLawful tables.now self.old.number acts.old.items acts.new.items }
         ensures follows { (s : Setting) (m : Meter) → IsSettingOf s tables.now seal.now → self.old ≡ plain_of s m
             → Follows s self.new acts.old.items acts.new.items (hiring s m) }
         ensures steps { steps.new ≤ steps.old + 29 }
@@ -57,7 +56,7 @@ impl State {
 
     /// What a hiring begins with at the clock's second. At most 29 steps.
     fn fee<L: Ledger>(&self, tables: &Tables, seal: &Seal, steps: &mut Steps<L>) -> Initial
-        requires lawful { IsPowered tables.now 8639999 1001999 0 self.now }
+        requires lawful { IsAmidEvent tables.now self.now }
         ensures value { (s : Setting) (m : Meter) → IsSettingOf s tables.now seal.now → self.now ≡ plain_of s m
             → result ≡ initial_by s.tariff (context_now s m) }
         ensures fit { IsFitInitial result }
@@ -75,14 +74,13 @@ impl State {
         acts: &mut Acts,
         steps: &mut Steps<L>,
     )
-        requires lawful { IsPowered tables.now 8639999 1001999 0 self.old }
+        requires lawful { IsAmidEvent tables.now self.old }
         requires trip { self.old.trip ≢ None }
         requires room { acts.old.items ≡ [] }
-        ensures lawful { IsPowered tables.now 8639999 999999 0 self.new }
+        ensures lawful { IsBetweenEvents tables.now self.new }
         ensures few { length acts.new.items ≤ 2 }
         ensures roam { self.new.roam ≡ 0 }
-        ensures ranges { All (IsLawfulAct tables.now self.old.number) acts.old.items
-            → All (IsLawfulAct tables.now self.old.number) acts.new.items }
+        ensures ranges { StayLawful tables.now self.old.number acts.old.items acts.new.items }
         ensures follows { (s : Setting) (m : Meter) → IsSettingOf s tables.now seal.now → self.old ≡ plain_of s m
             → Follows s self.new acts.old.items acts.new.items (closed s Closed m.clock m) }
         ensures steps { steps.new ≤ steps.old + 12 }
@@ -96,13 +94,12 @@ impl State {
 
     /// A tariff position is chosen.
     pub(crate) fn set_position(&mut self, n: u8, tables: &Tables, seal: &Seal, acts: &mut Acts)
-        requires lawful { IsPowered tables.now 8639999 1001999 0 self.old }
+        requires lawful { IsAmidEvent tables.now self.old }
         requires room { acts.old.items ≡ [] }
-        ensures lawful { IsPowered tables.now 8639999 1001999 0 self.new }
+        ensures lawful { IsAmidEvent tables.now self.new }
         ensures few { length acts.new.items ≤ 1 }
         ensures number { self.new.number ≡ self.old.number }
-        ensures ranges { All (IsLawfulAct tables.now self.old.number) acts.old.items
-            → All (IsLawfulAct tables.now self.old.number) acts.new.items }
+        ensures ranges { StayLawful tables.now self.old.number acts.old.items acts.new.items }
         ensures follows { (s : Setting) (m : Meter) → IsSettingOf s tables.now seal.now → self.old ≡ plain_of s m
             → Follows s self.new acts.old.items acts.new.items (position_set s n m) }
     {
@@ -115,13 +112,12 @@ impl State {
 
     /// A zone is chosen.
     pub(crate) fn set_zone(&mut self, n: u8, tables: &Tables, seal: &Seal, acts: &mut Acts)
-        requires lawful { IsPowered tables.now 8639999 1001999 0 self.old }
+        requires lawful { IsAmidEvent tables.now self.old }
         requires room { acts.old.items ≡ [] }
-        ensures lawful { IsPowered tables.now 8639999 1001999 0 self.new }
+        ensures lawful { IsAmidEvent tables.now self.new }
         ensures few { length acts.new.items ≤ 1 }
         ensures number { self.new.number ≡ self.old.number }
-        ensures ranges { All (IsLawfulAct tables.now self.old.number) acts.old.items
-            → All (IsLawfulAct tables.now self.old.number) acts.new.items }
+        ensures ranges { StayLawful tables.now self.old.number acts.old.items acts.new.items }
         ensures follows { (s : Setting) (m : Meter) → IsSettingOf s tables.now seal.now → self.old ≡ plain_of s m
             → Follows s self.new acts.old.items acts.new.items (zone_set s n m) }
     {
@@ -141,13 +137,12 @@ impl State {
         acts: &mut Acts,
         steps: &mut Steps<L>,
     )
-        requires lawful { IsPowered tables.now 8639999 1001999 0 self.old }
+        requires lawful { IsAmidEvent tables.now self.old }
         requires room { acts.old.items ≡ [] }
-        ensures lawful { IsPowered tables.now 8639999 1001999 0 self.new }
+        ensures lawful { IsAmidEvent tables.now self.new }
         ensures few { length acts.new.items ≤ 1 }
         ensures number { self.new.number ≡ self.old.number }
-        ensures ranges { All (IsLawfulAct tables.now self.old.number) acts.old.items
-            → All (IsLawfulAct tables.now self.old.number) acts.new.items }
+        ensures ranges { StayLawful tables.now self.old.number acts.old.items acts.new.items }
         ensures follows { (s : Setting) (m : Meter) → IsSettingOf s tables.now seal.now → self.old ≡ plain_of s m
             → Follows s self.new acts.old.items acts.new.items (extra_added n (supplement_at s.tariff n) m) }
         ensures steps { steps.new ≤ steps.old + 1 }
@@ -168,16 +163,15 @@ impl State {
         seal: &Seal,
         acts: &mut Acts,
     )
-        requires lawful { IsPowered tables.now 8639999 1001999 0 self.old }
+        requires lawful { IsAmidEvent tables.now self.old }
         requires number { (1 ≤ n) × (n ≤ 16) }
         requires found { supplement_in tables.now n ≡ Some supplement }
         requires amount { supplement.amount ≤ 1000000 }
         requires room { acts.old.items ≡ [] }
-        ensures lawful { IsPowered tables.now 8639999 1001999 0 self.new }
+        ensures lawful { IsAmidEvent tables.now self.new }
         ensures few { length acts.new.items ≤ 1 }
         ensures number { self.new.number ≡ self.old.number }
-        ensures ranges { All (IsLawfulAct tables.now self.old.number) acts.old.items
-            → All (IsLawfulAct tables.now self.old.number) acts.new.items }
+        ensures ranges { StayLawful tables.now self.old.number acts.old.items acts.new.items }
         ensures follows { (s : Setting) (m : Meter) → IsSettingOf s tables.now seal.now → self.old ≡ plain_of s m
             → Follows s self.new acts.old.items acts.new.items (extra_added_to n supplement m.trip m) }
     {

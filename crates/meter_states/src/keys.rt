@@ -1,14 +1,14 @@
 //! Keys: one may wait for the end of the interval, and acts then.
-ghost use Rattle.std.specs.Prelude.{◌≡◌, ◌≢◌, ◌⊎◌, ◌≤◌, ◌+◌, ℕ, [], All, None, Some, length};
+ghost use Rattle.std.specs.Prelude.{◌≡◌, ◌≢◌, ◌⊎◌, ◌≤◌, ◌+◌, ℕ, [], None, Some, length};
 ghost use Rattle.tariff_compile.specs.Tables.{IsFitInitial, initial_by, supplement_at};
 ghost use Rattle.taxi_units.specs.declared.event.Operating.TheVariants.{ForHire};
 ghost use Rattle.taxi_units.specs.declared.receipt.Kind.TheVariants.{Closed};
-ghost use Rattle.meter_states.specs.Acts.{IsLawfulAct};
+ghost use Rattle.meter_states.specs.Acts.{StayLawful};
 ghost use Rattle.meter_states.specs.Closing.{closed};
 ghost use Rattle.meter_states.specs.Core.{Follows, plain_of};
 ghost use Rattle.meter_states.specs.Interval.{context_now};
 ghost use Rattle.meter_states.specs.Keys.{extra_added, extra_added_to, hiring, key_in, key_pressed, latched, position_set, zone_set};
-ghost use Rattle.meter_states.specs.Lawful.{IsPowered, pressing_steps};
+ghost use Rattle.meter_states.specs.Lawful.{IsAmidEvent, IsBetweenEvents, pressing_steps};
 ghost use Rattle.meter_states.specs.Meter.{Meter};
 ghost use Rattle.meter_states.specs.Setting.{Setting, IsSettingOf};
 ghost use Rattle.meter_states.specs.Supplements.{supplement_in};
@@ -23,11 +23,10 @@ use taxi_units::{Key, Operating, Steps, Why};
 impl State {
     /// A key waits for the end of the interval, where none does.
     pub(crate) fn take_key(&mut self, tables: &Tables, key: Key, acts: &mut Acts)
-        requires lawful { IsPowered tables.now 8639999 999999 0 self.old }
+        requires lawful { IsBetweenEvents tables.now self.old }
         requires room { acts.old.items ≡ [] }
-        ensures lawful { IsPowered tables.now 8639999 999999 0 self.new }
-        ensures ranges { All (IsLawfulAct tables.now self.old.number) acts.old.items
-            → All (IsLawfulAct tables.now self.old.number) acts.new.items }
+        ensures lawful { IsBetweenEvents tables.now self.new }
+        ensures ranges { StayLawful tables.now self.old.number acts.old.items acts.new.items }
         ensures follows { (s : Setting) (m : Meter) → self.old ≡ plain_of s m
             → Follows s self.new acts.old.items acts.new.items (latched m.latch key m) }
     {
@@ -46,13 +45,12 @@ impl State {
         acts: &mut Acts,
         steps: &mut Steps<L>,
     )
-        requires lawful { IsPowered tables.now 8639999 1001999 0 self.old }
+        requires lawful { IsAmidEvent tables.now self.old }
         requires room { acts.old.items ≡ [] }
-        ensures lawful { IsPowered tables.now 8639999 1001999 0 self.new }
+        ensures lawful { IsAmidEvent tables.now self.new }
         ensures few { length acts.new.items ≤ 2 }
         ensures roam { ((length acts.new.items ≤ 1) × (self.new.number ≡ self.old.number)) ⊎ (self.new.roam ≡ 0) }
-        ensures ranges { All (IsLawfulAct tables.now self.old.number) acts.old.items
-            → All (IsLawfulAct tables.now self.old.number) acts.new.items }
+        ensures ranges { StayLawful tables.now self.old.number acts.old.items acts.new.items }
         ensures follows { (s : Setting) (m : Meter) → IsSettingOf s tables.now seal.now → self.old ≡ plain_of s m
             → Follows s self.new acts.old.items acts.new.items (key_pressed s m) }
         ensures steps { steps.new ≤ steps.old + pressing_steps self.old.operating }
@@ -72,13 +70,12 @@ impl State {
         acts: &mut Acts,
         steps: &mut Steps<L>,
     )
-        requires lawful { IsPowered tables.now 8639999 1001999 0 self.old }
+        requires lawful { IsAmidEvent tables.now self.old }
         requires room { acts.old.items ≡ [] }
-        ensures lawful { IsPowered tables.now 8639999 1001999 0 self.new }
+        ensures lawful { IsAmidEvent tables.now self.new }
         ensures few { length acts.new.items ≤ 2 }
         ensures roam { ((length acts.new.items ≤ 1) × (self.new.number ≡ self.old.number)) ⊎ (self.new.roam ≡ 0) }
-        ensures ranges { All (IsLawfulAct tables.now self.old.number) acts.old.items
-            → All (IsLawfulAct tables.now self.old.number) acts.new.items }
+        ensures ranges { StayLawful tables.now self.old.number acts.old.items acts.new.items }
         ensures follows { (s : Setting) (m : Meter) → IsSettingOf s tables.now seal.now → self.old ≡ plain_of s m
             → Follows s self.new acts.old.items acts.new.items (key_in s key m.operating m) }
         ensures steps { steps.new ≤ steps.old + pressing_steps self.old.operating }

@@ -95,20 +95,14 @@ impl State {
     pub(crate) fn is_busy(&self) -> bool
         ensures { result ≡ is_busy self.now.operating }
     {
-        match self.operating {
-            Operating::Off | Operating::ForHire => false,
-            Operating::Hired | Operating::Stopped => true,
-        }
+        matches!(self.operating, Operating::Hired | Operating::Stopped)
     }
 
     /// Whether the meter is in Stopped.
     pub(crate) fn is_stopped(&self) -> bool
         ensures { result ≡ supply.is_stopped self.now.operating }
     {
-        match self.operating {
-            Operating::Off | Operating::ForHire | Operating::Hired => false,
-            Operating::Stopped => true,
-        }
+        matches!(self.operating, Operating::Stopped)
     }
 
     /// The pulses of the trip so far.

@@ -4,10 +4,10 @@ ghost use Rattle.std.specs.Option.{ForSome};
 ghost use Rattle.taxi_units.specs.Time.{IsSecond};
 ghost use Rattle.taxi_units.specs.declared.event.Operating.TheVariants.{ForHire};
 ghost use Rattle.totaliser_store.specs.Ranges.{IsDurable, IsHeld};
-ghost use Rattle.meter_states.specs.Acts.{IsLawfulAct, KeepsRanges};
+ghost use Rattle.meter_states.specs.Acts.{IsLawfulAct, KeepsRanges, StayLawful};
 ghost use Rattle.meter_states.specs.Core.{Follows, IsSavedIn, Meets, forgotten, plain_of};
 ghost use Rattle.meter_states.specs.Fits.{Fits};
-ghost use Rattle.meter_states.specs.Lawful.{IsLawful, IsPowered};
+ghost use Rattle.meter_states.specs.Lawful.{IsBetweenEvents, IsLawful};
 ghost use Rattle.meter_states.specs.Meter.{Meter};
 ghost use Rattle.meter_states.specs.Setting.{Setting, IsSettingOf};
 ghost use Rattle.meter_states.specs.Supply as model;
@@ -69,16 +69,15 @@ impl State {
         acts: &mut Acts,
         steps: &mut Steps<L>,
     )
-        requires lawful { IsPowered tables.now 8639999 999999 0 self.old }
+        requires lawful { IsBetweenEvents tables.now self.old }
         requires second { self.old.clock ≡ second }
         requires new { (self.old.roam ≡ 0) × (self.old.trip ≡ None) }
         requires range { ForSome hold (IsHeld self.old.number) }
         requires fits { ForSome hold (Fits tables.now) }
         requires room { acts.old.items ≡ [] }
-        ensures lawful { IsPowered tables.now 8639999 999999 0 self.new }
+        ensures lawful { IsBetweenEvents tables.now self.new }
         ensures few { length acts.new.items ≤ 2 }
-        ensures ranges { All (IsLawfulAct tables.now self.old.number) acts.old.items
-            → All (IsLawfulAct tables.now self.old.number) acts.new.items }
+        ensures ranges { StayLawful tables.now self.old.number acts.old.items acts.new.items }
         ensures follows { (s : Setting) (m : Meter) → IsSettingOf s tables.now seal.now → IsSavedIn s hold m.trip
             → self.old ≡ plain_of s (record m { trip = None })
             → Follows s self.new acts.old.items acts.new.items (model.hold_taken s second hold m) }
@@ -100,16 +99,15 @@ impl State {
         acts: &mut Acts,
         steps: &mut Steps<L>,
     )
-        requires lawful { IsPowered tables.now 8639999 999999 0 self.old }
+        requires lawful { IsBetweenEvents tables.now self.old }
         requires second { self.old.clock ≡ second }
         requires new { (self.old.roam ≡ 0) × (self.old.trip ≡ None) }
         requires range { IsHeld self.old.number held }
         requires fits { Fits tables.now held }
         requires room { acts.old.items ≡ [] }
-        ensures lawful { IsPowered tables.now 8639999 999999 0 self.new }
+        ensures lawful { IsBetweenEvents tables.now self.new }
         ensures few { length acts.new.items ≤ 2 }
-        ensures ranges { All (IsLawfulAct tables.now self.old.number) acts.old.items
-            → All (IsLawfulAct tables.now self.old.number) acts.new.items }
+        ensures ranges { StayLawful tables.now self.old.number acts.old.items acts.new.items }
         ensures follows { (s : Setting) (m : Meter) → IsSettingOf s tables.now seal.now
             → Some (forgotten held) ≡ option_map (trips.saved_of s) m.trip
             → self.old ≡ plain_of s (record m { trip = None })
@@ -125,12 +123,12 @@ impl State {
 
     /// A held trip goes on, with its position and zone.
     fn go_on(&mut self, held: Trip, tables: &Tables, seal: &Seal)
-        requires lawful { IsPowered tables.now 8639999 999999 0 self.old }
+        requires lawful { IsBetweenEvents tables.now self.old }
         requires begun { held.started ≤ self.old.clock }
         requires new { (self.old.roam ≡ 0) × (self.old.trip ≡ None) }
         requires range { IsHeld self.old.number held }
         requires fits { Fits tables.now held }
-        ensures lawful { IsPowered tables.now 8639999 999999 0 self.new }
+        ensures lawful { IsBetweenEvents tables.now self.new }
         ensures state { (s : Setting) (m : Meter) → IsSettingOf s tables.now seal.now
             → Some (forgotten held) ≡ option_map (trips.saved_of s) m.trip
             → self.old ≡ plain_of s (record m { trip = None })
@@ -152,16 +150,15 @@ impl State {
         acts: &mut Acts,
         steps: &mut Steps<L>,
     )
-        requires lawful { IsPowered tables.now 8639999 999999 0 self.old }
+        requires lawful { IsBetweenEvents tables.now self.old }
         requires hire { self.old.operating ≡ ForHire }
         requires new { (self.old.roam ≡ 0) × (self.old.trip ≡ None) }
         requires range { IsHeld self.old.number held.now }
         requires fits { Fits tables.now held.now }
         requires room { acts.old.items ≡ [] }
-        ensures lawful { IsPowered tables.now 8639999 999999 0 self.new }
+        ensures lawful { IsBetweenEvents tables.now self.new }
         ensures few { length acts.new.items ≤ 2 }
-        ensures ranges { All (IsLawfulAct tables.now self.old.number) acts.old.items
-            → All (IsLawfulAct tables.now self.old.number) acts.new.items }
+        ensures ranges { StayLawful tables.now self.old.number acts.old.items acts.new.items }
         ensures follows { (s : Setting) (m : Meter) → IsSettingOf s tables.now seal.now
             → Some (forgotten held.now) ≡ option_map (trips.saved_of s) m.trip
             → self.old ≡ plain_of s (record m { trip = None })

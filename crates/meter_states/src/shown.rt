@@ -4,17 +4,11 @@ ghost use Rattle.meter_states.specs.Display as spec;
 
 use taxi_units::{Display, Operating};
 
-/// The same operating position.
+/// Whether two operating positions are the same.
 fn same_operating(a: Operating, b: Operating) -> bool
     ensures { result ≡ spec.same_operating a b }
 {
-    match (a, b) {
-        (Operating::Off, Operating::Off) => true,
-        (Operating::ForHire, Operating::ForHire) => true,
-        (Operating::Hired, Operating::Hired) => true,
-        (Operating::Stopped, Operating::Stopped) => true,
-        _ => false,
-    }
+    a == b
 }
 
 /// Whether the display is the one that was shown last.

@@ -5,10 +5,10 @@ ghost use Rattle.taxi_units.specs.declared.event.Event.TheVariants.{Up};
 ghost use Rattle.taxi_units.specs.declared.event.Operating.TheVariants.{Off};
 ghost use Rattle.totaliser_store.specs.Ranges.{IsDurable};
 ghost use Rattle.totaliser_store.specs.declared.durable.Durable.{Durable};
-ghost use Rattle.meter_states.specs.Acts.{IsLawfulAct, KeepsRanges};
+ghost use Rattle.meter_states.specs.Acts.{IsLawfulAct, KeepsRanges, StayLawful};
 ghost use Rattle.meter_states.specs.Core.{Follows, Meets, Stands, plain_of};
 ghost use Rattle.meter_states.specs.Facts.{AreTrue};
-ghost use Rattle.meter_states.specs.Lawful.{IsLawful, IsPowered, IsTimely};
+ghost use Rattle.meter_states.specs.Lawful.{IsBetweenEvents, IsLawful, IsTimely};
 ghost use Rattle.meter_states.specs.Meter.{Meter};
 ghost use Rattle.meter_states.specs.Setting.{Setting, IsSettingOf};
 ghost use Rattle.meter_states.specs.Step.{clock_read, powered_step, step};
@@ -53,7 +53,7 @@ impl Core {
         acts
     }
 
-    /// The same, with the acts in a list that is handed in empty. A list for four acts is large, so whoever
+    /// Carries out an event, with the acts in a list that is handed in empty. A list for four acts is large, so whoever
     /// goes over many events hands in one list again and again.
     pub fn step_into<L: Ledger>(
         &mut self,
@@ -103,14 +103,13 @@ impl State {
         acts: &mut Acts,
         steps: &mut Steps<L>,
     )
-        requires lawful { IsPowered tables.now 8639999 999999 0 self.old }
+        requires lawful { IsBetweenEvents tables.now self.old }
         requires facts { AreTrue tables.now seal.now facts.old }
         requires timely { IsTimely event }
         requires room { acts.old.items ≡ [] }
-        ensures lawful { (self.new.operating ≡ Off) ⊎ IsPowered tables.now 8639999 999999 0 self.new }
+        ensures lawful { (self.new.operating ≡ Off) ⊎ IsBetweenEvents tables.now self.new }
         ensures facts { AreTrue tables.now seal.now facts.new }
-        ensures ranges { All (IsLawfulAct tables.now self.old.number) acts.old.items
-            → All (IsLawfulAct tables.now self.old.number) acts.new.items }
+        ensures ranges { StayLawful tables.now self.old.number acts.old.items acts.new.items }
         ensures meets { (s : Setting) (m : Meter) → IsSettingOf s tables.now seal.now → self.old ≡ plain_of s m
             → Meets s self.new acts.new.items (powered_step s event m) }
         ensures steps { steps.new ≤ steps.old + 48 }
@@ -127,12 +126,11 @@ impl State {
 
     /// The clock is read: in a trip it doesn't go back.
     fn read_clock(&mut self, tables: &Tables, second: u64, acts: &mut Acts)
-        requires lawful { IsPowered tables.now 8639999 999999 0 self.old }
+        requires lawful { IsBetweenEvents tables.now self.old }
         requires second { IsSecond second }
         requires room { acts.old.items ≡ [] }
-        ensures lawful { IsPowered tables.now 8639999 999999 0 self.new }
-        ensures ranges { All (IsLawfulAct tables.now self.old.number) acts.old.items
-            → All (IsLawfulAct tables.now self.old.number) acts.new.items }
+        ensures lawful { IsBetweenEvents tables.now self.new }
+        ensures ranges { StayLawful tables.now self.old.number acts.old.items acts.new.items }
         ensures follows { (s : Setting) (m : Meter) → self.old ≡ plain_of s m
             → Follows s self.new acts.old.items acts.new.items (clock_read m.operating second m) }
     {

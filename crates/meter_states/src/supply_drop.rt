@@ -1,13 +1,13 @@
 //! What a supply drop leaves.
-ghost use Rattle.std.specs.Prelude.{◌≡◌, ◌≢◌, ◌<◌, ◌≤◌, ◌+◌, ℕ, [], All, None, Some};
+ghost use Rattle.std.specs.Prelude.{◌≡◌, ◌≢◌, ◌<◌, ◌≤◌, ◌+◌, ℕ, [], None, Some};
 ghost use Rattle.taxi_units.specs.declared.event.Operating.TheVariants.{Off};
 ghost use Rattle.totaliser_store.specs.Ranges.{IsTrip};
 ghost use Rattle.taxi_units.specs.declared.receipt.Kind.TheVariants.{Aborted};
-ghost use Rattle.meter_states.specs.Acts.{IsLawfulAct};
+ghost use Rattle.meter_states.specs.Acts.{StayLawful};
 ghost use Rattle.meter_states.specs.Closing.{closed};
 ghost use Rattle.meter_states.specs.Core.{Follows, plain_of};
 ghost use Rattle.meter_states.specs.Fits.{Fits};
-ghost use Rattle.meter_states.specs.Lawful.{IsPowered};
+ghost use Rattle.meter_states.specs.Lawful.{IsBetweenEvents, IsPowered};
 ghost use Rattle.meter_states.specs.Meter.{Meter, held};
 ghost use Rattle.meter_states.specs.Setting.{Setting, IsSettingOf};
 ghost use Rattle.meter_states.specs.Supply as model;
@@ -36,11 +36,10 @@ impl State {
         acts: &mut Acts,
         steps: &mut Steps<L>,
     )
-        requires lawful { IsPowered tables.now 8639999 999999 0 self.old }
+        requires lawful { IsBetweenEvents tables.now self.old }
         requires room { acts.old.items ≡ [] }
         ensures off { self.new.operating ≡ Off }
-        ensures ranges { All (IsLawfulAct tables.now self.old.number) acts.old.items
-            → All (IsLawfulAct tables.now self.old.number) acts.new.items }
+        ensures ranges { StayLawful tables.now self.old.number acts.old.items acts.new.items }
         ensures done { (s : Setting) (m : Meter) → IsSettingOf s tables.now seal.now → self.old ≡ plain_of s m
             → acts.new.items ≡ (model.supply_dropped s m).acts }
         ensures steps { steps.new ≤ steps.old + 12 }
@@ -60,8 +59,7 @@ impl State {
     )
         requires lawful { IsPowered tables.now 8639999 1001999 1 self.old }
         requires room { acts.old.items ≡ [] }
-        ensures ranges { All (IsLawfulAct tables.now self.old.number) acts.old.items
-            → All (IsLawfulAct tables.now self.old.number) acts.new.items }
+        ensures ranges { StayLawful tables.now self.old.number acts.old.items acts.new.items }
         ensures follows { (s : Setting) (m : Meter) → IsSettingOf s tables.now seal.now → self.old ≡ plain_of s m
             → Follows s self.new acts.old.items acts.new.items (model.kept s m.trip m) }
         ensures steps { steps.new ≤ steps.old + 12 }
@@ -93,8 +91,7 @@ impl State {
         requires lawful { IsPowered tables.now 8639999 1001999 1 self.old }
         requires trip { self.old.trip ≢ None }
         requires room { acts.old.items ≡ [] }
-        ensures ranges { All (IsLawfulAct tables.now self.old.number) acts.old.items
-            → All (IsLawfulAct tables.now self.old.number) acts.new.items }
+        ensures ranges { StayLawful tables.now self.old.number acts.old.items acts.new.items }
         ensures follows { (s : Setting) (m : Meter) → IsSettingOf s tables.now seal.now → self.old ≡ plain_of s m
             → Follows s self.new acts.old.items acts.new.items (closed s Aborted m.clock m) }
         ensures steps { steps.new ≤ steps.old + 12 }
@@ -112,8 +109,7 @@ impl State {
         requires trip { self.old.trip ≡ Some trip }
         requires number { self.old.number < 2000000000000000 }
         requires room { acts.old.items ≡ [] }
-        ensures ranges { All (IsLawfulAct tables.now self.old.number) acts.old.items
-            → All (IsLawfulAct tables.now self.old.number) acts.new.items }
+        ensures ranges { StayLawful tables.now self.old.number acts.old.items acts.new.items }
         ensures follows { (s : Setting) (m : Meter) (t : trips.Trip) → IsSettingOf s tables.now seal.now
             → trip ≡ trips.saved_of s t → self.old ≡ plain_of s m
             → Follows s self.new acts.old.items acts.new.items

@@ -1,11 +1,11 @@
 //! The tick, which ends a measuring interval.
-ghost use Rattle.std.specs.Prelude.{◌≡◌, ◌≢◌, ◌⊎◌, ◌≤◌, ◌+◌, ℕ, [], All, None, IsTrue, false, nat_le, length};
+ghost use Rattle.std.specs.Prelude.{◌≡◌, ◌≢◌, ◌⊎◌, ◌≤◌, ◌+◌, ℕ, [], None, IsTrue, false, nat_le, length};
 ghost use Rattle.taxi_units.specs.Time.{longest_trip};
-ghost use Rattle.meter_states.specs.Acts.{IsLawfulAct};
+ghost use Rattle.meter_states.specs.Acts.{StayLawful};
 ghost use Rattle.meter_states.specs.Core.{Follows, plain_of};
 ghost use Rattle.meter_states.specs.Facts.{AreTrue};
 ghost use Rattle.meter_states.specs.Interval.{ticks_so_far};
-ghost use Rattle.meter_states.specs.Lawful.{IsPowered, pressing_steps};
+ghost use Rattle.meter_states.specs.Lawful.{IsAmidEvent, IsBetweenEvents, IsPowered, pressing_steps};
 ghost use Rattle.meter_states.specs.Meter.{Meter};
 ghost use Rattle.meter_states.specs.Setting.{Setting, IsSettingOf};
 ghost use Rattle.meter_states.specs.Step.{expired, expired_or_pressed, ticked};
@@ -29,13 +29,12 @@ impl State {
         acts: &mut Acts,
         steps: &mut Steps<L>,
     )
-        requires lawful { IsPowered tables.now 8639999 999999 0 self.old }
+        requires lawful { IsBetweenEvents tables.now self.old }
         requires facts { AreTrue tables.now seal.now facts.old }
         requires room { acts.old.items ≡ [] }
-        ensures lawful { IsPowered tables.now 8639999 999999 0 self.new }
+        ensures lawful { IsBetweenEvents tables.now self.new }
         ensures facts { AreTrue tables.now seal.now facts.new }
-        ensures ranges { All (IsLawfulAct tables.now self.old.number) acts.old.items
-            → All (IsLawfulAct tables.now self.old.number) acts.new.items }
+        ensures ranges { StayLawful tables.now self.old.number acts.old.items acts.new.items }
         ensures follows { (s : Setting) (m : Meter) → IsSettingOf s tables.now seal.now → self.old ≡ plain_of s m
             → Follows s self.new acts.old.items acts.new.items (ticked s m) }
         ensures steps { steps.new ≤ steps.old + 48 }
@@ -58,11 +57,10 @@ impl State {
     )
         requires lawful { IsPowered tables.now 8640000 1001999 0 self.old }
         requires room { acts.old.items ≡ [] }
-        ensures lawful { IsPowered tables.now 8639999 1001999 0 self.new }
+        ensures lawful { IsAmidEvent tables.now self.new }
         ensures few { length acts.new.items ≤ 3 }
         ensures roam { ((length acts.new.items ≤ 1) × (self.new.number ≡ self.old.number)) ⊎ (self.new.roam ≡ 0) }
-        ensures ranges { All (IsLawfulAct tables.now self.old.number) acts.old.items
-            → All (IsLawfulAct tables.now self.old.number) acts.new.items }
+        ensures ranges { StayLawful tables.now self.old.number acts.old.items acts.new.items }
         ensures follows { (s : Setting) (m : Meter) → IsSettingOf s tables.now seal.now → self.old ≡ plain_of s m
             → Follows s self.new acts.old.items acts.new.items (expired_or_pressed s m) }
         ensures steps { steps.new ≤ steps.old + pressing_steps self.old.operating }
@@ -80,7 +78,7 @@ impl State {
         ensures state { (s : Setting) (m : Meter) → self.now ≡ plain_of s m
             → result ≡ nat_le longest_trip (ticks_so_far m.trip) }
         ensures long { IsTrue result → self.now.trip ≢ None }
-        ensures short { result ≡ false → IsPowered tables.now 8639999 1001999 0 self.now }
+        ensures short { result ≡ false → IsAmidEvent tables.now self.now }
     {
         match &self.trip {
             None => false,
@@ -99,11 +97,10 @@ impl State {
         requires lawful { IsPowered tables.now 8640000 1001999 0 self.old }
         requires trip { self.old.trip ≢ None }
         requires room { acts.old.items ≡ [] }
-        ensures lawful { IsPowered tables.now 8639999 999999 0 self.new }
+        ensures lawful { IsBetweenEvents tables.now self.new }
         ensures few { length acts.new.items ≤ 3 }
         ensures roam { self.new.roam ≡ 0 }
-        ensures ranges { All (IsLawfulAct tables.now self.old.number) acts.old.items
-            → All (IsLawfulAct tables.now self.old.number) acts.new.items }
+        ensures ranges { StayLawful tables.now self.old.number acts.old.items acts.new.items }
         ensures follows { (s : Setting) (m : Meter) → IsSettingOf s tables.now seal.now → self.old ≡ plain_of s m
             → Follows s self.new acts.old.items acts.new.items (expired s m) }
         ensures steps { steps.new ≤ steps.old + 12 }

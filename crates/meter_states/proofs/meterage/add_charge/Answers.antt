@@ -1,4 +1,4 @@
-use Rattle.std.proofs.Common.{◌≡◌, ℕ, ap, ◌∙◌, arith, ◌+◌, ◌-◌}
+use Rattle.std.proofs.Common.{ℕ, ap, ◌∙◌, arith, ◌+◌, ◌-◌}
 use Rattle.drive_modes.specs.declared.meterage.Meterage.{Meterage}
 use Rattle.drive_modes.specs.Fare.{added}
 use Rattle.meter_states.proofs.Meterages.{added-less, sum-added}

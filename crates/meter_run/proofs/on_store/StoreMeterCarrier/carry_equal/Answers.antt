@@ -1,5 +1,4 @@
 use Rattle.std.proofs.Common.{List, subst}
-use Rattle.drive_text.specs.Runs.{intervals_events}
 use Rattle.taxi_units.specs.declared.event.Event.{Event}
 use Rattle.meter_states.specs.Equals.{intervals_of}
 use Rattle.meter_states.specs.Run.{run}

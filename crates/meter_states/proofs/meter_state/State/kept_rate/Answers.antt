@@ -1,7 +1,6 @@
 use Rattle.std.proofs.Common.{◌≡◌, ℕ, ap, sym, subst, ◌∙◌}
 use Rattle.std.proofs.lemmas.Option.{IfSome_then}
 use Rattle.tariff_compile.specs.Near.{IsNear}
-use Rattle.tariff_compile.specs.declared.parts.Lasting.{Lasting}
 use Rattle.tariff_syntax.specs.declared.context.Context.{Context}
 use Rattle.meter_states.specs.Core.{Plain}
 use Rattle.meter_states.specs.Interval.{context_of, context_on}

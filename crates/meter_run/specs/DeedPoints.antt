@@ -1,0 +1,38 @@
+-- For proofs: points of a list of deeds, by recursion over the list. IsCut, in Points, says what they are.
+use Rattle.std.specs.Prelude.{◌≡◌, ◌⊎◌, ℕ, List, [], ◌∷◌, ◌++◌}
+use Rattle.std.specs.Option.{ForSome}
+use Rattle.outside.specs.Printing.{Begins}
+use Rattle.outside.specs.Runs.{LeavesOnly}
+use Rattle.outside.specs.declared.board.Board.{Ghosts}
+use Rattle.seal_store.specs.declared.seal.Seal.{Seal}
+use Rattle.tariff_compile.specs.Tables.{TableParts}
+use Rattle.totaliser_store.specs.Stored.{HasState}
+use Rattle.totaliser_store.specs.declared.durable.Durable.{Durable}
+use Rattle.meter_states.specs.Fits.{Fits}
+use Rattle.meter_run.specs.Deeds.{Deed, after_deed, text_in}
+
+-- an image holds a durable state where it stands for it and the state's held trip fits the tables
+pub record Holds (tables : TableParts) (image : List ℕ) (durable : Durable) : Type 0 where
+  pub has : HasState image durable
+  pub fits : ForSome durable.hold (Fits tables)
+
+module _ (tables : TableParts) (seal : Seal) (told : Type 0) where
+  -- an image and a text are amid a deed where the image stands for the state before the deed or for that after it, and
+  -- a beginning of the deed's text was printed, where the text is told
+  pub record IsAmid (durable : Durable) (printed : List ℕ) (deed : Deed) (image text : List ℕ) : Type 0 where
+    pub holds : Holds tables image durable ⊎ Holds tables image (after_deed durable deed)
+    pub begun : told → Begins printed text (text_in seal deed)
+
+  -- an image and a text are at a point of a list of deeds where they are at its end, or amid one of the deeds
+  abbrev pub AtPoint : Durable → (printed : List ℕ) → List Deed → (image text : List ℕ) → Type 0
+  AtPoint durable printed [] image text = Holds tables image durable × (told → text ≡ printed)
+  AtPoint durable printed (deed ∷ deeds) image text =
+      IsAmid durable printed deed image text
+      ⊎ AtPoint (after_deed durable deed) (printed ++ text_in seal deed) deeds image text
+
+module _ {D L : Type 0} (B : Ghosts D L) (tables : TableParts) (seal : Seal) where
+  -- calls of the board keep to deeds where they carried them out, or a part of them: a cut at each moment leaves a
+  -- point of the list, and the board is at one
+  pub record KeepsTo (old new : D) (durable : Durable) (deeds : List Deed) : Type 0 where
+    pub leaves : LeavesOnly B old new (AtPoint tables seal B.tells_text durable (B.printed old) deeds)
+    pub stops : AtPoint tables seal B.tells_text durable (B.printed old) deeds (B.image new) (B.printed new)
