@@ -2,6 +2,7 @@ mod Again
 mod Bytes
 mod Dates
 mod Digits
+mod Fronts
 mod GrammarTexts
 mod Groups
 mod Joined

@@ -1,6 +1,7 @@
 -- A text is one receipt.
 use Rattle.std.proofs.Common.{◌≡◌, ℕ, ◌≤◌, List, [], ◌∷◌, ◌++◌, length, refl, ap, sym, ◌∙◌, subst, arith, Option, Some, length-append}
 use Rattle.std.proofs.lemmas.List.{append-nil}
+use Rattle.std.specs.Prelude.{codes}
 use Rattle.taxi_units.specs.declared.receipt.Receipt.{Receipt}
 use Rattle.receipt_text.specs.Grammar.{IsReceiptText}
 use Rattle.receipt_text.specs.Lines.{receipt_at}
@@ -45,3 +46,6 @@ pub short_texts : (text : List ℕ) (receipt : Receipt) (part : Part) → IsRece
 short_texts text receipt part h =
     let is = (receipts_are_their_texts text receipt part).0 h in
     omega (arith, ap length is.text_is, receipts_are_short receipt part is.receipt_is is.part_is)
+
+pub first_word : (text : List ℕ) (receipt : Receipt) (part : Part) → IsReceiptText text receipt part → (rest : List ℕ) × (text ≡ codes "RECEIPT " ++ rest)
+first_word text receipt part h = (h.lines.value ++ 10 ∷ h.lines.rest, h.lines.text_is)

@@ -1,6 +1,7 @@
 pub mod Dates
 pub mod Digests
 pub mod Figures
+pub mod Front
 pub mod Grammar
 pub mod Lines
 pub mod Part

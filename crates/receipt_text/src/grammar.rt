@@ -1,5 +1,5 @@
 //! What the texts of this crate mean, in words that share nothing with how they are written and read.
-ghost use Rattle.std.specs.Prelude.{◌≡◌, ℕ, ◌≤◌, ◌++◌, ◌↔◌, List, [], length};
+ghost use Rattle.std.specs.Prelude.{◌≡◌, ℕ, ◌≤◌, ◌++◌, ◌↔◌, List, [], codes, length};
 ghost use Rattle.taxi_units.specs.Shown.{IsShown};
 ghost use Rattle.taxi_units.specs.declared.receipt.Display.{Display};
 ghost use Rattle.taxi_units.specs.declared.receipt.Receipt.{Receipt};
@@ -29,6 +29,12 @@ pub fn texts_are_one_receipt()
 pub fn receipts_are_short()
     ensures { (text : List ℕ) (receipt : Receipt) (part : Part)
         → IsReceiptText text receipt part → length text ≤ 480 }
+{}
+
+/// A law: a receipt begins with its first word, so one can begin only where this word stands.
+pub fn receipts_begin_with_their_word()
+    ensures { (text : List ℕ) (receipt : Receipt) (part : Part)
+        → IsReceiptText text receipt part → (rest : List ℕ) × (text ≡ codes "RECEIPT " ++ rest) }
 {}
 
 /// A law: under one tariff's decimals two displays have the same text exactly where their fields are

@@ -8,6 +8,7 @@ mod digest;
 mod displays;
 mod fields;
 mod figures;
+mod front;
 mod grammar;
 mod headings;
 mod parts;
@@ -21,9 +22,10 @@ mod trips;
 
 pub use digest::push_hex;
 pub use displays::put_display;
+pub use front::receipt_in_front;
 pub use grammar::{
     displays_differ_by_their_fields, receipts_are_short, receipts_are_their_texts,
-    texts_are_one_receipt,
+    receipts_begin_with_their_word, texts_are_one_receipt,
 };
 pub use parts::SealPart;
 pub use reading::read_receipt;

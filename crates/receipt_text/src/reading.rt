@@ -65,7 +65,7 @@ fn spells(text: &[u8], receipt: &Receipt, part: &SealPart) -> bool
 
 /// What the lines of a text say, down to the supplements.
 #[tactic(auto, unfolding(crate::specs::Lines::receipt_at))]
-fn receipt_at(text: &[u8]) -> Option<(Receipt, SealPart)>
+pub(crate) fn receipt_at(text: &[u8]) -> Option<(Receipt, SealPart)>
     ensures { Gives (λ x. (x.0, x.1)) result (spec.receipt_at text.now) }
 {
     let (heading, text) = heading_at(text)?;

@@ -4,7 +4,8 @@ ghost use Rattle.std.specs.Prelude.{◌≡◌, ◌≤◌};
 use crate::parts::SealPart;
 use crate::reading::read_receipt;
 use crate::receipts::put_part_receipt;
-use crate::{put_display, put_receipt, put_refusal};
+use crate::{put_display, put_receipt, put_refusal, receipt_in_front};
+use arrayvec::ArrayVec;
 use seal_store::{Seal, read_params};
 use taxi_units::{Display, Kind, Line, LineFull, Operating, Receipt, Why, put_bytes};
 
@@ -73,6 +74,30 @@ fn reads_a_receipt(rt: HostRuntime) {
         (0x26, 0x45, 0x9b)
     );
     assert!(rt; writes(&receipt, &part, RECEIPT));
+}
+
+/// What stands behind a receipt, and how many of its bytes are cut off.
+const BEHIND: [(&str, usize); 4] = [("", 0), ("FOR HIRE T1 Z1\n", 0), (RECEIPT, 0), ("", 1)];
+
+#[test]
+fn reads_a_receipt_in_front(rt: HostRuntime) {
+    for (behind, less) in BEHIND {
+        let mut text: ArrayVec<u8, 1024> = ArrayVec::new();
+        assert!(rt; text.try_extend_from_slice(RECEIPT.as_bytes()).is_ok());
+        assert!(rt; text.try_extend_from_slice(behind.as_bytes()).is_ok());
+        text.truncate(text.len().saturating_sub(less));
+        match receipt_in_front(text.as_slice()) {
+            None => assert_eq!(rt; less, 1),
+            Some((receipt, part, count)) => {
+                assert_eq!(rt; (receipt.number, receipt.fare), (2, 380));
+                assert_eq!(rt; (count, less), (RECEIPT.len(), 0));
+                assert_eq!(rt; part.taxi.as_slice(), b"LX-4711".as_slice());
+            }
+        }
+        if let Some((_, rest)) = text.as_slice().split_first() {
+            assert!(rt; receipt_in_front(rest).is_none(), "{behind}");
+        }
+    }
 }
 
 /// The parameters of the receipt's meter, as a text.
