@@ -3,10 +3,16 @@ mod BenchSupply
 mod Benches
 mod Capped
 mod Carried
+mod CrossOverLines
+mod CsvRows
+mod EachPasses
 mod Fields
+mod FirstFaults
 mod GeneratedLaws
+pub mod Laws
 mod Lines
 mod LinesRead
+mod OneReading
 mod Permitted
 mod Ranged
 mod ReceiptList

@@ -1,10 +1,12 @@
 pub mod Adding
 pub mod Bench
 pub mod Carrying
+pub mod CrossOvers
 pub mod Expecting
 pub mod Generated
 pub mod Hirings
 pub mod Left
+pub mod Passing
 pub mod Readings
 pub mod Report
 pub mod Settings

@@ -1,7 +1,8 @@
 -- Texts of readings: rows as csv reads them, the first one the header.
-use Rattle.std.specs.Prelude.{◌≡◌, ◌≢◌, ℕ, ◌+◌, ◌<◌, ◌≤◌, Bool, true, false, List, [], ◌∷◌, ◌++◌, length, codes, Option, Some, None, Result, Ok, Err}
+use Rattle.std.specs.Cmp.Lexicographic.{pointwise}
+use Rattle.std.specs.Prelude.{◌≡◌, ◌≢◌, ℕ, ◌+◌, ◌<◌, ◌≤◌, nat_eq, nat_lt, if◌then◌else◌, Bool, true, false, List, [], ◌∷◌, ◌++◌, length, codes, Option, Some, None, Result, Ok, Err}
 use Rattle.std.specs.Result.{result_ok}
-use Rattle.csv.specs.Reading.{AreRecords, Reached, default_config, strip_bom}
+use Rattle.csv.specs.Reading.{AreRecords, Reached, default_config, records, strip_bom}
 use Rattle.csv.specs.declared.parser.State.{State}
 use Rattle.csv.specs.declared.parser.State.TheVariants as states
 use Rattle.taxi_units.specs.Number.{decimal_read}
@@ -86,6 +87,35 @@ reading_said decimals (fare ∷ distance ∷ time ∷ []) = do
   time ← result_ok (decimal_read 1 time)
   Some (record { fare = fare; distance_mm = distance; tenths = time })
 reading_said decimals (fare ∷ distance ∷ time ∷ next ∷ more) = None
+
+-- ---- the same as a function of the text
+
+-- a reading before those that further rows say, or the number of its row, which says none
+abbrev pub reading_before : (number : ℕ) → Option Reading → Result (List Reading) ReadingsFault
+    → Result (List Reading) ReadingsFault
+reading_before number None more = Err (BadRow number)
+reading_before number (Some reading) (Ok readings) = Ok (reading ∷ readings)
+reading_before number (Some reading) (Err fault) = Err fault
+
+-- what rows say, the first of which has this number
+unfoldable pub readings_from : (decimals number : ℕ) → List Row → Result (List Reading) ReadingsFault
+readings_from decimals number [] = Ok []
+readings_from decimals number (row ∷ rows) =
+    reading_before number (reading_said decimals row) (readings_from decimals (number + 1) rows)
+
+-- what all rows of a text say: the first one is the header
+abbrev pub rows_said : (decimals : ℕ) → List Row → Result (List Reading) ReadingsFault
+rows_said decimals [] = Err (BadRow 1)
+rows_said decimals (first ∷ rows) =
+    if pointwise (pointwise nat_eq) first header then readings_from decimals 2 rows else Err (BadRow 1)
+
+-- what a text says, by its rows as csv gives them
+abbrev pub readings_in : (decimals : ℕ) → (text : List ℕ) → Result (List Reading) ReadingsFault
+readings_in decimals text =
+    if nat_lt readings_limit (length text) then Err TooLong
+    else rows_said decimals (records default_config (strip_bom text))
+
+-- ---- on the way
 
 -- rows gave these readings: none were taken yet, or the header and rows that say the readings
 abbrev pub HaveGiven : (decimals : ℕ) → List Row → (headed : Bool) → List Reading → Type 0

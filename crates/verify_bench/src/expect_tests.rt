@@ -67,65 +67,95 @@ fn expected(alloc: Global, tariff: &str, mode: Mode, drive: &str) -> Option<Vec<
     expect(alloc, &checked, &seal, runs.as_slice()).ok()
 }
 
-const fn closed(kind: Kind, fare: u64, hired_mm: u128, ticks: u32) -> Expected {
-    Expected {
-        kind,
-        fare,
-        hired_mm,
-        ticks,
-    }
-}
+const FIRST: &str = "U 1767225600\nK H\nI 0 1\nI 20 117\nK S\nI 8 1\nK C\nI 0 1\n";
+
+const FURTHER: &str = "U 1767225600\nK H\nI 0 1\nI 20 117\nI 8 1\nK S\nI 1 1\nK C\nI 0 1\n";
+
+const RESUMED: &str =
+    "U 1767225600\nK H\nI 0 1\nI 20 10\nD\nU 1767225660\nI 20 107\nK S\nI 8 1\nK C\nI 0 1\n";
+
+const ABORTED: &str =
+    "U 1767225600\nK H\nI 0 1\nI 20 10\nD\nU 1767225661\nI 20 107\nK S\nI 8 1\nK C\nI 0 1\n";
+
+const HELD: &str = "U 1767225600\nK H\nI 0 1\nI 20 10\n";
+
+const CITY_TRIP: &str =
+    "U 1772442000\nK H\nI 0 1\nI 0 600\nK E 1\nI 10 5999\nC 1772442660\nK S\nI 10 1\nK C\nI 0 1\n";
+
+/// Tariffs, modes, drives, and what they should come to.
+const DRIVES: [(&str, Mode, &str, &[Expected]); 7] = [
+    (
+        PLAIN,
+        Mode::Single,
+        FIRST,
+        &[Expected {
+            kind: Kind::Closed,
+            fare: 380,
+            hired_mm: 234_800,
+            ticks: 119,
+        }],
+    ),
+    (
+        PLAIN,
+        Mode::Double,
+        FIRST,
+        &[Expected {
+            kind: Kind::Closed,
+            fare: 400,
+            hired_mm: 234_800,
+            ticks: 119,
+        }],
+    ),
+    (
+        PLAIN,
+        Mode::Single,
+        FURTHER,
+        &[Expected {
+            kind: Kind::Closed,
+            fare: 400,
+            hired_mm: 234_900,
+            ticks: 120,
+        }],
+    ),
+    (
+        PLAIN,
+        Mode::Single,
+        RESUMED,
+        &[Expected {
+            kind: Kind::Closed,
+            fare: 380,
+            hired_mm: 234_800,
+            ticks: 119,
+        }],
+    ),
+    (
+        PLAIN,
+        Mode::Single,
+        ABORTED,
+        &[Expected {
+            kind: Kind::Aborted,
+            fare: 380,
+            hired_mm: 20_000,
+            ticks: 10,
+        }],
+    ),
+    (PLAIN, Mode::Single, HELD, &[]),
+    (
+        CITY,
+        Mode::Single,
+        CITY_TRIP,
+        &[Expected {
+            kind: Kind::Closed,
+            fare: 1440,
+            hired_mm: 6_000_000,
+            ticks: 6601,
+        }],
+    ),
+];
 
 #[test]
 fn drives_come_to_their_receipts(rt: HostRuntime) {
-    let first = "U 1767225600\nK H\nI 0 1\nI 20 117\nK S\nI 8 1\nK C\nI 0 1\n";
-    let further = "U 1767225600\nK H\nI 0 1\nI 20 117\nI 8 1\nK S\nI 1 1\nK C\nI 0 1\n";
-    let resumed =
-        "U 1767225600\nK H\nI 0 1\nI 20 10\nD\nU 1767225660\nI 20 107\nK S\nI 8 1\nK C\nI 0 1\n";
-    let aborted =
-        "U 1767225600\nK H\nI 0 1\nI 20 10\nD\nU 1767225661\nI 20 107\nK S\nI 8 1\nK C\nI 0 1\n";
-    let held = "U 1767225600\nK H\nI 0 1\nI 20 10\n";
-    let city =
-        "U 1772442000\nK H\nI 0 1\nI 0 600\nK E 1\nI 10 5999\nC 1772442660\nK S\nI 10 1\nK C\nI 0 1\n";
-    for (tariff, mode, drive, want) in [
-        (
-            PLAIN,
-            Mode::Single,
-            first,
-            [closed(Kind::Closed, 380, 234_800, 119)].as_slice(),
-        ),
-        (
-            PLAIN,
-            Mode::Double,
-            first,
-            [closed(Kind::Closed, 400, 234_800, 119)].as_slice(),
-        ),
-        (
-            PLAIN,
-            Mode::Single,
-            further,
-            [closed(Kind::Closed, 400, 234_900, 120)].as_slice(),
-        ),
-        (
-            PLAIN,
-            Mode::Single,
-            resumed,
-            [closed(Kind::Closed, 380, 234_800, 119)].as_slice(),
-        ),
-        (
-            PLAIN,
-            Mode::Single,
-            aborted,
-            [closed(Kind::Aborted, 380, 20_000, 10)].as_slice(),
-        ),
-        (PLAIN, Mode::Single, held, [].as_slice()),
-        (
-            CITY,
-            Mode::Single,
-            city,
-            [closed(Kind::Closed, 1440, 6_000_000, 6601)].as_slice(),
-        ),
-    ] {
+    for (tariff, mode, drive, want) in DRIVES {
         let found = expected(rt.alloc(), tariff, mode, drive).expect(&rt, "memory");
         assert_eq!(rt; found.as_slice(), want, "{drive}");
     }

@@ -1,7 +1,9 @@
 //! Reads texts of readings.
-ghost use Rattle.std.specs.Prelude.{◌≡◌, ℕ, ◌++◌, ◌∷◌, [], List, Ok, Err, IfOk, IfErr, OnOk, true};
+ghost use Rattle.std.specs.Prelude.{◌≡◌, ◌≢◌, ◌↔◌, ℕ, ◌++◌, ◌∷◌, [], List, Result, Ok, Err, IfOk, IfErr, OnOk, true};
 ghost use Rattle.csv.specs.Records.{fields_of};
-ghost use Rattle.verify_bench.specs.Readings.{Row, HaveGiven, IsReadAs, IsRowFault};
+ghost use Rattle.verify_bench.specs.Readings.{Row, HaveGiven, IsReadAs, IsRowFault, readings_in};
+ghost use Rattle.verify_bench.specs.declared.reading.Reading.{Reading};
+ghost use Rattle.verify_bench.specs.declared.reading.ReadingsFault.{ReadingsFault};
 
 use crate::reading::{Reading, ReadingsFault};
 use crate::row::{is_header, reading_of};
@@ -78,3 +80,11 @@ fn take_row(
         Err(_) => Err(ReadingsFault::NoMemory),
     }
 }
+
+/// A text of readings has one answer, which is a function of the text and the tariff's decimals: the
+/// relation by which `read_readings` is told is the graph of that function, but for want of memory.
+pub fn texts_have_one_reading()
+    ensures { (decimals : ℕ) (text : List ℕ) (answer : Result (List Reading) ReadingsFault)
+        → answer ≢ Err ReadingsFault.NoMemory
+        → (readings_in decimals text ≡ answer) ↔ IsReadAs decimals text answer }
+{}

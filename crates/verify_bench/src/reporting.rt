@@ -47,7 +47,7 @@ pub fn report(
 }
 
 /// The element at a place, where there is one.
-fn at<T: Copy>(list: &[T], place: usize) -> Option<T>
+pub(crate) fn at<T: Copy>(list: &[T], place: usize) -> Option<T>
     ensures { result ≡ slice_get list.now place }
 {
     list.get(place).copied()

@@ -3,8 +3,8 @@
 ghost use Rattle.std.specs.Prelude.{◌≤◌};
 
 use crate::{
-    Expected, Generator, Reading, ReadingsFault, Verdict, generated_events, judge, read_readings,
-    report,
+    Expected, Generator, Reading, ReadingsFault, Verdict, do_all_pass, generated_events, judge,
+    read_readings, report,
 };
 use outside::Files;
 use std::alloc::Global;
@@ -35,103 +35,150 @@ const fn due(fare: u64, hired_mm: u128, ticks: u32) -> Expected {
     }
 }
 
+/// The fare, distance and time of hirings, those that were read, display steps, and the verdicts.
+const JUDGED: [((u64, u128, u32), (u64, u64, u64), u64, Verdict); 17] = [
+    (
+        (1440, 6_000_000, 6601),
+        (1460, 6_012_000, 6607),
+        20,
+        Verdict::Pass,
+    ),
+    (
+        (1440, 6_000_000, 6601),
+        (1420, 5_988_000, 6595),
+        20,
+        Verdict::Pass,
+    ),
+    (
+        (1440, 6_000_000, 6601),
+        (1461, 6_012_000, 6607),
+        20,
+        Verdict::Fare,
+    ),
+    (
+        (1440, 6_000_000, 6601),
+        (1419, 6_012_000, 6607),
+        20,
+        Verdict::Fare,
+    ),
+    (
+        (1440, 6_000_000, 6601),
+        (1480, 6_012_000, 6607),
+        20,
+        Verdict::Fare,
+    ),
+    (
+        (1440, 6_000_000, 6601),
+        (1460, 6_012_001, 6607),
+        20,
+        Verdict::Distance,
+    ),
+    (
+        (1440, 6_000_000, 6601),
+        (1460, 6_012_100, 6607),
+        20,
+        Verdict::Distance,
+    ),
+    (
+        (1440, 6_000_000, 6601),
+        (1460, 6_012_000, 6608),
+        20,
+        Verdict::Time,
+    ),
+    (
+        (1440, 6_000_000, 6601),
+        (1461, 6_012_001, 6608),
+        20,
+        Verdict::Fare,
+    ),
+    (
+        (1440, 6_000_000, 6601),
+        (1460, 6_012_001, 6608),
+        20,
+        Verdict::Distance,
+    ),
+    ((0, 0, 0), (1, 4000, 2), 1, Verdict::Pass),
+    ((0, 0, 0), (2, 4000, 2), 1, Verdict::Fare),
+    ((0, 0, 0), (1, 4001, 2), 1, Verdict::Distance),
+    ((0, 0, 0), (1, 4000, 3), 1, Verdict::Time),
+    ((99_999_999, 0, 0), (99_900_000, 0, 0), 1, Verdict::Pass),
+    ((99_999_999, 0, 0), (99_899_999, 0, 0), 1, Verdict::Fare),
+    ((0, u128::MAX, 0), (0, u64::MAX, 0), 1, Verdict::Distance),
+];
+
 #[test]
 fn readings_are_judged(rt: HostRuntime) {
-    for (expected, reading, step, want) in [
-        (TRIP, read(1460, 6_012_000, 6607), 20, Verdict::Pass),
-        (TRIP, read(1420, 5_988_000, 6595), 20, Verdict::Pass),
-        (TRIP, read(1461, 6_012_000, 6607), 20, Verdict::Fare),
-        (TRIP, read(1419, 6_012_000, 6607), 20, Verdict::Fare),
-        (TRIP, read(1480, 6_012_000, 6607), 20, Verdict::Fare),
-        (TRIP, read(1460, 6_012_001, 6607), 20, Verdict::Distance),
-        (TRIP, read(1460, 6_012_100, 6607), 20, Verdict::Distance),
-        (TRIP, read(1460, 6_012_000, 6608), 20, Verdict::Time),
-        (TRIP, read(1461, 6_012_001, 6608), 20, Verdict::Fare),
-        (TRIP, read(1460, 6_012_001, 6608), 20, Verdict::Distance),
-        (due(0, 0, 0), read(1, 4000, 2), 1, Verdict::Pass),
-        (due(0, 0, 0), read(2, 4000, 2), 1, Verdict::Fare),
-        (due(0, 0, 0), read(1, 4001, 2), 1, Verdict::Distance),
-        (due(0, 0, 0), read(1, 4000, 3), 1, Verdict::Time),
-        (
-            due(99_999_999, 0, 0),
-            read(99_900_000, 0, 0),
-            1,
-            Verdict::Pass,
-        ),
-        (
-            due(99_999_999, 0, 0),
-            read(99_899_999, 0, 0),
-            1,
-            Verdict::Fare,
-        ),
-        (
-            due(0, u128::MAX, 0),
-            read(0, u64::MAX, 0),
-            1,
-            Verdict::Distance,
-        ),
-    ] {
+    for (wanted, found, step, want) in JUDGED {
+        let expected = due(wanted.0, wanted.1, wanted.2);
+        let reading = read(found.0, found.1, found.2);
         assert_eq!(rt; judge(&expected, &reading, step), want, "{reading:?}");
     }
 }
 
+const ONE: Reading = Reading {
+    fare: 1460,
+    distance_mm: 6_012_000,
+    tenths: 6607,
+};
+
+const TWO: Reading = Reading {
+    fare: 100,
+    distance_mm: 2,
+    tenths: 30,
+};
+
+/// Texts, and the readings that they say, or why they aren't read.
+const TEXTS: [(&str, Result<&[Reading], ReadingsFault>); 18] = [
+    ("fare,distance,time\n14.60,6012,660.7\n", Ok(&[ONE])),
+    ("fare,distance,time", Ok(&[])),
+    (
+        "fare,distance,time\r\n14.60,6012,660.7\r1,0.002,3",
+        Ok(&[ONE, TWO]),
+    ),
+    (
+        "\n\r\n\"fare\",\"distance\",time\n\n\n\"14.60\",6012.000,660.7\n",
+        Ok(&[ONE]),
+    ),
+    ("\u{feff}fare,distance,time\n1.0,00.002,3.0\n", Ok(&[TWO])),
+    ("", Err(ReadingsFault::BadRow(1))),
+    ("\n\n", Err(ReadingsFault::BadRow(1))),
+    ("14.60,6012,660.7\n", Err(ReadingsFault::BadRow(1))),
+    ("fare,distance\n", Err(ReadingsFault::BadRow(1))),
+    ("fare, distance,time\n", Err(ReadingsFault::BadRow(1))),
+    ("fare,distance,time,\n", Err(ReadingsFault::BadRow(1))),
+    (
+        "fare,distance,time\n14.60,6012\n",
+        Err(ReadingsFault::BadRow(2)),
+    ),
+    (
+        "fare,distance,time\n\n14.60,6012,660.7\n\n14.60,6012,660.7,1\n",
+        Err(ReadingsFault::BadRow(3)),
+    ),
+    (
+        "fare,distance,time\n14.605,6012,660.7\n",
+        Err(ReadingsFault::BadRow(2)),
+    ),
+    (
+        "fare,distance,time\n14.60,6012.0001,660.7\n",
+        Err(ReadingsFault::BadRow(2)),
+    ),
+    (
+        "fare,distance,time\n14.60,6012,660.75\n",
+        Err(ReadingsFault::BadRow(2)),
+    ),
+    (
+        "fare,distance,time\n14.60,,660.7\n",
+        Err(ReadingsFault::BadRow(2)),
+    ),
+    (
+        "fare,distance,time\nfare,distance,time\n",
+        Err(ReadingsFault::BadRow(2)),
+    ),
+];
+
 #[test]
 fn readings_are_read(rt: HostRuntime) {
-    let one = read(1460, 6_012_000, 6607);
-    let two = read(100, 2, 30);
-    for (text, want) in [
-        (
-            "fare,distance,time\n14.60,6012,660.7\n",
-            Ok([one].as_slice()),
-        ),
-        ("fare,distance,time", Ok([].as_slice())),
-        (
-            "fare,distance,time\r\n14.60,6012,660.7\r1,0.002,3",
-            Ok([one, two].as_slice()),
-        ),
-        (
-            "\n\r\n\"fare\",\"distance\",time\n\n\n\"14.60\",6012.000,660.7\n",
-            Ok([one].as_slice()),
-        ),
-        (
-            "\u{feff}fare,distance,time\n1.0,00.002,3.0\n",
-            Ok([two].as_slice()),
-        ),
-        ("", Err(ReadingsFault::BadRow(1))),
-        ("\n\n", Err(ReadingsFault::BadRow(1))),
-        ("14.60,6012,660.7\n", Err(ReadingsFault::BadRow(1))),
-        ("fare,distance\n", Err(ReadingsFault::BadRow(1))),
-        ("fare, distance,time\n", Err(ReadingsFault::BadRow(1))),
-        ("fare,distance,time,\n", Err(ReadingsFault::BadRow(1))),
-        (
-            "fare,distance,time\n14.60,6012\n",
-            Err(ReadingsFault::BadRow(2)),
-        ),
-        (
-            "fare,distance,time\n\n14.60,6012,660.7\n\n14.60,6012,660.7,1\n",
-            Err(ReadingsFault::BadRow(3)),
-        ),
-        (
-            "fare,distance,time\n14.605,6012,660.7\n",
-            Err(ReadingsFault::BadRow(2)),
-        ),
-        (
-            "fare,distance,time\n14.60,6012.0001,660.7\n",
-            Err(ReadingsFault::BadRow(2)),
-        ),
-        (
-            "fare,distance,time\n14.60,6012,660.75\n",
-            Err(ReadingsFault::BadRow(2)),
-        ),
-        (
-            "fare,distance,time\n14.60,,660.7\n",
-            Err(ReadingsFault::BadRow(2)),
-        ),
-        (
-            "fare,distance,time\nfare,distance,time\n",
-            Err(ReadingsFault::BadRow(2)),
-        ),
-    ] {
+    for (text, want) in TEXTS {
         match (read_readings(rt.alloc(), text.as_bytes(), 2), want) {
             (Ok(readings), Ok(want)) => assert_eq!(rt; readings.as_slice(), want, "{text}"),
             (Err(fault), Err(want)) => assert_eq!(rt; fault, want, "{text}"),
@@ -196,6 +243,27 @@ fn reports_have_a_row_for_each_place(rt: HostRuntime) {
     }
 }
 
+#[test]
+fn readings_pass_where_all_do(rt: HostRuntime) {
+    let readings = [read(1460, 6_012_000, 6607), read(1000, 1234, 13)];
+    let expected = [TRIP, due(1000, 1234, 10)];
+    for (count, number, want) in [
+        (0, 0, true),
+        (1, 1, true),
+        (1, 0, false),
+        (0, 1, false),
+        (2, 2, false),
+    ] {
+        let expected = &expected[..count];
+        let readings = &readings[..number];
+        assert_eq!(rt;
+            do_all_pass(expected, readings, 20),
+            want,
+            "{count} {number}"
+        );
+    }
+}
+
 /// The bytes of a word of a generated drive, read in pieces of so many bytes.
 fn bytes_of(alloc: Global, seed: u64, trips: u32, word: usize, piece: usize) -> Option<Vec<u8>>
     requires { (1 ≤ trips) × (trips ≤ 1000) }
@@ -220,9 +288,7 @@ fn bytes_of(alloc: Global, seed: u64, trips: u32, word: usize, piece: usize) -> 
     None
 }
 
-#[test]
-fn drives_are_generated(rt: HostRuntime) {
-    let with_extra = "U 1772406000
+const WITH_EXTRA: &str = "U 1772406000
 C 1772406000
 I 10 378
 K P 2
@@ -246,7 +312,8 @@ I 0 1
 K C
 I 0 1
 ";
-    let with_drop = "U 1772406000
+
+const WITH_DROP: &str = "U 1772406000
 C 1772406000
 I 10 644
 K P 1
@@ -268,10 +335,13 @@ I 0 1
 K C
 I 0 1
 ";
+
+#[test]
+fn drives_are_generated(rt: HostRuntime) {
     for (seed, word, piece, want) in [
-        (7, 0, 512, with_extra),
-        (7, 0, 1, with_extra),
-        (8, 0, 7, with_drop),
+        (7, 0, 512, WITH_EXTRA),
+        (7, 0, 1, WITH_EXTRA),
+        (8, 0, 7, WITH_DROP),
         (7, 1, 512, ""),
     ] {
         let bytes = bytes_of(rt.alloc(), seed, 1, word, piece);

@@ -1,0 +1,82 @@
+//! Writes the cross-over speeds of a tariff.
+ghost use Rattle.std.specs.Prelude.{◌≡◌, ◌+◌, ◌≤◌, ◌<◌, ◌^◌, ◌++◌, [], All, map, length, IfOk, OnOk};
+ghost use Rattle.arrayvec.specs.ArrayVec.{array_vec_len};
+ghost use Rattle.tariff_check.specs.Parts.{RateNumbers, rates_of};
+ghost use Rattle.tariff_check.specs.Sound.{IsSoundRate};
+ghost use Rattle.tariff_syntax.specs.Tree.{line_of, tree_of};
+ghost use Rattle.verify_bench.specs.CrossOvers.{cross_over_line, cross_over_of, cross_overs_text, speed_text};
+
+use drive_modes::cross_over;
+use std::alloc::Global;
+use tariff_check::Checked;
+use tariff_syntax::{Item, RateLine, TariffLine};
+use taxi_units::{Line, NoMemory, push_bytes, push_number};
+
+/// A line `CROSSOVER i v m/h` for each rate line of a tariff, the i-th in their order, whose cross-over
+/// speed is v whole metres an hour, rounded down; `CROSSOVER i none` where its distance costs nothing.
+///
+/// `NoMemory` only where memory ran out. The form is this project's own.
+pub fn cross_overs(alloc: Global, checked: &Checked) -> Result<Vec<u8>, NoMemory>
+    ensures { IfOk result (λ text. text.items ≡ cross_overs_text (tree_of checked.now).lines) }
+{
+    let tariff = checked.tariff();
+    lines_of_rates(alloc, tariff.lines.as_slice())
+}
+
+/// The lines of the rates among lines of a tariff.
+fn lines_of_rates(alloc: Global, lines: &[TariffLine]) -> Result<Vec<u8>, NoMemory>
+    requires { All IsSoundRate (rates_of (map line_of lines.now)) }
+    ensures { IfOk result (λ text. text.items ≡ cross_overs_text (map line_of lines.now)) }
+{
+    let mut text = Vec::new(alloc);
+    let mut number = 0u64;
+    for line in lines {
+        if let Item::Rate(rate) = &line.item {
+            number += 1;
+            let line = line_of_rate(number, rate);
+            match text.extend_from_slice(line.as_slice()) {
+                Ok(()) => {}
+                Err(_) => return Err(NoMemory),
+            }
+        }
+    }
+    Ok(text)
+}
+
+/// The line of a rate.
+fn line_of_rate(number: u64, rate: &RateLine) -> Line
+    requires { IsSoundRate (record { a = rate.now.a; b = rate.now.b; c = rate.now.c; e = rate.now.e }) }
+    ensures { result.items ≡ cross_over_line number
+        (record { a = rate.now.a; b = rate.now.b; c = rate.now.c; e = rate.now.e }) }
+{
+    let mut line = Line::new();
+    push_bytes(&mut line, b"CROSSOVER ");
+    push_number(&mut line, number as u128);
+    push_bytes(&mut line, b" ");
+    push_speed(&mut line, speed_of(rate));
+    push_bytes(&mut line, b"\n");
+    line
+}
+
+/// The cross-over speed of a rate.
+fn speed_of(rate: &RateLine) -> Option<u128>
+    requires { IsSoundRate (record { a = rate.now.a; b = rate.now.b; c = rate.now.c; e = rate.now.e }) }
+    ensures { result ≡ cross_over_of (record { a = rate.now.a; b = rate.now.b; c = rate.now.c; e = rate.now.e }) }
+{
+    cross_over(rate.a, rate.b, rate.c, rate.e)
+}
+
+/// Appends a speed.
+fn push_speed(line: &mut Line, speed: Option<u128>)
+    requires { array_vec_len line.old + 100 ≤ 512 }
+    ensures text { line.new.items ≡ line.old.items ++ speed_text speed }
+    ensures len { array_vec_len line.new ≤ array_vec_len line.old + 44 }
+{
+    match speed {
+        None => push_bytes(line, b"none"),
+        Some(speed) => {
+            push_number(line, speed);
+            push_bytes(line, b" m/h");
+        }
+    }
+}
