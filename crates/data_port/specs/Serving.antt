@@ -53,6 +53,12 @@ ShowsEnd (BadAt place) taken left =
     (first_bad taken ≡ Some place) ⊎ ((left ≡ []) × (bad_at_end taken ≡ Some place))
 ShowsEnd Endless taken left = length taken ≡ stream_limit
 
+-- the bytes of a stream that were taken tell its end
+pub record TellsEnd (stream left : List ℕ) : Type 0 where
+  pub taken : List ℕ
+  pub split : IsSplit stream taken left
+  pub shows : ShowsEnd (stream_end stream) taken left
+
 -- the replies to requests, one behind the other
 abbrev pub replies : Durable → Seal → List Request → List ℕ
 replies durable seal requests = flat_map (reply_to durable seal) requests

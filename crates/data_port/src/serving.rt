@@ -200,7 +200,7 @@ fn print_replies<B: Board<L>, L: Ledger>(
 }
 
 /// Prints the reply to a request.
-#[tactic(auto, using(outside::proofs::Laws::keeps_none, outside::proofs::Laws::keeps_print, outside::proofs::Laws::keeps_then))]
+#[tactic(auto, using(outside::proofs::Laws::keeps_print))]
 fn print_reply<B: Board<L>, L: Ledger>(
     request: &Request,
     durable: &Durable,

@@ -66,7 +66,7 @@ regrouped n rest = simp append_assoc
 numbers_back : (n : Numbers) (rest : List ℕ) → Fit n → numbers_at (numbers_text n ++ rest) ≡ Some n
 numbers_back n rest fit = ap numbers_at (regrouped n rest) ∙ line_back n rest fit
 
-driver_back : (driver rest : List ℕ) → IsDriver driver → prefix_len is_driver_character rest ≡ 0 → driver_at (driver ++ rest) ≡ Some (driver, rest)
+pub driver_back : (driver rest : List ℕ) → IsDriver driver → prefix_len is_driver_character rest ≡ 0 → driver_at (driver ++ rest) ≡ Some (driver, rest)
 unfolding driver_at
 driver_back driver rest valid stops =
     let count : prefix_len is_driver_character (driver ++ rest) ≡ length driver = whole_front is_driver_character driver rest valid.characters stops in

@@ -1,10 +1,16 @@
 pub mod Again
 pub mod Assembling
+pub mod BookAnswers
+pub mod DriverWords
 pub mod Drivers
+pub mod Fewer
 pub mod Figures
 pub mod Growing
+pub mod Inserted
+pub mod Laws
 pub mod Lines
 pub mod Nexts
 pub mod Once
+pub mod Reported
 pub mod Rising
 pub mod Sharing

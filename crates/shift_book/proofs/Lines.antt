@@ -1,10 +1,14 @@
 -- The line of a mark says the mark.
-use Rattle.std.proofs.Common.{◌≡◌, ℕ, ◌↔◌, List, [], ◌∷◌, ◌++◌, refl, ap, sym, ◌∙◌, arith, append_assoc}
+use Rattle.std.proofs.Common.{◌≡◌, ℕ, ◌↔◌, List, [], ◌∷◌, ◌++◌, length, ◌<◌, ◌≤◌, ◌^◌, refl, ap, sym, ◌∙◌, arith, append_assoc}
 use Rattle.std.specs.Fmt.{decimal}
-use Rattle.taxi_units.proofs.Laws.{numbers_are_written_by_their_digits}
+use Rattle.taxi_units.proofs.Laws.{numbers_are_short, numbers_are_written_by_their_digits}
 use Rattle.shift_book.specs.declared.numbers.Numbers.{Numbers}
 use Rattle.shift_book.specs.Following.{Fit}
 use Rattle.shift_book.specs.Marks.{Signing, HasDriver, SaysNumbers, IsMarkLine, head_text, numbers_text, mark_text, six_fields}
+
+-- a number below 2^64 has at most 20 digits
+pub counts_are_short : (value : ℕ) → value < 2 ^ 64 → length (decimal value) ≤ 20
+counts_are_short value small = (numbers_are_short 20 value (omega arith) (omega arith) (omega arith)).1
 
 fields_are : (a b c d e f : List ℕ) → (32 ∷ a) ++ ((32 ∷ b) ++ ((32 ∷ c) ++ ((32 ∷ d) ++ ((32 ∷ e) ++ ((32 ∷ f) ++ 10 ∷ []))))) ≡ six_fields a b c d e f
 fields_are a b c d e f = simp append_assoc

@@ -24,7 +24,7 @@ pub record SoFar (sums : List (Driver × Numbers)) (left all : List Shift) : Typ
   pub each : (d : Driver) (c : Column) → sum_for d c sums + sum_by (gives d c) left ≡ sum_by (gives d c) all
   pub total : (c : Column) → sum_by (λ n. at c n) (values_of sums) + sum_by (λ s. at c s.growth) left ≡ sum_by (λ s. at c s.growth) all
 
-driver_total : IsTotalOrder driver_cmp
+pub driver_total : IsTotalOrder driver_cmp
 driver_total = on_total (λ (d : Driver). d.items) nat_list_cmp_total
 
 pub none_yet : (sums : List (Driver × Numbers)) (all : List Shift) → sums ≡ [] → SoFar sums all all

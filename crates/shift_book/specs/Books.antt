@@ -11,7 +11,8 @@ abbrev pub longest : ℕ
 longest = 1048576
 
 -- the line at the front of a text is that of a mark, which may follow the one before it
-pub record IsNext (now : Durable) (before : Option Signing) (text : List ℕ) (mark : Signing) (rest : List ℕ) : Type 0 where
+pub record IsNext (now : Durable) (before : Option Signing) (text : List ℕ) (mark : Signing)
+    (rest : List ℕ) : Type 0 where
   pub line : text ≡ mark_text mark ++ rest
   pub follows : MayFollow now before mark
 

@@ -1,3 +1,4 @@
+pub mod BookReading
 pub mod Books
 pub mod Following
 pub mod Marks

@@ -1,5 +1,5 @@
 -- The mark that a line says if it is one: what is found at the front of a text.
-use Rattle.std.specs.Prelude.{ℕ, ◌-◌, ◌^◌, nat_lt, nat_le, ◌==◌, ◌||◌, true, false, if◌then◌else◌, List, [], take, drop, codes, Option, Some, None}
+use Rattle.std.specs.Prelude.{ℕ, ◌-◌, ◌^◌, nat_lt, nat_le, ◌==◌, ◌||◌, true, false, if◌then◌else◌, List, [], ◌∷◌, take, drop, codes, Option, Some, None}
 use Rattle.std.specs.List.{prefix_len}
 use Rattle.std.specs.Str.Parse.{digits_value}
 use Rattle.taxi_units.specs.Number.{digits_at_front}
@@ -39,6 +39,15 @@ counted_driver count text =
 -- a driver
 unfoldable pub driver_at : List ℕ → Option (List ℕ × List ℕ)
 driver_at text = counted_driver (prefix_len is_driver_character text) text
+
+-- a driver, where nothing stands behind
+abbrev pub alone : List ℕ × List ℕ → Option (List ℕ)
+alone (driver, []) = Some driver
+alone (driver, c ∷ cs) = None
+
+-- the driver that a word is
+unfoldable pub driver_of : List ℕ → Option (List ℕ)
+driver_of word = driver_at word >>= (λ found. alone found)
 
 -- a mark that signs on, behind its word
 unfoldable pub on_at : List ℕ → Option Signing

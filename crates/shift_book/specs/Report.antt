@@ -6,7 +6,7 @@ use Rattle.taxi_units.specs.Number.{money_text}
 use Rattle.shift_book.specs.declared.numbers.Numbers.{Numbers}
 use Rattle.shift_book.specs.declared.shift.Shift.{Shift}
 use Rattle.shift_book.specs.Marks.{Signing, number_text}
-use Rattle.shift_book.specs.Shares.{Column, at, Driver, shifts_in, unsigned_in, growth_in, AreSums, AreOrdered}
+use Rattle.shift_book.specs.Shares.{Column, at, Driver, shifts_in, unsigned_in, growth_in, AreSums, AreOrdered, with_shifts}
 
 -- an amount behind a blank
 abbrev pub amount_text : (decimals units : ℕ) → List ℕ
@@ -26,7 +26,8 @@ shift_line decimals number shift =
 -- the lines of shifts, numbered in order
 abbrev pub shift_lines : (decimals number : ℕ) → List Shift → List ℕ
 shift_lines decimals number [] = []
-shift_lines decimals number (shift ∷ shifts) = shift_line decimals number shift ++ shift_lines decimals (number + 1) shifts
+shift_lines decimals number (shift ∷ shifts) =
+    shift_line decimals number shift ++ shift_lines decimals (number + 1) shifts
 
 -- the line of a driver's sum
 abbrev pub driver_line : (decimals : ℕ) → Driver × Numbers → List ℕ
@@ -37,8 +38,15 @@ abbrev pub driver_lines : (decimals : ℕ) → List (Driver × Numbers) → List
 driver_lines decimals [] = []
 driver_lines decimals (sum ∷ sums) = driver_line decimals sum ++ driver_lines decimals sums
 
--- the report: a line for each shift, one for each driver, the growth while nobody was on, and all growth; the shifts and
--- the growth while nobody was on add up to all growth, and so do the drivers and it
+-- the text of the report
+abbrev pub report_text : (decimals : ℕ) (now : Numbers) → List Signing → List ℕ
+report_text decimals now marks =
+    shift_lines decimals 1 (shifts_in now marks) ++ (driver_lines decimals (with_shifts [] (shifts_in now marks))
+    ++ ((codes "UNSIGNED" ++ growth_text decimals (unsigned_in now marks))
+    ++ (codes "GROWTH" ++ growth_text decimals (growth_in now marks))))
+
+-- the report: a line for each shift, one for each driver, the growth while nobody was on, and all growth; the shifts
+-- and the growth while nobody was on add up to all growth, and so do the drivers and it
 pub record IsReport (decimals : ℕ) (now : Numbers) (marks : List Signing) (report : List ℕ) : Type 0 where
   pub sums : List (Driver × Numbers)
   pub text_is : report ≡ shift_lines decimals 1 (shifts_in now marks) ++ (driver_lines decimals sums

@@ -1,6 +1,6 @@
 -- What grew between the points of a book, and whose it is.
 use Rattle.std.specs.Prelude.{◌≡◌, ℕ, ◌+◌, ◌-◌, Bool, if◌then◌else◌, List, [], ◌∷◌, ◌++◌, is_some, unwrap_or, ⊤}
-use Rattle.std.specs.BTreeMap.{is_at}
+use Rattle.std.specs.BTreeMap.{insert_entry, is_at}
 use Rattle.std.specs.List.{list_any, sum_by}
 use Rattle.std.specs.List.Sorted.{IsStrictlySortedBy}
 use Rattle.std.specs.Map.{keys_of, values_of, lookup}
@@ -39,8 +39,9 @@ nothing = numbers_of 0 0 0 0 0 0
 -- the growth from one point to a later one
 abbrev pub grown : (before after : Numbers) → Numbers
 grown before after =
-    numbers_of (after.number - before.number) (after.distance_mm - before.distance_mm) (after.hired_mm - before.hired_mm)
-    (after.hirings - before.hirings) (after.supplements - before.supplements) (after.fare - before.fare)
+    numbers_of (after.number - before.number) (after.distance_mm - before.distance_mm)
+    (after.hired_mm - before.hired_mm) (after.hirings - before.hirings)
+    (after.supplements - before.supplements) (after.fare - before.fare)
 
 -- two growths together
 abbrev pub plus : Numbers → Numbers → Numbers
@@ -102,12 +103,13 @@ gives driver column shift = if is_of driver shift then at column shift.growth el
 abbrev pub sum_for : Driver → Column → List (Driver × Numbers) → ℕ
 sum_for driver column sums = unwrap_or (option_map (at column) (lookup (is_at (driver_cmp driver)) sums)) 0
 
--- the sums of drivers over some shifts: those drivers who have a shift, each with the sum over that driver's shifts, and
--- all of them together have the growth of all shifts
+-- the sums of drivers over some shifts: those drivers who have a shift, each with the sum over that driver's shifts,
+-- and all of them together have the growth of all shifts
 pub record AreSums (sums : List (Driver × Numbers)) (shifts : List Shift) : Type 0 where
   pub drivers : (driver : Driver) → is_some (lookup (is_at (driver_cmp driver)) sums) ≡ list_any (is_of driver) shifts
   pub each : (driver : Driver) (column : Column) → sum_for driver column sums ≡ sum_by (gives driver column) shifts
-  pub all : (column : Column) → sum_by (λ n. at column n) (values_of sums) ≡ sum_by (λ shift. at column shift.growth) shifts
+  pub all : (column : Column) → sum_by (λ n. at column n) (values_of sums)
+      ≡ sum_by (λ shift. at column shift.growth) shifts
 
 -- the drivers stand in the order of their bytes, each once
 abbrev pub AreOrdered : List (Driver × Numbers) → Type 0
@@ -116,6 +118,16 @@ AreOrdered sums = IsStrictlySortedBy driver_cmp (keys_of sums)
 -- the sum that a driver has so far
 abbrev pub sum_so_far : Driver → List (Driver × Numbers) → Numbers
 sum_so_far driver sums = unwrap_or (lookup (is_at (driver_cmp driver)) sums) nothing
+
+-- drivers' sums, with one shift more
+abbrev pub with_shift : List (Driver × Numbers) → Shift → List (Driver × Numbers)
+with_shift sums shift =
+    insert_entry driver_cmp sums shift.driver (plus (sum_so_far shift.driver sums) shift.growth)
+
+-- and with some shifts more, one after another
+abbrev pub with_shifts : List (Driver × Numbers) → List Shift → List (Driver × Numbers)
+with_shifts sums [] = sums
+with_shifts sums (shift ∷ shifts) = with_shifts (with_shift sums shift) shifts
 
 -- the growth of some shifts together
 abbrev pub total_of : List Shift → Numbers

@@ -1,9 +1,11 @@
 //! Books: the marks that a keeper put behind one another.
-ghost use Rattle.std.specs.Prelude.{MatchResult};
+ghost use Rattle.std.specs.Prelude.{◌≡◌, ◌≢◌, ◌≤◌, length, Ok, Err, IfOk, MatchResult};
+ghost use Rattle.shift_book.specs.BookReading.{book_read};
 ghost use Rattle.shift_book.specs.Books.{IsBook, IsFault};
 
 use crate::following::next_mark;
 use crate::mark::Mark;
+use crate::numbers::numbers_in;
 use std::alloc::Global;
 use thiserror::Error;
 use totaliser_store::Durable;
@@ -34,9 +36,14 @@ const LONGEST: usize = 1_048_576;
 /// that is none of a mark that may follow, where there is one. `NoMemory` where memory runs out before
 /// that is known. The form and the limit are this project's own.
 pub fn read_book(alloc: Global, text: &[u8], now: &Durable) -> Result<Vec<Mark>, BookFault>
-    ensures { MatchResult result (λ marks. IsBook now.now text.now marks.items)
+    ensures meaning { MatchResult result (λ marks. IsBook now.now text.now marks.items)
         (λ fault. IsFault now.now text.now fault) }
+    ensures few { IfOk result (λ marks. length marks.items ≤ length text.now) }
+    ensures marks { IfOk result (λ marks. book_read now.now text.now ≡ Ok marks.items) }
+    ensures refused { (fault : BookFault) → result ≡ Err fault → fault ≢ BookFault.NoMemory
+        → book_read now.now text.now ≡ Err fault }
 {
+    let _limit = numbers_in(now);
     if text.len() > LONGEST {
         return Err(BookFault::TooLong);
     }

@@ -1,6 +1,8 @@
 //! What the answer to the text of a book means: a text has one answer at most.
-ghost use Rattle.std.specs.Prelude.{◌≡◌, ℕ, List};
-ghost use Rattle.shift_book.specs.Books.{IsBook, IsFirstBad};
+ghost use Rattle.std.specs.Prelude.{◌≡◌, ◌↔◌, ℕ, ◌<◌, List, length, Ok, Err};
+ghost use Rattle.shift_book.specs.BookReading.{book_read};
+ghost use Rattle.shift_book.specs.Books.{IsBook, IsFirstBad, longest};
+ghost use Rattle.shift_book.specs.declared.book.BookFault.TheVariants as BookFault;
 ghost use Rattle.shift_book.specs.Following.{Fit, numbers_in};
 ghost use Rattle.shift_book.specs.Marks.{Signing};
 ghost use Rattle.totaliser_store.specs.declared.durable.Durable.{Durable};
@@ -14,4 +16,15 @@ pub fn books_are_read_one_way()
         → IsFirstBad now text a → IsFirstBad now text b → a ≡ b }
     ensures never_both { (now : Durable) (text : List ℕ) (marks : List Signing) (line : ℕ) → Fit (numbers_in now)
         → IsBook now text marks → ¬ (IsFirstBad now text line) }
+{}
+
+/// A law: the answer to a text is its marks exactly where it is a book of them, its first bad line
+/// exactly where it has one, and that it is too long exactly above 1,048,576 bytes.
+pub fn texts_are_read_as_they_say()
+    ensures marks { (now : Durable) (text : List ℕ) (marks : List Signing) → Fit (numbers_in now)
+        → (book_read now text ≡ Ok marks) ↔ IsBook now text marks }
+    ensures lines { (now : Durable) (text : List ℕ) (line : ℕ) → Fit (numbers_in now)
+        → (book_read now text ≡ Err (BookFault.BadLine line)) ↔ IsFirstBad now text line }
+    ensures long { (now : Durable) (text : List ℕ) → Fit (numbers_in now)
+        → (book_read now text ≡ Err BookFault.TooLong) ↔ (longest < length text) }
 {}

@@ -1,5 +1,5 @@
 //! Marks: what a driver signs on and off by.
-ghost use Rattle.std.specs.Prelude.{◌≡◌, ◌+◌, ◌≤◌, ◌++◌, ◌↔◌, length, IsOk, OnOk, OnErr};
+ghost use Rattle.std.specs.Prelude.{◌≡◌, ◌+◌, ◌<◌, ◌≤◌, ◌++◌, ◌↔◌, length, IsOk, OnOk, OnErr};
 ghost use Rattle.arrayvec.specs.ArrayVec.{array_vec_len};
 ghost use Rattle.shift_book.specs.Following.{Fit};
 ghost use Rattle.shift_book.specs.Marks.{HasDriver, IsMarkLine, head_text, mark_text};
@@ -73,12 +73,15 @@ impl Mark {
 /// Appends the line of a mark: `ON`, the driver and the six numbers, or `OFF` and the six numbers, with
 /// one blank between them and LF at the end. The driver of a mark that signs off isn't written.
 ///
-/// `LineFull` where it doesn't fit; the line is then unchanged. The form is this project's own.
+/// `LineFull` where it doesn't fit; the line is then unchanged. It has at most 222 bytes, so it fits an
+/// empty line. The form is this project's own.
 #[tactic(auto, using(crate::proofs::Lines::said))]
 pub fn put_mark(line: &mut Line, mark: &Mark) -> Result<(), LineFull>
     ensures variant { IsOk result ↔ (array_vec_len line.old + length (mark_text mark.now) ≤ 512) }
     ensures ok { OnOk result (line.new.items ≡ line.old.items ++ mark_text mark.now) }
     ensures err { OnErr result (line.new ≡ line.old) }
+    ensures some { 0 < length (mark_text mark.now) }
+    ensures short { length (mark_text mark.now) ≤ 222 }
     ensures says { HasDriver mark.now.on mark.now.driver → IsMarkLine (mark_text mark.now) mark.now }
 {
     let _numbers = mark.numbers();
@@ -87,7 +90,9 @@ pub fn put_mark(line: &mut Line, mark: &Mark) -> Result<(), LineFull>
 
 /// The line of a mark.
 pub(crate) fn spelled(mark: &Mark) -> Line
-    ensures { result.items ≡ mark_text mark.now }
+    ensures text { result.items ≡ mark_text mark.now }
+    ensures some { 0 < array_vec_len result }
+    ensures short { array_vec_len result ≤ 222 }
 {
     let mut line = Line::new();
     push_head(&mut line, mark);
@@ -99,6 +104,7 @@ pub(crate) fn spelled(mark: &Mark) -> Line
 fn push_head(line: &mut Line, mark: &Mark)
     requires { array_vec_len line.old ≡ 0 }
     ensures text { line.new.items ≡ line.old.items ++ head_text mark.now.on mark.now.driver }
+    ensures some { 0 < array_vec_len line.new }
     ensures most { array_vec_len line.new ≤ 19 }
 {
     if mark.on {

@@ -72,13 +72,15 @@ pub(crate) fn is_nowhere_less(before: &Numbers, after: &Numbers) -> bool
 
 /// Appends the numbers, each behind a blank, and the end of the line.
 pub(crate) fn push_numbers(line: &mut Line, numbers: &Numbers)
-    requires room { array_vec_len line.old + 241 ≤ 512 }
-    ensures { line.new.items ≡ line.old.items ++ numbers_text numbers.now }
+    requires room { array_vec_len line.old + 220 ≤ 512 }
+    ensures text { line.new.items ≡ line.old.items ++ numbers_text numbers.now }
+    ensures some { array_vec_len line.old ≤ array_vec_len line.new }
+    ensures most { array_vec_len line.new ≤ array_vec_len line.old + 203 }
 {
-    push_field(line, u128::from(numbers.number));
+    push_count(line, numbers.number);
     push_field(line, numbers.distance_mm);
     push_field(line, numbers.hired_mm);
-    push_field(line, u128::from(numbers.hirings));
+    push_count(line, numbers.hirings);
     push_field(line, numbers.supplements);
     push_field(line, numbers.fare);
     push_bytes(line, b"\n");
@@ -92,6 +94,16 @@ pub(crate) fn push_field(line: &mut Line, value: u128)
 {
     push_bytes(line, b" ");
     push_number(line, value);
+}
+
+/// Appends a number below 2^64 behind a blank.
+#[tactic(auto, using(crate::proofs::Lines::counts_are_short))]
+fn push_count(line: &mut Line, value: u64)
+    requires room { array_vec_len line.old + 40 ≤ 512 }
+    ensures text { line.new.items ≡ line.old.items ++ number_text value }
+    ensures most { array_vec_len line.new ≤ array_vec_len line.old + 21 }
+{
+    push_field(line, u128::from(value));
 }
 
 /// The six numbers at the front of a text, each behind a blank.

@@ -1,8 +1,9 @@
 //! The mark that a line says, if it is one.
-ghost use Rattle.std.specs.Prelude.{◌≡◌, ◌≤◌, length, IfSome};
+ghost use Rattle.std.specs.Prelude.{◌≡◌, ◌≤◌, length, IfNone, IfSome};
 ghost use Rattle.std.specs.List.{prefix_len};
 ghost use Rattle.taxi_units.specs.Reading.{Gives};
 ghost use Rattle.shift_book.specs.Marks.{HasDriver, IsDriver, is_driver_character};
+ghost use Rattle.shift_book.specs.Reading.{driver_of};
 ghost use Rattle.shift_book.specs.Reading as spec;
 
 use crate::mark::Mark;
@@ -42,6 +43,20 @@ fn off_at(text: &[u8]) -> Option<Mark>
     let rest = word(text, b"OFF")?;
     let numbers = numbers_at(rest)?;
     Some(Mark::with(ArrayVec::new(), false, &numbers))
+}
+
+/// The driver that a word is: 1 to 16 characters of A to Z, 0 to 9 and `-`. None where it is none. The
+/// form is this project's own.
+#[tactic(auto, unfolding(crate::specs::Reading::driver_of))]
+pub fn read_driver(word: &[u8]) -> Option<ArrayVec<u8, 16>>
+    ensures answer { Gives (λ driver. driver.items) result (driver_of word.now) }
+    ensures some { IfSome result (λ driver. (driver.items ≡ word.now) × IsDriver word.now) }
+    ensures none { IfNone result (¬ IsDriver word.now) }
+{
+    match driver_at(word) {
+        None => None,
+        Some((driver, rest)) => { if rest.is_empty() { Some(driver) } else { None } }
+    }
 }
 
 /// A driver at the front of a text, and what stands after.

@@ -1,8 +1,9 @@
 //! The report of a book.
-ghost use Rattle.std.specs.Prelude.{◌≡◌, ◌+◌, ◌≤◌, ◌++◌, None, length, IfOk, OnOk};
+ghost use Rattle.std.specs.Prelude.{◌≡◌, ◌+◌, ◌*◌, ◌≤◌, ◌++◌, None, length, vec_len, IfOk, OnOk};
 ghost use Rattle.arrayvec.specs.ArrayVec.{array_vec_len};
 ghost use Rattle.shift_book.specs.Following.{FollowOn, numbers_in};
-ghost use Rattle.shift_book.specs.Report.{IsReport, amount_text, driver_lines, driver_line, growth_text, shift_line, shift_lines};
+ghost use Rattle.shift_book.specs.Report.{IsReport, amount_text, driver_line, driver_lines, growth_text};
+ghost use Rattle.shift_book.specs.Report.{report_text, shift_line, shift_lines};
 
 use crate::mark::Mark;
 use crate::numbers::{Numbers, numbers_in, push_field};
@@ -18,7 +19,8 @@ use totaliser_store::Durable;
 /// the distance and the distance when hired in metres with three decimals, the fare and the supplements
 /// with so many decimals. A shift that is still on runs to the store as it is.
 ///
-/// `NoMemory` where memory runs out. The form is this project's own.
+/// It has at most 1,024 bytes for each mark, and 1,024 more. `NoMemory` where memory runs out. The form is
+/// this project's own.
 pub fn shifts(
     alloc: Global,
     marks: &[Mark],
@@ -27,7 +29,9 @@ pub fn shifts(
 ) -> Result<Vec<u8>, NoMemory>
     requires book { FollowOn now.now None marks.now }
     requires decimals { decimals ≤ 3 }
-    ensures { IfOk result (λ report. IsReport decimals (numbers_in now.now) marks.now report.items) }
+    ensures text { IfOk result (λ report. report.items ≡ report_text decimals (numbers_in now.now) marks.now) }
+    ensures short { IfOk result (λ report. vec_len report ≤ 1024 * (length marks.now + 1)) }
+    ensures meaning { IfOk result (λ report. IsReport decimals (numbers_in now.now) marks.now report.items) }
 {
     let now = numbers_in(now);
     let unsigned = unsigned_of(marks, &now);
@@ -45,7 +49,8 @@ pub fn shifts(
 /// Appends the lines of the shifts, numbered from 1.
 fn push_shifts(report: &mut Vec<u8>, shifts: &[Shift], decimals: u8) -> Result<(), NoMemory>
     requires { decimals ≤ 3 }
-    ensures { OnOk result (report.new.items ≡ report.old.items ++ shift_lines decimals 1 shifts.now) }
+    ensures text { OnOk result (report.new.items ≡ report.old.items ++ shift_lines decimals 1 shifts.now) }
+    ensures most { OnOk result (vec_len report.new ≤ vec_len report.old + 512 * length shifts.now) }
 {
     let total = shifts.len();
     let mut count = 0usize;
@@ -66,7 +71,8 @@ fn push_shift_line(
     decimals: u8,
 ) -> Result<(), NoMemory>
     requires { decimals ≤ 3 }
-    ensures { OnOk result (report.new.items ≡ report.old.items ++ shift_line decimals number shift.now) }
+    ensures text { OnOk result (report.new.items ≡ report.old.items ++ shift_line decimals number shift.now) }
+    ensures most { OnOk result (vec_len report.new ≤ vec_len report.old + 512) }
 {
     let mut head = Line::new();
     push_bytes(&mut head, b"SHIFT ");
@@ -79,7 +85,8 @@ fn push_shift_line(
 /// Appends the lines of the drivers, in the order of their bytes.
 fn push_drivers(report: &mut Vec<u8>, sums: Sums, decimals: u8) -> Result<(), NoMemory>
     requires { decimals ≤ 3 }
-    ensures { OnOk result (report.new.items ≡ report.old.items ++ driver_lines decimals sums.entries) }
+    ensures text { OnOk result (report.new.items ≡ report.old.items ++ driver_lines decimals sums.entries) }
+    ensures most { OnOk result (vec_len report.new ≤ vec_len report.old + 512 * length sums.entries) }
 {
     let mut left = sums;
     while let Some((driver, sum)) = left.pop_first() {
@@ -96,7 +103,8 @@ fn push_driver_line(
     decimals: u8,
 ) -> Result<(), NoMemory>
     requires { decimals ≤ 3 }
-    ensures { OnOk result (report.new.items ≡ report.old.items ++ driver_line decimals (driver.now, sum.now)) }
+    ensures text { OnOk result (report.new.items ≡ report.old.items ++ driver_line decimals (driver.now, sum.now)) }
+    ensures most { OnOk result (vec_len report.new ≤ vec_len report.old + 512) }
 {
     let mut head = Line::new();
     push_bytes(&mut head, b"DRIVER ");
@@ -113,7 +121,8 @@ fn push_line(
 ) -> Result<(), NoMemory>
     requires head { length head.now ≤ 100 }
     requires decimals { decimals ≤ 3 }
-    ensures { OnOk result (report.new.items ≡ report.old.items ++ (head.now ++ growth_text decimals growth.now)) }
+    ensures text { OnOk result (report.new.items ≡ report.old.items ++ (head.now ++ growth_text decimals growth.now)) }
+    ensures most { OnOk result (vec_len report.new ≤ vec_len report.old + 512) }
 {
     let mut line = Line::new();
     push_bytes(&mut line, head);

@@ -1,9 +1,9 @@
 //! The sums of the drivers over their shifts.
-ghost use Rattle.std.specs.Prelude.{◌≡◌, Some, if◌then◌else◌, IfOk, OnOk};
+ghost use Rattle.std.specs.Prelude.{◌≡◌, Some, [], if◌then◌else◌, IfOk, OnOk};
 ghost use Rattle.std.specs.BTreeMap.{insert_entry, is_at};
 ghost use Rattle.std.specs.Map.{lookup};
 ghost use Rattle.shift_book.specs.Following.{Fit};
-ghost use Rattle.shift_book.specs.Shares.{AreOrdered, AreSums, Driver, driver_cmp, is_of, plus, sum_so_far, total_of};
+ghost use Rattle.shift_book.specs.Shares.{AreOrdered, AreSums, Driver, driver_cmp, is_of, plus, sum_so_far, total_of, with_shifts};
 
 use crate::numbers::Numbers;
 use crate::shift::{NOTHING, Shift, plus};
@@ -20,6 +20,7 @@ pub(crate) fn sums_of(alloc: Global, shifts: &[Shift]) -> Result<Sums, NoMemory>
     requires { Fit (total_of shifts.now) }
     ensures sums { IfOk result (λ sums. AreSums sums.entries shifts.now) }
     ensures ordered { IfOk result (λ sums. AreOrdered sums.entries) }
+    ensures entries { IfOk result (λ sums. sums.entries ≡ with_shifts [] shifts.now) }
 {
     let mut sums = BTreeMap::new(alloc);
     let mut left = shifts;

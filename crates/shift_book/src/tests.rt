@@ -1,5 +1,5 @@
 //! Which texts are books, and what their reports say.
-use super::{BookFault, put_mark, read_book, shifts};
+use super::{BookFault, put_mark, read_book, read_driver, shifts};
 use std::alloc::Global;
 use std::test::Fail;
 use taxi_units::Line;
@@ -40,58 +40,107 @@ fn outcome(alloc: Global, text: &[u8]) -> Result<usize, BookFault> {
     Ok(marks.len())
 }
 
-#[test]
-fn reads_books(rt: HostRuntime) -> Result<(), Fail> {
-    for (text, want) in [
-        ("", Ok(0)),
-        ("ON ANNA 1 0 0 0 0 0\n", Ok(1)),
-        ("ON ANNA 1 0 0 0 0 0\nOFF 2 234800 234800 1 0 380\n", Ok(2)),
-        (
-            "ON A-1 1 0 0 0 0 0\nOFF 1 0 0 0 0 0\nON ABCDEFGHIJKLMNOP 2 234800 234800 1 0 380\n",
-            Ok(3),
-        ),
-        (
-            "ON ANNA 1 0 0 0 0 0\nON BEA 1 0 0 0 0 0\n",
-            Err(BookFault::BadLine(2)),
-        ),
-        ("OFF 1 0 0 0 0 0\n", Err(BookFault::BadLine(1))),
-        (
-            "ON ANNA 2 0 0 0 0 0\nOFF 1 0 0 0 0 0\n",
-            Err(BookFault::BadLine(2)),
-        ),
-        (
-            "ON ANNA 1 340282366920938463463374607431768211455 0 0 0 0\n",
-            Err(BookFault::BadLine(1)),
-        ),
-        (
-            "ON ANNA 1 340282366920938463463374607431768211456 0 0 0 0\n",
-            Err(BookFault::BadLine(1)),
-        ),
-        ("ON ANNA 3 0 0 0 0 0\n", Err(BookFault::BadLine(1))),
-        ("ON ANNA 1 0 0 0 0 381\n", Err(BookFault::BadLine(1))),
-        ("ON ANNA 1 0 0 0 0 0", Err(BookFault::BadLine(1))),
-        ("ON ANNA 1 0 0 0 0 0\r\n", Err(BookFault::BadLine(1))),
-        ("ON ANNA 01 0 0 0 0 0\n", Err(BookFault::BadLine(1))),
-        ("ON ANNA 1 0 0 0 0\n", Err(BookFault::BadLine(1))),
-        ("ON ANNA  1 0 0 0 0 0\n", Err(BookFault::BadLine(1))),
-        ("ON Anna 1 0 0 0 0 0\n", Err(BookFault::BadLine(1))),
-        ("ON  1 0 0 0 0 0\n", Err(BookFault::BadLine(1))),
-        (
-            "ON ABCDEFGHIJKLMNOPQ 1 0 0 0 0 0\n",
-            Err(BookFault::BadLine(1)),
-        ),
-        (
-            "ON ANNA 1 0 0 0 0 0\n\nOFF 1 0 0 0 0 0\n",
-            Err(BookFault::BadLine(2)),
-        ),
-    ] {
-        assert_eq!(rt; outcome(rt.alloc(), text.as_bytes()), want, "{text}");
+/// The first text that has another outcome than stands beside it.
+fn first_other<'a>(alloc: Global, rows: &[(&'a str, Result<usize, BookFault>)]) -> Option<&'a str> {
+    for (text, want) in rows {
+        if outcome(alloc, text.as_bytes()) != *want {
+            return Some(*text);
+        }
     }
+    None
+}
+
+#[test]
+fn reads_books(rt: HostRuntime) {
+    let other = first_other(
+        rt.alloc(),
+        &[
+            ("", Ok(0)),
+            ("ON ANNA 1 0 0 0 0 0\n", Ok(1)),
+            ("ON ANNA 1 0 0 0 0 0\nOFF 2 234800 234800 1 0 380\n", Ok(2)),
+            (
+                "ON A-1 1 0 0 0 0 0\nOFF 1 0 0 0 0 0\nON ABCDEFGHIJKLMNOP 2 234800 234800 1 0 380\n",
+                Ok(3),
+            ),
+        ],
+    );
+    assert_eq!(rt; other, None);
+}
+
+#[test]
+fn names_the_mark_that_may_not_follow(rt: HostRuntime) {
+    let other = first_other(
+        rt.alloc(),
+        &[
+            (
+                "ON ANNA 1 0 0 0 0 0\nON BEA 1 0 0 0 0 0\n",
+                Err(BookFault::BadLine(2)),
+            ),
+            ("OFF 1 0 0 0 0 0\n", Err(BookFault::BadLine(1))),
+            (
+                "ON ANNA 2 0 0 0 0 0\nOFF 1 0 0 0 0 0\n",
+                Err(BookFault::BadLine(2)),
+            ),
+            ("ON ANNA 3 0 0 0 0 0\n", Err(BookFault::BadLine(1))),
+            ("ON ANNA 1 0 0 0 0 381\n", Err(BookFault::BadLine(1))),
+        ],
+    );
+    assert_eq!(rt; other, None);
+}
+
+#[test]
+fn names_the_line_that_is_no_mark(rt: HostRuntime) {
+    let other = first_other(
+        rt.alloc(),
+        &[
+            (
+                "ON ANNA 1 340282366920938463463374607431768211455 0 0 0 0\n",
+                Err(BookFault::BadLine(1)),
+            ),
+            (
+                "ON ANNA 1 340282366920938463463374607431768211456 0 0 0 0\n",
+                Err(BookFault::BadLine(1)),
+            ),
+            ("ON ANNA 1 0 0 0 0 0", Err(BookFault::BadLine(1))),
+            ("ON ANNA 1 0 0 0 0 0\r\n", Err(BookFault::BadLine(1))),
+            ("ON ANNA 01 0 0 0 0 0\n", Err(BookFault::BadLine(1))),
+            ("ON ANNA 1 0 0 0 0\n", Err(BookFault::BadLine(1))),
+            ("ON ANNA  1 0 0 0 0 0\n", Err(BookFault::BadLine(1))),
+            ("ON Anna 1 0 0 0 0 0\n", Err(BookFault::BadLine(1))),
+            ("ON  1 0 0 0 0 0\n", Err(BookFault::BadLine(1))),
+            (
+                "ON ABCDEFGHIJKLMNOPQ 1 0 0 0 0 0\n",
+                Err(BookFault::BadLine(1)),
+            ),
+            (
+                "ON ANNA 1 0 0 0 0 0\n\nOFF 1 0 0 0 0 0\n",
+                Err(BookFault::BadLine(2)),
+            ),
+        ],
+    );
+    assert_eq!(rt; other, None);
+}
+
+#[test]
+fn refuses_books_that_are_too_long(rt: HostRuntime) -> Result<(), Fail> {
     let long = vec![in rt.alloc(); b'\n'; 1_048_576]?;
     assert_eq!(rt; outcome(rt.alloc(), &long), Err(BookFault::BadLine(1)));
     let longer = vec![in rt.alloc(); b'\n'; 1_048_577]?;
     assert_eq!(rt; outcome(rt.alloc(), &longer), Err(BookFault::TooLong));
     Ok(())
+}
+
+#[test]
+fn reads_drivers(rt: HostRuntime) {
+    for word in ["A", "ANNA", "A-1", "-", "ABCDEFGHIJKLMNOP"] {
+        assert!(rt;
+            read_driver(word.as_bytes()).is_some_and(|driver| driver.as_slice() == word.as_bytes()),
+            "{word}"
+        );
+    }
+    for word in ["", "anna", "A B", "ANNA\n", "ABCDEFGHIJKLMNOPQ", "Ä"] {
+        assert!(rt; read_driver(word.as_bytes()).is_none(), "{word}");
+    }
 }
 
 #[test]

@@ -1,7 +1,9 @@
-use Rattle.std.proofs.Common.{rules, ◌≡◌, ◌++◌, [], ◌∷◌, List, sym, subst}
+use Rattle.std.proofs.Common.{rules, ◌≡◌, ◌+◌, ◌++◌, [], ◌∷◌, List, arith, sym, subst}
+use Rattle.std.proofs.lemmas.Grind.{common_steps}
 use Rattle.shift_book.specs.Books.{Begins, IsNext}
-use Rattle.shift_book.specs.Following.{last_of}
+use Rattle.shift_book.specs.Following.{Fit, last_of}
 use Rattle.shift_book.specs.Marks.{Signing}
+use Rattle.shift_book.proofs.BookAnswers.{break_is_read, end_is_read, marks_have_bytes}
 use Rattle.shift_book.proofs.Growing.{begins_more, rest_shrinks}
 use Rattle.shift_book.proofs.book.read_book.Goals as goal
 
@@ -16,3 +18,19 @@ loop-rest-preserved c =
 pub loop-rest-smaller : goal.loop-rest-smaller
 loop-rest-smaller c =
     rest_shrinks c.args.now.now (last_of c.as_slice.result.now) c.loop-rest.rest.now c.in-Some.mark c.in-Some.after.now c.in-Some.ensures.some
+
+pub returns-clause-marks : goal.returns-clause-marks
+returns-clause-marks c =
+    end_is_read c.args.now.now c.args.text.now c.loop-rest.marks.items c.loop-rest.rest.now (subst Fit c.numbers_in-limit.ensures.numbers c.numbers_in-limit.ensures.fit)
+    c.if-text-gt-LONGEST.false (grind (arith, common_steps)) c.loop-rest.invariant
+
+pub returns-in-None-clause-refused : goal.returns-in-None-clause-refused
+returns-in-None-clause-refused c = λ fault is not.
+    break_is_read c.args.now.now c.args.text.now c.loop-rest.marks.items c.loop-rest.rest.now (c.len.result + 1) fault
+    (subst Fit c.numbers_in-limit.ensures.numbers c.numbers_in-limit.ensures.fit)
+    c.if-text-gt-LONGEST.false (grind (arith, common_steps)) c.loop-rest.invariant
+    (λ mark after next. c.in-None.ensures.none mark after
+    (subst (λ (marks : List Signing). IsNext c.args.now.now (last_of marks) c.loop-rest.rest.now mark after) (sym c.as_slice.ensures.value) next)) (search rules) is
+
+pub returns-clause-few : goal.returns-clause-few
+returns-clause-few c = marks_have_bytes c.args.now.now c.args.text.now c.loop-rest.marks.items c.loop-rest.rest.now c.loop-rest.invariant

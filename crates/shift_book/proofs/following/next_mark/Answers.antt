@@ -14,13 +14,13 @@ returns-in_default-clause-none c =
 pub returns-in_default-word-clause-none : goal.returns-in_default-word-clause-none
 returns-in_default-word-clause-none c =
     let fit = subst Fit c.numbers_in-limit.ensures.numbers c.numbers_in-limit.ensures.fit in
-    let line = c.as_slice.ensures.value ∙ c.spelled-line.ensures in
+    let line = c.as_slice.ensures.value ∙ c.spelled-line.ensures.text in
     unspelled_is_next c.args.now.now (last_of c.args.marks.now) c.args.text.now c.in-Some.mark fit c.in-Some.ensures.mark
     (subst (λ (w : List ℕ). word_at w c.args.text.now ≡ None) line c.in_default-word.ensures)
 
 pub returns-then-may_follow-clause-some : goal.returns-then-may_follow-clause-some
 returns-then-may_follow-clause-some c =
-    let line = c.as_slice.ensures.value ∙ c.spelled-line.ensures in
+    let line = c.as_slice.ensures.value ∙ c.spelled-line.ensures.text in
     record {
       line = (words_are_read_by_their_text (mark_text c.in-Some.mark) c.args.text.now c.in-Some-word.rest.now).0
           (subst (λ (w : List ℕ). word_at w c.args.text.now ≡ Some c.in-Some-word.rest.now) line c.in-Some-word.ensures);

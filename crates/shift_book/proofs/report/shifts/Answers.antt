@@ -1,10 +1,13 @@
-use Rattle.std.proofs.Common.{◌≡◌, ◌∙◌, ◌++◌, List, None, subst, sym}
+use Rattle.std.proofs.Common.{◌≡◌, ◌∙◌, ◌+◌, ◌*◌, ◌≤◌, ◌++◌, ℕ, List, [], length, None, rules, ap, subst, sym}
+use Rattle.std.specs.Prelude.{vec_len}
 use Rattle.shift_book.specs.declared.numbers.Numbers.{Numbers}
 use Rattle.shift_book.specs.declared.shift.Shift.{Shift}
-use Rattle.shift_book.specs.Following.{Fit}
-use Rattle.shift_book.specs.Report.{IsReport, shift_lines}
-use Rattle.shift_book.specs.Shares.{AreSums, Rise, total_of}
-use Rattle.shift_book.proofs.Assembling.{report_is}
+use Rattle.shift_book.specs.Following.{Fit, numbers_in}
+use Rattle.shift_book.specs.Report.{IsReport, report_text, shift_lines}
+use Rattle.shift_book.specs.Shares.{Rise, total_of, with_shifts}
+use Rattle.shift_book.proofs.Assembling.{text_is}
+use Rattle.shift_book.proofs.Fewer.{short_together}
+use Rattle.shift_book.proofs.Reported.{reports_share_the_growth}
 use Rattle.shift_book.proofs.Rising.{rises, total_fit, unsigned_fit}
 use Rattle.shift_book.proofs.report.shifts.Goals as goal
 
@@ -27,14 +30,27 @@ sums_of-requires c =
     let listed = c.as_slice.ensures.value ∙ c.in_ok-shifts.ensures in
     subst (λ (l : List Shift). Fit (total_of l)) (sym listed) (total_fit c.numbers_in-now.result c.args.marks.now rise c.numbers_in-now.ensures.fit)
 
-pub returns : goal.returns
-returns c =
-    let rise = subst (λ (n : Numbers). Rise n c.args.marks.now) (sym c.numbers_in-now.ensures.numbers) (rises c.args.now.now None c.args.marks.now c.requires.book) in
-    let report = report_is c.args.decimals c.numbers_in-now.result c.args.marks.now c.in_ok-shifts.shifts.items c.in_ok-sums.sums.entries
+pub returns-clause-text : goal.returns-clause-text
+returns-clause-text c =
+    text_is c.args.decimals c.numbers_in-now.result c.args.marks.now c.in_ok-shifts.shifts.items c.in_ok-sums.sums.entries
     c.unsigned_of-unsigned.result c.growth_of-growth.result
     c.new-report.result.items c.push_shifts.new.report.items c.push_drivers.new.report.items c.push_line.new.report.items c.push_line-2.new.report.items
-    c.in_ok-shifts.ensures c.unsigned_of-unsigned.ensures c.growth_of-growth.ensures c.new-report.ensures.items
-    (subst (λ (l : List Shift). c.push_shifts.new.report.items ≡ c.new-report.result.items ++ shift_lines c.args.decimals 1 l) c.as_slice-2.ensures.value c.in_ok-push_shifts.ensures)
-    c.in_ok-push_drivers.ensures c.in_ok-push_line.ensures c.in_ok-push_line-2.ensures
-    c.in_ok-sums.ensures.ordered (subst (λ (l : List Shift). AreSums c.in_ok-sums.sums.entries l) c.as_slice.ensures.value c.in_ok-sums.ensures.sums) rise in
-    subst (λ (n : Numbers). IsReport c.args.decimals n c.args.marks.now c.push_line-2.new.report.items) c.numbers_in-now.ensures.numbers report
+    c.in_ok-shifts.ensures (c.in_ok-sums.ensures.entries ∙ ap (with_shifts []) c.as_slice.ensures.value)
+    c.unsigned_of-unsigned.ensures c.growth_of-growth.ensures c.new-report.ensures.items
+    (subst (λ (l : List Shift). c.push_shifts.new.report.items ≡ c.new-report.result.items ++ shift_lines c.args.decimals 1 l) c.as_slice-2.ensures.value c.in_ok-push_shifts.ensures.text)
+    c.in_ok-push_drivers.ensures.text c.in_ok-push_line.ensures.text c.in_ok-push_line-2.ensures.text
+    ∙ ap (λ (n : Numbers). report_text c.args.decimals n c.args.marks.now) c.numbers_in-now.ensures.numbers
+
+pub returns-clause-meaning : goal.returns-clause-meaning
+returns-clause-meaning c =
+    subst (λ (text : List ℕ). IsReport c.args.decimals (numbers_in c.args.now.now) c.args.marks.now text) (sym (returns-clause-text c))
+    (reports_share_the_growth c.args.decimals c.args.now.now c.args.marks.now c.requires.book)
+
+pub returns-clause-short : goal.returns-clause-short
+returns-clause-short c =
+    short_together c.numbers_in-now.result c.args.marks.now c.in_ok-shifts.shifts.items c.in_ok-sums.sums.entries
+    (vec_len c.new-report.result) (vec_len c.push_shifts.new.report) (vec_len c.push_drivers.new.report) (vec_len c.push_line.new.report) (vec_len c.push_line-2.new.report)
+    c.in_ok-shifts.ensures (c.in_ok-sums.ensures.entries ∙ ap (with_shifts []) c.as_slice.ensures.value)
+    c.new-report.ensures.len
+    (subst (λ (l : List Shift). vec_len c.push_shifts.new.report ≤ vec_len c.new-report.result + 512 * length l) c.as_slice-2.ensures.value (search rules))
+    (search rules) (search rules) (search rules)

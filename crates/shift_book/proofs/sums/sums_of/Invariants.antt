@@ -1,9 +1,13 @@
-use Rattle.std.proofs.Common.{length}
+use Rattle.std.proofs.Common.{◌≡◌, [], length}
+use Rattle.shift_book.specs.Shares.{with_shifts}
 use Rattle.shift_book.proofs.Sharing.{SoFar}
 use Rattle.shift_book.proofs.sums.sums_of.Given as goal
 
 abbrev pub invariant-loop-shift : goal.invariant-loop-shift
-invariant-loop-shift l = SoFar l.sums.entries l.left l.shifts
+invariant-loop-shift l = record {
+  shared : SoFar l.sums.entries l.left l.shifts;
+  same : with_shifts l.sums.entries l.left ≡ with_shifts [] l.shifts;
+}
 
 abbrev pub decreases-loop-shift : goal.decreases-loop-shift
 decreases-loop-shift l = length l.left
