@@ -1,0 +1,4 @@
+-- The lemmas that are the laws of the crate's public functions.
+pub use Rattle.hiring_log.proofs.FiledLaws.{ends_again, files_again, files_once}
+pub use Rattle.hiring_log.proofs.RollLaws.{read_once}
+pub use Rattle.hiring_log.proofs.WholeRolls.{receipts_of_all, receipts_taken}

@@ -1,0 +1,22 @@
+mod Bounds
+mod Causes
+mod FiledLaws
+mod Fronting
+mod Held
+mod Looks
+mod NewestPlace
+mod Readings
+mod Results
+mod RollFilings
+mod RollLaws
+mod Rolls
+mod Rows
+mod Scans
+mod Shown
+mod Spelled
+mod Staged
+mod Tails
+mod WholeRolls
+mod Wording
+pub mod Laws
+mod NewestFound

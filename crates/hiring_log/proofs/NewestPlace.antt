@@ -1,0 +1,50 @@
+-- The greatest place of the entries is that of the newest record.
+use Rattle.std.proofs.Common.{◌≡◌, ◌⊎◌, inl, inr, ⊎_elim, ℕ, ◌+◌, ◌-◌, ◌<◌, ◌≤◌, ◌^◌, List, length, get_or, refl, ap, sym, ◌∙◌, subst, arith, Option, Some, None}
+use Rattle.std.proofs.lemmas.Bool.{cases_eq}
+use Rattle.hiring_log.specs.Record.{Record}
+use Rattle.hiring_log.specs.LogList.{EndsWith}
+use Rattle.hiring_log.specs.LogRow.{AreEntries, IsAtMost, IsBound, IsPlaceOf, slot_back}
+use Rattle.hiring_log.specs.LogScan.{IsEntry}
+use Rattle.hiring_log.specs.declared.scanning.Entry.{Entry}
+use Rattle.hiring_log.proofs.Bounds.{bound_closed, bound_entry, bound_first}
+use Rattle.hiring_log.proofs.Rows.{slot_found, slot_small}
+
+most_still : (place next : ℕ) (entry : Option Entry) → place ≤ next → IsAtMost place entry → IsAtMost next entry
+most_still place next None le most = most
+most_still place next (Some entry) le most = omega (arith, le, most)
+
+-- one more entry
+pub most_more : (entries : List (Option Entry)) (n place next : ℕ) → place ≤ next → ((slot : ℕ) → slot < n → IsAtMost place (get_or entries slot None)) → IsAtMost next (get_or entries n None)
+    → (slot : ℕ) → slot < n + 1 → IsAtMost next (get_or entries slot None)
+most_more entries n place next le most new slot small = elim (cases_eq slot n) [
+  | inl same ↦ subst (λ (s : ℕ). IsAtMost next (get_or entries s None)) (sym same) new
+  | inr other ↦ most_still place next (get_or entries slot None) le (most slot (omega (arith, small, other)))
+]
+
+module _ (image : List ℕ) (entries : List (Option Entry)) (last place : ℕ) (records : List Record) (are : AreEntries image entries) (ends : EndsWith image last records) where
+  bound : (back : ℕ) → IsBound records back (2 ^ 64 - 1)
+  bound back k other small = bound_first image last records ends k other (omega (arith, small))
+
+  -- the newest record's place is among them
+  reached : (entry : Option Entry) → IsEntry image (slot_back last 0) entry → IsAtMost place entry → last ≤ place
+  reached None shut most = ⊎_elim (λ none. omega (arith, none)) (λ no. absurd (omega (arith, no))) (bound_closed image last 0 (2 ^ 64 - 1) records (omega arith) ends (bound 0) shut).0
+  reached (Some entry) is most = omega (arith, most, (bound_entry image last 0 (2 ^ 64 - 1) records (omega arith) ends (bound 0) entry is).1)
+
+  -- and there is none above it
+  within : (slot : ℕ) (entry : Option Entry) → slot < 256 → IsEntry image slot entry → IsPlaceOf place entry → place ≤ last
+  within slot None small is none = absurd none
+  within slot (Some entry) small is place_is =
+      omega (
+        arith,
+        place_is,
+        (bound_entry image last (slot_back last slot) (2 ^ 64 - 1) records (slot_small last slot) ends (bound (slot_back last slot)) entry
+            (subst (λ (s : ℕ). IsEntry image s (Some entry)) (sym (slot_found last slot small)) is)).1,
+      )
+
+  pub newest_is : ((slot : ℕ) → slot < 256 → IsAtMost place (get_or entries slot None)) → (place ≡ 0) ⊎ ((slot : ℕ) × (slot < 256) × IsPlaceOf place (get_or entries slot None)) → last ≡ place
+  newest_is most (inl none) = omega (arith, none, reached (get_or entries (slot_back last 0) None) (are (slot_back last 0) (omega arith)) (most (slot_back last 0) (omega arith)))
+  newest_is most (inr (slot, small, is)) = omega (
+    arith,
+    reached (get_or entries (slot_back last 0) None) (are (slot_back last 0) (omega arith)) (most (slot_back last 0) (omega arith)),
+    within slot (get_or entries slot None) small (are slot small) is,
+  )

@@ -1,0 +1,153 @@
+-- How the filing of a roll goes on and ends.
+use Rattle.std.proofs.Common.{◌≡◌, ◌≢◌, ◌⊎◌, inl, inr, ℕ, ◌+◌, ◌*◌, ◌≤◌, List, [], ◌∷◌, ◌++◌, length, Option, Some, None, Result, Ok, Err, refl, ap, sym, ◌∙◌, subst, arith, append_assoc, length-append}
+use Rattle.std.proofs.lemmas.List.{append-nil}
+use Rattle.std.specs.Prelude.{OnErr}
+use Rattle.outside.specs.Faults.{Rose}
+use Rattle.outside.specs.declared.board.Board.{Ghosts}
+use Rattle.outside.specs.declared.fault.Failed.{Failed}
+use Rattle.hiring_log.specs.Filed.{EndsAt, Files, IsNewer, IsOther}
+use Rattle.hiring_log.specs.Filings.{EndsAs, FailsInRoll, FilesRoll, FilesTo, IsFiling, IsTold, LeavesSome}
+use Rattle.hiring_log.specs.Reading.{EndsBy, GoesOn, HasRead, Place, roll_limit}
+use Rattle.hiring_log.specs.Record.{Record}
+use Rattle.hiring_log.specs.Roll.{AreOnRoll, Reads}
+use Rattle.hiring_log.specs.declared.file_roll.FileEnd.{FileEnd}
+use Rattle.hiring_log.specs.declared.file_roll.FileEnd.TheVariants as ends
+use Rattle.hiring_log.specs.declared.filing.Filing.{Filing}
+use Rattle.hiring_log.specs.declared.filing.Filing.TheVariants.{OtherTaxi, Passed, Appended}
+use Rattle.hiring_log.specs.declared.roll.RollEnd.{RollEnd}
+use Rattle.hiring_log.specs.declared.roll.RollEnd.TheVariants.{Whole, TooLong, ReadFault}
+use Rattle.hiring_log.specs.declared.tail.Tail.{Tail}
+use Rattle.hiring_log.proofs.FiledLaws.{files_one_more}
+use Rattle.hiring_log.proofs.Tails.{files_then, moments_then}
+use Rattle.hiring_log.proofs.WholeRolls.{receipts_of_all, receipts_so_far, receipts_taken}
+
+-- what holds is said of a failure
+pub err_says : {T E P : Type 0} (r : Result T E) → P → OnErr r P
+err_says (Ok x) p = tt
+err_says (Err e) p = p
+
+fault_or_not : (end : Option RollEnd) → (end ≡ Some ReadFault) ⊎ (end ≢ Some ReadFault)
+fault_or_not None = inr (λ e. absurd cc)
+fault_or_not (Some Whole) = inr (λ e. absurd cc)
+fault_or_not (Some TooLong) = inr (λ e. absurd cc)
+fault_or_not (Some ReadFault) = inl refl
+
+-- the count of faults rose before or in this call
+pub rose_since : (end : Option RollEnd) (first then now : ℕ) → (end ≡ Some ReadFault → Rose first then) → (end ≢ Some ReadFault → Rose then now) → first ≤ then → then ≤ now → Rose first now
+rose_since end first then now before here le le' = elim (fault_or_not end) [
+  | inl was ↦ omega (arith, before was, le')
+  | inr not ↦ omega (arith, here not, le)
+]
+
+module _ {D L : Type 0} (B : Ghosts D L) (tl tf : Type 0) where
+  -- ---- a receipt more
+
+  pub filing_by : (f : Filing) (mid new : D) (then last : Tail) (it : Record) (steps steps' : ℕ) → f ≢ OtherTaxi
+      → (◌≡◌ {A = Result Filing Failed} (Ok f) (Ok Passed) → FilesTo B tl mid new then last (it ∷ []) [] × (steps' ≡ steps))
+      → (◌≡◌ {A = Result Filing Failed} (Ok f) (Ok Appended) → FilesTo B tl mid new then last (it ∷ []) (it ∷ [])) → steps' ≤ steps + 6
+      → (more : List Record) × FilesTo B tl mid new then last (it ∷ []) more × (steps' ≤ steps + 6 * length more)
+  filing_by OtherTaxi mid new then last it steps steps' ne passed appended few = absurd (ne refl)
+  filing_by Passed mid new then last it steps steps' ne passed appended few = ([], (passed refl).0, omega (arith, (passed refl).1))
+  filing_by Appended mid new then last it steps steps' ne passed appended few = (it ∷ [], appended refl, omega (arith, few))
+
+  pub filing_on : (old mid new : D) (first then last : Tail) (roll : List ℕ) (place place' : Place) (rest rest' : List ℕ) (seen steps mid_steps steps' : ℕ) (it : Record)
+      → IsFiling B tl tf old mid first then roll place rest seen steps mid_steps → (tf → GoesOn place place' rest rest' (it ∷ []))
+      → (more : List Record) × FilesTo B tl mid new then last (it ∷ []) more × (steps' ≤ mid_steps + 6 * length more)
+      → IsFiling B tl tf old new first last roll place' rest' (seen + 1) steps steps'
+  filing_on old mid new first then last roll place place' rest rest' seen steps mid_steps steps' it h goes more = record {
+    receipts = h.receipts ++ it ∷ [];
+    filed = h.filed ++ more.0;
+    to = files_then B tl old mid new first then last h.receipts (it ∷ []) h.filed more.0 h.to more.1;
+    read = λ told. goes told roll h.receipts (h.read told);
+    seen_is = omega (arith, h.seen_is, length-append h.receipts (it ∷ []));
+    few = omega (arith, h.few, more.2, length-append h.filed more.0);
+  }
+
+  -- ---- no more is read
+
+  abbrev Reason : RollEnd → FileEnd → (filed : ℕ) → Type 0
+  Reason end found filed = (end ≡ Whole → found ≡ ends.Filed filed) × (end ≡ TooLong → found ≡ ends.TooLong) × (end ≡ ReadFault → found ≡ ends.ReadFault)
+
+  ends_as : (end : RollEnd) (roll rest : List ℕ) (place : Place) (receipts filed : List Record) (newest last : Option Record) (count : ℕ) → HasRead roll place rest receipts → place.ahead ≡ [] → place.end ≡ Some end
+      → Files newest receipts filed last → (found : FileEnd) → Reason end found count → EndsAs found newest roll rest filed last
+  ends_as Whole roll rest place receipts filed newest last count h none is files found why =
+      let over : rest ≡ [] = subst (λ (e : Option RollEnd). EndsBy e place.left rest) is h.ends in
+      subst (λ (e : FileEnd). EndsAs e newest roll rest filed last) (sym (why.0 refl)) (over, (receipts, receipts_of_all roll place rest receipts h none is, files))
+  ends_as TooLong roll rest place receipts filed newest last count h none is files found why =
+      let full : place.left ≡ 0 = subst (λ (e : Option RollEnd). EndsBy e place.left rest) is h.ends in
+      subst (λ (e : FileEnd). EndsAs e newest roll rest filed last) (sym (why.1 refl)) (h.taken, receipts, h.roll_is, omega (arith, h.count, full), receipts_taken roll place rest receipts h none, files)
+  ends_as ReadFault roll rest place receipts filed newest last count h none is files found why =
+      subst (λ (e : FileEnd). EndsAs e newest roll rest filed last) (sym (why.2 refl)) (h.taken, receipts, h.roll_is, receipts_taken roll place rest receipts h none, files)
+
+  told_as : (end : RollEnd) (filed : List Record) (count : ℕ) → count ≡ length filed → (found : FileEnd) → Reason end found count → IsTold found filed
+  told_as Whole filed count is found why = subst (λ (e : FileEnd). IsTold e filed) (sym (why.0 refl)) is
+  told_as TooLong filed count is found why = subst (λ (e : FileEnd). IsTold e filed) (sym (why.1 refl)) tt
+  told_as ReadFault filed count is found why = subst (λ (e : FileEnd). IsTold e filed) (sym (why.2 refl)) tt
+
+  pub filing_over : (end : RollEnd) (found : FileEnd) (old new : D) (first last : Tail) (roll : List ℕ) (place place' : Place) (rest rest' : List ℕ) (seen steps steps' : ℕ)
+      → IsFiling B tl tf old new first last roll place rest seen steps steps' → first.filed ≡ 0 → (tf → GoesOn place place' rest rest' []) → (place'.end ≡ Some end) × (place'.ahead ≡ []) → Reason end found last.filed
+      → FilesRoll B tl tf old new first last roll rest' found steps steps'
+  filing_over end found old new first last roll place place' rest rest' seen steps steps' h none goes over why = record {
+    receipts = h.receipts;
+    filed = h.filed;
+    to = h.to;
+    ends = λ told.
+        let read = subst (HasRead roll place' rest') (append-nil h.receipts) (goes told roll h.receipts (h.read told)) in
+        ends_as end roll rest' place' h.receipts h.filed first.newest last.newest last.filed read over.1 over.0 h.to.files found why;
+    told = told_as end h.filed last.filed (omega (arith, h.to.count, none)) found why;
+    few = h.few;
+  }
+
+  -- ---- a receipt of another taxi
+
+  pub filing_other : (old new : D) (first last : Tail) (roll : List ℕ) (place place' : Place) (rest rest' : List ℕ) (seen steps steps' : ℕ) (it : Record)
+      → IsFiling B tl tf old new first last roll place rest seen steps steps' → (tf → GoesOn place place' rest rest' (it ∷ [])) → IsOther last.newest it
+      → FilesRoll B tl tf old new first last roll rest' (ends.OtherTaxi (seen + 1)) steps steps'
+  filing_other old new first last roll place place' rest rest' seen steps steps' it h goes other = record {
+    receipts = h.receipts;
+    filed = h.filed;
+    to = h.to;
+    ends = λ told.
+        let read = goes told roll h.receipts (h.read told) in (
+          read.taken,
+          read.roll_is,
+          record {
+            before = h.receipts;
+            other = it;
+            rest = place'.ahead;
+            reads = receipts_so_far roll place' rest' (h.receipts ++ it ∷ []) read;
+            files = h.to.files;
+            differs = other;
+            place_is = omega (arith, h.seen_is);
+          },
+        );
+    told = tt;
+    few = h.few;
+  }
+
+  -- where nothing else has changed since
+  pub filing_other_now : (old new now : D) (first last now_last : Tail) (roll : List ℕ) (place place' : Place) (rest rest' : List ℕ) (seen steps steps' now_steps : ℕ) (it : Record)
+      → IsFiling B tl tf old new first last roll place rest seen steps steps' → (tf → GoesOn place place' rest rest' (it ∷ [])) → IsOther last.newest it → now_last ≡ last → now ≡ new → now_steps ≡ steps'
+      → FilesRoll B tl tf old now first now_last roll rest' (ends.OtherTaxi (seen + 1)) steps now_steps
+  filing_other_now old new now first last now_last roll place place' rest rest' seen steps steps' now_steps it h goes other tail log count =
+      subst (λ (d : D). FilesRoll B tl tf old d first now_last roll rest' (ends.OtherTaxi (seen + 1)) steps now_steps) (sym log)
+      (subst (λ (t : Tail). FilesRoll B tl tf old new first t roll rest' (ends.OtherTaxi (seen + 1)) steps now_steps) (sym tail)
+      (subst (λ (n : ℕ). FilesRoll B tl tf old new first last roll rest' (ends.OtherTaxi (seen + 1)) steps n) (sym count)
+      (filing_other old new first last roll place place' rest rest' seen steps steps' it h goes other)))
+
+  -- ---- the board failed
+
+  pub filing_fails : (old mid new : D) (first then : Tail) (roll : List ℕ) (place place' : Place) (rest rest' : List ℕ) (seen steps mid_steps steps' : ℕ) (it : Record)
+      → IsFiling B tl tf old mid first then roll place rest seen steps mid_steps → (tf → GoesOn place place' rest rest' (it ∷ [])) → IsNewer then.newest it → LeavesSome B tl mid new then (it ∷ [])
+      → steps' ≤ mid_steps + 6 → FailsInRoll B tl tf old new first roll rest' steps steps'
+  filing_fails old mid new first then roll place place' rest rest' seen steps mid_steps steps' it h goes newer moments few = record {
+    receipts = h.receipts ++ it ∷ [];
+    filed = h.filed ++ it ∷ [];
+    last = Some it;
+    files = files_one_more first.newest then.newest it h.receipts h.filed h.to.files newer;
+    moments = moments_then B tl old mid new first then h.receipts h.filed (it ∷ []) h.to moments;
+    read = λ told.
+        let read = goes told roll h.receipts (h.read told) in
+        (read.taken, place'.ahead, read.roll_is, receipts_so_far roll place' rest' (h.receipts ++ it ∷ []) read);
+    few = omega (arith, h.few, few, length-append h.filed (it ∷ []));
+  }

@@ -1,0 +1,103 @@
+-- How records are shown one after another.
+use Rattle.std.proofs.Common.{◌≡◌, inl, inr, ⊎_elim, ℕ, zero, suc, ◌+◌, ◌*◌, ◌<◌, ◌≤◌, List, [], ◌∷◌, ◌++◌, length, take, drop, Option, Some, None, refl, ap, sym, ◌∙◌, subst, arith, append_assoc}
+use Rattle.std.specs.Prelude.{flat_map}
+use Rattle.std.proofs.lemmas.List.{append-nil, take-append-drop, take_all}
+use Rattle.outside.specs.Printing.{Begins}
+use Rattle.outside.specs.Runs.{KeepsStore}
+use Rattle.outside.specs.declared.board.Board.{Ghosts}
+use Rattle.outside.proofs.Laws.{begins_after, begins_more, begins_whole}
+use Rattle.slot_store.specs.Syncs.{ReadsOnly}
+use Rattle.hiring_log.specs.LogList.{AreHeld}
+use Rattle.hiring_log.specs.LogScan.{IsContent}
+use Rattle.hiring_log.specs.Record.{Record, IsRecord}
+use Rattle.hiring_log.specs.Showing.{texts_of}
+use Rattle.hiring_log.specs.Slots.{Holds, behind_gate, slot_of}
+use Rattle.hiring_log.proofs.RollLaws.{some_bytes}
+use Rattle.hiring_log.proofs.Spelled.{one_spelled, short_record}
+
+-- what is held is what is read
+pub told_content : (image : List ℕ) (place : ℕ) (it : Record) (content : Option (Option (ℕ × Record))) → Holds image (slot_of place) place it → IsContent image (slot_of place) content
+    → (at : ℕ) × (content ≡ Some (Some (at, it)))
+told_content image place it None h is = absurd (is h.opened)
+told_content image place it (Some None) h is = absurd (is.1 place it h.spells)
+told_content image place it (Some (Some found)) h is = (
+  found.0,
+  ap (λ (r : Record). Some (Some (found.0, r))) (one_spelled (behind_gate image (slot_of place)) found.0 place found.1 it is.spells h.spells),
+)
+
+same_pair : (at : ℕ) (it : Record) (content : Option (Option (ℕ × Record))) (inner : Option (ℕ × Record)) (pair : ℕ × Record) → content ≡ Some (Some (at, it)) → content ≡ Some inner → inner ≡ Some pair → pair.1 ≡ it
+same_pair at it content inner pair told is inner_is =
+    let same : ◌≡◌ {A = ℕ × Record} pair (at, it) = cc in
+    ap (λ (x : ℕ × Record). x.1) same
+
+-- so it is the record in it
+pub told_record : (image : List ℕ) (place : ℕ) (it : Record) (content : Option (Option (ℕ × Record))) (inner : Option (ℕ × Record)) (pair : ℕ × Record) → Holds image (slot_of place) place it
+    → IsContent image (slot_of place) content → content ≡ Some inner → inner ≡ Some pair → pair.1 ≡ it
+told_record image place it content inner pair h is e f = let there = told_content image place it content h is in same_pair there.0 it content inner pair there.1 e f
+
+not_none : (at : ℕ) (it : Record) (content : Option (Option (ℕ × Record))) → content ≡ Some (Some (at, it)) → content ≡ None → ⊥
+not_none at it content told none = absurd cc
+
+not_inner : (at : ℕ) (it : Record) (content : Option (Option (ℕ × Record))) (inner : Option (ℕ × Record)) → content ≡ Some (Some (at, it)) → content ≡ Some inner → inner ≡ None → ⊥
+not_inner at it content inner told is none = absurd cc
+
+pub told_none : (image : List ℕ) (place : ℕ) (it : Record) (content : Option (Option (ℕ × Record))) → Holds image (slot_of place) place it → IsContent image (slot_of place) content → content ≡ None → ⊥
+told_none image place it content h is e = let there = told_content image place it content h is in not_none there.0 it content there.1 e
+
+pub told_unread : (image : List ℕ) (place : ℕ) (it : Record) (content : Option (Option (ℕ × Record))) (inner : Option (ℕ × Record)) → Holds image (slot_of place) place it → IsContent image (slot_of place) content
+    → content ≡ Some inner → inner ≡ None → ⊥
+told_unread image place it content inner h is e f = let there = told_content image place it content h is in not_inner there.0 it content inner there.1 e f
+
+-- a record has a text that is printed at once
+pub some_text : (it : Record) → IsRecord it → 0 < length it.text
+some_text it h = let some = some_bytes it h in omega (arith, ap length some.1)
+
+pub few_text : (it : Record) → IsRecord it → length it.text ≤ 512
+few_text it h = omega (arith, short_record it h)
+
+texts-append : (a b : List Record) → texts_of (a ++ b) ≡ texts_of a ++ texts_of b
+texts-append [] b = refl
+texts-append (x ∷ a) b = ap (λ (t : List ℕ). x.text ++ t) (texts-append a b) ∙ sym (append_assoc x.text (texts_of a) (texts_of b))
+
+-- the record so far behind the first
+pub held_next : (image : List ℕ) (from : ℕ) (records : List Record) (k : ℕ) → k < length records → AreHeld image from records
+    → (it : Record) × Holds image (slot_of (from + k)) (from + k) it × (texts_of (take (k + 1) records) ≡ texts_of (take k records) ++ it.text)
+held_next image from [] k few held = absurd (omega arith)
+held_next image from (it ∷ more) zero few held = (
+  it,
+  subst (λ (p : ℕ). Holds image (slot_of p) p it) (let e : from ≡ from + 0 = omega arith in e) held.0,
+  append-nil it.text,
+)
+held_next image from (it ∷ more) (suc k) few held =
+    let there = held_next image (from + 1) more k (omega arith) held.1 in (
+      there.0,
+      subst (λ (p : ℕ). Holds image (slot_of p) p there.0) (let e : from + 1 + k ≡ from + suc k = omega arith in e) there.1,
+      ap (λ (n : ℕ). texts_of (take n (it ∷ more))) (let e : suc k + 1 ≡ suc (k + 1) = omega arith in e)
+          ∙ (ap (λ (t : List ℕ). it.text ++ t) there.2 ∙ sym (append_assoc it.text (texts_of (take k more)) there.0.text)),
+    )
+
+-- so far the first texts are printed
+pub shown_more : (old mid new : List ℕ) (records : List Record) (k : ℕ) (text : List ℕ) → mid ≡ old ++ texts_of (take k records) → texts_of (take (k + 1) records) ≡ texts_of (take k records) ++ text → new ≡ mid ++ text
+    → new ≡ old ++ texts_of (take (k + 1) records)
+shown_more old mid new records k text so_far is more =
+    more ∙ (ap (λ (t : List ℕ). t ++ text) so_far ∙ (append_assoc old (texts_of (take k records)) text ∙ ap (λ (t : List ℕ). old ++ t) (sym is)))
+
+pub shown_all : (old new : List ℕ) (records : List Record) (k : ℕ) → length records ≡ k → new ≡ old ++ texts_of (take k records) → new ≡ old ++ texts_of records
+shown_all old new records k is so_far = so_far ∙ ap (λ (xs : List Record). old ++ texts_of xs) (take_all k records (omega (arith, is)))
+
+pub begun_more : (old mid new : List ℕ) (records : List Record) (k : ℕ) (text : List ℕ) → mid ≡ old ++ texts_of (take k records) → texts_of (take (k + 1) records) ≡ texts_of (take k records) ++ text → Begins mid new text
+    → Begins old new (texts_of records)
+begun_more old mid new records k text so_far is begins =
+    let first : Begins old new (texts_of (take (k + 1) records)) = subst (Begins old new) (sym is) (begins_after old mid new (texts_of (take k records)) text so_far begins) in
+    subst (Begins old new) (sym (texts-append (take (k + 1) records) (drop (k + 1) records)) ∙ ap (λ (xs : List Record). texts_of xs) (take-append-drop (k + 1) records))
+    (begins_more old new (texts_of (take (k + 1) records)) (texts_of (drop (k + 1) records)) first)
+
+module _ {D L : Type 0} (B : Ghosts D L) where
+  -- a call that reads keeps the store
+  pub keeps_read : (old new : D) → ReadsOnly B old new → B.image new ≡ B.image old → KeepsStore B old new
+  keeps_read old new reads same = record {
+    same = same;
+    flight = reads.flight;
+    later = reads.leaves.later;
+    before = λ start image text le left. ⊎_elim (λ was. inl was) (λ may. inr (record { bytes = may.bytes; small = may.small })) (reads.leaves.before start image text le left);
+  }

@@ -1,0 +1,10 @@
+use Rattle.std.proofs.Common.{◌≡◌, ◌+◌, ◌++◌, replicate}
+use Rattle.arrayvec.specs.ArrayVec.{array_vec_len}
+use Rattle.hiring_log.proofs.slot_record.put_zeros.Given as goal
+
+-- so many zeros were appended
+abbrev pub invariant-loop-i : goal.invariant-loop-i
+invariant-loop-i l = record {
+  items : l.out.items ≡ l.fn.out.items ++ replicate l._i 0;
+  len : array_vec_len l.out ≡ array_vec_len l.fn.out + l._i;
+}

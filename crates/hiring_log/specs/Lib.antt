@@ -1,0 +1,15 @@
+pub mod Appends
+pub mod Boards
+pub mod Endings
+pub mod Filed
+pub mod Filings
+pub mod LogList
+pub mod LogRow
+pub mod LogScan
+pub mod Looking
+pub mod Reading
+pub mod Record
+pub mod Roll
+pub mod Showing
+pub mod Slots
+pub mod Words

@@ -1,0 +1,19 @@
+-- What the log keeps of a receipt.
+use Rattle.std.specs.Prelude.{◌≡◌, ℕ, List}
+use Rattle.taxi_units.specs.declared.receipt.Receipt.{Receipt}
+use Rattle.receipt_text.specs.Grammar.{IsReceiptText}
+use Rattle.receipt_text.specs.Part.{Part}
+
+-- the text of a receipt, its number, and the identifier of its taxi
+pub record Record : Type 0 where
+  pub text : List ℕ
+  pub number : ℕ
+  pub taxi : List ℕ
+
+-- the text is a receipt's by the grammar, which says this number and this taxi
+pub record IsRecord (it : Record) : Type 0 where
+  pub receipt : Receipt
+  pub part : Part
+  pub is : IsReceiptText it.text receipt part
+  pub number_is : it.number ≡ receipt.number
+  pub taxi_is : it.taxi ≡ part.taxi

@@ -1,0 +1,23 @@
+-- The words of a command.
+use Rattle.std.specs.Prelude.{ℕ, Bool, List, [], ◌∷◌, Option, Some, None, if◌then◌else◌, nat_eq, codes}
+use Rattle.std.specs.Cmp.Lexicographic.{pointwise}
+use Rattle.hiring_log.specs.declared.words.Call.{Call}
+use Rattle.hiring_log.specs.declared.words.Call.TheVariants.{File, Show}
+
+-- a word is this one
+abbrev pub is_word : List ℕ → List ℕ → Bool
+is_word word name = pointwise nat_eq word name
+
+-- the commands by the number of their words: `show`,
+abbrev pub one_word : (command : List ℕ) → Option Call
+one_word command = if is_word command (codes "show") then Some Show else None
+
+-- and `file ROLL`
+abbrev pub two_words : (command : List ℕ) → Option Call
+two_words command = if is_word command (codes "file") then Some File else None
+
+-- the command that words are
+abbrev pub call_of : List (List ℕ) → Option Call
+call_of (command ∷ []) = one_word command
+call_of (command ∷ roll ∷ []) = two_words command
+call_of words = None

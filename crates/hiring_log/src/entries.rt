@@ -1,0 +1,58 @@
+//! What is known of each slot of the log.
+ghost use Rattle.std.specs.Prelude.{◌≡◌, ℕ, ◌+◌, ◌≤◌, ◌<◌, IfOk, Err};
+ghost use Rattle.outside.specs.Faults.{Rose};
+ghost use Rattle.slot_store.specs.Syncs.{ReadsOnly};
+ghost use Rattle.hiring_log.specs.Boards.{board_of};
+ghost use Rattle.hiring_log.specs.LogRow.{AreEntries};
+ghost use Rattle.hiring_log.specs.LogScan.{IsBad, IsEntry, IsLowestBad};
+ghost use Rattle.hiring_log.specs.declared.scanning.ScanFault.{ScanFault};
+ghost use Rattle.hiring_log.specs.declared.scanning.ScanFault.TheVariants.{BadSlot, DeviceFailed};
+
+use crate::log_board::LogBoard;
+use crate::scanning::{Entry, ScanFault, entry_of, read_slot};
+use std::sync::ledger::Ledger;
+use taxi_units::Steps;
+
+/// What is known of a slot, 0 to 255.
+fn read_entry<G: LogBoard<L>, L: Ledger>(
+    slot: u32,
+    log: &mut G,
+    steps: &mut Steps<L>,
+) -> Result<Option<Entry>, ScanFault>
+    requires { slot < 256 }
+    ensures entry { G.tells_image → IfOk result (λ entry. IsEntry (G.image log.old) slot entry) }
+    ensures bad { (other : ℕ) → result ≡ Err (BadSlot other)
+        → (other ≡ slot) × (G.tells_image → IsBad (G.image log.old) slot) }
+    ensures failed { result ≡ Err DeviceFailed → Rose (G.faults log.old) (G.faults log.new) }
+    ensures later { G.faults log.old ≤ G.faults log.new }
+    ensures image { G.image log.new ≡ G.image log.old }
+    ensures reads { ReadsOnly (board_of G.LogBoard) log.old log.new }
+    ensures step { steps.new ≡ steps.old + 1 }
+{
+    let content = read_slot(slot, log, steps)?;
+    entry_of(slot, content)
+}
+
+/// What is known of each slot of the log. `BadSlot` names the lowest slot that is open and holds no record
+/// at a place whose slot it is.
+pub(crate) fn read_entries<G: LogBoard<L>, L: Ledger>(
+    log: &mut G,
+    steps: &mut Steps<L>,
+) -> Result<[Option<Entry>; 256], ScanFault>
+    ensures entries { G.tells_image → IfOk result (λ entries. AreEntries (G.image log.old) entries) }
+    ensures bad { (slot : ℕ) → result ≡ Err (BadSlot slot) → G.tells_image → IsLowestBad (G.image log.old) slot }
+    ensures failed { result ≡ Err DeviceFailed → Rose (G.faults log.old) (G.faults log.new) }
+    ensures later { G.faults log.old ≤ G.faults log.new }
+    ensures image { G.image log.new ≡ G.image log.old }
+    ensures reads { ReadsOnly (board_of G.LogBoard) log.old log.new }
+    ensures steps { steps.new ≤ steps.old + 256 }
+{
+    let mut entries = [None; 256];
+    for slot in 0..256 {
+        match read_entry(slot, log, steps) {
+            Ok(entry) => entries[slot as usize] = entry,
+            Err(fault) => return Err(fault),
+        }
+    }
+    Ok(entries)
+}

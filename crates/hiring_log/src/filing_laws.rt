@@ -1,0 +1,37 @@
+//! What the words of the hiring log mean: laws.
+ghost use Rattle.std.specs.Prelude.{◌≡◌, ℕ, List, [], Option, Some};
+ghost use Rattle.hiring_log.specs.Filed.{EndsAt, Files};
+ghost use Rattle.hiring_log.specs.Reading.{HasRead, Place};
+ghost use Rattle.hiring_log.specs.Record.{Record};
+ghost use Rattle.hiring_log.specs.Roll.{AreOnRoll};
+ghost use Rattle.hiring_log.specs.declared.roll.RollEnd.TheVariants.{Whole};
+
+/// A law: a roll is read in one way.
+pub fn a_roll_is_read_once()
+    ensures { (roll : List ℕ) (a b : List Record) → AreOnRoll a roll → AreOnRoll b roll → a ≡ b }
+{}
+
+/// A law: a reader that is done has handed out the receipts of the bytes that it took, and where it came to
+/// the roll's end, those of the whole roll.
+pub fn a_reader_hands_out_the_receipts()
+    ensures taken { (roll : List ℕ) (place : Place) (rest : List ℕ) (receipts : List Record)
+        → (read : HasRead roll place rest receipts) → place.ahead ≡ [] → AreOnRoll receipts read.taken }
+    ensures all { (roll : List ℕ) (place : Place) (rest : List ℕ) (receipts : List Record)
+        → HasRead roll place rest receipts → place.ahead ≡ [] → place.end ≡ Some Whole → AreOnRoll receipts roll }
+{}
+
+/// A law: the receipts of a roll are filed in one way.
+pub fn receipts_are_filed_once()
+    ensures filed { (newest last last' : Option Record) (receipts filed filed' : List Record)
+        → Files newest receipts filed last → Files newest receipts filed' last' → filed ≡ filed' }
+    ensures last { (newest last last' : Option Record) (receipts filed filed' : List Record)
+        → Files newest receipts filed last → Files newest receipts filed' last' → last ≡ last' }
+{}
+
+/// A law: where the same receipts are filed again, nothing is appended, also up to one of another taxi.
+pub fn filing_again_appends_nothing()
+    ensures files { (newest last : Option Record) (receipts filed : List Record)
+        → Files newest receipts filed last → Files last receipts [] last }
+    ensures ends { (newest last : Option Record) (roll : List ℕ) (filed : List Record) (place : ℕ)
+        → EndsAt newest roll filed last place → EndsAt last roll [] last place }
+{}

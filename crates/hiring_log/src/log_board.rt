@@ -1,0 +1,113 @@
+//! The board of the log, which has a store and prints.
+ghost use Rattle.std.specs.Prelude.{◌≡◌, ◌⊎◌, ℕ, ◌+◌, ◌<◌, ◌≤◌, ◌++◌, List, length, take, drop, OnOk};
+ghost use Rattle.outside.specs.Disk.{IsImage, IsPiece, IsWithin, SameBut, MayLeave, MayLeaveAmid, Elapses};
+ghost use Rattle.outside.specs.Faults.{HasCause};
+ghost use Rattle.outside.specs.Printing.{Begins};
+
+use outside::Failed;
+use std::sync::ledger::Ledger;
+use taxi_units::Steps;
+
+/// The log's one device: a store of 131,072 bytes, with places from 0 on, and a printer, on one clock of
+/// moments. Its meanings, its conditions, what a cut may leave and its count of faults are those of the
+/// meter's `Board`; but its store is greater. Bytes that are written are in flight until a sync succeeds:
+/// a cut of the power may leave any bytes in their places. Each call takes one step of the one ledger that
+/// the board is asked under, and a call fails only where the count of faults rose.
+///
+/// What is said of the places in flight and of what a cut might have left is an upper bound: a call
+/// says what may have come to them, and a board may have less in flight, and leave less, than its
+/// calls allow. Only `counts_now` bounds it from below, where image and text are told.
+pub trait LogBoard<L: Ledger> {
+    /// Whether the board tells what its store holds. It belongs to the type, so it never changes.
+    ghost tells_image: { Type 0 };
+
+    /// Whether the board tells what was printed. It belongs to the type, so it never changes.
+    ghost tells_text: { Type 0 };
+
+    /// What a read gives: the bytes of the store.
+    ghost image: { Self → List ℕ };
+
+    /// The places where a cut may leave any byte; no others, and perhaps not all of them.
+    ghost in_flight: { Self → ℕ → Type 0 };
+
+    /// What was printed, in bytes.
+    ghost printed: { Self → List ℕ };
+
+    /// The moment, a number that never falls.
+    ghost moment: { Self → ℕ };
+
+    /// The images and texts that a cut at some moment from that one on might have left, moments
+    /// inside a call among them.
+    ghost left_since: { Self → ℕ → List ℕ → List ℕ → Type 0 };
+
+    /// How many faults the board had.
+    ghost faults: { Self → ℕ };
+
+    /// Reads a piece of 1 to 512 bytes that lies in the store into the whole of `buf`. After a read
+    /// that failed what `buf` holds is open.
+    fn read(&mut self, at: u32, buf: &mut [u8], steps: &mut Steps<L>) -> Result<(), Failed>
+        requires { IsPiece 131072 at (length buf.old) }
+        ensures bytes { tells_image → OnOk result (buf.new ≡ take (length buf.old) (drop at (image self.old))) }
+        ensures image { image self.new ≡ image self.old }
+        ensures flight { (place : ℕ) → in_flight self.new place → in_flight self.old place }
+        ensures text { printed self.new ≡ printed self.old }
+        ensures time { Elapses (moment self.old) (moment self.new) (left_since self.old) (left_since self.new)
+            (MayLeave (image self.new) (in_flight self.new) (printed self.new)) }
+        ensures cause { HasCause (faults self.old) (faults self.new) result }
+        ensures step { steps.new ≡ steps.old + 1 };
+
+    /// Writes a piece of 1 to 512 bytes that lies in the store. It is in flight until a sync
+    /// succeeds. After a write that failed the piece's places may hold any bytes.
+    fn write_at(&mut self, at: u32, bytes: &[u8], steps: &mut Steps<L>) -> Result<(), Failed>
+        requires { IsPiece 131072 at (length bytes.now) }
+        ensures written { tells_image → OnOk result (take (length bytes.now) (drop at (image self.new)) ≡ bytes.now) }
+        ensures image { SameBut (IsWithin at (length bytes.now)) (image self.old) (image self.new) }
+        ensures flight { (place : ℕ) → in_flight self.new place → in_flight self.old place
+            ⊎ IsWithin at (length bytes.now) place }
+        ensures text { printed self.new ≡ printed self.old }
+        ensures time { Elapses (moment self.old) (moment self.new) (left_since self.old) (left_since self.new)
+            (MayLeave (image self.new) (in_flight self.new) (printed self.new)) }
+        ensures cause { HasCause (faults self.old) (faults self.new) result }
+        ensures step { steps.new ≡ steps.old + 1 };
+
+    /// Waits until the medium has every byte that was written. Then nothing is in flight, and a cut
+    /// leaves what a read gives. After a sync that failed the places in flight may hold any bytes.
+    fn sync(&mut self, steps: &mut Steps<L>) -> Result<(), Failed>
+        ensures durable { tells_image → OnOk result ((place : ℕ) → ¬ in_flight self.new place) }
+        ensures same { OnOk result (image self.new ≡ image self.old) }
+        ensures image { SameBut (in_flight self.old) (image self.old) (image self.new) }
+        ensures flight { (place : ℕ) → in_flight self.new place → in_flight self.old place }
+        ensures text { printed self.new ≡ printed self.old }
+        ensures time { Elapses (moment self.old) (moment self.new) (left_since self.old) (left_since self.new)
+            (MayLeave (image self.new) (in_flight self.new) (printed self.new)) }
+        ensures cause { HasCause (faults self.old) (faults self.new) result }
+        ensures step { steps.new ≡ steps.old + 1 };
+
+    /// Prints a piece of 1 to 512 bytes. A print that failed has printed a beginning of the piece,
+    /// perhaps none of it and perhaps all, and so has a print that a cut ends.
+    fn print(&mut self, bytes: &[u8], steps: &mut Steps<L>) -> Result<(), Failed>
+        requires some { 0 < length bytes.now }
+        requires few { length bytes.now ≤ 512 }
+        ensures whole { tells_text → OnOk result (printed self.new ≡ printed self.old ++ bytes.now) }
+        ensures begun { tells_text → Begins (printed self.old) (printed self.new) bytes.now }
+        ensures image { image self.new ≡ image self.old }
+        ensures flight { (place : ℕ) → in_flight self.new place → in_flight self.old place }
+        ensures time { Elapses (moment self.old) (moment self.new) (left_since self.old) (left_since self.new)
+            (MayLeaveAmid (image self.new) (in_flight self.new) (printed self.old) bytes.now) }
+        ensures cause { HasCause (faults self.old) (faults self.new) result }
+        ensures step { steps.new ≡ steps.old + 1 };
+
+    /// The store has 131,072 bytes.
+    ghost store: { (board : Self) → tells_image → IsImage 131072 (image board) };
+
+    /// What a cut may leave now is among what it might have left since an earlier moment.
+    ghost counts_now: { (board : Self) (start : ℕ) (left_image left_text : List ℕ)
+        → tells_image → tells_text → start ≤ moment board
+        → MayLeave (image board) (in_flight board) (printed board) left_image left_text
+        → left_since board start left_image left_text };
+
+    /// Since this moment there is no other.
+    ghost only_now: { (board : Self) (left_image left_text : List ℕ)
+        → left_since board (moment board) left_image left_text
+        → MayLeave (image board) (in_flight board) (printed board) left_image left_text };
+}
