@@ -8,10 +8,11 @@ use Rattle.taxi_cli.specs.declared.ending.Ended.TheVariants as ended
 use Rattle.taxi_cli.specs.declared.opening.StoreFault.{StoreFault}
 use Rattle.taxi_cli.specs.declared.opening.StoreFault.TheVariants as stores
 use Rattle.taxi_cli.specs.Answer.{Answer}
-use Rattle.taxi_cli.specs.Call.{Takes}
 use Rattle.taxi_cli.specs.Course.{Command, Answered, BoardFailed}
 use Rattle.taxi_cli.specs.Ending.{Comes, refused_as, store_ended}
 use Rattle.taxi_cli.specs.LastLine.{status_of}
+use Rattle.taxi_cli.specs.Stream.{Takes, bad_status}
+use Rattle.taxi_cli.proofs.Streams as streams
 
 -- a fault of the store is no other end
 pub not_read-store : (fault : StoreFault) → store_ended fault ≢ ended.ReadFault
@@ -33,15 +34,15 @@ module _ (c : Command) (contents left : ℕ → List ℕ) (image : List ℕ) (re
   pub none : (text : List ℕ) → text ≡ [] → now ≡ before ++ text
   none text e = still ∙ sym (ap (λ (x : List ℕ). before ++ x) e ∙ append-nil before)
 
-  pub comes-refusal : (end : Ended) → c.answer contents image ≡ refused_as end → status_of end ≢ 0 → status_of end ≢ 3 → Stopped end
-  comes-refusal end e not_0 not_3 =
+  pub comes-refusal : (end : Ended) → c.answer contents image ≡ refused_as end → status_of end ≢ 0 → status_of end ≢ bad_status c.drive → Stopped end
+  comes-refusal end e not_0 not_bad =
       let status : (c.answer contents image).status ≡ status_of end = ap (λ (a : Answer). a.status) e in
       record {
         course = Answered;
         may = record {
           whole = λ is. absurd (not_0 (sym status ∙ is));
           refused = λ is. untouched;
-          bad = λ is. absurd (not_3 (sym status ∙ is));
+          bad = λ is. absurd (not_bad (sym status ∙ is));
         };
         stands = inl (record {
           status_is = sym status;
@@ -59,6 +60,6 @@ module _ (c : Command) (contents left : ℕ → List ℕ) (image : List ℕ) (re
 
   pub comes-store : (fault : StoreFault) → (¬ (fault ≡ stores.BoardFault) → c.answer contents image ≡ refused_as (store_ended fault)) → (fault ≡ stores.BoardFault → failed)
       → Stopped (store_ended fault)
-  comes-store (stores.BadSlot slot) answer cause = comes-refusal (ended.BadSlot slot) (answer (λ e. absurd cc)) (λ e. absurd cc) (λ e. absurd cc)
-  comes-store (stores.SameNumber first second) answer cause = comes-refusal (ended.SameNumber first second) (answer (λ e. absurd cc)) (λ e. absurd cc) (λ e. absurd cc)
+  comes-store (stores.BadSlot slot) answer cause = comes-refusal (ended.BadSlot slot) (answer (λ e. absurd cc)) (λ e. absurd cc) (streams.not_bad 5 c.drive (λ e. absurd cc) (λ e. absurd cc))
+  comes-store (stores.SameNumber first second) answer cause = comes-refusal (ended.SameNumber first second) (answer (λ e. absurd cc)) (λ e. absurd cc) (streams.not_bad 5 c.drive (λ e. absurd cc) (λ e. absurd cc))
   comes-store stores.BoardFault answer cause = comes-board (cause refl)

@@ -1,5 +1,5 @@
 -- A call, from how its command came to its last line, and that line.
-use Rattle.std.proofs.Common.{◌≡◌, ◌≢◌, inl, inr, ℕ, ◌≤◌, Some, refl, sym, ap, subst, ◌∙◌, arith}
+use Rattle.std.proofs.Common.{◌≡◌, ◌≢◌, ◌⊎◌, inl, inr, ℕ, ◌≤◌, List, Some, refl, sym, ap, subst, ◌∙◌, arith}
 use Rattle.outside.specs.declared.board.Board.{Ghosts}
 use Rattle.outside.specs.declared.files.Files.{Ghosts as FileGhosts}
 use Rattle.outside.specs.Faults.{Rose}
@@ -8,9 +8,9 @@ use Rattle.taxi_cli.specs.declared.ending.Ended.{Ended}
 use Rattle.taxi_cli.specs.declared.ending.Ended.TheVariants as ended
 use Rattle.taxi_cli.specs.declared.words.Row.{Row}
 use Rattle.taxi_cli.specs.declared.words.Row.TheVariants as rows
-use Rattle.taxi_cli.specs.Call.{IsCall, IsEnd}
+use Rattle.taxi_cli.specs.Call.{HasReadFault, IsCall, IsEnd, MayLack, MayTake}
 use Rattle.taxi_cli.specs.Command.{command_of}
-use Rattle.taxi_cli.specs.Course.{Command}
+use Rattle.taxi_cli.specs.Course.{Command, Course, Answered, ReadFailed, NoMemory, BoardFailed, status_in, text_in}
 use Rattle.taxi_cli.specs.Ending.{ComesOn}
 use Rattle.taxi_cli.specs.LastLine.{line_of, status_of}
 use Rattle.taxi_cli.specs.Unwritten.{KeepsBytes, WritesNothing}
@@ -25,8 +25,12 @@ writes_eight (rows.Fare k) status h = absurd h
 writes_eight rows.Totals status h = absurd h
 writes_eight rows.Seal status h = inr refl
 writes_eight rows.Run status h = inr (inr (inr refl))
+writes_eight rows.Bench status h = absurd h
 writes_eight (rows.Gen seed trips) status h = absurd h
+writes_eight rows.Port status h = absurd h
 writes_eight (rows.Offsets years) status h = absurd h
+writes_eight (rows.Mark driver) status h = absurd h
+writes_eight rows.Shifts status h = absurd h
 
 module _ {E D L : Type 0} (F : FileGhosts E) (B : Ghosts D L) (files files' : E) (old mid new : D) (end : Ended) (status : ℕ)
     (count : B.faults old ≤ B.faults mid) (later : B.faults mid ≤ B.faults new)
@@ -70,3 +74,46 @@ module _ {E D L : Type 0} (F : FileGhosts E) (B : Ghosts D L) (files files' : E)
     bytes = bytes-then B old mid new (bytes (status_before row not)) (bytes-kept B mid new kept);
     same = λ not_8. kept.same ∙ same (status_before row not) (no_board not_8);
   }
+
+-- a bound of steps is one for fewer
+pub steps_later : (row : Row) (files_tell image_told : Type 0) (contents left : ℕ → List ℕ) (image : List ℕ) (before mid now : ℕ) → now ≤ mid
+    → (command_of (Some row)).steps files_tell image_told contents left image before mid → (command_of (Some row)).steps files_tell image_told contents left image before now
+steps_later rows.Check files_tell image_told contents left image before mid now fewer h = omega (arith, fewer, h)
+steps_later (rows.Tables k) files_tell image_told contents left image before mid now fewer h = λ tells. omega (arith, fewer, h tells)
+steps_later (rows.Fare k) files_tell image_told contents left image before mid now fewer h = λ tells.
+    let b = h tells in record { taken = b.taken; split = b.split; bound = omega (arith, fewer, b.bound) }
+steps_later rows.Totals files_tell image_told contents left image before mid now fewer h = omega (arith, fewer, h)
+steps_later rows.Seal files_tell image_told contents left image before mid now fewer h = omega (arith, fewer, h)
+steps_later rows.Run files_tell image_told contents left image before mid now fewer h = λ tells.
+    let b = h tells in record { taken = b.taken; split = b.split; bound = omega (arith, fewer, b.bound) }
+steps_later rows.Bench files_tell image_told contents left image before mid now fewer h = λ tells told. omega (arith, fewer, h tells told)
+steps_later (rows.Gen seed trips) files_tell image_told contents left image before mid now fewer h = omega (arith, fewer, h)
+steps_later rows.Port files_tell image_told contents left image before mid now fewer h = λ tells.
+    let b = h tells in record { taken = b.taken; split = b.split; bound = omega (arith, fewer, b.bound) }
+steps_later (rows.Offsets years) files_tell image_told contents left image before mid now fewer h = omega (arith, fewer, h)
+steps_later (rows.Mark driver) files_tell image_told contents left image before mid now fewer h = omega (arith, fewer, h)
+steps_later rows.Shifts files_tell image_told contents left image before mid now fewer h = λ tells. omega (arith, fewer, h tells)
+
+-- without a fault of the outside the status is that of the answer, unless memory ran out
+module _ {E D L : Type 0} (F : FileGhosts E) (B : Ghosts D L) (c : Command) (files files' : E) (old new : D) (status : ℕ)
+    (read : ¬ (HasReadFault F c files files')) (calm : ¬ (Rose (B.faults old) (B.faults new))) where
+  abbrev Completes : Type 0
+  Completes = (status ≡ (c.answer (F.rest files) (B.image old)).status) ⊎ ((status ≡ 12) × MayLack c (F.rest files) (B.image old))
+
+  abbrev EndsWith : ℕ → List ℕ → Type 0
+  EndsWith ended text = IsEnd B.tells_text (Rose (B.faults old) (B.faults new)) ended text status (B.printed old) (B.printed new)
+
+  status_whole : (ended : ℕ) (text : List ℕ) → EndsWith ended text → status ≡ ended
+  status_whole ended text (inl whole) = whole.status_is
+  status_whole ended text (inr cut) = absurd (calm cut.failed)
+
+  by_course : (course : Course)
+      → MayTake c (F.rest files) (F.rest files') (B.image old) (λ word. Rose (F.faults files word) (F.faults files' word)) (Rose (B.faults old) (B.faults new)) course
+      → EndsWith (status_in c (F.rest files) (B.image old) course) (text_in c (F.rest files) (B.image old) course) → Completes
+  by_course Answered may ends = inl (status_whole _ _ ends)
+  by_course (ReadFailed word taken) may ends = absurd (read (record { word = word; reads = may.reads; rose = may.failed }))
+  by_course NoMemory may ends = inr (status_whole _ _ ends, (may.taken, may.may))
+  by_course (BoardFailed taken) may ends = absurd (calm may.failed)
+
+  pub completes : IsCall F B c files files' old new status → Completes
+  completes call = by_course call.course call.may call.ends

@@ -16,7 +16,7 @@ pub may-then : (c : Command) (contents left : ℕ → List ℕ) (image : List �
     → MayTake c contents left image read_failed failed course → MayTake c contents left image read_failed failed' course
 may-then c contents left image read_failed failed failed' more Answered h = record { whole = h.whole; refused = h.refused; bad = h.bad }
 may-then c contents left image read_failed failed failed' more (ReadFailed word taken) h = record { reads = h.reads; comes = h.comes; failed = h.failed; takes = h.takes }
-may-then c contents left image read_failed failed failed' more NoMemory h = record { may = h.may; takes = h.takes }
+may-then c contents left image read_failed failed failed' more NoMemory h = record { taken = h.taken; may = h.may; takes = h.takes }
 may-then c contents left image read_failed failed failed' more (BoardFailed taken) h = record { failed = more h.failed; takes = h.takes }
 
 -- a call that has printed nothing, as one that prints
@@ -53,7 +53,7 @@ comes-unread c contents left image read_failed failed whole begun ended h =
     reading : (course : Course) → MayTake c contents left image (λ word. ⊥) failed course → MayTake c contents left image read_failed failed course
     reading Answered m = record { whole = m.whole; refused = m.refused; bad = m.bad }
     reading (ReadFailed word taken) m = absurd m.failed
-    reading NoMemory m = record { may = m.may; takes = m.takes }
+    reading NoMemory m = record { taken = m.taken; may = m.may; takes = m.takes }
     reading (BoardFailed taken) m = record { failed = m.failed; takes = m.takes }
 
 -- ---- the last line

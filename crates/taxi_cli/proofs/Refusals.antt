@@ -1,22 +1,23 @@
 -- A command whose tariff isn't accepted, or that finds no memory.
-use Rattle.std.proofs.Common.{◌≡◌, ◌≢◌, ℕ, List, [], refl, sym, ap, inl, arith}
+use Rattle.std.proofs.Common.{◌≡◌, ◌≢◌, ◌∙◌, ℕ, List, [], refl, sym, ap, inl, arith}
 use Rattle.taxi_cli.specs.declared.ending.Ended.TheVariants as ended
 use Rattle.taxi_cli.specs.declared.tariff.Refusal.{Refusal}
 use Rattle.taxi_cli.specs.declared.tariff.TextFault.{TextFault}
 use Rattle.taxi_cli.specs.declared.tariff.TextFault.TheVariants as texts
 use Rattle.taxi_cli.specs.Answer.{Answer}
-use Rattle.taxi_cli.specs.Call.{Takes}
 use Rattle.taxi_cli.specs.Course.{Command, Answered, ReadFailed, NoMemory}
 use Rattle.taxi_cli.specs.Ending.{ComesUnprinted, ended_for}
+use Rattle.taxi_cli.specs.Stream.{Takes}
 use Rattle.taxi_cli.specs.Tariffs.{bad_tariff}
+use Rattle.taxi_cli.proofs.Streams.{not_bad}
 
 module _ (c : Command) (contents left : ℕ → List ℕ) (image : List ℕ) (read_failed : ℕ → Type 0)
-    (untouched : Takes c.drive contents left []) (may : c.may_lack contents image) where
+    (untouched : Takes c.drive contents left []) (may : c.may_lack contents image []) where
   -- memory ran out before the drive
   pub comes-no_memory : ComesUnprinted c contents left image read_failed ended.NoMemory
   comes-no_memory = record {
     course = NoMemory;
-    may = record { may = may; takes = untouched };
+    may = record { taken = []; may = may; takes = untouched };
     stands = inl (record { status_is = refl; line_is = refl; shown = refl });
   }
 
@@ -29,7 +30,7 @@ module _ (c : Command) (contents left : ℕ → List ℕ) (image : List ℕ) (re
         may = record {
           whole = λ is. absurd (differ_0 _ two is);
           refused = λ is. untouched;
-          bad = λ is. absurd (differ_3 _ two is);
+          bad = λ is. absurd (not_bad 2 c.drive (λ e. absurd cc) (λ e. absurd cc) (sym two ∙ is));
         };
         stands = inl (record {
           status_is = sym two;
@@ -40,9 +41,6 @@ module _ (c : Command) (contents left : ℕ → List ℕ) (image : List ℕ) (re
     where
       differ_0 : (n : ℕ) → n ≡ 2 → n ≢ 0
       differ_0 n e f = omega arith
-
-      differ_3 : (n : ℕ) → n ≡ 2 → n ≢ 3
-      differ_3 n e f = omega arith
 
   -- the tariff of word 1 wasn't read
   pub comes-refused : (fault : TextFault) → c.reads 1 → c.comes_to contents image 1 [] → c.shown contents image [] ≡ []

@@ -18,12 +18,12 @@ use Rattle.meter_run.specs.Points.{HasEntries, IsCut}
 use Rattle.taxi_cli.specs.declared.ending.Ended.{Ended}
 use Rattle.taxi_cli.specs.declared.ending.Ended.TheVariants as ended
 use Rattle.taxi_cli.specs.Answer.{Answer}
-use Rattle.taxi_cli.specs.Call.{Takes}
 use Rattle.taxi_cli.specs.Course.{Answered, NoMemory, ReadFailed, BoardFailed, line_in}
 use Rattle.taxi_cli.specs.Ending.{ComesOn, refused_as}
 use Rattle.taxi_cli.specs.LastLine.{line_of, status_of}
 use Rattle.taxi_cli.specs.Opening.{opening_of}
 use Rattle.taxi_cli.specs.Run.{IsOfTotals, MayFind, MayFindIn, Stands, Start, bytes_in, deeds_in, run_answer, run_command, setting_in, shown_in_run, start_at, start_of, tables_in}
+use Rattle.taxi_cli.specs.Stream.{Drive, Takes}
 use Rattle.taxi_cli.specs.RunSteps.{HasNotBegun, IsRefusal, RunComes}
 use Rattle.taxi_cli.proofs.Answering.{none}
 use Rattle.taxi_cli.proofs.RunCuts.{first_cut, last_cut}
@@ -116,7 +116,7 @@ module _ {E D L : Type 0} (F : FileGhosts E) (B : Ghosts D L) (files files' : E)
       }
 
   module _ (untouched : F.rest files' 2 ≡ F.rest files 2) (fails : Type 0) (reads : ReadsOnly B old new) (synced : LeavesFromSync B fails old new (IsAsHeld B old)) where
-    taken : Takes (Some 2) (F.rest files) (F.rest files') []
+    taken : Takes (Some (Drive 2)) (F.rest files) (F.rest files') []
     taken = record { bytes = sym untouched }
 
     refused : (why : Ended) → (start_at F B files old ≡ Err why) → IsRefusal why → why ≢ ended.BoardFault → (fails → why ≡ ended.BoardFault)
@@ -172,7 +172,7 @@ module _ {E D L : Type 0} (F : FileGhosts E) (B : Ghosts D L) (files files' : E)
         quiet ended.NoMemory
         (record {
           course = NoMemory;
-          may = record { may = h; takes = taken };
+          may = record { taken = []; may = (refl, h); takes = taken };
           stands = inl (record {
             status_is = refl;
             line_is = refl;
@@ -191,6 +191,9 @@ module _ {E D L : Type 0} (F : FileGhosts E) (B : Ghosts D L) (files files' : E)
     comes-not_begun ended.Done h board settled same = absurd (h.1.not_0 refl)
     comes-not_begun (ended.Sound cells measure) h board settled same = absurd (h.1.not_0 refl)
     comes-not_begun (ended.Sealed n) h board settled same = absurd (h.1.not_0 refl)
+    comes-not_begun (ended.BadReadings row) h board settled same = let good : ended.BadReadings row ≢ ended.BoardFault = λ e. absurd cc in refused (ended.BadReadings row) h.0 h.1 good board (settled good) (same good)
+    comes-not_begun ended.LongReadings h board settled same = let good : ended.LongReadings ≢ ended.BoardFault = λ e. absurd cc in refused ended.LongReadings h.0 h.1 good board (settled good) (same good)
+    comes-not_begun ended.NotPassed h board settled same = let good : ended.NotPassed ≢ ended.BoardFault = λ e. absurd cc in refused ended.NotPassed h.0 h.1 good board (settled good) (same good)
     comes-not_begun (ended.BadDrive line) h board settled same = absurd (h.1.not_3 refl)
     comes-not_begun ended.EndlessDrive h board settled same = absurd (h.1.not_3 refl)
     comes-not_begun ended.BadWords h board settled same = let good : ended.BadWords ≢ ended.BoardFault = λ e. absurd cc in refused ended.BadWords h.0 h.1 good board (settled good) (same good)
@@ -203,5 +206,9 @@ module _ {E D L : Type 0} (F : FileGhosts E) (B : Ghosts D L) (files files' : E)
     comes-not_begun ended.TripHeld h board settled same = let good : ended.TripHeld ≢ ended.BoardFault = λ e. absurd cc in refused ended.TripHeld h.0 h.1 good board (settled good) (same good)
     comes-not_begun ended.SealEnded h board settled same = let good : ended.SealEnded ≢ ended.BoardFault = λ e. absurd cc in refused ended.SealEnded h.0 h.1 good board (settled good) (same good)
     comes-not_begun (ended.OtherDecimals a b) h board settled same = let good : ended.OtherDecimals a b ≢ ended.BoardFault = λ e. absurd cc in refused (ended.OtherDecimals a b) h.0 h.1 good board (settled good) (same good)
+    comes-not_begun (ended.BadFrame place) h board settled same = let good : ended.BadFrame place ≢ ended.BoardFault = λ e. absurd cc in refused (ended.BadFrame place) h.0 h.1 good board (settled good) (same good)
+    comes-not_begun ended.EndlessRequests h board settled same = let good : ended.EndlessRequests ≢ ended.BoardFault = λ e. absurd cc in refused ended.EndlessRequests h.0 h.1 good board (settled good) (same good)
     comes-not_begun (ended.BadRules fault) h board settled same = let good : ended.BadRules fault ≢ ended.BoardFault = λ e. absurd cc in refused (ended.BadRules fault) h.0 h.1 good board (settled good) (same good)
+    comes-not_begun ended.LongBook h board settled same = let good : ended.LongBook ≢ ended.BoardFault = λ e. absurd cc in refused ended.LongBook h.0 h.1 good board (settled good) (same good)
+    comes-not_begun (ended.BadBook line) h board settled same = let good : ended.BadBook line ≢ ended.BoardFault = λ e. absurd cc in refused (ended.BadBook line) h.0 h.1 good board (settled good) (same good)
     comes-not_begun (ended.BadParams fault) h board settled same = let good : ended.BadParams fault ≢ ended.BoardFault = λ e. absurd cc in refused (ended.BadParams fault) h.0 h.1 good board (settled good) (same good)

@@ -72,9 +72,16 @@ no_seal-tariff number found tariff params read_failed ended.TripHeld h = absurd 
 no_seal-tariff number found tariff params read_failed ended.BadTrip h = absurd h
 no_seal-tariff number found tariff params read_failed (ended.WrongTariff digest own) h = absurd h
 no_seal-tariff number found tariff params read_failed ended.SealEnded h = absurd h
+no_seal-tariff number found tariff params read_failed (ended.BadFrame place) h = absurd h
+no_seal-tariff number found tariff params read_failed ended.EndlessRequests h = absurd h
 no_seal-tariff number found tariff params read_failed (ended.BadRules fault) h = absurd h
+no_seal-tariff number found tariff params read_failed ended.LongBook h = absurd h
+no_seal-tariff number found tariff params read_failed (ended.BadBook line) h = absurd h
 no_seal-tariff number found tariff params read_failed (ended.BadParams fault) h = absurd h
 no_seal-tariff number found tariff params read_failed (ended.Sealed n) h = absurd h
+no_seal-tariff number found tariff params read_failed (ended.BadReadings row) h = absurd h
+no_seal-tariff number found tariff params read_failed ended.LongReadings h = absurd h
+no_seal-tariff number found tariff params read_failed ended.NotPassed h = absurd h
 no_seal-tariff number found tariff params read_failed (ended.BadDrive line) h = absurd h
 no_seal-tariff number found tariff params read_failed ended.EndlessDrive h = absurd h
 no_seal-tariff number found tariff params read_failed ended.ReadFault h = absurd h
@@ -146,6 +153,9 @@ pub not_0-no_seal : (number : ℕ) (found : Option ℕ) (tariff text : List ℕ)
 not_0-no_seal number found tariff text read_failed ended.Done h = absurd h
 not_0-no_seal number found tariff text read_failed (ended.Sound cells measure) h = absurd h
 not_0-no_seal number found tariff text read_failed (ended.Sealed n) h = absurd h
+not_0-no_seal number found tariff text read_failed (ended.BadReadings row) h = absurd h
+not_0-no_seal number found tariff text read_failed ended.LongReadings h = absurd h
+not_0-no_seal number found tariff text read_failed ended.NotPassed h = absurd h
 not_0-no_seal number found tariff text read_failed ended.ReadFault h = λ z. absurd cc
 not_0-no_seal number found tariff text read_failed ended.NoMemory h = λ z. absurd cc
 not_0-no_seal number found tariff text read_failed (ended.BadTariff why) h = λ z. absurd cc
@@ -159,7 +169,11 @@ not_0-no_seal number found tariff text read_failed ended.TripHeld h = absurd h
 not_0-no_seal number found tariff text read_failed ended.BadTrip h = absurd h
 not_0-no_seal number found tariff text read_failed (ended.WrongTariff digest own) h = absurd h
 not_0-no_seal number found tariff text read_failed ended.SealEnded h = absurd h
+not_0-no_seal number found tariff text read_failed (ended.BadFrame place) h = absurd h
+not_0-no_seal number found tariff text read_failed ended.EndlessRequests h = absurd h
 not_0-no_seal number found tariff text read_failed (ended.BadRules fault) h = absurd h
+not_0-no_seal number found tariff text read_failed ended.LongBook h = absurd h
+not_0-no_seal number found tariff text read_failed (ended.BadBook line) h = absurd h
 not_0-no_seal number found tariff text read_failed (ended.BadDrive line) h = absurd h
 not_0-no_seal number found tariff text read_failed ended.EndlessDrive h = absurd h
 not_0-no_seal number found tariff text read_failed ended.BoardFault h = absurd h
@@ -210,7 +224,7 @@ module _ (contents left : ℕ → List ℕ) (image : List ℕ) (read_failed : �
       }
       by ended.NoMemory h = record {
         course = NoMemory;
-        may = record { may = may; takes = refl };
+        may = record { taken = []; may = may; takes = refl };
         stands = inl (record { status_is = refl; line_is = refl; shown = λ t. none seal_command contents left image read_failed failed told before now refl still [] refl });
       }
       by (ended.BadTariff why) h = refuses-with (ended.BadTariff why) (refusal (ended.BadTariff why) h) (λ z. absurd cc) (λ z. absurd cc)
@@ -227,7 +241,14 @@ module _ (contents left : ℕ → List ℕ) (image : List ℕ) (read_failed : �
       by (ended.WrongTariff digest own) h = absurd h
       by ended.SealEnded h = absurd h
       by (ended.Sealed n) h = absurd h
+      by (ended.BadFrame place) h = absurd h
+      by ended.EndlessRequests h = absurd h
+      by (ended.BadReadings row) h = absurd h
+      by ended.LongReadings h = absurd h
+      by ended.NotPassed h = absurd h
       by (ended.BadRules fault) h = absurd h
+      by ended.LongBook h = absurd h
+      by (ended.BadBook line) h = absurd h
       by (ended.BadDrive line) h = absurd h
       by ended.EndlessDrive h = absurd h
       by ended.BoardFault h = absurd h

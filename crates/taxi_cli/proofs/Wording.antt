@@ -2,13 +2,13 @@
 use Rattle.std.proofs.Common.{◌≡◌, ℕ, ◌<◌, ◌≤◌, List, [], ◌∷◌, length, get_or, map, ap, ◌∙◌, arith}
 use Rattle.taxi_cli.specs.Words.{four_words, row_of, two_words}
 
--- the command that two words are, by the first of them
-pub row-two : {S : Type 0} (f : S → List ℕ) (words : List S) (command : S) (a : List ℕ) → 2 ≤ length words → length words < 3
-    → command ≡ get_or words 0 command → a ≡ f command → two_words a ≡ row_of (map f words)
-row-two f [] command a lo hi d i = absurd (omega (arith, lo))
-row-two f (w ∷ []) command a lo hi d i = absurd (omega (arith, lo))
-row-two f (w ∷ x ∷ []) command a lo hi d i = ap two_words (i ∙ ap f d)
-row-two f (w ∷ x ∷ y ∷ ys) command a lo hi d i = absurd (omega (arith, hi))
+-- the command that two words are
+pub row-two : {S : Type 0} (f : S → List ℕ) (words : List S) (command last : S) (a b : List ℕ) → 2 ≤ length words → length words < 3
+    → command ≡ get_or words 0 command → last ≡ get_or words 1 last → a ≡ f command → b ≡ f last → two_words a b ≡ row_of (map f words)
+row-two f [] command last a b lo hi d e i j = absurd (omega (arith, lo))
+row-two f (w ∷ []) command last a b lo hi d e i j = absurd (omega (arith, lo))
+row-two f (w ∷ x ∷ []) command last a b lo hi d e i j = ap (λ (t : List ℕ). two_words t b) (i ∙ ap f d) ∙ ap (two_words (f w)) (j ∙ ap f e)
+row-two f (w ∷ x ∷ y ∷ ys) command last a b lo hi d e i j = absurd (omega (arith, hi))
 
 -- the command that four words are, by the first, the third and the last of them
 pub row-four : {S : Type 0} (f : S → List ℕ) (words : List S) (command third last : S) (a b c : List ℕ) → 4 ≤ length words → length words < 5

@@ -1,32 +1,22 @@
 -- What holds of a call.
-use Rattle.std.specs.Prelude.{◌≡◌, ◌⊎◌, ℕ, List, [], ◌++◌, Option, Some, None}
-use Rattle.drive_text.specs.Ending.{IsSplit, TellsEnd}
+use Rattle.std.specs.Prelude.{◌≡◌, ◌⊎◌, ℕ, List, [], ◌++◌}
 use Rattle.outside.specs.Faults.{Rose}
 use Rattle.outside.specs.Printing.{Begins}
 use Rattle.outside.specs.declared.board.Board.{Ghosts}
 use Rattle.outside.specs.declared.files.Files.{Ghosts as FileGhosts}
 use Rattle.taxi_cli.specs.Course.{Command, Course, Answered, ReadFailed, NoMemory, BoardFailed, status_in, text_in}
-
--- these bytes of the drive were taken: none, where there is no drive
-abbrev pub Takes : (drive : Option ℕ) (contents left : ℕ → List ℕ) (taken : List ℕ) → Type 0
-Takes None contents left taken = taken ≡ []
-Takes (Some word) contents left taken = IsSplit (contents word) taken (left word)
-
--- the bytes of the drive that were taken tell its end
-abbrev pub TellsItsEnd : (drive : Option ℕ) (contents left : ℕ → List ℕ) → Type 0
-TellsItsEnd None contents left = ⊥
-TellsItsEnd (Some word) contents left = TellsEnd (contents word) (left word)
+use Rattle.taxi_cli.specs.Stream.{Takes, TellsItsEnd, bad_status}
 
 -- a call of a command, with what the files held and what is left of them, the opening image, and which counts of faults
 -- rose
 module _ (c : Command) (contents left : ℕ → List ℕ) (image : List ℕ) (read_failed : ℕ → Type 0)
     (board_failed : Type 0) where
   -- at the answer: at status 0 each file that the command reads was read to its end; at 2 nothing of the drive was
-  -- taken; and at 3 the bytes that were taken have what is bad
+  -- taken; and where the drive or the requests are bad the bytes that were taken have what is bad
   pub record IsAnswered : Type 0 where
     pub whole : (c.answer contents image).status ≡ 0 → (word : ℕ) → c.reads word → left word ≡ []
     pub refused : (c.answer contents image).status ≡ 2 → Takes c.drive contents left []
-    pub bad : (c.answer contents image).status ≡ 3 → TellsItsEnd c.drive contents left
+    pub bad : (c.answer contents image).status ≡ bad_status c.drive → TellsItsEnd c.drive contents left
 
   -- a read failed, of a word that the command reads and had come to
   pub record FailsToRead (word : ℕ) (taken : List ℕ) : Type 0 where
@@ -35,10 +25,11 @@ module _ (c : Command) (contents left : ℕ → List ℕ) (image : List ℕ) (re
     pub failed : read_failed word
     pub takes : Takes c.drive contents left taken
 
-  -- memory ran out, before anything of the drive was taken
+  -- memory ran out at such a place, when these bytes of the drive or of the requests were taken
   pub record LacksMemory : Type 0 where
-    pub may : c.may_lack contents image
-    pub takes : Takes c.drive contents left []
+    pub taken : List ℕ
+    pub may : c.may_lack contents image taken
+    pub takes : Takes c.drive contents left taken
 
   -- the board failed
   pub record FailsAtBoard (taken : List ℕ) : Type 0 where
@@ -51,6 +42,10 @@ module _ (c : Command) (contents left : ℕ → List ℕ) (image : List ℕ) (re
   MayTake (ReadFailed word taken) = FailsToRead word taken
   MayTake NoMemory = LacksMemory
   MayTake (BoardFailed taken) = FailsAtBoard taken
+
+-- memory may run out in a call
+abbrev pub MayLack : Command → (contents : ℕ → List ℕ) (image : List ℕ) → Type 0
+MayLack c contents image = (taken : List ℕ) × c.may_lack contents image taken
 
 -- the text was printed whole, with its status
 pub record IsWhole (tells_text : Type 0) (status : ℕ) (text : List ℕ) (ended : ℕ) (before now : List ℕ) : Type 0 where

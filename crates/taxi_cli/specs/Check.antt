@@ -22,9 +22,9 @@ check_command = record {
   shown = λ contents image taken. [];
   reads = λ word. word ≡ 1;
   comes_to = λ contents image word taken. word ≡ 1;
-  may_lack = λ contents image. Unit {0};
+  may_lack = λ contents image taken. Unit {0};
   known = λ files_tell image_told. files_tell;
   opens = ⊥;
   writes = λ ended. ⊥;
-  steps = λ files_tell contents left before now. now ≤ before + 1;
+  steps = λ files_tell image_told contents left image before now. now ≤ before + 1;
 }

@@ -1,19 +1,24 @@
 -- The commands of the program.
 use Rattle.std.specs.Prelude.{ℕ, List, Option, Some, None}
 use Rattle.taxi_cli.specs.Answer.{Answer}
+use Rattle.taxi_cli.specs.Bench.{bench_command}
 use Rattle.taxi_cli.specs.Check.{check_command}
 use Rattle.taxi_cli.specs.Course.{Command}
 use Rattle.taxi_cli.specs.Fare.{fare_command}
 use Rattle.taxi_cli.specs.Generate.{gen_command}
+use Rattle.taxi_cli.specs.Mark.{mark_command}
 use Rattle.taxi_cli.specs.NoCommand.{no_command}
 use Rattle.taxi_cli.specs.Offsets.{offsets_command}
+use Rattle.taxi_cli.specs.Port.{port_command}
 use Rattle.taxi_cli.specs.Run.{run_command}
 use Rattle.taxi_cli.specs.Seal.{seal_command}
+use Rattle.taxi_cli.specs.Shifts.{shifts_command}
 use Rattle.taxi_cli.specs.Tables.{tables_command}
 use Rattle.taxi_cli.specs.Totals.{totals_command}
 use Rattle.taxi_cli.specs.Words.{row_of}
 use Rattle.taxi_cli.specs.declared.words.Row.{Row}
-use Rattle.taxi_cli.specs.declared.words.Row.TheVariants.{Check, Tables, Fare, Totals, Seal, Run, Gen, Offsets}
+use Rattle.taxi_cli.specs.declared.words.Row.TheVariants.{Check, Tables, Fare, Totals, Seal, Run, Bench, Gen}
+use Rattle.taxi_cli.specs.declared.words.Row.TheVariants.{Port, Offsets, Mark, Shifts}
 
 -- the command of a row
 abbrev pub command_of : Option Row → Command
@@ -24,8 +29,21 @@ command_of (Some (Fare k)) = fare_command k
 command_of (Some Totals) = totals_command
 command_of (Some Seal) = seal_command
 command_of (Some Run) = run_command
+command_of (Some Bench) = bench_command
 command_of (Some (Gen seed trips)) = gen_command seed trips
+command_of (Some Port) = port_command
 command_of (Some (Offsets years)) = offsets_command years
+command_of (Some (Mark driver)) = mark_command driver
+command_of (Some Shifts) = shifts_command
+
+-- it only looks at the store: it opens it, and writes nothing
+abbrev pub OnlyLooks : Option Row → Type 0
+OnlyLooks (Some Totals) = Unit {0}
+OnlyLooks (Some Bench) = Unit {0}
+OnlyLooks (Some Port) = Unit {0}
+OnlyLooks (Some (Mark driver)) = Unit {0}
+OnlyLooks (Some Shifts) = Unit {0}
+OnlyLooks row = ⊥
 
 -- the command that words call
 abbrev pub called : List (List ℕ) → Command

@@ -2,21 +2,22 @@
 use Rattle.std.specs.Prelude.{ℕ, List, [], ◌++◌, Option}
 use Rattle.taxi_cli.specs.Answer.{Answer}
 use Rattle.taxi_cli.specs.LastLine.{read_fault_line, no_memory_line}
+use Rattle.taxi_cli.specs.Stream.{Stream}
 
 -- a command, by the contents of the files of its words and by the opening image of the store
 pub record Command : Type 1 where
   -- its answer
   pub answer : (contents : ℕ → List ℕ) (image : List ℕ) → Answer
-  -- the word of its drive, where it has one
-  pub drive : Option ℕ
-  -- what it shows of bytes of its drive that were taken
+  -- its drive, or its requests, where it has such a file
+  pub drive : Option Stream
+  -- what it shows of bytes of that file that were taken
   pub shown : (contents : ℕ → List ℕ) (image taken : List ℕ) → List ℕ
   -- the words whose files it reads
   pub reads : ℕ → Type 0
-  -- it comes to a read of this word's file, when these bytes of its drive were taken
+  -- it comes to a read of this word's file, when these bytes of that file were taken
   pub comes_to : (contents : ℕ → List ℕ) (image : List ℕ) (word : ℕ) (taken : List ℕ) → Type 0
-  -- it comes to a place where memory may run out
-  pub may_lack : (contents : ℕ → List ℕ) (image : List ℕ) → Type 0
+  -- it comes to a place where memory may run out, when these bytes of its drive were taken
+  pub may_lack : (contents : ℕ → List ℕ) (image taken : List ℕ) → Type 0
   -- what has to be told for its answer to be known: the files' contents, the image
   pub known : (files_tell image_told : Type 0) → Type 0
   -- it opens the store
@@ -24,17 +25,17 @@ pub record Command : Type 1 where
   -- it may write the store, where it ends with this status
   pub writes : (ended : ℕ) → Type 0
   -- how many steps it may take
-  pub steps : (files_tell : Type 0) (contents left : ℕ → List ℕ) (before now : ℕ) → Type 0
+  pub steps : (files_tell image_told : Type 0) (contents left : ℕ → List ℕ) (image : List ℕ) (before now : ℕ) → Type 0
 
 -- how far a call came
 pub data Course : Type 0 where
   -- to its answer
   Answered : Course
-  -- to a read of this word's file that failed, when these bytes of its drive were taken
+  -- to a read of this word's file that failed, when these bytes of its drive or requests were taken
   ReadFailed : (word : ℕ) (taken : List ℕ) → Course
   -- to a place where memory ran out
   NoMemory : Course
-  -- to a fault of the board before its answer, when these bytes of its drive were taken
+  -- to a fault of the board before its answer, when these bytes of its drive or requests were taken
   BoardFailed : (taken : List ℕ) → Course
 
 module _ (c : Command) (contents : ℕ → List ℕ) (image : List ℕ) where

@@ -1,16 +1,19 @@
 -- How a command ends, before its last line is printed.
-use Rattle.std.specs.Prelude.{◌≡◌, ◌⊎◌, ℕ, List, [], ◌++◌, Result, Ok, Err}
+use Rattle.std.specs.Prelude.{◌≡◌, ◌≢◌, ◌⊎◌, ℕ, List, [], ◌++◌, Result, Ok, Err}
 use Rattle.outside.specs.Faults.{Rose}
 use Rattle.outside.specs.Printing.{Begins}
+use Rattle.outside.specs.Runs.{IsSettled}
 use Rattle.outside.specs.declared.board.Board.{Ghosts}
 use Rattle.outside.specs.declared.files.Files.{Ghosts as FileGhosts}
 use Rattle.taxi_cli.specs.Answer.{Answer, refuses}
 use Rattle.taxi_cli.specs.Call.{MayTake}
 use Rattle.taxi_cli.specs.Course.{Command, Course, status_in, shown_in, line_in, text_in}
 use Rattle.taxi_cli.specs.LastLine.{status_of, line_of}
+use Rattle.taxi_cli.specs.Unwritten.{LeavesImage}
 use Rattle.taxi_cli.specs.declared.ending.Ended.{Ended}
 use Rattle.taxi_cli.specs.declared.ending.Ended.TheVariants.{Done, BadTariff, BadSlot, SameNumber, BadDrive}
 use Rattle.taxi_cli.specs.declared.ending.Ended.TheVariants.{BadParams, EndlessDrive, ReadFault, BoardFault, NoMemory}
+use Rattle.taxi_cli.specs.declared.ending.Ended.TheVariants.{BadFrame, EndlessRequests}
 use Rattle.taxi_cli.specs.declared.params.ParamsFault.{ParamsFault}
 use Rattle.taxi_cli.specs.declared.params.ParamsFault.TheVariants as params
 use Rattle.taxi_cli.specs.declared.opening.StoreFault.{StoreFault}
@@ -22,6 +25,8 @@ use Rattle.taxi_cli.specs.declared.tariff.TextFault.{TextFault}
 use Rattle.taxi_cli.specs.declared.tariff.TextFault.TheVariants as texts
 use Rattle.meter_run.specs.declared.fault.RunFault.{RunFault}
 use Rattle.meter_run.specs.declared.fault.RunFault.TheVariants as faults
+use Rattle.data_port.specs.declared.serving.PortFault.{PortFault}
+use Rattle.data_port.specs.declared.serving.PortFault.TheVariants as ports
 
 -- a refusal, with its status and its line
 abbrev pub refused_as : Ended → Answer
@@ -34,6 +39,14 @@ ended_by (Err faults.ReadFault) = ReadFault
 ended_by (Err faults.BoardFault) = BoardFault
 ended_by (Err (faults.BadDrive line)) = BadDrive line
 ended_by (Err faults.TooLong) = EndlessDrive
+
+-- how the command ended where the serving of its requests ended so
+abbrev pub ended_serving : {T : Type 0} → Result T PortFault → Ended
+ended_serving (Ok done) = Done
+ended_serving (Err ports.ReadFault) = ReadFault
+ended_serving (Err ports.BoardFault) = BoardFault
+ended_serving (Err (ports.Frame place)) = BadFrame place
+ended_serving (Err ports.TooLong) = EndlessRequests
 
 -- how the command ended where its tariff wasn't read
 abbrev pub ended_for : TextFault → Ended
@@ -100,3 +113,11 @@ module _ {D L : Type 0} (B : Ghosts D L) where
       Comes c contents left (B.image board) read_failed (Rose (B.faults board) (B.faults board'))
       (λ text. B.tells_text → B.printed board' ≡ B.printed board ++ text)
       (λ text. B.tells_text → Begins (B.printed board) (B.printed board') text) ended
+
+-- a call that only looked at the store: from its opening sync on a cut leaves the image as it was, and unless the board
+-- failed the image is as it was, and nothing is in flight
+module _ {D L : Type 0} (B : Ghosts D L) where
+  pub record LooksAt (old new : D) (ended : Ended) : Type 0 where
+    pub leaves : LeavesImage B (ended ≡ BoardFault) old new
+    pub same : ended ≢ BoardFault → B.image new ≡ B.image old
+    pub settled : ended ≢ BoardFault → IsSettled B new

@@ -10,6 +10,7 @@ use Rattle.taxi_units.specs.Time.{first_second}
 use Rattle.taxi_cli.specs.Answer.{Answer, shows}
 use Rattle.taxi_cli.specs.Course.{Command}
 use Rattle.taxi_cli.specs.LastLine.{bad_drive_line, endless_drive_line}
+use Rattle.taxi_cli.specs.Stream.{Drive}
 use Rattle.taxi_cli.specs.Tariffs.{tariff_in, bad_tariff}
 use Rattle.taxi_cli.specs.declared.tariff.Refusal.{Refusal}
 
@@ -42,13 +43,14 @@ pub record IsDriving (tariff taken : List ℕ) : Type 0 where
 abbrev pub fare_command : (k : ℕ) → Command
 fare_command k = record {
   answer = λ contents image. fare_answer k (tariff_in (contents 1)) (contents 2);
-  drive = Some 2;
+  drive = Some (Drive 2);
   shown = λ contents image taken. shown_under k (tariff_in (contents 1)) taken;
   reads = λ word. (word ≡ 1) ⊎ (word ≡ 2);
   comes_to = λ contents image word taken. ((word ≡ 1) × (taken ≡ [])) ⊎ ((word ≡ 2) × IsDriving (contents 1) taken);
-  may_lack = λ contents image. Unit {0};
+  may_lack = λ contents image taken. taken ≡ [];
   known = λ files_tell image_told. files_tell;
   opens = ⊥;
   writes = λ ended. ⊥;
-  steps = λ files_tell contents left before now. files_tell → IsBoundedBy 65 (contents 2) (left 2) before now;
+  steps = λ files_tell image_told contents left image before now.
+      files_tell → IsBoundedBy 65 (contents 2) (left 2) before now;
 }

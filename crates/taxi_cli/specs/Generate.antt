@@ -54,9 +54,9 @@ gen_command seed trips = record {
   shown = λ contents image taken. [];
   reads = λ word. ⊥;
   comes_to = λ contents image word taken. ⊥;
-  may_lack = λ contents image. Unit {0};
+  may_lack = λ contents image taken. Unit {0};
   known = λ files_tell image_told. Unit {0};
   opens = ⊥;
   writes = λ ended. ⊥;
-  steps = λ files_tell contents left before now. now ≤ before + (64 + 64) + 64 * event_count seed trips;
+  steps = λ files_tell image_told contents left image before now. now ≤ before + (64 + 64) + 64 * event_count seed trips;
 }

@@ -6,6 +6,8 @@ use Rattle.taxi_cli.specs.declared.ending.Ended.TheVariants.{SameNumber, BadDriv
 use Rattle.taxi_cli.specs.declared.ending.Ended.TheVariants.{BoardFault, NoMemory}
 use Rattle.taxi_cli.specs.declared.ending.Ended.TheVariants.{TripHeld, SealEnded, OtherDecimals, BadParams, Sealed}
 use Rattle.taxi_cli.specs.declared.ending.Ended.TheVariants.{BadTrip, WrongTariff, BadRules}
+use Rattle.taxi_cli.specs.declared.ending.Ended.TheVariants.{BadReadings, LongReadings, NotPassed}
+use Rattle.taxi_cli.specs.declared.ending.Ended.TheVariants.{BadFrame, EndlessRequests, LongBook, BadBook}
 use Rattle.offset_rules.specs.declared.fault.RuleFault.{RuleFault}
 use Rattle.offset_rules.specs.declared.fault.RuleFault.TheVariants as rules
 use Rattle.receipt_text.specs.Receipts.{hex_text}
@@ -106,11 +108,32 @@ bad_params_line fault = codes "BAD PARAMS " ++ (param_fault_text fault ++ codes 
 abbrev pub sealed_line : ℕ → List ℕ
 sealed_line number = codes "SEALED " ++ (decimal number ++ codes "\n")
 
+-- with the first bad place of the requests
+abbrev pub bad_frame_line : ℕ → List ℕ
+bad_frame_line place = codes "BAD FRAME " ++ (decimal place ++ codes "\n")
+
+abbrev pub endless_requests_line : List ℕ
+endless_requests_line = codes "BAD FRAME TOO LONG\n"
+
+-- the number of the first row that is no row of readings
+abbrev pub bad_readings_line : ℕ → List ℕ
+bad_readings_line row = codes "BAD READINGS " ++ (decimal row ++ codes "\n")
+
+abbrev pub long_readings_line : List ℕ
+long_readings_line = codes "BAD READINGS TOO LONG\n"
+
 -- why rules of offsets aren't accepted, and the first bad line where there is one
 abbrev pub bad_rules_line : RuleFault → List ℕ
 bad_rules_line rules.TooLong = codes "BAD RULES TooLong\n"
 bad_rules_line (rules.BadLine line) = codes "BAD RULES BadLine " ++ (decimal line ++ codes "\n")
 bad_rules_line rules.SameMonth = codes "BAD RULES SameMonth\n"
+
+abbrev pub long_book_line : List ℕ
+long_book_line = codes "BAD BOOK TOO LONG\n"
+
+-- with the number of the first bad line
+abbrev pub bad_book_line : ℕ → List ℕ
+bad_book_line line = codes "BAD BOOK " ++ (decimal line ++ codes "\n")
 
 abbrev pub endless_drive_line : List ℕ
 endless_drive_line = codes "BAD DRIVE TOO LONG\n"
@@ -137,7 +160,14 @@ status_of SealEnded = 14
 status_of (OtherDecimals found own) = 15
 status_of (BadParams fault) = 9
 status_of (Sealed number) = 0
+status_of (BadFrame place) = 16
+status_of EndlessRequests = 16
+status_of (BadReadings row) = 10
+status_of LongReadings = 10
+status_of NotPassed = 11
 status_of (BadRules fault) = 17
+status_of LongBook = 18
+status_of (BadBook line) = 18
 status_of (BadDrive line) = 3
 status_of EndlessDrive = 3
 status_of ReadFault = 7
@@ -160,7 +190,14 @@ line_of SealEnded = codes "SEAL ENDED\n"
 line_of (OtherDecimals found own) = other_decimals_line found own
 line_of (BadParams fault) = bad_params_line fault
 line_of (Sealed number) = sealed_line number
+line_of (BadFrame place) = bad_frame_line place
+line_of EndlessRequests = endless_requests_line
+line_of (BadReadings row) = bad_readings_line row
+line_of LongReadings = long_readings_line
+line_of NotPassed = []
 line_of (BadRules fault) = bad_rules_line fault
+line_of LongBook = long_book_line
+line_of (BadBook line) = bad_book_line line
 line_of (BadDrive line) = bad_drive_line line
 line_of EndlessDrive = endless_drive_line
 line_of ReadFault = read_fault_line

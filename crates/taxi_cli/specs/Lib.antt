@@ -1,5 +1,8 @@
 pub mod Answer
+pub mod Bench
+pub mod BenchSteps
 pub mod Call
+pub mod Chain
 pub mod Check
 pub mod Command
 pub mod Course
@@ -7,12 +10,18 @@ pub mod Ending
 pub mod Fare
 pub mod Generate
 pub mod LastLine
+pub mod Link
+pub mod Mark
 pub mod NoCommand
 pub mod Offsets
 pub mod Opening
+pub mod Pieces
+pub mod Port
 pub mod Run
 pub mod RunSteps
 pub mod Seal
+pub mod Shifts
+pub mod Stream
 pub mod Tables
 pub mod Tariffs
 pub mod Totals

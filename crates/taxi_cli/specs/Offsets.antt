@@ -26,11 +26,11 @@ offsets_command years = record {
   shown = λ contents image taken. [];
   reads = λ word. word ≡ 1;
   comes_to = λ contents image word taken. word ≡ 1;
-  may_lack = λ contents image. ⊥;
+  may_lack = λ contents image taken. ⊥;
   known = λ files_tell image_told. files_tell;
   opens = ⊥;
   writes = λ ended. ⊥;
-  steps = λ files_tell contents left before now. now ≤ before + 31 + 1;
+  steps = λ files_tell image_told contents left image before now. now ≤ before + 31 + 1;
 }
 
 -- how the command ended where its rules weren't read

@@ -31,7 +31,8 @@ opened (Ok durable) (Ok seal) = Ok (record { totals = durable; seal = seal })
 
 -- what an image stands for, or why that can't be told
 abbrev pub opening_of : (image : List ℕ) → Result Opening StoreFault
-opening_of image = opened (found_at totals.reads states.number_of 0 image) (found_at seals.reads seals.number_of 1024 image)
+opening_of image =
+    opened (found_at totals.reads states.number_of 0 image) (found_at seals.reads seals.number_of 1024 image)
 
 -- the totals and the seal of a store that is sealed
 abbrev pub sealed_store : Found Durable → Found Seal → Option (Durable × Seal)

@@ -28,6 +28,7 @@ use Rattle.taxi_cli.specs.Course.{Command, Course, Answered, ReadFailed, NoMemor
 use Rattle.taxi_cli.specs.Ending.{refused_as, store_ended}
 use Rattle.taxi_cli.specs.Fare.{drive_answer}
 use Rattle.taxi_cli.specs.Opening.{opening_of, sealed_store}
+use Rattle.taxi_cli.specs.Stream.{Drive}
 use Rattle.taxi_cli.specs.Tariffs.{tariff_in}
 use Rattle.taxi_cli.specs.Unwritten.{WritesNothing}
 use Rattle.taxi_cli.specs.declared.ending.Ended.{Ended}
@@ -145,16 +146,17 @@ pub record IsRunning (image tariff taken : List ℕ) : Type 0 where
 abbrev pub run_command : Command
 run_command = record {
   answer = λ contents image. run_answer (start_of (opening_of image) (contents 1)) (contents 2);
-  drive = Some 2;
+  drive = Some (Drive 2);
   shown = λ contents image taken. shown_in_run (start_of (opening_of image) (contents 1)) taken;
   reads = λ word. (word ≡ 1) ⊎ (word ≡ 2);
   comes_to = λ contents image word taken.
       ((word ≡ 1) × ((taken ≡ []) × IsSealedIn image)) ⊎ ((word ≡ 2) × IsRunning image (contents 1) taken);
-  may_lack = λ contents image. IsSealedIn image;
+  may_lack = λ contents image taken. (taken ≡ []) × IsSealedIn image;
   known = λ files_tell image_told. files_tell × image_told;
   opens = Unit {0};
   writes = λ ended. (ended ≡ 0) ⊎ ((ended ≡ 3) ⊎ ((ended ≡ 7) ⊎ (ended ≡ 8)));
-  steps = λ files_tell contents left before now. files_tell → IsBoundedBy (64 + 64) (contents 2) (left 2) before now;
+  steps = λ files_tell image_told contents left image before now.
+      files_tell → IsBoundedBy (64 + 64) (contents 2) (left 2) before now;
 }
 
 -- ---- the headline

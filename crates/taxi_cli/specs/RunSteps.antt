@@ -21,20 +21,13 @@ use Rattle.taxi_cli.specs.declared.ending.Ended.TheVariants.{BadTariff, BoardFau
 
 -- ---- the tables of the sealed tariff
 
--- they are those of the text's sound tariff, under a constant
-pub record AreTablesOfText (text : List ℕ) (k : ℕ) (tables : TableParts) : Type 0 where
-  pub tree : Tree
-  pub sound : tariff_in text ≡ Ok tree
-  pub compiled : IsTablesOf tree tables
-  pub value : tables ≡ tables_of tree k
-
--- no tables were made of a text: its tariff is refused, or memory ran out
+-- a text has no tariff: it is refused, or memory ran out
 abbrev pub IsNoTables : (text : List ℕ) → Ended → Type 0
 IsNoTables text NoMemory = Unit {0}
 IsNoTables text (BadTariff why) = tariff_in text ≡ Err why
 IsNoTables text why = ⊥
 
--- they are those of the text's tariff, which is the sealed one
+-- they are those of a text's tariff, which is the sealed one
 pub record AreSealedTables (seal : Seal) (text : List ℕ) (tables : TableParts) : Type 0 where
   pub tree : Tree
   pub accepted : sealed_tariff seal.digest text ≡ Ok tree

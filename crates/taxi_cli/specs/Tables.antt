@@ -26,10 +26,10 @@ tables_command k = record {
   shown = λ contents image taken. [];
   reads = λ word. word ≡ 1;
   comes_to = λ contents image word taken. word ≡ 1;
-  may_lack = λ contents image. Unit {0};
+  may_lack = λ contents image taken. Unit {0};
   known = λ files_tell image_told. files_tell;
   opens = ⊥;
   writes = λ ended. ⊥;
-  steps = λ files_tell contents left before now.
+  steps = λ files_tell image_told contents left image before now.
       files_tell → now ≤ before + 1 + rows_under k (tariff_in (contents 1));
 }

@@ -37,9 +37,9 @@ totals_command = record {
   shown = λ contents image taken. [];
   reads = λ word. ⊥;
   comes_to = λ contents image word taken. ⊥;
-  may_lack = λ contents image. ⊥;
+  may_lack = λ contents image taken. ⊥;
   known = λ files_tell image_told. image_told;
   opens = Unit {0};
   writes = λ ended. ⊥;
-  steps = λ files_tell contents left before now. now ≤ before + 64 + 1;
+  steps = λ files_tell image_told contents left image before now. now ≤ before + 64 + 1;
 }

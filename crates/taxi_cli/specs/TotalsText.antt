@@ -19,12 +19,14 @@ amount_line name decimals amount end = name ++ (money_text decimals amount ++ en
 -- the distances, in metres
 abbrev pub distances_text : Totals → List ℕ
 distances_text t =
-    amount_line (codes "DISTANCE ") 3 t.distance_mm (codes " m\n") ++ amount_line (codes "HIRED ") 3 t.hired_mm (codes " m\n")
+    amount_line (codes "DISTANCE ") 3 t.distance_mm (codes " m\n")
+    ++ amount_line (codes "HIRED ") 3 t.hired_mm (codes " m\n")
 
 -- the money, with the decimals of the seal
 abbrev pub money_lines : (decimals : ℕ) → Totals → List ℕ
 money_lines decimals t =
-    amount_line (codes "SUPPLEMENTS ") decimals t.supplements (codes "\n") ++ amount_line (codes "FARE ") decimals t.fare (codes "\n")
+    amount_line (codes "SUPPLEMENTS ") decimals t.supplements (codes "\n")
+    ++ amount_line (codes "FARE ") decimals t.fare (codes "\n")
 
 -- the number and the five totals
 abbrev pub summary_text : (decimals : ℕ) → Durable → List ℕ
@@ -45,12 +47,14 @@ share_text decimals share = decimal share.hirings ++ (codes " " ++ (money_text d
 abbrev pub heading_text : (decimals : ℕ) → Durable → List ℕ
 heading_text decimals d =
     summary_text decimals d
-    ++ (held_line d.hold ++ (number_line (codes "LAYOUT ") d.layout ++ (codes "BEFORE " ++ share_text decimals d.totals.before)))
+    ++ (held_line d.hold ++ (number_line (codes "LAYOUT ") d.layout
+    ++ (codes "BEFORE " ++ share_text decimals d.totals.before)))
 
 -- the line of a tariff position, where it has hirings
 abbrev pub position_text : (decimals position : ℕ) → Share → List ℕ
 position_text decimals position share =
-    if nat_lt 0 share.hirings then codes "POSITION " ++ (decimal position ++ (codes " " ++ share_text decimals share)) else []
+    if nat_lt 0 share.hirings
+    then codes "POSITION " ++ (decimal position ++ (codes " " ++ share_text decimals share)) else []
 
 -- the line of the tariff position whose share is at this place
 abbrev pub position_at : (decimals : ℕ) → List Share → (place : ℕ) → List ℕ

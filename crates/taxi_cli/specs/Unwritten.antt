@@ -3,6 +3,7 @@ use Rattle.std.specs.Prelude.{◌≡◌, ◌≢◌, ◌⊎◌, ℕ, ◌≤◌, L
 use Rattle.outside.specs.declared.board.Board.{Ghosts}
 use Rattle.outside.specs.Disk.{SameBut}
 use Rattle.outside.specs.Runs.{MayHold}
+use Rattle.slot_store.specs.Syncs.{LeavesFromSync}
 
 module _ {D L : Type 0} (B : Ghosts D L) where
   -- nothing was written: bytes may have changed only where some were in flight, and nothing more is in flight; a cut at a moment
@@ -14,6 +15,10 @@ module _ {D L : Type 0} (B : Ghosts D L) where
     pub before : (start : ℕ) (left_image left_text : List ℕ) → start ≤ B.moment old
         → B.left_since new start left_image left_text
         → B.left_since old start left_image left_text ⊎ MayHold (B.image old) (B.in_flight old) left_image
+
+  -- from the opening sync on a cut leaves the image as it was
+  abbrev pub LeavesImage : (fails : Type 0) (old new : D) → Type 0
+  LeavesImage fails old new = LeavesFromSync B fails old new (λ left_image left_text. left_image ≡ B.image old)
 
   -- and no byte has changed, but perhaps where the board failed
   pub record WritesNothing (old new : D) (ended : ℕ) : Type 0 where

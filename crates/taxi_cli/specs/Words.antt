@@ -4,9 +4,11 @@ use Rattle.std.specs.Cmp.Lexicographic.{pointwise}
 use Rattle.std.specs.Option.{option_map}
 use Rattle.std.specs.Str.Parse.{digits_value}
 use Rattle.taxi_units.specs.Number.{digits_at_front, number_at}
+use Rattle.shift_book.specs.Reading.{driver_of}
 use Rattle.taxi_cli.specs.Years.{years_of}
 use Rattle.taxi_cli.specs.declared.words.Row.{Row}
-use Rattle.taxi_cli.specs.declared.words.Row.TheVariants.{Check, Tables, Fare, Totals, Seal, Run, Gen, Offsets}
+use Rattle.taxi_cli.specs.declared.words.Row.TheVariants.{Check, Tables, Fare, Totals, Seal, Run, Bench, Gen}
+use Rattle.taxi_cli.specs.declared.words.Row.TheVariants.{Port, Offsets, Mark, Shifts}
 
 -- a number of at most 6 digits that is a constant
 abbrev pub constant_in : List ℕ → Option (ℕ × List ℕ) → Option ℕ
@@ -41,6 +43,10 @@ abbrev pub gen_of : Option ℕ → Option ℕ → Option Row
 gen_of None trips = None
 gen_of (Some seed) trips = option_map (Gen seed) trips
 
+-- the command by which a driver signs on
+abbrev pub signs_on : List ℕ → Row
+signs_on driver = Mark (Some (record { items = driver }))
+
 -- a word is this one
 abbrev pub is_word : List ℕ → List ℕ → Bool
 is_word word name = pointwise nat_eq word name
@@ -49,28 +55,35 @@ is_word word name = pointwise nat_eq word name
 abbrev pub one_word : (command : List ℕ) → Option Row
 one_word command = if is_word command (codes "totals") then Some Totals else None
 
--- `check TARIFF`,
-abbrev pub two_words : (command : List ℕ) → Option Row
-two_words command = if is_word command (codes "check") then Some Check else None
+-- `check TARIFF`, `port REQUESTS`, `mark off` or `shifts BOOK`,
+abbrev pub two_words : (command last : List ℕ) → Option Row
+two_words command last =
+    if is_word command (codes "check") then Some Check
+    else (if is_word command (codes "port") then Some Port
+    else (if (is_word command (codes "mark") && is_word last (codes "off")) then Some (Mark None)
+    else (if is_word command (codes "shifts") then Some Shifts else None)))
 
--- `tables TARIFF CONSTANT`, `seal TARIFF PARAMS`, `run TARIFF DRIVE` or `gen SEED N`,
+-- `tables TARIFF CONSTANT`, `seal TARIFF PARAMS`, `run TARIFF DRIVE`, `gen SEED N` or `mark on DRIVER`,
 abbrev pub three_words : (command middle last : List ℕ) → Option Row
 three_words command middle last =
     if is_word command (codes "tables") then option_map Tables (constant_of last)
     else (if is_word command (codes "seal") then Some Seal
     else (if is_word command (codes "run") then Some Run
-    else (if is_word command (codes "gen") then gen_of (seed_of middle) (trips_of last) else None)))
+    else (if is_word command (codes "gen") then gen_of (seed_of middle) (trips_of last)
+    else (if (is_word command (codes "mark") && is_word middle (codes "on"))
+    then option_map signs_on (driver_of last) else None))))
 
--- and `fare TARIFF DRIVE CONSTANT` or `offsets RULES FROM TO`
+-- and `fare TARIFF DRIVE CONSTANT`, `bench TARIFF DRIVE READINGS` or `offsets RULES FROM TO`
 abbrev pub four_words : (command third last : List ℕ) → Option Row
 four_words command third last =
     if is_word command (codes "fare") then option_map Fare (constant_of last)
-    else (if is_word command (codes "offsets") then option_map Offsets (years_of third last) else None)
+    else (if is_word command (codes "bench") then Some Bench
+    else (if is_word command (codes "offsets") then option_map Offsets (years_of third last) else None))
 
 -- the command that words are
 abbrev pub row_of : List (List ℕ) → Option Row
 row_of (command ∷ []) = one_word command
-row_of (command ∷ tariff ∷ []) = two_words command
+row_of (command ∷ last ∷ []) = two_words command last
 row_of (command ∷ middle ∷ last ∷ []) = three_words command middle last
 row_of (command ∷ file ∷ third ∷ last ∷ []) = four_words command third last
 row_of words = None

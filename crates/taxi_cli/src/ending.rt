@@ -4,13 +4,14 @@ ghost use Rattle.outside.specs.Faults.{Rose};
 ghost use Rattle.outside.specs.Disk.{MayLeaveAmid};
 ghost use Rattle.outside.specs.Runs.{KeepsStore, LeavesOnly};
 ghost use Rattle.taxi_cli.specs.Call.{IsEnd};
-ghost use Rattle.taxi_cli.specs.Ending.{ended_by, ended_for, ended_for_params, store_ended};
+ghost use Rattle.taxi_cli.specs.Ending.{ended_by, ended_for, ended_for_params, ended_serving, store_ended};
 ghost use Rattle.taxi_cli.specs.LastLine.{line_of, status_of};
 
 use crate::last_line::last_line;
 use crate::opening::StoreFault;
 use crate::params::ParamsFault;
 use crate::tariff::{Refusal, TextFault};
+use data_port::PortFault;
 use meter_run::RunFault;
 use offset_rules::RuleFault;
 use outside::Board;
@@ -49,8 +50,22 @@ pub enum Ended {
     BadParams(ParamFault),
     /// The store was sealed, with this number.
     Sealed(u64),
+    /// The byte at this place, from 0 on, is the first that no stream of requests has there.
+    BadFrame(u64),
+    /// As many bytes as requests may have were taken, and their end wasn't reached.
+    EndlessRequests,
+    /// The row of this number is the first that is no row of readings.
+    BadReadings(u64),
+    /// The readings have more bytes than readings may have.
+    LongReadings,
+    /// The report was printed, and a verdict in it isn't a pass.
+    NotPassed,
     /// The rules of offsets aren't accepted, and why.
     BadRules(RuleFault),
+    /// The book has more than 1,048,576 bytes.
+    LongBook,
+    /// The line of this number is the first of the book that is no mark that may follow.
+    BadBook(u64),
     /// The line of this number is no line of a drive.
     BadDrive(u64),
     /// As many bytes as a drive may have were taken, and its end wasn't reached.
@@ -109,6 +124,19 @@ pub fn ended_of(ran: Result<(), RunFault>) -> Ended
     }
 }
 
+/// How a command ended where the serving of its requests ended so.
+pub fn ended_of_serving(served: Result<(), PortFault>) -> Ended
+    ensures { result ≡ ended_serving served }
+{
+    match served {
+        Ok(()) => Ended::Done,
+        Err(PortFault::ReadFault) => Ended::ReadFault,
+        Err(PortFault::BoardFault) => Ended::BoardFault,
+        Err(PortFault::Frame(place)) => Ended::BadFrame(place),
+        Err(PortFault::TooLong) => Ended::EndlessRequests,
+    }
+}
+
 /// The status of an end whose last line was printed.
 fn status(ended: Ended) -> u8
     ensures { result ≡ status_of ended }
@@ -128,7 +156,14 @@ fn status(ended: Ended) -> u8
         Ended::OtherDecimals(_, _) => 15,
         Ended::BadParams(_) => 9,
         Ended::Sealed(_) => 0,
+        Ended::BadFrame(_) => 16,
+        Ended::EndlessRequests => 16,
+        Ended::BadReadings(_) => 10,
+        Ended::LongReadings => 10,
+        Ended::NotPassed => 11,
         Ended::BadRules(_) => 17,
+        Ended::LongBook => 18,
+        Ended::BadBook(_) => 18,
         Ended::BadDrive(_) => 3,
         Ended::EndlessDrive => 3,
         Ended::ReadFault => 7,

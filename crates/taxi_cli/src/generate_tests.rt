@@ -1,9 +1,24 @@
 //! Generated drives, over boards in memory. Events, distances, supplements and fares are sums that a program of
 //! its own in another language makes by the rules of the drives and of the city tariff.
+ghost use Rattle.std.specs.Prelude.{◌≡◌, ◌<◌};
+ghost use Rattle.seal_store.specs.Ranges.{IsSeal};
 
+use crate::generate::{city_tariff, gen_seal, ten_thousand};
+use crate::tariff::tariff_of_text;
 use crate::tests::{A, call};
-use outside::MemoryBoard;
+use crate::totals_text::push_summary;
+use meter_run::run_events;
+use outside::{MemoryBoard, QuietBoard};
+use seal_store::{Seal, place_seal};
+use slot_store::{Found, scan};
+use std::alloc::Global;
+use std::marker::Brand;
+use std::sync::ledger::{Blank, Ledger};
 use std::test::Fail;
+use tariff_compile::{Tables, compile};
+use taxi_units::{Line, Steps};
+use totaliser_store::Durable;
+use verify_bench::Generator;
 
 /// A seed and a number of trips, what is printed, and the status.
 const ROWS: [(&str, &str, &str, u8); 12] = [
@@ -67,5 +82,59 @@ fn a_failing_board(rt: HostRuntime) -> Result<(), Fail> {
         call(rt.alloc(), &["gen", "1", "1"], "", "", &[], &mut board)?,
         8
     );
+    Ok(())
+}
+
+/// The totals after the drive of the seed 7 with 1,000 trips, as the run leaves them on a new store.
+fn totals_of_the_run<L: Ledger>(tables: &Tables, seal: &Seal, steps: &mut Steps<L>) -> Option<Line>
+    requires constant { tables.now.constant ≡ seal.now.params.constant }
+    requires seal { IsSeal seal.now }
+    requires number { seal.now.seal_number ≡ 1 }
+{
+    let mut drive = Generator::new(7, 1000);
+    let mut board = QuietBoard::new(&[0; 2048]);
+    place_seal(&mut board, None, None, seal, steps).ok()?;
+    run_events(tables, seal, &mut drive, 0, &mut board, steps).ok()?;
+    match scan::<Durable, QuietBoard, L>(&mut board, 0, steps) {
+        Ok(Found::Latest { body, .. }) => {
+            let mut line = Line::new();
+            push_summary(&mut line, &body, 2);
+            Some(line)
+        }
+        Ok(Found::Blank) => None,
+        Err(_) => None,
+    }
+}
+
+/// The same, from the text of the city tariff on.
+fn city_totals<L: Ledger>(alloc: Global, blank: Blank) -> Option<Line>
+    requires name { blank.name ≡ L.name }
+    requires parts { blank.parts ≡ L.parts }
+    requires some { 0 < blank.parts }
+{
+    let mut steps: Steps<L> = Steps::open(blank);
+    let checked = tariff_of_text(alloc, city_tariff()).ok()?;
+    let tables = compile(alloc, &checked, ten_thousand()).ok()?;
+    let seal = gen_seal(2);
+    totals_of_the_run(&tables, &seal, &mut steps)
+}
+
+/// A new counter for them.
+fn new_totals(alloc: Global) -> Option<Line> {
+    city_totals::<Brand>(alloc, Blank::new(1))
+}
+
+/// The run of a large drive leaves what is printed of it.
+#[test]
+fn a_large_drive_is_run(rt: HostRuntime) -> Result<(), Fail> {
+    let mut board = MemoryBoard::new(rt.alloc(), &[0; 2048], &[])?;
+    let ended = call(rt.alloc(), &["gen", "7", "1000"], "", "", &[], &mut board)?;
+    assert_eq!(rt; ended, 0);
+    let totals = new_totals(rt.alloc()).expect(&rt, "a run");
+    let totals = totals.as_slice();
+    let rest = board
+        .printed()
+        .strip_prefix(b"GEN 7 1000\nEVENTS 4263699\n".as_slice());
+    assert!(rt; rest == Some(totals));
     Ok(())
 }

@@ -1,8 +1,9 @@
 //! The last lines of the program.
 ghost use Rattle.std.specs.Prelude.{◌≡◌, ◌+◌, ◌≤◌, ◌++◌, [], length};
 ghost use Rattle.arrayvec.specs.ArrayVec.{array_vec_len};
-ghost use Rattle.taxi_cli.specs.LastLine.{bad_drive_line, bad_rules_line, bad_slot_line, bad_tariff_line, dimension_text, fault_text};
-ghost use Rattle.taxi_cli.specs.LastLine.{bad_params_line, line_of, name_text, numbered, other_decimals_line};
+ghost use Rattle.taxi_cli.specs.LastLine.{bad_book_line, bad_drive_line, bad_readings_line, bad_rules_line};
+ghost use Rattle.taxi_cli.specs.LastLine.{bad_slot_line, bad_tariff_line, dimension_text, fault_text};
+ghost use Rattle.taxi_cli.specs.LastLine.{bad_frame_line, bad_params_line, line_of, name_text, numbered, other_decimals_line};
 ghost use Rattle.taxi_cli.specs.LastLine.{param_fault_text, same_number_line, sealed_line, sound_line, wrong_tariff_line};
 
 use crate::ending::Ended;
@@ -33,7 +34,14 @@ pub fn last_line(ended: Ended) -> Line
         Ended::OtherDecimals(found, own) => push_other_decimals(&mut line, found, own),
         Ended::BadParams(fault) => push_bad_params(&mut line, fault),
         Ended::Sealed(number) => push_sealed(&mut line, number),
+        Ended::BadFrame(place) => push_bad_frame(&mut line, place),
+        Ended::EndlessRequests => push_bytes(&mut line, b"BAD FRAME TOO LONG\n"),
+        Ended::BadReadings(number) => push_bad_readings(&mut line, number),
+        Ended::LongReadings => push_bytes(&mut line, b"BAD READINGS TOO LONG\n"),
+        Ended::NotPassed => {}
         Ended::BadRules(fault) => push_bad_rules(&mut line, fault),
+        Ended::LongBook => push_bytes(&mut line, b"BAD BOOK TOO LONG\n"),
+        Ended::BadBook(number) => push_bad_book(&mut line, number),
         Ended::BadDrive(number) => push_bad_drive(&mut line, number),
         Ended::EndlessDrive => push_bytes(&mut line, b"BAD DRIVE TOO LONG\n"),
         Ended::ReadFault => push_bytes(&mut line, b"READ FAULT\n"),
@@ -239,6 +247,26 @@ fn push_sealed(line: &mut Line, number: u64)
     push_bytes(line, b"\n");
 }
 
+/// Appends the line of a bad place of requests.
+fn push_bad_frame(line: &mut Line, place: u64)
+    requires { line.old.items ≡ [] }
+    ensures { line.new.items ≡ bad_frame_line place }
+{
+    push_bytes(line, b"BAD FRAME ");
+    push_number(line, place as u128);
+    push_bytes(line, b"\n");
+}
+
+/// Appends the line of bad readings.
+fn push_bad_readings(line: &mut Line, number: u64)
+    requires { line.old.items ≡ [] }
+    ensures { line.new.items ≡ bad_readings_line number }
+{
+    push_bytes(line, b"BAD READINGS ");
+    push_number(line, number as u128);
+    push_bytes(line, b"\n");
+}
+
 /// Appends the line of rules of offsets that aren't accepted.
 fn push_bad_rules(line: &mut Line, fault: RuleFault)
     requires { line.old.items ≡ [] }
@@ -253,4 +281,14 @@ fn push_bad_rules(line: &mut Line, fault: RuleFault)
         }
         RuleFault::SameMonth => push_bytes(line, b"BAD RULES SameMonth\n"),
     }
+}
+
+/// Appends the line of a book whose line is no mark that may follow.
+fn push_bad_book(line: &mut Line, number: u64)
+    requires { line.old.items ≡ [] }
+    ensures { line.new.items ≡ bad_book_line number }
+{
+    push_bytes(line, b"BAD BOOK ");
+    push_number(line, number as u128);
+    push_bytes(line, b"\n");
 }

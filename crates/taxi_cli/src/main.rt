@@ -1,8 +1,18 @@
 //! The taximeter.
 #![tactic(auto)]
 
+mod bench;
+mod bench_terms;
+#[cfg(test)]
+mod bench_tests;
+mod chain;
+mod chain_laws;
+#[cfg(test)]
+mod chain_tests;
 mod check;
 mod ending;
+#[cfg(test)]
+mod failure_tests;
 mod fare;
 mod fare_seal;
 #[cfg(test)]
@@ -10,18 +20,32 @@ mod fare_tests;
 mod generate;
 #[cfg(test)]
 mod generate_tests;
+#[cfg(test)]
+mod growth_tests;
+mod judgement;
 mod last_line;
+#[cfg(test)]
+mod many_cuts_tests;
+mod mark;
 mod offsets;
 #[cfg(test)]
 mod offsets_tests;
 mod opening;
 mod params;
+mod pieces;
+mod port;
+#[cfg(test)]
+mod port_tests;
 mod run;
 #[cfg(test)]
 mod run_tests;
 mod seal;
 #[cfg(test)]
 mod seal_tests;
+mod sealed_tariff;
+mod shifts;
+#[cfg(test)]
+mod shifts_tests;
 #[cfg(test)]
 mod store_tests;
 mod tables;
@@ -31,6 +55,7 @@ mod tests;
 mod top;
 mod totals;
 mod totals_text;
+mod whole_drive;
 mod words;
 mod years;
 

@@ -4,6 +4,7 @@ ghost use Rattle.outside.specs.Faults.{Rose};
 ghost use Rattle.outside.specs.Runs.{IsSettled};
 ghost use Rattle.slot_store.specs.Syncs.{IsAsHeld, LeavesFromSync, ReadsOnly};
 ghost use Rattle.seal_store.specs.Ranges.{IsSeal};
+ghost use Rattle.totaliser_store.specs.Ranges.{IsDurable};
 ghost use Rattle.taxi_cli.specs.Opening as spec;
 ghost use Rattle.taxi_cli.specs.Opening.{IsOpened, IsSoundOpening, fault_from, opening_of};
 
@@ -81,6 +82,7 @@ fn fault_of_pair(first: u8, fault: SlotFault) -> StoreFault
 pub fn sealed_store(opening: Opening) -> Option<(Durable, Seal)>
     requires { IsSoundOpening opening }
     ensures answer { result ≡ spec.sealed_store opening.totals opening.seal }
+    ensures durable { IfSome result (λ store. IsDurable store.0) }
     ensures seal { IfSome result (λ store. IsSeal store.1) }
 {
     match opening.totals {

@@ -1,6 +1,5 @@
 //! The command `run`.
-ghost use Rattle.std.specs.Prelude.{◌≡◌, ◌≢◌, ◌↔◌, ℕ, ◌+◌, ◌≤◌, [], length, nat_eq, IfOk, OnOk, IsErrOf, IsTrue, Err};
-ghost use Rattle.std.specs.Cmp.Lexicographic.{pointwise};
+ghost use Rattle.std.specs.Prelude.{◌≡◌, ◌≢◌, ◌↔◌, ℕ, ◌+◌, ◌≤◌, [], IfOk, OnOk, IsErrOf, IsTrue, Err};
 ghost use Rattle.std.specs.Option.{ForSome};
 ghost use Rattle.outside.specs.Faults.{Rose};
 ghost use Rattle.outside.specs.Runs.{IsSettled};
@@ -11,19 +10,16 @@ ghost use Rattle.seal_store.specs.Ranges.{IsSeal};
 ghost use Rattle.taxi_cli.specs.Call.{HasReadFault};
 ghost use Rattle.taxi_cli.specs.LastLine.{status_of};
 ghost use Rattle.taxi_cli.specs.Run.{does_hold_fit, run_command};
-ghost use Rattle.taxi_cli.specs.RunSteps.{AreNoTables, AreSealedTables, AreTablesOfText, HasBegun};
-ghost use Rattle.taxi_cli.specs.RunSteps.{HasNotBegun, IsNoTables, RunComes};
+ghost use Rattle.taxi_cli.specs.RunSteps.{AreNoTables, AreSealedTables, HasBegun, HasNotBegun, RunComes};
 ghost use Rattle.taxi_cli.specs.Unwritten.{KeepsBytes};
 
-use crate::ending::{Ended, ended_of, refused_by, refused_store};
+use crate::ending::{Ended, ended_of, refused_store};
 use crate::opening::{open_store, sealed_store};
-use crate::tariff::{tariff_of_text, text_of_word};
+use crate::sealed_tariff::read_sealed;
 use meter_run::run_events;
 use meter_states::fits;
 use outside::{Board, Files};
-use pulse_input::Constant;
 use seal_store::Seal;
-use sha2::{Digest, Sha256};
 use std::alloc::Global;
 use std::sync::ledger::Ledger;
 use tariff_compile::{Tables, compile};
@@ -35,45 +31,6 @@ use totaliser_store::Trip;
 pub struct Begun {
     pub seal: Seal,
     pub tables: Tables,
-}
-
-/// The tables of the tariff of a text, under a constant.
-fn tables_of_text(alloc: Global, text: &[u8], constant: Constant) -> Result<Tables, Ended>
-    ensures found { IfOk result (AreTablesOfText text.now constant) }
-    ensures constant { IfOk result (λ tables. tables.constant ≡ constant) }
-    ensures refused { (why : Ended) → result ≡ Err why → IsNoTables text.now why }
-{
-    let checked = match tariff_of_text(alloc, text) {
-        Ok(checked) => checked,
-        Err(fault) => return Err(refused_by(fault)),
-    };
-    match compile(alloc, &checked, constant) {
-        Ok(tables) => Ok(tables),
-        Err(_) => Err(Ended::NoMemory),
-    }
-}
-
-/// Whether a digest is the sealed one.
-fn is_sealed(digest: &[u8; 32], own: &[u8; 32]) -> bool
-    ensures { result ≡ pointwise nat_eq digest.now own.now }
-{
-    digest.as_slice() == own.as_slice()
-}
-
-/// The tables of the tariff of a text, where it is the one that was sealed: its digest is asked before its
-/// content.
-fn sealed_tables(alloc: Global, text: &[u8], seal: &Seal) -> Result<Tables, Ended>
-    requires { length text.now ≤ 65536 }
-    ensures found { IfOk result (AreSealedTables seal.now text.now) }
-    ensures constant { IfOk result (λ tables. tables.constant ≡ seal.now.params.constant) }
-    ensures refused { (why : Ended) → result ≡ Err why → AreNoTables seal.now.digest text.now ⊥ why }
-{
-    let own = Sha256::digest(text);
-    if is_sealed(&seal.digest, &own) {
-        return tables_of_text(alloc, text, seal.params.constant);
-    }
-    let digest = seal.digest;
-    Err(Ended::WrongTariff(digest, own))
 }
 
 /// Reads the tariff of word 1, and makes its tables, where it is the one that was sealed: its length is
@@ -89,11 +46,14 @@ fn read_tables<F: Files>(alloc: Global, files: &mut F, seal: &Seal) -> Result<Ta
     ensures others { (other : ℕ) → other ≢ 1 → F.rest files.new other ≡ F.rest files.old other }
     ensures counts { (other : ℕ) → F.faults files.old other ≤ F.faults files.new other }
 {
-    let text = match text_of_word(alloc, files, 1) {
-        Ok(text) => text,
-        Err(fault) => return Err(refused_by(fault)),
+    let checked = match read_sealed(alloc, files, &seal.digest) {
+        Ok(checked) => checked,
+        Err(why) => return Err(why),
     };
-    sealed_tables(alloc, text.as_slice(), seal)
+    match compile(alloc, &checked, seal.params.constant) {
+        Ok(tables) => Ok(tables),
+        Err(_) => Err(Ended::NoMemory),
+    }
 }
 
 /// Whether a held trip fits the tables, where there is one. At most 16 steps.

@@ -9,7 +9,7 @@ const BEHIND: &str =
     "decimals 2\nstep 0.20 behind\ninitial 3.80 covers 0.40\nrate 0.20 per 117.4 m, 0.20 per 25.2 s\n";
 
 /// A city tariff.
-const CITY: &str =
+pub(crate) const CITY: &str =
     "decimals 2\nstep 0.20 ahead\npositions 2\nzones 2\nholiday 2026-01-01\nholiday 2026-12-25\n\
      supplement 1 2.00 max 4\nsupplement 2 0.50 max 9\nsupplement 3 5.00 max 1\n\
      initial 5.00 covers 0.40 when time 22:00..06:00 or day sun or holiday\ninitial 4.20 covers 0.40\n\
@@ -22,50 +22,56 @@ const DOUBLE: &str =
 
 /// Local time goes forward by an hour at 1767225650.
 const SUMMER: &str =
-    "taxi LX-4711\nconstant 10000\nmode single\nhold 60\noffset 946684800 3600\noffset 1767225650 7200\nsecured 2025-12-01\n";
+    "taxi LX-4711\nconstant 10000\nmode single\nhold 60\noffset 946684800 3600\noffset 1767225650 7200\n\
+     secured 2025-12-01\n";
 
-const RUN: [&str; 3] = ["run", "t", "d"];
+pub(crate) const RUN: [&str; 3] = ["run", "t", "d"];
 
 /// What receipts say of the seal, with what sha256sum gives of the tariff: A, A rounded down, and the city's.
-const SEALED: &str =
-    "TAXI LX-4711\nCONSTANT 10000\nSECURED 2025-12-01\nTARIFF 2645762409b70e5ab72a0a803b7d1a341373264e56971a8f44cb1969489d5f9b\n";
+const SEALED: &str = "TAXI LX-4711\nCONSTANT 10000\nSECURED 2025-12-01\n\
+     TARIFF 2645762409b70e5ab72a0a803b7d1a341373264e56971a8f44cb1969489d5f9b\n";
 
-const SEALED_BEHIND: &str =
-    "TAXI LX-4711\nCONSTANT 10000\nSECURED 2025-12-01\nTARIFF 82e4fbeefff0410468845a515f92969801732d4853542adabc3c42479028274d\n";
+const SEALED_BEHIND: &str = "TAXI LX-4711\nCONSTANT 10000\nSECURED 2025-12-01\n\
+     TARIFF 82e4fbeefff0410468845a515f92969801732d4853542adabc3c42479028274d\n";
 
-const SEALED_CITY: &str =
-    "TAXI LX-4711\nCONSTANT 10000\nSECURED 2025-12-01\nTARIFF 40793ac4a8325054cd4f3d44e339a952c26063c81ab5891ff5789fd233fc7729\n";
+const SEALED_CITY: &str = "TAXI LX-4711\nCONSTANT 10000\nSECURED 2025-12-01\n\
+     TARIFF 40793ac4a8325054cd4f3d44e339a952c26063c81ab5891ff5789fd233fc7729\n";
 
 /// A hiring of 234.8 m, which the cover takes exactly.
-const HIRING: &str = "U 1767225600\nK H\nI 0 1\nI 20 117\nK S\nI 8 1\nK C\nI 0 1\n";
+pub(crate) const HIRING: &str = "U 1767225600\nK H\nI 0 1\nI 20 117\nK S\nI 8 1\nK C\nI 0 1\n";
 
 /// The same over a loss of supply for a minute.
-const HELD: &str =
+pub(crate) const HELD: &str =
     "U 1767225600\nK H\nI 0 1\nI 20 10\nD\nU 1767225660\nI 20 107\nK S\nI 8 1\nK C\nI 0 1\n";
 
 /// A board whose store was sealed with a tariff and parameters.
-fn sealed(alloc: Global, tariff: &str, params: &str) -> Result<MemoryBoard, Fail> {
+pub(crate) fn sealed(alloc: Global, tariff: &str, params: &str) -> Result<MemoryBoard, Fail> {
     let mut board = MemoryBoard::new(alloc, &[0; 2048], &[])?;
     let _ = call(alloc, &["seal", "t", "p"], tariff, params, &[], &mut board)?;
     Ok(MemoryBoard::new(alloc, board.image(), &[])?)
 }
 
 /// The board after a run of a drive on a newly sealed store, and the status.
-fn ran(alloc: Global, tariff: &str, params: &str, drive: &str) -> Result<(MemoryBoard, u8), Fail> {
+pub(crate) fn ran(
+    alloc: Global,
+    tariff: &str,
+    params: &str,
+    drive: &str,
+) -> Result<(MemoryBoard, u8), Fail> {
     let mut board = sealed(alloc, tariff, params)?;
     let status = call(alloc, &RUN, tariff, drive, &[], &mut board)?;
     Ok((board, status))
 }
 
 /// What `totals` prints over the store of a board.
-fn totals_of(alloc: Global, image: &[u8; 2048]) -> Result<MemoryBoard, Fail> {
+pub(crate) fn totals_of(alloc: Global, image: &[u8; 2048]) -> Result<MemoryBoard, Fail> {
     let mut board = MemoryBoard::new(alloc, image, &[])?;
     let _ = call(alloc, &["totals"], "", "", &[], &mut board)?;
     Ok(board)
 }
 
 /// Whether a text is these pieces in a row.
-fn is_made_of(text: &[u8], pieces: &[&str]) -> bool {
+pub(crate) fn is_made_of(text: &[u8], pieces: &[&str]) -> bool {
     let mut rest = text;
     for piece in pieces {
         match rest.strip_prefix(piece.as_bytes()) {
@@ -78,7 +84,7 @@ fn is_made_of(text: &[u8], pieces: &[&str]) -> bool {
 
 /// A tariff, parameters and a drive; the pieces of what the run prints, its status, and how the totals
 /// begin after it.
-type Row = (
+pub(crate) type Row = (
     &'static str,
     &'static str,
     &'static str,
@@ -87,7 +93,7 @@ type Row = (
     &'static str,
 );
 
-const ROWS: [Row; 15] = [
+pub(crate) const ROWS: [Row; 15] = [
     (
         A,
         P,
@@ -132,7 +138,8 @@ const ROWS: [Row; 15] = [
         DOUBLE,
         HIRING,
         &[
-            "FOR HIRE T1 Z1\nHIRED T1 Z1 3.80 +0.00\nHIRED T1 Z1 4.00 +0.00\nSTOPPED T1 Z1 4.00 +0.00\nRECEIPT 2\nKIND CLOSED\n",
+            "FOR HIRE T1 Z1\nHIRED T1 Z1 3.80 +0.00\nHIRED T1 Z1 4.00 +0.00\nSTOPPED T1 Z1 4.00 +0.00\n\
+             RECEIPT 2\nKIND CLOSED\n",
             SEALED,
             "START 2026-01-01 01:00:00\nFINISH 2026-01-01 01:00:00\nPOSITION 1\nDISTANCE 234.800 m\n",
             "CALC 3.80 + 1 x 0.20\nFARE 4.00\nSUPPLEMENTS 0.00\nTOTAL 4.00\nEND\nFOR HIRE T1 Z1\n",
@@ -160,7 +167,8 @@ const ROWS: [Row; 15] = [
         P,
         HELD,
         &[
-            "FOR HIRE T1 Z1\nHIRED T1 Z1 3.80 +0.00\nHIRED T1 Z1 3.80 +0.00\nSTOPPED T1 Z1 3.80 +0.00\nRECEIPT 3\nKIND CLOSED\n",
+            "FOR HIRE T1 Z1\nHIRED T1 Z1 3.80 +0.00\nHIRED T1 Z1 3.80 +0.00\nSTOPPED T1 Z1 3.80 +0.00\n\
+             RECEIPT 3\nKIND CLOSED\n",
             SEALED,
             "START 2026-01-01 01:00:00\nFINISH 2026-01-01 01:01:00\nPOSITION 1\nDISTANCE 234.800 m\n",
             "CALC 3.80 + 0 x 0.20\nFARE 3.80\nSUPPLEMENTS 0.00\nTOTAL 3.80\nEND\nFOR HIRE T1 Z1\n",
@@ -312,12 +320,9 @@ fn a_trip_that_expires(rt: HostRuntime) -> Result<(), Fail> {
     Ok(())
 }
 
-/// Runs that write nothing: tariffs and stores that are refused before the drive, and a store without a
-/// number for another hiring.
-#[test]
-fn runs_that_write_nothing(rt: HostRuntime) -> Result<(), Fail> {
-    let good = sealed(rt.alloc(), A, P)?;
-    let mut ended = *good.image();
+/// The same store, with the last number that a hiring may have, 10^15.
+fn ended(image: &[u8; 2048]) -> [u8; 2048] {
+    let mut ended = *image;
     for (place, byte) in [
         (1, 0x00),
         (2, 0x03),
@@ -330,17 +335,24 @@ fn runs_that_write_nothing(rt: HostRuntime) -> Result<(), Fail> {
     ] {
         ended[place] = byte;
     }
+    ended
+}
+
+/// What is printed of a tariff without text beside a store that was sealed with A.
+const NO_TEXT: &str =
+    "WRONG TARIFF 2645762409b70e5ab72a0a803b7d1a341373264e56971a8f44cb1969489d5f9b \
+     e3b0c44298fc1c149afbf4c8996fb92427ae41e4649b934ca495991b7852b855\n";
+
+/// Runs that write nothing: tariffs and stores that are refused before the drive, and a store without a
+/// number for another hiring.
+#[test]
+fn runs_that_write_nothing(rt: HostRuntime) -> Result<(), Fail> {
+    let good = sealed(rt.alloc(), A, P)?;
     for (image, tariff, drive, output, status) in [
         ([0; 2048], A, HIRING, "NOT SEALED\n", 4),
+        (*good.image(), "", HIRING, NO_TEXT, 6),
         (
-            *good.image(),
-            "",
-            HIRING,
-            "WRONG TARIFF 2645762409b70e5ab72a0a803b7d1a341373264e56971a8f44cb1969489d5f9b e3b0c44298fc1c149afbf4c8996fb92427ae41e4649b934ca495991b7852b855\n",
-            6,
-        ),
-        (
-            ended,
+            ended(good.image()),
             A,
             "U 1767225600\nK H\nI 5 1\nI 0 1\n",
             "FOR HIRE T1 Z1\nREFUSED ENDED\n",

@@ -9,7 +9,7 @@ use std::sync::ledger::{Blank, Ledger};
 use std::test::Fail;
 use taxi_units::Steps;
 
-/// The tariff of examples/a.tariff.
+/// The tariff of examples/simple.tariff.
 pub(crate) const A: &str =
     "decimals 2\nstep 0.20 ahead\ninitial 3.80 covers 0.40\nrate 0.20 per 117.4 m, 0.20 per 25.2 s\n";
 
@@ -30,7 +30,7 @@ pub(crate) const FILLS: [Fill; 6] = [
 const FIRST: &str = "U 1767225600\nK H\nI 0 1\nI 0 504\nI 0 1\n";
 
 /// A call under a new counter.
-fn counted<L: Ledger>(
+pub(crate) fn counted<L: Ledger>(
     alloc: Global,
     blank: Blank,
     words: &[String],
@@ -219,7 +219,10 @@ const NOON: &str = "U 1767268800\nK H\nI 0 1\nI 0 3276\nI 0 1\n";
 
 /// What those show where no minimum fare is more than the fare.
 const EACH_STEP: &str =
-    "FOR HIRE T1 Z1\nHIRED T1 Z1 3.80 +0.00\nHIRED T1 Z1 4.00 +0.00\nHIRED T1 Z1 4.20 +0.00\nHIRED T1 Z1 4.40 +0.00\nHIRED T1 Z1 4.60 +0.00\nHIRED T1 Z1 4.80 +0.00\nHIRED T1 Z1 5.00 +0.00\nHIRED T1 Z1 5.20 +0.00\nHIRED T1 Z1 5.40 +0.00\nHIRED T1 Z1 5.60 +0.00\nHIRED T1 Z1 5.80 +0.00\nHIRED T1 Z1 6.00 +0.00\nHIRED T1 Z1 6.20 +0.00\n";
+    "FOR HIRE T1 Z1\nHIRED T1 Z1 3.80 +0.00\nHIRED T1 Z1 4.00 +0.00\nHIRED T1 Z1 4.20 +0.00\n\
+     HIRED T1 Z1 4.40 +0.00\nHIRED T1 Z1 4.60 +0.00\nHIRED T1 Z1 4.80 +0.00\nHIRED T1 Z1 5.00 +0.00\n\
+     HIRED T1 Z1 5.20 +0.00\nHIRED T1 Z1 5.40 +0.00\nHIRED T1 Z1 5.60 +0.00\nHIRED T1 Z1 5.80 +0.00\n\
+     HIRED T1 Z1 6.00 +0.00\nHIRED T1 Z1 6.20 +0.00\n";
 
 /// What follows tariff A, a drive, what it prints under both, and its status.
 const MINIMUMS: [(&str, &str, &str, u8); 7] = [
@@ -409,7 +412,8 @@ fn checks(rt: HostRuntime) -> Result<(), Fail> {
 
 /// Tariff A under a constant of 10,000, as rows.
 const ROWS: &str =
-    "MEASURE 1479240000\nRATE 1 25200000 117400000\nINITIAL 1 3.80 0.40\nCELL 0 1 1\nCELL 1 1 1\nCELL 2 1 1\nCELL 3 1 1\nCELL 4 1 1\nCELL 5 1 1\nCELL 6 1 1\n";
+    "MEASURE 1479240000\nRATE 1 25200000 117400000\nINITIAL 1 3.80 0.40\nCELL 0 1 1\nCELL 1 1 1\nCELL 2 1 1\n\
+     CELL 3 1 1\nCELL 4 1 1\nCELL 5 1 1\nCELL 6 1 1\n";
 
 #[test]
 fn tables(rt: HostRuntime) -> Result<(), Fail> {
@@ -430,7 +434,8 @@ fn tables(rt: HostRuntime) -> Result<(), Fail> {
     let words = ["tables", "t", "10000"];
     call(rt.alloc(), &words, night.as_str(), "", &[], &mut board)?;
     let rows =
-        b"MEASURE 1479240000\nRATE 1 25200000 117400000\nINITIAL 1 3.80 0.40\nMINIMUM 1 6.00\nCELL 0 1 1 1\nCELL 1 1 1 0\nCELL 2 1 1 1\nCELL 3 1 1 1\n";
+        b"MEASURE 1479240000\nRATE 1 25200000 117400000\nINITIAL 1 3.80 0.40\nMINIMUM 1 6.00\nCELL 0 1 1 1\n\
+          CELL 1 1 1 0\nCELL 2 1 1 1\nCELL 3 1 1 1\n";
     assert!(rt; board.printed().starts_with(rows));
     Ok(())
 }

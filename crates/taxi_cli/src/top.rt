@@ -2,24 +2,28 @@
 ghost use Rattle.std.specs.Prelude.{◌≡◌, ◌≢◌, ◌⊎◌, ℕ, ◌+◌, ◌≤◌, None, Some, map, string_bytes};
 ghost use Rattle.outside.specs.Faults.{Rose};
 ghost use Rattle.outside.specs.Runs.{IsSettled, KeepsStore, LeavesOnly};
-ghost use Rattle.taxi_cli.specs.Call.{HasReadFault, IsCall};
-ghost use Rattle.taxi_cli.specs.Command.{called, command, command_of};
-ghost use Rattle.taxi_cli.specs.Ending.{ComesOn};
+ghost use Rattle.taxi_cli.specs.Call.{HasReadFault, IsCall, MayLack};
+ghost use Rattle.taxi_cli.specs.Command.{OnlyLooks, called, command, command_of};
+ghost use Rattle.taxi_cli.specs.Ending.{ComesOn, LooksAt};
 ghost use Rattle.taxi_cli.specs.LastLine.{status_of};
 ghost use Rattle.taxi_cli.specs.Opening.{opening_of};
 ghost use Rattle.taxi_cli.specs.Run.{IsRun};
 ghost use Rattle.taxi_cli.specs.RunSteps.{RunComes};
 ghost use Rattle.taxi_cli.specs.Seal.{IsAmidOf, RestsAmid, Seals, sealing_of};
-ghost use Rattle.taxi_cli.specs.Unwritten.{KeepsBytes, WritesNothing};
+ghost use Rattle.taxi_cli.specs.Unwritten.{KeepsBytes, LeavesImage, WritesNothing};
 ghost use Rattle.taxi_cli.specs.Words.{row_of};
 
+use crate::bench::bench;
 use crate::check::check_tariff;
 use crate::ending::{Ended, finish};
 use crate::fare::fare;
 use crate::generate::generate;
+use crate::mark::print_mark;
 use crate::offsets::print_offsets;
+use crate::port::serve_requests;
 use crate::run::run;
 use crate::seal::seal_store;
+use crate::shifts::print_shifts;
 use crate::tables::print_tables;
 use crate::totals::print_store;
 use crate::words::{Row, row_in};
@@ -39,8 +43,8 @@ fn carry_out<F: Files, B: Board<L>, L: Ledger>(
 ) -> Ended
     ensures ends { (command_of (Some row)).known F.tells B.tells_image
         → ComesOn F.Files B.Board (command_of (Some row)) files.old files.new board.old board.new result }
-    ensures steps { (command_of (Some row)).steps F.tells (F.rest files.old) (F.rest files.new)
-        steps.old (steps.new + 1) }
+    ensures steps { (command_of (Some row)).steps F.tells B.tells_image (F.rest files.old) (F.rest files.new)
+        (B.image board.old) steps.old (steps.new + 1) }
     ensures read_fault { result ≡ Ended.ReadFault → HasReadFault F.Files (command_of (Some row)) files.old files.new }
     ensures board_fault { result ≡ Ended.BoardFault → Rose (B.faults board.old) (B.faults board.new) }
     ensures others { (word : ℕ) → ¬ (command_of (Some row)).reads word → F.rest files.new word ≡ F.rest files.old word }
@@ -50,6 +54,7 @@ fn carry_out<F: Files, B: Board<L>, L: Ledger>(
     ensures unwritten { ¬ (command_of (Some row)).writes (status_of result) → KeepsBytes B.Board board.old board.new }
     ensures same { ¬ (command_of (Some row)).writes (status_of result) → result ≢ Ended.BoardFault
         → B.image board.new ≡ B.image board.old }
+    ensures looks { OnlyLooks (Some row) → B.tells_image → LooksAt B.Board board.old board.new result }
     ensures seals { row ≡ Row.Seal → F.tells → B.tells_image
         → Seals B.Board (sealing_of (opening_of (B.image board.old)) (F.rest files.old 1) (F.rest files.old 2))
         board.old board.new (status_of result) }
@@ -66,8 +71,12 @@ fn carry_out<F: Files, B: Board<L>, L: Ledger>(
         Row::Totals => print_store(board, steps),
         Row::Seal => seal_store(alloc, files, board, steps),
         Row::Run => run(alloc, files, board, steps),
+        Row::Bench => bench(alloc, files, board, steps),
         Row::Gen(seed, trips) => generate(alloc, seed, trips.get(), board, steps),
+        Row::Port => serve_requests(files, board, steps),
         Row::Offsets(years) => print_offsets(years, files, board, steps),
+        Row::Mark(driver) => print_mark(driver, board, steps),
+        Row::Shifts => print_shifts(alloc, files, board, steps),
     }
 }
 
@@ -87,11 +96,13 @@ fn answer<F: Files, B: Board<L>, L: Ledger>(
         → F.rest files.new word ≡ F.rest files.old word }
     ensures read_fault { result ≡ 7 → HasReadFault F.Files (called (map string_bytes words.now)) files.old files.new }
     ensures board_fault { result ≡ 8 → Rose (B.faults board.old) (B.faults board.new) }
-    ensures steps { (called (map string_bytes words.now)).steps F.tells (F.rest files.old) (F.rest files.new)
-        steps.old steps.new }
+    ensures steps { (called (map string_bytes words.now)).steps F.tells B.tells_image (F.rest files.old) (F.rest files.new)
+        (B.image board.old) steps.old steps.new }
     ensures kept { ¬ (called (map string_bytes words.now)).opens → KeepsStore B.Board board.old board.new }
     ensures unwritten { ¬ (called (map string_bytes words.now)).writes result
         → WritesNothing B.Board board.old board.new result }
+    ensures looks { OnlyLooks (row_of (map string_bytes words.now)) → B.tells_image
+        → LeavesImage B.Board (result ≡ 8) board.old board.new }
     ensures seals { row_of (map string_bytes words.now) ≡ Some Row.Seal → F.tells → B.tells_image
         → Seals B.Board (sealing_of (opening_of (B.image board.old)) (F.rest files.old 1) (F.rest files.old 2))
         board.old board.new result }
@@ -118,26 +129,34 @@ fn answer<F: Files, B: Board<L>, L: Ledger>(
 /// | `totals` | the totals of the store |
 /// | `seal TARIFF PARAMS` | `SEALED n`, with the number of the seal that is put in |
 /// | `run TARIFF DRIVE` | the displays, refusals and receipts of the drive on the sealed store |
+/// | `bench TARIFF DRIVE READINGS` | the cross-over speeds of the tariff, and the report of the readings on the hirings that the drive should come to on the sealed store |
 /// | `gen SEED N` | the totals that the generated drive of a seed and N trips comes to on a new store |
+/// | `port REQUESTS` | the replies to the requests, from the store |
 /// | `offsets RULES FROM TO` | the `offset` lines of the rules for the years from FROM to TO, at most fifteen of 2000 to 2199 |
+/// | `mark on DRIVER`, `mark off` | the mark of the store as it is, by which a driver signs on, or whoever is on signs off |
+/// | `shifts BOOK` | what the totals grew by in the shifts of a book of marks, for each driver, and while nobody was on |
 ///
 /// | Status | Last line | Where |
 /// |---|---|---|
-/// | 0 | none | the output is whole; the drive was read to its end |
+/// | 0 | none | the output is whole; the drive was read to its end; for `bench`, every row of the report passes |
 /// | 1 | `BAD WORDS` | exactly: the words are no command |
 /// | 2 | `BAD TARIFF` with `TooLong`, `Syntax n`, or the fault | exactly: the tariff has more than 65,536 bytes; its line n is the first that is no line of a tariff; this is its first fault |
 /// | 3 | `BAD DRIVE n`, `BAD DRIVE TOO LONG` | exactly: line n is the first that is no line of a drive; 2^40 bytes were taken, and the end wasn't told |
-/// | 4 | `NOT SEALED` | exactly, for `totals` and `run`: the store's pair of totals or of seals is blank |
+/// | 4 | `NOT SEALED` | exactly, for `totals`, `run`, `bench`, `port`, `mark` and `shifts`: the store's pair of totals or of seals is blank |
 /// | 5 | `BAD STORE s`, `BAD STORE s t`, `BAD STORE TRIP` | exactly, for a command that opens the store: slot s is open, and its body isn't read; slots s and t are open, with bodies of one number; for `run`, the held trip doesn't fit the tariff |
-/// | 6 | `WRONG TARIFF x y` | exactly, for `run`: the sealed digest x and that of the tariff's text, y, differ |
+/// | 6 | `WRONG TARIFF x y` | exactly, for `run` and `bench`: the sealed digest x and that of the tariff's text, y, differ |
 /// | 7 | `READ FAULT` | only where the count of faults of a file that the command reads rose |
 /// | 8 | none | only where the board's count of faults rose |
 /// | 9 | `BAD PARAMS` with the fault | exactly: the parameters have this first fault |
-/// | 12 | `NO MEMORY` | free, before the first byte of the drive is taken and before anything is printed or written |
+/// | 10 | `BAD READINGS n`, `BAD READINGS TOO LONG` | exactly: row n is the first that is no row of readings; the readings have more than 1,048,576 bytes |
+/// | 11 | none | exactly: a row of the report of `bench` doesn't pass; the output is whole |
+/// | 12 | `NO MEMORY` | free but for `totals`, `port` and `mark`, before anything is printed or written and, but for `bench`, before the first byte of the drive is taken |
 /// | 13 | `TRIP HELD` | exactly: the totals of the store hold a trip |
 /// | 14 | `SEAL ENDED` | exactly: the found seal has the last number, 10^15 |
 /// | 15 | `OTHER DECIMALS x y` | exactly: the found seal has x decimals, and the tariff y |
+/// | 16 | `BAD FRAME p`, `BAD FRAME TOO LONG` | exactly: byte p, from 0 on, is the first that no stream of requests has there, or the end is and a request is unfinished; 2^40 bytes were taken, none of their places is bad, and the end wasn't told |
 /// | 17 | `BAD RULES` with `TooLong`, `BadLine n`, or `SameMonth` | exactly: the rules have more than 4,096 bytes; their line n is the first that isn't as it should be or is absent, or 5 where bytes follow the four; both changes are in one month |
+/// | 18 | `BAD BOOK TOO LONG`, `BAD BOOK n` | exactly: the book has more than 1,048,576 bytes; its line n is the first that is no mark, may not follow those before it, or has a number greater than the store's |
 ///
 /// The words, the statuses and the lines are this project's own.
 #[tactic(auto, using(crate::proofs::BoardRuns::keeps_none, crate::proofs::BoardRuns::keeps_print, crate::proofs::BoardRuns::keeps_then))]
@@ -166,17 +185,22 @@ pub fn taxi<F: Files, B: Board<L>, L: Ledger>(
         → ¬ HasReadFault F.Files (called (map string_bytes words.now)) files.old files.new
         → ¬ Rose (B.faults board.old) (B.faults board.new)
         → (result ≡ (command (map string_bytes words.now) (F.rest files.old) (B.image board.old)).status)
-        ⊎ ((result ≡ 12) × (called (map string_bytes words.now)).may_lack (F.rest files.old) (B.image board.old)) }
+        ⊎ ((result ≡ 12) × MayLack (called (map string_bytes words.now)) (F.rest files.old) (B.image board.old)) }
 
     // One step for the last line, one for each row of tables, at most 31 for offsets, 64 for an opening of the store,
-    // and 64 for each event of a drive.
-    ensures steps { (called (map string_bytes words.now)).steps F.tells (F.rest files.old) (F.rest files.new)
-        steps.old steps.new }
+    // 64 for each event of a drive that is run, one for each 512 bytes that are printed of a bench, one for each reply,
+    // and two for each byte of a shift book.
+    ensures steps { (called (map string_bytes words.now)).steps F.tells B.tells_image (F.rest files.old) (F.rest files.new)
+        (B.image board.old) steps.old steps.new }
 
     // The store is left alone where it isn't opened, and nothing is written but where a command may write.
     ensures kept { ¬ (called (map string_bytes words.now)).opens → KeepsStore B.Board board.old board.new }
     ensures unwritten { ¬ (called (map string_bytes words.now)).writes result
         → WritesNothing B.Board board.old board.new result }
+
+    // Where a command only looks at the store, a cut of the power from its opening sync on leaves the image as it was.
+    ensures looks { OnlyLooks (row_of (map string_bytes words.now)) → B.tells_image
+        → LeavesImage B.Board (result ≡ 8) board.old board.new }
 
     // Sealing leaves what it says at 0. A cut of the power from its opening sync on leaves the store that was found, or
     // one amid the sealing; a cut before that sync has succeeded leaves what it might have left before the call. So

@@ -3,7 +3,7 @@ ghost use Rattle.std.specs.Prelude.{◌≡◌, ◌≢◌, ◌+◌, ◌<◌, ◌�
 ghost use Rattle.outside.specs.Faults.{HasCause, Rose};
 ghost use Rattle.outside.specs.Printing.{Begins};
 ghost use Rattle.outside.specs.Runs.{KeepsStore};
-ghost use Rattle.taxi_cli.specs.Ending.{ComesFrom};
+ghost use Rattle.taxi_cli.specs.Ending.{ComesFrom, LooksAt};
 ghost use Rattle.taxi_cli.specs.Opening.{IsSoundOpening};
 ghost use Rattle.taxi_cli.specs.Totals.{totals_command};
 ghost use Rattle.taxi_cli.specs.Totals as spec;
@@ -28,6 +28,7 @@ pub fn print_store<B: Board<L>, L: Ledger>(board: &mut B, steps: &mut Steps<L>) 
     ensures steps { steps.new ≤ steps.old + 64 }
     ensures store { KeepsBytes B.Board board.old board.new }
     ensures same { result ≢ Ended.BoardFault → B.image board.new ≡ B.image board.old }
+    ensures looks { B.tells_image → LooksAt B.Board board.old board.new result }
 {
     let opening = match open_store(board, steps) {
         Ok(opening) => opening,
@@ -43,7 +44,7 @@ pub fn print_store<B: Board<L>, L: Ledger>(board: &mut B, steps: &mut Steps<L>) 
 }
 
 /// The totals, and the decimals of their money, where the store is sealed.
-fn sealed_totals(opening: Opening) -> Option<(Durable, u8)>
+pub fn sealed_totals(opening: Opening) -> Option<(Durable, u8)>
     requires { IsSoundOpening opening }
     ensures answer { result ≡ spec.sealed_totals opening.totals opening.seal }
     ensures range { IfSome result (λ sealed. sealed.1 ≤ 3) }

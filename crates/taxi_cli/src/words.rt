@@ -1,13 +1,17 @@
 //! The words of a command.
 ghost use Rattle.std.specs.Prelude.{◌≡◌, ℕ, ◌≤◌, ◌==◌, Some, length, map, string_bytes};
+ghost use Rattle.std.specs.Option.{option_map};
 ghost use Rattle.std.specs.Str.Parse.{digits_value};
 ghost use Rattle.taxi_units.specs.Number.{digits_at_front};
 ghost use Rattle.taxi_units.specs.Reading.{Gives};
-ghost use Rattle.taxi_cli.specs.Words.{constant_of, fitting, row_of, seed_of, trips_of};
+ghost use Rattle.shift_book.specs.Reading.{driver_of};
+ghost use Rattle.taxi_cli.specs.Words.{constant_of, fitting, row_of, seed_of, signs_on, trips_of};
 ghost use Rattle.taxi_cli.specs.Words as spec;
 
 use crate::years::Years;
+use arrayvec::ArrayVec;
 use pulse_input::Constant;
+use shift_book::read_driver;
 use std::marker::Model;
 use taxi_units::number_at;
 
@@ -40,7 +44,7 @@ impl Trips {
 }
 
 /// A command that the program knows.
-#[derive(Clone, Copy, Debug)]
+#[derive(Debug, Drop)]
 pub enum Row {
     /// `check TARIFF`
     Check,
@@ -54,10 +58,18 @@ pub enum Row {
     Seal,
     /// `run TARIFF DRIVE`
     Run,
+    /// `bench TARIFF DRIVE READINGS`
+    Bench,
     /// `gen SEED N`
     Gen(u64, Trips),
+    /// `port REQUESTS`
+    Port,
     /// `offsets RULES FROM TO`
     Offsets(Years),
+    /// `mark on DRIVER`, or with no driver `mark off`
+    Mark(Option<ArrayVec<u8, 16>>),
+    /// `shifts BOOK`
+    Shifts,
 }
 
 /// The constant that a word is: 1 to 6 digits, 500 to 200,000.
@@ -147,11 +159,17 @@ fn one_word(command: &[u8]) -> Option<Row>
 }
 
 /// The command of two words.
-fn two_words(command: &[u8]) -> Option<Row>
-    ensures { result ≡ spec.two_words command.now }
+fn two_words(command: &[u8], last: &[u8]) -> Option<Row>
+    ensures { result ≡ spec.two_words command.now last.now }
 {
     if is_word(command, b"check") {
         Some(Row::Check)
+    } else if is_word(command, b"port") {
+        Some(Row::Port)
+    } else if is_word(command, b"mark") && is_word(last, b"off") {
+        Some(Row::Mark(None))
+    } else if is_word(command, b"shifts") {
+        Some(Row::Shifts)
     } else {
         None
     }
@@ -169,9 +187,18 @@ fn three_words(command: &[u8], middle: &[u8], last: &[u8]) -> Option<Row>
         Some(Row::Run)
     } else if is_word(command, b"gen") {
         Some(Row::Gen(seed(middle)?, trip_count(last)?))
+    } else if is_word(command, b"mark") && is_word(middle, b"on") {
+        mark_on(last)
     } else {
         None
     }
+}
+
+/// The command by which the driver that a word is signs on.
+fn mark_on(driver: &[u8]) -> Option<Row>
+    ensures { result ≡ option_map signs_on (driver_of driver.now) }
+{
+    Some(Row::Mark(Some(read_driver(driver)?)))
 }
 
 /// The command of four words.
@@ -180,6 +207,8 @@ fn four_words(command: &[u8], third: &[u8], last: &[u8]) -> Option<Row>
 {
     if is_word(command, b"fare") {
         Some(Row::Fare(constant(last)?))
+    } else if is_word(command, b"bench") {
+        Some(Row::Bench)
     } else if is_word(command, b"offsets") {
         Some(Row::Offsets(Years::of(third, last)?))
     } else {
@@ -193,7 +222,7 @@ pub fn row_in(words: &[String]) -> Option<Row>
 {
     match words {
         [command] => one_word(command.as_bytes()),
-        [command, _] => two_words(command.as_bytes()),
+        [command, last] => two_words(command.as_bytes(), last.as_bytes()),
         [command, middle, last] => {
             three_words(command.as_bytes(), middle.as_bytes(), last.as_bytes())
         }

@@ -1,15 +1,16 @@
-use Rattle.std.proofs.Common.{◌≡◌, ◌∙◌, subst, Some}
+use Rattle.std.proofs.Common.{◌≡◌, ◌∙◌, ◌+◌, subst, Some}
 use Rattle.std.specs.Prelude.{Option}
 use Rattle.outside.specs.Runs.{KeepsStore}
 use Rattle.outside.proofs.Laws.{keeps_then}
 use Rattle.taxi_cli.specs.declared.words.Row.{Row}
 use Rattle.taxi_cli.specs.declared.words.Row.TheVariants as rows
 use Rattle.taxi_cli.specs.Call.{IsCall}
-use Rattle.taxi_cli.specs.Command.{command_of}
+use Rattle.taxi_cli.specs.Command.{OnlyLooks, command_of}
 use Rattle.taxi_cli.specs.Run.{run_command}
-use Rattle.taxi_cli.specs.Unwritten.{WritesNothing}
+use Rattle.taxi_cli.specs.Unwritten.{LeavesImage, WritesNothing}
 use Rattle.taxi_cli.proofs.Amid.{seals-finished}
-use Rattle.taxi_cli.proofs.Calls.{call_course, call_from, nothing_written}
+use Rattle.taxi_cli.proofs.Calls.{call_course, call_from, nothing_written, steps_later}
+use Rattle.taxi_cli.proofs.Looking.{looks-finished}
 use Rattle.taxi_cli.proofs.RunEnds.{run-finished}
 use Rattle.taxi_cli.proofs.Unwritten.{bytes-kept, bytes-then}
 use Rattle.taxi_cli.proofs.top.answer.Goals as goal
@@ -74,3 +75,20 @@ returns-in-Some-clause-kept g c =
     subst (λ (o : Option Row). ¬ ((command_of o).opens) → KeepsStore g.B.Board c.args.board.now c.finish-in-Some.new.board)
     c.in-Some.ensures
     (λ not. keeps_then g.B.Board c.args.board.now c.carry_out-ended.new.board c.finish-in-Some.new.board (c.carry_out-ended.ensures.kept not) c.finish-in-Some.ensures.store)
+
+pub returns-in-Some-clause-looks : goal.returns-in-Some-clause-looks
+returns-in-Some-clause-looks g c =
+    subst (λ (o : Option Row). OnlyLooks o → g.B.Board.tells_image → LeavesImage g.B.Board (c.finish-in-Some.result ≡ 8) c.args.board.now c.finish-in-Some.new.board)
+    c.in-Some.ensures
+    (λ looks told. looks-finished g.B.Board c.args.board.now c.carry_out-ended.new.board c.finish-in-Some.new.board c.carry_out-ended.result c.finish-in-Some.result
+    _ _ _ _ (c.carry_out-ended.ensures.looks looks told) (g.met.B.Board.only_now c.carry_out-ended.new.board) c.finish-in-Some.ensures.store c.finish-in-Some.ensures.silent
+    c.finish-in-Some.ensures.ends)
+
+pub returns-in-Some-clause-steps : goal.returns-in-Some-clause-steps
+returns-in-Some-clause-steps g c =
+    let rest = g.F.Files.rest in
+    let image = g.B.Board.image c.args.board.now in
+    subst (λ (o : Option Row). (command_of o).steps g.F.Files.tells g.B.Board.tells_image (rest c.args.files.now) (rest c.carry_out-ended.new.files) image c.args.steps.now c.finish-in-Some.new.steps)
+    c.in-Some.ensures
+    (steps_later c.in-Some.row g.F.Files.tells g.B.Board.tells_image (rest c.args.files.now) (rest c.carry_out-ended.new.files) image c.args.steps.now (c.carry_out-ended.new.steps + 1) c.finish-in-Some.new.steps
+    c.finish-in-Some.ensures.steps c.carry_out-ended.ensures.steps)

@@ -1,7 +1,8 @@
-use Rattle.std.proofs.Common.{ℕ, subst}
+use Rattle.std.proofs.Common.{ℕ, subst, inl, inr, arith}
 use Rattle.taxi_cli.specs.Ending.{ComesOn}
 use Rattle.taxi_cli.specs.Check.{check_command}
 use Rattle.taxi_cli.specs.Generate.{gen_command}
+use Rattle.taxi_cli.specs.Mark.{mark_command}
 use Rattle.taxi_cli.specs.Totals.{totals_command}
 use Rattle.taxi_cli.proofs.Endings.{comes-unprinted, comes-unread}
 use Rattle.taxi_cli.proofs.top.carry_out.Goals as goal
@@ -24,6 +25,23 @@ returns-in-Totals-clause-ends g c =
 
 pub returns-in-Seal-clause-ends : goal.returns-in-Seal-clause-ends
 returns-in-Seal-clause-ends g c = rw c.in-Seal.is (λ known. c.seal_store.ensures.ends known.0 known.1)
+
+pub returns-in-Port-clause-ends : goal.returns-in-Port-clause-ends
+returns-in-Port-clause-ends g c = rw c.in-Port.is (λ known. c.serve_requests.ensures.ends known.0 known.1)
+
+pub returns-in-Port-clause-steps : goal.returns-in-Port-clause-steps
+returns-in-Port-clause-steps g c = rw c.in-Port.is (λ tells.
+    let h = c.serve_requests.ensures.steps tells in
+    record { taken = h.taken; split = h.split; bound = omega (arith, h.bound) })
+
+pub returns-in-Port-clause-seals : goal.returns-in-Port-clause-seals
+returns-in-Port-clause-seals g c = λ e. let is = c.in-Port.is in absurd cc
+
+pub returns-in-Port-clause-rests : goal.returns-in-Port-clause-rests
+returns-in-Port-clause-rests g c = λ e. let is = c.in-Port.is in absurd cc
+
+pub returns-in-Port-clause-runs : goal.returns-in-Port-clause-runs
+returns-in-Port-clause-runs g c = λ e. let is = c.in-Port.is in absurd cc
 
 pub returns-in-Check-clause-seals : goal.returns-in-Check-clause-seals
 returns-in-Check-clause-seals g c = λ e. let is = c.in-Check.is in absurd cc
@@ -99,3 +117,86 @@ returns-in-Offsets-clause-rests g c = λ e. let is = c.in-Offsets.is in absurd c
 
 pub returns-in-Offsets-clause-runs : goal.returns-in-Offsets-clause-runs
 returns-in-Offsets-clause-runs g c = λ e. let is = c.in-Offsets.is in absurd cc
+
+pub returns-in-Mark-clause-ends : goal.returns-in-Mark-clause-ends
+returns-in-Mark-clause-ends g c =
+    let rest = g.F.Files.rest in
+    let image = g.B.Board.image c.args.board.now in
+    rw c.in-Mark.is
+    (λ tells. comes-unread (mark_command c.in-Mark.driver) (rest c.args.files.now) (rest c.args.files.now) image _ _ _ _ c.print_mark.result
+    (c.print_mark.ensures.ends (rest c.args.files.now) (rest c.args.files.now) tells))
+
+pub returns-in-Shifts-clause-ends : goal.returns-in-Shifts-clause-ends
+returns-in-Shifts-clause-ends g c = rw c.in-Shifts.is (λ known. c.print_shifts.ensures.ends known.0 known.1)
+
+pub returns-in-Mark-clause-seals : goal.returns-in-Mark-clause-seals
+returns-in-Mark-clause-seals g c = λ e. let is = c.in-Mark.is in absurd cc
+
+pub returns-in-Mark-clause-rests : goal.returns-in-Mark-clause-rests
+returns-in-Mark-clause-rests g c = λ e. let is = c.in-Mark.is in absurd cc
+
+pub returns-in-Mark-clause-runs : goal.returns-in-Mark-clause-runs
+returns-in-Mark-clause-runs g c = λ e. let is = c.in-Mark.is in absurd cc
+
+pub returns-in-Shifts-clause-seals : goal.returns-in-Shifts-clause-seals
+returns-in-Shifts-clause-seals g c = λ e. let is = c.in-Shifts.is in absurd cc
+
+pub returns-in-Shifts-clause-rests : goal.returns-in-Shifts-clause-rests
+returns-in-Shifts-clause-rests g c = λ e. let is = c.in-Shifts.is in absurd cc
+
+pub returns-in-Shifts-clause-runs : goal.returns-in-Shifts-clause-runs
+returns-in-Shifts-clause-runs g c = λ e. let is = c.in-Shifts.is in absurd cc
+
+pub returns-in-Check-clause-looks : goal.returns-in-Check-clause-looks
+returns-in-Check-clause-looks g c = rw c.in-Check.is (λ looks. absurd looks)
+
+pub returns-in-Tables-clause-looks : goal.returns-in-Tables-clause-looks
+returns-in-Tables-clause-looks g c = rw c.in-Tables.is (λ looks. absurd looks)
+
+pub returns-in-Fare-clause-looks : goal.returns-in-Fare-clause-looks
+returns-in-Fare-clause-looks g c = rw c.in-Fare.is (λ looks. absurd looks)
+
+pub returns-in-Seal-clause-looks : goal.returns-in-Seal-clause-looks
+returns-in-Seal-clause-looks g c = rw c.in-Seal.is (λ looks. absurd looks)
+
+pub returns-in-Run-clause-looks : goal.returns-in-Run-clause-looks
+returns-in-Run-clause-looks g c = rw c.in-Run.is (λ looks. absurd looks)
+
+pub returns-in-Gen-clause-looks : goal.returns-in-Gen-clause-looks
+returns-in-Gen-clause-looks g c = rw c.in-Gen.is (λ looks. absurd looks)
+
+pub returns-in-Offsets-clause-looks : goal.returns-in-Offsets-clause-looks
+returns-in-Offsets-clause-looks g c = rw c.in-Offsets.is (λ looks. absurd looks)
+
+pub returns-in-Totals-clause-looks : goal.returns-in-Totals-clause-looks
+returns-in-Totals-clause-looks g c = λ looks told. c.print_store.ensures.looks told
+
+pub returns-in-Port-clause-looks : goal.returns-in-Port-clause-looks
+returns-in-Port-clause-looks g c = λ looks told. c.serve_requests.ensures.looks told
+
+pub returns-in-Mark-clause-looks : goal.returns-in-Mark-clause-looks
+returns-in-Mark-clause-looks g c = λ looks told. c.print_mark.ensures.looks told
+
+pub returns-in-Shifts-clause-looks : goal.returns-in-Shifts-clause-looks
+returns-in-Shifts-clause-looks g c = λ looks told. c.print_shifts.ensures.looks told
+
+pub returns-in-Bench-clause-ends : goal.returns-in-Bench-clause-ends
+returns-in-Bench-clause-ends g c = rw c.in-Bench.is (λ known. c.bench.ensures.ends known.0 known.1)
+
+pub returns-in-Bench-clause-steps : goal.returns-in-Bench-clause-steps
+returns-in-Bench-clause-steps g c = rw c.in-Bench.is (λ tells told. omega (arith, c.bench.ensures.steps tells told))
+
+pub returns-in-Bench-clause-others : goal.returns-in-Bench-clause-others
+returns-in-Bench-clause-others g c = rw c.in-Bench.is (λ word not. c.bench.ensures.others word (λ e. not (inl e)) (λ e. not (inr (inl e))) (λ e. not (inr (inr e))))
+
+pub returns-in-Bench-clause-seals : goal.returns-in-Bench-clause-seals
+returns-in-Bench-clause-seals g c = λ e. let is = c.in-Bench.is in absurd cc
+
+pub returns-in-Bench-clause-rests : goal.returns-in-Bench-clause-rests
+returns-in-Bench-clause-rests g c = λ e. let is = c.in-Bench.is in absurd cc
+
+pub returns-in-Bench-clause-runs : goal.returns-in-Bench-clause-runs
+returns-in-Bench-clause-runs g c = λ e. let is = c.in-Bench.is in absurd cc
+
+pub returns-in-Bench-clause-looks : goal.returns-in-Bench-clause-looks
+returns-in-Bench-clause-looks g c = λ looks told. c.bench.ensures.looks told

@@ -8,6 +8,7 @@ use Rattle.outside.specs.Printing.{Begins}
 use Rattle.taxi_cli.specs.Totals.{totals_answer, totals_command}
 use Rattle.taxi_cli.specs.TotalsText.{totals_text}
 use Rattle.taxi_cli.proofs.Answering.{board_fault-store, comes-refusal, comes-store, not_read-store}
+use Rattle.taxi_cli.proofs.Looking.{looks-kept, looks-only}
 use Rattle.taxi_cli.proofs.Openings.{no_fault, same_fault}
 use Rattle.taxi_cli.proofs.Totalling.{answer-sealed, comes-totals, comes-totals_begun}
 use Rattle.taxi_cli.proofs.Unwritten.{bytes-read}
@@ -67,3 +68,32 @@ returns-in-Err-print_totals-clause-ends g c = λ contents left tells.
     (answer-sealed image c.in-Ok.opening (Some (c.in-Some.durable, c.in-Some.decimals)) opened (sym c.in-Some.is ∙ c.sealed_totals.ensures.answer))
     (λ t. subst (λ (x : List ℕ). Begins x (printed c.print_totals.new.board) text) c.open_store.ensures.reads.text (c.print_totals.ensures.begun t))
     (omega (arith, c.print_totals.ensures.cause.failed (ap is_err c.in-Err-print_totals.is), c.open_store.ensures.count))
+
+-- ---- what a cut leaves
+
+pub returns-in-Err-clause-looks : goal.returns-in-Err-clause-looks
+returns-in-Err-clause-looks g c = λ told.
+    let opened = c.open_store.ensures in
+    looks-only g.B.Board _ c.refused_store.result c.args.board.now c.open_store.new.board
+    (λ e. c.refused_store.ensures ∙ ap store_ended (same_fault c.open_store.result c.in-Err.fault stores.BoardFault c.in-Err.is e))
+    (opened.synced told) opened.same (opened.settled told)
+
+pub returns-in_default-clause-looks : goal.returns-in_default-clause-looks
+returns-in_default-clause-looks g c = λ told.
+    let opened = c.open_store.ensures in
+    let went = no_fault c.open_store.result c.in-Ok.opening stores.BoardFault c.in-Ok.is in
+    looks-only g.B.Board _ ended.NotSealed c.args.board.now c.open_store.new.board (λ e. absurd (went e)) (opened.synced told) opened.same (opened.settled told)
+
+pub returns-in-Ok-print_totals-clause-looks : goal.returns-in-Ok-print_totals-clause-looks
+returns-in-Ok-print_totals-clause-looks g c = λ told.
+    let opened = c.open_store.ensures in
+    let went = no_fault c.open_store.result c.in-Ok.opening stores.BoardFault c.in-Ok.is in
+    looks-kept g.B.Board _ ended.Done c.args.board.now c.open_store.new.board c.print_totals.new.board went (opened.synced told)
+    (g.met.B.Board.only_now c.open_store.new.board) (opened.settled told went) (opened.same went) c.print_totals.ensures.store
+
+pub returns-in-Err-print_totals-clause-looks : goal.returns-in-Err-print_totals-clause-looks
+returns-in-Err-print_totals-clause-looks g c = λ told.
+    let opened = c.open_store.ensures in
+    let went = no_fault c.open_store.result c.in-Ok.opening stores.BoardFault c.in-Ok.is in
+    looks-kept g.B.Board _ ended.BoardFault c.args.board.now c.open_store.new.board c.print_totals.new.board went (opened.synced told)
+    (g.met.B.Board.only_now c.open_store.new.board) (opened.settled told went) (opened.same went) c.print_totals.ensures.store

@@ -11,4 +11,5 @@ returns-in-len4 c =
 pub returns-in-len2 : goal.returns-in-len2
 returns-in-len2 c =
     c.two_words.ensures
-    ∙ row-two string_bytes c.args.words.now c.command-item-then-words-lt3.result _ c.in-len2.len_at_least c.in-len2.len_below c.command-item-then-words-lt3.is c.as_bytes-in-len2.ensures.value
+    ∙ row-two string_bytes c.args.words.now c.command-item-then-words-lt3.result c.last-item.result _ _ c.in-len2.len_at_least c.in-len2.len_below
+    c.command-item-then-words-lt3.is c.last-item.is c.as_bytes-in-len2.ensures.value c.as_bytes-in-len2-2.ensures.value

@@ -1,0 +1,99 @@
+-- One run of a chain, and the cut of the power in it.
+use Rattle.std.specs.Prelude.{◌≡◌, ◌≢◌, ℕ, ◌+◌, ◌-◌, ◌≤◌, List, [], length, take, Option, None, Some, Result, Ok, Err}
+use Rattle.outside.specs.Disk.{SameBut}
+use Rattle.outside.specs.Faults.{Rose}
+use Rattle.outside.specs.MemoryFiles.{FilesState, rest_of}
+use Rattle.outside.specs.declared.replay.Fill.{Fill}
+use Rattle.totaliser_store.specs.Stored.{HasState}
+use Rattle.totaliser_store.specs.Sums.{Follows}
+use Rattle.totaliser_store.specs.declared.change.Change.{Change}
+use Rattle.totaliser_store.specs.declared.durable.Durable.{Durable}
+use Rattle.meter_run.specs.Deeds.{Deed, changes_of}
+use Rattle.taxi_cli.specs.Call.{MayTake}
+use Rattle.taxi_cli.specs.Course.{Course, line_in, status_in}
+use Rattle.taxi_cli.specs.Opening.{opening_of}
+use Rattle.taxi_cli.specs.Run.{IsOfTotals, MayFind, Start, bytes_in, deeds_in, run_command, start_of}
+use Rattle.taxi_cli.specs.declared.ending.Ended.{Ended}
+
+-- A run of a chain: what its files held and what is left of them, how the power was cut, how far the run came, its
+-- status, and what is left behind it: the next image, the state that this stands for, its number, and what had been
+-- printed. A cut is one inside the board's call with a number, and what it makes of the bytes in flight.
+pub record Link : Type 0 where
+  pub files : FilesState
+  pub files_left : FilesState
+  pub cut : Option (ℕ × Fill)
+  pub course : Course
+  pub status : ℕ
+  pub image : List ℕ
+  pub found : Durable
+  pub number : ℕ
+  pub text : List ℕ
+
+-- what a run does over bytes of its drive: nothing, where it is refused before the drive
+abbrev pub deeds_from : Result Start Ended → (bytes : List ℕ) → List Deed
+deeds_from (Err why) bytes = []
+deeds_from (Ok start) bytes = deeds_in start bytes
+
+-- a run over an image
+module _ (image : List ℕ) (link : Link) where
+  -- what it begins with, or why it is refused
+  abbrev pub begun_with : Result Start Ended
+  begun_with = start_of (opening_of image) (rest_of link.files 1)
+
+  -- the bytes of its drive that it carried out: all where it came to its answer, else those that were taken
+  abbrev pub bytes_done : List ℕ
+  bytes_done = bytes_in link.course (rest_of link.files 2)
+
+  -- what it does over them
+  abbrev pub deeds_done : List Deed
+  deeds_done = deeds_from begun_with bytes_done
+
+  -- what that commits, in order
+  abbrev pub commits_done : List Change
+  commits_done = changes_of deeds_done
+
+  -- its last line, where it has one
+  abbrev pub last_line : List ℕ
+  last_line = line_in run_command (rest_of link.files) image link.course
+
+-- the prefix of a run's commits that the next image has: as many as its number is above that of the state before
+abbrev pub prefix_of : (durable : Durable) (image : List ℕ) → Link → List Change
+prefix_of durable image link = take (link.number - durable.number) (commits_done image link)
+
+-- A run over an image that stands for a durable state.
+pub record IsLink (durable : Durable) (image : List ℕ) (link : Link) : Type 0 where
+  -- it came to its answer over the whole drive, with the status of the command's definition, or to a read that failed,
+  -- with 7; memory didn't run out, and the board didn't fail
+  pub may : MayTake run_command (rest_of link.files) (rest_of link.files_left) image
+      (λ word. Rose link.files.failed link.files_left.failed) ⊥ link.course
+  pub status : link.status ≡ status_in run_command (rest_of link.files) image link.course
+  pub memory : link.status ≢ 12
+  -- it read no file but those of its words
+  pub others : (word : ℕ) → word ≢ 1 → word ≢ 2 → rest_of link.files_left word ≡ rest_of link.files word
+  -- the next number is no smaller than the one before, and no greater than with all commits of the run
+  pub least : durable.number ≤ link.number
+  pub most : link.number ≤ durable.number + length (commits_done image link)
+  -- the next image stands for the state after so many commits of the run
+  pub stands : HasState link.image link.found
+  pub number : link.number ≡ link.found.number
+  pub follows : Follows durable link.found (prefix_of durable image link)
+  -- these are all where the power wasn't cut, and none where it was cut before the first call
+  pub whole : link.cut ≡ None → link.number ≡ durable.number + length (commits_done image link)
+  pub none : (fill : Fill) → link.cut ≡ Some (0, fill) → (link.image ≡ image) × (link.number ≡ durable.number)
+  -- the bytes of the seal stay
+  pub seal_stays : SameBut IsOfTotals image link.image
+  -- the next image and what had been printed are a pair that a cut of the power leaves of the run
+  pub pair : MayFind (Unit {0}) image [] (begun_with image link) (bytes_done image link) (last_line image link)
+      link.image link.text
+
+-- a run of this kind, with these files before and after it, this cut, this status, and this image and number behind it
+pub record HasLink (durable : Durable) (image : List ℕ) (files files_left : FilesState) (cut : Option (ℕ × Fill))
+    (status : ℕ) (next : List ℕ) (number : ℕ) : Type 0 where
+  pub link : Link
+  pub is : IsLink durable image link
+  pub files_are : link.files ≡ files
+  pub left_are : link.files_left ≡ files_left
+  pub cut_is : link.cut ≡ cut
+  pub status_is : link.status ≡ status
+  pub image_is : link.image ≡ next
+  pub number_is : link.number ≡ number

@@ -1,0 +1,65 @@
+//! What a verification goes by.
+ghost use Rattle.std.specs.Prelude.{◌≡◌, ◌≢◌, ℕ, ◌+◌, ◌≤◌, [], IfOk, OnOk, IsErrOf, Ok, Err};
+ghost use Rattle.outside.specs.Faults.{Rose};
+ghost use Rattle.outside.specs.Runs.{IsSettled};
+ghost use Rattle.slot_store.specs.Syncs.{IsAsHeld, LeavesFromSync, ReadsOnly};
+ghost use Rattle.taxi_cli.specs.Bench.{terms_of};
+ghost use Rattle.taxi_cli.specs.BenchSteps.{HasNoTerms, terms_in};
+ghost use Rattle.taxi_cli.specs.Opening.{opening_of};
+
+use crate::ending::{Ended, refused_store};
+use crate::opening::{open_store, sealed_store};
+use crate::sealed_tariff::read_sealed;
+use outside::{Board, Files};
+use seal_store::Seal;
+use std::alloc::Global;
+use std::sync::ledger::Ledger;
+use tariff_check::Checked;
+use taxi_units::Steps;
+
+/// What a verification goes by: the seal of the store, and the tariff that was sealed.
+#[derive(Drop)]
+pub struct Terms {
+    pub seal: Seal,
+    pub checked: Checked,
+}
+
+/// Scans the store, and reads the tariff of word 1, which has to be the one that was sealed. Nothing is
+/// written or printed.
+pub fn open_terms<F: Files, B: Board<L>, L: Ledger>(
+    alloc: Global,
+    files: &mut F,
+    board: &mut B,
+    steps: &mut Steps<L>,
+) -> Result<Terms, Ended>
+    ensures found { F.tells → B.tells_image → IfOk result (λ terms.
+        terms_of (opening_of (B.image board.old)) (F.rest files.old 1) ≡ Ok (terms_in terms)) }
+    ensures ended { F.tells → OnOk result (F.rest files.new 1 ≡ []) }
+    ensures refused { (why : Ended) → F.tells → B.tells_image → result ≡ Err why
+        → HasNoTerms (B.image board.old) (F.rest files.old 1) (Rose (F.faults files.old 1) (F.faults files.new 1))
+        (Rose (B.faults board.old) (B.faults board.new)) why }
+    ensures reads { ReadsOnly B.Board board.old board.new }
+    ensures synced { B.tells_image → LeavesFromSync B.Board (IsErrOf result Ended.BoardFault)
+        board.old board.new (IsAsHeld B.Board board.old) }
+    ensures settled { B.tells_image → ¬ IsErrOf result Ended.BoardFault → IsSettled B.Board board.new }
+    ensures same { ¬ IsErrOf result Ended.BoardFault → B.image board.new ≡ B.image board.old }
+    ensures read_fault { result ≡ Err Ended.ReadFault → Rose (F.faults files.old 1) (F.faults files.new 1) }
+    ensures board_fault { result ≡ Err Ended.BoardFault → Rose (B.faults board.old) (B.faults board.new) }
+    ensures others { (other : ℕ) → other ≢ 1 → F.rest files.new other ≡ F.rest files.old other }
+    ensures count { B.faults board.old ≤ B.faults board.new }
+    ensures counts { (other : ℕ) → F.faults files.old other ≤ F.faults files.new other }
+    ensures steps { steps.new ≤ steps.old + 6 }
+{
+    let opening = match open_store(board, steps) {
+        Ok(opening) => opening,
+        Err(fault) => return Err(refused_store(fault)),
+    };
+    let Some((_, seal)) = sealed_store(opening) else {
+        return Err(Ended::NotSealed);
+    };
+    let checked = match read_sealed(alloc, files, &seal.digest) {
+        Ok(checked) => checked,
+        Err(why) => return Err(why),
+    };
+    Ok(Terms { seal, checked })
+}

@@ -1,0 +1,242 @@
+//! A hundred cuts of the power from a fixed seed, each in a run over what the one before it left.
+ghost use Rattle.std.specs.Prelude.{◌≡◌, ◌<◌};
+
+use crate::run_tests::{CITY, RUN, sealed};
+use crate::tests::{FILLS, P, call};
+use outside::{Fill, MemoryBoard, QuietBoard};
+use receipt_text::read_receipt;
+use slot_store::{Found, scan};
+use std::alloc::Global;
+use std::marker::Brand;
+use std::sync::ledger::{Blank, Ledger};
+use std::test::Fail;
+use taxi_units::{Kind, Receipt, Steps};
+use totaliser_store::Durable;
+
+/// Numbers from a seed: the high bits of a linear congruential sequence.
+#[derive(Drop)]
+struct Dice {
+    state: u64,
+}
+
+impl Dice {
+    /// A number below `most`.
+    fn below(&mut self, most: u64) -> u64
+        requires { 0 < most }
+    {
+        self.state = self
+            .state
+            .wrapping_mul(6_364_136_223_846_793_005)
+            .wrapping_add(1_442_695_040_888_963_407);
+        (self.state >> 33) % most
+    }
+}
+
+/// A whole hiring, and parts of one: keys, intervals, an extra.
+const PIECES: [&str; 8] = [
+    "K H\nI 0 1\nI 20 300\nK S\nI 8 1\nK C\nI 0 1\n",
+    "K H\nI 0 1\nI 20 60\n",
+    "K E 1\nI 10 40\n",
+    "K S\nI 8 1\n",
+    "K C\nI 0 1\n",
+    "I 20 200\n",
+    "K P 2\nI 5 30\n",
+    "K H\nI 0 1\nK E 2\nI 15 90\nK S\nI 0 5\nK C\nI 0 1\n",
+];
+
+/// The gaps in supply in a drive, in seconds: a trip is held for a minute at most.
+const GAPS: [u64; 4] = [10, 40, 70, 500];
+
+/// Adds a power-up after a gap.
+fn put_up(
+    alloc: Global,
+    drive: &mut String,
+    second: &mut u64,
+    dice: &mut Dice,
+) -> Result<(), Fail> {
+    let gap = GAPS.get(dice.below(4) as usize).copied().unwrap_or(10);
+    *second = second.wrapping_add(gap);
+    let line = format!(in alloc; "U {second}\n")?;
+    drive.push_str(line.as_str())?;
+    Ok(())
+}
+
+/// A drive of some pieces, with losses of supply between some of them.
+fn drive_of(alloc: Global, second: &mut u64, dice: &mut Dice) -> Result<String, Fail> {
+    let mut drive = String::new(alloc);
+    put_up(alloc, &mut drive, second, dice)?;
+    for _piece in 0..6 {
+        if dice.below(4) == 0 {
+            drive.push_str("D\n")?;
+            put_up(alloc, &mut drive, second, dice)?;
+        }
+        if let Some(piece) = PIECES.get(dice.below(8) as usize) {
+            drive.push_str(piece)?;
+        }
+    }
+    Ok(drive)
+}
+
+/// What an image stands for, under a new counter.
+fn counted<L: Ledger>(blank: Blank, image: &[u8; 2048]) -> Option<Durable>
+    requires name { blank.name ≡ L.name }
+    requires parts { blank.parts ≡ L.parts }
+    requires some { 0 < blank.parts }
+{
+    let mut steps: Steps<L> = Steps::open(blank);
+    let mut board = QuietBoard::new(image);
+    match scan::<Durable, QuietBoard, L>(&mut board, 0, &mut steps) {
+        Ok(Found::Latest { body, .. }) => Some(body),
+        _ => None,
+    }
+}
+
+/// The durable state that an image stands for.
+fn stored(image: &[u8; 2048]) -> Option<Durable> {
+    counted::<Brand>(Blank::new(1), image)
+}
+
+/// The receipts in a printed text, each of which is whole.
+fn receipts_in(alloc: Global, text: &[u8]) -> Result<Vec<Receipt>, Fail> {
+    let mut receipts = Vec::new(alloc);
+    let mut lines = Vec::new(alloc);
+    for line in text.split_inclusive(|byte| *byte == b'\n') {
+        if line.starts_with(b"RECEIPT ") || !lines.is_empty() {
+            lines.extend_from_slice(line)?;
+        }
+        if line == b"END\n".as_slice() {
+            let (receipt, _) = read_receipt(lines.as_slice()).ok_or("no receipt")?;
+            receipts.push(receipt)?;
+            lines.clear();
+        }
+    }
+    if lines.is_empty() {
+        return Ok(receipts);
+    }
+    Err(Fail::new("a receipt is broken off"))
+}
+
+/// What receipts add up to.
+#[derive(Clone, Copy, Debug, PartialEq, Eq)]
+struct Sums {
+    hirings: u64,
+    fare: u128,
+    supplements: u128,
+    hired_mm: u128,
+}
+
+/// The sums with those receipts more whose number is at most this.
+fn added(sums: Sums, receipts: &[Receipt], number: u64) -> Sums {
+    let mut sums = sums;
+    for receipt in receipts {
+        if receipt.number <= number {
+            sums.hirings = sums.hirings.wrapping_add(1);
+            sums.fare = sums.fare.wrapping_add(receipt.fare as u128);
+            sums.supplements = sums.supplements.wrapping_add(receipt.supplements as u128);
+            sums.hired_mm = sums.hired_mm.wrapping_add(receipt.hired_mm);
+        }
+    }
+    sums
+}
+
+/// The sums that a durable state has.
+fn sums_of(durable: &Durable) -> Sums {
+    Sums {
+        hirings: durable.totals.hirings,
+        fare: durable.totals.fare,
+        supplements: durable.totals.supplements,
+        hired_mm: durable.totals.hired_mm,
+    }
+}
+
+/// The board after a run of a drive over an image, of which a call fails, and the run's status.
+fn ran(
+    alloc: Global,
+    image: &[u8; 2048],
+    drive: &str,
+    fail: &[u64],
+) -> Result<(MemoryBoard, u8), Fail> {
+    let mut board = MemoryBoard::new(alloc, image, fail)?;
+    let status = call(alloc, &RUN, CITY, drive, &[], &mut board)?;
+    Ok((board, status))
+}
+
+/// Fails with these words where something doesn't hold.
+fn must(holds: bool, words: &'static str) -> Result<(), Fail> {
+    if holds {
+        return Ok(());
+    }
+    Err(Fail::new(words))
+}
+
+/// A run over an image, and the same run broken off at a call of the board; what a cut then leaves of that one.
+/// Each receipt that was printed has an entry by its number, and the sums are those that are found. Answers also how
+/// many trips were aborted.
+fn broken_off(
+    alloc: Global,
+    image: &[u8; 2048],
+    drive: &str,
+    dice: &mut Dice,
+    sums: &mut Sums,
+) -> Result<([u8; 2048], usize), Fail> {
+    let (whole, status) = ran(alloc, image, drive, &[])?;
+    must(status == 0, "a run fails")?;
+    let number = dice
+        .below(whole.calls().saturating_add(2))
+        .saturating_add(1);
+    let (board, status) = ran(alloc, image, drive, &[number])?;
+    must(
+        (status == 8) == (number <= whole.calls()),
+        "a failed call has another status",
+    )?;
+    must(
+        whole.printed().starts_with(board.printed()),
+        "a text isn't that of the run",
+    )?;
+    let fill = FILLS
+        .get(dice.below(6) as usize)
+        .copied()
+        .unwrap_or(Fill::Old);
+    let left = board.cut(board.calls(), fill);
+    let found = stored(&left).ok_or("no state")?;
+    let printed = receipts_in(alloc, board.printed())?;
+    must(
+        printed.iter().all(|receipt| receipt.number <= found.number),
+        "an entry is lost",
+    )?;
+    let receipts = receipts_in(alloc, whole.printed())?;
+    *sums = added(*sums, receipts.as_slice(), found.number);
+    must(sums_of(&found) == *sums, "the totals are others")?;
+    let aborted = receipts
+        .iter()
+        .filter(|receipt| receipt.kind == Kind::Aborted)
+        .count();
+    Ok((left, aborted))
+}
+
+/// Each receipt that was printed has its entry among those that are found after a cut, and the totals are those of
+/// the receipts of the runs so far, added up plainly, as far as the number says.
+#[test]
+fn a_hundred_cuts(rt: HostRuntime) -> Result<(), Fail> {
+    let board = sealed(rt.alloc(), CITY, P)?;
+    let mut image = *board.image();
+    let mut dice = Dice { state: 20_260_101 };
+    let mut second = 1_767_225_600;
+    let mut sums = Sums {
+        hirings: 0,
+        fare: 0,
+        supplements: 0,
+        hired_mm: 0,
+    };
+    let mut runs_that_aborted = 0;
+    for cut in 0..100 {
+        let drive = drive_of(rt.alloc(), &mut second, &mut dice)?;
+        let (left, aborted) = broken_off(rt.alloc(), &image, drive.as_str(), &mut dice, &mut sums)?;
+        image = left;
+        if aborted > 0 && runs_that_aborted <= cut {
+            runs_that_aborted += 1;
+        }
+    }
+    assert!(rt; sums.hirings > 50 && runs_that_aborted > 10);
+    Ok(())
+}

@@ -1,0 +1,212 @@
+//! Requests that are served from stores in memory. All bytes are written by hand from the table of items.
+use crate::store_tests::{SECOND_LAYOUT, image_of};
+use crate::tests::call;
+use outside::MemoryBoard;
+use std::test::Fail;
+
+/// A store that breaks its sums, and one without a seal.
+const TOO_MANY_BEFORE: [(usize, u8); 6] = [
+    (196, 1),
+    (211, 0x01),
+    (212, 0x7c),
+    (412, 1),
+    (511, 2),
+    (1535, 1),
+];
+
+const NO_SEAL: [(usize, u8); 5] = [(196, 1), (211, 0x01), (212, 0x7c), (511, 2), (1024, 0)];
+
+/// Asks for the store's number.
+const NUMBER: &str = "\x02\x01\x06\x03";
+
+/// Asks for the constant and the hirings.
+const CONSTANT_AND_HIRINGS: &str = "\x02\x02\x02\x09\x03";
+
+/// The number is 2, the constant 10,000, and there is one hiring.
+const OF_NUMBER: &str = "\x02\0\x09\x06\0\0\0\0\0\0\0\x02\x03";
+
+const OF_CONSTANT_AND_HIRINGS: &str = "\x02\0\x0e\x02\0\0\x27\x10\x09\0\0\0\0\0\0\0\x01\x03";
+
+/// What a store has more, requests, the reply before the last line, that line, and the status.
+const ROWS: [(&[(usize, u8)], &str, &str, &str, u8); 16] = [
+    (&SECOND_LAYOUT, NUMBER, OF_NUMBER, "", 0),
+    (
+        &SECOND_LAYOUT,
+        CONSTANT_AND_HIRINGS,
+        OF_CONSTANT_AND_HIRINGS,
+        "",
+        0,
+    ),
+    (&SECOND_LAYOUT, "\x02\x01\x0e\x03", "", "BAD FRAME 2\n", 16),
+    (&SECOND_LAYOUT, "\x02\x01", "", "BAD FRAME 2\n", 16),
+    (&SECOND_LAYOUT, "", "", "", 0),
+    (&SECOND_LAYOUT, "\x02\0", "", "BAD FRAME 1\n", 16),
+    (&SECOND_LAYOUT, "\x02\x0e", "", "BAD FRAME 1\n", 16),
+    (&SECOND_LAYOUT, "\x02\x02\x05\x05", "", "BAD FRAME 3\n", 16),
+    (
+        &SECOND_LAYOUT,
+        "\x02\x02\x09\x02\x03",
+        "",
+        "BAD FRAME 3\n",
+        16,
+    ),
+    (&SECOND_LAYOUT, "\x02\x02\x0d", "", "BAD FRAME 2\n", 16),
+    (
+        &SECOND_LAYOUT,
+        "\x02\x01\x06\x03\x02\x02\x0d",
+        OF_NUMBER,
+        "BAD FRAME 6\n",
+        16,
+    ),
+    (
+        &SECOND_LAYOUT,
+        "\x02\x01\x06\x03\x03",
+        OF_NUMBER,
+        "BAD FRAME 4\n",
+        16,
+    ),
+    (&[], NUMBER, "", "BAD STORE 0\n", 5),
+    (&TOO_MANY_BEFORE, NUMBER, "", "BAD STORE 0\n", 5),
+    (&NO_SEAL, NUMBER, "", "NOT SEALED\n", 4),
+    (&NO_SEAL, "\x03", "", "NOT SEALED\n", 4),
+];
+
+#[test]
+fn replies_over_stores(rt: HostRuntime) -> Result<(), Fail> {
+    for (more, requests, reply, line, status) in ROWS {
+        let image = image_of(more);
+        let mut board = MemoryBoard::new(rt.alloc(), &image, &[])?;
+        let ended = call(rt.alloc(), &["port", "r"], requests, "", &[], &mut board)?;
+        assert_eq!(rt; ended, status);
+        let mut output = String::from_str(rt.alloc(), reply)?;
+        output.push_str(line)?;
+        assert_eq!(rt; board.printed(), output.as_bytes());
+        assert!(rt; *board.image() == image);
+    }
+    Ok(())
+}
+
+/// Two requests that end early, how many replies are printed, the last line, and
+/// the status.
+const ENDED: [(&str, usize, &str, u8); 10] = [
+    ("", 0, "", 0),
+    ("\x02", 0, "BAD FRAME 1\n", 16),
+    ("\x02\x01", 0, "BAD FRAME 2\n", 16),
+    ("\x02\x01\x06", 0, "BAD FRAME 3\n", 16),
+    ("\x02\x01\x06\x03", 1, "", 0),
+    ("\x02\x01\x06\x03\x02", 1, "BAD FRAME 5\n", 16),
+    ("\x02\x01\x06\x03\x02\x02", 1, "BAD FRAME 6\n", 16),
+    ("\x02\x01\x06\x03\x02\x02\x02", 1, "BAD FRAME 7\n", 16),
+    ("\x02\x01\x06\x03\x02\x02\x02\x09", 1, "BAD FRAME 8\n", 16),
+    ("\x02\x01\x06\x03\x02\x02\x02\x09\x03", 2, "", 0),
+];
+
+/// The first so many of the two replies, and a last line.
+fn is_output(printed: &[u8], replies: usize, line: &str) -> bool {
+    let mut rest = printed;
+    for reply in [OF_NUMBER, OF_CONSTANT_AND_HIRINGS].iter().take(replies) {
+        match rest.strip_prefix(reply.as_bytes()) {
+            Some(left) => rest = left,
+            None => return false,
+        }
+    }
+    rest == line.as_bytes()
+}
+
+#[test]
+fn requests_that_end_early(rt: HostRuntime) -> Result<(), Fail> {
+    let image = image_of(&SECOND_LAYOUT);
+    for (requests, replies, line, status) in ENDED {
+        let mut board = MemoryBoard::new(rt.alloc(), &image, &[])?;
+        let ended = call(rt.alloc(), &["port", "r"], requests, "", &[], &mut board)?;
+        assert_eq!(rt; ended, status, "{line}");
+        assert!(rt; is_output(board.printed(), replies, line), "{line}");
+    }
+    Ok(())
+}
+
+/// The numbers of the reads and of the calls of the board that fail, how many replies to two requests and a
+/// bad byte are printed, the last line, and the status. The store is scanned by six calls.
+const FAILURES: [(u64, u64, usize, &str, u8); 8] = [
+    (1, 0, 0, "READ FAULT\n", 7),
+    (2, 0, 2, "BAD FRAME 9\n", 16),
+    (0, 1, 0, "", 8),
+    (0, 6, 0, "", 8),
+    (0, 7, 0, "", 8),
+    (0, 8, 1, "", 8),
+    (0, 9, 2, "", 8),
+    (0, 10, 2, "BAD FRAME 9\n", 16),
+];
+
+#[test]
+fn failures_at_the_port(rt: HostRuntime) -> Result<(), Fail> {
+    let image = image_of(&SECOND_LAYOUT);
+    let requests = "\x02\x01\x06\x03\x02\x02\x02\x09\x03\x07";
+    for (read, made, replies, line, status) in FAILURES {
+        let mut board = MemoryBoard::new(rt.alloc(), &image, &[made])?;
+        let ended = call(
+            rt.alloc(),
+            &["port", "r"],
+            requests,
+            "",
+            &[read],
+            &mut board,
+        )?;
+        assert_eq!(rt; ended, status, "{read} {made}");
+        assert!(rt; is_output(board.printed(), replies, line), "{read} {made}");
+        assert!(rt; *board.image() == image);
+    }
+    Ok(())
+}
+
+/// Words that are no command.
+const WORDS: [&[&str]; 4] = [
+    &["port"],
+    &["port", "r", "r"],
+    &["ports", "r"],
+    &["Port", "r"],
+];
+
+#[test]
+fn words_of_the_port(rt: HostRuntime) -> Result<(), Fail> {
+    for words in WORDS {
+        let mut board = MemoryBoard::new(rt.alloc(), &image_of(&SECOND_LAYOUT), &[])?;
+        let ended = call(rt.alloc(), words, NUMBER, "", &[], &mut board)?;
+        assert_eq!(rt; ended, 1);
+        assert_eq!(rt; board.printed(), b"BAD WORDS\n".as_slice());
+    }
+    Ok(())
+}
+
+/// Requests that lie across the pieces of 512 bytes: one of five bytes and 200 of four; none of the reads
+/// fails, or the second does, or the third, which comes to the end.
+#[test]
+fn requests_across_pieces(rt: HostRuntime) -> Result<(), Fail> {
+    for (read, replies, line, status) in [
+        (0, 200, "", 0),
+        (2, 126, "READ FAULT\n", 7),
+        (3, 200, "READ FAULT\n", 7),
+    ] {
+        let mut requests = String::from_str(rt.alloc(), CONSTANT_AND_HIRINGS)?;
+        for _ in 0..200 {
+            requests.push_str(NUMBER)?;
+        }
+        let mut board = MemoryBoard::new(rt.alloc(), &image_of(&SECOND_LAYOUT), &[])?;
+        let ended = call(
+            rt.alloc(),
+            &["port", "r"],
+            requests.as_str(),
+            "",
+            &[read],
+            &mut board,
+        )?;
+        assert_eq!(rt; ended, status, "{read}");
+        let mut output = String::from_str(rt.alloc(), OF_CONSTANT_AND_HIRINGS)?;
+        for _ in 0..replies {
+            output.push_str(OF_NUMBER)?;
+        }
+        output.push_str(line)?;
+        assert_eq!(rt; board.printed(), output.as_bytes(), "{read}");
+    }
+    Ok(())
+}
