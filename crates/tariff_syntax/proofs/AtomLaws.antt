@@ -44,7 +44,7 @@ date_here : (f : List ℕ) (m n : ℕ) (rest : List Token) → IsDate f m n → 
 unfolding date_first
 date_here f m n rest h = figure_as_here date_read f (m, n) rest (date_again f m n h)
 
--- what is so of the seven weekdays is so of each
+-- what holds of 1 to 7 holds of each weekday
 pub each_day : (P : ℕ → Type 0) → P 1 → P 2 → P 3 → P 4 → P 5 → P 6 → P 7 → (n : ℕ) → 1 ≤ n → n ≤ 7 → P n
 each_day P a b c d e f g zero low high = absurd (omega arith)
 each_day P a b c d e f g (suc zero) low high = a

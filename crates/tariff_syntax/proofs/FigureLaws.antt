@@ -2,11 +2,11 @@
 use Rattle.std.proofs.Common.{◌≡◌, ℕ, ◌+◌, ◌*◌, ◌≤◌, List, [], ◌∷◌, ◌++◌, length, Option, Some, Result, Ok, Err, refl, ap, sym, ◌∙◌, subst, arith, codes, length-append}
 use Rattle.std.specs.Str.Parse.{IsNumeral, digits_value}
 use Rattle.std.proofs.lemmas.Bool.{and_parts, leb-true, le-leb, eqb-true, eq-eqb}
-use Rattle.taxi_units.specs.Number.{number_at, decimal_read, NoDigitFirst}
+use Rattle.taxi_units.specs.Number.{number_at, number_of_width, decimal_read, NoDigitFirst}
 use Rattle.taxi_units.specs.Reading.{word_at}
 use Rattle.taxi_units.specs.declared.decimal.NumberFault.{NumberFault}
-use Rattle.taxi_units.proofs.Laws.{decimals_are_read_by_their_form, numbers_are_read_by_their_digits, words_are_read_by_their_text}
-use Rattle.tariff_syntax.specs.Figure.{where_small, small_number, where_wide, digits_at, pair_read, date_read, year_date_read, where_of_a_day, minute_read, amount_or_none, amount_read, figure_as}
+use Rattle.taxi_units.proofs.Laws.{decimals_are_read_by_their_form, numbers_are_read_by_their_digits, wide_numbers_are_read_by_their_digits, words_are_read_by_their_text}
+use Rattle.tariff_syntax.specs.Figure.{where_small, small_number, pair_read, date_read, year_date_read, where_of_a_day, minute_read, amount_or_none, amount_read, figure_as}
 use Rattle.tariff_syntax.specs.Forms.{IsNumber, IsDigits, IsPair, IsDate, IsYearDate, IsMinute, IsAmount}
 use Rattle.tariff_syntax.specs.Token.{Token, figure}
 use Rattle.tariff_syntax.specs.Words.{figure_first}
@@ -46,34 +46,23 @@ word_again word rest = (words_are_read_by_their_text word (word ++ rest) rest).1
 abbrev IsFront : (width : ℕ) → List ℕ → ℕ → List ℕ → Type 0
 IsFront width text n rest = (x : List ℕ) × (text ≡ x ++ rest) × IsDigits width x n × NoDigitFirst rest
 
-digits_are : (width : ℕ) (text rest : List ℕ) (n : ℕ) → digits_at width text ≡ Some (n, rest) → IsFront width text n rest
-unfolding digits_at
-digits_are width text rest n e =
-    let read = bind_some (number_at text) (where_wide width text) (n, rest) e in
-    let x = read.0 in
-    let test = passed _ x (n, rest) read.2 in
-    let wide : length text ≡ width + length x.1 = eqb-true _ _ test.0 in
-    let first : x.0 ≡ n = cc in
-    let behind : x.1 ≡ rest = cc in
-    let is = (numbers_are_read_by_their_digits text x.1 x.0).0 read.1 in
-    (is.0, is.1 ∙ ap (λ (ys : List ℕ). is.0 ++ ys) behind, (is.2, omega (arith, length-append is.0 x.1, ap length is.1), sym first ∙ is.4), subst NoDigitFirst behind is.5)
+digits_are : (width : ℕ) (text rest : List ℕ) (n : ℕ) → width ≤ 12 → number_of_width width text ≡ Some (n, rest) → IsFront width text n rest
+digits_are width text rest n few e =
+    let is = (wide_numbers_are_read_by_their_digits width text rest n few).0 e in
+    (is.0, is.1, (is.2, is.3, is.4), is.5)
 
-digits_again : (width : ℕ) (x rest : List ℕ) (n : ℕ) → width ≤ 12 → IsDigits width x n → NoDigitFirst rest → digits_at width (x ++ rest) ≡ Some (n, rest)
-unfolding digits_at
-digits_again width x rest n few h stops =
-    let read : number_at (x ++ rest) ≡ Some (n, rest) = (numbers_are_read_by_their_digits (x ++ rest) rest n).1 (x, refl, h.0, omega (arith, h.1), h.2, stops) in
-    let wide : length (x ++ rest) ≡ width + length rest = omega (arith, length-append x rest, h.1) in
-    rw (read, eq-eqb _ _ wide) refl
+digits_again : (width : ℕ) (x rest : List ℕ) (n : ℕ) → width ≤ 12 → IsDigits width x n → NoDigitFirst rest → number_of_width width (x ++ rest) ≡ Some (n, rest)
+digits_again width x rest n few h stops = (wide_numbers_are_read_by_their_digits width (x ++ rest) rest n few).1 (x, refl, h.0, h.1, h.2, stops)
 
 pub pair_is : (between text : List ℕ) (first second : ℕ) → pair_read between text ≡ Some (first, second) → IsPair between text first second
 unfolding pair_read
 pair_is between text first second e =
-    let one = bind_some (digits_at 2 text) _ (first, second) e in
+    let one = bind_some (number_of_width 2 text) _ (first, second) e in
     let two = bind_some (word_at between one.0.1) _ (first, second) one.2 in
-    let three = bind_some (digits_at 2 two.0) _ (first, second) two.2 in
+    let three = bind_some (number_of_width 2 two.0) _ (first, second) two.2 in
     let end = ended_is three.0.1 (one.0.0, three.0.0) (first, second) three.2 in
-    let a = digits_are 2 text one.0.1 one.0.0 one.1 in
-    let b = digits_are 2 two.0 three.0.1 three.0.0 three.1 in
+    let a = digits_are 2 text one.0.1 one.0.0 (omega arith) one.1 in
+    let b = digits_are 2 two.0 three.0.1 three.0.0 (omega arith) three.1 in
     let between_is : one.0.1 ≡ between ++ two.0 = (words_are_read_by_their_text between one.0.1 two.0).0 two.1 in
     let last : two.0 ≡ b.0 = b.1 ∙ (ap (λ (ys : List ℕ). b.0 ++ ys) end.0 ∙ append_none b.0) in
     let first_is : one.0.0 ≡ first = ap (λ (p : ℕ × ℕ). p.0) end.1 in
@@ -85,7 +74,7 @@ unfolding pair_read
 pair_again between text first second stops h =
     let x = h.0 in
     let y = h.1 in
-    let last : digits_at 2 y ≡ Some (second, []) = ap (digits_at 2) (sym (append_none y)) ∙ digits_again 2 y [] second (omega arith) h.4 tt in
+    let last : number_of_width 2 y ≡ Some (second, []) = ap (number_of_width 2) (sym (append_none y)) ∙ digits_again 2 y [] second (omega arith) h.4 tt in
     rw (h.2, digits_again 2 x (between ++ y) first (omega arith) h.3 (stops y), word_again between y, last) refl
 
 dash_stops : (y : List ℕ) → NoDigitFirst (codes "-" ++ y)
@@ -100,10 +89,10 @@ date_again text month number h = pair_again (codes "-") text month number dash_s
 pub year_date_is : (text : List ℕ) (year month number : ℕ) → year_date_read text ≡ Some (year, month, number) → IsYearDate text year month number
 unfolding year_date_read
 year_date_is text year month number e =
-    let one = bind_some (digits_at 4 text) _ (year, month, number) e in
+    let one = bind_some (number_of_width 4 text) _ (year, month, number) e in
     let two = bind_some (word_at (codes "-") one.0.1) _ (year, month, number) one.2 in
     let three = bind_some (date_read two.0) _ (year, month, number) two.2 in
-    let a = digits_are 4 text one.0.1 one.0.0 one.1 in
+    let a = digits_are 4 text one.0.1 one.0.0 (omega arith) one.1 in
     let dash : one.0.1 ≡ codes "-" ++ two.0 = (words_are_read_by_their_text (codes "-") one.0.1 two.0).0 two.1 in
     let found = some_same (one.0.0, three.0.0, three.0.1) (year, month, number) three.2 in
     let year_is : one.0.0 ≡ year = ap (λ (p : ℕ × ℕ × ℕ). p.0) found in

@@ -4,8 +4,6 @@ mod AtomLaws
 mod ConditionAgain
 -- conditions are read by their grammar
 mod ConditionLaws
--- what the figures that are read look like
-mod FigureForms
 -- what figures say is read from their forms
 mod FigureLaws
 -- reading a condition, a step at a time

@@ -2,7 +2,7 @@
 -- texts_are_parsed_as_they_read says what the answers mean.
 use Rattle.std.specs.Prelude.{ℕ, ◌+◌, ◌*◌, List, length, Option, Some, None, Result, Ok, Err, if◌then◌else◌, ◌&&◌, ◌==◌}
 use Rattle.std.specs.Prelude.{nat_le, codes}
-use Rattle.taxi_units.specs.Number.{number_at, decimal_read}
+use Rattle.taxi_units.specs.Number.{number_at, number_of_width, decimal_read}
 use Rattle.taxi_units.specs.Reading.{◌>>=◌, word_at}
 use Rattle.taxi_units.specs.declared.decimal.NumberFault.{NumberFault}
 use Rattle.tariff_syntax.specs.Token.{Token}
@@ -18,20 +18,12 @@ where_small least most text x =
 unfoldable pub small_number : (least most : ℕ) → List ℕ → Option ℕ
 small_number least most text = number_at text >>= where_small least most text
 
--- the number that was found in front of a rest, where it has exactly `width` digits
-abbrev pub where_wide : (width : ℕ) → (text : List ℕ) → ℕ × List ℕ → Option (ℕ × List ℕ)
-where_wide width text x = if length text == width + length x.1 then Some x else None
-
--- the number at the front of a text, where it has exactly `width` digits, and the rest
-unfoldable pub digits_at : (width : ℕ) → List ℕ → Option (ℕ × List ℕ)
-digits_at width text = number_at text >>= where_wide width text
-
 -- the two numbers of a text of two digits, `between`, and two digits
 unfoldable pub pair_read : (between : List ℕ) → List ℕ → Option (ℕ × ℕ)
 pair_read between text = do
-  first ← digits_at 2 text
+  first ← number_of_width 2 text
   rest ← word_at between first.1
-  second ← digits_at 2 rest
+  second ← number_of_width 2 rest
   ended second.1 (first.0, second.0)
 
 -- the month and date of a text of two digits, `-`, and two digits
@@ -41,7 +33,7 @@ date_read text = pair_read (codes "-") text
 -- the year, month and date of a text of four digits, `-`, and a date of a year
 unfoldable pub year_date_read : List ℕ → Option (ℕ × ℕ × ℕ)
 year_date_read text = do
-  year ← digits_at 4 text
+  year ← number_of_width 4 text
   rest ← word_at (codes "-") year.1
   date ← date_read rest
   Some (year.0, date.0, date.1)

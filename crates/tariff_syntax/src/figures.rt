@@ -1,11 +1,11 @@
 //! What figures say: numbers of one or two digits, amounts, dates and minutes.
-ghost use Rattle.std.specs.Prelude.{◌≡◌, ◌<◌, ◌≤◌, ◌^◌, IfSome};
+ghost use Rattle.std.specs.Prelude.{◌≡◌, ◌≤◌, IfSome};
 ghost use Rattle.taxi_units.specs.Reading.{Gives};
 ghost use Rattle.tariff_syntax.specs.Figure as spec;
 ghost use Rattle.tariff_syntax.specs.TokenReading.{tokens_of};
 
 use crate::words::figure_first;
-use taxi_units::{number_at, read_decimal, word};
+use taxi_units::{number_at, number_of_width, read_decimal, word};
 
 /// A number of one or two digits from `least` to `most`, and what stands after it.
 #[tactic(auto, unfolding(crate::specs::Figure::number_first))]
@@ -18,7 +18,7 @@ pub fn number_first(line: &[u8], least: u8, most: u8) -> Option<(u8, &[u8])>
     Some((number, rest))
 }
 
-/// An amount of so many decimals, and what stands after it.
+/// An amount of `decimals` decimals, and what stands after it.
 #[tactic(auto, unfolding(crate::specs::Figure::amount_first))]
 pub fn amount_first(line: &[u8], decimals: u8) -> Option<(u64, &[u8])>
     requires { decimals ≤ 3 }
@@ -72,7 +72,7 @@ fn small_number(text: &[u8], least: u8, most: u8) -> Option<u8>
     None
 }
 
-/// An amount of so many decimals.
+/// An amount of `decimals` decimals.
 #[tactic(auto, unfolding(crate::specs::Figure::amount_read))]
 fn amount(text: &[u8], decimals: u8) -> Option<u64>
     requires { decimals ≤ 3 }
@@ -101,7 +101,7 @@ fn minute(text: &[u8]) -> Option<u16>
 fn year_date(text: &[u8]) -> Option<(u16, u8, u8)>
     ensures { Gives (λ x. x) result (spec.year_date_read text.now) }
 {
-    let (year, rest) = digits(text, 4)?;
+    let (year, rest) = number_of_width(text, 4)?;
     let rest = word(rest, b"-")?;
     let (month, date) = pair(rest, b"-")?;
     Some((year as u16, month, date))
@@ -112,25 +112,11 @@ fn year_date(text: &[u8]) -> Option<(u16, u8, u8)>
 fn pair(text: &[u8], between: &[u8]) -> Option<(u8, u8)>
     ensures { Gives (λ x. x) result (spec.pair_read between.now text.now) }
 {
-    let (first, rest) = digits(text, 2)?;
+    let (first, rest) = number_of_width(text, 2)?;
     let rest = word(rest, between)?;
-    let (second, rest) = digits(rest, 2)?;
+    let (second, rest) = number_of_width(rest, 2)?;
     if rest.is_empty() {
         return Some((first as u8, second as u8));
-    }
-    None
-}
-
-/// A number of so many digits, and what stands after it.
-#[tactic(auto, unfolding(crate::specs::Figure::digits_at))]
-fn digits(text: &[u8], width: usize) -> Option<(u64, &[u8])>
-    requires { width ≤ 12 }
-    ensures value { Gives (λ x. (x.0, x.1.now)) result (spec.digits_at width text.now) }
-    ensures small { IfSome result (λ x. x.0 < 10 ^ width) }
-{
-    let (number, rest) = number_at(text)?;
-    if text.len() == width + rest.len() {
-        return Some((number, rest));
     }
     None
 }

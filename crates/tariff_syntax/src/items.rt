@@ -16,7 +16,7 @@ use crate::words::{after_sign, after_word, is_over, is_text, word_first};
 use drive_modes::Rounding;
 use std::alloc::Global;
 
-/// What a line says, whose money has so many decimals.
+/// What a line says, whose money has `decimals` decimals.
 #[tactic(auto, unfolding(crate::specs::Items::item_read))]
 pub fn item(alloc: Global, decimals: u8, line: &[u8]) -> Result<Item, LineFault>
     requires { decimals ≤ 3 }

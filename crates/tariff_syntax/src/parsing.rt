@@ -48,7 +48,7 @@ pub enum ParseFault {
 ///
 /// `decimals` stands in the first filled line alone, with a number from 0 to 3, and is 2 without that
 /// line. Positions and zones are 1 to 9, a supplement's number 1 to 16, and how often it may be had 1 to
-/// 99. MONEY has at most so many decimals, TENTHS at most one, and both at most 10^12 units of the last.
+/// 99. MONEY has at most these decimals, TENTHS at most one, and both at most 10^12 units of the last.
 /// A condition is made of `position N`, `zone N`, `time HH:MM..HH:MM`, `day mon` or `day mon..sun`,
 /// `date MM-DD..MM-DD`, `holiday`, `after TENTHS m` and `after TENTHS s`, by `not`, `and`, `or` and
 /// parentheses; `not` binds closer than `and`, and `and` closer than `or`, and both join from the left. It

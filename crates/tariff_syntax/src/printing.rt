@@ -38,7 +38,7 @@ pub fn push_rounding(text: &mut Vec<u8>, rounding: Rounding) -> Result<(), Alloc
     }
 }
 
-/// An amount of money, or another number with so many decimals.
+/// An amount of money, or another number with `decimals` decimals.
 pub fn push_money(text: &mut Vec<u8>, units: u64, decimals: u8) -> Result<(), AllocError>
     requires { decimals ≤ 3 }
     ensures { OnOk result (text.new.items ≡ text.old.items ++ money_text decimals units) }

@@ -64,7 +64,7 @@ pub fn parentheses_are_needed()
 {}
 
 /// The law of places: the rate of a context is the one at which a condition holds or there is none, and
-/// before which no rate holds; there is none exactly where no rate holds. The same is so of the initial
+/// before which no rate holds; there is none exactly where no rate holds. The same holds for the initial
 /// hire fee and of the minimum fare at the hiring.
 pub fn first_lines_hold()
     ensures rate { (t : Tree) (x : Context) (place : Option ℕ)

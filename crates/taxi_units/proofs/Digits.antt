@@ -71,9 +71,9 @@ twelve_digits xs all few =
     let most : 10 ^ length xs ≤ 10 ^ 12 = pow-le-pow_right (omega arith) few in
     omega arith
 
--- a number that passes the largest is no beginning of one that doesn't
-pub stays_large : (n : ℕ) (xs : List ℕ) (i : ℕ) → i < length xs → digits_at_front (drop i xs) ≡ length (drop i xs) → 10 ^ 12 < n * 10 + (get_or xs i 0 - 48) → 10 ^ 12 < digits_value_after 10 n (drop i xs)
-stays_large n xs i h digits large =
+-- a number that has reached a limit stays there as digits follow it
+pub numbers_grow_by_their_digits : (limit n : ℕ) (xs : List ℕ) (i : ℕ) → i < length xs → digits_at_front (drop i xs) ≡ length (drop i xs) → limit ≤ n * 10 + (get_or xs i 0 - 48) → limit ≤ digits_value_after 10 n (drop i xs)
+numbers_grow_by_their_digits limit n xs i h digits large =
     let value = digit_value_is (get_or xs i 0) (digit_first xs i h digits) in
     rw (value_next n xs i h) (omega (arith, value, value_grows (n * 10 + digit_value (get_or xs i 0)) (drop (i + 1) xs)))
 

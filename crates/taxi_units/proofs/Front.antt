@@ -1,12 +1,13 @@
 -- A text, parted where its first digits end.
-use Rattle.std.proofs.Common.{◌≡◌, ◌≢◌, ◌⊎◌, inl, inr, ℕ, ◌<◌, ◌≤◌, true, false, List, [], ◌∷◌, ◌++◌, length, refl, ap, arith, Err, eqb}
+use Rattle.std.proofs.Common.{◌≡◌, ◌≢◌, ◌⊎◌, inl, inr, ℕ, ◌<◌, ◌≤◌, ◌↔◌, true, false, List, [], ◌∷◌, ◌++◌, length, take, drop, refl, ap, sym, ◌∙◌, subst, arith, Err, eqb, length-append}
 use Rattle.std.specs.Char.{is_ascii_digit, digit_value}
 use Rattle.std.specs.Str.Parse.{AllDigits}
 use Rattle.std.proofs.Math.Seq.{take-append_seam, drop-append_seam}
 use Rattle.std.proofs.lemmas.Bool.{ne_eqb, cases_lt}
+use Rattle.std.proofs.lemmas.List.{take-append-drop, length-take-le}
 use Rattle.std.proofs.lemmas.Bool.Decides.{nat_tests}
 use Rattle.taxi_units.specs.declared.decimal.NumberFault.TheVariants.{BadDigit}
-use Rattle.taxi_units.specs.Number.{NoDigitFirst, digits_at_front, parts_read, counted_parts_read, whole_read, decimal_read}
+use Rattle.taxi_units.specs.Number.{NoDigitFirst, HasDigitsInFront, digits_at_front, parts_read, counted_parts_read, whole_read, decimal_read}
 
 pub record Front (text : List ℕ) : Type 0 where
   pub digits : List ℕ
@@ -36,6 +37,23 @@ count_none (c ∷ cs) h = rw (test_of_other c h) refl
 pub count_front : (digits rest : List ℕ) → AllDigits 10 digits → NoDigitFirst rest → digits_at_front (digits ++ rest) ≡ length digits
 count_front [] rest all stops = count_none rest stops
 count_front (c ∷ cs) rest all stops = rw (test_of_digit c all.0) (omega (arith, count_front cs rest all.1 stops))
+
+-- a text has as many digits in front as are counted, and no other number of them
+has_first : (digits rest : List ℕ) → AllDigits 10 digits → NoDigitFirst rest → HasDigitsInFront (digits ++ rest) (digits_at_front (digits ++ rest))
+has_first digits rest all stops =
+    let count = count_front digits rest all stops in
+    let taken : take (digits_at_front (digits ++ rest)) (digits ++ rest) ≡ digits = rw count (take-append_seam digits rest) in
+    let dropped : drop (digits_at_front (digits ++ rest)) (digits ++ rest) ≡ rest = rw count (drop-append_seam digits rest) in
+    (omega (arith, count, length-append digits rest), subst (AllDigits 10) (sym taken) all, subst NoDigitFirst (sym dropped) stops)
+
+has_digits : (text : List ℕ) (f : Front text) → HasDigitsInFront text (digits_at_front text)
+has_digits text f = subst (λ (xs : List ℕ). HasDigitsInFront xs (digits_at_front xs)) (sym f.text_is) (has_first f.digits f.rest f.all f.stops)
+
+pub digits_are_counted : (text : List ℕ) (count : ℕ) → (digits_at_front text ≡ count) ↔ HasDigitsInFront text count
+digits_are_counted text count = (
+  λ e. subst (HasDigitsInFront text) e (has_digits text (front text)),
+  λ h. ap digits_at_front (sym (take-append-drop count text)) ∙ (count_front (take count text) (drop count text) h.1 h.2 ∙ length-take-le count text h.0),
+)
 
 -- the reader, at a text that is parted so
 pub read_front : (decimals c : ℕ) (cs rest : List ℕ) → AllDigits 10 (c ∷ cs) → NoDigitFirst rest → decimal_read decimals ((c ∷ cs) ++ rest) ≡ whole_read decimals (c ∷ cs) rest

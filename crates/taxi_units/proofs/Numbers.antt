@@ -1,11 +1,13 @@
 -- Numbers at the front of a text are read by their digits.
-use Rattle.std.proofs.Common.{◌≡◌, ◌⊎◌, inl, inr, ℕ, false, ◌^◌, ◌<◌, ◌≤◌, ◌↔◌, List, [], ◌∷◌, ◌++◌, length, refl, ap, sym, ◌∙◌, subst, arith, Some, None, eqb}
+use Rattle.std.proofs.Common.{◌≡◌, ◌⊎◌, inl, inr, ℕ, Bool, true, false, cond, ◌+◌, ◌^◌, ◌<◌, ◌≤◌, ◌↔◌, List, [], ◌∷◌, ◌++◌, length, refl, ap, sym, ◌∙◌, subst, arith, Option, Some, None, eqb, length-append}
 use Rattle.std.specs.Fmt.{decimal}
 use Rattle.std.specs.Str.Parse.{AllDigits, digits_value}
 use Rattle.std.proofs.Math.Seq.{take-append_seam, drop-append_seam}
-use Rattle.std.proofs.lemmas.Bool.{le-ltb, lt-ltb, ne_eqb, cases_lt}
+use Rattle.std.proofs.lemmas.Bool.{le-ltb, lt-ltb, ne_eqb, eq-eqb, eqb-true, cases_lt}
+use Rattle.std.proofs.lemmas.Int.Digits.{digits_value-lt}
 use Rattle.std.proofs.lemmas.Fmt.{decimal_is_IsNumeral_wide, length-decimal-le_wide}
-use Rattle.taxi_units.specs.Number.{NoDigitFirst, IsNumberAt, padded_text, number_of, number_at}
+use Rattle.taxi_units.specs.Number.{NoDigitFirst, IsNumberAt, IsNumberOfWidth, padded_text, number_of, number_at, number_of_width, where_wide}
+use Rattle.taxi_units.specs.Reading.{◌>>=◌}
 use Rattle.taxi_units.proofs.Front.{front, count_front}
 use Rattle.taxi_units.proofs.Written.{digits_of_padded, padded_within}
 
@@ -45,6 +47,40 @@ pub numbers_are_read_by_their_digits : (text rest : List ℕ) (value : ℕ) → 
 numbers_are_read_by_their_digits text rest value =
     let f = front text in
     ((λ e. subst (λ (t : List ℕ). IsNumberAt t value rest) (sym f.text_is) (number_sound f.digits f.rest rest value f.all f.stops (cases_lt _ _) (sym (number_front f.digits f.rest f.all f.stops) ∙ (ap number_at (sym f.text_is) ∙ e)))), number_complete text rest value)
+
+-- what a number and the bytes in front of its rest tell of its digits
+wide_digits : (width : ℕ) (text rest : List ℕ) (value : ℕ) → number_at text ≡ Some (value, rest) → length text ≡ width + length rest → IsNumberOfWidth width text value rest
+wide_digits width text rest value e wide =
+    let is = (numbers_are_read_by_their_digits text rest value).0 e in
+    (is.0, is.1, is.2, omega (arith, length-append is.0 rest, ap length is.1), is.4, is.5)
+
+-- a number of a width is below that power of ten
+pub wide_is_small : (text rest : List ℕ) (value width : ℕ) → number_at text ≡ Some (value, rest) → length text ≡ width + length rest → value < 10 ^ width
+wide_is_small text rest value width e wide =
+    let is = wide_digits width text rest value e wide in
+    let small : digits_value 10 is.0 < 10 ^ length is.0 = digits_value-lt 10 is.0 is.2.1 in
+    subst (λ (n : ℕ). value < 10 ^ n) is.3 (subst (λ (n : ℕ). n < 10 ^ length is.0) (sym is.4) small)
+
+wide_found : (b : Bool) (width : ℕ) (text : List ℕ) (found x : ℕ × List ℕ) → (b ≡ true → length text ≡ width + length found.1) → number_at text ≡ Some found → cond b (Some found) None ≡ Some x → IsNumberOfWidth width text x.0 x.1
+wide_found true width text found x wide read e =
+    let same = same_found found x e in
+    subst (λ (r : List ℕ). IsNumberOfWidth width text x.0 r) same.1 (subst (λ (n : ℕ). IsNumberOfWidth width text n found.1) same.0 (wide_digits width text found.1 found.0 read (wide refl)))
+wide_found false width text found x wide read e = absurd cc
+
+wide_sound : (width : ℕ) (text rest : List ℕ) (value : ℕ) (found : Option (ℕ × List ℕ)) → number_at text ≡ found → (found >>= where_wide width text) ≡ Some (value, rest) → IsNumberOfWidth width text value rest
+wide_sound width text rest value (Some x) read e = wide_found (eqb (length text) (width + length x.1)) width text x (value, rest) (eqb-true _ _) read e
+wide_sound width text rest value None read e = absurd cc
+
+wide_complete : (width : ℕ) (text rest : List ℕ) (value : ℕ) → width ≤ 12 → IsNumberOfWidth width text value rest → number_of_width width text ≡ Some (value, rest)
+unfolding number_of_width
+wide_complete width text rest value few h =
+    let read = number_complete text rest value (h.0, h.1, h.2, omega (arith, h.3, few), h.4, h.5) in
+    let wide : length text ≡ width + length rest = omega (arith, length-append h.0 rest, ap length h.1, h.3) in
+    rw (read, eq-eqb _ _ wide) refl
+
+pub wide_numbers_are_read_by_their_digits : (width : ℕ) (text rest : List ℕ) (value : ℕ) → width ≤ 12 → (number_of_width width text ≡ Some (value, rest)) ↔ IsNumberOfWidth width text value rest
+unfolding number_of_width
+wide_numbers_are_read_by_their_digits width text rest value few = (wide_sound width text rest value (number_at text) refl, wide_complete width text rest value few)
 
 pub numbers_read_back : (value : ℕ) (rest : List ℕ) → value < 10 ^ 12 → NoDigitFirst rest → number_at (decimal value ++ rest) ≡ Some (value, rest)
 numbers_read_back value rest small stops =

@@ -4,7 +4,7 @@ use Rattle.std.proofs.lemmas.Bool.{cases_lt, le-ltb, lt-ltb}
 use Rattle.std.proofs.lemmas.List.Sums.{sum_by-cons}
 use Rattle.taxi_units.specs.Calendar.{IsLeapYearDate, date_from, date_of_place, date_place, month_lengths}
 
--- the months from `month` on, which have these lengths, have this date, so many days after the first of `month`
+-- the months from `month` on, which have these lengths, have this date, `days` days after the first of `month`
 pub record IsFrom (month : ℕ) (lengths : List ℕ) (days : ℕ) (later date : ℕ) : Type 0 where
   pub months : ℕ
   pub later_is : later ≡ month + months
@@ -36,7 +36,7 @@ one_later month x xs days later date le h = record {
   days_are = omega (arith, h.days_are, sum-cons x (take h.months xs));
 }
 
--- the date that is found lies so many days later
+-- the date that is found lies the number of days later for which it was looked
 from_sound : (month : ℕ) (lengths : List ℕ) (days later date : ℕ) → date_from month lengths days ≡ Some (later, date) → IsFrom month lengths days later date
 from_sound month [] days later date e = absurd cc
 from_sound month (x ∷ xs) days later date e =

@@ -1,11 +1,12 @@
 -- Rules: the texts of numbers and amounts, and which number stands at the front of a text. NumberStages has how the
 -- code reads them.
-use Rattle.std.specs.Prelude.{◌≡◌, ℕ, zero, suc, ◌≤◌, ◌-◌, ◌/◌, ◌%◌, ◌^◌, List, [], ◌∷◌, ◌++◌, length, take, drop, replicate, if◌then◌else◌, nat_lt, ◌==◌, ◌||◌, Option, Some, None, ⊤}
+use Rattle.std.specs.Prelude.{◌≡◌, ℕ, zero, suc, ◌≤◌, ◌+◌, ◌-◌, ◌/◌, ◌%◌, ◌^◌, List, [], ◌∷◌, ◌++◌, length, take, drop, replicate, if◌then◌else◌, nat_lt, ◌==◌, ◌||◌, Option, Some, None, ⊤}
 use Rattle.std.specs.Fmt.{decimal}
 use Rattle.std.specs.Char.{digit_value}
-use Rattle.std.specs.Str.Parse.{IsNumeral, digits_value}
+use Rattle.std.specs.Str.Parse.{AllDigits, IsNumeral, digits_value}
 pub use Rattle.taxi_units.specs.Decimal.{units_of}
 pub use Rattle.taxi_units.specs.NumberStages.{digits_at_front, units_read, counted_parts_read, parts_read, whole_read, decimal_read}
+use Rattle.taxi_units.specs.Reading.{◌>>=◌}
 
 -- a number is padded with zeros in front up to a width, and is written whole where it is longer
 abbrev pub padded_text : ℕ → ℕ → List ℕ
@@ -26,6 +27,15 @@ number_of digits rest =
 unfoldable pub number_at : List ℕ → Option (ℕ × List ℕ)
 number_at bytes = number_of (take (digits_at_front bytes) bytes) (drop (digits_at_front bytes) bytes)
 
+-- a number that was found at the front of a text, with the rest after it, where exactly `width` bytes of the text stand
+-- before that rest
+abbrev pub where_wide : (width : ℕ) → (text : List ℕ) → ℕ × List ℕ → Option (ℕ × List ℕ)
+where_wide width text found = if length text == width + length found.1 then Some found else None
+
+-- the number that all digits at the front of a text make, where they are exactly `width`, and what stands after them
+unfoldable pub number_of_width : (width : ℕ) → List ℕ → Option (ℕ × List ℕ)
+number_of_width width text = number_at text >>= where_wide width text
+
 -- a text begins with no digit where it is empty or its first byte is no digit
 abbrev pub NoDigitFirst : List ℕ → Type 0
 NoDigitFirst [] = ⊤
@@ -37,3 +47,16 @@ abbrev pub IsNumberAt : List ℕ → ℕ → List ℕ → Type 0
 IsNumberAt text value rest =
     (digits : List ℕ) × (text ≡ digits ++ rest) × IsNumeral 10 digits × (length digits ≤ 12)
     × (value ≡ digits_value 10 digits) × NoDigitFirst rest
+
+-- a text begins with a number of a width where it begins with exactly `width` digits that have this value, and the rest
+-- after them doesn't begin with a digit
+abbrev pub IsNumberOfWidth : (width : ℕ) → List ℕ → ℕ → List ℕ → Type 0
+IsNumberOfWidth width text value rest =
+    (digits : List ℕ) × (text ≡ digits ++ rest) × IsNumeral 10 digits × (length digits ≡ width)
+    × (value ≡ digits_value 10 digits) × NoDigitFirst rest
+
+-- a text has `count` digits at its front where its first `count` bytes are digits, and what stands after them doesn't
+-- begin with a digit
+abbrev pub HasDigitsInFront : List ℕ → (count : ℕ) → Type 0
+HasDigitsInFront text count =
+    (count ≤ length text) × AllDigits 10 (take count text) × NoDigitFirst (drop count text)

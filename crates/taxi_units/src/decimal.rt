@@ -1,5 +1,5 @@
 //! Numbers that are read: whole texts of decimals, and numbers at the front of a text.
-ghost use Rattle.std.specs.Prelude.{◌≡◌, ◌+◌, ◌*◌, ◌^◌, ◌<◌, ◌≤◌, length, MatchOption};
+ghost use Rattle.std.specs.Prelude.{◌≡◌, ◌+◌, ◌*◌, ◌^◌, ◌<◌, ◌≤◌, length, IfSome, MatchOption};
 ghost use Rattle.std.specs.Char.{is_ascii_digit};
 ghost use Rattle.std.specs.List.{prefix_len};
 ghost use Rattle.std.specs.Str.Parse.{digits_value_after};
@@ -24,7 +24,7 @@ pub enum NumberFault {
 const LARGEST: u64 = 1_000_000_000_000;
 
 /// Reads one or more digits, and perhaps a point and one or more digits, as an amount in units of
-/// the last of so many decimals: with two decimals, `0.2` is 20.
+/// the last of `decimals` decimals: with two decimals, `0.2` is 20.
 ///
 /// `Empty` where the text is empty, `BadDigit` where it breaks this form, `TooManyDecimals` where the
 /// form is good and it has more decimals than that, `TooBig` where neither holds and the amount passes
@@ -62,13 +62,32 @@ pub fn number_at(bytes: &[u8]) -> Option<(u64, &[u8])>
     Some((number, rest))
 }
 
-/// How many digits stand at the front.
-fn count_digits(text: &[u8]) -> usize
-    ensures count { result ≡ digits_at_front text.now }
-    ensures within { result ≤ length text.now }
+/// A number of exactly `width` digits at the front of the bytes, and what stands after it. All digits at
+/// the front belong to it, leading zeros too, so the number is below 10^width.
+///
+/// `None` where fewer or more than `width` digits stand at the front, and where `width` is 0.
+/// `numbers_are_read_by_their_digits` says what each answer means.
+#[tactic(auto, unfolding(crate::specs::Number::number_of_width))]
+pub fn number_of_width(bytes: &[u8], width: usize) -> Option<(u64, &[u8])>
+    requires { width ≤ 12 }
+    ensures value { Gives (λ x. (x.0, x.1.now)) result (spec.number_of_width width bytes.now) }
+    ensures small { IfSome result (λ x. x.0 < 10 ^ width) }
+{
+    let (number, rest) = number_at(bytes)?;
+    if bytes.len() == width + rest.len() {
+        return Some((number, rest));
+    }
+    None
+}
+
+/// How many digits, `0` to `9`, stand at the front of the bytes: 0 up to all of them.
+/// `digits_are_counted` says which count that is.
+pub fn count_digits(bytes: &[u8]) -> usize
+    ensures count { result ≡ digits_at_front bytes.now }
+    ensures within { result ≤ length bytes.now }
 {
     let mut count = 0;
-    for byte in text {
+    for byte in bytes {
         if !byte.is_ascii_digit() {
             return count;
         }
@@ -131,7 +150,7 @@ fn read_units(whole: &[u8], parts: &[u8], decimals: u8) -> Result<u64, NumberFau
     }
 }
 
-/// A number with so many zeros behind it, where it doesn't pass the largest.
+/// A number with `zeros` zeros behind it, where it doesn't pass the largest.
 #[tactic(auto, using(crate::proofs::Digits::one_zero_more, crate::proofs::Digits::large_with_zeros))]
 fn scaled(number: u64, zeros: usize) -> Option<u64>
     requires { number ≤ 10 ^ 12 }

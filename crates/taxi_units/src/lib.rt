@@ -18,7 +18,7 @@ pub use calendar::{
     date_of_place, date_place, dates_go_by_their_places, days_of_month, is_date, is_leap_year,
 };
 pub use counted::{AtMost, Counted, Keyed, each_step_halves};
-pub use decimal::{NumberFault, number_at, read_decimal};
+pub use decimal::{NumberFault, count_digits, number_at, number_of_width, read_decimal};
 pub use event::{Event, Key, Operating, Why};
 pub use line::{Line, LineFull, put_bytes, put_money, put_number, put_padded};
 pub use push::{push_bytes, push_money, push_number};
@@ -27,8 +27,9 @@ pub use receipt::{Display, Kind, Receipt, Stamp};
 pub use steps::Steps;
 pub use texts::{
     amounts_are_written_by_their_digits, amounts_read_back, decimals_are_read_by_their_form,
-    numbers_are_read_by_their_digits, numbers_are_written_by_their_digits, numbers_read_back,
-    texts_of_numbers_are_short, words_are_read_by_their_text,
+    digits_are_counted, numbers_are_read_by_their_digits, numbers_are_written_by_their_digits,
+    numbers_grow_by_their_digits, numbers_read_back, texts_of_numbers_are_short,
+    words_are_read_by_their_text,
 };
 pub use time::{FIRST_SECOND, LAST_SECOND, LONGEST_TRIP};
 

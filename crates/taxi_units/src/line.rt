@@ -59,7 +59,7 @@ pub fn put_padded(line: &mut Line, value: u64, width: u8) -> Result<(), LineFull
 }
 
 /// Appends an amount of money, counted in units of the last of its 0 to 3 decimals: one or more
-/// digits, and where it has decimals a point and so many digits. The form is this project's own.
+/// digits, and where it has decimals a point and that number of digits. The form is this project's own.
 ///
 /// `LineFull` where it doesn't fit; the line is then unchanged.
 #[tactic(auto, using(crate::proofs::Written::amounts_are_short))]

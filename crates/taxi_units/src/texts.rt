@@ -1,9 +1,10 @@
 //! What the texts of numbers and words mean, in words that share nothing with how they are read and
 //! written: the laws of this crate on texts.
-ghost use Rattle.std.specs.Prelude.{◌≡◌, ℕ, ◌+◌, ◌<◌, ◌≤◌, ◌^◌, ◌++◌, ◌↔◌, List, length, max, Result, Ok, Some};
+ghost use Rattle.std.specs.Prelude.{◌≡◌, ℕ, ◌+◌, ◌-◌, ◌*◌, ◌<◌, ◌≤◌, ◌^◌, ◌++◌, ◌↔◌, List, length, take, drop, get_or, max, Result, Ok, Some};
 ghost use Rattle.std.specs.Fmt.{decimal};
+ghost use Rattle.std.specs.Str.Parse.{digits_value_after};
 ghost use Rattle.taxi_units.specs.declared.decimal.NumberFault.{NumberFault};
-ghost use Rattle.taxi_units.specs.Number.{NoDigitFirst, IsNumberAt, padded_text, money_text, decimal_read, number_at};
+ghost use Rattle.taxi_units.specs.Number.{NoDigitFirst, HasDigitsInFront, IsNumberAt, IsNumberOfWidth, padded_text, money_text, decimal_read, digits_at_front, number_at, number_of_width};
 ghost use Rattle.taxi_units.specs.Decimal.{IsReadAs};
 ghost use Rattle.taxi_units.specs.Reading.{word_at};
 ghost use Rattle.taxi_units.specs.Written.{IsNumberText, IsPaddedText, IsAmountText};
@@ -20,9 +21,29 @@ pub fn decimals_are_read_by_their_form()
         → (decimal_read decimals text ≡ answer) ↔ IsReadAs decimals text answer }
 {}
 
-/// A number at the front of a text is all of its first digits, where they are 1 to 12.
+/// A number at the front of a text is all of its first digits, where they are 1 to 12, or where they
+/// are exactly as many as a width.
 pub fn numbers_are_read_by_their_digits()
-    ensures { (text rest : List ℕ) (value : ℕ) → (number_at text ≡ Some (value, rest)) ↔ IsNumberAt text value rest }
+    ensures plain { (text rest : List ℕ) (value : ℕ)
+        → (number_at text ≡ Some (value, rest)) ↔ IsNumberAt text value rest }
+    ensures wide { (width : ℕ) (text rest : List ℕ) (value : ℕ) → width ≤ 12
+        → (number_of_width width text ≡ Some (value, rest)) ↔ IsNumberOfWidth width text value rest }
+{}
+
+/// The digits at the front of a text are counted up to the first byte that is none, and those that were
+/// counted are digits alone.
+pub fn digits_are_counted()
+    ensures count { (text : List ℕ) (count : ℕ) → (digits_at_front text ≡ count) ↔ HasDigitsInFront text count }
+    ensures alone { (text : List ℕ)
+        → digits_at_front (take (digits_at_front text) text) ≡ length (take (digits_at_front text) text) }
+{}
+
+/// A number that has reached a limit with one more of its digits doesn't fall below it with the digits
+/// that follow.
+pub fn numbers_grow_by_their_digits()
+    ensures { (limit start : ℕ) (digits : List ℕ) (place : ℕ) → place < length digits
+        → digits_at_front (drop place digits) ≡ length (drop place digits)
+        → limit ≤ start * 10 + (get_or digits place 0 - 48) → limit ≤ digits_value_after 10 start (drop place digits) }
 {}
 
 /// What is written as a number below 10^12, with zeros in front up to 12 digits or without, is read
@@ -47,8 +68,8 @@ pub fn numbers_are_written_by_their_digits()
         → (padded_text width value ≡ text) ↔ IsPaddedText width value text }
 {}
 
-/// An amount's text is the one that has its digits, exactly so many of them after the point, and
-/// before it no zero in front but a single one.
+/// An amount's text is the one that has its digits, with the given number of decimals after the point,
+/// and before it no zero in front but a single one.
 pub fn amounts_are_written_by_their_digits()
     ensures { (decimals units : ℕ) (text : List ℕ) → units < 2 ^ 128
         → (money_text decimals units ≡ text) ↔ IsAmountText decimals units text }

@@ -1,4 +1,4 @@
-use super::{NumberFault, number_at, read_decimal};
+use super::{NumberFault, count_digits, number_at, number_of_width, read_decimal};
 
 #[test]
 fn reads_decimals(rt: HostRuntime) {
@@ -35,5 +35,40 @@ fn reads_numbers_in_front(rt: HostRuntime) {
     ] {
         let want = want.map(|(value, rest)| (value, rest.as_bytes()));
         assert_eq!(rt; number_at(text.as_bytes()), want, "{text}");
+    }
+}
+
+#[test]
+fn reads_numbers_of_a_width(rt: HostRuntime) {
+    for (text, width, want) in [
+        ("", 2, None),
+        ("7-", 2, None),
+        ("07-", 2, Some((7, "-"))),
+        ("007-", 2, None),
+        ("2026", 4, Some((2026, ""))),
+        ("999999999999", 12, Some((999_999_999_999, ""))),
+        ("x", 0, None),
+    ] {
+        let want = want.map(|(value, rest)| (value, rest.as_bytes()));
+        assert_eq!(rt;
+            number_of_width(text.as_bytes(), width),
+            want,
+            "{text} in {width}"
+        );
+    }
+}
+
+#[test]
+fn counts_digits(rt: HostRuntime) {
+    for (text, want) in [
+        ("", 0),
+        ("x12", 0),
+        ("12x3", 2),
+        ("0099", 4),
+        ("1 2", 1),
+        ("/0:", 0),
+        ("09:", 2),
+    ] {
+        assert_eq!(rt; count_digits(text.as_bytes()), want, "{text}");
     }
 }

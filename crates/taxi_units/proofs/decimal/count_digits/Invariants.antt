@@ -5,5 +5,5 @@ use Rattle.taxi_units.proofs.decimal.count_digits.Given as goal
 abbrev pub invariant-loop-byte : goal.invariant-loop-byte
 invariant-loop-byte l = record {
   index : l.count ≡ l.byte-index;
-  digits : digits_at_front l.text ≡ l.count + digits_at_front (drop l.byte-index l.text);
+  digits : digits_at_front l.bytes ≡ l.count + digits_at_front (drop l.byte-index l.bytes);
 }
