@@ -20,7 +20,7 @@ pub struct Weights {
     pub per_tick: u128,
 }
 
-/// The charge of a measuring interval that counted so many pulses, at most 2,000, in units of charge.
+/// The charge of a measuring interval that counted `pulses` pulses, at most 2,000, in units of charge.
 /// That each interval is charged by its own speed, and by the distance at the cross-over speed itself,
 /// is this project's own rule.
 pub fn charge(mode: Mode, weights: Weights, pulses: u32) -> u128

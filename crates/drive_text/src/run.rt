@@ -1,7 +1,7 @@
 //! The events of a line, counted.
 use taxi_units::Event;
 
-/// What a line of a drive gives: one event, or so many measuring intervals. Each interval is its
+/// What a line of a drive gives: one event, or a row of measuring intervals. Each interval is its
 /// pulses and then its end, and the end alone where it has no pulses.
 ///
 /// What the reader gives is in the ranges of a drive: seconds are 946,684,800 to 7,258,118,399,

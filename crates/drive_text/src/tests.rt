@@ -124,7 +124,7 @@ fn bad_lines(rt: HostRuntime) {
     }
 }
 
-/// A byte, then `x` up to so many bytes, and then some more.
+/// A byte, then `x` up to `count` bytes, and then `end`.
 fn long_line(first: u8, count: usize, end: &[u8]) -> ArrayVec<u8, 600> {
     let mut text = ArrayVec::new();
     for at in 0..count {

@@ -37,7 +37,7 @@ number_there d year month date from e f g = rw (← f, ← g) (epoch_day_is_numb
 pub date_there : (d : Date) (day : ℤ) (year month date : ℕ) → day ≡ epoch_day d → d.year ≡ pos year → d.month ≡ month → d.day ≡ date → IsDateOf day year month date
 date_there d day year month date same e f g = rw (same, ← f, ← g) (epoch_day_is_date d year e)
 
--- the whole hours of so many days
+-- the whole hours of n days
 hours_of_days : (n : ℕ) → int_div (pos n *ℤ pos 86400000000000) (pos 3600000000000) ≡ pos (n * 24)
 hours_of_days n =
     let hours : n * 86400000000000 / 3600000000000 ≡ n * 24 = omega arith in

@@ -16,7 +16,7 @@ use Rattle.offset_rules.proofs.Listed.{all_years, so_far}
 use Rattle.offset_rules.proofs.TwoChanges.{earlier_change, later_one, same_later, two}
 use Rattle.offset_rules.proofs.YearDays.{first_is_date}
 
--- the changes of so many years from one on
+-- the changes of `count` years from `year` on
 abbrev pub years : Rule → (year count : ℕ) → List (ℕ × ℤ)
 years rule year count = flat_map (changes_of_year rule) (range_with_len year count)
 

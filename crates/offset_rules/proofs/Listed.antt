@@ -11,7 +11,7 @@ use Rattle.offset_rules.specs.Pairs.{changes_of_year, is_later, pairs_of}
 use Rattle.offset_rules.specs.Rule.{Rule}
 use Rattle.offset_rules.specs.Summer.{first_second_of, offset_by}
 
--- the list with the changes of so many years
+-- the list with the changes of `count` years from `from` on
 abbrev pub so_far : Rule → (from count : ℕ) → List (ℕ × ℤ)
 so_far rule from count =
     (first_second, offset_by rule (first_second_of from)) ∷ filter is_later (flat_map (changes_of_year rule) (range_with_len from count))

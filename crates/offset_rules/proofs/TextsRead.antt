@@ -52,7 +52,7 @@ change_lacking name text lacks = by (change_line_at name text) refl
     by None e = e
     by (Some x) e = absurd (lacks x.1 (change_stands name text x e))
 
--- ---- what is answered is so
+-- ---- what is answered, the text says
 
 -- the first of the four lines up to a rest
 record Front (text : List ℕ) (rule : Rule) (rest : List ℕ) : Type 0 where
@@ -137,7 +137,7 @@ rules_are text = by (ltb 4096 (length text)) refl
     by true e = ltb-true 4096 (length text) e
     by false e = lines_are text (ltb-false 4096 (length text) e)
 
--- ---- and what is so is answered
+-- ---- and what the text says is answered
 
 short : (text : List ℕ) → length text ≤ 4096 → rules_read text ≡ lines_read text
 unfolding rules_read

@@ -9,7 +9,7 @@ use crate::names::{month, number, weekday};
 use crate::rules::Change;
 use taxi_units::{number_at, word};
 
-/// A number of so few to so many digits that is no greater than this.
+/// A number of `fewest` to `widest` digits that is at most `greatest`.
 #[tactic(auto, unfolding(crate::specs::Reading::figure_at))]
 fn figure(text: &[u8], fewest: usize, widest: usize, greatest: u64) -> Option<(u64, &[u8])>
     requires fewest { fewest ≤ 12 }

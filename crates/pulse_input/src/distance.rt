@@ -20,8 +20,8 @@ pub fn reached(k: Constant, p: u64, dm: u64) -> bool
 }
 
 /// A law: with k pulses to a kilometre, which is 1,000,000 mm, the distance of p pulses is the most
-/// whole millimetres for which they are enough; and they have reached so many decimetres exactly
-/// where that distance has as many hundreds of millimetres.
+/// whole millimetres for which they are enough; and they have reached dm decimetres exactly where that
+/// distance has dm hundreds of millimetres.
 pub fn distances_are_whole_millimetres()
     ensures most { (k p n : ℕ) → 0 < k → (n ≤ millimetres_of k p) ↔ (n * k ≤ 1000000 * p) }
     ensures reached { (k p dm : ℕ) → 0 < k → HasReached k p dm ↔ (100 * dm ≤ millimetres_of k p) }

@@ -1,4 +1,4 @@
--- The first line that is so.
+-- The first line that meets a test.
 use Rattle.std.proofs.Common.{◌≡◌, ◌⊎◌, inl, inr, ◌↔◌, ℕ, suc, ◌<◌, ◌≤◌, Bool, true, false, cond, List, [], ◌∷◌, ◌++◌, Option, Some, None, All, refl, ap, sym, ◌∙◌, subst, append_assoc, length, length-append, get_or, arith}
 use Rattle.std.proofs.lemmas.List.Elements.{All-nil, All-cons}
 use Rattle.tariff_syntax.specs.Reads.{RiseInNumber}
@@ -14,14 +14,14 @@ pub passed_by : (b : Bool) (line : ℕ) (rest : Option ℕ) → cond b (Some lin
 passed_by true line rest h = absurd cc
 passed_by false line rest h = (refl, h)
 
--- where no line is so, none is, whatever stands before it
+-- where no line is found, none meets the test, whatever stands before it
 pub never : (test : LineTest) (so : Entry → Bool) → ((before : List Line) (x : Entry) → test before x ≡ false → so x ≡ false) → (before ls : List Line) → first_after test before ls ≡ None → All (λ (l : Line). so l.entry ≡ false) ls
 never test so tells before [] h = All-nil (λ (l : Line). so l.entry ≡ false)
 never test so tells before (l ∷ ls) h =
     let here = passed_by (test before l.entry) l.line (first_after test (before ++ l ∷ []) ls) h in
     All-cons (λ (m : Line). so m.entry ≡ false) l ls (tells before l.entry here.0) (never test so tells (before ++ l ∷ []) ls here.1)
 
--- a line is the first that is so among some lines, after the lines before them
+-- a line is the first among some lines that meets the test, after the lines before them
 pub record IsFirstAfter (test : LineTest) (front ls : List Line) (number : ℕ) : Type 0 where
   pub before : List Line
   pub line : Line
@@ -91,7 +91,7 @@ first_after_is test front ls number (l ∷ before) line after split named so non
     (λ (xs ys : List Line) (m : Line) (e : before ≡ xs ++ m ∷ ys). subst (λ (ks : List Line). test ks m.entry ≡ false) (sym (append_assoc front (l ∷ []) xs)) (none (l ∷ xs) ys m (ap (λ (ks : List Line). l ∷ ks) e))) in
     rw (split, first) rest
 
--- where none is found, no line is so
+-- where none is found, no line meets the test
 nowhere_after : (test : LineTest) (front ls : List Line) → first_after test front ls ≡ None → (xs ys : List Line) (m : Line) → ls ≡ xs ++ m ∷ ys → test (front ++ xs) m.entry ≡ false
 nowhere_after test front [] none xs ys m e = no_split xs ys m e
 nowhere_after test front (l ∷ ls) none xs ys m e =
@@ -112,7 +112,7 @@ nowhere_is test lines = (
   λ (h : IsNowhere test lines). none_after test [] lines h,
 )
 
--- the number that is found is that of the first line that is so
+-- the number that is found is that of the first line that meets the test
 pub first_line_is : (test : LineTest) (lines : List Line) (number : ℕ) → (first_line test lines ≡ Some number) ↔ IsFirstLine test lines number
 first_line_is test lines number = (
   λ (h : first_line test lines ≡ Some number). let f = is_first_after test [] lines number h in record {
@@ -141,7 +141,7 @@ rise_here l ls before after line rising split =
 rise_rest : (l : Line) (ls : List Line) → RiseInNumber (l ∷ ls) → RiseInNumber ls
 rise_rest l ls rising = λ i j d lt within. rising (suc i) (suc j) d (omega arith) (omega arith)
 
--- so no line that is so has a smaller number
+-- no line that meets the test has a smaller number
 smallest_after : (test : LineTest) (front ls : List Line) (number : ℕ) → RiseInNumber ls → first_after test front ls ≡ Some number
     → (before after : List Line) (line : Line) → ls ≡ before ++ line ∷ after → test (front ++ before) line.entry ≡ true → number ≤ line.line
 smallest_after test front [] number rising h before after line split so = absurd cc

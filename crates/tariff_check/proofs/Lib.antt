@@ -6,7 +6,7 @@ mod CutLaws
 mod CutOrder
 -- some line always holds
 mod DefaultLines
--- the first line that is so
+-- the first line that meets a test
 mod FirstLine
 -- the laws that the crates above may cite
 pub mod Laws

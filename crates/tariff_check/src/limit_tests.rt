@@ -15,7 +15,7 @@ fn cells_of(alloc: Global, text: &str) -> Result<u64, CheckFault> {
     }
 }
 
-/// A condition that cuts a dimension so many times.
+/// A condition that cuts a dimension `count` times.
 fn cuts_of(alloc: Global, dimension: Dimension, count: u8) -> Result<String, Fail> {
     match dimension {
         Dimension::MonthDay => dates(alloc, count),

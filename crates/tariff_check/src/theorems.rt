@@ -14,9 +14,9 @@ ghost use Rattle.tariff_syntax.specs.Tree.{Tree, Line};
 ghost use Rattle.tariff_syntax.specs.Writable.{IsFromTo, IsWritable};
 ghost use Rattle.tariff_syntax.specs.declared.context.Context.{Context};
 
-/// The law of the faults of lines: the number that is named is that of the first line that is so, and none
-/// is named exactly where no line is so. Where numbers rise, as those of a text do, no line that is so has
-/// a smaller one.
+/// The law of the faults of lines: the number that is named is that of the first line that meets the test, and
+/// none is named exactly where no line meets it. Where numbers rise, as those of a text do, no line that meets
+/// it has a smaller one.
 pub fn faults_name_the_first_line()
     ensures named { (test : LineTest) (lines : List Line) (number : ℕ)
         → (first_line test lines ≡ Some number) ↔ IsFirstLine test lines number }

@@ -153,7 +153,7 @@ rate_by t k x = get_or (all_weights t k) (unwrap_or (rate_place t x) 0) (record 
 abbrev pub initial_with : Fee → (minimum : ℕ) → Initial
 initial_with fee minimum = record { amount = fee.amount; covers = fee.covers; minimum = minimum }
 
--- a context has the initial hire fee and the minimum fare that hold first at its hiring, and 0 where no minimum fare does
+-- a context has the initial hire fee and the minimum fare that hold first at its hiring; without a minimum fare, 0
 abbrev pub initial_by : Tree → Context → Initial
 initial_by t x =
     initial_with (get_or (all_initials t) (unwrap_or (initial_place t x) 0) (record { amount = 0; covers = 0 }))

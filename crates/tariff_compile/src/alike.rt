@@ -76,7 +76,7 @@ impl Alike {
     }
 }
 
-/// Whether both are so.
+/// Whether both are true.
 fn and(one: bool, other: bool) -> bool
     ensures { result ≡ (one && other) }
 {

@@ -7,8 +7,8 @@ use crate::parts::Bands;
 use tariff_calendar::Cuts;
 use tariff_check::Dimension;
 
-/// How many numbers each dimension has, where there are so many positions and zones, and these cuts. Days
-/// are of two kinds where there is a holiday.
+/// How many numbers each dimension has, under a tariff's positions, zones and cuts. Days are of two kinds
+/// where there is a holiday.
 pub(crate) fn sizes_of(positions: u8, zones: u8, cuts: &Cuts) -> Bands
     ensures { result ≡ sizes_of positions zones (if has_days cuts.now then 2 else 1) cuts.now }
 {
@@ -40,7 +40,7 @@ pub(crate) fn cell_number(sizes: &Bands, bands: &Bands) -> usize
     and_digit(distances, sizes.time, bands.time)
 }
 
-/// A number and one digit more, of a dimension that has so many.
+/// A number and one digit more, of a dimension that has `size` numbers.
 fn and_digit(number: usize, size: usize, digit: usize) -> usize
     requires { number * size + digit < 2 ^ 32 }
     ensures { result ≡ number * size + digit }

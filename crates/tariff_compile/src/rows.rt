@@ -30,7 +30,7 @@ pub(crate) fn rate_row(row: &mut Line, number: u64, weights: Weights) -> Result<
     put_bytes(row, b"\n")
 }
 
-/// The row of an initial hire fee, by its number from 1, with so many decimals of money.
+/// The row of an initial hire fee, by its number from 1, with `decimals` decimals of money.
 pub(crate) fn initial_row(
     row: &mut Line,
     decimals: u8,
@@ -48,7 +48,7 @@ pub(crate) fn initial_row(
     put_bytes(row, b"\n")
 }
 
-/// The row of a minimum fare, by its number from 1, with so many decimals of money.
+/// The row of a minimum fare, by its number from 1, with `decimals` decimals of money.
 pub(crate) fn minimum_row(
     row: &mut Line,
     decimals: u8,

@@ -8,7 +8,7 @@ use std::test::Fail;
 use tariff_check::check;
 use tariff_syntax::{parse, texts_have_their_numbers};
 
-/// The lists of a text's tariff under so many pulses a kilometre. `None` where it isn't sound.
+/// The lists of a text's tariff under `k` pulses a kilometre. `None` where it isn't sound.
 fn collected(alloc: Global, text: &str, k: u32) -> Option<Cuts> {
     let tariff = parse(alloc, text.as_bytes()).ok()?;
     texts_have_their_numbers();

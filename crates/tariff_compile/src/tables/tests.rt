@@ -11,7 +11,7 @@ use std::test::Fail;
 use tariff_check::{Dimension, check};
 use tariff_syntax::{parse, texts_have_their_numbers};
 
-/// The tables of a text's tariff under so many pulses a kilometre. `None` where there are none.
+/// The tables of a text's tariff under `k` pulses a kilometre. `None` where there are none.
 fn compiled(alloc: Global, text: &str, k: u32) -> Option<Tables> {
     let tariff = parse(alloc, text.as_bytes()).ok()?;
     texts_have_their_numbers();
