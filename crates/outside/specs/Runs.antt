@@ -1,31 +1,33 @@
--- What a run of calls leaves of a board, over the meanings of the board as a whole.
+-- Rules: what a run of calls leaves of a board, over the meanings of the board as a whole.
 use Rattle.std.specs.Prelude.{◌≡◌, ◌⊎◌, ℕ, ◌≤◌, List}
 use Rattle.outside.specs.declared.board.Board.{Ghosts}
 use Rattle.outside.specs.Disk.{AreBytes, Elapses, MayLeave, MayLeaveAmid, SameBut}
 
--- a cut may leave this image: any bytes in flight, and all others as a read gives them
+-- a store may hold an image after a cut where it has any bytes at the places in flight and all others as a read gives
+-- them
 pub record MayHold (image : List ℕ) (in_flight : ℕ → Type 0) (left_image : List ℕ) : Type 0 where
   pub bytes : SameBut in_flight image left_image
   pub small : AreBytes left_image
 
 module _ {D L : Type 0} (B : Ghosts D L) where
-  -- nothing is in flight, so a cut leaves what a read gives
+  -- a board is settled where no place is in flight, so that a cut leaves what a read gives
   abbrev pub IsSettled : D → Type 0
   IsSettled board = (place : ℕ) → ¬ B.in_flight board place
 
-  -- whatever a cut at any moment since the old state might have left is of this kind
+  -- a run leaves only a kind of image and text where whatever a cut at any moment since its beginning might have left
+  -- is of that kind, and a cut since an earlier moment might have left beside that only what it might have left before
+  -- the run
   pub record LeavesOnly (old new : D) (kind : List ℕ → List ℕ → Type 0) : Type 0 where
     pub later : B.moment old ≤ B.moment new
     pub each : (left_image left_text : List ℕ) → B.left_since new (B.moment old) left_image left_text
         → kind left_image left_text
-    -- the same for a run that began earlier
     pub before : (start : ℕ) (left_image left_text : List ℕ) → start ≤ B.moment old
         → B.left_since new start left_image left_text → B.left_since old start left_image left_text
         ⊎ kind left_image left_text
 
-  -- the store holds what it held, and nothing more is in flight; a cut at a moment since any earlier one might have
-  -- left
-  -- what it might have left before, or an image that it might have left at the old state
+  -- a run keeps the store where a read gives what it gave, nothing more is in flight, and a cut since any earlier
+  -- moment might have left only what it might have left before, or an image that it might have left of the board before
+  -- the run
   pub record KeepsStore (old new : D) : Type 0 where
     pub same : B.image new ≡ B.image old
     pub flight : (place : ℕ) → B.in_flight new place → B.in_flight old place
@@ -34,12 +36,14 @@ module _ {D L : Type 0} (B : Ghosts D L) where
         → B.left_since new start left_image left_text → B.left_since old start left_image left_text
         ⊎ MayHold (B.image old) (B.in_flight old) left_image
 
-  -- a print of this piece took the time between these states
+  -- a print of a piece takes the time between two states where a cut in it might leave only a beginning of the piece
+  -- more
   abbrev pub PrintTakes : D → D → List ℕ → Type 0
   PrintTakes old new piece = Elapses (B.moment old) (B.moment new) (B.left_since old) (B.left_since new)
       (MayLeaveAmid (B.image new) (B.in_flight new) (B.printed old) piece)
 
-  -- at this moment a cut leaves only what it may leave of the board as it is
+  -- a board leaves what it holds now where a cut at its moment might have left only what it may leave of the board as
+  -- it is
   abbrev pub LeavesNow : D → Type 0
   LeavesNow board = (left_image left_text : List ℕ) → B.left_since board (B.moment board) left_image left_text
       → MayLeave (B.image board) (B.in_flight board) (B.printed board) left_image left_text

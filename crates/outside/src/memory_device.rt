@@ -85,7 +85,36 @@ impl<const N: usize> MemoryDevice<N> {
             → result ≡ (held_inside self.now.state call).image }
         ensures zero { call ≡ 0 → result ≡ self.now.state.start }
     {
-        self.state.cut(call, fill)
+        let mut image = [0; N];
+        let mut settled = [0; N];
+        let mut left = [0; N];
+        self.state
+            .cut_into(call, fill, &mut image, &mut settled, &mut left);
+        left
+    }
+
+    /// Puts into `left` the image that `cut` answers, for a store too large for the stack. `image` and
+    /// `settled` are room of the store's size.
+    pub fn cut_into(
+        &self,
+        call: u64,
+        fill: Fill,
+        image: &mut [u8],
+        settled: &mut [u8],
+        left: &mut [u8],
+    )
+        requires call { call ≤ length self.now.state.calls }
+        requires image { length image.old ≡ N }
+        requires settled { length settled.old ≡ N }
+        requires left { length left.old ≡ N }
+        ensures left { left_since_of self.now.state 0 left.new (held_inside self.now.state call).text }
+        ensures inside { SameBut (IsInSome (held_inside self.now.state call).ranges)
+            (held_inside self.now.state call).image left.new }
+        ensures settled { (held_inside self.now.state call).ranges ≡ []
+            → left.new ≡ (held_inside self.now.state call).image }
+        ensures zero { call ≡ 0 → left.new ≡ self.now.state.start }
+    {
+        self.state.cut_into(call, fill, image, settled, left);
     }
 
     /// Reads a piece of 1 to 512 bytes into the whole of `buf`. A call that is kept fails exactly by its

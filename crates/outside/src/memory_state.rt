@@ -1,15 +1,16 @@
 //! What a board in memory keeps.
 ghost use Rattle.std.specs.Prelude.{◌≡◌, ◌⊎◌, ◌↔◌, ℕ, ◌+◌, ◌^◌, ◌≤◌, ◌++◌, List, [], ◌∷◌, length, take, drop, true, Contains, IfOk, OnOk, OnErr};
 ghost use Rattle.std.specs.List.{All};
-ghost use Rattle.outside.specs.Calls.{Contents, Read, Write, Sync, Print, IsInSome, IsInStore, after, after_all, call_end};
+ghost use Rattle.outside.specs.Calls.{Contents, Read, Write, Sync, Print, IsInSome, after, after_all};
 ghost use Rattle.outside.specs.Disk.{IsImage, SameBut};
 ghost use Rattle.outside.specs.MemoryBoard.{IsDone, IsUndone, held_inside, new_board, image_of, left_since_of, refused_on, text_of};
+ghost use Rattle.outside.specs.Replays.{IsInStore, call_end};
 ghost use Rattle.outside.specs.Requests.{call_of};
 
 use crate::fault::Failed;
 use crate::image::known;
 use crate::kept_call::{KeptCall, Request};
-use crate::replay::{Fill, Replay, put};
+use crate::replay::{Fill, begin, pass, put};
 use std::alloc::Global;
 use std::marker::Model;
 use taxi_units::NoMemory;
@@ -18,8 +19,8 @@ use taxi_units::NoMemory;
 #[derive(Drop)]
 pub(crate) struct MemoryState<const N: usize> {
     alloc: Global,
-    start: [u8; N],
-    image: [u8; N],
+    start: Vec<u8>,
+    image: Vec<u8>,
     text: Vec<u8>,
     fail: Vec<u64>,
     calls: Vec<KeptCall>,
@@ -27,17 +28,21 @@ pub(crate) struct MemoryState<const N: usize> {
 }
 
 impl<const N: usize> Model for MemoryState<N> {
-    ghost use Rattle.std.specs.Prelude.{◌^◌, ◌≤◌};
+    ghost use Rattle.std.specs.Prelude.{◌≡◌, ◌^◌, ◌≤◌, length};
     ghost use Rattle.std.specs.List.{All};
-    ghost use Rattle.outside.specs.Calls.{Mirrors, IsInStore, after_all, opened};
+    ghost use Rattle.outside.specs.Calls.{after_all, opened};
     ghost use Rattle.outside.specs.MemoryBoard.{BoardState};
+    ghost use Rattle.outside.specs.Replays.{IsInStore, Mirrors};
 
     ghost Value = { BoardState };
 
-    ghost view = { λ m. record { start = m.start; fail = m.fail.items; calls = m.calls.items; refused = m.refused } };
+    ghost view = { λ m.
+        record { start = m.start.items; fail = m.fail.items; calls = m.calls.items; refused = m.refused } };
 
-    ghost invariant = { λ m. Mirrors (after_all (opened m.start) m.calls.items) m.image m.text.items
-        × All (IsInStore N) m.calls.items × (N ≤ 2 ^ 32) };
+    ghost invariant = { λ m.
+        Mirrors (after_all (opened m.start.items) m.calls.items) m.image.items m.text.items
+        × All (IsInStore N) m.calls.items × (N ≤ 2 ^ 32)
+        × (length m.start.items ≡ N) × (length m.image.items ≡ N) };
 }
 
 impl<const N: usize> MemoryState<N> {
@@ -54,11 +59,17 @@ impl<const N: usize> MemoryState<N> {
         let Ok(fail) = Vec::from_slice(alloc, fail) else {
             return Err(NoMemory);
         };
-        let image = known(*image);
+        let Ok(start) = Vec::from_slice(alloc, image) else {
+            return Err(NoMemory);
+        };
+        let Ok(copy) = Vec::from_slice(alloc, image) else {
+            return Err(NoMemory);
+        };
+        known(image);
         Ok(MemoryState {
             alloc,
-            start: image,
-            image,
+            start,
+            image: copy,
             text: Vec::new(alloc),
             fail,
             calls: Vec::new(alloc),
@@ -84,7 +95,10 @@ impl<const N: usize> MemoryState<N> {
     pub(crate) fn image(&self) -> &[u8; N]
         ensures { result.now ≡ image_of self.now }
     {
-        &self.image
+        match <&[u8; N]>::try_from(self.image.as_slice()) {
+            Ok(image) => image,
+            Err(_) => unreachable!(),
+        }
     }
 
     /// How many calls found no memory.
@@ -94,28 +108,41 @@ impl<const N: usize> MemoryState<N> {
         self.refused
     }
 
-    /// An image that a cut inside the call with this number may leave, 0 being before the first. What
-    /// was in flight before the call is still so, inside a sync too, and so is the range that the call
-    /// itself writes. The bytes in flight become what `fill` says. All others are those that a read
-    /// gave before the call.
-    pub(crate) fn cut(&self, call: u64, fill: Fill) -> [u8; N]
-        requires { call ≤ length self.now.calls }
-        ensures left { left_since_of self.now 0 result (held_inside self.now call).text }
+    /// Puts into `left` an image that a cut inside the call with this number may leave, 0 being before
+    /// the first. What was in flight before the call is still so, inside a sync too, and so is the range
+    /// that the call itself writes. The bytes in flight become what `fill` says. All others are those
+    /// that a read gave before the call. `image` and `settled` are room of the store's size.
+    pub(crate) fn cut_into(
+        &self,
+        call: u64,
+        fill: Fill,
+        image: &mut [u8],
+        settled: &mut [u8],
+        left: &mut [u8],
+    )
+        requires call { call ≤ length self.now.calls }
+        requires image { length image.old ≡ N }
+        requires settled { length settled.old ≡ N }
+        requires left { length left.old ≡ N }
+        ensures left { left_since_of self.now 0 left.new (held_inside self.now call).text }
         ensures inside { SameBut (IsInSome (held_inside self.now call).ranges)
-            (held_inside self.now call).image result }
-        ensures settled { (held_inside self.now call).ranges ≡ [] → result ≡ (held_inside self.now call).image }
-        ensures zero { call ≡ 0 → result ≡ self.now.start }
+            (held_inside self.now call).image left.new }
+        ensures settled { (held_inside self.now call).ranges ≡ [] → left.new ≡ (held_inside self.now call).image }
+        ensures zero { call ≡ 0 → left.new ≡ self.now.start }
     {
         let count = call as usize;
+        left.copy_from_slice(self.start.as_slice());
         if count == 0 {
-            return known(self.start);
+            known(left);
+            return;
         }
-        let mut replay = Replay::new(&self.start, fill);
+        image.copy_from_slice(self.start.as_slice());
+        settled.copy_from_slice(self.start.as_slice());
         for kept in &self.calls[..count - 1] {
-            replay.pass(kept);
+            pass(image, settled, left, kept, fill);
         }
-        replay.begin(&self.calls[count - 1]);
-        known(replay.left)
+        begin(settled, left, &self.calls[count - 1], fill);
+        known(left);
     }
 
     /// Counts a call that found no memory, and answers its failure.
@@ -164,7 +191,7 @@ impl<const N: usize> MemoryState<N> {
         if failed {
             return Err(Failed);
         }
-        put(&mut self.image, at as usize, bytes);
+        put(self.image.as_mut_slice(), at as usize, bytes);
         Ok(())
     }
 

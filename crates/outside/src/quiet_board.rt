@@ -31,9 +31,8 @@ impl QuietBoard {
     pub fn new(image: &[u8; 2048]) -> QuietBoard
         ensures { result.image ≡ image.now }
     {
-        QuietBoard {
-            image: known(*image),
-        }
+        known(image);
+        QuietBoard { image: *image }
     }
 }
 

@@ -1,8 +1,8 @@
 //! The kept calls of a board, gone through again up to a cut.
-ghost use Rattle.std.specs.Prelude.{◌≡◌, ℕ, ◌+◌, ◌≤◌, length};
-ghost use Rattle.outside.specs.Calls.{Contents, after, begun, call_end, opened, overwrite};
+ghost use Rattle.std.specs.Prelude.{◌≡◌, ℕ, ◌+◌, ◌≤◌, List, length};
+ghost use Rattle.outside.specs.Calls.{Contents, after, begun, overwrite};
 ghost use Rattle.outside.specs.Disk.{IsWithin, SameBut};
-ghost use Rattle.outside.specs.Replays.{Follows};
+ghost use Rattle.outside.specs.Replays.{Follows, call_end};
 
 use crate::kept_call::{KeptCall, Request};
 
@@ -23,61 +23,43 @@ pub enum Fill {
     Byte(u8),
 }
 
-/// What a board holds after some of its calls, and what a cut then leaves.
-#[derive(Drop)]
-pub(crate) struct Replay<const N: usize> {
-    fill: Fill,
-    image: [u8; N],
-    settled: [u8; N],
-    pub(crate) left: [u8; N],
+/// A call has begun: puts what a cut inside it leaves of what it writes.
+pub(crate) fn begin(settled: &[u8], left: &mut [u8], kept: &KeptCall, fill: Fill)
+    requires inside { call_end kept.now.call ≤ length left.old }
+    requires alike { length settled.now ≡ length left.old }
+    ensures { (held : Contents) (image : List ℕ) → Follows held image left.old
+        → Follows (begun held kept.now.call) image left.new }
+{
+    if let Request::Write(at, bytes) = &kept.request {
+        put_fill(left, settled, *at as usize, bytes, fill);
+    }
 }
 
-impl<const N: usize> Replay<N> {
-    /// Before the first call.
-    pub(crate) fn new(image: &[u8; N], fill: Fill) -> Replay<N>
-        ensures { Follows N (opened image.now) result }
-    {
-        Replay {
-            fill,
-            image: *image,
-            settled: *image,
-            left: *image,
-        }
+/// A call is over: makes what it leaves of what a read gave, of the bytes of the last good sync, and of
+/// what a cut left, before the call.
+pub(crate) fn pass(
+    image: &mut [u8],
+    settled: &mut [u8],
+    left: &mut [u8],
+    kept: &KeptCall,
+    fill: Fill,
+)
+    requires inside { call_end kept.now.call ≤ length left.old }
+    requires image { length image.old ≡ length left.old }
+    requires settled { length settled.old ≡ length left.old }
+    ensures { (held : Contents) → Follows held image.old left.old → Follows (after held kept.now) image.new left.new }
+{
+    begin(settled, left, kept, fill);
+    if kept.failed {
+        return;
     }
-
-    /// A call has begun.
-    pub(crate) fn begin(&mut self, kept: &KeptCall)
-        requires { call_end kept.now.call ≤ N }
-        ensures { (held : Contents) → Follows N held self.old → Follows N (begun held kept.now.call) self.new }
-    {
-        if let Request::Write(at, bytes) = &kept.request {
-            put_fill(
-                &mut self.left,
-                &self.settled,
-                *at as usize,
-                bytes,
-                self.fill,
-            );
+    match &kept.request {
+        Request::Read | Request::Print(_) => {}
+        Request::Sync => {
+            settled.copy_from_slice(image);
+            left.copy_from_slice(image);
         }
-    }
-
-    /// A call is over.
-    pub(crate) fn pass(&mut self, kept: &KeptCall)
-        requires { call_end kept.now.call ≤ N }
-        ensures { (held : Contents) → Follows N held self.old → Follows N (after held kept.now) self.new }
-    {
-        self.begin(kept);
-        if kept.failed {
-            return;
-        }
-        match &kept.request {
-            Request::Read | Request::Print(_) => {}
-            Request::Sync => {
-                self.settled = self.image;
-                self.left = self.image;
-            }
-            Request::Write(at, bytes) => put(&mut self.image, *at as usize, bytes),
-        }
+        Request::Write(at, bytes) => put(image, *at as usize, bytes),
     }
 }
 
