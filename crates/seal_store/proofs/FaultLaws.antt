@@ -11,7 +11,8 @@ use Rattle.seal_store.specs.Faults.WasSaid.{constant_was, hold_was, mode_was, se
 use Rattle.seal_store.specs.Lines.{is_passed, key_in, value_in}
 use Rattle.seal_store.specs.LineSays.{IsSilent, SaysMore}
 use Rattle.seal_store.specs.LineSays.IsSilent.{comment, empty}
-use Rattle.seal_store.specs.Said.{Said, is_twice, keyed_line, line_read, name_of, or_bad, with_value}
+use Rattle.seal_store.specs.Said.{Said}
+use Rattle.seal_store.specs.SaidStages.{is_twice, keyed_line, line_read, name_of, or_bad, with_value}
 use Rattle.seal_store.specs.Says.{IsParted}
 use Rattle.seal_store.proofs.LineLaws.{has_key, is_silent, key_is, line_from, lines_say_their_parameter, name_from, not_passed}
 use Rattle.seal_store.proofs.TextLaws.{a_line_is_parted}

@@ -10,15 +10,15 @@ use Rattle.drive_modes.specs.declared.charges.Mode.{Mode}
 use Rattle.drive_modes.specs.declared.charges.Mode.TheVariants.{Single, Double}
 use Rattle.interval_clock.specs.Calendar.{IsDateOf, day_number_of, is_date}
 use Rattle.interval_clock.proofs.Laws.{is_date_of_number, one_day_number}
-use Rattle.taxi_units.specs.Number.{NoDigitFirst, number_at}
+use Rattle.taxi_units.specs.Number.{NoDigitFirst, number_at, number_of_width}
 use Rattle.taxi_units.specs.Reading.{word_at}
-use Rattle.taxi_units.proofs.Laws.{numbers_are_read_by_their_digits, words_are_read_by_their_text}
+use Rattle.taxi_units.proofs.Laws.{numbers_are_read_by_their_digits, wide_numbers_are_read_by_their_digits, words_are_read_by_their_text}
 use Rattle.seal_store.specs.Forms.{IsDateText, IsModeText, IsOffsetText, IsPairText, IsWide}
 use Rattle.seal_store.specs.Forms.IsModeText.{double_said, single_said}
 use Rattle.seal_store.specs.Forms.IsOffsetText.{ahead, behind}
 use Rattle.seal_store.specs.OffsetLaws.{Decides-leb}
 use Rattle.seal_store.specs.Says.{IsNumberIn}
-use Rattle.seal_store.specs.Values.{digits_at, mode_read, number_in, offset_read, pair_read, secured_read, where_date, where_wide}
+use Rattle.seal_store.specs.Values.{mode_read, number_in, offset_read, pair_read, secured_read, where_date}
 use Rattle.seal_store.proofs.DayBounds.{date_decides}
 use Rattle.seal_store.proofs.PlainValues.{minus_again, no_minus}
 use Rattle.seal_store.proofs.SaidRanges.{let_through, read_on}
@@ -113,32 +113,20 @@ pairs_by_their_form text pair = (pair_is text pair, pair_from text pair)
 
 -- ---- dates
 
--- so many digits at the front
+-- a number of `width` digits at the front of a text
 record IsFront (width : ℕ) (text : List ℕ) (x : ℕ × List ℕ) : Type 0 where
   digits : List ℕ
   text_is : text ≡ digits ++ x.1
   wide : IsWide width digits x.0
 
-front_is : (width : ℕ) (text : List ℕ) (x : ℕ × List ℕ) → digits_at width text ≡ Some x → IsFront width text x
-unfolding digits_at
-front_is width text x e =
-    let read = read_on (number_at text) (where_wide width text) x e in
-    let y = read.0 in
-    let through = let_through (eqb (length text) (width + length y.1)) y x (Decides-eqb (length text) (width + length y.1)) read.2 in
-    let is = (numbers_are_read_by_their_digits text y.1 y.0).0 read.1 in
-    let there : IsFront width text y = record {
-      digits = is.0;
-      text_is = is.1;
-      wide = record { numeral = is.2; long = omega (arith, length-append is.0 y.1, ap length is.1, through.0); value = sym is.4 };
-    } in
-    subst (IsFront width text) through.1 there
+front_is : (width : ℕ) (text : List ℕ) (x : ℕ × List ℕ) → width ≤ 12 → number_of_width width text ≡ Some x → IsFront width text x
+front_is width text x narrow e =
+    let is = (wide_numbers_are_read_by_their_digits width text x.1 x.0 narrow).0 e in
+    record { digits = is.0; text_is = is.1; wide = record { numeral = is.2; long = is.3; value = sym is.4 } }
 
-front_from : (width : ℕ) (digits rest : List ℕ) (n : ℕ) → width ≤ 12 → IsWide width digits n → NoDigitFirst rest → digits_at width (digits ++ rest) ≡ Some (n, rest)
-unfolding digits_at
+front_from : (width : ℕ) (digits rest : List ℕ) (n : ℕ) → width ≤ 12 → IsWide width digits n → NoDigitFirst rest → number_of_width width (digits ++ rest) ≡ Some (n, rest)
 front_from width digits rest n narrow is stops =
-    let read : number_at (digits ++ rest) ≡ Some (n, rest) = (numbers_are_read_by_their_digits (digits ++ rest) rest n).1 (digits, refl, is.numeral, omega (arith, is.long, narrow), sym is.value, stops) in
-    let long : length (digits ++ rest) ≡ width + length rest = omega (arith, length-append digits rest, is.long) in
-    rw (read, eq-eqb (length (digits ++ rest)) (width + length rest) long) refl
+    (wide_numbers_are_read_by_their_digits width (digits ++ rest) rest n narrow).1 (digits, refl, is.numeral, is.long, sym is.value, stops)
 
 -- a year, a month and a date that were read
 record IsRead (year month date : ℕ) (rest : List ℕ) (day : ℤ) : Type 0 where
@@ -161,15 +149,15 @@ read_is year month date rest day e =
 date_is : (text : List ℕ) (day : ℤ) → secured_read text ≡ Some day → IsDateText text day
 unfolding secured_read
 date_is text day e =
-    let year = read_on (digits_at 4 text) _ day e in
+    let year = read_on (number_of_width 4 text) _ day e in
     let first = read_on (word_at (45 ∷ []) year.0.1) _ day year.2 in
-    let month = read_on (digits_at 2 first.0) _ day first.2 in
+    let month = read_on (number_of_width 2 first.0) _ day first.2 in
     let second = read_on (word_at (45 ∷ []) month.0.1) _ day month.2 in
-    let date = read_on (digits_at 2 second.0) _ day second.2 in
+    let date = read_on (number_of_width 2 second.0) _ day second.2 in
     let is = read_is year.0.0 month.0.0 date.0.0 date.0.1 day date.2 in
-    let years = front_is 4 text year.0 year.1 in
-    let months = front_is 2 first.0 month.0 month.1 in
-    let dates = front_is 2 second.0 date.0 date.1 in
+    let years = front_is 4 text year.0 (omega arith) year.1 in
+    let months = front_is 2 first.0 month.0 (omega arith) month.1 in
+    let dates = front_is 2 second.0 date.0 (omega arith) date.1 in
     let after_year : year.0.1 ≡ 45 ∷ first.0 = (words_are_read_by_their_text (45 ∷ []) year.0.1 first.0).0 first.1 in
     let after_month : month.0.1 ≡ 45 ∷ second.0 = (words_are_read_by_their_text (45 ∷ []) month.0.1 second.0).0 second.1 in
     let last : second.0 ≡ dates.digits = dates.text_is ∙ (ap (λ (r : List ℕ). dates.digits ++ r) is.nothing_left ∙ append-nil dates.digits) in
@@ -195,7 +183,7 @@ unfolding secured_read
 date_from text day is =
     let there : is_date is.year is.month is.date ≡ true = (date_decides is.year is.month is.date).1 (is.day_is.month_in.0, (is.day_is.month_in.1, (is.day_is.date_in.0, is.day_is.date_in.1))) in
     let same = one_day_number day is.year is.month is.date (omega (arith, is.from)) is.day_is in
-    let last : digits_at 2 is.dates ≡ Some (is.date, []) = ap (digits_at 2) (sym (append-nil is.dates)) ∙ front_from 2 is.dates [] is.date (omega arith) is.date_is tt in
+    let last : number_of_width 2 is.dates ≡ Some (is.date, []) = ap (number_of_width 2) (sym (append-nil is.dates)) ∙ front_from 2 is.dates [] is.date (omega arith) is.date_is tt in
     rw (
       is.text_is,
       front_from 4 is.years (45 ∷ (is.months ++ 45 ∷ is.dates)) is.year (omega arith) is.year_is (omega arith),

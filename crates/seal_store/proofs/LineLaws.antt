@@ -15,7 +15,8 @@ use Rattle.seal_store.specs.LineSays.IsSilent.{comment, empty}
 use Rattle.seal_store.specs.LineSays.SaysMore.{constant_said, hold_said, mode_said, offset_said, secured_said, silent, taxi_said}
 use Rattle.seal_store.specs.OffsetLaws.{Decides-is_offset_list}
 use Rattle.seal_store.specs.OffsetList.{is_offset_list}
-use Rattle.seal_store.specs.Said.{Said, is_twice, keyed_line, line_read, name_of, or_bad, with_pair, with_value}
+use Rattle.seal_store.specs.Said.{Said}
+use Rattle.seal_store.specs.SaidStages.{is_twice, keyed_line, line_read, name_of, or_bad, with_pair, with_value}
 use Rattle.seal_store.specs.Says.{IsParted}
 use Rattle.seal_store.specs.Says.IsParted.{alone, parted}
 use Rattle.seal_store.specs.Values.{mode_read, number_in, pair_read, secured_read, taxi_read}

@@ -3,7 +3,7 @@ use Rattle.std.proofs.Common.{◌≡◌, ℕ, zero, suc, ◌+◌, ◌*◌, ◌<�
 use Rattle.std.proofs.lemmas.List.{append-nil, drop-drop, take_all, take_more}
 use Rattle.std.proofs.lemmas.Grind.{flat_map-append}
 use Rattle.std.specs.Int.{w32, w64, from_be_bytes, cast_signed}
-use Rattle.totaliser_store.specs.Bytes.{eight_at}
+use Rattle.totaliser_store.specs.BytesAt.{eight_at}
 use Rattle.seal_store.specs.Decoding.{pairs_in, signed_at}
 use Rattle.seal_store.specs.Spelling.{pair_bytes}
 
@@ -11,7 +11,7 @@ pub one_more_pair : (pairs : List (ℕ × ℤ)) (i : ℕ) (d : ℕ × ℤ) → i
 one_more_pair pairs i d lt =
     ap (flat_map pair_bytes) (take_more pairs i d lt) ∙ (flat_map-append pair_bytes (take i pairs) (get_or pairs i d ∷ []) ∙ ap (λ (xs : List ℕ). flat_map pair_bytes (take i pairs) ++ xs) (append-nil (pair_bytes (get_or pairs i d))))
 
--- so many pairs and the next one
+-- the first pairs of bytes and one more are those pairs with the next one behind them
 pub next_pair : (count : ℕ) (bytes : List ℕ) → pairs_in (count + 1) bytes ≡ pairs_in count bytes ++ (eight_at bytes (12 * count), signed_at bytes (12 * count + 8)) ∷ []
 next_pair zero bytes = refl
 next_pair (suc count) bytes =
@@ -24,7 +24,7 @@ next_pair (suc count) bytes =
     ∙ ap (λ (ps : List (ℕ × ℤ)). (eight_at bytes 0, signed_at bytes 8) ∷ ps) (next_pair count (drop 12 bytes))
     ∙ (λ i. (eight_at bytes 0, signed_at bytes 8) ∷ (pairs_in count (drop 12 bytes) ++ (second i, offset i) ∷ []))
 
--- so many pairs are so many
+-- as many pairs are read as were asked for
 pub length-pairs_in : (count : ℕ) (bytes : List ℕ) → length (pairs_in count bytes) ≡ count
 length-pairs_in zero bytes = refl
 length-pairs_in (suc count) bytes = omega (arith, length-pairs_in count (drop 12 bytes))

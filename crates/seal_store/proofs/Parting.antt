@@ -5,7 +5,8 @@ use Rattle.std.specs.Str.Lines.{strip_carriage_return}
 use Rattle.std.proofs.lemmas.Bool.{ne_eqb, eq-eqb}
 use Rattle.std.proofs.lemmas.List.Elements.{All-head, All-tail}
 use Rattle.std.proofs.lemmas.List.Splits.{slice_split_none, slice_split_at, length-slice_split}
-use Rattle.seal_store.specs.Lines.{without_ends, lines_of, before, key_in, value_in, HasNone}
+use Rattle.seal_store.specs.Lines.{without_ends, lines_of, before, key_in, value_in}
+use Rattle.seal_store.specs.Says.{HasNone}
 
 -- no test for this byte holds
 none_tests : (byte : ℕ) (bytes : List ℕ) → HasNone byte bytes → All (λ b. eqb b byte ≡ false) bytes
@@ -50,3 +51,6 @@ key_alone key none = before_none 32 key none
 pub no_value : (key : List ℕ) → HasNone 32 key → value_in key ≡ []
 no_value [] none = refl
 no_value (c ∷ cs) none = rw (ne_eqb c 32 (All-head (λ b. b ≢ 32) c cs none)) (no_value cs (All-tail (λ b. b ≢ 32) c cs none))
+
+-- the key and the value of a line that has a blank, and of one that has none
+pub ruleset key_and_value_of_line = (key_before, value_after, key_alone, no_value)

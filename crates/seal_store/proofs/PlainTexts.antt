@@ -23,12 +23,14 @@ use Rattle.seal_store.specs.declared.params.Name.{Name}
 use Rattle.seal_store.specs.declared.params.Name.TheVariants.{Taxi, Constant, Hold, Offset, Secured}
 use Rattle.seal_store.specs.declared.params.Name.TheVariants as name
 use Rattle.seal_store.specs.declared.params.Params.{Params}
-use Rattle.seal_store.specs.Lines.{HasNone, is_passed, lines_of}
+use Rattle.seal_store.specs.Lines.{is_passed, lines_of}
+use Rattle.seal_store.specs.Says.{HasNone}
 use Rattle.seal_store.specs.OffsetLaws.{Decides-is_offset_list, Decides-leb}
 use Rattle.seal_store.specs.PlainText.{date_text, line_of, mode_text, offset_line, offset_text, plain_lines, plain_text}
 use Rattle.seal_store.specs.Ranges.{IsParams, IsTaxiCharacter}
 use Rattle.seal_store.specs.Reading.{lines_read, params_read, whole_of}
-use Rattle.seal_store.specs.Said.{Said, line_read, name_of, named_line, nothing_said}
+use Rattle.seal_store.specs.Said.{Said, nothing_said}
+use Rattle.seal_store.specs.SaidStages.{line_read, name_of, named_line}
 use Rattle.seal_store.specs.SealLaws.{Decides-is_taxi}
 use Rattle.seal_store.proofs.DayBounds.{date_bound, date_decides, year_in_range}
 use Rattle.seal_store.proofs.Parting.{ended_line, key_before, last_line, value_after}

@@ -9,12 +9,12 @@ use Rattle.drive_modes.specs.declared.charges.Mode.TheVariants.{Single, Double}
 use Rattle.interval_clock.specs.Calendar.{date_after, is_date}
 use Rattle.interval_clock.specs.Offsets.{IsOffset, IsSecond}
 use Rattle.interval_clock.proofs.Laws.{IsDateOf-date_after, one_day_number}
-use Rattle.taxi_units.specs.Number.{NoDigitFirst, number_at, padded_text}
+use Rattle.taxi_units.specs.Number.{NoDigitFirst, number_at, number_of_width, padded_text}
 use Rattle.taxi_units.specs.Reading.{word_at}
-use Rattle.taxi_units.proofs.Laws.{numbers_are_short, numbers_read_back, padded_numbers_fill_the_width, padded_numbers_read_back, words_are_read_by_their_text}
+use Rattle.taxi_units.proofs.Laws.{numbers_are_short, numbers_read_back, padded_numbers_are_written_by_their_digits, padded_numbers_fill_the_width, wide_numbers_are_read_by_their_digits, words_are_read_by_their_text}
 use Rattle.seal_store.specs.OffsetLaws.{Decides-leb}
 use Rattle.seal_store.specs.PlainText.{date_text, mode_text, offset_text}
-use Rattle.seal_store.specs.Values.{digits_at, mode_read, number_in, offset_read, pair_read, secured_read}
+use Rattle.seal_store.specs.Values.{mode_read, number_in, offset_read, pair_read, secured_read}
 use Rattle.seal_store.proofs.DayBounds.{date_bound, date_decides, year_in_range}
 
 -- a number alone
@@ -61,18 +61,17 @@ unfolding pair_read
 pair_again pair second offset =
     rw (numbers_read_back pair.0 (32 ∷ offset_text pair.1) (omega (arith, second.1)) (omega arith), (words_are_read_by_their_text (32 ∷ []) (32 ∷ offset_text pair.1) (offset_text pair.1)).1 refl, offset_again pair.1 offset) refl
 
--- a number of so many digits
+-- a number that is padded to a width has that many digits
 pub length-padded_text : (width n : ℕ) → 0 < width → width ≤ 12 → n < 10 ^ width → length (padded_text width n) ≡ width
 length-padded_text width n some narrow small = omega (arith, padded_numbers_fill_the_width width n, (numbers_are_short width n some (omega (arith, narrow)) small).1)
 
-digits_again : (width n : ℕ) (rest : List ℕ) → 0 < width → width ≤ 12 → n < 10 ^ width → n < 10 ^ 12 → NoDigitFirst rest → digits_at width (padded_text width n ++ rest) ≡ Some (n, rest)
-unfolding digits_at
+digits_again : (width n : ℕ) (rest : List ℕ) → 0 < width → width ≤ 12 → n < 10 ^ width → n < 10 ^ 12 → NoDigitFirst rest → number_of_width width (padded_text width n ++ rest) ≡ Some (n, rest)
 digits_again width n rest some narrow small fits stops =
-    let long : length (padded_text width n ++ rest) ≡ width + length rest = omega (arith, length-append (padded_text width n) rest, length-padded_text width n some narrow small) in
-    rw (padded_numbers_read_back width n rest narrow fits stops, eq-eqb (length (padded_text width n ++ rest)) (width + length rest) long) refl
+    let text = (padded_numbers_are_written_by_their_digits width n (padded_text width n) (omega (arith, fits))).0 refl in
+    (wide_numbers_are_read_by_their_digits width (padded_text width n ++ rest) rest n narrow).1 (padded_text width n, refl, text.digits, length-padded_text width n some narrow small, sym text.value_is, stops)
 
-digits_alone : (width n : ℕ) → 0 < width → width ≤ 12 → n < 10 ^ width → n < 10 ^ 12 → digits_at width (padded_text width n) ≡ Some (n, [])
-digits_alone width n some narrow small fits = ap (digits_at width) (sym (append-nil (padded_text width n))) ∙ digits_again width n [] some narrow small fits tt
+digits_alone : (width n : ℕ) → 0 < width → width ≤ 12 → n < 10 ^ width → n < 10 ^ 12 → number_of_width width (padded_text width n) ≡ Some (n, [])
+digits_alone width n some narrow small fits = ap (number_of_width width) (sym (append-nil (padded_text width n))) ∙ digits_again width n [] some narrow small fits tt
 
 -- a date
 pub minus_again : (rest : List ℕ) → word_at (45 ∷ []) (45 ∷ rest) ≡ Some rest

@@ -18,9 +18,11 @@ use Rattle.seal_store.specs.OffsetLaws.{Decides-is_offset_list, Decides-leb}
 use Rattle.seal_store.specs.OffsetList.{is_offset_list}
 use Rattle.seal_store.specs.Ranges.{IsDay, IsParams, IsTaxi}
 use Rattle.seal_store.specs.Reading.{and_then, lines_read, params_read, whole, whole_of}
-use Rattle.seal_store.specs.Said.{Said, is_twice, keyed_line, line_read, name_of, nothing_said, or_bad, with_pair, with_value}
+use Rattle.seal_store.specs.Said.{Said, nothing_said}
+use Rattle.seal_store.specs.SaidStages.{is_twice, keyed_line, line_read, name_of, or_bad, with_pair, with_value}
 use Rattle.seal_store.specs.SealLaws.{Decides-is_taxi}
-use Rattle.seal_store.specs.Values.{digits_at, is_taxi, mode_read, number_in, pair_read, secured_read, taxi_read, where_date, where_in}
+use Rattle.taxi_units.specs.Number.{number_of_width}
+use Rattle.seal_store.specs.Values.{is_taxi, mode_read, number_in, pair_read, secured_read, taxi_read, where_date, where_in}
 use Rattle.seal_store.proofs.DayBounds.{days_in_range}
 
 -- what has been said is in its ranges
@@ -61,11 +63,11 @@ date_said year month date rest day e =
 secured_said : (text : List ℕ) (day : ℤ) → secured_read text ≡ Some day → IsDay day
 unfolding secured_read
 secured_said text day e =
-    let year = read_on (digits_at 4 text) _ day e in
+    let year = read_on (number_of_width 4 text) _ day e in
     let first = read_on (word_at (45 ∷ []) year.0.1) _ day year.2 in
-    let month = read_on (digits_at 2 first.0) _ day first.2 in
+    let month = read_on (number_of_width 2 first.0) _ day first.2 in
     let second = read_on (word_at (45 ∷ []) month.0.1) _ day month.2 in
-    let date = read_on (digits_at 2 second.0) _ day second.2 in
+    let date = read_on (number_of_width 2 second.0) _ day second.2 in
     date_said year.0.0 month.0.0 date.0.0 date.0.1 day date.2
 
 pair_kept : (said more : Said) (pair : ℕ × ℤ) → IsSaid said → with_pair said pair ≡ Some more → IsSaid more

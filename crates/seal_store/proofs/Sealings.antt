@@ -1,6 +1,6 @@
 -- What a sealing leaves at each moment.
-use Rattle.std.proofs.Common.{◌≡◌, inl, inr, ⊎_elim, ℕ, ◌+◌, ◌≤◌, List, Option, Some, None, refl, subst, arith}
-use Rattle.std.specs.Option.{ForSome}
+use Rattle.std.proofs.Common.{◌≡◌, inl, inr, ⊎_elim, ℕ, ◌≤◌, List, Option, Some, None, refl, sym, subst, arith}
+use Rattle.std.specs.Option.{ForSome, option_map}
 use Rattle.outside.specs.declared.board.Board.{Ghosts}
 use Rattle.outside.specs.Disk.{IsWithin, SameBut}
 use Rattle.slot_store.specs.declared.pair.Pair.{Pair}
@@ -17,7 +17,11 @@ use Rattle.totaliser_store.specs.Stored as stored
 use Rattle.totaliser_store.specs.Stored.{HasState, KeepsState}
 use Rattle.seal_store.specs.declared.seal.Seal.{Seal}
 use Rattle.seal_store.specs.Decoding.{reads, number_of}
-use Rattle.seal_store.specs.Sealing.{FoundSeal, FoundTotals, HasEitherSeal, IsAmid, KeepsSeal, KeepsSealed, KeepsTotals, LeavesSealing, ShowsSeal, found_number, next_number, pair_for}
+use Rattle.seal_store.specs.Sealing.{FoundSeal, FoundTotals, HasEitherSeal, IsAmid, KeepsSeal, KeepsSealed, KeepsTotals, LeavesSealing, ShowsSeal, found_number, next_number}
+
+-- the pair of seals has the found place, or none where it was found blank
+abbrev pub pair_for : Option (Place × ℕ) → Pair
+pair_for found = record { at = 1024; latest = option_map (λ latest. latest.0) found }
 
 -- the pair of seals lies in the store
 pub is_pair : (found : Option (Place × ℕ)) → ForSome found (λ latest. latest.0.slot ≤ 1) → IsPair (pair_for found)
@@ -98,7 +102,7 @@ module _ {D L : Type 0} (B : Ghosts D L) where
       (slots.same_at totals.reads stored.number_of 0 place (B.image board) left durable kept.is_at (slots.apart_same 0 1024 1024 (B.image board) (B.in_flight board) left (inr (omega arith)) kept.quiet same))
 
   -- a seal beside settled totals
-  pub leaves_beside : (board after : D) (durable : Durable) (old : Option Seal) (new : Seal) → FoundTotals B board (Some durable) → WritesIn B 1024 1024 board after
+  leaves_beside : (board after : D) (durable : Durable) (old : Option Seal) (new : Seal) → FoundTotals B board (Some durable) → WritesIn B 1024 1024 board after
       → LeavesThroughout B 1024 1024 (HasEitherSeal old new) board after → LeavesSealing B (record { totals = Some durable; old = old; new = new }) board after
   leaves_beside board after durable old new found writes run =
       in_part_as B 1024 1024 1024 1024 (HasEitherSeal old new) (IsAmid (record { totals = Some durable; old = old; new = new })) board after (omega arith) (omega arith) (λ left same either.
@@ -107,7 +111,7 @@ module _ {D L : Type 0} (B : Ghosts D L) where
         seal = ⊎_elim (λ shows. inl shows) (λ sealed. inr (record { totals = stands; seal = sealed })) either;
       }) writes run
 
-  pub keeps_beside : (board after : D) (durable : Durable) (new : Seal) (place : Place) → FoundTotals B board (Some durable) → WritesIn B 1024 1024 board after
+  keeps_beside : (board after : D) (durable : Durable) (new : Seal) (place : Place) → FoundTotals B board (Some durable) → WritesIn B 1024 1024 board after
       → KeepsSeal B place after new → KeepsSealed B (Some durable) new after
   keeps_beside board after durable new place found writes kept = record {
     totals = (
@@ -117,6 +121,18 @@ module _ {D L : Type 0} (B : Ghosts D L) where
     );
     seal_is = (place, kept);
   }
+
+  -- a seal beside totals that were found
+  pub leaves_found : (board after : D) (totals : Option Durable) (durable : Durable) (old : Option Seal) (new : Seal) → totals ≡ Some durable → FoundTotals B board totals → WritesIn B 1024 1024 board after
+      → LeavesThroughout B 1024 1024 (HasEitherSeal old new) board after → LeavesSealing B (record { totals = totals; old = old; new = new }) board after
+  leaves_found board after totals durable old new is found writes run =
+      subst (λ (t : Option Durable). LeavesSealing B (record { totals = t; old = old; new = new }) board after) (sym is)
+      (leaves_beside board after durable old new (subst (λ (t : Option Durable). FoundTotals B board t) is found) writes run)
+
+  pub keeps_found : (board after : D) (totals : Option Durable) (durable : Durable) (new : Seal) (place : Place) → totals ≡ Some durable → FoundTotals B board totals → WritesIn B 1024 1024 board after
+      → KeepsSeal B place after new → KeepsSealed B totals new after
+  keeps_found board after totals durable new place is found writes kept =
+      subst (λ (t : Option Durable). KeepsSealed B t new after) (sym is) (keeps_beside board after durable new place (subst (λ (t : Option Durable). FoundTotals B board t) is found) writes kept)
 
   -- the first totals, before the seal
   pub leaves_first : (board after : D) (found : Option (Place × ℕ)) (old : Option Seal) (new : Seal) → FoundSeal B board found old → WritesIn B 0 1024 board after

@@ -8,7 +8,7 @@ use Rattle.std.specs.Str.Parse.{IsNumeral, digits_value}
 use Rattle.taxi_units.specs.Number.{number_at}
 use Rattle.taxi_units.proofs.Laws.{numbers_are_read_by_their_digits}
 use Rattle.seal_store.specs.declared.params.ParamFault.{ParamFault}
-use Rattle.seal_store.specs.Lines.{HasNone, key_in, lines_of, value_in}
+use Rattle.seal_store.specs.Lines.{key_in, lines_of, value_in}
 use Rattle.interval_clock.specs.Offsets.{IsOffsetList}
 use Rattle.seal_store.specs.declared.seal.Seal.{Seal}
 use Rattle.seal_store.specs.Decoding.{reads}
@@ -18,8 +18,9 @@ use Rattle.seal_store.specs.Ranges.{IsSeal, IsTaxi}
 use Rattle.seal_store.specs.SealLaws.{Decides-is_taxi, gives_valid, nothing_else, reads_it}
 use Rattle.seal_store.specs.Spelling.{spelling}
 use Rattle.seal_store.specs.Reading.{and_then, lines_read}
-use Rattle.seal_store.specs.Said.{Said, line_read}
-use Rattle.seal_store.specs.Says.{AreLines, BreaksAt, IsNumberIn, IsParted}
+use Rattle.seal_store.specs.Said.{Said}
+use Rattle.seal_store.specs.SaidStages.{line_read}
+use Rattle.seal_store.specs.Says.{HasNone, AreLines, BreaksAt, IsNumberIn, IsParted}
 use Rattle.seal_store.specs.Says.AreLines.{ended, last}
 use Rattle.seal_store.specs.Says.IsParted.{alone, parted}
 use Rattle.seal_store.specs.Values.{is_taxi, number_in, taxi_read, where_in}

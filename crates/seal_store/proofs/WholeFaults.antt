@@ -1,5 +1,5 @@
 -- A text is too long, or lacks a parameter.
-use Rattle.std.proofs.Common.{◌≡◌, ℕ, ◌+◌, ◌<◌, ◌≤◌, ◌↔◌, inl, inr, Bool, true, false, if◌then◌else◌, ℤ, List, [], ◌∷◌, length, Option, Some, None, Result, Ok, Err, ltb, refl, sym, subst, ◌∙◌, arith}
+use Rattle.std.proofs.Common.{◌≡◌, ℕ, ◌+◌, ◌<◌, ◌↔◌, inl, inr, Bool, true, false, if◌then◌else◌, ℤ, List, [], ◌∷◌, length, Option, Some, None, Result, Ok, Err, ltb, refl, sym, subst, ◌∙◌, arith}
 use Rattle.std.proofs.lemmas.Bool.{cases_lt, le-ltb, lt-ltb}
 use Rattle.drive_modes.specs.declared.charges.Mode.{Mode}
 use Rattle.seal_store.specs.declared.params.Name.{Name}
@@ -12,9 +12,8 @@ use Rattle.seal_store.specs.Faults.{IsBad}
 use Rattle.seal_store.specs.Faults.IsBad.{bad_value, said_twice, unknown_key}
 use Rattle.seal_store.specs.Lines.{lines_of}
 use Rattle.seal_store.specs.Reading.{and_then, lines_read, params_read, whole, whole_of}
-use Rattle.seal_store.specs.Said.{Said, line_read, nothing_said}
-use Rattle.seal_store.specs.Says.{BreaksAt}
-use Rattle.seal_store.specs.TextSays.{IsUnsaid, LacksFirst, SayOn, row_of}
+use Rattle.seal_store.specs.Said.{Said, nothing_said}
+use Rattle.seal_store.specs.TextSays.{IsUnsaid, LacksFirst, row_of}
 use Rattle.seal_store.proofs.FaultLaws.{bad_lines_have_their_fault, true_false}
 use Rattle.seal_store.proofs.TextLaws.{lines_make_the_text, the_first_bad_line}
 use Rattle.seal_store.proofs.WholeLaws.{say_from, say_on}

@@ -6,7 +6,8 @@ use Rattle.seal_store.specs.declared.params.Params.{Params}
 use Rattle.seal_store.specs.declared.params.ParamFault.TheVariants.{TooLong}
 use Rattle.seal_store.specs.Lines.{lines_of}
 use Rattle.seal_store.specs.Reading.{and_then, lines_read, params_read, whole, whole_of}
-use Rattle.seal_store.specs.Said.{Said, line_read, nothing_said}
+use Rattle.seal_store.specs.Said.{Said, nothing_said}
+use Rattle.seal_store.specs.SaidStages.{line_read}
 use Rattle.seal_store.specs.TextSays.{AreSaid, SayOn, SaysParams}
 use Rattle.seal_store.specs.TextSays.SayOn.{no_line, one_line}
 use Rattle.seal_store.proofs.FaultLaws.{true_false}

@@ -1,5 +1,5 @@
--- The seal that bytes are read as: each field at its place, as the table has it; a place here is one less than in the
--- slot.
+-- For proofs: the seal that bytes are read as, each field at its place, which is one less here than in the slot. The
+-- law seals_are_read_by_their_table says which seal it is.
 use Rattle.std.specs.Prelude.{ℕ, zero, suc, ◌==◌, ◌&&◌, if◌then◌else◌, Bool, nat_le, ℤ, pos, int_le, List, [], ◌∷◌, length, take, drop, Option, Some, None}
 use Rattle.std.specs.Int.{w16, w32, from_be_bytes, cast_signed}
 use Rattle.std.specs.Str.{bytes_eq}
@@ -9,9 +9,10 @@ use Rattle.seal_store.specs.declared.params.Params.{Params}
 use Rattle.seal_store.specs.declared.seal.Seal.{Seal}
 use Rattle.seal_store.specs.Lines.{before}
 use Rattle.seal_store.specs.OffsetList.{is_offset_list}
+pub use Rattle.seal_store.specs.Ranges.{number_of}
 use Rattle.seal_store.specs.Spelling.{spelling}
 use Rattle.seal_store.specs.Values.{is_taxi}
-use Rattle.totaliser_store.specs.Bytes.{byte_at, four_at, eight_at}
+use Rattle.totaliser_store.specs.BytesAt.{byte_at, four_at, eight_at}
 
 -- the number in the two bytes from a place on
 abbrev pub two_at : List ℕ → ℕ → ℕ
@@ -21,16 +22,16 @@ two_at bytes place = from_be_bytes w16 (take 2 (drop place bytes))
 abbrev pub signed_at : List ℕ → ℕ → ℤ
 signed_at bytes place = cast_signed w32 (four_at bytes place)
 
--- the mode of a byte
+-- the mode of a byte is D where the byte is 1, and else S
 abbrev pub mode_in : ℕ → Mode
 mode_in byte = if byte == 1 then Double else Single
 
--- so many pairs from the beginning of the bytes on
+-- the pairs of a list of offsets at the front of bytes, `count` of them
 abbrev pub pairs_in : (count : ℕ) → List ℕ → List (ℕ × ℤ)
 pairs_in zero bytes = []
 pairs_in (suc count) bytes = (eight_at bytes 0, signed_at bytes 8) ∷ pairs_in count (drop 12 bytes)
 
--- the parameters
+-- the parameters whose fields stand in the bytes at their places, whatever they are
 abbrev pub params_in : List ℕ → Params
 params_in bytes = record {
   taxi = record { items = before 0 (take 16 (drop 8 bytes)) };
@@ -41,7 +42,7 @@ params_in bytes = record {
   secured = signed_at bytes 63;
 }
 
--- the seal
+-- the seal whose fields stand in the bytes at their places, whatever they are
 abbrev pub decoded : List ℕ → Seal
 decoded bytes = record {
   seal_number = eight_at bytes 0;
@@ -50,23 +51,20 @@ decoded bytes = record {
   decimals = byte_at bytes 452;
 }
 
--- the tests of the ranges
+-- a test whether each parameter is in its range
 abbrev pub are_params : Params → Bool
 are_params params =
     is_taxi params.taxi.items
     && (nat_le 500 params.constant && (nat_le params.constant 200000 && (nat_le params.hold 600
     && (int_le (pos 10957) params.secured && (int_le params.secured (pos 84005) && is_offset_list params.offsets)))))
 
+-- a test whether each field of a seal is in its range
 abbrev pub is_seal : Seal → Bool
 is_seal seal =
     nat_le 1 seal.seal_number && (nat_le seal.seal_number 1000000000000000 && (are_params seal.params
     && ((length seal.digest == 32) && nat_le seal.decimals 3)))
 
--- bytes are read as a seal where it is in its ranges and the bytes are its own
+-- bytes are read as the seal of their fields where each field is in its range and the bytes are the seal's own
 unfoldable pub reads : List ℕ → Option Seal
 reads bytes =
     if is_seal (decoded bytes) && bytes_eq (spelling (decoded bytes)) bytes then Some (decoded bytes) else None
-
--- the number by which the later of two seals is known
-abbrev pub number_of : Seal → ℕ
-number_of seal = seal.seal_number

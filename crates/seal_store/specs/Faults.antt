@@ -1,4 +1,4 @@
--- What is wrong with a line of a parameter text, in words that share nothing with how it is read.
+-- Rules: what is wrong with a line of a parameter text, in words that share nothing with how it is read.
 use Rattle.std.specs.Prelude.{◌≡◌, ◌≢◌, ℕ, ℤ, List, Some, codes}
 use Rattle.drive_modes.specs.declared.charges.Mode.{Mode}
 use Rattle.seal_store.specs.declared.params.Name.{Name}
@@ -10,7 +10,7 @@ use Rattle.seal_store.specs.LineSays.{IsSilent, SaysMore}
 use Rattle.seal_store.specs.Said.{Said}
 use Rattle.seal_store.specs.Says.{IsParted}
 
--- the keys
+-- the key of a parameter is its name in small letters
 abbrev pub key_of : Name → List ℕ
 key_of Taxi = codes "taxi"
 key_of Constant = codes "constant"
@@ -19,7 +19,7 @@ key_of Hold = codes "hold"
 key_of Offset = codes "offset"
 key_of Secured = codes "secured"
 
--- a parameter that is said by one line alone was said before
+-- a parameter that only one line may say was said before; an offset may be said again
 pub data WasSaid (said : Said) : Name → Type 0 where
   taxi_was : (value : List ℕ) → said.taxi ≡ Some value → WasSaid said Taxi
   constant_was : (n : ℕ) → said.constant ≡ Some n → WasSaid said Constant
@@ -27,7 +27,8 @@ pub data WasSaid (said : Said) : Name → Type 0 where
   hold_was : (n : ℕ) → said.hold ≡ Some n → WasSaid said Hold
   secured_was : (day : ℤ) → said.secured ≡ Some day → WasSaid said Secured
 
--- first its key is none of these; or it says a parameter a second time; or else it says nothing by its value
+-- a line has the first of three faults: its key is no parameter's; it says a parameter a second time; its value says
+-- nothing
 pub data IsBad (said : Said) (number : ℕ) (line : List ℕ) : ParamFault → Type 0 where
   unknown_key : (key value : List ℕ) → ¬ (IsSilent line) → IsParted line key value
       → ((which : Name) → key ≢ key_of which) → IsBad said number line (Unknown number)

@@ -1,4 +1,4 @@
--- The forms of the values that are no plain numbers, in words that share nothing with how they are read.
+-- Rules: the forms of the values that are no plain numbers, in words that share nothing with how they are read.
 use Rattle.std.specs.Prelude.{◌≡◌, ℕ, ◌≤◌, ℤ, pos, neg_ℤ, List, ◌∷◌, ◌++◌, length, codes}
 use Rattle.std.specs.Str.Parse.{IsNumeral, digits_value}
 use Rattle.drive_modes.specs.declared.charges.Mode.{Mode}
@@ -6,17 +6,17 @@ use Rattle.drive_modes.specs.declared.charges.Mode.TheVariants.{Single, Double}
 use Rattle.interval_clock.specs.Calendar.{IsDateOf}
 use Rattle.seal_store.specs.Says.{IsNumberIn}
 
--- the words of the two modes
+-- a text is that of a mode where it is `single` for mode S, or `double` for mode D
 pub data IsModeText : List ℕ → Mode → Type 0 where
   single_said : IsModeText (codes "single") Single
   double_said : IsModeText (codes "double") Double
 
--- an offset: a number of at most 50400, with a minus before it or not
+-- a text is that of an offset where it is a number of at most 50400, with a minus before it or not
 pub data IsOffsetText : List ℕ → ℤ → Type 0 where
   ahead : (digits : List ℕ) (n : ℕ) → IsNumberIn 0 50400 digits n → IsOffsetText digits (pos n)
   behind : (digits : List ℕ) (n : ℕ) → IsNumberIn 0 50400 digits n → IsOffsetText (45 ∷ digits) (neg_ℤ (pos n))
 
--- a pair: the 1 to 12 digits of its second, one blank, and its offset
+-- a text is that of a pair where it is the 1 to 12 digits of its second, one blank, and its offset
 pub record IsPairText (text : List ℕ) (pair : ℕ × ℤ) : Type 0 where
   pub second : List ℕ
   pub offset : List ℕ
@@ -26,13 +26,13 @@ pub record IsPairText (text : List ℕ) (pair : ℕ × ℤ) : Type 0 where
   pub second_is : digits_value 10 second ≡ pair.0
   pub offset_is : IsOffsetText offset pair.1
 
--- so many digits write a number
+-- digits are a number of a width where there are just as many of them and they write that number
 pub record IsWide (width : ℕ) (digits : List ℕ) (number : ℕ) : Type 0 where
   pub numeral : IsNumeral 10 digits
   pub long : length digits ≡ width
   pub value : digits_value 10 digits ≡ number
 
--- a date of 2000 to 2199 as YYYY-MM-DD, and its day number
+-- a text is that of a day number where it is a date of the years 2000 to 2199 as YYYY-MM-DD, and the day is that date's
 pub record IsDateText (text : List ℕ) (day : ℤ) : Type 0 where
   pub years : List ℕ
   pub months : List ℕ

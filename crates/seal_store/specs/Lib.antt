@@ -3,6 +3,7 @@ pub mod Values
 pub mod OffsetList
 pub mod OffsetLaws
 pub mod Said
+pub mod SaidStages
 pub mod Reading
 pub mod Says
 pub mod Forms

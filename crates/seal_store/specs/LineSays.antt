@@ -1,4 +1,4 @@
--- What one line of a parameter text says, in words that share nothing with how it is read.
+-- Rules: what one line of a parameter text says, in words that share nothing with how it is read.
 use Rattle.std.specs.Prelude.{◌≡◌, ℕ, ℤ, List, [], ◌∷◌, ◌++◌, Some, None, codes}
 use Rattle.drive_modes.specs.declared.charges.Mode.{Mode}
 use Rattle.interval_clock.specs.Offsets.{IsOffsetList}
@@ -7,7 +7,7 @@ use Rattle.seal_store.specs.Ranges.{IsTaxi}
 use Rattle.seal_store.specs.Said.{Said}
 use Rattle.seal_store.specs.Says.{IsNumberIn, IsParted}
 
--- a line that says nothing is empty, or a comment
+-- a line is silent where it is empty, or a comment, which begins with #
 pub data IsSilent : List ℕ → Type 0 where
   empty : IsSilent []
   comment : (rest : List ℕ) → IsSilent (35 ∷ rest)

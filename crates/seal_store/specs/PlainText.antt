@@ -1,4 +1,5 @@
--- A plain text of parameters: a line for each, in the order of their table, and of the offsets a line for each pair.
+-- Rules: a plain text of parameters, a line for each in the order of their table, and of the offsets a line for each
+-- pair.
 use Rattle.std.specs.Prelude.{ℕ, suc, ℤ, pos, negsuc, unsigned_abs, List, [], ◌∷◌, ◌++◌, map, flat_map, codes}
 use Rattle.std.specs.Fmt.{decimal}
 use Rattle.drive_modes.specs.declared.charges.Mode.{Mode}
@@ -8,29 +9,29 @@ use Rattle.interval_clock.specs.declared.day_numbers.CalendarDate.{CalendarDate}
 use Rattle.taxi_units.specs.Number.{padded_text}
 use Rattle.seal_store.specs.declared.params.Params.{Params}
 
--- the two modes
+-- the word of a mode
 abbrev pub mode_text : Mode → List ℕ
 mode_text Single = codes "single"
 mode_text Double = codes "double"
 
--- a number, with a minus before it where it is below zero
+-- an offset is written in decimal, with a minus before it where it is below zero
 abbrev pub offset_text : ℤ → List ℕ
 offset_text (pos n) = decimal n
 offset_text (negsuc n) = 45 ∷ decimal (suc n)
 
--- a date as YYYY-MM-DD
+-- a date is written as YYYY-MM-DD
 abbrev pub date_text : CalendarDate → List ℕ
 date_text d = padded_text 4 d.year ++ 45 ∷ (padded_text 2 d.month ++ 45 ∷ padded_text 2 d.date)
 
--- the line of a key and a value
+-- the line of a key and a value has one blank between them
 abbrev pub line_of : (key value : List ℕ) → List ℕ
 line_of key value = key ++ 32 ∷ value
 
--- the line of a pair: its second, and the offset that is in force from it on
+-- the line of a pair of the offsets has its second, and the offset that is in force from it on
 abbrev pub offset_line : ℕ × ℤ → List ℕ
 offset_line pair = line_of (codes "offset") (decimal pair.0 ++ 32 ∷ offset_text pair.1)
 
--- the lines
+-- the plain lines of parameters are one for each, and one for each pair of the offsets, in the order of the table
 abbrev pub plain_lines : Params → List (List ℕ)
 plain_lines params =
     line_of (codes "taxi") params.taxi.items
@@ -40,6 +41,6 @@ plain_lines params =
     ∷ (map offset_line params.offsets
     ++ line_of (codes "secured") (date_text (date_after (unsigned_abs params.secured))) ∷ [])
 
--- the text: an LF ends each line
+-- the plain text of parameters is their plain lines, each of which an LF ends
 abbrev pub plain_text : Params → List ℕ
 plain_text params = flat_map (λ line. line ++ 10 ∷ []) (plain_lines params)

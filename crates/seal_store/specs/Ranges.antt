@@ -1,24 +1,24 @@
--- The ranges of parameters and seals.
+-- Rules: the ranges of parameters and seals, and the number of a seal.
 use Rattle.std.specs.Prelude.{◌≡◌, ◌⊎◌, ℕ, ◌≤◌, ◌^◌, ℤ, pos, ◌≤ℤ◌, List, length, All}
 use Rattle.interval_clock.specs.Offsets.{IsOffsetList}
 use Rattle.seal_store.specs.declared.params.Params.{Params}
 use Rattle.seal_store.specs.declared.seal.Seal.{Seal}
 
--- A to Z, 0 to 9, and -
+-- a byte is a character of taxi identifiers where it is one of A to Z, of 0 to 9, or -
 abbrev pub IsTaxiCharacter : ℕ → Type 0
 IsTaxiCharacter c = ((65 ≤ c) × (c ≤ 90)) ⊎ (((48 ≤ c) × (c ≤ 57)) ⊎ (c ≡ 45))
 
--- a taxi identifier: 1 to 16 of these characters
+-- a text is a taxi identifier where it has 1 to 16 of the characters of taxi identifiers, and no other
 pub record IsTaxi (text : List ℕ) : Type 0 where
   pub some : 1 ≤ length text
   pub few : length text ≤ 16
   pub characters : All IsTaxiCharacter text
 
--- the day number of a date of 2000 to 2199
+-- a day number is that of a date of the years 2000 to 2199
 abbrev pub IsDay : ℤ → Type 0
 IsDay day = (pos 10957 ≤ℤ day) × (day ≤ℤ pos 84005)
 
--- parameters in their ranges; both modes are
+-- parameters are in their ranges, of which the mode has none, since there are just two
 pub record IsParams (params : Params) : Type 0 where
   pub taxi : IsTaxi params.taxi.items
   pub constant : (500 ≤ params.constant) × (params.constant ≤ 200000)
@@ -26,9 +26,13 @@ pub record IsParams (params : Params) : Type 0 where
   pub secured : IsDay params.secured
   pub offsets : IsOffsetList params.offsets
 
--- a seal in its ranges; a digest is any 32 bytes
+-- a seal is in its ranges; its digest may be any 32 bytes
 pub record IsSeal (seal : Seal) : Type 0 where
   pub seal_number : (1 ≤ seal.seal_number) × (seal.seal_number ≤ 10 ^ 15)
   pub params : IsParams seal.params
   pub digest : length seal.digest ≡ 32
   pub decimals : seal.decimals ≤ 3
+
+-- the number of a seal is the one by which the later of two is known
+abbrev pub number_of : Seal → ℕ
+number_of seal = seal.seal_number

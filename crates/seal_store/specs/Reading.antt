@@ -1,4 +1,5 @@
--- The parameters that a text says, or its first fault.
+-- For proofs: the parameters that a text is read as, or its first fault. The laws texts_say_their_parameters,
+-- texts_are_too_long_or_lack_a_parameter and texts_say_parameters_line_by_line say which they are.
 use Rattle.std.specs.Prelude.{ℕ, ◌+◌, nat_lt, if◌then◌else◌, ℤ, List, [], ◌∷◌, length, Option, Some, None, Result, Ok, Err}
 use Rattle.drive_modes.specs.declared.charges.Mode.{Mode}
 use Rattle.seal_store.specs.declared.params.Name.TheVariants.{Taxi, Constant, Hold, Offset, Secured}
@@ -7,9 +8,10 @@ use Rattle.seal_store.specs.declared.params.Params.{Params}
 use Rattle.seal_store.specs.declared.params.ParamFault.{ParamFault}
 use Rattle.seal_store.specs.declared.params.ParamFault.TheVariants.{TooLong, Missing}
 use Rattle.seal_store.specs.Lines.{lines_of}
-use Rattle.seal_store.specs.Said.{Said, nothing_said, line_read}
+use Rattle.seal_store.specs.Said.{Said, nothing_said}
+use Rattle.seal_store.specs.SaidStages.{line_read}
 
--- go on where nothing was wrong
+-- reading goes on where nothing was wrong, and else ends with the fault
 abbrev pub and_then : {A B : Type 0} → Result A ParamFault → (A → Result B ParamFault) → Result B ParamFault
 and_then (Ok x) f = f x
 and_then (Err fault) f = Err fault
@@ -20,7 +22,7 @@ lines_read said number [] = Ok said
 lines_read said number (line ∷ lines) =
     and_then (line_read said number line) (λ more. lines_read more (number + 1) lines)
 
--- all parameters, or the first that is missing
+-- parameters of which some may be missing are all of them, or the fault of the first that is missing
 abbrev pub whole_of : Option (List ℕ) → Option ℕ → Option Mode → Option ℕ → List (ℕ × ℤ) → Option ℤ
     → Result Params ParamFault
 whole_of None constant mode hold offsets secured = Err (Missing Taxi)
@@ -39,11 +41,11 @@ whole_of (Some taxi) (Some constant) (Some mode) (Some hold) (pair ∷ pairs) (S
       secured = secured;
     })
 
--- the same of what the lines have said
+-- what the lines have said is all parameters, or the fault of the first that is missing
 abbrev pub whole : Said → Result Params ParamFault
 whole said = whole_of said.taxi said.constant said.mode said.hold said.offsets said.secured
 
--- the parameters that a text says, or its first fault: a text of more than 65,536 bytes is not read
+-- a text is read as the parameters that its lines say, or as its first fault; one of more than 65,536 bytes is too long
 unfoldable pub params_read : List ℕ → Result Params ParamFault
 params_read text =
     if nat_lt 65536 (length text) then Err TooLong else and_then (lines_read nothing_said 1 (lines_of text)) whole

@@ -1,4 +1,4 @@
--- A seal's bytes are read as that seal, and no others are.
+-- For proofs: a seal's bytes are read as that seal, and no others are.
 use Rattle.std.proofs.Common.{◌≡◌, ◌≢◌, ℕ, zero, suc, ◌+◌, ◌-◌, ◌*◌, ◌^◌, ◌<◌, ◌≤◌, inl, inr, Bool, true, false, ◌&&◌, if◌then◌else◌, ℤ, pos, negsuc, List, [], ◌∷◌, ◌++◌, length, take, drop, get_or, replicate, flat_map, FitsSigned, Some, None, Decides, refl, sym, ap, subst, ◌∙◌, arith, append_assoc, length-append}
 use Rattle.std.specs.Int.{w16, w32, from_be_bytes, cast_signed, cast_unsigned}
 use Rattle.std.specs.List.{list_all}
@@ -15,11 +15,12 @@ use Rattle.std.proofs.lemmas.Slice.Eq.{bytes_eq-Decides}
 use Rattle.drive_modes.specs.declared.charges.Mode.{Mode}
 use Rattle.drive_modes.specs.declared.charges.Mode.TheVariants.{Single, Double}
 use Rattle.interval_clock.specs.Offsets.{IsOffset, IsInRangeAt}
-use Rattle.totaliser_store.specs.Bytes.{byte_at, four_at}
+use Rattle.totaliser_store.specs.BytesAt.{byte_at, four_at}
 use Rattle.seal_store.specs.declared.params.Params.{Params}
 use Rattle.seal_store.specs.declared.seal.Seal.{Seal}
 use Rattle.seal_store.specs.Decoding.{are_params, decoded, is_seal, mode_in, pairs_in, reads, signed_at, two_at}
-use Rattle.seal_store.specs.Lines.{before, HasNone}
+use Rattle.seal_store.specs.Lines.{before}
+use Rattle.seal_store.specs.Says.{HasNone}
 use Rattle.seal_store.specs.OffsetLaws.{Decides-int_le, Decides-is_offset_list, Decides-leb}
 use Rattle.seal_store.specs.Ranges.{IsDay, IsParams, IsSeal, IsTaxi, IsTaxiCharacter}
 use Rattle.seal_store.specs.Spelling.{end_bytes, mode_byte, offset_bytes, padded, pair_bytes, settings_bytes, signed_bytes, spelling}
@@ -27,11 +28,13 @@ use Rattle.seal_store.specs.Values.{is_taxi, is_taxi_character}
 
 -- ---- the tests decide the ranges
 
+-- the test of a character decides whether it is one of taxi identifiers
 Decides-is_taxi_character : (c : ℕ) → Decides (is_taxi_character c) (IsTaxiCharacter c)
 Decides-is_taxi_character c =
     Decides-or _ _ (Decides-and _ _ (Decides-leb 65 c) (Decides-leb c 90))
     (Decides-or _ _ (Decides-and _ _ (Decides-leb 48 c) (Decides-leb c 57)) (Decides-eqb c 45))
 
+-- the test of a text decides whether it is a taxi identifier
 pub Decides-is_taxi : (text : List ℕ) → Decides (is_taxi text) (IsTaxi text)
 Decides-is_taxi text =
     let characters =
@@ -41,6 +44,7 @@ Decides-is_taxi text =
     (λ is. (is.some, (is.few, is.characters)))
     (Decides-and _ _ (Decides-leb 1 (length text)) (Decides-and _ _ (Decides-leb (length text) 16) characters))
 
+-- the test of parameters decides whether they are in their ranges
 pub Decides-are_params : (params : Params) → Decides (are_params params) (IsParams params)
 Decides-are_params params =
     Decides-like (are_params params)
@@ -59,6 +63,7 @@ Decides-are_params params =
     (Decides-and _ _ (Decides-int_le (pos 10957) params.secured)
     (Decides-and _ _ (Decides-int_le params.secured (pos 84005)) (Decides-is_offset_list params.offsets)))))))
 
+-- the test of a seal decides whether it is in its ranges
 pub Decides-is_seal : (seal : Seal) → Decides (is_seal seal) (IsSeal seal)
 Decides-is_seal seal =
     Decides-like (is_seal seal)
@@ -71,15 +76,19 @@ Decides-is_seal seal =
 
 -- ---- lists at their places
 
+-- what stands behind a list of length `k` is reached by leaving `k` more
 skipped : (k m : ℕ) (xs ys : List ℕ) → length xs ≡ k → drop (k + m) (xs ++ ys) ≡ drop m ys
 skipped k m xs ys len = subst (λ (n : ℕ). drop (n + m) (xs ++ ys) ≡ drop m ys) len (drop-append-add xs ys m)
 
+-- a place behind a list of length `k` is greater by `k`
 passed : (k m : ℕ) (xs ys : List ℕ) → length xs ≡ k → get_or (xs ++ ys) (k + m) 0 ≡ get_or ys m 0
 passed k m xs ys len = subst (λ (n : ℕ). get_or (xs ++ ys) (n + m) 0 ≡ get_or ys m 0) len (get_or-append-add xs ys m 0)
 
+-- the first `k` of a list of length `k` and more behind it are that list
 front : (k : ℕ) (xs ys : List ℕ) → length xs ≡ k → take k (xs ++ ys) ≡ xs
 front k xs ys len = subst (λ (n : ℕ). take n (xs ++ ys) ≡ xs) len (take-append_seam xs ys)
 
+-- bytes that are padded to a count have that length
 length-padded : (count : ℕ) (bytes : List ℕ) → length bytes ≤ count → length (padded count bytes) ≡ count
 length-padded count bytes fits =
     omega (
@@ -88,18 +97,21 @@ length-padded count bytes fits =
       length-replicate {A = ℕ} (count - length bytes) 0,
     )
 
+-- a list of offsets has twelve bytes a pair
 length-pairs : (pairs : List (ℕ × ℤ)) → length (flat_map pair_bytes pairs) ≡ 12 * length pairs
 length-pairs [] = refl
 length-pairs (pair ∷ pairs) = omega (arith, length-pairs pairs)
 
 -- ---- each field is read back
 
+-- bytes that have none of a value are all that stands before the first of that value
 before_none : (byte : ℕ) (bytes : List ℕ) → HasNone byte bytes → before byte bytes ≡ bytes
 before_none byte [] none = refl
 before_none byte (c ∷ cs) none =
     rw (ne_eqb c byte (All-head (λ b. b ≢ byte) c cs none))
     (ap (λ (xs : List ℕ). c ∷ xs) (before_none byte cs (All-tail (λ b. b ≢ byte) c cs none)))
 
+-- bytes without a zero stand before the zeros behind them
 before_zeros : (bytes : List ℕ) (count : ℕ) → HasNone 0 bytes → before 0 (bytes ++ replicate count 0) ≡ bytes
 before_zeros [] zero none = refl
 before_zeros [] (suc count) none = refl
@@ -107,26 +119,32 @@ before_zeros (c ∷ cs) count none =
     rw (ne_eqb c 0 (All-head (λ b. b ≢ 0) c cs none))
     (ap (λ (xs : List ℕ). c ∷ xs) (before_zeros cs count (All-tail (λ b. b ≢ 0) c cs none)))
 
+-- a character of taxi identifiers isn't zero
 no_zero : (c : ℕ) → IsTaxiCharacter c → c ≢ 0
 no_zero c (inl letter) e = omega (arith, letter.0, e)
 no_zero c (inr (inl digit)) e = omega (arith, digit.0, e)
 no_zero c (inr (inr minus)) e = omega (arith, minus, e)
 
+-- a day of the years 2000 to 2199 fits into 32 bits
 pub fits_day : (day : ℤ) → IsDay day → FitsSigned w32 day
 fits_day (pos n) is = record { sfits = grind (arith, ints, is.0, is.1) }
 fits_day (negsuc n) is = absurd (grind (arith, ints, is.0, is.1))
 
+-- an offset fits into 32 bits
 pub fits_offset : (offset : ℤ) → IsOffset offset → FitsSigned w32 offset
 fits_offset (pos n) is = record { sfits = grind (arith, ints, is.0, is.1) }
 fits_offset (negsuc n) is = record { sfits = grind (arith, ints, is.0, is.1) }
 
+-- the bits of a signed number of 32 bits are below 2^32
 bits_fit : (n : ℤ) → FitsSigned w32 n → cast_unsigned w32 n < 2 ^ 32
 bits_fit n fits = (Fits-of_z {w = w32} fits).fits
 
+-- a signed number of 32 bits is read back
 signed_back : (n : ℤ) → FitsSigned w32 n → cast_signed w32 (from_be_bytes w32 (signed_bytes n)) ≡ n
 signed_back n fits =
     ap (cast_signed w32) (from_be_bytes-to_be_bytes_4 (cast_unsigned w32 n) (bits_fit n fits)) ∙ to_z-of_z w32 n fits
 
+-- pairs in range are read back
 pairs_back : (pairs : List (ℕ × ℤ)) (rest : List ℕ) → ((place : ℕ) → place < length pairs → IsInRangeAt pairs place)
     → pairs_in (length pairs) (flat_map pair_bytes pairs ++ rest) ≡ pairs
 pairs_back [] rest each = refl
@@ -137,11 +155,12 @@ pairs_back (pair ∷ pairs) rest each =
     let others = pairs_back pairs rest (λ place lt. each (suc place) (omega arith)) in
     λ i. (second i, offset i) ∷ others i
 
+-- a mode is read back
 mode_back : (mode : Mode) → mode_in (mode_byte mode) ≡ mode
 mode_back Single = refl
 mode_back Double = refl
 
--- seals with the same fields
+-- seals whose fields are the same are the same
 same_seal : (a b : Seal) → a.seal_number ≡ b.seal_number → a.params.taxi.items ≡ b.params.taxi.items
     → a.params.constant ≡ b.params.constant → a.params.mode ≡ b.params.mode
     → a.params.hold ≡ b.params.hold → a.params.offsets ≡ b.params.offsets → a.params.secured ≡ b.params.secured
@@ -161,35 +180,45 @@ same_seal a b number taxi constant mode hold offsets secured digest decimals = �
   decimals = decimals i;
 }
 
+-- the bytes of a seal in its ranges, field by field
 module _ (seal : Seal) (valid : IsSeal seal) where
+  -- the parameters of the seal
   abbrev params : Params
   params = seal.params
 
+  -- what stands behind the number of the seal
   abbrev rest_1 : List ℕ
   rest_1 = padded 16 params.taxi.items ++
       (settings_bytes params ++
       (seal.digest ++ (signed_bytes params.secured ++ offset_bytes params.offsets (end_bytes seal.decimals))))
 
+  -- what stands behind the taxi identifier
   abbrev rest_2 : List ℕ
   rest_2 = settings_bytes params ++
       (seal.digest ++ (signed_bytes params.secured ++ offset_bytes params.offsets (end_bytes seal.decimals)))
 
+  -- what stands behind the settings
   abbrev rest_3 : List ℕ
   rest_3 = seal.digest ++ (signed_bytes params.secured ++ offset_bytes params.offsets (end_bytes seal.decimals))
 
+  -- what stands behind the digest
   abbrev rest_4 : List ℕ
   rest_4 = signed_bytes params.secured ++ offset_bytes params.offsets (end_bytes seal.decimals)
 
+  -- the room of the offsets
   abbrev room : List ℕ
   room = padded 384 (flat_map pair_bytes params.offsets)
 
+  -- the taxi identifier fills its sixteen bytes
   taxi_long : length (padded 16 params.taxi.items) ≡ 16
   taxi_long = length-padded 16 params.taxi.items valid.params.taxi.few
 
+  -- the offsets fill their room
   room_long : length room ≡ 384
   room_long = length-padded 384 (flat_map pair_bytes params.offsets)
       (omega (arith, length-pairs params.offsets, valid.params.offsets.few))
 
+  -- a spelling fills a body
   pub size : length (spelling seal) ≡ 511
   size = omega (
     arith,
@@ -201,6 +230,7 @@ module _ (seal : Seal) (valid : IsSeal seal) where
     room_long,
   )
 
+  -- each field of a seal in its ranges is read back
   back : decoded (spelling seal) ≡ seal
   back =
       let taxi : before 0 (take 16 (drop 8 (spelling seal))) ≡ params.taxi.items =
@@ -246,52 +276,61 @@ module _ (seal : Seal) (valid : IsSeal seal) where
 
 -- ---- what bytes are read as
 
+-- a test that decides a fact fails where the fact doesn't hold
 not_decided : {P : Type 0} (b : Bool) → Decides b P → ¬ P → b ≡ false
 not_decided true decides none = absurd (none (decides.0 refl))
 not_decided false decides none = refl
 
+-- a value behind two tests isn't given where the second fails
 read_by : (ranges same : Bool) (seal : Seal) → same ≡ false → (if ranges && same then Some seal else None) ≡ None
 read_by true true seal other = absurd cc
 read_by true false seal other = refl
 read_by false same seal other = refl
 
+-- bytes whose fields are out of their ranges aren't read
 pub reads_none : (bytes : List ℕ) → ¬ (IsSeal (decoded bytes)) → reads bytes ≡ None
 unfolding reads
 reads_none bytes none = rw (not_decided (is_seal (decoded bytes)) (Decides-is_seal (decoded bytes)) none) refl
 
+-- bytes that aren't the spelling of their fields aren't read
 pub reads_other : (bytes : List ℕ) → bytes_eq (spelling (decoded bytes)) bytes ≡ false → reads bytes ≡ None
 unfolding reads
 reads_other bytes other =
     read_by (is_seal (decoded bytes)) (bytes_eq (spelling (decoded bytes)) bytes) (decoded bytes) other
 
+-- bytes that are the spelling of their fields, which are in their ranges, are read as the seal of these
 pub reads_own : (bytes : List ℕ) → IsSeal (decoded bytes) → spelling (decoded bytes) ≡ bytes
     → reads bytes ≡ Some (decoded bytes)
 unfolding reads
 reads_own bytes valid own =
     rw ((Decides-is_seal (decoded bytes)).1 valid, (bytes_eq-Decides (spelling (decoded bytes)) bytes).1 own) refl
 
--- what a seal that was read passed
+-- a value that is given behind two tests has passed both
 tests_passed : (ranges same : Bool) (seal read : Seal) → (if ranges && same then Some seal else None) ≡ Some read
     → (ranges ≡ true) × (same ≡ true) × (seal ≡ read)
 tests_passed true true seal read is = (refl, refl, cc)
 tests_passed true false seal read is = absurd cc
 tests_passed false same seal read is = absurd cc
 
+-- bytes that are read as a seal have passed each test
 was_read : (bytes : List ℕ) (seal : Seal) → reads bytes ≡ Some seal
     → (is_seal (decoded bytes) ≡ true) × (bytes_eq (spelling (decoded bytes)) bytes ≡ true) × (decoded bytes ≡ seal)
 unfolding reads
 was_read bytes seal read =
     tests_passed (is_seal (decoded bytes)) (bytes_eq (spelling (decoded bytes)) bytes) (decoded bytes) seal read
 
+-- the spelling of a seal in its ranges is read as that seal
 pub reads_it : (seal : Seal) → IsSeal seal → reads (spelling seal) ≡ Some seal
 reads_it seal valid =
     let same = back seal valid in
     reads_own (spelling seal) (subst IsSeal (sym same) valid) (ap spelling same) ∙ ap (λ (s : Seal). Some s) same
 
+-- a seal that is read is in its ranges
 pub gives_valid : (bytes : List ℕ) (seal : Seal) → reads bytes ≡ Some seal → IsSeal seal
 gives_valid bytes seal read =
     let tests = was_read bytes seal read in subst IsSeal tests.2 ((Decides-is_seal (decoded bytes)).0 tests.0)
 
+-- bytes that are read as a seal are its spelling
 pub nothing_else : (bytes : List ℕ) (seal : Seal) → reads bytes ≡ Some seal → bytes ≡ spelling seal
 nothing_else bytes seal read =
     let tests = was_read bytes seal read in sym ((bytes_eq-Decides (spelling (decoded bytes)) bytes).0 tests.1)

@@ -1,10 +1,8 @@
--- What a sealing leaves in the store: the pair of totals begins at place 0, the pair of seals at place 1,024.
-use Rattle.std.specs.Option.{option_map}
+-- Rules: what a sealing leaves in the store. The pair of totals begins at place 0, the pair of seals at place 1,024.
 use Rattle.std.specs.Prelude.{◌≡◌, ◌⊎◌, ℕ, ◌+◌, List, Option, Some, None}
 use Rattle.outside.specs.declared.board.Board.{Ghosts}
 use Rattle.slot_store.specs.declared.found.Found.{Found}
 use Rattle.slot_store.specs.declared.found.Found.TheVariants.{Blank, Latest}
-use Rattle.slot_store.specs.declared.pair.Pair.{Pair}
 use Rattle.slot_store.specs.declared.pair.Place.{Place}
 use Rattle.slot_store.specs.Slots.{IsQuiet, IsBlank, IsSettled, StandsFor, Shows, ShowsEither}
 use Rattle.slot_store.specs.Scan.{IsAsFound}
@@ -15,115 +13,117 @@ use Rattle.totaliser_store.specs.States.{first_state}
 use Rattle.totaliser_store.specs.Stored as stored
 use Rattle.totaliser_store.specs.Stored.{HasState, KeepsState}
 use Rattle.seal_store.specs.declared.seal.Seal.{Seal}
-use Rattle.seal_store.specs.Decoding.{reads, number_of}
+pub use Rattle.seal_store.specs.Decoding.{reads}
+use Rattle.seal_store.specs.Ranges.{number_of}
 
--- the image stands for this seal
+-- an image has a seal where its pair of seals stands for it
 abbrev pub HasSeal : List ℕ → Seal → Type 0
 HasSeal image seal = StandsFor reads number_of 1024 image seal
 
--- the image stands for this seal, or has none
+-- an image shows a seal where its pair of seals stands for it, and shows none where that pair is blank
 abbrev pub ShowsSeal : List ℕ → Option Seal → Type 0
 ShowsSeal image seal = Shows reads number_of 1024 image seal
 
--- the image stands for the new seal, or has the old one, or none as before
+-- an image has either seal where it has the new one, or shows the old one, of which there may be none
 abbrev pub HasEitherSeal : (old : Option Seal) → (new : Seal) → List ℕ → Type 0
 HasEitherSeal old new image = ShowsEither reads number_of 1024 old new image
 
--- what a sealing begins with, the totals and the seal that were found, and the seal that it puts in
+-- a sealing begins with the totals and the seal that were found, if any, and puts a new seal in
 pub record Sealing : Type 0 where
   pub totals : Option Durable
   pub old : Option Seal
   pub new : Seal
 
--- the number of the seal that is put in: the one after the found seal's, or 1
+-- the number of the seal that is put in is the one after the found seal's, or 1 where none was found
 abbrev pub next_number : (found : Option ℕ) → ℕ
 next_number None = 1
 next_number (Some number) = number + 1
 
--- the totals after a sealing: those that were found, or totals of zero with number 1
+-- the totals after a sealing are those that were found, or the first ones, of zero and with number 1
 abbrev pub totals_after : (found : Option Durable) → Durable
 totals_after None = first_state
 totals_after (Some durable) = durable
 
--- amid a sealing the totals are those that were found, or where there were none, none or the first ones
+-- an image keeps totals where it has those that were found, or where none were, has none or the first ones
 abbrev pub KeepsTotals : (found : Option Durable) → List ℕ → Type 0
 KeepsTotals None image = IsBlank 0 image ⊎ HasState image first_state
 KeepsTotals (Some durable) image = HasState image durable
 
--- a sealing has been done: the totals are there, and the new seal
+-- an image is sealed where it has the totals after the sealing and the new seal
 pub record IsSealed (sealing : Sealing) (image : List ℕ) : Type 0 where
   pub totals : HasState image (totals_after sealing.totals)
   pub seal : HasSeal image sealing.new
 
--- an image that a cut amid a sealing may leave: the totals are kept, and the seal is the old one, or none as before,
--- or the new one beside totals
+-- an image is amid a sealing where the totals are kept, and the seal is the old one, or none as before, or the new one
+-- beside totals
 pub record IsAmid (sealing : Sealing) (image : List ℕ) : Type 0 where
   pub totals : KeepsTotals sealing.totals image
   pub seal : ShowsSeal image sealing.old ⊎ IsSealed sealing image
 
--- where the writes of a sealing begin, and how many places they may reach: the pair of seals where totals were found,
--- else both pairs
+-- the writes of a sealing begin at the pair of seals where totals were found, and else at the pair of totals
 abbrev pub first_written : (found : Option Durable) → ℕ
 first_written None = 0
 first_written (Some durable) = 1024
 
+-- the writes of a sealing may reach one pair where totals were found, and else both
 abbrev pub places_written : (found : Option Durable) → ℕ
 places_written None = 2048
 places_written (Some durable) = 1024
 
--- the number of the found seal
+-- the number of the found seal, where one was found
 abbrev pub found_number : Option (Place × ℕ) → Option ℕ
 found_number None = None
 found_number (Some found) = Some found.1
 
--- the pair of seals with the found place
-abbrev pub pair_for : Option (Place × ℕ) → Pair
-pair_for found = record { at = 1024; latest = option_map (λ latest. latest.0) found }
-
--- what scans of the two pairs found: the totals; the place and the number of the seal; and the seal
+-- the totals that a scan found, if any
 abbrev pub totals_found : Found Durable → Option Durable
 totals_found Blank = None
 totals_found (Latest place durable) = Some durable
 
+-- the place and the number of the seal that a scan found, if any
 abbrev pub seal_found : Found Seal → Option (Place × ℕ)
 seal_found Blank = None
 seal_found (Latest place seal) = Some (place, seal.seal_number)
 
+-- the seal that a scan found, if any
 abbrev pub old_seal : Found Seal → Option Seal
 old_seal Blank = None
 old_seal (Latest place seal) = Some seal
 
 module _ {D L : Type 0} (B : Ghosts D L) where
-  -- the pair of totals was scanned with this finding: it is settled, or blank with nothing in flight
+  -- a board has found totals where its pair of totals is settled with them, or where none were found, is blank with
+  -- nothing in flight
   abbrev pub FoundTotals : D → Option Durable → Type 0
   FoundTotals board None = IsBlank 0 (B.image board) × IsQuiet 0 (B.in_flight board)
   FoundTotals board (Some durable) = (place : Place) × KeepsState B place board durable
 
-  -- the pair of seals is settled at a place with this seal
+  -- a board keeps a seal at a place where its pair of seals is settled there with that seal
   abbrev pub KeepsSeal : Place → D → Seal → Type 0
   KeepsSeal place board seal = IsSettled reads number_of 1024 place (B.image board) (B.in_flight board) seal
 
-  -- the pair of seals was scanned with this place and number, which are those of this seal
+  -- a board has a found seal where its pair of seals is settled with it at the found place, and it has the found
+  -- number; or where none was found, the pair is blank with nothing in flight
   abbrev pub FoundSeal : D → Option (Place × ℕ) → Option Seal → Type 0
   FoundSeal board None None = IsBlank 1024 (B.image board) × IsQuiet 1024 (B.in_flight board)
   FoundSeal board None (Some seal) = ⊥
   FoundSeal board (Some found) None = ⊥
   FoundSeal board (Some found) (Some seal) = KeepsSeal found.0 board seal × (seal.seal_number ≡ found.1)
 
-  -- a scan of the pair of totals, or of seals, left it as it was found
+  -- a scan of the pair of totals left it as it was found
   abbrev pub ScannedTotals : D → Found Durable → Type 0
   ScannedTotals board found = IsAsFound totals.reads stored.number_of 0 (B.image board) (B.in_flight board) found
 
+  -- a scan of the pair of seals left it as it was found
   abbrev pub ScannedSeal : D → Found Seal → Type 0
   ScannedSeal board found = IsAsFound reads number_of 1024 (B.image board) (B.in_flight board) found
 
-  -- after a sealing both pairs are settled: the totals' with those that were found or the first ones, the seals' with
-  -- the new seal
+  -- a board keeps what was sealed where both pairs are settled, the totals' with those that were found or the first
+  -- ones, and the seals' with the new seal
   pub record KeepsSealed (found : Option Durable) (seal : Seal) (board : D) : Type 0 where
     pub totals : (place : Place) × KeepsState B place board (totals_after found)
     pub seal_is : (place : Place) × KeepsSeal place board seal
 
-  -- a cut at each moment from the old board to the new one leaves an image amid the sealing, and outside the places
+  -- a run leaves a sealing where a cut at each of its moments leaves an image amid the sealing, and outside the places
   -- that are written what it might have left at the old board
   abbrev pub LeavesSealing : Sealing → D → D → Type 0
   LeavesSealing sealing old new =

@@ -1,4 +1,4 @@
--- What a whole text of parameters says, in words that share nothing with how it is read.
+-- Rules: what a whole text of parameters says, in words that share nothing with how it is read.
 use Rattle.std.specs.Prelude.{◌≡◌, ℕ, ◌<◌, ◌≤◌, List, [], ◌∷◌, length, Some, None}
 use Rattle.seal_store.specs.declared.params.Name.{Name}
 use Rattle.seal_store.specs.declared.params.Name.TheVariants.{Taxi, Constant, Hold, Offset, Secured}
@@ -8,13 +8,13 @@ use Rattle.seal_store.specs.LineSays.{SaysMore}
 use Rattle.seal_store.specs.Said.{Said, nothing_said}
 use Rattle.seal_store.specs.Says.{AreLines}
 
--- lines say their parameters, one line after another
+-- lines say on, from what was said to what is said then, where each of them says more in its turn
 pub data SayOn : Said → (lines : List (List ℕ)) → Said → Type 0 where
   no_line : (said : Said) → SayOn said [] said
   one_line : (said more after : Said) (line : List ℕ) (lines : List (List ℕ)) → SaysMore said line more
       → SayOn more lines after → SayOn said (line ∷ lines) after
 
--- each parameter has been said
+-- parameters are said where each of them has been, and the offsets are the whole list
 pub record AreSaid (said : Said) (params : Params) : Type 0 where
   pub taxi : said.taxi ≡ Some params.taxi.items
   pub constant : said.constant ≡ Some params.constant
@@ -24,7 +24,7 @@ pub record AreSaid (said : Said) (params : Params) : Type 0 where
   pub offsets : said.offsets ≡ params.offsets
   pub secured : said.secured ≡ Some params.secured
 
--- a text of at most 65,536 bytes says parameters by its lines, from the first to the last
+-- a text says parameters where it has at most 65,536 bytes, and its lines, from the first to the last, say each of them
 pub record SaysParams (text : List ℕ) (params : Params) : Type 0 where
   pub few : length text ≤ 65536
   pub lines : List (List ℕ)
@@ -33,7 +33,7 @@ pub record SaysParams (text : List ℕ) (params : Params) : Type 0 where
   pub say : SayOn nothing_said lines said
   pub all : AreSaid said params
 
--- a parameter has not been said
+-- a parameter is unsaid where no line has said it yet
 abbrev pub IsUnsaid : Said → Name → Type 0
 IsUnsaid said Taxi = said.taxi ≡ None
 IsUnsaid said Constant = said.constant ≡ None
@@ -42,7 +42,7 @@ IsUnsaid said Hold = said.hold ≡ None
 IsUnsaid said Offset = said.offsets ≡ []
 IsUnsaid said Secured = said.secured ≡ None
 
--- the place of a parameter in the table of the format
+-- a parameter has this row in the table of the format, which counts from 0
 abbrev pub row_of : Name → ℕ
 row_of Taxi = 0
 row_of Constant = 1
@@ -51,7 +51,8 @@ row_of Hold = 3
 row_of Offset = 4
 row_of Secured = 5
 
--- all lines of a text of at most 65,536 bytes are good, and this is the first parameter by the table that they don't say
+-- a text lacks a parameter first where it has at most 65,536 bytes, all its lines are good, and the parameter is the
+-- first of the table that they don't say
 pub record LacksFirst (text : List ℕ) (which : Name) : Type 0 where
   pub few : length text ≤ 65536
   pub lines : List (List ℕ)

@@ -1,40 +1,41 @@
--- The values of the parameters.
+-- For proofs: the values of the parameters, as they are read. The laws texts_say_parameters_line_by_line and
+-- values_are_read_by_their_forms say what they are.
 use Rattle.std.specs.Prelude.{ℕ, ◌+◌, ◌&&◌, ◌||◌, ◌==◌, nat_le, Bool, if◌then◌else◌, ℤ, pos, neg_ℤ, List, length, Option, Some, None, codes}
 use Rattle.std.specs.List.{list_all}
 use Rattle.std.specs.Str.{bytes_eq}
 use Rattle.drive_modes.specs.declared.charges.Mode.{Mode}
 use Rattle.drive_modes.specs.declared.charges.Mode.TheVariants.{Single, Double}
 use Rattle.interval_clock.specs.Calendar.{is_date, day_number_of}
-use Rattle.taxi_units.specs.Number.{number_at}
+use Rattle.taxi_units.specs.Number.{number_at, number_of_width}
 use Rattle.taxi_units.specs.Reading.{◌>>=◌, word_at}
 
--- A to Z, 0 to 9, and -
+-- a test whether a byte is one of A to Z, of 0 to 9, or -
 abbrev pub is_taxi_character : ℕ → Bool
 is_taxi_character c = (nat_le 65 c && nat_le c 90) || ((nat_le 48 c && nat_le c 57) || (c == 45))
 
--- 1 to 16 such characters
+-- a test whether a text has 1 to 16 characters of taxi identifiers, and no other
 abbrev pub is_taxi : List ℕ → Bool
 is_taxi text = nat_le 1 (length text) && (nat_le (length text) 16 && list_all is_taxi_character text)
 
--- a taxi identifier
+-- a text is read as a taxi identifier where it is one
 abbrev pub taxi_read : List ℕ → Option (List ℕ)
 taxi_read text = if is_taxi text then Some text else None
 
--- a number at the front of a text, where it is the whole text and in a range
+-- a number that was read at the front of a text, where nothing stands behind it and it is in a range
 abbrev pub where_in : (low high : ℕ) → ℕ × List ℕ → Option ℕ
 where_in low high x = if (length x.1 == 0 && (nat_le low x.0 && nat_le x.0 high)) then Some x.0 else None
 
--- a number of 1 to 12 digits in a range
+-- a text is read as a number of a range where it is 1 to 12 digits that write such a number
 unfoldable pub number_in : (low high : ℕ) → List ℕ → Option ℕ
 number_in low high text = number_at text >>= where_in low high
 
--- single, double
+-- a text is read as a mode where it is the word of one
 unfoldable pub mode_read : List ℕ → Option Mode
 mode_read text =
     if bytes_eq text (codes "single") then Some Single
     else (if bytes_eq text (codes "double") then Some Double else None)
 
--- a number of at most 14 hours, in seconds, perhaps with a minus before it
+-- a text is read as an offset where it is a number of at most 50400 seconds, perhaps with a minus before it
 unfoldable pub offset_read : List ℕ → Option ℤ
 offset_read text = signed_read text (word_at (codes "-") text)
   where
@@ -42,7 +43,7 @@ offset_read text = signed_read text (word_at (codes "-") text)
     signed_read text (Some digits) = number_in 0 50400 digits >>= (λ n. Some (neg_ℤ (pos n)))
     signed_read text None = number_in 0 50400 text >>= (λ n. Some (pos n))
 
--- a second, one blank, and the offset that is in force from it on
+-- a text is read as a pair where it is a second, one blank, and the offset that is in force from it on
 unfoldable pub pair_read : List ℕ → Option (ℕ × ℤ)
 pair_read text = do
   second ← number_at text
@@ -50,26 +51,19 @@ pair_read text = do
   offset ← offset_read rest
   Some (second.0, offset)
 
--- a number at the front of a text, where it has so many digits
-abbrev pub where_wide : (width : ℕ) → (text : List ℕ) → ℕ × List ℕ → Option (ℕ × List ℕ)
-where_wide width text x = if length text == width + length x.1 then Some x else None
-
--- a number of so many digits, and what stands after it
-unfoldable pub digits_at : (width : ℕ) → List ℕ → Option (ℕ × List ℕ)
-digits_at width text = number_at text >>= where_wide width text
-
--- a year of four digits, a month and a date of two, parted by a minus each: it is a date of 2000 to 2199
+-- a year, a month and a date that were read are a day number where nothing stands behind them and they are a date of
+-- the years 2000 to 2199
 abbrev pub where_date : (year month date : ℕ) → (rest : List ℕ) → Option ℤ
 where_date year month date rest =
     if (length rest == 0 && (nat_le 2000 year && (nat_le year 2199 && is_date year month date)))
     then Some (pos (day_number_of year month date)) else None
 
--- the day number of a date
+-- a text is read as the day number of a date where it is YYYY-MM-DD
 unfoldable pub secured_read : List ℕ → Option ℤ
 secured_read text = do
-  year ← digits_at 4 text
+  year ← number_of_width 4 text
   rest ← word_at (codes "-") year.1
-  month ← digits_at 2 rest
+  month ← number_of_width 2 rest
   rest ← word_at (codes "-") month.1
-  date ← digits_at 2 rest
+  date ← number_of_width 2 rest
   where_date year.0 month.0 date.0 date.1

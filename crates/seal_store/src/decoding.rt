@@ -1,7 +1,7 @@
 //! The fields of a seal at their places in bytes.
 ghost use Rattle.std.specs.Prelude.{◌≡◌, ◌+◌, ◌*◌, ◌≤◌, ◌∷◌, FitsSigned, drop, take, length, MatchOption};
 ghost use Rattle.std.specs.Int.{w32};
-ghost use Rattle.totaliser_store.specs.Bytes.{four_at, eight_at};
+ghost use Rattle.totaliser_store.specs.BytesAt.{four_at, eight_at};
 ghost use Rattle.seal_store.specs.Decoding as spec;
 ghost use Rattle.seal_store.specs.Decoding.{decoded, signed_at, two_at};
 ghost use Rattle.seal_store.specs.Ranges.{IsParams, IsSeal, IsTaxi};
@@ -9,11 +9,24 @@ ghost use Rattle.interval_clock.specs.Offsets.{IsOffsetList};
 
 use crate::lines::before;
 use crate::offset_list::offsets_of;
+use crate::params::LONGEST_HOLD;
 use crate::{Params, Seal, values};
 use arrayvec::ArrayVec;
 use drive_modes::Mode;
 use interval_clock::Offsets;
 use pulse_input::Constant;
+
+/// The day number of 2000-01-01, before which nothing is secured.
+const FIRST_DAY: i32 = 10_957;
+
+/// The day number of 2199-12-31, after which nothing is secured.
+const LAST_DAY: i32 = 84_005;
+
+/// The number of the last seal that a store may have.
+const LAST_SEAL_NUMBER: u64 = 1_000_000_000_000_000;
+
+/// How many decimals a tariff's money has at most.
+const MOST_DECIMALS: u8 = 3;
 
 /// The number in the two bytes from a place on.
 fn two_at(bytes: &[u8], at: usize) -> u16
@@ -67,7 +80,7 @@ fn mode_in(byte: u8) -> Mode
     }
 }
 
-/// So many pairs from the beginning of the bytes on.
+/// The pairs at the front of bytes, `count` of them.
 fn pairs_in(count: usize, bytes: &[u8]) -> ArrayVec<(u64, i32), 32>
     requires few { count ≤ 32 }
     requires long { 384 ≤ length bytes.now }
@@ -105,23 +118,19 @@ fn params_in(bytes: &[u8; 511]) -> Option<Params>
     ensures { MatchOption result (¬ IsParams (spec.params_in bytes.now))
         (λ params. (params ≡ spec.params_in bytes.now) × IsParams params) }
 {
-    let Some(taxi) = taxi_in(bytes) else {
-        return None;
-    };
+    let taxi = taxi_in(bytes)?;
     let Ok(constant) = Constant::new(four_at(bytes, 24)) else {
         return None;
     };
     let hold = two_at(bytes, 29);
-    if hold > 600 {
+    if hold > LONGEST_HOLD {
         return None;
     }
     let secured = signed_at(bytes, 63);
-    if secured < 10_957 || secured > 84_005 {
+    if secured < FIRST_DAY || secured > LAST_DAY {
         return None;
     }
-    let Some(offsets) = offsets_in(bytes) else {
-        return None;
-    };
+    let offsets = offsets_in(bytes)?;
     Some(Params {
         taxi,
         constant,
@@ -138,14 +147,12 @@ pub(crate) fn seal_in(bytes: &[u8; 511]) -> Option<Seal>
         (λ seal. (seal ≡ decoded bytes.now) × IsSeal seal) }
 {
     let seal_number = eight_at(bytes, 0);
-    if seal_number < 1 || seal_number > 1_000_000_000_000_000 {
+    if seal_number < 1 || seal_number > LAST_SEAL_NUMBER {
         return None;
     }
-    let Some(params) = params_in(bytes) else {
-        return None;
-    };
+    let params = params_in(bytes)?;
     let decimals = bytes[452];
-    if decimals > 3 {
+    if decimals > MOST_DECIMALS {
         return None;
     }
     let mut digest = [0; 32];

@@ -5,7 +5,8 @@ ghost use Rattle.seal_store.specs.declared.params.ParamFault.{ParamFault};
 ghost use Rattle.seal_store.specs.Faults.{IsBad};
 ghost use Rattle.seal_store.specs.Forms.{IsDateText, IsModeText, IsPairText};
 ghost use Rattle.seal_store.specs.LineSays.{SaysMore};
-ghost use Rattle.seal_store.specs.Said.{Said, line_read};
+ghost use Rattle.seal_store.specs.Said.{Said};
+ghost use Rattle.seal_store.specs.SaidStages.{line_read};
 ghost use Rattle.seal_store.specs.Values.{mode_read, pair_read, secured_read};
 
 /// A law: a mode is one of two words; an offset's value is the digits of its second, one blank, and a

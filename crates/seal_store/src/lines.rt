@@ -3,7 +3,8 @@ ghost use Rattle.std.specs.Prelude.{◌≡◌, ◌+◌, ◌<◌, ◌≤◌, ◌�
 ghost use Rattle.std.specs.Option.{option_map_or};
 ghost use Rattle.std.specs.Str.Lines.{strip_carriage_return};
 ghost use Rattle.seal_store.specs.Lines as spec;
-ghost use Rattle.seal_store.specs.Lines.{lines_of, key_in, value_in, HasNone};
+ghost use Rattle.seal_store.specs.Lines.{lines_of, key_in, value_in};
+ghost use Rattle.seal_store.specs.Says.{HasNone};
 
 /// The bytes before the first one that is this byte, and those after it, where there is one.
 fn part_at(bytes: &[u8], byte: u8) -> (&[u8], Option<&[u8]>)
@@ -60,7 +61,7 @@ pub(crate) fn is_passed(line: &[u8]) -> bool
 }
 
 /// The key of a line, and its value, which is empty where the line has no blank.
-#[tactic(auto, using(crate::proofs::Parting::key_before, crate::proofs::Parting::value_after, crate::proofs::Parting::key_alone, crate::proofs::Parting::no_value))]
+#[tactic(auto, using(crate::proofs::Parting::key_and_value_of_line))]
 pub(crate) fn key_and_value(line: &[u8]) -> (&[u8], &[u8])
     ensures key { result.0.now ≡ key_in line.now }
     ensures value { result.1.now ≡ value_in line.now }

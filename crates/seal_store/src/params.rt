@@ -5,6 +5,9 @@ use interval_clock::Offsets;
 use pulse_input::Constant;
 use thiserror::Error;
 
+/// How long a trip may be held without supply at most, in seconds.
+pub(crate) const LONGEST_HOLD: u16 = 600;
+
 /// The secured settings of a taximeter.
 #[derive(Drop)]
 pub struct Params {

@@ -9,6 +9,9 @@ use crate::lines::first_line;
 use crate::params::{ParamFault, Params};
 use crate::said::Said;
 
+/// How many bytes a text of parameters has at most.
+const LONGEST_TEXT: usize = 65_536;
+
 /// Reads the parameters of a taximeter from a text of lines. Each line ends with an LF, before which
 /// one CR is dropped; the last line may end with the text. An empty line, and one that begins with
 /// `#`, are passed over, but are numbered. Each other line is a key, one blank and a value:
@@ -42,7 +45,7 @@ pub fn read_params(text: &[u8]) -> Result<Params, ParamFault>
 fn read_text(text: &[u8]) -> Result<Params, ParamFault>
     ensures { result ≡ params_read text.now }
 {
-    if text.len() > 65_536 {
+    if text.len() > LONGEST_TEXT {
         return Err(ParamFault::TooLong);
     }
     let said = read_lines(text)?;

@@ -1,7 +1,10 @@
 //! What the lines of a text have said so far.
-ghost use Rattle.std.specs.Prelude.{◌≡◌, Option, Some, None, Ok, Err};
-ghost use Rattle.seal_store.specs.Said as spec;
-ghost use Rattle.seal_store.specs.Said.{nothing_said, with_value, with_pair, is_twice, line_read, keyed_line};
+ghost use Rattle.std.specs.Prelude.{◌≡◌, ◌++◌, ◌∷◌, [], if◌then◌else◌, Option, Some, None, Ok, Err};
+ghost use Rattle.taxi_units.specs.Reading.{Gives};
+ghost use Rattle.seal_store.specs.OffsetList.{is_offset_list};
+ghost use Rattle.seal_store.specs.SaidStages as spec;
+ghost use Rattle.seal_store.specs.Said.{nothing_said};
+ghost use Rattle.seal_store.specs.SaidStages.{with_value, with_pair, is_twice, line_read, keyed_line};
 ghost use Rattle.seal_store.specs.Reading.{whole};
 
 use crate::lines::{is_passed, key_and_value};
@@ -14,6 +17,9 @@ use drive_modes::Mode;
 use pulse_input::Constant;
 use std::marker::Model;
 
+/// A list of offsets, as long as a lawful one may be.
+type Pairs = ArrayVec<(u64, i32), 32>;
+
 /// The parameters that have been said, and the list of the offsets so far.
 #[derive(Drop)]
 pub(crate) struct Said {
@@ -21,7 +27,7 @@ pub(crate) struct Said {
     constant: Option<Constant>,
     mode: Option<Mode>,
     hold: Option<u16>,
-    offsets: ArrayVec<(u64, i32), 32>,
+    offsets: Pairs,
     secured: Option<i32>,
 }
 
@@ -74,33 +80,12 @@ impl Said {
         }
     }
 
-    /// One offset more, where the list so far with it is lawful.
+    /// What has been said with one offset more, where the list with it is lawful.
     fn with_pair(self, pair: (u64, i32)) -> Option<Said>
         ensures { result ≡ with_pair self pair }
     {
-        let Said {
-            taxi,
-            constant,
-            mode,
-            hold,
-            mut offsets,
-            secured,
-        } = self;
-        if offsets.is_full() {
-            return None;
-        }
-        offsets.push(pair);
-        match offsets_of(offsets.as_slice()) {
-            Some(_) => Some(Said {
-                taxi,
-                constant,
-                mode,
-                hold,
-                offsets,
-                secured,
-            }),
-            None => None,
-        }
+        let offsets = with_offset(self.offsets, pair)?;
+        Some(Said { offsets, ..self })
     }
 
     /// What has been said with a parameter's value, where the value is of its form.
@@ -157,7 +142,7 @@ impl Said {
     }
 
     /// What has been said after one more line, of a number from 1.
-    #[tactic(auto, unfolding(crate::specs::Said::line_read))]
+    #[tactic(auto, unfolding(crate::specs::SaidStages::line_read))]
     pub(crate) fn with_line(self, number: u32, line: &[u8]) -> Result<Said, ParamFault>
         ensures { result ≡ line_read self number line.now }
     {
@@ -172,32 +157,12 @@ impl Said {
     pub(crate) fn whole(self) -> Result<Params, ParamFault>
         ensures { result ≡ whole self }
     {
-        let Said {
-            taxi,
-            constant,
-            mode,
-            hold,
-            offsets,
-            secured,
-        } = self;
-        let Some(taxi) = taxi else {
-            return Err(ParamFault::Missing(Name::Taxi));
-        };
-        let Some(constant) = constant else {
-            return Err(ParamFault::Missing(Name::Constant));
-        };
-        let Some(mode) = mode else {
-            return Err(ParamFault::Missing(Name::Mode));
-        };
-        let Some(hold) = hold else {
-            return Err(ParamFault::Missing(Name::Hold));
-        };
-        let Some(offsets) = offsets_of(offsets.as_slice()) else {
-            return Err(ParamFault::Missing(Name::Offset));
-        };
-        let Some(secured) = secured else {
-            return Err(ParamFault::Missing(Name::Secured));
-        };
+        let taxi = self.taxi.ok_or(ParamFault::Missing(Name::Taxi))?;
+        let constant = self.constant.ok_or(ParamFault::Missing(Name::Constant))?;
+        let mode = self.mode.ok_or(ParamFault::Missing(Name::Mode))?;
+        let hold = self.hold.ok_or(ParamFault::Missing(Name::Hold))?;
+        let offsets = offsets_of(self.offsets.as_slice()).ok_or(ParamFault::Missing(Name::Offset))?;
+        let secured = self.secured.ok_or(ParamFault::Missing(Name::Secured))?;
         Ok(Params {
             taxi,
             constant,
@@ -206,5 +171,20 @@ impl Said {
             offsets,
             secured,
         })
+    }
+}
+
+/// A list of offsets with one more behind it, where that list is lawful.
+fn with_offset(mut offsets: Pairs, pair: (u64, i32)) -> Option<Pairs>
+    ensures { Gives (λ list. list.items) result
+        (if is_offset_list (offsets.items ++ pair ∷ []) then Some (offsets.items ++ pair ∷ []) else None) }
+{
+    if offsets.is_full() {
+        return None;
+    }
+    offsets.push(pair);
+    match offsets_of(offsets.as_slice()) {
+        Some(_) => Some(offsets),
+        None => None,
     }
 }

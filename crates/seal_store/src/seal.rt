@@ -23,9 +23,9 @@ pub struct Seal {
 /// A seal is the body of a slot of the pair at place 1,024 of the store. docs/STORE.md has the table of
 /// its bytes, and `IsSeal` its ranges.
 impl Body for Seal {
-    ghost use Rattle.seal_store.specs.Ranges.{IsSeal};
+    ghost use Rattle.seal_store.specs.Ranges.{IsSeal, number_of};
     ghost use Rattle.seal_store.specs.Spelling.{spelling};
-    ghost use Rattle.seal_store.specs.Decoding.{number_of, reads};
+    ghost use Rattle.seal_store.specs.Decoding.{reads};
     ghost use Rattle.seal_store.specs.SealLaws.{size, reads_it, gives_valid, nothing_else};
 
     ghost valid = { IsSeal };
@@ -53,9 +53,7 @@ impl Body for Seal {
     }
 
     fn get(bytes: &[u8; 511]) -> Option<Seal> {
-        let Some(seal) = seal_in(bytes) else {
-            return None;
-        };
+        let seal = seal_in(bytes)?;
         if !is_text(spell(&seal).as_slice(), bytes) {
             return None;
         }

@@ -1,6 +1,6 @@
 //! Sealing: totals of zero where the store has none, and then the seal.
 ghost use Rattle.std.specs.Prelude.{◌≡◌, ◌+◌, ◌≤◌, Option, Some, None, IfOk, OnOk};
-ghost use Rattle.std.specs.Option.{ForSome};
+ghost use Rattle.std.specs.Option.{ForSome, option_map};
 ghost use Rattle.outside.specs.Faults.{HasCause};
 ghost use Rattle.slot_store.specs.Writes.{LeavesThroughout, WritesIn};
 ghost use Rattle.totaliser_store.specs.States.{first_state};
@@ -8,7 +8,7 @@ ghost use Rattle.totaliser_store.specs.Stored.{KeepsState};
 ghost use Rattle.seal_store.specs.declared.seal.Seal.{Seal};
 ghost use Rattle.seal_store.specs.Ranges.{IsSeal};
 ghost use Rattle.seal_store.specs.Sealing.{FoundSeal, FoundTotals, HasEitherSeal, KeepsSeal, KeepsSealed, KeepsTotals};
-ghost use Rattle.seal_store.specs.Sealing.{LeavesSealing, first_written, found_number, next_number, pair_for};
+ghost use Rattle.seal_store.specs.Sealing.{LeavesSealing, first_written, found_number, next_number};
 ghost use Rattle.seal_store.specs.Sealing.{places_written};
 
 use crate::Seal;
@@ -49,57 +49,16 @@ pub fn place_seal<B: Board<L>, L: Ledger>(
     ensures steps { steps.new ≤ steps.old + 10 }
 {
     match totals {
-        Some(totals) => seal_beside(board, &totals, found, seal, steps),
-        None => seal_first(board, found, seal, steps),
+        Some(_) => {
+            put_seal(board, found, seal, steps)?;
+            Ok(())
+        }
+        None => {
+            put_totals(board, steps)?;
+            put_seal(board, found, seal, steps)?;
+            Ok(())
+        }
     }
-}
-
-/// Seals a store that has totals: they stay.
-fn seal_beside<B: Board<L>, L: Ledger>(
-    board: &mut B,
-    totals: &Durable,
-    found: Option<(Place, u64)>,
-    seal: &Seal,
-    steps: &mut Steps<L>,
-) -> Result<(), DeviceFailed>
-    requires valid { IsSeal seal.now }
-    requires number { seal.now.seal_number ≡ next_number (found_number found) }
-    requires slot { ForSome found (λ latest. latest.0.slot ≤ 1) }
-    requires totals { B.tells_image → FoundTotals B.Board board.old (Some totals.now) }
-    requires found { B.tells_image → (old : Option Seal) × FoundSeal B.Board board.old found old }
-    ensures any_moment { B.tells_image → (old : Option Seal) → FoundSeal B.Board board.old found old
-        → LeavesSealing B.Board (record { totals = Some totals.now; old = old; new = seal.now }) board.old board.new }
-    ensures sealed { B.tells_image → OnOk result (KeepsSealed B.Board (Some totals.now) seal.now board.new) }
-    ensures beside { WritesIn B.Board 1024 1024 board.old board.new }
-    ensures cause { HasCause (B.faults board.old) (B.faults board.new) result }
-    ensures steps { steps.new ≤ steps.old + 6 }
-{
-    put_seal(board, found, seal, steps)?;
-    Ok(())
-}
-
-/// Seals a store that has no totals: totals of zero come first.
-fn seal_first<B: Board<L>, L: Ledger>(
-    board: &mut B,
-    found: Option<(Place, u64)>,
-    seal: &Seal,
-    steps: &mut Steps<L>,
-) -> Result<(), DeviceFailed>
-    requires valid { IsSeal seal.now }
-    requires number { seal.now.seal_number ≡ next_number (found_number found) }
-    requires slot { ForSome found (λ latest. latest.0.slot ≤ 1) }
-    requires totals { B.tells_image → FoundTotals B.Board board.old None }
-    requires found { B.tells_image → (old : Option Seal) × FoundSeal B.Board board.old found old }
-    ensures any_moment { B.tells_image → (old : Option Seal) → FoundSeal B.Board board.old found old
-        → LeavesSealing B.Board (record { totals = None; old = old; new = seal.now }) board.old board.new }
-    ensures sealed { B.tells_image → OnOk result (KeepsSealed B.Board None seal.now board.new) }
-    ensures beside { WritesIn B.Board 0 2048 board.old board.new }
-    ensures cause { HasCause (B.faults board.old) (B.faults board.new) result }
-    ensures steps { steps.new ≤ steps.old + 10 }
-{
-    put_totals(board, steps)?;
-    put_seal(board, found, seal, steps)?;
-    Ok(())
 }
 
 /// Writes totals of zero into a blank pair.
@@ -144,7 +103,7 @@ fn put_seal<B: Board<L>, L: Ledger>(
 /// The pair of seals, as it was found.
 fn ready_for(found: Option<(Place, u64)>) -> Ready
     requires { ForSome found (λ latest. latest.0.slot ≤ 1) }
-    ensures { result ≡ pair_for found }
+    ensures { result ≡ record { at = 1024; latest = option_map (λ latest. latest.0) found } }
 {
     match found {
         Some((place, _)) => Ready::new(1024, place),

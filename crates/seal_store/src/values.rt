@@ -5,11 +5,12 @@ ghost use Rattle.taxi_units.specs.Reading.{Gives};
 ghost use Rattle.seal_store.specs.Values as spec;
 
 use crate::names::is_text;
+use crate::params::LONGEST_HOLD;
 use arrayvec::ArrayVec;
 use drive_modes::Mode;
 use interval_clock::day_number;
 use pulse_input::Constant;
-use taxi_units::{number_at, word};
+use taxi_units::{number_at, number_of_width, word};
 
 /// Whether a byte is a character of taxi identifiers.
 fn is_taxi_character(byte: u8) -> bool
@@ -18,7 +19,7 @@ fn is_taxi_character(byte: u8) -> bool
     (65 <= byte && byte <= 90) || ((48 <= byte && byte <= 57) || byte == 45)
 }
 
-/// Whether all bytes are.
+/// Whether all bytes are characters of taxi identifiers.
 fn are_taxi_characters(text: &[u8]) -> bool
     ensures { result ≡ list_all spec.is_taxi_character text.now }
 {
@@ -75,7 +76,7 @@ pub(crate) fn constant(text: &[u8]) -> Option<Constant>
 pub(crate) fn hold(text: &[u8]) -> Option<u16>
     ensures { Gives (λ n. n) result (spec.number_in 0 600 text.now) }
 {
-    let seconds = number(text, 0, 600)?;
+    let seconds = number(text, 0, u64::from(LONGEST_HOLD))?;
     Some(seconds as u16)
 }
 
@@ -121,30 +122,16 @@ pub(crate) fn pair(text: &[u8]) -> Option<(u64, i32)>
     Some((second, offset))
 }
 
-/// A number of so many digits, and what stands after it.
-#[tactic(auto, unfolding(crate::specs::Values::digits_at))]
-fn digits(text: &[u8], width: usize) -> Option<(u64, &[u8])>
-    requires { width ≤ 12 }
-    ensures value { Gives (λ x. (x.0, x.1.now)) result (spec.digits_at width text.now) }
-    ensures small { IfSome result (λ x. x.0 < 10 ^ width) }
-{
-    let (number, rest) = number_at(text)?;
-    if text.len() == width + rest.len() {
-        return Some((number, rest));
-    }
-    None
-}
-
 /// The day number of a date of the years 2000 to 2199.
 #[tactic(auto, unfolding(crate::specs::Values::secured_read))]
 pub(crate) fn secured(text: &[u8]) -> Option<i32>
     ensures { Gives (λ day. day) result (spec.secured_read text.now) }
 {
-    let (year, rest) = digits(text, 4)?;
+    let (year, rest) = number_of_width(text, 4)?;
     let rest = word(rest, b"-")?;
-    let (month, rest) = digits(rest, 2)?;
+    let (month, rest) = number_of_width(rest, 2)?;
     let rest = word(rest, b"-")?;
-    let (date, rest) = digits(rest, 2)?;
+    let (date, rest) = number_of_width(rest, 2)?;
     if rest.len() == 0 && 2000 <= year && year <= 2199 {
         return day_of(year as u16, month as u8, date as u8);
     }

@@ -17,5 +17,6 @@ pub fn texts_say_their_parameters()
 /// format that no line says.
 pub fn texts_are_too_long_or_lack_a_parameter()
     ensures too_long { (text : List ℕ) → (params_read text ≡ Err TooLong) ↔ (65536 < length text) }
-    ensures missing { (text : List ℕ) (which : Name) → (params_read text ≡ Err (Missing which)) ↔ LacksFirst text which }
+    ensures missing { (text : List ℕ) (which : Name)
+        → (params_read text ≡ Err (Missing which)) ↔ LacksFirst text which }
 {}

@@ -114,13 +114,13 @@ module _ {T : Type 0} (reads : List ℕ → Option T) (number_of : T → ℕ) (a
           (wider B at 1024 old between _ _ (shows_longer latest (take n bodies) (body ∷ [])) so_far)
           (wider B at 1024 between new _ _ (shows_last latest (take n bodies) body) (next_leaves next)))
 
-      pub moments_whole : (k : ℕ) → LeavesThroughout B at 1024 (ShowsOne reads number_of at latest (take k bodies)) old new → LeavesThroughout B at 1024 (ShowsOne reads number_of at latest bodies) old new
+      moments_whole : (k : ℕ) → LeavesThroughout B at 1024 (ShowsOne reads number_of at latest (take k bodies)) old new → LeavesThroughout B at 1024 (ShowsOne reads number_of at latest bodies) old new
       moments_whole k run = wider B at 1024 old new _ _ (λ left shows. subst (λ (l : List T). ShowsOne reads number_of at latest l left) (take-append-drop k bodies) (shows_longer latest (take k bodies) (drop k bodies) left shows)) run
 
       next_begun : GetsEach reads number_of at B between (B.moment old) latest (take n bodies) [] → NextLeaves → GetsEach reads number_of at B new (B.moment old) latest (take n bodies) (body ∷ [])
       next_begun so_far next = gets_begun latest (take n bodies) body (B.moment old) between new so_far (next_only next)
 
-      pub stores_some : GetsEach reads number_of at B between (B.moment old) latest (take n bodies) [] → NextLeaves → StoresSome reads number_of at B latest bodies old new
+      stores_some : GetsEach reads number_of at B between (B.moment old) latest (take n bodies) [] → NextLeaves → StoresSome reads number_of at B latest bodies old new
       stores_some so_far next = record {
         stored = take n bodies;
         begun = body ∷ [];
@@ -129,6 +129,14 @@ module _ {T : Type 0} (reads : List ℕ → Option T) (number_of : T → ℕ) (a
         one = omega arith;
         each = next_begun so_far next;
       }
+
+      -- where a stage of the next body failed, a cut leaves one of the list, and some of the list were stored
+      pub broken_off : AreNewer number_of latest bodies → WritesIn B at 1024 old between → LeavesThroughout B at 1024 (ShowsOne reads number_of at latest (take n bodies)) old between
+          → GetsEach reads number_of at B between (B.moment old) latest (take n bodies) [] → (IsBefore number_of (last_of latest (take n bodies)) (number_of body) → NextLeaves)
+          → LeavesThroughout B at 1024 (ShowsOne reads number_of at latest bodies) old new × StoresSome reads number_of at B latest bodies old new
+      broken_off newer writes so_far gets next =
+          let leaves = next (newer_next newer) in
+          (moments_whole (n + 1) (moments_more writes so_far leaves), stores_some gets leaves)
 
       pub next_stored : (place : Place) → GetsEach reads number_of at B between (B.moment old) latest (take n bodies) [] → NextLeaves → IsSettled reads number_of pair.at place (B.image new) (B.in_flight new) body
           → ((left text : List ℕ) → B.left_since new (B.moment new) left text → MayLeave (B.image new) (B.in_flight new) (B.printed new) left text) → GetsEach reads number_of at B new (B.moment old) latest (take (n + 1) bodies) []

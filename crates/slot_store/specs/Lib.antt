@@ -4,4 +4,5 @@ pub mod Scan
 pub mod Slots
 pub mod Stages
 pub mod Syncs
+pub mod Verdicts
 pub mod Writes

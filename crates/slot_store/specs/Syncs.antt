@@ -1,32 +1,32 @@
--- What a call leaves of a board that it syncs before anything else.
+-- Rules: what a call leaves of a board that it syncs before anything else.
 use Rattle.std.specs.Prelude.{◌≡◌, ◌⊎◌, ℕ, List}
 use Rattle.outside.specs.declared.board.Board.{Ghosts}
 use Rattle.outside.specs.Disk.{MayLeave, SameBut}
 use Rattle.outside.specs.Runs.{IsSettled, LeavesOnly}
 
 module _ {D L : Type 0} (B : Ghosts D L) where
-  -- nothing was written or printed: bytes may have changed only where some were in flight, nothing more is in
-  -- flight, and a cut leaves what it might have left at the old board
+  -- a run only reads where bytes changed at most where some were in flight, no more is in flight, nothing was printed,
+  -- and a cut leaves what it might have left at the old board
   pub record ReadsOnly (old new : D) : Type 0 where
     pub leaves : LeavesOnly B old new (MayLeave (B.image old) (B.in_flight old) (B.printed old))
     pub image : SameBut (B.in_flight old) (B.image old) (B.image new)
     pub flight : (place : ℕ) → B.in_flight new place → B.in_flight old place
     pub text : B.printed new ≡ B.printed old
 
-  -- the board behind the opening sync of a call: nothing was written before it, the image is as it was, and nothing
-  -- is in flight any more
+  -- a board is synced, behind the opening sync of a call, where nothing was written before, the image is as it was, and
+  -- nothing is in flight any more
   pub record IsSynced (old synced : D) : Type 0 where
     pub reads : ReadsOnly old synced
     pub same : B.image synced ≡ B.image old
     pub settled : IsSettled B synced
 
-  -- from the opening sync of a call on, a cut leaves only what is of this kind; a cut before that sync has succeeded
-  -- leaves what it might have left before the call; and where the sync fails, nothing is written
+  -- a call leaves this kind from its opening sync on where a cut behind that sync leaves only what is of this kind, and
+  -- one before it what it might have left before the call; where the sync fails, nothing is written
   abbrev pub LeavesFromSync : (fails : Type 0) (old new : D) (kind : List ℕ → List ℕ → Type 0) → Type 0
   LeavesFromSync fails old new kind =
       (fails × ReadsOnly old new) ⊎ ((synced : D) × IsSynced old synced × LeavesOnly B synced new kind)
 
-  -- the image and the text of this board, and no other
+  -- an image and a text are as held where they are those of this board
   pub record IsAsHeld (board : D) (left_image left_text : List ℕ) : Type 0 where
     pub image : left_image ≡ B.image board
     pub text : left_text ≡ B.printed board

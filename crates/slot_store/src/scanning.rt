@@ -3,9 +3,11 @@ ghost use Rattle.std.specs.Prelude.{◌≡◌, ℕ, ◌+◌, ◌≤◌, take, dr
 ghost use Rattle.outside.specs.Disk.{SameBut, MayLeave};
 ghost use Rattle.outside.specs.Faults.{HasCause, Rose};
 ghost use Rattle.outside.specs.Runs.{LeavesOnly};
-ghost use Rattle.slot_store.specs.Scan.{held, verdict_on, found_at, IsAsFound, IsSound};
+ghost use Rattle.slot_store.specs.Scan.{found_at, IsAsFound, IsSound};
 ghost use Rattle.slot_store.specs.Syncs.{IsAsHeld, LeavesFromSync};
+ghost use Rattle.slot_store.specs.Verdicts.{held, verdict_on};
 
+use crate::found::Held;
 use crate::pair::OPEN;
 use crate::{Body, Found, Place, SlotFault};
 use outside::{Board, Failed};
@@ -108,13 +110,13 @@ fn judge<T: Body>(first: &[u8; 512], second: &[u8; 512]) -> Result<Found<T>, Slo
     ensures sound { IfOk result (IsSound T.valid) }
     ensures not_failed { ¬ IsErrOf result SlotFault.DeviceFailed }
 {
-    match (body_in::<T>(first), body_in::<T>(second)) {
-        (None, None) => Ok(Found::Blank),
-        (Some(None), _) => Err(SlotFault::BadBody(0)),
-        (_, Some(None)) => Err(SlotFault::BadBody(1)),
-        (Some(Some(body)), None) => Ok(latest(0, false, body)),
-        (None, Some(Some(body))) => Ok(latest(1, false, body)),
-        (Some(Some(a)), Some(Some(b))) => {
+    match (held_in::<T>(first), held_in::<T>(second)) {
+        (Held::Closed, Held::Closed) => Ok(Found::Blank),
+        (Held::Unread, _) => Err(SlotFault::BadBody(0)),
+        (_, Held::Unread) => Err(SlotFault::BadBody(1)),
+        (Held::Read(body), Held::Closed) => Ok(latest(0, false, body)),
+        (Held::Closed, Held::Read(body)) => Ok(latest(1, false, body)),
+        (Held::Read(a), Held::Read(b)) => {
             let (first_number, second_number) = (a.number(), b.number());
             if first_number == second_number {
                 Err(SlotFault::SameNumber(first_number))
@@ -137,14 +139,17 @@ fn latest<T: Body>(slot: u8, other_open: bool, body: T) -> Found<T>
     }
 }
 
-/// The body of an open slot, where it is read.
-fn body_in<T: Body>(slot: &[u8; 512]) -> Option<Option<T>>
+/// What the bytes of a slot hold.
+fn held_in<T: Body>(slot: &[u8; 512]) -> Held<T>
     ensures { result ≡ held T.reads slot.now }
 {
     if slot[0] != OPEN {
-        return None;
+        return Held::Closed;
     }
     let mut body = [0; 511];
     body.copy_from_slice(&slot[1..]);
-    Some(T::get(&body))
+    match T::get(&body) {
+        Some(body) => Held::Read(body),
+        None => Held::Unread,
+    }
 }

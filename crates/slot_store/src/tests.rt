@@ -24,18 +24,53 @@ type Answer = Result<Option<(u8, bool, u64)>, SlotFault>;
 
 const SHUT: Slot = (0, 0, 0);
 
-/// The two slots of a pair, and what a scan answers.
-const PAIRS: [(Slot, Slot, Answer); 10] = [
-    (SHUT, SHUT, Ok(None)),
-    ((0xA5, 1, 0), SHUT, Ok(Some((0, false, 1)))),
-    (SHUT, (0xA5, 1, 0), Ok(Some((1, false, 1)))),
-    ((0xA5, 4, 0), (0xA5, 4, 0), Err(SlotFault::SameNumber(4))),
-    (SHUT, (0xA5, 0, 7), Err(SlotFault::BadBody(1))),
-    ((0xA5, 1, 7), (0xA5, 2, 7), Err(SlotFault::BadBody(0))),
-    ((0xA5, 1, 0), (0xA5, 256, 0), Ok(Some((1, true, 256)))),
-    ((0xA5, 256, 0), (0xA5, 1, 0), Ok(Some((0, true, 256)))),
-    ((0xA5, 1, 0), (0xA4, 2, 7), Ok(Some((0, false, 1)))),
-    ((0x5A, 1, 0), (0, 2, 0), Ok(None)),
+/// Pairs of slots: a name, the two slots, and what a scan answers.
+const PAIRS: [(&str, Slot, Slot, Answer); 10] = [
+    ("both closed", SHUT, SHUT, Ok(None)),
+    ("slot 0 open", (0xA5, 1, 0), SHUT, Ok(Some((0, false, 1)))),
+    ("slot 1 open", SHUT, (0xA5, 1, 0), Ok(Some((1, false, 1)))),
+    (
+        "one number twice",
+        (0xA5, 4, 0),
+        (0xA5, 4, 0),
+        Err(SlotFault::SameNumber(4)),
+    ),
+    (
+        "a bad body in slot 1",
+        SHUT,
+        (0xA5, 0, 7),
+        Err(SlotFault::BadBody(1)),
+    ),
+    (
+        "two bad bodies",
+        (0xA5, 1, 7),
+        (0xA5, 2, 7),
+        Err(SlotFault::BadBody(0)),
+    ),
+    (
+        "slot 1 later",
+        (0xA5, 1, 0),
+        (0xA5, 256, 0),
+        Ok(Some((1, true, 256))),
+    ),
+    (
+        "slot 0 later",
+        (0xA5, 256, 0),
+        (0xA5, 1, 0),
+        Ok(Some((0, true, 256))),
+    ),
+    (
+        "a bad body behind a closed gate",
+        (0xA5, 1, 0),
+        (0xA4, 2, 7),
+        Ok(Some((0, false, 1))),
+    ),
+    (
+        "bodies behind closed gates",
+        (0x5A, 1, 0),
+        (0, 2, 0),
+        Ok(None),
+    ),
 ];
 
 /// The bytes of a slot.
@@ -75,15 +110,11 @@ fn scan_pairs<L: Ledger>(alloc: Global, blank: Blank, rt: &impl Abort) -> Result
     requires one { 0 < blank.parts }
 {
     let mut steps: Steps<L> = Steps::open(blank);
-    for (row, (first, second, want)) in PAIRS.iter().enumerate() {
+    for (name, first, second, want) in PAIRS {
         for at in [0, 1024] {
-            let image = store_of(at, *first, *second);
+            let image = store_of(at, first, second);
             let mut board = MemoryBoard::new(alloc, &image, &[])?;
-            assert_eq!(rt;
-                answer(&mut board, at, &mut steps),
-                *want,
-                "row {row} at {at}"
-            );
+            assert_eq!(rt; answer(&mut board, at, &mut steps), want, "{name} at {at}");
         }
     }
     Ok(())

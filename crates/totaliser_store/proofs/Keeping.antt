@@ -13,7 +13,7 @@ use Rattle.totaliser_store.specs.Ranges.{IsTrip, IsHeld, AreShares, IsDurable, I
 use Rattle.totaliser_store.specs.States.{after}
 use Rattle.totaliser_store.proofs.Shares.{roams, shares_apart, shares_set, length_same}
 
--- a sum over shares of which one grows by so much
+-- a sum over shares of which one grows, grows by as much
 sum_grown : (field : Share → ℕ) (shares : List Share) (place : ℕ) (share : Share) (more : ℕ) → place < length shares → field share ≡ field (get_or shares place no_share) + more
     → sum_by field (set shares place share) ≡ sum_by field shares + more
 sum_grown field shares place share more within grows = omega (arith, sum_by-set field shares place share no_share within, grows)

@@ -1,7 +1,14 @@
+-- the totals of a list of entries are sums over the list
 mod Adding
+-- bytes that are appended one behind the other
 mod Appends
+-- the state after a list of commits, and the trip that is held then
 mod Changing
+-- a body stored at place 0 is the durable state of the store
 mod Commits
+-- what the meter commits keeps the ranges
 mod Keeping
+-- the laws that the crates above may cite
 pub mod Laws
+-- how an entry changes the shares
 mod Shares

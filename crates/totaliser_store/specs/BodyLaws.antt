@@ -1,4 +1,4 @@
--- A state's bytes are read as that state, and no others are.
+-- For proofs: a state's bytes are read as that state, and no others are.
 use Rattle.std.proofs.Common.{◌≡◌, ◌↔◌, ◌⊎◌, ◌≤◌, ℕ, Bool, true, false, ◌&&◌, ◌==◌, if◌then◌else◌, List, [], ◌∷◌}
 use Rattle.std.proofs.Common.{◌++◌, length, drop, get_or, replicate, Option, Some, None, refl, sym, ◌∙◌, ap}
 use Rattle.std.proofs.Common.{subst, inl, inr, arith, append_assoc, length-append, length-take, length-drop}
@@ -12,11 +12,12 @@ use Rattle.totaliser_store.specs.declared.durable.Durable.{Durable}
 use Rattle.totaliser_store.specs.declared.totals.Share.{Share}
 use Rattle.totaliser_store.specs.declared.totals.Totals.{Totals}
 use Rattle.totaliser_store.specs.declared.trip.Trip.{Trip}
-use Rattle.totaliser_store.specs.Bytes.{byte_at, eight_at, sixteen_at}
+use Rattle.totaliser_store.specs.BytesAt.{byte_at, eight_at, sixteen_at}
 use Rattle.totaliser_store.specs.Choices.{when_some, taken, refused_second, refused_third, both, agree, equal}
 use Rattle.totaliser_store.specs.Choices.{if_is, if_not}
 use Rattle.totaliser_store.specs.Entries.{no_share}
-use Rattle.totaliser_store.specs.Ranges.{Fit, AreShares, IsDurable}
+use Rattle.totaliser_store.specs.Fields.{Fit}
+use Rattle.totaliser_store.specs.Ranges.{AreShares, IsDurable}
 use Rattle.totaliser_store.specs.RangeTests.{HasCounts, durable_of, is_durable_of, fit_of}
 use Rattle.totaliser_store.specs.Reading.{share_at, shares_in, shares_of, before_of, totals_in, held_in, trip_in}
 use Rattle.totaliser_store.specs.Reading.{decoded, reads}
@@ -25,13 +26,14 @@ use Rattle.totaliser_store.specs.Spelling.{head_bytes, held_bytes, share_bytes, 
 use Rattle.totaliser_store.specs.Tests.{is_durable}
 use Rattle.totaliser_store.specs.TripLaws.{halves, held_back, held_long}
 
--- four parts behind one another
+-- parts of 80, 108 and 322 bytes, and one byte behind them, are found at their places
 record Parts (one two three : List ℕ) (last : ℕ) : Type 0 where
   second : drop 80 (((one ++ two) ++ three) ++ last ∷ []) ≡ two ++ (three ++ last ∷ [])
   third : drop 188 (((one ++ two) ++ three) ++ last ∷ []) ≡ three ++ last ∷ []
   fourth : get_or (((one ++ two) ++ three) ++ last ∷ []) 510 0 ≡ last
   size : length (((one ++ two) ++ three) ++ last ∷ []) ≡ 511
 
+-- lists of these lengths, one behind the other, are such parts
 parts : (one two three : List ℕ) (last : ℕ) → length one ≡ 80 → length two ≡ 108 → length three ≡ 322
     → Parts one two three last
 parts one two three last long longer longest =
@@ -51,7 +53,7 @@ parts one two three last long longer longest =
       size = omega (arith, length-append ((one ++ two) ++ three) end, all);
     }
 
--- the shares' part has 322 bytes
+-- the part of the shares has 322 bytes
 shared_long : (layout : ℕ) (totals : Totals) → length totals.shares ≡ 9 → length (shared_bytes layout totals) ≡ 322
 shared_long layout totals nine = by (layout == 1)
   where
@@ -66,16 +68,18 @@ shared_long layout totals nine = by (layout == 1)
       length-append (flat_map share_bytes totals.shares ++ share_bytes totals.before) (replicate 82 0),
     )
 
+-- the spelling of a state has those parts
 parts_of : (durable : Durable) → IsDurable durable
     → Parts (head_bytes durable.number durable.totals) (held_bytes durable.hold)
     (shared_bytes durable.layout durable.totals) durable.layout
 parts_of durable valid = parts _ _ _ durable.layout refl (held_long durable.number durable.hold valid.held)
     (shared_long durable.layout durable.totals valid.shares.nine)
 
+-- a spelling fills a body
 pub size : (durable : Durable) → IsDurable durable → length (spelling durable) ≡ 511
 size durable valid = (parts_of durable valid).size
 
--- the shares' part in layout 2, with what comes behind it
+-- the part of the shares in layout 2 is the shares, what was counted before, and zeros, before what comes behind it
 laid_out : (layout : ℕ) (totals : Totals) (rest : List ℕ) → layout ≡ 2
     → shared_bytes layout totals ++ rest ≡ flat_map share_bytes totals.shares ++
     (share_bytes totals.before ++ (replicate 82 0 ++ rest))
@@ -86,7 +90,7 @@ laid_out layout totals rest two =
     ∙ append_assoc (row ++ share_bytes totals.before) (replicate 82 0) rest
     ∙ append_assoc row (share_bytes totals.before) (replicate 82 0 ++ rest)
 
--- the shares are read back
+-- the shares are read back in either layout
 shares_read : (layout : ℕ) (totals : Totals) (rest : List ℕ) → AreShares layout totals → Fit totals
     → (layout ≡ 1) ⊎ (layout ≡ 2)
     → shares_of layout (shared_bytes layout totals ++ rest) ≡ totals.shares
@@ -99,7 +103,7 @@ shares_read layout totals rest shares fit (inr two) =
     ∙ shares_back totals.shares (share_bytes totals.before ++
     (replicate 82 0 ++ rest)) shares.nine fit.shares_hirings fit.shares_fare
 
--- and so is what was counted before
+-- what was counted before is read back in either layout
 before_read : (layout : ℕ) (totals : Totals) (rest : List ℕ) → AreShares layout totals → Fit totals
     → (layout ≡ 1) ⊎ (layout ≡ 2)
     → before_of layout (record { hirings = totals.hirings; fare = totals.fare }) (shared_bytes layout totals ++ rest)
@@ -118,6 +122,7 @@ before_read layout totals rest shares fit (inr two) =
     (omega (arith, row_long totals.shares, shares.nine))
     (omega (arith, shares.hirings, fit.hirings)) (omega (arith, shares.fare, fit.fare))
 
+-- the totals of these fields
 abbrev totals_of : ℕ → ℕ → ℕ → ℕ → ℕ → List Share → Share → Totals
 totals_of distance hired hirings supplements fare shares before =
     record {
@@ -130,6 +135,7 @@ totals_of distance hired hirings supplements fare shares before =
       before = before;
     }
 
+-- totals whose fields are the same are the same
 same_totals : (a b : Totals) → a.distance_mm ≡ b.distance_mm → a.hired_mm ≡ b.hired_mm → a.hirings ≡ b.hirings
     → a.supplements ≡ b.supplements → a.fare ≡ b.fare
     → a.shares ≡ b.shares → a.before ≡ b.before → a ≡ b
@@ -142,7 +148,7 @@ same_totals a b one two three four five six seven =
     ∙ ap (λ (l : List Share). totals_of b.distance_mm b.hired_mm b.hirings b.supplements b.fare l a.before) six
     ∙ ap (λ (s : Share). totals_of b.distance_mm b.hired_mm b.hirings b.supplements b.fare b.shares s) seven
 
--- the totals are read back
+-- the totals are read back where their shares are
 totals_read : (layout number : ℕ) (totals : Totals) (rest shared : List ℕ) → Fit totals
     → shares_of layout shared ≡ totals.shares
     → before_of layout (record { hirings = totals.hirings; fare = totals.fare }) shared ≡ totals.before
@@ -162,9 +168,11 @@ totals_read layout number totals rest shared fit shares before =
     (same_share (record { hirings = eight_at front 40; fare = sixteen_at front 64 })
     (record { hirings = totals.hirings; fare = totals.fare }) hirings fare) ∙ before)
 
+-- the state of these fields
 abbrev durable_with : ℕ → Totals → Option Trip → ℕ → Durable
 durable_with number totals hold layout = record { number = number; totals = totals; hold = hold; layout = layout }
 
+-- states whose fields are the same are the same
 same_durable : (a b : Durable) → a.number ≡ b.number → a.totals ≡ b.totals → a.hold ≡ b.hold → a.layout ≡ b.layout
     → a ≡ b
 same_durable a b one two three four =
@@ -173,7 +181,7 @@ same_durable a b one two three four =
     ∙ ap (λ (h : Option Trip). durable_with b.number b.totals h a.layout) three
     ∙ ap (λ (n : ℕ). durable_with b.number b.totals b.hold n) four
 
--- each field is read back
+-- each field of a state in its ranges is read back
 decoded_back : (durable : Durable) → IsDurable durable → decoded (spelling durable) ≡ durable
 decoded_back durable valid =
     let totals = durable.totals in
@@ -197,6 +205,7 @@ decoded_back durable valid =
     (ap (λ (l : List ℕ). held_in l) place.second ∙ held_back durable.number durable.hold (shared ++ end) valid.held)
     place.fourth
 
+-- the spelling of a state in its ranges is read as that state
 pub reads_it : (durable : Durable) → IsDurable durable → reads (spelling durable) ≡ Some durable
 reads_it durable valid =
     let bytes = spelling durable in
@@ -206,7 +215,7 @@ reads_it durable valid =
     (agree (length bytes) 511 (size durable valid)) (is_durable_of durable valid)
     ((bytes_eq-Decides bytes bytes).1 refl)
 
--- what was read passed
+-- bytes that are read as a state have passed each test
 passed : (bytes : List ℕ) (durable : Durable) → reads bytes ≡ Some durable
     → (length bytes ≡ 511) × (is_durable (decoded bytes) ≡ true) × (spelling (decoded bytes) ≡ bytes)
     × (decoded bytes ≡ durable)
@@ -218,12 +227,13 @@ passed bytes durable read =
     let first = both (length bytes == 511) (is_durable found) last.0 in
     (equal (length bytes) 511 first.0, first.1, (bytes_eq-Decides (spelling found) bytes).0 last.1, result.1)
 
+-- bytes that are read as a state are its spelling
 pub nothing_else : (bytes : List ℕ) (durable : Durable) → reads bytes ≡ Some durable → bytes ≡ spelling durable
 nothing_else bytes durable read =
     let tests = passed bytes durable read in
     sym tests.2 ∙ ap spelling tests.3
 
--- nine shares and sixteen counts, whatever the bytes are
+-- there are nine shares, whatever the bytes are
 nine_in : (layout : ℕ) (bytes : List ℕ) → length (shares_of layout bytes) ≡ 9
 nine_in layout bytes = by (layout == 1)
   where
@@ -231,6 +241,7 @@ nine_in layout bytes = by (layout == 1)
     by true = refl
     by false = refl
 
+-- a held trip has sixteen counts, whatever the bytes are
 counts_in : (bytes : List ℕ) → 108 ≤ length bytes → HasCounts (held_in bytes)
 counts_in bytes long = by (byte_at bytes 0 == 1)
   where
@@ -245,31 +256,34 @@ counts_in bytes long = by (byte_at bytes 0 == 1)
     )
     by false = tt
 
--- what passes the tests is in its ranges
+-- the fields of 511 bytes are in their ranges where they pass their test
 pub in_ranges : (bytes : List ℕ) → length bytes ≡ 511 → is_durable (decoded bytes) ≡ true → IsDurable (decoded bytes)
 in_ranges bytes long pass = durable_of (decoded bytes) (nine_in (byte_at bytes 510) (drop 188 bytes))
     (counts_in (drop 80 bytes) (omega (arith, long, length-drop 80 bytes))) pass
 
+-- a state that is read is in its ranges
 pub gives_valid : (bytes : List ℕ) (durable : Durable) → reads bytes ≡ Some durable → IsDurable durable
 gives_valid bytes durable read =
     let tests = passed bytes durable read in
     subst IsDurable tests.3 (in_ranges bytes tests.0 tests.1)
 
--- what is not read
+-- bytes whose fields fail the test of their ranges aren't read
 pub out_of_range : (bytes : List ℕ) → is_durable (decoded bytes) ≡ false → reads bytes ≡ None
 out_of_range bytes fails = refused_second (length bytes == 511) (is_durable (decoded bytes))
     (bytes_eq (spelling (decoded bytes)) bytes) (decoded bytes) fails
 
+-- bytes that aren't the spelling of their fields aren't read
 pub other_bytes : (bytes : List ℕ) → bytes_eq (spelling (decoded bytes)) bytes ≡ false → reads bytes ≡ None
 other_bytes bytes differs = refused_third (length bytes == 511) (is_durable (decoded bytes))
     (bytes_eq (spelling (decoded bytes)) bytes) (decoded bytes) differs
 
+-- 511 bytes that pass each test are read as the state of their fields
 pub own_bytes : (bytes : List ℕ) → length bytes ≡ 511 → is_durable (decoded bytes) ≡ true
     → bytes_eq (spelling (decoded bytes)) bytes ≡ true → reads bytes ≡ Some (decoded bytes)
 own_bytes bytes long pass same = taken (length bytes == 511) (is_durable (decoded bytes))
     (bytes_eq (spelling (decoded bytes)) bytes) (decoded bytes) (agree (length bytes) 511 long) pass same
 
--- read exactly where it is in its ranges and spelled so
+-- bytes are read as a state exactly where it is in its ranges and the bytes are its spelling
 pub reads_exactly : (bytes : List ℕ) (durable : Durable)
     → (reads bytes ≡ Some durable) ↔ (IsDurable durable × (bytes ≡ spelling durable))
 reads_exactly bytes durable = (

@@ -1,7 +1,9 @@
 pub mod BodyLaws
 pub mod Bytes
+pub mod BytesAt
 pub mod Choices
 pub mod Entries
+pub mod Fields
 pub mod RangeTests
 pub mod Ranges
 pub mod Reading

@@ -1,4 +1,4 @@
--- The tests of the ranges say what the ranges say.
+-- For proofs: the tests of the ranges say what the ranges say.
 use Rattle.std.proofs.Common.{◌≡◌, ◌⊎◌, inl, inr, ℕ, ◌+◌, ◌*◌, ◌≤◌, ◌^◌, Bool, true, false, ◌&&◌, ◌==◌, nat_le}
 use Rattle.std.proofs.Common.{if◌then◌else◌, List, [], ◌∷◌, length, replicate, Option, Some, None, IfSome, refl}
 use Rattle.std.proofs.Common.{sym, ◌∙◌, ap, arith}
@@ -11,18 +11,20 @@ use Rattle.totaliser_store.specs.declared.totals.Totals.{Totals}
 use Rattle.totaliser_store.specs.declared.trip.Trip.{Trip}
 use Rattle.totaliser_store.specs.Choices.{both, and_true, agree, if_is, if_not}
 use Rattle.totaliser_store.specs.Entries.{no_share}
-use Rattle.totaliser_store.specs.Ranges.{Fit, IsTrip, IsHeld, IsDurable}
+use Rattle.totaliser_store.specs.Fields.{Fit}
+use Rattle.totaliser_store.specs.Ranges.{IsTrip, IsHeld, IsDurable}
 use Rattle.totaliser_store.specs.ShareLaws.{none_of, each_below}
 use Rattle.totaliser_store.specs.Tests.{is_course, is_meterage, are_counts, are_extras, is_trip, is_held}
 use Rattle.totaliser_store.specs.Tests.{is_none, add_up, is_layout, are_totals, are_shares, is_durable}
 
--- counts of at most 99
+-- counts that pass their test are at most 99
 counts_of : (counts : List ℕ) → are_counts counts ≡ true → All (λ count. count ≤ 99) counts
 counts_of [] is = All-nil _
 counts_of (count ∷ others) is =
     let tests = both (nat_le count 99) (are_counts others) is in
     All-cons (λ n. n ≤ 99) count others (grind (arith, nat_tests, tests.0)) (counts_of others tests.1)
 
+-- counts of at most 99 pass their test
 are_counts_of : (counts : List ℕ) → All (λ count. count ≤ 99) counts → are_counts counts ≡ true
 are_counts_of [] all = refl
 are_counts_of (count ∷ others) all = and_true (nat_le count 99) (are_counts others)
@@ -32,7 +34,7 @@ are_counts_of (count ∷ others) all = and_true (nat_le count 99) (are_counts ot
     test : (n : ℕ) → n ≤ 99 → nat_le n 99 ≡ true
     test n below = grind (arith, nat_tests, below)
 
--- a trip that passes is in its ranges
+-- a trip that passes its test is in its ranges
 trip_of : (number : ℕ) (trip : Trip) → length trip.extras ≡ 16 → is_trip number trip ≡ true → IsTrip number trip
 trip_of number trip sixteen is =
     let one = both (is_course number trip && is_meterage trip.ticks trip.meterage) (are_extras trip) is in
@@ -57,7 +59,7 @@ trip_of number trip sixteen is =
       minimum = grind (arith, nat_tests, extras.1);
     }
 
--- and one that is in its ranges passes
+-- a trip in its ranges passes the test of its course
 course_of : (number : ℕ) (trip : Trip) → IsTrip number trip → is_course number trip ≡ true
 course_of number trip ranges =
     grind (
@@ -73,14 +75,17 @@ course_of number trip ranges =
       ranges.initial,
     )
 
+-- a trip in its ranges passes the test of its charges
 meterage_of : (number : ℕ) (trip : Trip) → IsTrip number trip → is_meterage trip.ticks trip.meterage ≡ true
 meterage_of number trip ranges = grind (arith, nat_tests, ranges.cover_left, ranges.steps_full, ranges.rest)
 
+-- a trip in its ranges passes the test of its supplements
 extras_of : (number : ℕ) (trip : Trip) → IsTrip number trip → are_extras trip ≡ true
 extras_of number trip ranges =
     let counts = are_counts_of trip.extras ranges.extras.1 in
     grind (arith, nat_tests, counts, ranges.extras_sum, ranges.minimum)
 
+-- a trip in its ranges passes its test
 is_trip_of : (number : ℕ) (trip : Trip) → IsTrip number trip → is_trip number trip ≡ true
 is_trip_of number trip ranges =
     and_true (is_course number trip && is_meterage trip.ticks trip.meterage) (are_extras trip)
@@ -88,16 +93,18 @@ is_trip_of number trip ranges =
     (meterage_of number trip ranges))
     (extras_of number trip ranges)
 
--- sixteen counts, where a trip is held
+-- what is held has its counts where it is no trip, or a trip with sixteen counts of supplements
 abbrev pub HasCounts : Option Trip → Type 0
 HasCounts hold = IfSome hold (λ trip. length trip.extras ≡ 16)
 
+-- what is held, with its counts, is in its ranges where it passes its test
 held_of : (number : ℕ) (hold : Option Trip) → HasCounts hold → is_held number hold ≡ true → IfSome hold (IsHeld number)
 held_of number None sixteen is = tt
 held_of number (Some trip) sixteen is =
     let tests = both (nat_le number 2000000000000000) (is_trip number trip) is in
     record { room = grind (arith, nat_tests, tests.0); ranges = trip_of number trip sixteen tests.1 }
 
+-- what is held, in its ranges, passes its test
 is_held_of : (number : ℕ) (hold : Option Trip) → IfSome hold (IsHeld number) → is_held number hold ≡ true
 is_held_of number None held = refl
 is_held_of number (Some trip) held = and_true (nat_le number 2000000000000000) (is_trip number trip)
@@ -106,7 +113,7 @@ is_held_of number (Some trip) held = and_true (nat_le number 2000000000000000) (
     test : (n : ℕ) → n ≤ 2000000000000000 → nat_le n 2000000000000000 ≡ true
     test n below = grind (arith, nat_tests, below)
 
--- the layout's test, where there are nine shares
+-- a layout that passes its test is 1 or 2
 layout_of : (layout : ℕ) (shares : List Share) → is_layout layout shares ≡ true → (layout ≡ 1) ⊎ (layout ≡ 2)
 layout_of layout shares is = by (layout == 1) refl is
   where
@@ -115,12 +122,14 @@ layout_of layout shares is = by (layout == 1) refl is
     by true one is = inl (grind (arith, nat_tests, one))
     by false one is = inr (grind (arith, nat_tests, is))
 
+-- in layout 1 nine shares that pass the test of the layout are shares of no hiring
 unshared_of : (layout : ℕ) (shares : List Share) → length shares ≡ 9 → is_layout layout shares ≡ true → layout ≡ 1
     → shares ≡ replicate 9 no_share
 unshared_of layout shares nine is one =
     none_of shares (sym (if_is layout 1 (list_all is_none shares) (layout == 2) one) ∙ is)
     ∙ ap (λ (n : ℕ). replicate n no_share) nine
 
+-- layout 1 with shares of no hiring, and layout 2, pass the test of the layout
 is_layout_of : (layout : ℕ) (shares : List Share) → (layout ≡ 1 → shares ≡ replicate 9 no_share)
     → (layout ≡ 1) ⊎ (layout ≡ 2) → is_layout layout shares ≡ true
 is_layout_of layout shares unshared (inl one) = if_is layout 1 (list_all is_none shares) (layout == 2) one
@@ -128,7 +137,7 @@ is_layout_of layout shares unshared (inl one) = if_is layout 1 (list_all is_none
 is_layout_of layout shares unshared (inr two) = if_not layout 1 (list_all is_none shares) (layout == 2)
     (λ one. omega (arith, one, two)) ∙ agree layout 2 two
 
--- the bounds of the five totals
+-- totals that pass their test are within their bounds
 bounds_of : (number : ℕ) (totals : Totals) → are_totals number totals ≡ true
     → (totals.distance_mm ≤ 10 ^ 22 * number) × (totals.hired_mm ≤ totals.distance_mm) × (totals.hirings ≤ number)
     × (totals.supplements ≤ 10 ^ 10 * number) × (totals.fare ≤ 10 ^ 8 * number)
@@ -141,7 +150,7 @@ bounds_of number totals is = (
   grind (arith, nat_tests, is),
 )
 
--- a state that passes, with as many shares and counts as it has, is in its ranges
+-- a state of nine shares and sixteen counts that passes its test is in its ranges
 pub durable_of : (durable : Durable) → length durable.totals.shares ≡ 9 → HasCounts durable.hold
     → is_durable durable ≡ true → IsDurable durable
 durable_of durable nine sixteen is =
@@ -173,7 +182,7 @@ durable_of durable nine sixteen is =
       layout = layout_of durable.layout totals.shares shares.1;
     }
 
--- and one that is in its ranges passes
+-- a state in its ranges passes its test
 pub is_durable_of : (durable : Durable) → IsDurable durable → is_durable durable ≡ true
 is_durable_of durable valid =
     let totals = durable.totals in
@@ -202,7 +211,7 @@ is_durable_of durable valid =
         → totals.supplements ≤ 10 ^ 10 * number → totals.fare ≤ 10 ^ 8 * number → are_totals number totals ≡ true
     bounds number totals one two three four five = grind (arith, nat_tests, one, two, three, four, five)
 
--- their numbers fit into their fields
+-- the totals of a state in its ranges fit into their fields
 pub fit_of : (durable : Durable) → IsDurable durable → Fit durable.totals
 fit_of durable valid =
     let totals = durable.totals in

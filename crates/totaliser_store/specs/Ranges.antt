@@ -1,4 +1,4 @@
--- The ranges of what a totals' slot holds, in the order of its table.
+-- Rules: the ranges of what a totals' slot holds, in the order of its table.
 use Rattle.std.specs.Prelude.{◌≡◌, ◌⊎◌, ℕ, ◌+◌, ◌*◌, ◌^◌, ◌<◌, ◌≤◌, true, false, length, replicate, is_some, IfSome}
 use Rattle.std.specs.List.{All, sum_by}
 use Rattle.totaliser_store.specs.declared.durable.Durable.{Durable}
@@ -8,11 +8,11 @@ use Rattle.totaliser_store.specs.declared.trip.Trip.{Trip}
 use Rattle.taxi_units.specs.Time.{IsSecond, last_second}
 use Rattle.totaliser_store.specs.Entries.{closes, distance_of, no_share}
 
--- the greatest number with which a trip may be held; a state has one more at most
+-- the last number with which a trip may be held is 2 * 10^15; a state has one more at most
 abbrev pub last_number : ℕ
 last_number = 2 * 10 ^ 15
 
--- a held trip beside this number
+-- a trip is in its ranges beside the number of a state
 pub record IsTrip (number : ℕ) (trip : Trip) : Type 0 where
   pub started : IsSecond trip.started
   pub saved : (trip.started ≤ trip.saved) × (trip.saved ≤ last_second)
@@ -29,19 +29,20 @@ pub record IsTrip (number : ℕ) (trip : Trip) : Type 0 where
   pub extras_sum : trip.extras_sum ≤ 1584000000
   pub minimum : trip.minimum ≤ 99999999
 
--- a trip is held only beside a number that leaves room for its closing entry
+-- a trip may be held beside a number that leaves room for its closing entry, where the trip is in its ranges
 pub record IsHeld (number : ℕ) (trip : Trip) : Type 0 where
   pub room : number ≤ last_number
   pub ranges : IsTrip number trip
 
--- hirings and fare are the sums of nine shares and of what was counted before; in layout 1 all was
+-- shares are those of their totals where hirings and fare are the sums of nine shares and of what was counted before
+-- there were shares; in layout 1 all of it was
 pub record AreShares (layout : ℕ) (totals : Totals) : Type 0 where
   pub nine : length totals.shares ≡ 9
   pub hirings : sum_by (λ share. share.hirings) totals.shares + totals.before.hirings ≡ totals.hirings
   pub fare : sum_by (λ share. share.fare) totals.shares + totals.before.fare ≡ totals.fare
   pub unshared : layout ≡ 1 → totals.shares ≡ replicate 9 no_share
 
--- a durable state that a slot may hold
+-- a durable state may stand in a slot where each of its fields is in its range
 pub record IsDurable (durable : Durable) : Type 0 where
   pub number : (1 ≤ durable.number) × (durable.number ≤ last_number + 1)
   pub distance : durable.totals.distance_mm ≤ 10 ^ 22 * durable.number
@@ -53,23 +54,14 @@ pub record IsDurable (durable : Durable) : Type 0 where
   pub shares : AreShares durable.layout durable.totals
   pub layout : (durable.layout ≡ 1) ⊎ (durable.layout ≡ 2)
 
--- an entry as the meter makes them
+-- an entry is in its ranges where each of its numbers is one that the meter can make
 pub record IsEntry (entry : Entry) : Type 0 where
   pub distance : distance_of entry ≤ 10 ^ 22
   pub fare : entry.fare ≤ 99999999
   pub supplements : entry.supplements ≤ 1584000000
   pub position : closes entry ≡ true → (1 ≤ entry.position) × (entry.position ≤ 9)
 
--- totals whose numbers fit into their fields
-pub record Fit (totals : Totals) : Type 0 where
-  pub distance : totals.distance_mm < 2 ^ 128
-  pub hired : totals.hired_mm < 2 ^ 128
-  pub hirings : totals.hirings < 2 ^ 64
-  pub supplements : totals.supplements < 2 ^ 128
-  pub fare : totals.fare < 2 ^ 128
-  pub shares_hirings : All (λ share. share.hirings < 2 ^ 64) totals.shares
-  pub shares_fare : All (λ share. share.fare < 2 ^ 128) totals.shares
-
--- an entry of roaming beside a held trip, which stays, leaves room for the entry that will close the trip
+-- a state has room for an entry where one of roaming beside a held trip, which stays, leaves room for the entry that
+-- will close the trip
 abbrev pub HasRoom : Durable → Entry → Type 0
 HasRoom durable entry = closes entry ≡ false → is_some durable.hold ≡ true → durable.number + 1 ≤ last_number

@@ -1,4 +1,4 @@
--- The durable state that bytes spell.
+-- For proofs: the durable state that bytes are read as. The law states_are_read_by_their_table says which it is.
 use Rattle.std.specs.Prelude.{ℕ, ◌+◌, ◌&&◌, ◌==◌, if◌then◌else◌, List, [], ◌∷◌, length, take, drop, map}
 use Rattle.std.specs.Prelude.{replicate, Option, Some, None}
 use Rattle.std.specs.Str.{bytes_eq}
@@ -6,20 +6,20 @@ use Rattle.totaliser_store.specs.declared.durable.Durable.{Durable}
 use Rattle.totaliser_store.specs.declared.totals.Share.{Share}
 use Rattle.totaliser_store.specs.declared.totals.Totals.{Totals}
 use Rattle.totaliser_store.specs.declared.trip.Trip.{Trip}
-use Rattle.totaliser_store.specs.Bytes.{byte_at, four_at, eight_at, sixteen_at}
+use Rattle.totaliser_store.specs.BytesAt.{byte_at, four_at, eight_at, sixteen_at}
 use Rattle.totaliser_store.specs.Entries.{no_share}
 use Rattle.totaliser_store.specs.Spelling.{spelling}
 use Rattle.totaliser_store.specs.Tests.{is_durable}
 
--- the share that begins at a place
+-- the share in the 24 bytes from a place on
 abbrev pub share_at : List ℕ → ℕ → Share
 share_at bytes place = record { hirings = eight_at bytes place; fare = sixteen_at bytes (place + 8) }
 
--- nine shares, one behind the other
+-- the nine shares at the front of bytes, one behind the other
 abbrev pub shares_in : List ℕ → List Share
 shares_in bytes = map (share_at bytes) (0 ∷ 24 ∷ 48 ∷ 72 ∷ 96 ∷ 120 ∷ 144 ∷ 168 ∷ 192 ∷ [])
 
--- the trip whose bytes begin here
+-- the trip at the front of bytes, each field at its place
 abbrev pub trip_in : List ℕ → Trip
 trip_in bytes = record {
   started = eight_at bytes 0;
@@ -37,19 +37,19 @@ trip_in bytes = record {
   minimum = four_at bytes 103;
 }
 
--- the held trip, where the first byte is 1
+-- the held trip behind the first byte, where that byte is 1
 abbrev pub held_in : List ℕ → Option Trip
 held_in bytes = if byte_at bytes 0 == 1 then Some (trip_in (drop 1 bytes)) else None
 
--- the shares, which are none in layout 1
+-- the shares of a layout, which in layout 1 are those of no hiring
 abbrev pub shares_of : ℕ → List ℕ → List Share
 shares_of layout shared = if layout == 1 then replicate 9 no_share else shares_in shared
 
--- what was counted before there were shares: in layout 1 all
+-- what was counted before there were shares, which in layout 1 is all
 abbrev pub before_of : ℕ → Share → List ℕ → Share
 before_of layout all shared = if layout == 1 then all else share_at shared 216
 
--- the totals
+-- the totals of a layout, of which the shares stand in bytes of their own
 abbrev pub totals_in : ℕ → List ℕ → List ℕ → Totals
 totals_in layout front shared = record {
   distance_mm = sixteen_at front 8;
@@ -61,7 +61,7 @@ totals_in layout front shared = record {
   before = before_of layout (record { hirings = eight_at front 40; fare = sixteen_at front 64 }) shared;
 }
 
--- the fields at their places
+-- the state whose fields stand in the bytes at their places, whatever they are
 abbrev pub decoded : List ℕ → Durable
 decoded bytes = record {
   number = eight_at bytes 0;
@@ -70,7 +70,7 @@ decoded bytes = record {
   layout = byte_at bytes 510;
 }
 
--- it is read where each field is in its range, and the bytes are its own
+-- 511 bytes are read as the state of their fields where each field is in its range and the bytes are the state's own
 abbrev pub reads : List ℕ → Option Durable
 reads bytes =
     if length bytes == 511 && is_durable (decoded bytes) && bytes_eq (spelling (decoded bytes)) bytes

@@ -1,4 +1,4 @@
--- Shares are read back from their bytes.
+-- For proofs: shares are read back from their bytes.
 use Rattle.std.proofs.Common.{◌≡◌, ℕ, ◌+◌, ◌*◌, ◌<◌, ◌^◌, ◌/◌, ◌%◌, suc, zero, true, List, [], ◌∷◌, ◌++◌, length}
 use Rattle.std.proofs.Common.{take, drop, map, replicate, refl, sym, ◌∙◌, ap, arith, append_assoc, length-append}
 use Rattle.std.specs.Int.{w64, from_be_bytes}
@@ -9,7 +9,8 @@ use Rattle.std.proofs.lemmas.List.Sums.{sum_by-cons}
 use Rattle.std.proofs.lemmas.Nat.{from_be_bytes-to_be_bytes_8}
 use Rattle.std.proofs.Math.Seq.{drop-append-add}
 use Rattle.totaliser_store.specs.declared.totals.Share.{Share}
-use Rattle.totaliser_store.specs.Bytes.{eight, eight_at}
+use Rattle.totaliser_store.specs.Bytes.{eight}
+use Rattle.totaliser_store.specs.BytesAt.{eight_at}
 use Rattle.totaliser_store.specs.Choices.{both}
 use Rattle.totaliser_store.specs.Entries.{no_share}
 use Rattle.totaliser_store.specs.Reading.{share_at, shares_in}
@@ -17,13 +18,15 @@ use Rattle.totaliser_store.specs.Spelling.{share_bytes}
 use Rattle.totaliser_store.specs.Tests.{is_none}
 use Rattle.totaliser_store.specs.TripLaws.{halves}
 
+-- the share of these hirings and this fare
 abbrev share_of : ℕ → ℕ → Share
 share_of hirings fare = record { hirings = hirings; fare = fare }
 
+-- shares of the same hirings and the same fare are the same
 pub same_share : (a b : Share) → a.hirings ≡ b.hirings → a.fare ≡ b.fare → a ≡ b
 same_share a b one two = ap (λ (n : ℕ). share_of n a.fare) one ∙ ap (λ (n : ℕ). share_of b.hirings n) two
 
--- the number behind some bytes
+-- the number behind some bytes is that of the bytes behind them
 eight_behind : (before after : List ℕ) (k : ℕ) → eight_at (before ++ after) (length before + k)
     ≡ from_be_bytes w64 (take 8 (drop k after))
 eight_behind before after k = ap (λ (l : List ℕ). from_be_bytes w64 (take 8 l)) (drop-append-add before after k)
@@ -45,7 +48,7 @@ share_back before place share rest at hirings fare =
     (ap (λ (h : ℕ). h * 2 ^ 64 + eight_at bytes (place + 8 + 8)) high
     ∙ ap (λ (l : ℕ). from_be_bytes w64 (eight (share.fare / 2 ^ 64)) * 2 ^ 64 + l) low ∙ halves share.fare fare)
 
--- places that are 24 bytes apart
+-- the places of `n` shares, which are 24 bytes apart
 abbrev places : ℕ → ℕ → List ℕ
 places first zero = []
 places first (suc n) = first ∷ places (first + 24) n
@@ -81,7 +84,7 @@ shares_back shares rest nine hirings fare =
     ap (λ (n : ℕ). map (share_at (flat_map share_bytes shares ++ rest)) (places 0 n)) (sym nine)
     ∙ row_back [] 0 shares rest refl hirings fare
 
--- they have 24 bytes each
+-- a row of shares has 24 bytes for each
 pub row_long : (shares : List Share) → length (flat_map share_bytes shares) ≡ 24 * length shares
 row_long [] = refl
 row_long (share ∷ others) = omega (
@@ -91,7 +94,7 @@ row_long (share ∷ others) = omega (
   row_long others,
 )
 
--- each part of a sum is at most the sum
+-- each number of a sum is below what the sum is below
 pub each_below : (f : Share → ℕ) (shares : List Share) (bound : ℕ) → sum_by f shares < bound
     → All (λ share. f share < bound) shares
 each_below f [] bound below = All-nil (λ s. f s < bound)
@@ -100,7 +103,7 @@ each_below f (share ∷ others) bound below =
     All-cons (λ s. f s < bound) share others (omega (arith, split, below))
     (each_below f others bound (omega (arith, split, below)))
 
--- shares without a hiring
+-- shares that pass the test for no hiring are those of no hiring
 pub none_of : (shares : List Share) → list_all is_none shares ≡ true → shares ≡ replicate (length shares) no_share
 none_of [] none = refl
 none_of (share ∷ others) none =

@@ -1,4 +1,4 @@
--- The durable state, and what a commit makes of it.
+-- Rules: the durable state, and what a commit makes of it.
 use Rattle.std.specs.Prelude.{◌≡◌, ℕ, ◌+◌, ◌⊎◌, true, false, if◌then◌else◌, List, [], ◌∷◌, ◌++◌, Option, Some}
 use Rattle.std.specs.Prelude.{None, replicate}
 use Rattle.std.specs.List.{All, fold}
@@ -10,7 +10,7 @@ use Rattle.totaliser_store.specs.declared.totals.Totals.{Totals}
 use Rattle.totaliser_store.specs.declared.trip.Trip.{Trip}
 use Rattle.totaliser_store.specs.Entries.{closes, no_share, totals_with}
 
--- totals of nothing
+-- the totals of no entry are all zero
 abbrev pub no_totals : Totals
 no_totals = record {
   distance_mm = 0;
@@ -22,21 +22,22 @@ no_totals = record {
   before = no_share;
 }
 
--- what sealing begins with: number 1, layout 2, totals of nothing, and no held trip
+-- the first state, with which sealing begins, has number 1, layout 2, the totals of no entry, and no held trip
 abbrev pub first_state : Durable
 first_state = record { number = 1; totals = no_totals; hold = None; layout = 2 }
 
--- an entry adds to the totals, a held trip leaves them
+-- the totals after a commit have its entry more, and stay where a trip is held
 abbrev pub totals_after : Totals → Change → Totals
 totals_after totals (Enter entry) = totals_with totals entry
 totals_after totals (Hold trip) = totals
 
--- a trip is held from now on; an entry that closes a hiring ends that, one of roaming doesn't
+-- after a commit the trip is held that it holds; an entry that closes a hiring leaves none, and one of roaming leaves
+-- what was held
 abbrev pub held_after : Option Trip → Change → Option Trip
 held_after held (Enter entry) = if closes entry then None else held
 held_after held (Hold trip) = Some trip
 
--- the state after one commit
+-- the state after a commit has the next number, layout 2, and the totals and the held trip that the commit leaves
 abbrev pub after : Durable → Change → Durable
 after durable change = record {
   number = durable.number + 1;
@@ -45,39 +46,39 @@ after durable change = record {
   layout = 2;
 }
 
--- the state after a list of commits
+-- the state after a list of commits is the one after each of them in its turn
 abbrev pub after_all : Durable → List Change → Durable
 after_all durable changes = fold after durable changes
 
--- the entries of a list of commits, in their order
+-- the entries of a list of commits stand in their order, without the trips that were held
 abbrev pub entries_of : List Change → List Entry
 entries_of [] = []
 entries_of (Enter entry ∷ changes) = entry ∷ entries_of changes
 entries_of (Hold trip ∷ changes) = entries_of changes
 
--- the layout of the opening state where there was no commit, and else 2
+-- the layout after a list of commits is 2, and is the opening one where the list is empty
 abbrev pub layout_after : ℕ → List Change → ℕ
 layout_after opening [] = opening
 layout_after opening (change ∷ changes) = 2
 
--- the commit is an entry that closes a hiring
+-- a commit is closing where it is an entry that closes a hiring
 abbrev pub IsClosing : Change → Type 0
 IsClosing (Enter entry) = closes entry ≡ true
 IsClosing (Hold trip) = ⊥
 
--- the commit is an entry of roaming, which leaves a held trip as it is
+-- a commit is one of roaming where it is an entry that closes no hiring, and so leaves a held trip as it is
 abbrev pub IsRoaming : Change → Type 0
 IsRoaming (Enter entry) = closes entry ≡ false
 IsRoaming (Hold trip) = ⊥
 
--- the last commit of the list that isn't an entry of roaming
+-- a commit is the last of a list where only entries of roaming stand behind it
 pub record IsLast (changes : List Change) (last : Change) : Type 0 where
   pub earlier : List Change
   pub later : List Change
   pub split : changes ≡ earlier ++ last ∷ later
   pub roaming : All IsRoaming later
 
--- what is held after a list of commits
+-- what is held after a list of commits, of which `opening` was held before
 abbrev pub IsHeldAfter : Option Trip → List Change → Option Trip → Type 0
 -- a trip: it was held last, and no closing entry follows, or it stood first, and there is neither
 IsHeldAfter opening changes (Some trip) =

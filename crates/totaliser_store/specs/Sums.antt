@@ -1,4 +1,4 @@
--- Totals as sums over the list of entries.
+-- Rules: totals as sums over the list of entries.
 use Rattle.std.specs.Prelude.{◌≡◌, ℕ, ◌+◌, ◌-◌, ◌≤◌, List, length, get_or}
 use Rattle.std.specs.List.{fold, sum_by, count_by}
 use Rattle.totaliser_store.specs.declared.change.Change.{Change}
@@ -10,20 +10,21 @@ use Rattle.totaliser_store.specs.Entries.{closes, closes_at, distance_of, hired_
 use Rattle.totaliser_store.specs.Entries.{fare_at, no_share, totals_with}
 use Rattle.totaliser_store.specs.States.{entries_of, layout_after, IsHeldAfter}
 
--- the totals with a list of entries more, one after the other
+-- the totals of opening ones and a list of entries are those with each entry more in its turn
 abbrev pub totals_of : Totals → List Entry → Totals
 totals_of opening entries = fold totals_with opening entries
 
--- the share of a tariff position, from 1 on
+-- the share of a tariff position, which counts from 1
 abbrev pub share_of : Totals → ℕ → Share
 share_of totals position = get_or totals.shares (position - 1) no_share
 
--- a share of this position grew by the hirings that were closed there, and by their fares
+-- the share of a tariff position adds up where it grew by the hirings that entries closed there, and by their fares
 pub record ShareAddsUp (position : ℕ) (old new : Share) (entries : List Entry) : Type 0 where
   pub hirings : new.hirings ≡ old.hirings + count_by (closes_at position) entries
   pub fare : new.fare ≡ old.fare + sum_by (fare_at position) entries
 
--- the totals grew by the sums over a list of entries
+-- totals add up where each grew by the sum over a list of entries, each of the shares too, and what was counted before
+-- shares stayed
 pub record AddsUp (old new : Totals) (entries : List Entry) : Type 0 where
   pub distance : new.distance_mm ≡ old.distance_mm + sum_by distance_of entries
   pub hired : new.hired_mm ≡ old.hired_mm + sum_by hired_of entries
@@ -35,7 +36,8 @@ pub record AddsUp (old new : Totals) (entries : List Entry) : Type 0 where
       → ShareAddsUp position (share_of old position) (share_of new position) entries
   pub before : new.before ≡ old.before
 
--- the state after a list of commits: its number grew by their number, and its totals by their entries
+-- a state follows another by a list of commits where its number grew by how many they are, its totals by their entries,
+-- and its layout and its held trip are what they leave
 pub record Follows (old new : Durable) (changes : List Change) : Type 0 where
   pub number : new.number ≡ old.number + length changes
   pub layout : new.layout ≡ layout_after old.layout changes

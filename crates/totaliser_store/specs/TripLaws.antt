@@ -1,4 +1,4 @@
--- The fields of a trip are read back from its bytes.
+-- For proofs: the fields of a trip are read back from its bytes.
 use Rattle.std.proofs.Common.{◌≡◌, ℕ, ◌+◌, ◌*◌, ◌<◌, ◌≤◌, ◌^◌, ◌/◌, ◌%◌, Bool, true, false, ◌==◌, List, ◌++◌}
 use Rattle.std.proofs.Common.{length, take, drop, Option, Some, None, IfSome, refl, sym, ◌∙◌, ap, arith}
 use Rattle.std.proofs.Common.{append_assoc, length-append}
@@ -12,7 +12,7 @@ use Rattle.totaliser_store.specs.Ranges.{IsTrip, IsHeld}
 use Rattle.totaliser_store.specs.Reading.{trip_in, held_in}
 use Rattle.totaliser_store.specs.Spelling.{trip_bytes, held_bytes}
 
--- a number of two halves
+-- a number below 2^128 is read back from its two halves
 pub halves : (n : ℕ) → n < 2 ^ 128 → from_be_bytes w64 (eight (n / 2 ^ 64)) * 2 ^ 64 + from_be_bytes w64
     (eight (n % 2 ^ 64)) ≡ n
 halves n fits =
@@ -21,16 +21,17 @@ halves n fits =
     ap (λ (h : ℕ). h * 18446744073709551616 + from_be_bytes w64 (eight (n % 18446744073709551616))) high
     ∙ ap (λ (l : ℕ). n / 18446744073709551616 * 18446744073709551616 + l) low ∙ omega arith
 
+-- a yes or no is read back from its byte
 bit_back : (b : Bool) → (bit b == 1) ≡ b
 bit_back true = refl
 bit_back false = refl
 
--- the counts in front
+-- three lists behind sixteen counts may be joined in the other order
 regrouped : (counts one two rest : List ℕ) → ((counts ++ one) ++ two) ++ rest ≡ counts ++ ((one ++ two) ++ rest)
 regrouped counts one two rest = ap (λ (l : List ℕ). l ++ rest) (append_assoc counts one two)
     ∙ append_assoc counts (one ++ two) rest
 
--- behind the sixteen counts
+-- what stands behind sixteen counts is reached by leaving sixteen bytes more
 behind_counts : (counts one two rest : List ℕ) (n : ℕ) → length counts ≡ 16
     → drop (16 + n) (((counts ++ one) ++ two) ++ rest) ≡ drop n ((one ++ two) ++ rest)
 behind_counts counts one two rest n long =
@@ -38,6 +39,7 @@ behind_counts counts one two rest n long =
     ∙ ap (λ (l : List ℕ). drop (length counts + n) l) (regrouped counts one two rest)
     ∙ drop-append-add counts ((one ++ two) ++ rest) n
 
+-- the trip of these fields
 abbrev trip_of : ℕ → ℕ → Bool → ℕ → ℕ → ℕ → ℕ → ℕ → ℕ → ℕ → ℕ → ℕ → (List ℕ) → ℕ → ℕ → Trip
 trip_of started saved stopped position zone roam pulses ticks initial cover_left steps_full rest extras extras_sum
     minimum = record {
@@ -56,6 +58,7 @@ trip_of started saved stopped position zone roam pulses ticks initial cover_left
       minimum = minimum;
     }
 
+-- trips whose fields are the same are the same
 same_trip : (a b : Trip) → a.started ≡ b.started → a.saved ≡ b.saved → a.stopped ≡ b.stopped
     → a.position ≡ b.position → a.zone ≡ b.zone → a.roam ≡ b.roam
     → a.pulses ≡ b.pulses → a.ticks ≡ b.ticks → a.initial ≡ b.initial → a.meterage.cover_left ≡ b.meterage.cover_left
@@ -127,7 +130,7 @@ pub held_back : (number : ℕ) (hold : Option Trip) (rest : List ℕ) → IfSome
 held_back number None rest held = refl
 held_back number (Some trip) rest held = ap Some (trip_back number trip rest held.room held.ranges)
 
--- it has 108 bytes
+-- a held trip, or none, has 108 bytes
 pub held_long : (number : ℕ) (hold : Option Trip) → IfSome hold (IsHeld number) → length (held_bytes hold) ≡ 108
 held_long number None held = refl
 held_long number (Some trip) held = omega (

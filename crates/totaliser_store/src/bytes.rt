@@ -1,7 +1,8 @@
 //! Numbers in bytes, the greatest byte first.
 ghost use Rattle.std.specs.Prelude.{◌≡◌, [], ◌∷◌, ◌++◌, ◌+◌, ◌<◌, ◌≤◌, ◌^◌, length, drop};
 ghost use Rattle.arrayvec.specs.ArrayVec.{array_vec_len};
-ghost use Rattle.totaliser_store.specs.Bytes.{four, eight, sixteen, bit, byte_at, four_at, eight_at, sixteen_at};
+ghost use Rattle.totaliser_store.specs.Bytes.{four, eight, sixteen, bit};
+ghost use Rattle.totaliser_store.specs.BytesAt.{four_at, eight_at, sixteen_at};
 
 use arrayvec::ArrayVec;
 

@@ -13,6 +13,9 @@ use taxi_units::{FIRST_SECOND, LAST_SECOND};
 /// The greatest number beside which a trip may be held.
 const LAST_NUMBER: u64 = 2_000_000_000_000_000;
 
+/// The greatest hire fee and the greatest minimum fare.
+const GREATEST_FARE: u64 = 99_999_999;
+
 /// Whether each field of a state is in its range.
 pub fn is_durable(durable: &Durable) -> bool
     ensures { result ≡ is_durable durable.now }
@@ -26,7 +29,7 @@ pub fn is_durable(durable: &Durable) -> bool
 
 /// Whether the five totals are in their ranges beside a number.
 fn are_totals(number: u64, totals: &Totals) -> bool
-    requires { number ≤ 2 * 10 ^ 15 + 1 }
+    requires { number ≤ last_number + 1 }
     ensures { result ≡ are_totals number totals.now }
 {
     let number_wide = u128::from(number);
@@ -39,7 +42,7 @@ fn are_totals(number: u64, totals: &Totals) -> bool
 
 /// Whether no trip is held, or one that is in its ranges beside a number.
 fn is_held(number: u64, hold: &Option<Trip>) -> bool
-    requires { number ≤ 2 * 10 ^ 15 + 1 }
+    requires { number ≤ last_number + 1 }
     ensures { result ≡ is_held number hold.now }
 {
     match hold {
@@ -57,7 +60,7 @@ pub fn is_digit(n: u8) -> bool
 
 /// Whether a trip is in its ranges beside a number.
 fn is_trip(number: u64, trip: &Trip) -> bool
-    requires { number ≤ 2 * 10 ^ 15 + 1 }
+    requires { number ≤ last_number + 1 }
     ensures { result ≡ is_trip number trip.now }
 {
     is_course(number, trip) && is_meterage(trip.ticks, &trip.meterage) && are_extras(trip)
@@ -65,7 +68,7 @@ fn is_trip(number: u64, trip: &Trip) -> bool
 
 /// Whether a trip has come as far as it may beside a number.
 fn is_course(number: u64, trip: &Trip) -> bool
-    requires { number ≤ 2 * 10 ^ 15 + 1 }
+    requires { number ≤ last_number + 1 }
     ensures { result ≡ is_course number trip.now }
 {
     FIRST_SECOND <= trip.started
@@ -77,10 +80,10 @@ fn is_course(number: u64, trip: &Trip) -> bool
         && trip.roam <= 1_001_999
         && trip.pulses <= 2_000 * (u64::from(trip.ticks) + number)
         && trip.ticks <= 8_639_999
-        && trip.initial <= 99_999_999
+        && trip.initial <= GREATEST_FARE
 }
 
-/// Whether the charges of a trip of so many ticks may have come to this.
+/// Whether the charges of a trip of `ticks` intervals may have come to this.
 fn is_meterage(ticks: u32, meterage: &Meterage) -> bool
     requires { ticks ≤ 8639999 }
     ensures { result ≡ is_meterage ticks meterage.now }
@@ -94,7 +97,7 @@ fn is_meterage(ticks: u32, meterage: &Meterage) -> bool
 fn are_extras(trip: &Trip) -> bool
     ensures { result ≡ are_extras trip.now }
 {
-    are_counts(&trip.extras) && trip.extras_sum <= 1_584_000_000 && trip.minimum <= 99_999_999
+    are_counts(&trip.extras) && trip.extras_sum <= 1_584_000_000 && trip.minimum <= GREATEST_FARE
 }
 
 /// Whether each count of a supplement is at most 99.
@@ -138,7 +141,7 @@ fn is_none(share: &Share) -> bool
     share.hirings == 0 && share.fare == 0
 }
 
-/// Whether the shares and what was counted before come to so many hirings and so much fare.
+/// Whether the shares and what was counted before come to these hirings and this fare.
 fn add_up(shares: &[Share], before: Share, hirings: u64, fare: u128) -> bool
     ensures { result ≡ add_up shares.now before hirings fare }
 {

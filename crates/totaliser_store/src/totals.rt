@@ -2,7 +2,7 @@
 ghost use Rattle.std.specs.Prelude.{◌≡◌, ◌<◌, ◌^◌, true};
 ghost use Rattle.std.specs.List.{All};
 ghost use Rattle.totaliser_store.specs.Entries.{closes, shares_with, totals_with};
-ghost use Rattle.totaliser_store.specs.Ranges.{Fit};
+ghost use Rattle.totaliser_store.specs.Fields.{Fit};
 
 use crate::Entry;
 use crate::ranges::is_digit;

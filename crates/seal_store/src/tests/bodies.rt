@@ -71,9 +71,9 @@ fn sealed_with(place: usize, others: &[u8]) -> Option<[u8; 511]> {
 
 #[test]
 fn reads_bodies_in_their_ranges(rt: HostRuntime) {
-    for (row, (place, others, good)) in ROWS.iter().enumerate() {
-        let read = sealed_with(*place, others).map(|bytes| Seal::get(&bytes).is_some());
-        assert_eq!(rt; read, Some(*good), "row {row}");
+    for (place, others, good) in ROWS {
+        let read = sealed_with(place, others).map(|bytes| Seal::get(&bytes).is_some());
+        assert_eq!(rt; read, Some(good), "{others:?} at {place}");
     }
 }
 

@@ -104,7 +104,7 @@ fn reads_values_in_their_ranges(rt: HostRuntime) -> Result<(), Fail> {
     Ok(())
 }
 
-/// A text of so many offsets alone.
+/// A text of `count` offsets alone.
 fn offsets(alloc: Global, count: u64) -> Result<String, AllocError>
     requires { count ≤ 100 }
 {

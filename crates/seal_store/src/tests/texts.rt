@@ -14,53 +14,53 @@ const OTHERS: [&[u8]; 4] = [
 ];
 
 /// Texts and their faults: the first bad line's, and else the first parameter that is missing.
-const FAULTS: [(&[u8], ParamFault); 24] = [
-    (b"", ParamFault::Missing(Name::Taxi)),
-    (b"taxi A", ParamFault::Missing(Name::Constant)),
-    (b"taxi A\nconstant 500", ParamFault::Missing(Name::Mode)),
+const FAULTS: [(&str, ParamFault); 24] = [
+    ("", ParamFault::Missing(Name::Taxi)),
+    ("taxi A", ParamFault::Missing(Name::Constant)),
+    ("taxi A\nconstant 500", ParamFault::Missing(Name::Mode)),
     (
-        b"taxi A\nconstant 500\nmode double",
+        "taxi A\nconstant 500\nmode double",
         ParamFault::Missing(Name::Hold),
     ),
     (
-        b"taxi A\nconstant 500\nmode double\nhold 0",
+        "taxi A\nconstant 500\nmode double\nhold 0",
         ParamFault::Missing(Name::Offset),
     ),
     (
-        b"taxi A\nconstant 500\nmode double\nhold 0\noffset 946684800 0",
+        "taxi A\nconstant 500\nmode double\nhold 0\noffset 946684800 0",
         ParamFault::Missing(Name::Secured),
     ),
     (
-        b"taxi LX-4711\nconstant 10000\nmode single\noffset 946684800 3600\nsecured 2025-12-01\n",
+        "taxi LX-4711\nconstant 10000\nmode single\noffset 946684800 3600\nsecured 2025-12-01\n",
         ParamFault::Missing(Name::Hold),
     ),
     (
-        b"taxi LX-4711\nconstant 10000\nmode triple\nhold 60\noffset 946684800 3600\nsecured 2025-12-01\n",
+        "taxi LX-4711\nconstant 10000\nmode triple\nhold 60\noffset 946684800 3600\nsecured 2025-12-01\n",
         ParamFault::BadValue(3),
     ),
     (
-        b"taxi LX-4711\ntaxi LX-4711\nconstant 10000\nmode single\nhold 60\noffset 946684800 3600\n",
+        "taxi LX-4711\ntaxi LX-4711\nconstant 10000\nmode single\nhold 60\noffset 946684800 3600\n",
         ParamFault::Twice(Name::Taxi),
     ),
-    (b"colour red\n", ParamFault::Unknown(1)),
-    (b"#\n\n\r\ncolour\n", ParamFault::Unknown(4)),
-    (b"Taxi A\n", ParamFault::Unknown(1)),
-    (b" taxi A\n", ParamFault::Unknown(1)),
-    (b"taxi\tA\n", ParamFault::Unknown(1)),
-    (b"hold 601\ncolour\n", ParamFault::BadValue(1)),
-    (b"colour\nhold 601\n", ParamFault::Unknown(1)),
-    (b"taxi A\ntaxi lower\n", ParamFault::Twice(Name::Taxi)),
-    (b"hold 1\nhold 1\ncolour\n", ParamFault::Twice(Name::Hold)),
-    (b"mode single\nmode single\n", ParamFault::Twice(Name::Mode)),
-    (b"taxi A\r", ParamFault::BadValue(1)),
-    (b"taxi A\r\r\n", ParamFault::BadValue(1)),
-    (b"taxi\n", ParamFault::BadValue(1)),
+    ("colour red\n", ParamFault::Unknown(1)),
+    ("#\n\n\r\ncolour\n", ParamFault::Unknown(4)),
+    ("Taxi A\n", ParamFault::Unknown(1)),
+    (" taxi A\n", ParamFault::Unknown(1)),
+    ("taxi\tA\n", ParamFault::Unknown(1)),
+    ("hold 601\ncolour\n", ParamFault::BadValue(1)),
+    ("colour\nhold 601\n", ParamFault::Unknown(1)),
+    ("taxi A\ntaxi lower\n", ParamFault::Twice(Name::Taxi)),
+    ("hold 1\nhold 1\ncolour\n", ParamFault::Twice(Name::Hold)),
+    ("mode single\nmode single\n", ParamFault::Twice(Name::Mode)),
+    ("taxi A\r", ParamFault::BadValue(1)),
+    ("taxi A\r\r\n", ParamFault::BadValue(1)),
+    ("taxi\n", ParamFault::BadValue(1)),
     (
-        b"offset 946684800 0\noffset 946684800 0\n",
+        "offset 946684800 0\noffset 946684800 0\n",
         ParamFault::BadValue(2),
     ),
     (
-        b"offset 946684800 0\noffset 7258118399 0\noffset 7258118400 0\n",
+        "offset 946684800 0\noffset 7258118399 0\noffset 7258118400 0\n",
         ParamFault::BadValue(3),
     ),
 ];
@@ -93,12 +93,12 @@ fn reads_parameters(rt: HostRuntime) {
 
 #[test]
 fn names_the_first_fault(rt: HostRuntime) {
-    for (row, (text, fault)) in FAULTS.iter().enumerate() {
-        assert_eq!(rt; read_params(text).err(), Some(*fault), "row {row}");
+    for (text, fault) in FAULTS {
+        assert_eq!(rt; read_params(text.as_bytes()).err(), Some(fault), "{text:?}");
     }
 }
 
-/// A text of so many `#`, which is one comment without an end.
+/// A text of `count` times `#`, which is one comment without an end.
 fn comment(alloc: std::alloc::Global, count: usize) -> Result<Vec<u8>, std::alloc::AllocError> {
     vec![in alloc; b'#'; count]
 }

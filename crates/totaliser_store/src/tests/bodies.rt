@@ -5,7 +5,7 @@ use drive_modes::Meterage;
 use slot_store::Body;
 use std::process::Abort;
 
-/// A number at a place, in so many bytes, the greatest first.
+/// The place of a field, how many bytes it has, and its number, whose greatest byte comes first.
 type Field = (u16, u8, u128);
 
 /// Nothing else is written.
@@ -166,13 +166,17 @@ pub fn body_of(fields: &[Field], rt: &impl Abort) -> [u8; 511] {
     body
 }
 
-/// Tries each row over a body.
+/// Writes the two fields of each row over a body, and tries whether it is read.
 fn try_limits(fields: &[Field], rows: &[(Field, Field, bool)], rt: &impl Abort) {
-    for (row, (one, other, want)) in rows.iter().enumerate() {
+    for (one, other, want) in rows {
         let mut body = body_of(fields, rt);
         write(&mut body, *one, rt);
         write(&mut body, *other, rt);
-        assert_eq!(rt; Durable::get(&body).is_some(), *want, "row {row}");
+        assert_eq!(rt;
+            Durable::get(&body).is_some(),
+            *want,
+            "{one:?} and {other:?}"
+        );
     }
 }
 

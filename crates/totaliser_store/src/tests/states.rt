@@ -6,9 +6,9 @@ use crate::{Change, Durable, Entry, Share};
 use std::process::Abort;
 use taxi_units::Kind;
 
-/// The totals after one entry: distance, distance when hired, hirings, supplements, fare, and the
-/// position that has the hiring.
-type Row = (Entry, (u128, u128, u64, u128, u128), usize);
+/// A name, an entry, the totals after it (distance, distance when hired, hirings, supplements and fare),
+/// and the position that has the hiring.
+type Row = (&'static str, Entry, (u128, u128, u64, u128, u128), usize);
 
 /// An entry without supplements, at position 1.
 pub const PLAIN: Entry = Entry {
@@ -22,8 +22,9 @@ pub const PLAIN: Entry = Entry {
 
 /// Entries of worked drives, and the totals after each over totals of zero.
 const ROWS: [Row; 6] = [
-    (PLAIN, (234_800, 234_800, 1, 0, 380), 1),
+    ("a closed hiring", PLAIN, (234_800, 234_800, 1, 0, 380), 1),
     (
+        "roaming before a hiring",
         Entry {
             roam_mm: 500,
             hired_mm: 0,
@@ -33,6 +34,7 @@ const ROWS: [Row; 6] = [
         1,
     ),
     (
+        "an aborted hiring",
         Entry {
             kind: Kind::Aborted,
             hired_mm: 20_000,
@@ -42,6 +44,7 @@ const ROWS: [Row; 6] = [
         1,
     ),
     (
+        "an expired hiring",
         Entry {
             kind: Kind::Expired,
             hired_mm: 0,
@@ -52,6 +55,7 @@ const ROWS: [Row; 6] = [
         1,
     ),
     (
+        "supplements at position 9",
         Entry {
             hired_mm: 6_000_000,
             fare: 1_440,
@@ -63,6 +67,7 @@ const ROWS: [Row; 6] = [
         9,
     ),
     (
+        "roaming alone",
         Entry {
             kind: Kind::Roam,
             roam_mm: 100_000_000,
@@ -107,7 +112,7 @@ fn first_entry(entry: &Entry, rt: &impl Abort) -> Durable {
 
 #[test]
 fn entries_add_to_the_totals(rt: HostRuntime) {
-    for (row, (entry, want, position)) in ROWS.iter().enumerate() {
+    for (name, entry, want, position) in ROWS.iter() {
         let state = first_entry(entry, &rt);
         let totals = state.totals;
         let sums = (
@@ -117,8 +122,12 @@ fn entries_add_to_the_totals(rt: HostRuntime) {
             totals.supplements,
             totals.fare,
         );
-        assert_eq!(rt; sums, *want, "row {row}");
-        assert_eq!(rt; (state.number, state.layout, state.hold), (2, 2, None));
+        assert_eq!(rt; sums, *want, "{name}");
+        assert_eq!(rt;
+            (state.number, state.layout, state.hold),
+            (2, 2, None),
+            "{name}"
+        );
         let mut shares = [Share::NONE; 9];
         assert!(rt; 1 <= *position && *position <= 9);
         shares[*position - 1] = Share {
@@ -126,9 +135,6 @@ fn entries_add_to_the_totals(rt: HostRuntime) {
             fare: want.4,
         };
         let grown = totals.shares;
-        assert!(rt;
-            grown == shares && totals.before == Share::NONE,
-            "row {row}"
-        );
+        assert!(rt; grown == shares && totals.before == Share::NONE, "{name}");
     }
 }

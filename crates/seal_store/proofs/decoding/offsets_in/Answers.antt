@@ -1,5 +1,5 @@
 use Rattle.std.proofs.Common.{arith, ap, drop, ◌∙◌}
-use Rattle.totaliser_store.specs.Bytes.{byte_at}
+use Rattle.totaliser_store.specs.BytesAt.{byte_at}
 use Rattle.seal_store.specs.Decoding.{pairs_in}
 use Rattle.seal_store.proofs.Pairs.{all_left, length-pairs_in}
 use Rattle.seal_store.proofs.Ranged.{offsets_by}

@@ -3,7 +3,7 @@ use Rattle.arrayvec.specs.ArrayVec.{array_vec_len}
 use Rattle.seal_store.specs.Decoding.{pairs_in}
 use Rattle.seal_store.proofs.decoding.pairs_in.Given as goal
 
--- the first so many pairs were read
+-- the first `i` pairs were read
 abbrev pub invariant-loop-i : goal.invariant-loop-i
 invariant-loop-i l = record {
   items : l.pairs.items ≡ pairs_in l.i l.bytes;

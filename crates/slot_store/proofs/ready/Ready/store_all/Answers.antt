@@ -4,7 +4,7 @@ use Rattle.slot_store.specs.Stages.{IsReady}
 use Rattle.slot_store.specs.Slots.{IsSettled}
 use Rattle.slot_store.specs.Order.{AreNewer, last_of}
 use Rattle.slot_store.proofs.Moments.{no_call}
-use Rattle.slot_store.proofs.Ordered.{quiet_leaves, rests, newer_next, last_next, moments_more, moments_whole, stores_some, next_stored, writes_more}
+use Rattle.slot_store.proofs.Ordered.{quiet_leaves, rests, newer_next, last_next, moments_more, broken_off, next_stored, writes_more}
 use Rattle.slot_store.proofs.ready.Ready.store_all.Goals as goal
 
 pub loop-body-init : goal.loop-body-init
@@ -41,38 +41,15 @@ store-requires-clause-ready g c told =
 
 pub returns-in_err-place-clause-any_moment : goal.returns-in_err-place-clause-any_moment
 returns-in_err-place-clause-any_moment g c told latest ready newer =
-    let reads = g.T.Body.reads in
-    let number_of = g.T.Body.number_of in
-    let board = g.B.Board in
     let inv = c.loop-body.invariant in
-    let n = c.loop-body.body-index in
-    let bodies = c.args.bodies.now in
-    let body = c.body-item.result in
-    let old = c.args.board.now in
-    let between = c.loop-body.board in
-    let new = c.store.new.board in
-    let next = c.store.ensures.any_moment told (last_of latest (take n bodies)) (inv.ready told latest ready newer)
-    (newer_next reads number_of c.args.self.at board old between new c.loop-body.ready inv.pair latest bodies n body c.loop-body-test.true c.body-item.is newer) in
-    moments_whole reads number_of c.args.self.at board old between new c.loop-body.ready inv.pair latest bodies n body c.loop-body-test.true c.body-item.is (n + 1)
-    (moments_more reads number_of c.args.self.at board old between new c.loop-body.ready inv.pair latest bodies n body c.loop-body-test.true c.body-item.is
-    inv.beside (inv.moments told latest ready newer) next)
+    (broken_off g.T.Body.reads g.T.Body.number_of c.args.self.at g.B.Board c.args.board.now c.loop-body.board c.store.new.board c.loop-body.ready inv.pair latest c.args.bodies.now c.loop-body.body-index c.body-item.result c.loop-body-test.true c.body-item.is
+    newer inv.beside (inv.moments told latest ready newer) (inv.gets told latest ready newer) (c.store.ensures.any_moment told _ (inv.ready told latest ready newer))).0
 
 pub returns-in_err-place-clause-in_order : goal.returns-in_err-place-clause-in_order
 returns-in_err-place-clause-in_order g c told latest ready newer =
-    let reads = g.T.Body.reads in
-    let number_of = g.T.Body.number_of in
-    let board = g.B.Board in
     let inv = c.loop-body.invariant in
-    let n = c.loop-body.body-index in
-    let bodies = c.args.bodies.now in
-    let body = c.body-item.result in
-    let old = c.args.board.now in
-    let between = c.loop-body.board in
-    let new = c.store.new.board in
-    let next = c.store.ensures.any_moment told (last_of latest (take n bodies)) (inv.ready told latest ready newer)
-    (newer_next reads number_of c.args.self.at board old between new c.loop-body.ready inv.pair latest bodies n body c.loop-body-test.true c.body-item.is newer) in
-    stores_some reads number_of c.args.self.at board old between new c.loop-body.ready inv.pair latest bodies n body c.loop-body-test.true c.body-item.is
-    (inv.gets told latest ready newer) next
+    (broken_off g.T.Body.reads g.T.Body.number_of c.args.self.at g.B.Board c.args.board.now c.loop-body.board c.store.new.board c.loop-body.ready inv.pair latest c.args.bodies.now c.loop-body.body-index c.body-item.result c.loop-body-test.true c.body-item.is
+    newer inv.beside (inv.moments told latest ready newer) (inv.gets told latest ready newer) (c.store.ensures.any_moment told _ (inv.ready told latest ready newer))).1
 
 pub loop-body-preserved : goal.loop-body-preserved
 loop-body-preserved g c =
