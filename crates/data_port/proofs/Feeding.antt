@@ -5,7 +5,8 @@ use Rattle.std.proofs.lemmas.Bool.{both_ways, cases_Bool, cases_lt, cond-false, 
 use Rattle.std.proofs.lemmas.List.{append-nil, take-append-drop, take_more}
 use Rattle.std.proofs.lemmas.List.Elements.{All-append}
 use Rattle.data_port.specs.declared.request.Request.{Request}
-use Rattle.data_port.specs.Reading.{BreaksIn, HasSense, HasTaken, Standing, TakesTo, after_byte, after_bytes, after_good, bad_of, between, ended_by, ended_in, follows, has_all}
+use Rattle.data_port.specs.Reading.{BreaksIn, HasSense, HasTaken, Standing, TakesTo, between}
+use Rattle.data_port.specs.ReadingStages.{after_byte, after_bytes, after_good, bad_of, ended_by, ended_in, follows, has_all}
 use Rattle.data_port.specs.Requests.{IsRequest}
 use Rattle.data_port.proofs.Runs.{after-append, bad_byte, bad_ended, ended-append, good_byte, stuck}
 use Rattle.data_port.proofs.Streams.{added_good, bad_none}

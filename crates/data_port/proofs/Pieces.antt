@@ -11,9 +11,11 @@ use Rattle.data_port.specs.declared.port.BadFrame.{BadFrame}
 use Rattle.data_port.specs.declared.request.Request.{Request}
 use Rattle.data_port.specs.declared.serving.PortFault.{PortFault}
 use Rattle.data_port.specs.declared.serving.PortFault.TheVariants.{ReadFault, BoardFault, Frame, TooLong}
-use Rattle.data_port.specs.Reading.{BreaksIn, HasSense, HasTaken, Standing, TakesTo, after_bytes, bad_at_end, bad_of, between, ended_in, first_bad, requests_in, standing_after}
+use Rattle.data_port.specs.Reading.{BreaksIn, HasSense, HasTaken, Standing, TakesTo, bad_at_end, between, first_bad, requests_in, standing_after}
+use Rattle.data_port.specs.ReadingStages.{after_bytes, bad_of, ended_in}
 use Rattle.data_port.specs.Reply.{reply_to}
-use Rattle.data_port.specs.Serving.{BadAt, Endless, IsBoundedBy, IsGoing, ReachesEnd, Serves, ServesPiece, ServesTo, StopsAfter, StreamEnd, Whole, replies, stream_limit}
+use Rattle.data_port.specs.Serving.{BadAt, Endless, IsBoundedBy, IsGoing, ReachesEnd, Serves, ServesTo, StopsAfter, StreamEnd, Whole, replies, stream_limit}
+use Rattle.data_port.specs.ServingStages.{ServesPiece}
 use Rattle.data_port.proofs.Endings.{bad_ends, endless_ends, unfinished_ends, whole_ends}
 use Rattle.data_port.proofs.Laws.{going_count, going_port}
 use Rattle.data_port.proofs.Parts.{flat_more}

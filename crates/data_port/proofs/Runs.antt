@@ -6,7 +6,8 @@ use Rattle.std.proofs.lemmas.Grind.{flat_map-append}
 use Rattle.std.proofs.lemmas.List.{append-nil}
 use Rattle.std.proofs.lemmas.List.Elements.{All-head, All-push, All-tail}
 use Rattle.data_port.specs.declared.request.Request.{Request}
-use Rattle.data_port.specs.Reading.{Standing, after_byte, after_bytes, after_good, between, ended_by, ended_in, failed_at, follows, has_all, last_code, request_in}
+use Rattle.data_port.specs.Reading.{Standing, between}
+use Rattle.data_port.specs.ReadingStages.{after_byte, after_bytes, after_good, ended_by, ended_in, failed_at, follows, has_all, last_code, request_in}
 use Rattle.data_port.specs.Requests.{IsRequest, Rise, codes_of, request_bytes, stream_bytes}
 use Rattle.data_port.proofs.Bodies.{rise_few}
 use Rattle.data_port.proofs.Shapes.{Ends, Grows, Shaped, last_from, last_is, last_push, nothing, step}

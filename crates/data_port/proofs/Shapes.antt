@@ -2,7 +2,7 @@
 use Rattle.std.proofs.Common.{◌≡◌, ◌⊎◌, inl, inr, ℕ, zero, suc, ◌+◌, ◌-◌, ◌<◌, ◌≤◌, Bool, true, false, ◌==◌, ◌&&◌, nat_le, nat_lt, List, [], ◌∷◌, ◌++◌, length, get_or, refl, sym, ap, subst, ◌∙◌, append_assoc, arith, length-append}
 use Rattle.std.proofs.lemmas.Bool.{and_parts, cond-false, cond-true, eqb-false, eqb-true, leb-true, ltb-true}
 use Rattle.data_port.specs.declared.request.Request.{Request}
-use Rattle.data_port.specs.Reading.{follows, follows_codes, has_all, last_code, request_in}
+use Rattle.data_port.specs.ReadingStages.{follows, follows_codes, has_all, last_code, request_in}
 use Rattle.data_port.specs.Requests.{IsRequest, Rise, request_bytes}
 use Rattle.data_port.specs.Streams.{IsUnfinished}
 

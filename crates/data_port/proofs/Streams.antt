@@ -7,7 +7,8 @@ use Rattle.std.proofs.lemmas.Grind.{flat_map-append}
 use Rattle.std.proofs.lemmas.List.{append-nil, append_cancel_left, drop_at, nil_from_length, take-append-drop, take-take}
 use Rattle.std.proofs.lemmas.List.Elements.{All-drop, All-nil, All-push}
 use Rattle.data_port.specs.declared.request.Request.{Request}
-use Rattle.data_port.specs.Reading.{Standing, after_bytes, bad_at_end, bad_end_of, bad_of, between, ended_in, first_bad, follows, given_by, has_all, requests_after, requests_in, standing_after, HasSense}
+use Rattle.data_port.specs.Reading.{Standing, bad_at_end, between, first_bad, given_by, requests_after, requests_in, standing_after, HasSense}
+use Rattle.data_port.specs.ReadingStages.{after_bytes, bad_end_of, bad_of, ended_in, follows, has_all}
 use Rattle.data_port.specs.Requests.{IsRequest, request_bytes, stream_bytes}
 use Rattle.data_port.specs.Streams.{BeginsStream, EndsWhole, IsFirstBad, IsGood, IsReadAs, bytes_of}
 use Rattle.data_port.proofs.Runs.{FailsIn, Runs, Stands, after-append, ended-append, reads_stream, runs, stream_push, stuck}

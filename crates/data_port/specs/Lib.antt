@@ -1,7 +1,10 @@
 pub mod Reading
+pub mod ReadingStages
 pub mod Replies
 pub mod Reply
 pub mod Requests
 pub mod Serving
+pub mod ServingStages
+pub mod Standing
 pub mod State
 pub mod Streams

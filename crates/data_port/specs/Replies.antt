@@ -1,4 +1,4 @@
--- What replies speak of, and how they are read back.
+-- Rules: what replies speak of, and how they are read back.
 use Rattle.std.specs.Prelude.{◌≡◌, ℕ, zero, suc, ◌-◌, List, [], ◌∷◌, take, drop, get_or}
 use Rattle.std.specs.Int.{w16, from_be_bytes}
 use Rattle.std.specs.List.{All}
@@ -26,28 +26,28 @@ pub data Agrees (one : Durable) (seal : Seal) (other : Durable) (another : Seal)
   shares : one.totals.shares ≡ other.totals.shares → one.totals.before ≡ other.totals.before
       → Agrees one seal other another 13
 
--- they agree so on each item of a request
+-- two stores agree on what each item of a request speaks of
 abbrev pub AgreeOn : Durable → Seal → Durable → Seal → Request → Type 0
 AgreeOn one seal other another request = All (Agrees one seal other another) (codes_of request)
 
--- how many bytes the content of each item has, from item 1 on
+-- the contents of the items have these numbers of bytes, from item 1 on
 abbrev pub sizes : List ℕ
 sizes = 16 ∷ (4 ∷ (4 ∷ (32 ∷ (1 ∷ (8 ∷ (16 ∷ (16 ∷ (8 ∷ (16 ∷ (16 ∷ (57 ∷ (240 ∷ []))))))))))))
 
--- how many bytes the content of the item with a code has
+-- the content of the item with a code has this many bytes
 abbrev pub size_of : (code : ℕ) → ℕ
 size_of code = get_or sizes (code - 1) 0
 
--- the codes and contents of items, of which there are at most so many
+-- bytes are read as these items, each a code and a content, of which there are at most `most`
 abbrev pub items_in : (most : ℕ) → List ℕ → List (ℕ × List ℕ)
 items_in zero bytes = []
 items_in (suc most) [] = []
 items_in (suc most) (code ∷ bytes) = (code, take (size_of code) bytes) ∷ items_in most (drop (size_of code) bytes)
 
--- the bytes between the length of a reply and its last byte
+-- a reply has these bytes between its length and its last byte
 abbrev pub body_of : (reply : List ℕ) → List ℕ
 body_of reply = take (from_be_bytes w16 (take 2 (drop 1 reply))) (drop 3 reply)
 
--- the codes and contents of the items of a reply, of which there are at most 13
+-- a reply is read as these items, each a code and a content, of which there are at most 13
 abbrev pub answers_in : (reply : List ℕ) → List (ℕ × List ℕ)
 answers_in reply = items_in 13 (body_of reply)

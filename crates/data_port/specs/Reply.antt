@@ -1,4 +1,4 @@
--- The reply to a request, from the durable state and the seal. Numbers have their greatest byte first.
+-- Rules: the reply to a request, from the durable state and the seal. Numbers have their greatest byte first.
 use Rattle.std.specs.Prelude.{ℕ, ◌-◌, List, [], ◌∷◌, ◌++◌, length, get_or, replicate, Option, Some, None}
 use Rattle.std.specs.Int.{w16, to_be_bytes}
 use Rattle.std.specs.List.{flat_map}
@@ -13,8 +13,8 @@ use Rattle.totaliser_store.specs.Spelling.{share_bytes}
 use Rattle.data_port.specs.declared.request.Request.{Request}
 use Rattle.data_port.specs.Requests.{codes_of}
 
--- what is told of a held trip: the seconds of its start and of its saving, the distance when hired in millimetres, its
--- ticks, its supplements, its initial hire fee, and its full display steps
+-- a reply tells of a held trip the seconds at which it started and was saved, the distance when hired in millimetres,
+-- the ticks, the supplements, the initial hire fee, and the full display steps
 pub record HeldTrip : Type 0 where
   pub started : ℕ
   pub saved : ℕ
@@ -24,7 +24,7 @@ pub record HeldTrip : Type 0 where
   pub initial : ℕ
   pub steps_full : ℕ
 
--- its distance is that of its pulses by the constant
+-- a trip that is held is told by these values; its distance is that of its pulses by the constant
 abbrev pub held_trip : (constant : ℕ) → Trip → HeldTrip
 held_trip constant trip = record {
   started = trip.started;
@@ -36,12 +36,12 @@ held_trip constant trip = record {
   steps_full = trip.meterage.steps_full;
 }
 
--- what is told of the trip that is held, where one is
+-- a reply tells these values of the held trip, and none where no trip is held
 abbrev pub held_values : (constant : ℕ) → Option Trip → Option HeldTrip
 held_values constant None = None
 held_values constant (Some trip) = Some (held_trip constant trip)
 
--- 8, 8, 16, 4, 8, 4 and 8 bytes
+-- the values of a held trip have 8, 8, 16, 4, 8, 4 and 8 bytes
 abbrev pub trip_content : HeldTrip → List ℕ
 trip_content held =
     eight held.started
@@ -52,16 +52,16 @@ trip_content held =
     ++ (four held.initial
     ++ eight held.steps_full)))))
 
--- 1 and what is told of the held trip, or zeros where none is held
+-- a held trip has 57 bytes: 1 and its values, or zeros where none is held
 abbrev pub held_content : Option HeldTrip → List ℕ
 held_content None = replicate 57 0
 held_content (Some held) = 1 ∷ trip_content held
 
--- the nine shares, then what was counted before there were shares
+-- the shares are those of the nine tariff positions, and then what was counted before there were shares
 abbrev pub shares_content : Totals → List ℕ
 shares_content totals = flat_map share_bytes totals.shares ++ share_bytes totals.before
 
--- the table of contents, a row an item, from item 1 on
+-- each item has this content, from item 1 on, in the order of the codes
 abbrev pub rows : Durable → Seal → List (List ℕ)
 rows durable seal =
     padded 16 seal.params.taxi.items
@@ -79,22 +79,22 @@ rows durable seal =
     ∷ (shares_content durable.totals
     ∷ []))))))))))))
 
--- the content of the item with this code
+-- the item with a code has this content
 abbrev pub content : Durable → Seal → (code : ℕ) → List ℕ
 content durable seal code = get_or (rows durable seal) (code - 1) []
 
--- its code, and then its content
+-- an item in bytes is its code and its content
 abbrev pub item_bytes : Durable → Seal → (code : ℕ) → List ℕ
 item_bytes durable seal code = code ∷ content durable seal code
 
--- the items with these codes, in order
+-- items in bytes stand one behind the other, in the order of their codes
 abbrev pub items_bytes : Durable → Seal → (codes : List ℕ) → List ℕ
 items_bytes durable seal codes = flat_map (item_bytes durable seal) codes
 
--- 0x02, the number of these bytes in two bytes, the bytes, and 0x03
+-- a reply is 0x02, the number of the bytes of its items in two bytes, these bytes, and 0x03
 abbrev pub framed : List ℕ → List ℕ
 framed bytes = 2 ∷ (to_be_bytes w16 (length bytes) ++ (bytes ++ 3 ∷ []))
 
--- the reply to a request
+-- a request has this reply, which frames the items that it asks for
 abbrev pub reply_to : Durable → Seal → Request → List ℕ
 reply_to durable seal request = framed (items_bytes durable seal (codes_of request))

@@ -1,7 +1,7 @@
--- What contracts see of the state of a port.
+-- For proofs: what contracts see of the fields of a port.
 use Rattle.data_port.specs.declared.state.State.{State}
-use Rattle.data_port.specs.Reading.{Standing}
+use Rattle.data_port.specs.Standing.{Standing}
 
--- its fields, as a standing
+-- the fields of a port are seen as this standing
 abbrev pub standing_of : State → Standing
 standing_of state = record { taken = state.taken; part = state.part.items; failed = state.failed }

@@ -1,4 +1,4 @@
--- What streams of requests are, and what bytes of one say.
+-- Rules: which streams of requests there are, and what the bytes of one say.
 use Rattle.std.specs.Prelude.{◌≡◌, ℕ, ◌+◌, ◌<◌, List, ◌++◌, length, take, Option, Some, None}
 use Rattle.std.specs.List.{All, flat_map}
 use Rattle.data_port.specs.declared.request.Request.{Request}
@@ -11,13 +11,13 @@ pub record BeginsStream (bytes : List ℕ) : Type 0 where
   pub good : All IsRequest requests
   pub bytes_are : bytes ++ rest ≡ stream_bytes requests
 
--- the byte at this place, from 0 on, is the first that no stream of requests has there
+-- a place of bytes, counted from 0, is the first whose byte no stream of requests has there
 pub record IsFirstBad (bytes : List ℕ) (place : ℕ) : Type 0 where
   pub within : place < length bytes
   pub good : BeginsStream (take place bytes)
   pub bad : ¬ (BeginsStream (take (place + 1) bytes))
 
--- some request begins with these bytes, of which there may be none, and isn't ended in them
+-- bytes, of which there may be none, begin some request and don't end it
 pub record IsUnfinished (part : List ℕ) : Type 0 where
   pub request : Request
   pub rest : List ℕ
@@ -25,23 +25,23 @@ pub record IsUnfinished (part : List ℕ) : Type 0 where
   pub some : 0 < length rest
   pub bytes_are : part ++ rest ≡ request_bytes request
 
--- the bytes are these requests, and an unfinished one behind them
+-- bytes are these requests, and an unfinished one behind them
 pub record IsGood (bytes : List ℕ) (requests : List Request) : Type 0 where
   pub part : List ℕ
   pub good : All IsRequest requests
   pub unfinished : IsUnfinished part
   pub bytes_are : bytes ≡ stream_bytes requests ++ part
 
--- the first bad place, if there is one, and the requests that are whole before it
+-- bytes are read as this first bad place, if there is one, and the requests that are whole before it
 abbrev pub IsReadAs : List ℕ → Option ℕ → List Request → Type 0
 IsReadAs bytes None requests = IsGood bytes requests
 IsReadAs bytes (Some place) requests = IsFirstBad bytes place × IsGood (take place bytes) requests
 
--- the bytes are these requests, and nothing else
+-- bytes are these requests and nothing else
 pub record EndsWhole (bytes : List ℕ) (requests : List Request) : Type 0 where
   pub good : All IsRequest requests
   pub bytes_are : bytes ≡ stream_bytes requests
 
--- the bytes of pieces
+-- pieces, one behind the other, are these bytes
 abbrev pub bytes_of : List (List ℕ) → List ℕ
 bytes_of pieces = flat_map (λ piece. piece) pieces

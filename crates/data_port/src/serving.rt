@@ -5,10 +5,12 @@ ghost use Rattle.outside.specs.Printing.{Begins};
 ghost use Rattle.outside.specs.Runs.{KeepsStore};
 ghost use Rattle.seal_store.specs.Ranges.{IsSeal};
 ghost use Rattle.totaliser_store.specs.Ranges.{IsDurable};
-ghost use Rattle.data_port.specs.Reading.{HasSense, HasTaken, bad_at_end, ended_in};
+ghost use Rattle.data_port.specs.Reading.{HasSense, HasTaken, bad_at_end};
+ghost use Rattle.data_port.specs.ReadingStages.{ended_in};
 ghost use Rattle.data_port.specs.Reply.{reply_to};
 ghost use Rattle.data_port.specs.Requests.{IsRequest};
-ghost use Rattle.data_port.specs.Serving.{IsBoundedBy, Serves, ServesPiece, replies};
+ghost use Rattle.data_port.specs.Serving.{IsBoundedBy, Serves, replies};
+ghost use Rattle.data_port.specs.ServingStages.{ServesPiece};
 
 use crate::port::Port;
 use crate::reply::put_reply;

@@ -1,5 +1,5 @@
 //! Streams of requests over stores in memory. All bytes are written by hand from the tables of formats.
-ghost use Rattle.std.specs.Prelude.{◌≡◌, ◌<◌};
+ghost use Rattle.std.specs.Prelude.{◌≡◌, ◌+◌, ◌<◌, length};
 
 use crate::{BadFrame, Port, PortFault, Request, serve};
 use arrayvec::ArrayVec;
@@ -121,7 +121,7 @@ fn counted<L: Ledger>(
     Ok(serve(&durable, &seal, files, 0, board, &mut steps))
 }
 
-/// The same of a stream, where the reads of these numbers fail.
+/// Serves a stream over the store that a board holds, where the reads of these numbers fail.
 fn served(
     alloc: Global,
     stream: &[u8],
@@ -133,11 +133,20 @@ fn served(
     counted::<Brand>(Blank::new(1), &mut files, board)
 }
 
-/// Whether a text is these parts, one behind the other.
-fn is_joined(text: &[u8], parts: &[&[u8]]) -> bool {
+/// What stands in a text behind these parts, which it begins with.
+fn behind<'a>(text: &'a [u8], parts: &[&[u8]]) -> Option<&'a [u8]> {
     let mut rest = text;
     for part in parts {
-        match rest.strip_prefix(*part) {
+        rest = rest.strip_prefix(*part)?;
+    }
+    Some(rest)
+}
+
+/// Whether a text is these groups of parts, one behind the other.
+fn is_joined(text: &[u8], groups: &[&[&[u8]]]) -> bool {
+    let mut rest = text;
+    for parts in groups {
+        match behind(rest, *parts) {
             Some(left) => rest = left,
             None => return false,
         }
@@ -211,17 +220,8 @@ const OF_FIRST: &[&[u8]] = &[LENGTH_OF_FIRST, NUMBER, END];
 
 const OF_SECOND: &[&[u8]] = &[LENGTH_OF_SECOND, CONSTANT, HIRINGS, END];
 
-const OF_BOTH: &[&[u8]] = &[
-    LENGTH_OF_FIRST,
-    NUMBER,
-    END,
-    LENGTH_OF_SECOND,
-    CONSTANT,
-    HIRINGS,
-    END,
-];
-
-const OF_ALL: &[&[u8]] = &[
+/// What the reply to a request for all items begins with: its length, and the items 1 to 11.
+const UP_TO_ELEVEN: &[&[u8]] = &[
     LENGTH_OF_ALL,
     TAXI,
     CONSTANT,
@@ -234,91 +234,149 @@ const OF_ALL: &[&[u8]] = &[
     HIRINGS,
     SUPPLEMENTS,
     FARE,
-    NONE_HELD,
-    CODE,
-    ONE_HIRING,
-    NO_HIRINGS,
-    END,
 ];
 
-const OF_ALL_HELD: &[&[u8]] = &[
-    LENGTH_OF_ALL,
-    TAXI,
-    CONSTANT,
-    SECURED,
-    DIGEST,
-    MODE,
-    NUMBER,
-    DISTANCE,
-    HIRED,
-    HIRINGS,
-    SUPPLEMENTS,
-    FARE,
-    HELD,
-    CODE,
-    ONE_HIRING,
-    NO_HIRINGS,
-    END,
-];
+/// Item 13 where the one hiring was in position 1, and where it was counted before there were shares; and
+/// the end of the reply.
+const SHARED: &[&[u8]] = &[CODE, ONE_HIRING, NO_HIRINGS, END];
 
-const SHARED: &[&[u8]] = &[LENGTH_OF_SHARES, CODE, ONE_HIRING, NO_HIRINGS, END];
-
-const COUNTED_BEFORE: &[&[u8]] = &[LENGTH_OF_SHARES, CODE, NO_HIRINGS, ONE_HIRING, END];
+const COUNTED_BEFORE: &[&[u8]] = &[CODE, NO_HIRINGS, ONE_HIRING, END];
 
 const NONE: &[&[u8]] = &[];
 
 /// A stream that ends with a bad place.
 const BROKEN: &[u8] = b"\x02\x01\x06\x03\x02\x02\x0d\x03";
 
-/// What a store has more, a stream, the parts of the replies, and how serving ends.
-const ROWS: [(&[(usize, u8)], &[u8], &[&[u8]], Result<(), PortFault>); 11] = [
-    (&SECOND_LAYOUT, FIRST, OF_FIRST, Ok(())),
-    (&SECOND_LAYOUT, SECOND, OF_SECOND, Ok(())),
-    (&SECOND_LAYOUT, BOTH, OF_BOTH, Ok(())),
-    (&FIRST_LAYOUT, b"\x02\x01\x0d\x03", COUNTED_BEFORE, Ok(())),
-    (&SECOND_LAYOUT, b"\x02\x01\x0d\x03", SHARED, Ok(())),
-    (&SECOND_LAYOUT, ALL, OF_ALL, Ok(())),
-    (&WITH_TRIP, ALL, OF_ALL_HELD, Ok(())),
-    (&SECOND_LAYOUT, b"", NONE, Ok(())),
+/// A case, what its store has more, a stream, the parts of the replies, and how serving ends.
+const ROWS: [(
+    &str,
+    &[(usize, u8)],
+    &[u8],
+    &[&[&[u8]]],
+    Result<(), PortFault>,
+); 11] = [
+    ("one item", &SECOND_LAYOUT, FIRST, &[OF_FIRST], Ok(())),
+    ("two items", &SECOND_LAYOUT, SECOND, &[OF_SECOND], Ok(())),
     (
+        "two requests",
+        &SECOND_LAYOUT,
+        BOTH,
+        &[OF_FIRST, OF_SECOND],
+        Ok(()),
+    ),
+    (
+        "shares of layout 1",
+        &FIRST_LAYOUT,
+        b"\x02\x01\x0d\x03",
+        &[&[LENGTH_OF_SHARES], COUNTED_BEFORE],
+        Ok(()),
+    ),
+    (
+        "shares of layout 2",
+        &SECOND_LAYOUT,
+        b"\x02\x01\x0d\x03",
+        &[&[LENGTH_OF_SHARES], SHARED],
+        Ok(()),
+    ),
+    (
+        "all items, none held",
+        &SECOND_LAYOUT,
+        ALL,
+        &[UP_TO_ELEVEN, &[NONE_HELD], SHARED],
+        Ok(()),
+    ),
+    (
+        "all items, one held",
+        &WITH_TRIP,
+        ALL,
+        &[UP_TO_ELEVEN, &[HELD], SHARED],
+        Ok(()),
+    ),
+    ("no request", &SECOND_LAYOUT, b"", &[], Ok(())),
+    (
+        "no such item",
         &SECOND_LAYOUT,
         b"\x02\x01\x0e\x03",
-        NONE,
+        &[],
         Err(PortFault::Frame(2)),
     ),
-    (&SECOND_LAYOUT, b"\x02\x01", NONE, Err(PortFault::Frame(2))),
-    (&SECOND_LAYOUT, BROKEN, OF_FIRST, Err(PortFault::Frame(6))),
+    (
+        "an unfinished request",
+        &SECOND_LAYOUT,
+        b"\x02\x01",
+        &[],
+        Err(PortFault::Frame(2)),
+    ),
+    (
+        "a bad request behind a good one",
+        &SECOND_LAYOUT,
+        BROKEN,
+        &[OF_FIRST],
+        Err(PortFault::Frame(6)),
+    ),
 ];
 
 #[test]
 fn replies(rt: HostRuntime) -> Result<(), Fail> {
-    for (more, stream, parts, answer) in ROWS {
+    for (case, more, stream, parts, answer) in ROWS {
         let image = image_of(more);
         let mut board = MemoryBoard::new(rt.alloc(), &image, &[])?;
-        assert_eq!(rt; served(rt.alloc(), stream, &[], &mut board)?, answer);
-        assert!(rt; is_joined(board.printed(), parts));
-        assert!(rt; *board.image() == image);
+        assert_eq!(rt;
+            served(rt.alloc(), stream, &[], &mut board)?,
+            answer,
+            "{case}"
+        );
+        assert!(rt; is_joined(board.printed(), parts), "{case}");
+        assert!(rt; *board.image() == image, "{case}");
     }
     Ok(())
 }
 
-/// The numbers of the reads and of the calls of the board that fail, what is printed, and how serving ends:
-/// the store is scanned by six calls.
-const FAILURES: [(&[u64], &[u64], &[&[u8]], Result<(), PortFault>); 5] = [
-    (&[1], &[], NONE, Err(PortFault::ReadFault)),
-    (&[2], &[], OF_BOTH, Err(PortFault::ReadFault)),
-    (&[], &[7], NONE, Err(PortFault::BoardFault)),
-    (&[], &[8], OF_FIRST, Err(PortFault::BoardFault)),
-    (&[], &[9], OF_BOTH, Ok(())),
+/// A case, the numbers of the reads and of the calls of the board that fail, what is printed, and how
+/// serving ends: the store is scanned by six calls.
+const FAILURES: [(&str, &[u64], &[u64], &[&[&[u8]]], Result<(), PortFault>); 5] = [
+    ("the first read", &[1], &[], &[], Err(PortFault::ReadFault)),
+    (
+        "the second read",
+        &[2],
+        &[],
+        &[OF_FIRST, OF_SECOND],
+        Err(PortFault::ReadFault),
+    ),
+    (
+        "the first reply",
+        &[],
+        &[7],
+        &[],
+        Err(PortFault::BoardFault),
+    ),
+    (
+        "the second reply",
+        &[],
+        &[8],
+        &[OF_FIRST],
+        Err(PortFault::BoardFault),
+    ),
+    (
+        "a call behind the last reply",
+        &[],
+        &[9],
+        &[OF_FIRST, OF_SECOND],
+        Ok(()),
+    ),
 ];
 
 #[test]
 fn failures(rt: HostRuntime) -> Result<(), Fail> {
     let image = image_of(&SECOND_LAYOUT);
-    for (reads, calls, parts, answer) in FAILURES {
+    for (case, reads, calls, parts, answer) in FAILURES {
         let mut board = MemoryBoard::new(rt.alloc(), &image, calls)?;
-        assert_eq!(rt; served(rt.alloc(), BOTH, reads, &mut board)?, answer);
-        assert!(rt; is_joined(board.printed(), parts));
+        assert_eq!(rt;
+            served(rt.alloc(), BOTH, reads, &mut board)?,
+            answer,
+            "{case}"
+        );
+        assert!(rt; is_joined(board.printed(), parts), "{case}");
     }
     Ok(())
 }
@@ -346,19 +404,43 @@ fn ask_for(requests: &[Request], codes: &[&[u8]]) -> bool {
 
 const CODES_OF_ALL: &[u8] = b"\x01\x02\x03\x04\x05\x06\x07\x08\x09\x0a\x0b\x0c\x0d";
 
-/// A stream, the places at which it may end, its first bad place, and the codes of its requests.
-const STREAMS: [(&[u8], &[u64], Option<u64>, &[&[u8]]); 11] = [
-    (BOTH, &[0, 4, 9], None, &[b"\x06", b"\x02\x09"]),
-    (ALL, &[0, 16], None, &[CODES_OF_ALL]),
-    (BROKEN, &[0, 4], Some(6), &[b"\x06"]),
-    (b"\x02\x00\x03", &[0], Some(1), NONE),
-    (b"\x02\x0e\x01", &[0], Some(1), NONE),
-    (b"\x02\x02\x05\x05\x03", &[0], Some(3), NONE),
-    (b"\x02\x02\x05\x04\x03", &[0], Some(3), NONE),
-    (b"\x02\x01\x0e\x03", &[0], Some(2), NONE),
-    (b"\x02\x01\x00\x03", &[0], Some(2), NONE),
-    (b"\x02\x01\x06\x04", &[0], Some(3), NONE),
-    (b"\x03", &[0], Some(0), NONE),
+/// A case, its stream, the places at which it may end, its first bad place, and the codes of its requests.
+const STREAMS: [(&str, &[u8], &[u64], Option<u64>, &[&[u8]]); 11] = [
+    (
+        "two requests",
+        BOTH,
+        &[0, 4, 9],
+        None,
+        &[b"\x06", b"\x02\x09"],
+    ),
+    ("all items", ALL, &[0, 16], None, &[CODES_OF_ALL]),
+    (
+        "a bad request behind a good one",
+        BROKEN,
+        &[0, 4],
+        Some(6),
+        &[b"\x06"],
+    ),
+    ("no items", b"\x02\x00\x03", &[0], Some(1), NONE),
+    ("fourteen items", b"\x02\x0e\x01", &[0], Some(1), NONE),
+    (
+        "an item twice",
+        b"\x02\x02\x05\x05\x03",
+        &[0],
+        Some(3),
+        NONE,
+    ),
+    (
+        "codes that fall",
+        b"\x02\x02\x05\x04\x03",
+        &[0],
+        Some(3),
+        NONE,
+    ),
+    ("item 14", b"\x02\x01\x0e\x03", &[0], Some(2), NONE),
+    ("item 0", b"\x02\x01\x00\x03", &[0], Some(2), NONE),
+    ("another end", b"\x02\x01\x06\x04", &[0], Some(3), NONE),
+    ("another beginning", b"\x03", &[0], Some(0), NONE),
 ];
 
 /// How a stream ends that is cut off at a place.
@@ -370,19 +452,26 @@ fn ending(wholes: &[u64], bad: Option<u64>, end: u64) -> Result<(), BadFrame> {
     }
 }
 
+/// At how many places a stream can be cut: before each of its bytes, and behind the last.
+fn count_cuts(stream: &[u8]) -> usize
+    ensures { result ≡ length stream.now + 1 }
+{
+    stream.len() + 1
+}
+
 /// Each stream is cut at each place, and ended there.
 #[test]
 fn pieces(rt: HostRuntime) {
-    for (stream, wholes, bad, codes) in STREAMS {
-        for cut in 0..stream.len() + 1 {
+    for (case, stream, wholes, bad, codes) in STREAMS {
+        for cut in 0..count_cuts(stream) {
             let (one, other) = stream.split_at(cut);
             let mut out = ArrayVec::new();
             let answer = ending(wholes, bad, stream.len() as u64);
-            assert_eq!(rt; fed(one, other, &mut out), answer, "cut at {cut}");
-            assert!(rt; ask_for(out.as_slice(), codes), "cut at {cut}");
+            assert_eq!(rt; fed(one, other, &mut out), answer, "{case}, cut at {cut}");
+            assert!(rt; ask_for(out.as_slice(), codes), "{case}, cut at {cut}");
             let mut out = ArrayVec::new();
             let answer = ending(wholes, bad, cut as u64);
-            assert_eq!(rt; fed(one, b"", &mut out), answer, "ended at {cut}");
+            assert_eq!(rt; fed(one, b"", &mut out), answer, "{case}, ended at {cut}");
         }
     }
 }

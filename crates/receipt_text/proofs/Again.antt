@@ -1,15 +1,14 @@
 -- What is written of a number, an amount or a word is read again.
-use Rattle.std.proofs.Common.{◌≡◌, ◌≢◌, ℕ, zero, suc, ◌+◌, ◌-◌, ◌*◌, ◌^◌, ◌<◌, ◌≤◌, true, false, List, [], ◌∷◌, ◌++◌, length, refl, ap, sym, ◌∙◌, subst, arith, Option, Some, eqb, append_assoc}
+use Rattle.std.proofs.Common.{◌≡◌, ◌≢◌, ℕ, zero, suc, ◌+◌, ◌-◌, ◌*◌, ◌^◌, ◌<◌, ◌≤◌, true, false, List, [], ◌∷◌, ◌++◌, length, refl, ap, sym, ◌∙◌, subst, arith, Option, Some, eqb, append_assoc, length-append}
 use Rattle.std.specs.Fmt.{decimal}
-use Rattle.std.specs.Char.{is_ascii_digit, digit_value}
+use Rattle.std.specs.Char.{digit_value}
 use Rattle.std.specs.Str.Parse.{AllDigits, IsNumeral, digits_value, digits_value_after}
 use Rattle.std.proofs.Math.Seq.{take-append_seam, drop-append_seam}
 use Rattle.std.proofs.lemmas.Bool.{le-ltb, lt-ltb, ne_eqb}
-use Rattle.std.proofs.lemmas.Bool.Decides.{nat_tests}
 use Rattle.taxi_units.specs.Decimal.{IsDecimal}
-use Rattle.taxi_units.specs.Number.{digits_at_front, money_text, padded_text, units_of}
+use Rattle.taxi_units.specs.Number.{NoDigitFirst, digits_at_front, money_text, padded_text, units_of}
 use Rattle.taxi_units.specs.Reading.{◌>>=◌, word_at}
-use Rattle.taxi_units.proofs.Laws.{amounts_are_written_by_their_digits, numbers_are_written_by_their_digits, padded_numbers_are_written_by_their_digits, words_are_read_by_their_text}
+use Rattle.taxi_units.proofs.Laws.{amounts_are_written_by_their_digits, digits_are_counted, numbers_are_written_by_their_digits, padded_numbers_are_written_by_their_digits, words_are_read_by_their_text}
 use Rattle.receipt_text.specs.Figures.{amount_after, amount_below, amount_with_parts, number_below, value_below}
 use Rattle.receipt_text.proofs.Digits.{value_grows}
 
@@ -20,16 +19,14 @@ on f e h = ap (λ found. found >>= f) e ∙ h
 pub word_again : (word rest : List ℕ) → word_at word (word ++ rest) ≡ Some rest
 word_again word rest = (words_are_read_by_their_text word (word ++ rest) rest).1 refl
 
-test_of_digit : (c : ℕ) → digit_value c < 10 → is_ascii_digit c ≡ true
-test_of_digit c h = grind (arith, nat_tests)
-
-test_of_other : (c : ℕ) → 10 ≤ digit_value c → is_ascii_digit c ≡ false
-test_of_other c h = grind (arith, nat_tests)
-
 -- digits, and something else after them
 pub count_front : (digits rest : List ℕ) (c : ℕ) → AllDigits 10 digits → 10 ≤ digit_value c → digits_at_front (digits ++ c ∷ rest) ≡ length digits
-count_front [] rest c all stops = rw (test_of_other c stops) refl
-count_front (d ∷ ds) rest c all stops = rw (test_of_digit d all.0) (omega (arith, count_front ds rest c all.1 stops))
+count_front digits rest c all stops =
+    (digits_are_counted (digits ++ c ∷ rest) (length digits)).1 (
+      omega (arith, length-append digits (c ∷ rest)),
+      subst (AllDigits 10) (sym (take-append_seam digits (c ∷ rest))) all,
+      subst NoDigitFirst (sym (drop-append_seam digits (c ∷ rest))) stops,
+    )
 
 value_again : (limit start : ℕ) (digits : List ℕ) → digits_value_after 10 start digits < limit → value_below limit start digits ≡ Some (digits_value_after 10 start digits)
 value_again limit start digits small = rw (lt-ltb (digits_value_after 10 start digits) limit small) refl

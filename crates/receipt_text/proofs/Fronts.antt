@@ -2,9 +2,10 @@
 use Rattle.std.proofs.Common.{◌≡◌, ℕ, ◌≤◌, ◌↔◌, List, ◌++◌, length, take, drop, refl, ap, sym, ◌∙◌, subst, arith, Option, Some, None}
 use Rattle.std.proofs.lemmas.List.{take-append-drop}
 use Rattle.taxi_units.specs.declared.receipt.Receipt.{Receipt}
-use Rattle.receipt_text.specs.Front.{IsInFront, IsSpelledInFront}
+use Rattle.receipt_text.specs.Front.{IsInFront}
 use Rattle.receipt_text.specs.Lines.{receipt_at}
 use Rattle.receipt_text.specs.Part.{Part}
+use Rattle.receipt_text.specs.SpelledFront.{IsSpelledInFront}
 use Rattle.receipt_text.proofs.GrammarTexts.{receipts_are_their_texts}
 use Rattle.receipt_text.proofs.ReadAgain.{receipt_again}
 

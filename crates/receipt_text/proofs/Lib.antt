@@ -1,14 +1,28 @@
+-- what is written of a number, an amount or a word is read again
 mod Again
+-- all elements of a list are bytes where each is
 mod Bytes
+-- what is written of a date, a day or a local time is read again
 mod Dates
+-- the numbers that digits make, and a limit
 mod Digits
+-- a receipt stands at the front of a text where it is read there and is written so
 mod Fronts
+-- a text is a receipt of the grammar exactly where it is the one that is written
 mod GrammarTexts
+-- what is written of a group of lines is read again
 mod Groups
+-- texts that are appended one behind the other
 mod Joined
-mod Lengths
-mod ReadAgain
-mod Sealed
-mod ShownApart
-mod Unique
+-- the laws that the crates above may cite
 pub mod Laws
+-- how long receipts are
+mod Lengths
+-- a receipt that was written is read again, and no other text is read as one
+mod ReadAgain
+-- what a receipt says of a seal is in its ranges
+mod Sealed
+-- displays are told apart by their texts
+mod ShownApart
+-- a text is one receipt at most, and no beginning of it is another
+mod Unique

@@ -1,4 +1,5 @@
--- How dates, days and local times are read from the front of a text.
+-- For proofs: dates, days and local times at the front of a text, read in the stages of the code. Grammar says by
+-- IsDateText, IsDayText and IsStampText which texts they are.
 use Rattle.std.specs.Prelude.{ℕ, ◌+◌, ◌*◌, ◌&&◌, nat_le, if◌then◌else◌, ℤ, pos, List, Option, Some, None, codes}
 use Rattle.interval_clock.specs.Calendar.{day_number_of, is_date}
 use Rattle.interval_clock.specs.declared.day_numbers.CalendarDate.{CalendarDate}
@@ -6,7 +7,7 @@ use Rattle.taxi_units.specs.Reading.{◌>>=◌, word_at}
 use Rattle.taxi_units.specs.declared.receipt.Stamp.{Stamp}
 use Rattle.receipt_text.specs.Figures.{number_below}
 
--- a year, a month and a date in it
+-- a year, a month and a date in it stand at the front, with hyphens between them, and this text behind them
 unfoldable pub date_at : List ℕ → Option (CalendarDate × List ℕ)
 date_at text = do
   year ← number_below 10000 text
@@ -16,23 +17,25 @@ date_at text = do
   date ← number_below 100 dates
   Some (record { year = year.0; month = month.0; date = date.0 }, date.1)
 
--- the day number of a date, where it is a day of the years 2000 to 2199
+-- a day number is kept where it is one of the years 2000 to 2199, and is none otherwise
 abbrev pub where_secured : ℕ → Option ℤ
 where_secured day = if nat_le 10957 day && nat_le day 84005 then Some (pos day) else None
 
+-- a date has this day number, where the calendar has the date and its year is one of 2000 to 2199
 abbrev pub day_of : CalendarDate → Option ℤ
 day_of d =
     if nat_le 1970 d.year && is_date d.year d.month d.date then where_secured (day_number_of d.year d.month d.date)
     else None
 
--- the day number of a date at the front
+-- the date of this day number stands at the front, and this text behind it
 unfoldable pub day_at : List ℕ → Option (ℤ × List ℕ)
 day_at text = do
   date ← date_at text
   day ← day_of date.0
   Some (day, date.1)
 
--- the second of the day of hours, minutes and seconds
+-- hours, minutes and seconds stand at the front, with colons between them, and make this second of the day; this text
+-- stands behind them
 unfoldable pub time_at : List ℕ → Option (ℕ × List ℕ)
 time_at text = do
   hours ← number_below 100 text
@@ -42,7 +45,7 @@ time_at text = do
   seconds ← number_below 100 second
   Some (hours.0 * 3600 + minutes.0 * 60 + seconds.0, seconds.1)
 
--- a date and a second of the day
+-- a date and a second of the day stand at the front, with a blank between them, and this text behind them
 unfoldable pub stamp_at : List ℕ → Option (Stamp × List ℕ)
 stamp_at text = do
   date ← date_at text

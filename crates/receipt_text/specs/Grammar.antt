@@ -1,4 +1,4 @@
--- The grammar of receipts: which texts are receipts, line by line.
+-- Rules: the grammar of receipts, which texts are receipts, line by line.
 use Rattle.std.specs.Prelude.{◌≡◌, ◌⊎◌, ℕ, ◌+◌, ◌*◌, ◌-◌, ◌<◌, ◌≤◌, ℤ, List, [], ◌∷◌, ◌++◌, codes}
 use Rattle.interval_clock.specs.Calendar.{IsDateOf}
 use Rattle.taxi_units.specs.Shown.{IsReceipt}
@@ -9,18 +9,18 @@ use Rattle.taxi_units.specs.declared.receipt.Receipt.{Receipt}
 use Rattle.taxi_units.specs.declared.receipt.Stamp.{Stamp}
 use Rattle.receipt_text.specs.Part.{Part, IsPart}
 
--- the text is this one
+-- a text is the wanted one
 abbrev pub IsExactly : List ℕ → List ℕ → Type 0
 IsExactly wanted text = text ≡ wanted
 
--- the word of a kind of hiring
+-- a text is the word of a kind of hiring; roaming has none, since no receipt is printed for it
 abbrev pub IsKind : Kind → List ℕ → Type 0
 IsKind Closed text = text ≡ codes "CLOSED"
 IsKind Aborted text = text ≡ codes "ABORTED"
 IsKind Expired text = text ≡ codes "EXPIRED"
 IsKind Roam text = ⊥
 
--- YYYY-MM-DD
+-- a text is a date as YYYY-MM-DD, with leading zeros
 pub record IsDateText (year month date : ℕ) (text : List ℕ) : Type 0 where
   pub years : List ℕ
   pub months : List ℕ
@@ -30,7 +30,7 @@ pub record IsDateText (year month date : ℕ) (text : List ℕ) : Type 0 where
   pub months_are : IsPaddedText 2 month months
   pub dates_are : IsPaddedText 2 date dates
 
--- HH:MM:SS, of a second of the day
+-- a text is a second of the day as HH:MM:SS, with leading zeros
 pub record IsTimeText (second : ℕ) (text : List ℕ) : Type 0 where
   pub hour : ℕ
   pub minute : ℕ
@@ -45,7 +45,7 @@ pub record IsTimeText (second : ℕ) (text : List ℕ) : Type 0 where
   pub minutes_are : IsPaddedText 2 minute minutes
   pub seconds_are : IsPaddedText 2 rest seconds
 
--- a local date and time, with a blank between them
+-- a text is a local date and time, with a blank between them
 pub record IsStampText (stamp : Stamp) (text : List ℕ) : Type 0 where
   pub date : List ℕ
   pub time : List ℕ
@@ -53,7 +53,7 @@ pub record IsStampText (stamp : Stamp) (text : List ℕ) : Type 0 where
   pub date_is : IsDateText stamp.year stamp.month stamp.date date
   pub time_is : IsTimeText stamp.second time
 
--- the date that has this day number
+-- a text is the date that a day number has in the calendar
 pub record IsDayText (day : ℤ) (text : List ℕ) : Type 0 where
   pub year : ℕ
   pub month : ℕ
@@ -61,24 +61,24 @@ pub record IsDayText (day : ℤ) (text : List ℕ) : Type 0 where
   pub date_is : IsDateOf day year month date
   pub text_is : IsDateText year month date text
 
--- 0 to 9 and a to f, and what they count
+-- a byte is the hexadecimal digit of a value below 16: one of 0 to 9 for a value below 10, and one of a to f from 10 on
 abbrev pub IsHexDigit : ℕ → ℕ → Type 0
 IsHexDigit value c = ((value < 10) × (c ≡ 48 + value)) ⊎ ((10 ≤ value) × (value < 16) × (c ≡ 97 + (value - 10)))
 
--- two of these digits of each byte
+-- a text has two hexadecimal digits for each byte, the one that counts sixteens first
 abbrev pub IsHexText : List ℕ → List ℕ → Type 0
 IsHexText [] text = text ≡ []
 IsHexText (byte ∷ bytes) text =
     (high : ℕ) × (low : ℕ) × (c : ℕ) × (d : ℕ) × (rest : List ℕ)
     × (text ≡ c ∷ d ∷ rest) × (byte ≡ high * 16 + low) × IsHexDigit high c × IsHexDigit low d × IsHexText bytes rest
 
--- a distance in metres with three decimals, of millimetres
+-- a text is a distance in metres, with three decimals for its millimetres and the sign m behind a blank
 pub record IsDistance (millimetres : ℕ) (text : List ℕ) : Type 0 where
   pub metres : List ℕ
   pub text_is : text ≡ metres ++ codes " m"
   pub metres_are : IsAmountText 3 millimetres metres
 
--- the initial hire fee, and the number and size of the display steps above it
+-- a text has the initial hire fee, and the number and the size of the display steps above it
 pub record IsCalculation (receipt : Receipt) (text : List ℕ) : Type 0 where
   pub initial : List ℕ
   pub steps : List ℕ
@@ -88,7 +88,7 @@ pub record IsCalculation (receipt : Receipt) (text : List ℕ) : Type 0 where
   pub steps_are : IsNumberText receipt.steps steps
   pub step_is : IsAmountText receipt.decimals receipt.step step
 
--- a line of a word, a blank, a value of one form and an LF; and after the line a rest
+-- a text begins with a line of a word, a value of one form and an LF, and what follows the line has another form
 pub record Line (word : List ℕ) (Value : List ℕ → Type 0) (Rest : List ℕ → Type 0) (text : List ℕ) : Type 0 where
   pub value : List ℕ
   pub rest : List ℕ
@@ -96,24 +96,26 @@ pub record Line (word : List ℕ) (Value : List ℕ → Type 0) (Rest : List ℕ
   pub value_is : Value value
   pub rest_is : Rest rest
 
--- an amount of the receipt
+-- a text is an amount of money with the decimals of the receipt
 abbrev pub IsMoney : Receipt → (units : ℕ) → List ℕ → Type 0
 IsMoney receipt units text = IsAmountText receipt.decimals units text
 
--- the lines from the fare on
+-- a text is the lines of the fare, of the supplements, of the total of both, and of the end
 abbrev pub AreAmounts : Receipt → List ℕ → Type 0
 AreAmounts receipt =
     Line (codes "FARE ") (IsMoney receipt receipt.fare)
     (Line (codes "SUPPLEMENTS ") (IsMoney receipt receipt.supplements)
     (Line (codes "TOTAL ") (IsMoney receipt (receipt.fare + receipt.supplements)) (IsExactly (codes "END\n"))))
 
--- a line of the minimum fare, exactly where it is above 0, and the lines after it
+-- a text is the line of the minimum fare, which is there exactly where the minimum is above 0, and the lines of the
+-- amounts behind it
 abbrev pub HasMinimum : Receipt → List ℕ → Type 0
 HasMinimum receipt text =
     ((0 < receipt.minimum) × Line (codes "MINIMUM ") (IsMoney receipt receipt.minimum) (AreAmounts receipt) text)
     ⊎ ((receipt.minimum ≡ 0) × AreAmounts receipt text)
 
--- the lines of the trip, and the lines after them
+-- a text is the lines of the trip, from its start to the calculation of its fare, and behind them the lines from the
+-- minimum fare on
 abbrev pub AreTripLines : Receipt → List ℕ → Type 0
 AreTripLines receipt =
     Line (codes "START ") (IsStampText receipt.start)
@@ -122,7 +124,7 @@ AreTripLines receipt =
     (Line (codes "DISTANCE ") (IsDistance receipt.hired_mm)
     (Line (codes "CALC ") (IsCalculation receipt) (HasMinimum receipt)))))
 
--- all lines
+-- a text is all lines of a receipt, from its number to its end
 abbrev pub AreLines : Receipt → Part → List ℕ → Type 0
 AreLines receipt part =
     Line (codes "RECEIPT ") (IsNumberText receipt.number)
@@ -132,7 +134,7 @@ AreLines receipt part =
     (Line (codes "SECURED ") (IsDayText part.secured)
     (Line (codes "TARIFF ") (IsHexText part.digest) (AreTripLines receipt))))))
 
--- the text is a receipt, of this hiring and of this part of a seal, each number in its range
+-- a text is the receipt of a hiring and of a part of a seal where it has their lines and both are in their ranges
 pub record IsReceiptText (text : List ℕ) (receipt : Receipt) (part : Part) : Type 0 where
   pub receipt_is : IsReceipt receipt
   pub part_is : IsPart part

@@ -6,7 +6,9 @@ pub mod Grammar
 pub mod Lines
 pub mod Part
 pub mod Receipts
+pub mod ReceiptRanges
 pub mod SealParts
 pub mod Shows
+pub mod SpelledFront
 pub mod Spelling
 pub mod Texts

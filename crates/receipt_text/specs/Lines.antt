@@ -1,4 +1,5 @@
--- How the lines of a receipt are read from the front of a text.
+-- For proofs: the lines of a receipt at the front of a text, read in the stages of the code. Grammar says by
+-- IsReceiptText which texts are receipts.
 use Rattle.std.specs.Prelude.{ℕ, ◌^◌, ◌&&◌, nat_le, if◌then◌else◌, List, take, drop, Option, Some, None, codes}
 use Rattle.std.specs.List.{prefix_len}
 use Rattle.taxi_units.specs.Reading.{◌>>=◌, word_at}
@@ -15,19 +16,19 @@ use Rattle.receipt_text.specs.Figures.{amount_below, number_below}
 use Rattle.receipt_text.specs.Part.{Part}
 use Rattle.seal_store.specs.Values.{is_taxi_character}
 
--- a kind, where its word was found, and else what other words give
+-- a kind of hiring is read where its word was found, and what `others` gives where it wasn't
 abbrev pub kind_or : Kind → Option (List ℕ) → Option (Kind × List ℕ) → Option (Kind × List ℕ)
 kind_or kind (Some rest) others = Some (kind, rest)
 kind_or kind None others = others
 
--- a kind of hiring
+-- the word of a kind of hiring stands at the front, and this text behind it
 abbrev pub kind_at : List ℕ → Option (Kind × List ℕ)
 kind_at text =
     kind_or Closed (word_at (codes "CLOSED") text)
     (kind_or Aborted (word_at (codes "ABORTED") text)
     (kind_or Expired (word_at (codes "EXPIRED") text) None))
 
--- the lines of the receipt's number and kind
+-- the lines of a number and of a kind stand at the front, and this text behind them
 unfoldable pub heading_at : List ℕ → Option (Heading × List ℕ)
 heading_at text = do
   a ← word_at (codes "RECEIPT ") text
@@ -37,15 +38,15 @@ heading_at text = do
   rest ← word_at (codes "\n") kind.1
   Some (record { number = number.0; kind = kind.0 }, rest)
 
--- so many characters of a taxi identifier
+-- the first `count` bytes are a taxi identifier where they are 1 to 16, and this text stands behind them
 abbrev pub taxi_of : (count : ℕ) → List ℕ → Option (List ℕ × List ℕ)
 taxi_of count text = if nat_le 1 count && nat_le count 16 then Some (take count text, drop count text) else None
 
--- a taxi identifier
+-- the characters of taxi identifiers at the front make this one, and this text stands behind them
 unfoldable pub taxi_at : List ℕ → Option (List ℕ × List ℕ)
 taxi_at text = taxi_of (prefix_len is_taxi_character text) text
 
--- the lines of the seal
+-- the four lines of a part of a seal stand at the front, and this text behind them
 unfoldable pub part_at : List ℕ → Option (Part × List ℕ)
 part_at text = do
   a ← word_at (codes "TAXI ") text
@@ -59,7 +60,7 @@ part_at text = do
   rest ← word_at (codes "\n") digest.1
   Some (record { taxi = taxi.0; constant = constant.0; secured = secured.0; digest = digest.0 }, rest)
 
--- the lines of the trip
+-- the lines of a trip, from its start to its distance, stand at the front, and this text behind them
 unfoldable pub trip_at : List ℕ → Option (Trip × List ℕ)
 trip_at text = do
   a ← word_at (codes "START ") text
@@ -73,7 +74,7 @@ trip_at text = do
   rest ← word_at (codes " m\n") hired.1
   Some (record { start = start.0; finish = finish.0; position = position.0; hired_mm = hired.0.units }, rest)
 
--- the line of the calculation
+-- the line of a calculation stands at the front, and this text behind it
 unfoldable pub calculation_at : List ℕ → Option (Calculation × List ℕ)
 calculation_at text = do
   a ← word_at (codes "CALC ") text
@@ -85,7 +86,7 @@ calculation_at text = do
   rest ← word_at (codes "\n") step.1
   Some (record { decimals = initial.0.decimals; initial = initial.0.units; steps = steps.0; step = step.0.units }, rest)
 
--- the minimum fare of a line, and 0 where there is no such line
+-- a minimum fare is read from what stands behind its word, and is 0 where the word wasn't found
 abbrev pub minimum_from : (text : List ℕ) → Option (List ℕ) → Option (ℕ × List ℕ)
 minimum_from text None = Some (0, text)
 minimum_from text (Some after) = do
@@ -93,18 +94,18 @@ minimum_from text (Some after) = do
   rest ← word_at (codes "\n") minimum.1
   Some (minimum.0.units, rest)
 
--- the line of the minimum fare, where there is one
+-- the line of a minimum fare stands at the front, and this text behind it; without such a line the minimum is 0
 unfoldable pub minimum_at : List ℕ → Option (ℕ × List ℕ)
 minimum_at text = minimum_from text (word_at (codes "MINIMUM ") text)
 
--- the units of an amount after a word
+-- `word` and an amount of this many units stand at the front, and this text behind them
 abbrev pub amount_field : (word : List ℕ) → List ℕ → Option (ℕ × List ℕ)
 amount_field word text = do
   after ← word_at word text
   amount ← amount_below (10 ^ 18) after
   Some (amount.0.units, amount.1)
 
--- the lines of the fare and of the supplements
+-- the lines of a fare and of supplements stand at the front, and this text behind them
 unfoldable pub sums_at : List ℕ → Option (Sums × List ℕ)
 sums_at text = do
   fare ← amount_field (codes "FARE ") text
@@ -112,7 +113,7 @@ sums_at text = do
   rest ← word_at (codes "\n") supplements.1
   Some (record { fare = fare.0; supplements = supplements.0 }, rest)
 
--- the receipt of what its lines say
+-- a receipt has the number, the times and the amounts that its lines say
 abbrev pub receipt_of : Heading → Trip → Calculation → (minimum : ℕ) → Sums → Receipt
 receipt_of heading trip calculation minimum sums =
     record {
@@ -131,7 +132,7 @@ receipt_of heading trip calculation minimum sums =
       decimals = calculation.decimals;
     }
 
--- what the lines say, down to the supplements
+-- the lines at the front, down to the supplements, say this receipt and this part of a seal
 unfoldable pub receipt_at : List ℕ → Option (Receipt × Part)
 receipt_at text = do
   heading ← heading_at text

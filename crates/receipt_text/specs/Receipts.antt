@@ -1,4 +1,4 @@
--- The text of a receipt.
+-- Rules: the texts of receipts, as they are written.
 use Rattle.std.specs.Prelude.{ℕ, ◌+◌, ◌/◌, ◌%◌, ◌==◌, nat_lt, if◌then◌else◌, ℤ, unsigned_abs}
 use Rattle.std.specs.Prelude.{List, [], ◌∷◌, ◌++◌, codes, decimal}
 use Rattle.interval_clock.specs.Calendar.{date_after}
@@ -9,84 +9,84 @@ use Rattle.taxi_units.specs.declared.receipt.Receipt.{Receipt}
 use Rattle.taxi_units.specs.declared.receipt.Stamp.{Stamp}
 use Rattle.receipt_text.specs.Part.{Part}
 
--- how a hiring ended; distance that was roamed has no receipt
+-- how a hiring ended is written as this word, and roaming, which has no receipt, as nothing
 abbrev pub kind_text : Kind → List ℕ
 kind_text Closed = codes "CLOSED"
 kind_text Aborted = codes "ABORTED"
 kind_text Expired = codes "EXPIRED"
 kind_text Roam = []
 
--- a date: four digits of the year, and two each of the month and of the date in it
+-- a date is written with four digits of the year, and two each of the month and of the date in it
 abbrev pub date_text : (year month date : ℕ) → List ℕ
 date_text year month date =
     padded_text 4 year ++ (codes "-" ++ (padded_text 2 month ++ (codes "-" ++ padded_text 2 date)))
 
--- a second of the day, as hours, minutes and seconds of two digits
+-- a second of the day is written as hours, minutes and seconds of two digits each
 abbrev pub time_text : ℕ → List ℕ
 time_text second =
     padded_text 2 (second / 3600)
     ++ (codes ":" ++ (padded_text 2 (second / 60 % 60) ++ (codes ":" ++ padded_text 2 (second % 60))))
 
--- a date and a second of the day
+-- a local date and time are written with a blank between them
 unfoldable pub stamp_text : Stamp → List ℕ
 stamp_text stamp = date_text stamp.year stamp.month stamp.date ++ (codes " " ++ time_text stamp.second)
 
--- the date of a day number
+-- a day number is written as its date
 unfoldable pub day_text : ℤ → List ℕ
 day_text day =
     let date = date_after (unsigned_abs day) in
     date_text date.year date.month date.date
 
--- a lower-case hexadecimal digit
+-- a number below 16 is written as this lower-case hexadecimal digit
 abbrev pub hex_digit : ℕ → ℕ
 hex_digit n = if nat_lt n 10 then 48 + n else 87 + n
 
--- two such digits of each byte
+-- bytes are written with two lower-case hexadecimal digits each, the one that counts sixteens first
 unfoldable pub hex_text : List ℕ → List ℕ
 hex_text [] = []
 hex_text (byte ∷ bytes) = hex_digit (byte / 16) ∷ hex_digit (byte % 16) ∷ hex_text bytes
 
--- the lines of the receipt's number and kind
+-- a receipt's number and its kind are written as a line each
 unfoldable pub heading_text : (number : ℕ) → Kind → List ℕ
 heading_text number kind =
     codes "RECEIPT " ++ (decimal number ++ (codes "\nKIND " ++ (kind_text kind ++ codes "\n")))
 
--- the lines of the seal
+-- what a receipt says of a seal is written as four lines: taxi, constant, date of securing and digest
 unfoldable pub part_text : Part → List ℕ
 part_text part =
     codes "TAXI " ++ (part.taxi ++ (codes "\nCONSTANT " ++ (decimal part.constant
     ++ (codes "\nSECURED " ++ (day_text part.secured ++ (codes "\nTARIFF " ++ (hex_text part.digest ++ codes "\n")))))))
 
--- the lines of the trip
+-- a trip is written as four lines: its start, its finish, its tariff position and its distance in metres
 unfoldable pub trip_text : Receipt → List ℕ
 trip_text receipt =
     codes "START " ++ (stamp_text receipt.start ++ (codes "\nFINISH " ++ (stamp_text receipt.finish
     ++ (codes "\nPOSITION " ++ (decimal receipt.position
     ++ (codes "\nDISTANCE " ++ (money_text 3 receipt.hired_mm ++ codes " m\n")))))))
 
--- the line of the calculation
+-- a calculation is written as one line of the hire fee, the number of the display steps and the size of one
 unfoldable pub calculation_text : Receipt → List ℕ
 calculation_text receipt =
     codes "CALC " ++ (money_text receipt.decimals receipt.initial ++ (codes " + " ++ (decimal receipt.steps
     ++ (codes " x " ++ (money_text receipt.decimals receipt.step ++ codes "\n")))))
 
--- the line of the minimum fare, where there is one
+-- a minimum fare is written as a line of its own, and as nothing where it is 0
 unfoldable pub minimum_text : (decimals minimum : ℕ) → List ℕ
 minimum_text decimals minimum =
     if minimum == 0 then [] else codes "MINIMUM " ++ (money_text decimals minimum ++ codes "\n")
 
--- the lines of the fare and of the supplements, which are no part of it
+-- a fare and its supplements, which are no part of it, are written as a line each
 unfoldable pub sums_text : Receipt → List ℕ
 sums_text receipt =
     codes "FARE " ++ (money_text receipt.decimals receipt.fare
     ++ (codes "\nSUPPLEMENTS " ++ (money_text receipt.decimals receipt.supplements ++ codes "\n")))
 
--- the line of the total, and the last line
+-- a receipt's last two lines are the total, which is the fare and the supplements together, and the end
 unfoldable pub total_text : Receipt → List ℕ
 total_text receipt =
     codes "TOTAL " ++ (money_text receipt.decimals (receipt.fare + receipt.supplements) ++ codes "\nEND\n")
 
--- the lines of the trip and of its fare
+-- a trip and its fare are written as their lines, from the start to the end
 unfoldable pub body_text : Receipt → List ℕ
 body_text receipt =
     trip_text receipt
@@ -95,6 +95,6 @@ body_text receipt =
     ++ (sums_text receipt
     ++ total_text receipt)))
 
--- the text of a receipt
+-- a receipt is written as the lines of its number and kind, those of the seal, and those of the trip and its fare
 unfoldable pub receipt_text : Receipt → Part → List ℕ
 receipt_text receipt part = heading_text receipt.number receipt.kind ++ (part_text part ++ body_text receipt)

@@ -1,8 +1,8 @@
--- What a receipt says of the seal of the meter that prints it.
+-- Rules: what a receipt says of the seal of the meter that prints it.
 use Rattle.seal_store.specs.declared.seal.Seal.{Seal}
 use Rattle.receipt_text.specs.Part.{Part}
 
--- its taxi identifier, its constant, its day of securing and its digest
+-- a receipt says of a seal its taxi identifier, its constant, its date of securing and its digest
 abbrev pub part_of : Seal → Part
 part_of seal = record {
   taxi = seal.params.taxi.items;

@@ -1,16 +1,17 @@
--- When two displays show the same.
+-- Rules: when two displays show the same.
 use Rattle.std.specs.Prelude.{◌≡◌, ◌≢◌, ◌<◌, ◌^◌}
 use Rattle.taxi_units.specs.declared.event.Operating.TheVariants.{ForHire}
 use Rattle.taxi_units.specs.declared.receipt.Display.{Display}
 
--- what is shown fits the fields of a display
+-- a display's position and zone are below 256, and its amounts are below 2^64, as the software keeps them
 pub record HasFields (display : Display) : Type 0 where
   pub position : display.position < 2 ^ 8
   pub zone : display.zone < 2 ^ 8
   pub fare : display.fare < 2 ^ 64
   pub supplements : display.supplements < 2 ^ 64
 
--- the fields are equal, but in For Hire the fare and the supplements, which it doesn't show
+-- two displays show the same where their fields are equal, but for the fare and the supplements in For Hire, where they
+-- aren't shown
 pub record ShowsSame (a b : Display) : Type 0 where
   pub operating : a.operating ≡ b.operating
   pub position : a.position ≡ b.position

@@ -1,11 +1,11 @@
--- What is asked of a receipt's text, as one.
+-- Rules: which text is written of a receipt.
 use Rattle.std.specs.Prelude.{◌≡◌, ℕ, List}
 use Rattle.taxi_units.specs.Shown.{IsReceipt}
 use Rattle.taxi_units.specs.declared.receipt.Receipt.{Receipt}
 use Rattle.receipt_text.specs.Part.{Part, IsPart}
 use Rattle.receipt_text.specs.Receipts.{receipt_text}
 
--- the text is that of a receipt and of what it says of a seal, both in their ranges
+-- a text is the one that is written of a receipt and of a part of a seal, both in their ranges
 pub record IsSpelled (text : List ℕ) (receipt : Receipt) (part : Part) : Type 0 where
   pub receipt_is : IsReceipt receipt
   pub part_is : IsPart part

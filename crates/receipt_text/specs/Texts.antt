@@ -1,4 +1,4 @@
--- The texts of displays and refusals.
+-- Rules: the texts of displays and refusals.
 use Rattle.std.specs.Prelude.{ℕ, List, [], ◌++◌, codes, decimal}
 use Rattle.taxi_units.specs.Number.{money_text}
 use Rattle.taxi_units.specs.declared.event.Operating.{Operating}
@@ -7,26 +7,27 @@ use Rattle.taxi_units.specs.declared.event.Why.{Why}
 use Rattle.taxi_units.specs.declared.event.Why.TheVariants.{NotNow, KeyWaiting, NoSuch, AtMost, ClockBack, TooFast, Powered, Expired, Ended}
 use Rattle.taxi_units.specs.declared.receipt.Display.{Display}
 
--- the tariff position and the zone
+-- a display tells the tariff position and the zone by this text
 abbrev pub place_text : Display → List ℕ
 place_text d = codes " T" ++ (decimal d.position ++ (codes " Z" ++ decimal d.zone))
 
--- the fare, and beside it the supplements, which are no part of it
+-- a display tells the fare by this text, and beside it the supplements, which are no part of the fare
 abbrev pub amounts_text : Display → List ℕ
 amounts_text d = codes " " ++ (money_text d.decimals d.fare ++ (codes " +" ++ money_text d.decimals d.supplements))
 
--- the line of a display in each operating position; none in Off
+-- a display is written as this line in an operating position, and as nothing in Off
 abbrev pub display_line : Operating → Display → List ℕ
 display_line Off d = []
 display_line ForHire d = codes "FOR HIRE" ++ (place_text d ++ codes "\n")
 display_line Hired d = codes "HIRED" ++ (place_text d ++ (amounts_text d ++ codes "\n"))
 display_line Stopped d = codes "STOPPED" ++ (place_text d ++ (amounts_text d ++ codes "\n"))
 
--- the line of a display
+-- a display is written as the line of its own operating position
 abbrev pub display_text : Display → List ℕ
 display_text d = display_line d.operating d
 
--- what a refusal says
+-- a refusal tells its cause by these words, with the two readings of a clock that was set back, or the number of pulses
+-- too many
 abbrev pub why_text : Why → List ℕ
 why_text NotNow = codes "NOT NOW"
 why_text KeyWaiting = codes "KEY WAITING"
@@ -38,6 +39,6 @@ why_text Powered = codes "POWERED"
 why_text Expired = codes "EXPIRED"
 why_text Ended = codes "ENDED"
 
--- the line of a refusal
+-- a refusal is written as a line of its word and its cause
 abbrev pub refusal_text : Why → List ℕ
 refusal_text why = codes "REFUSED " ++ (why_text why ++ codes "\n")

@@ -3,7 +3,8 @@ ghost use Rattle.std.specs.Prelude.{◌≡◌, ◌^◌, ◌<◌, ◌≤◌, IfSo
 ghost use Rattle.taxi_units.specs.Reading.{Gives};
 ghost use Rattle.receipt_text.specs.Figures as spec;
 
-use crate::figures::{count_digits, number_below, value_below};
+use crate::figures::{number_below, value_below};
+use taxi_units::count_digits;
 
 /// An amount in units of the last of its decimals.
 #[derive(Clone, Copy)]
@@ -42,7 +43,7 @@ fn whole_amount(units: u128) -> Amount
 }
 
 /// The amount of what stands before a point and the digits at the front of what stands after it.
-#[tactic(auto, using(crate::proofs::Digits::digits_in_front))]
+#[tactic(auto, using(taxi_units::proofs::Laws::digits_in_front))]
 fn with_parts(whole: u128, text: &[u8], limit: u128) -> Option<(Amount, &[u8])>
     requires whole { whole < limit }
     requires most { limit ≤ 10 ^ 24 }

@@ -1,13 +1,14 @@
 //! Numbers at the front of a text.
-ghost use Rattle.std.specs.Prelude.{◌≡◌, ◌^◌, ◌<◌, ◌≤◌, length, IfSome};
-ghost use Rattle.taxi_units.specs.Number.{digits_at_front};
+ghost use Rattle.std.specs.Prelude.{◌≡◌, ◌^◌, ◌<◌, ◌≤◌, IfSome};
 ghost use Rattle.taxi_units.specs.Reading.{Gives};
 ghost use Rattle.receipt_text.specs.Figures as spec;
 ghost use Rattle.receipt_text.specs.Figures.{AreDigits};
 
+use taxi_units::count_digits;
+
 /// A number at the front of a text, of all the digits that stand there, and what stands after it. `None`
 /// where no digit stands there, or the number isn't below the limit.
-#[tactic(auto, unfolding(crate::specs::Figures::number_below), using(crate::proofs::Digits::digits_in_front))]
+#[tactic(auto, unfolding(crate::specs::Figures::number_below), using(taxi_units::proofs::Laws::digits_in_front))]
 pub(crate) fn number_below(text: &[u8], limit: u128) -> Option<(u128, &[u8])>
     requires some { 0 < limit }
     requires most { limit ≤ 10 ^ 24 }
@@ -20,21 +21,6 @@ pub(crate) fn number_below(text: &[u8], limit: u128) -> Option<(u128, &[u8])>
     }
     let value = value_below(0, digits, limit)?;
     Some((value, rest))
-}
-
-/// How many digits stand at the front.
-pub(crate) fn count_digits(text: &[u8]) -> usize
-    ensures count { result ≡ digits_at_front text.now }
-    ensures within { result ≤ length text.now }
-{
-    let mut count = 0;
-    for byte in text {
-        if !byte.is_ascii_digit() {
-            return count;
-        }
-        count += 1;
-    }
-    count
 }
 
 /// The number that digits make after those of a number, where it is below the limit.

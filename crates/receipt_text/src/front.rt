@@ -2,8 +2,9 @@
 ghost use Rattle.std.specs.Prelude.{◌≡◌, ℕ, ◌≤◌, ◌↔◌, length, take, Some};
 ghost use Rattle.taxi_units.specs.Shown.{IsReceipt};
 ghost use Rattle.taxi_units.specs.declared.receipt.Receipt.{Receipt};
-ghost use Rattle.receipt_text.specs.Front.{IsInFront, IsSpelledInFront};
+ghost use Rattle.receipt_text.specs.Front.{IsInFront};
 ghost use Rattle.receipt_text.specs.Part.{IsPart, Part};
+ghost use Rattle.receipt_text.specs.SpelledFront.{IsSpelledInFront};
 
 use crate::parts::SealPart;
 use crate::ranges::{is_part, is_receipt};

@@ -1,5 +1,5 @@
 //! What a receipt says of the meter's seal, and its lines.
-ghost use Rattle.std.specs.Prelude.{◌≡◌, ◌+◌, ◌≤◌, ◌++◌, ◌↔◌, codes, length, pos, ◌≤ℤ◌, IsOk, OnOk, OnErr};
+ghost use Rattle.std.specs.Prelude.{◌≡◌, ◌+◌, ◌≤◌, ◌++◌, ◌↔◌, codes, length, IsOk, OnOk, OnErr};
 ghost use Rattle.std.specs.List.{prefix_len};
 ghost use Rattle.arrayvec.specs.ArrayVec.{array_vec_len};
 ghost use Rattle.taxi_units.specs.Reading.{Gives};
@@ -7,7 +7,7 @@ ghost use Rattle.receipt_text.specs.Lines as spec;
 ghost use Rattle.receipt_text.specs.Part.{IsDigest, IsPart};
 ghost use Rattle.receipt_text.specs.Receipts.{day_text, part_text};
 ghost use Rattle.receipt_text.specs.SealParts.{part_of};
-ghost use Rattle.seal_store.specs.Ranges.{IsSeal};
+ghost use Rattle.seal_store.specs.Ranges.{IsDay, IsSeal};
 ghost use Rattle.seal_store.specs.Values.{is_taxi_character};
 
 use crate::digest::{digest_at, hex_of};
@@ -70,8 +70,7 @@ fn bytes_are_a_digest(bytes: &[u8])
 /// Appends the lines of the seal.
 #[tactic(auto, unfolding(crate::specs::Receipts::part_text))]
 pub(crate) fn put_part(line: &mut Line, part: &SealPart) -> Result<(), LineFull>
-    requires from { pos 10957 ≤ℤ part.now.secured }
-    requires to { part.now.secured ≤ℤ pos 84005 }
+    requires { IsDay part.now.secured }
     ensures variant { IsOk result ↔ (array_vec_len line.old + length (part_text part.now) ≤ 512) }
     ensures ok { OnOk result (line.new.items ≡ line.old.items ++ part_text part.now) }
 {
@@ -84,8 +83,7 @@ pub(crate) fn put_part(line: &mut Line, part: &SealPart) -> Result<(), LineFull>
 
 /// Appends the word of the date of securing, and the date of its day number.
 fn put_secured(line: &mut Line, secured: i32) -> Result<(), LineFull>
-    requires from { pos 10957 ≤ℤ secured }
-    requires to { secured ≤ℤ pos 84005 }
+    requires { IsDay secured }
     ensures variant { IsOk result ↔ (array_vec_len line.old + 9 + length (day_text secured) ≤ 512) }
     ensures ok { OnOk result (line.new.items ≡ line.old.items ++ (codes "\nSECURED " ++ day_text secured)) }
 {
@@ -97,7 +95,7 @@ fn put_secured(line: &mut Line, secured: i32) -> Result<(), LineFull>
 pub(crate) fn is_taxi_character(byte: u8) -> bool
     ensures { result ≡ is_taxi_character byte }
 {
-    (65 <= byte && byte <= 90) || ((48 <= byte && byte <= 57) || byte == 45)
+    (b'A' <= byte && byte <= b'Z') || ((b'0' <= byte && byte <= b'9') || byte == b'-')
 }
 
 /// How many characters of taxi identifiers stand at the front.

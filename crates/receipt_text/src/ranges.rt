@@ -1,10 +1,11 @@
 //! Whether receipts and what they say of a seal are in their ranges.
-ghost use Rattle.std.specs.Prelude.{◌≡◌, ◌≢◌, ◌↔◌, ◌≤◌, ◌<◌, ◌^◌, pos, ◌≤ℤ◌, IsTrue};
+ghost use Rattle.std.specs.Prelude.{◌≡◌, ◌≢◌, ◌↔◌, ◌≤◌, ◌<◌, ◌^◌, IsTrue};
 ghost use Rattle.std.specs.List.{AllByRecursion};
 ghost use Rattle.taxi_units.specs.Shown.{IsReceipt, IsStamp, fare_of};
 ghost use Rattle.taxi_units.specs.declared.receipt.Kind.TheVariants.{Roam};
-ghost use Rattle.receipt_text.specs.Part.{HasAmounts, HasNumbers, IsDigest, IsPart};
-ghost use Rattle.seal_store.specs.Ranges.{IsTaxi, IsTaxiCharacter};
+ghost use Rattle.receipt_text.specs.Part.{IsDigest, IsPart};
+ghost use Rattle.receipt_text.specs.ReceiptRanges.{HasAmounts, HasNumbers};
+ghost use Rattle.seal_store.specs.Ranges.{IsDay, IsTaxi, IsTaxiCharacter};
 
 use crate::parts::{SealPart, is_taxi_character};
 use taxi_units::{Kind, Receipt, Stamp, is_date};
@@ -101,7 +102,7 @@ fn is_constant(constant: u32) -> bool
 
 /// Whether a day is one of the years 2000 to 2199.
 fn is_day(day: i32) -> bool
-    ensures { IsTrue result ↔ ((pos 10957 ≤ℤ day) × (day ≤ℤ pos 84005)) }
+    ensures { IsTrue result ↔ IsDay day }
 {
     10_957 <= day && day <= 84_005
 }

@@ -1,8 +1,8 @@
 //! Receipts.
-ghost use Rattle.std.specs.Prelude.{◌≡◌, ◌+◌, ◌≤◌, ◌++◌, ◌↔◌, length, pos, ◌≤ℤ◌, IsOk, OnOk, OnErr};
+ghost use Rattle.std.specs.Prelude.{◌≡◌, ◌+◌, ◌≤◌, ◌++◌, ◌↔◌, length, IsOk, OnOk, OnErr};
 ghost use Rattle.arrayvec.specs.ArrayVec.{array_vec_len};
 ghost use Rattle.taxi_units.specs.Shown.{IsReceipt};
-ghost use Rattle.seal_store.specs.Ranges.{IsSeal};
+ghost use Rattle.seal_store.specs.Ranges.{IsDay, IsSeal};
 ghost use Rattle.receipt_text.specs.Receipts.{body_text, receipt_text};
 ghost use Rattle.receipt_text.specs.SealParts.{part_of};
 ghost use Rattle.receipt_text.specs.Spelling.{IsSpelled};
@@ -40,7 +40,7 @@ pub(crate) fn put_part_receipt(
     part: &SealPart,
 ) -> Result<(), LineFull>
     requires decimals { receipt.now.decimals ≤ 3 }
-    requires secured { (pos 10957 ≤ℤ part.now.secured) × (part.now.secured ≤ℤ pos 84005) }
+    requires secured { IsDay part.now.secured }
     ensures variant { IsOk result ↔ (array_vec_len line.old + length (receipt_text receipt.now part.now) ≤ 512) }
     ensures ok { OnOk result (line.new.items ≡ line.old.items ++ receipt_text receipt.now part.now) }
     ensures err { OnErr result (line.new ≡ line.old) }
@@ -54,8 +54,7 @@ pub(crate) fn put_part_receipt(
 #[tactic(auto, unfolding(crate::specs::Receipts::receipt_text))]
 fn put_lines(line: &mut Line, receipt: &Receipt, part: &SealPart) -> Result<(), LineFull>
     requires decimals { receipt.now.decimals ≤ 3 }
-    requires from { pos 10957 ≤ℤ part.now.secured }
-    requires to { part.now.secured ≤ℤ pos 84005 }
+    requires secured { IsDay part.now.secured }
     ensures variant { IsOk result ↔ (array_vec_len line.old + length (receipt_text receipt.now part.now) ≤ 512) }
     ensures ok { OnOk result (line.new.items ≡ line.old.items ++ receipt_text receipt.now part.now) }
 {

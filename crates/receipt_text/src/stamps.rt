@@ -1,7 +1,8 @@
 //! Dates, days and local times.
-ghost use Rattle.std.specs.Prelude.{◌≡◌, ◌+◌, ◌^◌, ◌<◌, ◌≤◌, ◌++◌, ◌↔◌, length, pos, ◌≤ℤ◌, IsOk, OnOk, IfSome, Some};
+ghost use Rattle.std.specs.Prelude.{◌≡◌, ◌+◌, ◌^◌, ◌<◌, ◌≤◌, ◌++◌, ◌↔◌, length, IsOk, OnOk, IfSome, Some};
 ghost use Rattle.arrayvec.specs.ArrayVec.{array_vec_len};
 ghost use Rattle.taxi_units.specs.Reading.{Gives};
+ghost use Rattle.seal_store.specs.Ranges.{IsDay};
 ghost use Rattle.receipt_text.specs.Dates as spec;
 ghost use Rattle.receipt_text.specs.Receipts.{date_text, day_text, stamp_text, time_text};
 
@@ -47,8 +48,7 @@ pub(crate) fn put_stamp(line: &mut Line, stamp: &Stamp) -> Result<(), LineFull>
 /// Appends the date of a day number.
 #[tactic(auto, unfolding(crate::specs::Receipts::day_text))]
 pub(crate) fn put_day(line: &mut Line, day: i32) -> Result<(), LineFull>
-    requires from { pos 10957 ≤ℤ day }
-    requires to { day ≤ℤ pos 84005 }
+    requires { IsDay day }
     ensures variant { IsOk result ↔ (array_vec_len line.old + length (day_text day) ≤ 512) }
     ensures ok { OnOk result (line.new.items ≡ line.old.items ++ day_text day) }
 {

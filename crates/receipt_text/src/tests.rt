@@ -9,7 +9,7 @@ use arrayvec::ArrayVec;
 use seal_store::{Seal, read_params};
 use taxi_units::{Display, Kind, Line, LineFull, Operating, Receipt, Why, put_bytes};
 
-/// A receipt under examples/a.tariff. The digest is what sha256sum gives of that file.
+/// A receipt under examples/simple.tariff. The digest is what sha256sum gives of that file.
 const RECEIPT: &str = "\
 RECEIPT 2
 KIND CLOSED

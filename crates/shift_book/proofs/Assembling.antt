@@ -4,7 +4,8 @@ use Rattle.shift_book.specs.declared.numbers.Numbers.{Numbers}
 use Rattle.shift_book.specs.declared.shift.Shift.{Shift}
 use Rattle.shift_book.specs.Marks.{Signing}
 use Rattle.shift_book.specs.Report.{IsReport, growth_text, shift_lines, driver_lines, report_text}
-use Rattle.shift_book.specs.Shares.{Driver, Rise, shifts_in, unsigned_in, growth_in, AreSums, AreOrdered, with_shifts}
+use Rattle.shift_book.specs.ShareStages.{Rise, with_shifts}
+use Rattle.shift_book.specs.Shares.{Driver, shifts_in, unsigned_in, growth_in, AreSums, AreOrdered}
 use Rattle.shift_book.proofs.Rising.{shifts_add_up}
 
 -- texts behind one another

@@ -7,7 +7,8 @@ use Rattle.std.specs.declared.cmp.Ordering.TheVariants.{Less, Equal, Greater}
 use Rattle.shift_book.specs.declared.numbers.Numbers.{Numbers}
 use Rattle.shift_book.specs.declared.shift.Shift.{Shift}
 use Rattle.shift_book.specs.Marks.{Signing}
-use Rattle.shift_book.specs.Shares.{Driver, begun_by, driver_cmp, grown, next_point, plus, shifts_in, sum_so_far, with_shift, with_shifts}
+use Rattle.shift_book.specs.ShareStages.{sum_so_far, with_shift, with_shifts}
+use Rattle.shift_book.specs.Shares.{Driver, begun_by, driver_cmp, grown, next_point, plus, shifts_in}
 
 one_more : {K X : Type 0} (R : K → K → Ordering) (k : K) (v : X) (es : List (K × X)) → length (insert_entry R es k v) ≤ length es + 1
 one_more R k v [] = omega arith

@@ -6,7 +6,8 @@ use Rattle.shift_book.specs.declared.shift.Shift.{Shift}
 use Rattle.shift_book.specs.Following.{FollowOn, numbers_in}
 use Rattle.shift_book.specs.Marks.{Signing}
 use Rattle.shift_book.specs.Report.{IsReport, report_text}
-use Rattle.shift_book.specs.Shares.{Driver, driver_cmp, grown, growth_in, plus, sum_so_far, shifts_in, AreSums, AreOrdered, with_shift, with_shifts}
+use Rattle.shift_book.specs.ShareStages.{sum_so_far, with_shift, with_shifts}
+use Rattle.shift_book.specs.Shares.{Driver, driver_cmp, grown, growth_in, plus, shifts_in, AreSums, AreOrdered}
 use Rattle.shift_book.proofs.Assembling.{report_is}
 use Rattle.shift_book.proofs.Inserted.{insert_found, insert_ordered, none_ordered}
 use Rattle.shift_book.proofs.Rising.{rises}

@@ -7,7 +7,8 @@ use Rattle.shift_book.specs.declared.numbers.Numbers.{Numbers}
 use Rattle.shift_book.specs.declared.shift.Shift.{Shift}
 use Rattle.shift_book.specs.Following.{Fit, FollowOn, IsNowhereLess, numbers_in}
 use Rattle.shift_book.specs.Marks.{Signing, numbers_of}
-use Rattle.shift_book.specs.Shares.{Column, Number, Distance, HiredDistance, Hirings, Supplements, Fare, at, nothing, grown, plus, next_point, Rise, begun_by, free_behind, shifts_in, unsigned_in, growth_in, total_of}
+use Rattle.shift_book.specs.ShareStages.{Rise, total_of}
+use Rattle.shift_book.specs.Shares.{Column, Number, Distance, HiredDistance, Hirings, Supplements, Fare, at, nothing, grown, plus, next_point, begun_by, free_behind, shifts_in, unsigned_in, growth_in}
 
 pub at_least : (c : Column) (a b : Numbers) → IsNowhereLess a b → at c a ≤ at c b
 at_least Number a b h = h.number

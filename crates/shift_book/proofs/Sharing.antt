@@ -15,7 +15,8 @@ use Rattle.std.proofs.lemmas.Slice.Eq.{bytes_eq-Decides}
 use Rattle.shift_book.specs.declared.numbers.Numbers.{Numbers}
 use Rattle.shift_book.specs.declared.shift.Shift.{Shift}
 use Rattle.shift_book.specs.Following.{Fit}
-use Rattle.shift_book.specs.Shares.{Column, at, nothing, plus, Driver, driver_cmp, is_of, gives, sum_for, sum_so_far, AreSums, AreOrdered, total_of}
+use Rattle.shift_book.specs.ShareStages.{sum_so_far, total_of}
+use Rattle.shift_book.specs.Shares.{Column, at, nothing, plus, Driver, driver_cmp, is_of, gives, sum_for, AreSums, AreOrdered}
 use Rattle.shift_book.proofs.Rising.{at-nothing, at-plus, at-total, fit_under}
 
 -- the sums of the shifts that are passed, where these are left of all

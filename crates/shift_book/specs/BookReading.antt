@@ -1,4 +1,4 @@
--- How a book is read: its marks, or its first bad line.
+-- For proofs: how a book is read, line by line. The law `texts_are_read_as_they_say` says what `book_read` answers.
 use Rattle.std.specs.Prelude.{ℕ, zero, suc, ◌+◌, ◌&&◌, nat_le, nat_lt, Bool, true, not, if◌then◌else◌, List, [], ◌∷◌, ◌++◌, length, Option, Some, None, Result, Ok, Err}
 use Rattle.taxi_units.specs.Reading.{◌>>=◌, word_at}
 use Rattle.totaliser_store.specs.declared.durable.Durable.{Durable}
@@ -10,44 +10,45 @@ use Rattle.shift_book.specs.Following.{is_on, last_of, numbers_in}
 use Rattle.shift_book.specs.Marks.{Signing, mark_text}
 use Rattle.shift_book.specs.Reading.{mark_at}
 
--- the test whether none of the numbers is smaller than before
+-- none of the numbers is smaller than before
 abbrev pub is_nowhere_less : (before after : Numbers) → Bool
 is_nowhere_less before after =
     nat_le before.number after.number && (nat_le before.distance_mm after.distance_mm
     && (nat_le before.hired_mm after.hired_mm && (nat_le before.hirings after.hirings
     && (nat_le before.supplements after.supplements && nat_le before.fare after.fare))))
 
--- the same of the numbers of a mark, where there is one
+-- none of the numbers is smaller than in the mark before, where there is one
 abbrev pub is_grown : Option Signing → (after : Numbers) → Bool
 is_grown None after = true
 is_grown (Some before) after = is_nowhere_less before.numbers after
 
--- the test whether a mark signs on where nobody is on, or off where somebody is
+-- a mark signs on where nobody is on, or off where somebody is
 abbrev pub is_turn : (before : Option Signing) → Signing → Bool
 is_turn before mark = if mark.on then not (is_on before) else is_on before
 
--- the test whether a mark whose driver is as said may follow the mark before it
+-- a mark with a driver as it should have may follow the mark before it, or begin a book
 abbrev pub may_follow : (now : Durable) (before : Option Signing) → Signing → Bool
 may_follow now before mark =
     is_turn before mark && (is_grown before mark.numbers && is_nowhere_less mark.numbers (numbers_in now))
 
--- a mark that may follow, and what stands behind its line
+-- a mark is read where it may follow, and `rest` stands behind its line
 abbrev pub following : (now : Durable) (before : Option Signing) → Signing → (rest : List ℕ)
     → Option (Signing × List ℕ)
 following now before mark rest = if may_follow now before mark then Some (mark, rest) else None
 
--- the mark whose line stands at the front of a text and that may follow, and what stands behind the line
+-- the line of this mark, which may follow, stands at the front of a text, and this text behind it
 unfoldable pub next_at : (now : Durable) (before : Option Signing) → List ℕ → Option (Signing × List ℕ)
 next_at now before text =
     mark_at text >>= (λ mark. word_at (mark_text mark) text >>= (λ rest. following now before mark rest))
 
--- read on, or name the line
+-- reading goes on with what was found, and names the line as bad where nothing was
 abbrev pub or_bad : {A : Type 0} → (line : ℕ) → Option A → (A → Result (List Signing) BookFault)
     → Result (List Signing) BookFault
 or_bad line (Some x) on = on x
 or_bad line None on = Err (BadLine line)
 
--- the marks of the lines that are left behind some marks, where they are at most so many; or the first bad line
+-- the lines left behind some marks are read as marks behind these, of which there are at most `most`, or as a first bad
+-- line
 abbrev pub lines_read : (now : Durable) (most : ℕ) (marks : List Signing) → List ℕ → Result (List Signing) BookFault
 lines_read now most marks [] = Ok marks
 lines_read now zero marks (c ∷ cs) = Err (BadLine (length marks + 1))
@@ -55,7 +56,7 @@ lines_read now (suc most) marks (c ∷ cs) =
     or_bad (length marks + 1) (next_at now (last_of marks) (c ∷ cs))
     (λ next. lines_read now most (marks ++ next.0 ∷ []) next.1)
 
--- the marks of a text, or why there are none; a text has no more lines than bytes
+-- a text is read as these marks, or as too long, or as one with a first bad line; it has no more lines than bytes
 abbrev pub book_read : (now : Durable) → List ℕ → Result (List Signing) BookFault
 book_read now text =
     if nat_lt longest (length text) then Err TooLong else lines_read now (length text) [] text

@@ -1,4 +1,4 @@
--- How the text of a book is read.
+-- Rules: which texts are books, and what is wrong with a text that is none.
 use Rattle.std.specs.Prelude.{◌≡◌, ◌≢◌, ℕ, ◌+◌, ◌<◌, ◌≤◌, List, [], ◌++◌, length, Option, None}
 use Rattle.totaliser_store.specs.declared.durable.Durable.{Durable}
 use Rattle.shift_book.specs.declared.book.BookFault.{BookFault}
@@ -6,32 +6,32 @@ use Rattle.shift_book.specs.declared.book.BookFault.TheVariants.{TooLong, BadLin
 use Rattle.shift_book.specs.Following.{MayFollow, FollowOn, last_of}
 use Rattle.shift_book.specs.Marks.{Signing, mark_text, book_text}
 
--- the greatest length of a book
+-- a book has at most 1,048,576 bytes
 abbrev pub longest : ℕ
 longest = 1048576
 
--- the line at the front of a text is that of a mark, which may follow the one before it
+-- a text begins with the line of a mark that may follow the one before it, and `rest` stands behind the line
 pub record IsNext (now : Durable) (before : Option Signing) (text : List ℕ) (mark : Signing)
     (rest : List ℕ) : Type 0 where
   pub line : text ≡ mark_text mark ++ rest
   pub follows : MayFollow now before mark
 
--- a text begins with the lines of marks, each of which may follow those before it
+-- a text begins with the lines of marks, each of which may follow the one before it, and `rest` stands behind them
 pub record Begins (now : Durable) (text : List ℕ) (marks : List Signing) (rest : List ℕ) : Type 0 where
   pub lines : text ≡ book_text marks ++ rest
   pub follow : FollowOn now None marks
 
--- there is more text, but what stands first there is no line of a mark that may follow
+-- a text goes on behind some marks, but with no line of a mark that may follow
 pub record Breaks (now : Durable) (marks : List Signing) (rest : List ℕ) : Type 0 where
   pub more : rest ≢ []
   pub bad : (mark : Signing) (after : List ℕ) → ¬ IsNext now (last_of marks) rest mark after
 
--- a text is a book of these marks: it isn't too long, and each of its lines is that of a mark that may follow
+-- a text is a book of these marks: it isn't too long, and is the lines of marks that may follow one another
 pub record IsBook (now : Durable) (text : List ℕ) (marks : List Signing) : Type 0 where
   pub few : length text ≤ longest
   pub begins : Begins now text marks []
 
--- this line of a text, counted from 1, is the first that is no line of a mark that may follow
+-- a line of a text, counted from 1, is the first that is no line of a mark that may follow
 pub record IsFirstBad (now : Durable) (text : List ℕ) (line : ℕ) : Type 0 where
   pub few : length text ≤ longest
   pub marks : List Signing
@@ -40,7 +40,7 @@ pub record IsFirstBad (now : Durable) (text : List ℕ) (line : ℕ) : Type 0 wh
   pub breaks : Breaks now marks rest
   pub place : line ≡ length marks + 1
 
--- why a text gives no marks
+-- a text gives no marks for this reason: it is too long, or has a first bad line, or memory ran out over it
 abbrev pub IsFault : Durable → (text : List ℕ) → BookFault → Type 0
 IsFault now text TooLong = longest < length text
 IsFault now text (BadLine line) = IsFirstBad now text line

@@ -1,16 +1,16 @@
--- Which marks may follow one another in a book, beside a state of the store.
+-- Rules: which marks may follow one another in a book, beside a state of the store.
 use Rattle.std.specs.Prelude.{◌≡◌, ◌-◌, ◌<◌, ◌≤◌, ◌^◌, Bool, false, not, List, [], ◌∷◌, length, slice_get, Option, Some, None, IfSome, ⊤}
 use Rattle.totaliser_store.specs.declared.durable.Durable.{Durable}
 use Rattle.shift_book.specs.declared.numbers.Numbers.{Numbers}
 use Rattle.shift_book.specs.Marks.{Signing, HasDriver, numbers_of}
 
--- the number of a state of the store, and its totals in the order of a mark
+-- a state of the store has these numbers, which are its own number and its totals in the order of a mark
 abbrev pub numbers_in : Durable → Numbers
 numbers_in now =
     numbers_of now.number now.totals.distance_mm now.totals.hired_mm now.totals.hirings
     now.totals.supplements now.totals.fare
 
--- none of the numbers is smaller than before
+-- none of six numbers is smaller than before
 pub record IsNowhereLess (before after : Numbers) : Type 0 where
   pub number : before.number ≤ after.number
   pub distance : before.distance_mm ≤ after.distance_mm
@@ -19,7 +19,7 @@ pub record IsNowhereLess (before after : Numbers) : Type 0 where
   pub supplements : before.supplements ≤ after.supplements
   pub fare : before.fare ≤ after.fare
 
--- the numbers fit their fields
+-- numbers fit their fields where the number and the hirings are below 2^64, and the others below 2^128
 pub record Fit (numbers : Numbers) : Type 0 where
   pub number : numbers.number < 2 ^ 64
   pub distance : numbers.distance_mm < 2 ^ 128
@@ -28,24 +28,25 @@ pub record Fit (numbers : Numbers) : Type 0 where
   pub supplements : numbers.supplements < 2 ^ 128
   pub fare : numbers.fare < 2 ^ 128
 
--- somebody is on after a mark, or at a book's beginning, where nobody is
+-- somebody is on after a mark that signs on; nobody is at the beginning of a book
 abbrev pub is_on : Option Signing → Bool
 is_on None = false
 is_on (Some mark) = mark.on
 
--- a mark may follow the mark before it, or begin a book: its driver is as said, it signs on where nobody is on and off
--- where somebody is, and none of its numbers is smaller than in the mark before, or greater than in the store
+-- a mark may follow the mark before it, or begin a book: it has a driver where it signs on and none where it signs off,
+-- it signs on where nobody is on and off where somebody is, and none of its numbers is smaller than in the mark before,
+-- or greater than in the store
 pub record MayFollow (now : Durable) (before : Option Signing) (mark : Signing) : Type 0 where
   pub driver : HasDriver mark.on mark.driver
   pub turn : mark.on ≡ not (is_on before)
   pub grown : IfSome before (λ mark_before. IsNowhereLess mark_before.numbers mark.numbers)
   pub within : IsNowhereLess mark.numbers (numbers_in now)
 
--- each mark may follow the one before it
+-- marks follow on where each may follow the one before it
 abbrev pub FollowOn : Durable → (before : Option Signing) → List Signing → Type 0
 FollowOn now before [] = ⊤
 FollowOn now before (mark ∷ marks) = MayFollow now before mark × FollowOn now (Some mark) marks
 
--- the last of some marks
+-- marks end with this one, if there are any
 abbrev pub last_of : List Signing → Option Signing
 last_of marks = slice_get marks (length marks - 1)

@@ -4,4 +4,5 @@ pub mod Following
 pub mod Marks
 pub mod Reading
 pub mod Report
+pub mod ShareStages
 pub mod Shares

@@ -1,10 +1,10 @@
--- What marks say, and their lines.
+-- Rules: what marks say, and their lines.
 use Rattle.std.specs.Prelude.{◌≡◌, ℕ, ◌≤◌, ◌&&◌, ◌||◌, ◌==◌, nat_le, Bool, true, false, List, [], ◌∷◌, ◌++◌, length, codes, decimal}
 use Rattle.std.specs.List.{AllByRecursion, flat_map}
 use Rattle.taxi_units.specs.Written.{IsNumberText}
 use Rattle.shift_book.specs.declared.numbers.Numbers.{Numbers}
 
--- the number of a state, and its totals in the order of a mark
+-- a mark has the number of the store, and five of its totals in this order
 abbrev pub numbers_of : (number distance hired hirings supplements fare : ℕ) → Numbers
 numbers_of number distance hired hirings supplements fare =
     record {
@@ -16,13 +16,13 @@ numbers_of number distance hired hirings supplements fare =
       fare = fare;
     }
 
--- what a mark says: who signs on, or that whoever was on signs off, and the numbers of the store
+-- a mark says who signs on, or that whoever was on signs off, and the numbers of the store
 pub record Signing : Type 0 where
   pub driver : List ℕ
   pub on : Bool
   pub numbers : Numbers
 
--- the test whether a byte is A to Z, 0 to 9, or -
+-- a byte is a character of drivers: A to Z, 0 to 9, or a hyphen
 abbrev pub is_driver_character : ℕ → Bool
 is_driver_character c = (nat_le 65 c && nat_le c 90) || ((nat_le 48 c && nat_le c 57) || (c == 45))
 
@@ -30,7 +30,7 @@ is_driver_character c = (nat_le 65 c && nat_le c 90) || ((nat_le 48 c && nat_le 
 abbrev pub PassAll : (ℕ → Bool) → List ℕ → Type 0
 PassAll test bytes = AllByRecursion (λ c. test c ≡ true) bytes
 
--- a driver: 1 to 16 of these characters
+-- a text is a driver where it has 1 to 16 characters of drivers and no others
 pub record IsDriver (driver : List ℕ) : Type 0 where
   pub some : 1 ≤ length driver
   pub few : length driver ≤ 16
@@ -41,36 +41,36 @@ abbrev pub HasDriver : (on : Bool) → (driver : List ℕ) → Type 0
 HasDriver true driver = IsDriver driver
 HasDriver false driver = driver ≡ []
 
--- the first word of a mark's line, and the driver who signs on
+-- a line of a mark begins with the word ON and the driver, or with the word OFF
 abbrev pub head_text : (on : Bool) → (driver : List ℕ) → List ℕ
 head_text true driver = codes "ON " ++ driver
 head_text false driver = codes "OFF"
 
--- a number behind a blank
+-- a number in a line is written behind a blank
 abbrev pub number_text : ℕ → List ℕ
 number_text value = 32 ∷ decimal value
 
--- the six numbers, and the end of the line
+-- the numbers of a mark are written one behind the other, and an LF ends the line
 abbrev pub numbers_text : Numbers → List ℕ
 numbers_text n =
     number_text n.number ++ (number_text n.distance_mm ++ (number_text n.hired_mm
     ++ (number_text n.hirings ++ (number_text n.supplements ++ (number_text n.fare ++ 10 ∷ [])))))
 
--- the line of a mark
+-- a mark is written as this line
 abbrev pub mark_text : Signing → List ℕ
 mark_text mark = head_text mark.on mark.driver ++ numbers_text mark.numbers
 
--- a book: the lines of its marks
+-- marks are written as their lines, one behind the other
 abbrev pub book_text : List Signing → List ℕ
 book_text marks = flat_map mark_text marks
 
--- six texts, each behind a blank, and the end of the line
+-- six texts stand each behind a blank, and an LF ends the line
 abbrev pub six_fields : (one two three four five six : List ℕ) → List ℕ
 six_fields one two three four five six =
     codes " " ++ one ++ codes " " ++ two ++ codes " " ++ three ++ codes " " ++ four ++ codes " " ++ five
     ++ codes " " ++ six ++ codes "\n"
 
--- a line that says these numbers, each by its digits with no zero in front but a single one
+-- a text says six numbers, each by its digits without leading zeros
 pub record SaysNumbers (text : List ℕ) (numbers : Numbers) : Type 0 where
   pub one : List ℕ
   pub two : List ℕ
@@ -86,7 +86,7 @@ pub record SaysNumbers (text : List ℕ) (numbers : Numbers) : Type 0 where
   pub supplements : IsNumberText numbers.supplements five
   pub fare : IsNumberText numbers.fare six
 
--- the line of a mark: ON and a driver, or OFF, and behind it the six numbers
+-- a line is that of a mark: ON and a driver, or OFF, and behind it the six numbers
 pub record IsMarkLine (line : List ℕ) (mark : Signing) : Type 0 where
   pub numbers : List ℕ
   pub text_is : line ≡ head_text mark.on mark.driver ++ numbers

@@ -1,4 +1,4 @@
--- The report of a book: its lines, and what they share out.
+-- Rules: the report of a book, its lines, and what they share out.
 use Rattle.std.specs.Prelude.{◌≡◌, ℕ, ◌+◌, List, [], ◌∷◌, ◌++◌, codes, decimal}
 use Rattle.std.specs.List.{sum_by}
 use Rattle.std.specs.Map.{values_of}
@@ -6,47 +6,50 @@ use Rattle.taxi_units.specs.Number.{money_text}
 use Rattle.shift_book.specs.declared.numbers.Numbers.{Numbers}
 use Rattle.shift_book.specs.declared.shift.Shift.{Shift}
 use Rattle.shift_book.specs.Marks.{Signing, number_text}
-use Rattle.shift_book.specs.Shares.{Column, at, Driver, shifts_in, unsigned_in, growth_in, AreSums, AreOrdered, with_shifts}
+use Rattle.shift_book.specs.ShareStages.{with_shifts}
+use Rattle.shift_book.specs.Shares.{Column, at, Driver, shifts_in, unsigned_in, growth_in, AreSums, AreOrdered}
 
--- an amount behind a blank
+-- an amount in a line is written behind a blank
 abbrev pub amount_text : (decimals units : ℕ) → List ℕ
 amount_text decimals units = 32 ∷ money_text decimals units
 
--- hirings, distance and hired distance in metres with three decimals, fare and supplements, each behind a blank
+-- growth is written as hirings, the distance and the distance when hired in metres with three decimals, fares and
+-- supplements, each behind a blank, and an LF ends the line
 abbrev pub growth_text : (decimals : ℕ) → Numbers → List ℕ
 growth_text decimals n =
     number_text n.hirings ++ (amount_text 3 n.distance_mm ++ (amount_text 3 n.hired_mm
     ++ (amount_text decimals n.fare ++ (amount_text decimals n.supplements ++ 10 ∷ []))))
 
--- the line of the shift with a number, counted from 1
+-- a shift is written as a line of its number, its driver and its growth
 abbrev pub shift_line : (decimals number : ℕ) → Shift → List ℕ
 shift_line decimals number shift =
     (codes "SHIFT " ++ (decimal number ++ (32 ∷ shift.driver.items))) ++ growth_text decimals shift.growth
 
--- the lines of shifts, numbered in order
+-- shifts are written as a line each, with numbers that count up from `number`
 abbrev pub shift_lines : (decimals number : ℕ) → List Shift → List ℕ
 shift_lines decimals number [] = []
 shift_lines decimals number (shift ∷ shifts) =
     shift_line decimals number shift ++ shift_lines decimals (number + 1) shifts
 
--- the line of a driver's sum
+-- the sum of a driver is written as a line of the driver and the growth
 abbrev pub driver_line : (decimals : ℕ) → Driver × Numbers → List ℕ
 driver_line decimals sum = (codes "DRIVER " ++ sum.0.items) ++ growth_text decimals sum.1
 
--- the lines of the drivers' sums, in their order
+-- the sums of drivers are written as a line each, in their order
 abbrev pub driver_lines : (decimals : ℕ) → List (Driver × Numbers) → List ℕ
 driver_lines decimals [] = []
 driver_lines decimals (sum ∷ sums) = driver_line decimals sum ++ driver_lines decimals sums
 
--- the text of the report
+-- a book has this report, with the drivers' sums in the order of the drivers
 abbrev pub report_text : (decimals : ℕ) (now : Numbers) → List Signing → List ℕ
 report_text decimals now marks =
     shift_lines decimals 1 (shifts_in now marks) ++ (driver_lines decimals (with_shifts [] (shifts_in now marks))
     ++ ((codes "UNSIGNED" ++ growth_text decimals (unsigned_in now marks))
     ++ (codes "GROWTH" ++ growth_text decimals (growth_in now marks))))
 
--- the report: a line for each shift, one for each driver, the growth while nobody was on, and all growth; the shifts
--- and the growth while nobody was on add up to all growth, and so do the drivers and it
+-- a text is the report of a book: a line for each shift, one for each driver, one for the growth while nobody was on,
+-- and one for all growth; the shifts and the growth while nobody was on add up to all growth, and so do the drivers'
+-- sums and it
 pub record IsReport (decimals : ℕ) (now : Numbers) (marks : List Signing) (report : List ℕ) : Type 0 where
   pub sums : List (Driver × Numbers)
   pub text_is : report ≡ shift_lines decimals 1 (shifts_in now marks) ++ (driver_lines decimals sums

@@ -1,33 +1,20 @@
 //! Digits at the front of a text.
-ghost use Rattle.std.specs.Prelude.{◌≡◌, ◌≤◌, length};
+ghost use Rattle.std.specs.Prelude.{◌≡◌, length};
 ghost use Rattle.taxi_units.specs.Number.{digits_at_front};
 ghost use Rattle.taxi_units.specs.Reading.{Gives};
 ghost use Rattle.shift_book.specs.Reading as spec;
 
+use taxi_units::count_digits;
+
 /// The number below 2^128 that the digits at the front make, and what stands after them. No digits make
 /// 0: a reader compares with the number's own text.
-#[tactic(auto, unfolding(crate::specs::Reading::digits_at), using(crate::proofs::Figures::digits_in_front))]
+#[tactic(auto, unfolding(crate::specs::Reading::digits_at), using(taxi_units::proofs::Laws::digits_in_front))]
 pub(crate) fn digits_at(text: &[u8]) -> Option<(u128, &[u8])>
     ensures { Gives (λ x. (x.0, x.1.now)) result (spec.digits_at text.now) }
 {
     let (digits, rest) = text.split_at(count_digits(text));
     let value = value_of(digits)?;
     Some((value, rest))
-}
-
-/// How many digits stand at the front.
-fn count_digits(text: &[u8]) -> usize
-    ensures count { result ≡ digits_at_front text.now }
-    ensures within { result ≤ length text.now }
-{
-    let mut count = 0;
-    for byte in text {
-        if !byte.is_ascii_digit() {
-            return count;
-        }
-        count += 1;
-    }
-    count
 }
 
 /// The number that digits make, where it is below 2^128.

@@ -81,7 +81,7 @@ fn driver_at(text: &[u8]) -> Option<(ArrayVec<u8, 16>, &[u8])>
 pub(crate) fn is_driver_character(byte: u8) -> bool
     ensures { result ≡ is_driver_character byte }
 {
-    (65 <= byte && byte <= 90) || ((48 <= byte && byte <= 57) || byte == 45)
+    (b'A' <= byte && byte <= b'Z') || ((b'0' <= byte && byte <= b'9') || byte == b'-')
 }
 
 /// How many characters of drivers stand at the front.

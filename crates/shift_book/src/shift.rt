@@ -1,7 +1,8 @@
 //! Shifts, and the growth between the points of a book.
 ghost use Rattle.std.specs.Prelude.{◌≡◌, ◌++◌, IfOk, OnOk};
 ghost use Rattle.shift_book.specs.Following.{Fit, IsNowhereLess};
-ghost use Rattle.shift_book.specs.Shares.{Rise, begun_by, free_behind, growth_in, grown, next_point};
+ghost use Rattle.shift_book.specs.ShareStages.{Rise};
+ghost use Rattle.shift_book.specs.Shares.{begun_by, free_behind, growth_in, grown, next_point};
 ghost use Rattle.shift_book.specs.Shares.{nothing, plus, shifts_in, unsigned_in};
 
 use crate::mark::Mark;

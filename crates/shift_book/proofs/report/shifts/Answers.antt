@@ -4,7 +4,7 @@ use Rattle.shift_book.specs.declared.numbers.Numbers.{Numbers}
 use Rattle.shift_book.specs.declared.shift.Shift.{Shift}
 use Rattle.shift_book.specs.Following.{Fit, numbers_in}
 use Rattle.shift_book.specs.Report.{IsReport, report_text, shift_lines}
-use Rattle.shift_book.specs.Shares.{Rise, total_of, with_shifts}
+use Rattle.shift_book.specs.ShareStages.{Rise, total_of, with_shifts}
 use Rattle.shift_book.proofs.Assembling.{text_is}
 use Rattle.shift_book.proofs.Fewer.{short_together}
 use Rattle.shift_book.proofs.Reported.{reports_share_the_growth}

@@ -1,5 +1,5 @@
 use Rattle.std.proofs.Common.{◌≡◌, [], length}
-use Rattle.shift_book.specs.Shares.{with_shifts}
+use Rattle.shift_book.specs.ShareStages.{with_shifts}
 use Rattle.shift_book.proofs.Sharing.{SoFar}
 use Rattle.shift_book.proofs.sums.sums_of.Given as goal
 

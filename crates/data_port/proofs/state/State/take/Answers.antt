@@ -1,5 +1,5 @@
 use Rattle.std.proofs.Common.{◌≡◌, ◌<◌, ℕ, List, true, false, length, ap, sym, ◌∙◌, arith}
-use Rattle.data_port.specs.Reading.{follows, has_all}
+use Rattle.data_port.specs.ReadingStages.{follows, has_all}
 use Rattle.data_port.specs.State.{standing_of}
 use Rattle.data_port.proofs.Streams.{room_for}
 use Rattle.data_port.proofs.state.State.take.Goals as goal

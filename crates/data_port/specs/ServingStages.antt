@@ -1,0 +1,21 @@
+-- For proofs: a piece of a stream that is served. Serves, in Serving, says what the whole stream comes to.
+use Rattle.std.specs.Prelude.{◌≡◌, ℕ, List, ◌++◌, Some, false, Result, Ok, Err}
+use Rattle.outside.specs.Printing.{Begins}
+use Rattle.seal_store.specs.declared.seal.Seal.{Seal}
+use Rattle.totaliser_store.specs.declared.durable.Durable.{Durable}
+use Rattle.data_port.specs.declared.serving.PortFault.{PortFault}
+use Rattle.data_port.specs.declared.serving.PortFault.TheVariants.{ReadFault, BoardFault, Frame, TooLong}
+use Rattle.data_port.specs.ReadingStages.{after_bytes, bad_of, ended_in}
+use Rattle.data_port.specs.Serving.{replies}
+use Rattle.data_port.specs.Standing.{Standing}
+
+module _ (told : Type 0) (durable : Durable) (seal : Seal) (old new : Standing) (piece before now : List ℕ) where
+  -- a piece was served: all of it, or up to a bad place, or a beginning of its replies was printed and the board failed
+  abbrev pub ServesPiece : {T : Type 0} → Result T PortFault → Type 0
+  ServesPiece (Ok done) = (new ≡ after_bytes old piece) × (new.failed ≡ false)
+      × (told → now ≡ before ++ replies durable seal (ended_in old piece))
+  ServesPiece (Err (Frame place)) = (bad_of (after_bytes old piece) ≡ Some place)
+      × (told → now ≡ before ++ replies durable seal (ended_in old piece))
+  ServesPiece (Err TooLong) = ⊥
+  ServesPiece (Err ReadFault) = ⊥
+  ServesPiece (Err BoardFault) = told → Begins before now (replies durable seal (ended_in old piece))
