@@ -36,7 +36,7 @@ intervals_more p zero = append-nil (interval_events p)
 intervals_more p (suc n) =
     rw add-one (ap (λ (es : List Event). interval_events p ++ es) (rw add-one at (intervals_more p n)) ∙ sym (append_assoc (interval_events p) (intervals_events p n) (interval_events p)))
 
--- so many and then so many more
+-- the events of a + b intervals are those of a intervals and then those of b
 pub intervals_joined : (p a b : ℕ) → intervals_events p (a + b) ≡ intervals_events p a ++ intervals_events p b
 intervals_joined p zero b = ap (intervals_events p) (omega arith)
 intervals_joined p (suc a) b =

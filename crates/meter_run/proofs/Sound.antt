@@ -24,7 +24,7 @@ use Rattle.meter_run.specs.Commits.{after_acts, commits_in}
 use Rattle.meter_run.specs.Kept.{IsKept, IsKeptIn}
 use Rattle.meter_run.proofs.Committing.{after_append, commits_append}
 
--- what an outcome leaves is kept, it commits so often at most, and its durable state is that after its acts
+-- what an outcome leaves is kept, it commits at most that number of times, and its durable state is that after its acts
 pub record Leaves (s : Setting) (d : Durable) (most : ℕ) (o : Outcome) : Type 0 where
   pub kept : IsKept s o.next
   pub few : commits_in o.acts ≤ most

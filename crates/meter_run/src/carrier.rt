@@ -46,7 +46,7 @@ pub(crate) trait Carrier<B: Board<L>, L: Ledger> {
         ensures cause { HasCause (B.faults board.old) (B.faults board.new) result }
         ensures steps { steps.new ≤ steps.old + 64 };
 
-    /// Carries out as many of so many equal intervals as the core can at once, and answers how many. The
+    /// Carries out as many of `count` equal intervals as the core can at once, and answers how many. The
     /// board isn't touched, and no step is taken.
     fn carry_equal(
         &mut self,

@@ -41,7 +41,7 @@ fn carry_interval<C: Carrier<B, L>, B: Board<L>, L: Ledger>(
     meter.carry_out(tables, seal, Event::Tick, acts, board, steps)
 }
 
-/// Carries out so many measuring intervals: one, and then as many as go at once, again and again.
+/// Carries out a row of equal measuring intervals: one, and then as many as go at once, again and again.
 fn carry_intervals<C: Carrier<B, L>, B: Board<L>, L: Ledger>(
     meter: &mut C,
     tables: &Tables,

@@ -11,7 +11,7 @@ use drive_text::{Reader, Run};
 use outside::Files;
 use std::marker::Model;
 
-/// At most so many bytes of a drive are taken: 2^40.
+/// At most 2^40 bytes of a drive are taken.
 const LIMIT: u64 = 1 << 40;
 
 /// Why no more of a drive is read.

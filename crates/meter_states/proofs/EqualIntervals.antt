@@ -248,7 +248,7 @@ charge-by-weights s tables seal y p w is by =
     ∙ ap (λ (k : ℕ). charge_of s.mode (rate_by s.tariff k y) p) is.tariff.constant
     ∙ charge-at s.mode s.tariff s.constant y p is.tariff.compiled.writable is.tariff.compiled.sound
 
--- the context of an interval after so many further ones is near that of the first
+-- the context of an interval after i further ones is near that of the first
 pub near-later : (s : Setting) (m : Meter) (t : store.Trip) (p i further longer : ℕ) → Some t ≡ option_map (saved_of s) m.trip → i * p ≤ further → i ≤ longer
     → IsNear further longer (context_of s m) (record (context_of s m) { pulses = t.pulses + i * p; ticks = t.ticks + i })
 near-later s m t p i further longer has far long =

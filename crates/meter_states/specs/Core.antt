@@ -60,7 +60,7 @@ pub record Meets (s : Setting) (core : Plain) (acts : List Act) (o : Outcome) : 
 abbrev pub forgotten : Trip → Trip
 forgotten trip = record trip { saved = 0; stopped = false; position = 1; zone = 1 }
 
--- a held trip is the saved form of a trip where both are none, or it is so but for what has a meaning in the store
--- alone
+-- a held trip is the saved form of a trip where both are none, or where they are equal but for what has a meaning in
+-- the store alone
 abbrev pub IsSavedIn : Setting → (hold : Option Trip) → Option model.Trip → Type 0
 IsSavedIn s hold trip = option_map forgotten hold ≡ option_map (saved_of s) trip

@@ -43,7 +43,7 @@ const CITY_TRIP: [(u32, &[Event]); 7] = [
     (1, &[CLEAR, Event::Tick]),
 ];
 
-/// The acts of the last event of these, each list of them so many times, on a meter that is off.
+/// The acts of the last event of these, each list of them as often as its number says, on a meter that is off.
 fn last_acts<L: Ledger>(
     blank: Blank,
     rt: &impl Abort,

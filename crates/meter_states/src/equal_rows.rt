@@ -22,7 +22,7 @@ rate 0.10 per 100.0 m, 0.10 per 20.0 s when after 60.0 s
 rate 0.20 per 117.4 m, 0.20 per 25.2 s
 ";
 
-/// Events, and then so many intervals of so many pulses.
+/// Events, and then intervals: the pulses of each, and how many there are.
 pub const ROWS: [(&[Event], u32, u32); 9] = [
     (&[UP], 2000, 600),
     (&[HIRE], 20, 300),

@@ -9,7 +9,7 @@ use drive_modes::Rounding;
 use tariff_compile::Tables;
 use totaliser_store::Trip;
 
-/// What an interval of so many pulses adds to the roaming pulses, where the store has a number.
+/// What an interval of `pulses` pulses adds to the roaming pulses, where the store has a number.
 pub(crate) fn roams(number: u64, pulses: u32) -> u32
     ensures value { result ≡ model.roams number pulses }
     ensures most { result ≤ pulses }
@@ -17,7 +17,7 @@ pub(crate) fn roams(number: u64, pulses: u32) -> u32
     if number < HIRINGS_END { pulses } else { 0 }
 }
 
-/// As many of `count` as fit in a room, where each takes so much of it.
+/// As many of `count` as fit in `room`, where each takes `each` of it.
 pub(crate) fn most_times(count: u32, room: u128, each: u128) -> u32
     ensures most { result ≤ count }
     ensures room { result * each ≤ room }
@@ -50,7 +50,7 @@ pub(crate) fn spare(trip: &Trip, tables: &Tables) -> u128
     }
 }
 
-/// The trip has so many intervals more that ended in Stopped.
+/// The trip has `count` intervals more that ended in Stopped.
 pub(crate) fn add_passed(trip: &mut Trip, tables: &Tables, pulses: u32, count: u32)
     requires pulses { pulses ≤ 2000 }
     requires few { trip.old.pulses ≤ 5000000000000000000 }
@@ -63,7 +63,7 @@ pub(crate) fn add_passed(trip: &mut Trip, tables: &Tables, pulses: u32, count: u
     trip.ticks += count;
 }
 
-/// The trip has so many intervals more that ended in Hired, whose charges fill no display step.
+/// The trip has `count` intervals more that ended in Hired, whose charges fill no display step.
 pub(crate) fn add_charged(trip: &mut Trip, tables: &Tables, pulses: u32, charge: u128, count: u32)
     requires pulses { pulses ≤ 2000 }
     requires few { trip.old.pulses ≤ 5000000000000000000 }

@@ -93,7 +93,7 @@ impl State {
             && is_shown(&self.shown, &display)
     }
 
-    /// As many of so many equal intervals for hire as enter no roaming.
+    /// As many of `count` equal intervals for hire as enter no roaming.
     fn roam_equal(&mut self, tables: &Tables, seal: &Seal, pulses: u32, count: u32) -> u32
         requires lawful { IsBetweenEvents tables.now self.old }
         requires hire { self.old.operating ≡ ForHire }
@@ -112,7 +112,7 @@ impl State {
         n
     }
 
-    /// As many of so many equal intervals in Stopped as don't end the trip.
+    /// As many of `count` equal intervals in Stopped as don't end the trip.
     fn pass_equal(&mut self, tables: &Tables, seal: &Seal, pulses: u32, count: u32) -> u32
         requires lawful { IsBetweenEvents tables.now self.old }
         requires stopped { self.old.operating ≡ Stopped }
@@ -133,7 +133,7 @@ impl State {
         n
     }
 
-    /// As many of so many equal intervals in Hired as go by the kept weights, fill no display step and don't
+    /// As many of `count` equal intervals in Hired as go by the kept weights, fill no display step and don't
     /// end the trip.
     fn charge_equal(
         &mut self,

@@ -35,7 +35,7 @@ pub(crate) struct RateFacts {
     pub(crate) lasting: Lasting,
 }
 
-/// What was looked up last: it is so whatever the meter does, and serves at the second and in the
+/// What was looked up last: it stays true whatever the meter does, and serves at the second and in the
 /// contexts that it names.
 #[derive(Debug, Drop)]
 pub(crate) struct Facts {

@@ -43,7 +43,7 @@ fn extras_fit<L: Ledger>(trip: &Trip, tables: &Tables, steps: &mut Steps<L>) -> 
     left == 0
 }
 
-/// What is left of an amount after a supplement that was added so often. `None` where that is more often
+/// What is left of an amount after a supplement that was added `count` times. `None` where that is more often
 /// than the tariff allows, or costs more. One step.
 fn amount_left<L: Ledger>(
     tables: &Tables,
