@@ -9,8 +9,8 @@ use Rattle.drive_text.specs.Written.{event_text}
 use Rattle.drive_text.specs.declared.run.Run.{Run}
 use Rattle.drive_text.specs.declared.run.Run.TheVariants.{One, Many}
 use Rattle.taxi_units.specs.declared.event.Event.{Event}
-use Rattle.verify_bench.specs.Adding.{Adds, place_of}
-use Rattle.verify_bench.specs.Generated.{Place, Written, and_then, drawn, in_turn, intervals, line, line_text, lines_events, lines_text, next_state, nothing}
+use Rattle.verify_bench.specs.Adding.{Adds, place_of, lines_events}
+use Rattle.verify_bench.specs.Generated.{Place, Written, and_then, drawn, in_turn, intervals, line, line_text, lines_text, next_state, nothing}
 use Rattle.verify_bench.specs.declared.writing.Writing.{Writing}
 use Rattle.verify_bench.proofs.Lines.{event_line, events_are_short, intervals_are_short, intervals_line}
 
@@ -21,10 +21,9 @@ lines_text-append first others = flat_map-append line_text first others
 pub lines_events-append : (first others : List Run) → lines_events (first ++ others) ≡ lines_events first + lines_events others
 lines_events-append first others = ap length (flat_map-append run_events first others) ∙ length-append (flat_map run_events first) (flat_map run_events others)
 
--- nothing was written yet
-pub adds_none : (writing : Writing) → Adds writing writing 0 0 0 (in_turn [] (place_of writing))
-unfolding in_turn
-adds_none writing = record {
+-- nothing was written
+pub adds_nothing : (writing : Writing) → Adds writing writing 0 0 0 (nothing (place_of writing))
+adds_nothing writing = record {
   place = refl;
   text = sym (append-nil writing.text.items);
   counted = omega arith;
@@ -32,6 +31,11 @@ adds_none writing = record {
   few_tenths = omega arith;
   few_events = omega arith;
 }
+
+-- no part was written yet
+pub adds_none : (writing : Writing) → Adds writing writing 0 0 0 (in_turn [] (place_of writing))
+unfolding in_turn
+adds_none writing = adds_nothing writing
 
 -- what is written behind a part
 pub adds_then : (old mid new : Writing) (b t e b' t' e' : ℕ) (first : Written) (more : Place → Written) → Adds old mid b t e first → Adds mid new b' t' e' (more (place_of mid))
@@ -111,17 +115,6 @@ adds_drawn old mid new b t e part same one =
     let tenths : mid.tenths ≡ old.tenths = rw same refl in
     let moved = adds_moved old mid new 0 b t e (part (place_of mid)) (rw same refl) (rw same refl) (omega arith) one in
     rw (drawn_place old mid same) at (adds_within old new b (0 + t) e b t e (part (place_of mid)) (omega arith) (omega arith) (omega arith) moved)
-
--- nothing was written
-pub adds_nothing : (writing : Writing) → Adds writing writing 0 0 0 (nothing (place_of writing))
-adds_nothing writing = record {
-  place = refl;
-  text = sym (append-nil writing.text.items);
-  counted = omega arith;
-  few_bytes = omega arith;
-  few_tenths = omega arith;
-  few_events = omega arith;
-}
 
 -- one element more of the same
 pub replicate-snoc : {A : Type 0} (count : ℕ) (element : A) → replicate (count + 1) element ≡ replicate count element ++ element ∷ []

@@ -19,6 +19,7 @@ use Rattle.tariff_syntax.specs.declared.context.Context.{Context}
 use Rattle.verify_bench.proofs.Permitted.{not_at_most}
 use Rattle.meter_states.specs.Keys.{key_in}
 use Rattle.taxi_units.specs.declared.event.Operating.{Operating}
+use Rattle.taxi_units.specs.declared.receipt.Display.{Display}
 use Rattle.verify_bench.specs.Bench.{AreTrips, HasTicks, IsSound, IsSoundHiring, Moves, Stands}
 use Rattle.verify_bench.specs.Expecting.{hirings_in}
 use Rattle.verify_bench.specs.Hirings.{IsTrip, IsWhole, part_of, part_pulses, part_ticks}
@@ -148,22 +149,28 @@ no_receipt : (ticks : ℕ) (b : Bool) (display : _) → hirings_in ticks (if b t
 no_receipt ticks true display = refl
 no_receipt ticks false display = refl
 
+-- a meter stands for a state in which the latch and the beginning of the interval are others, as its own are, and in
+-- which something else is shown
+stands_anew : (s : Setting) (meter : PlainMeter) (m : Meter) (began began' : ℕ) (latch latch' : Option Key) (display : Option Display) → began ≡ began' → latch ≡ latch' → Stands s meter m
+    → Stands s (record meter { began = began; latch = latch }) (record m { began = began'; latch = latch'; shown = display })
+stands_anew s meter m began began' latch latch' display begins waits stands = record {
+  operating = stands.operating;
+  clock = stands.clock;
+  began = begins;
+  taken = stands.taken;
+  latch = waits;
+  position = stands.position;
+  zone = stands.zone;
+  roam = stands.roam;
+  number = stands.number;
+  held = stands.held;
+  trips = stands.trips;
+}
+
 -- the display is no matter of receipts
 pub moves_shown : (s : Setting) (ticks : ℕ) (found : List Expected) (meter : PlainMeter) (m : Meter) → Stands s meter m → Moves s ticks found found meter (shown s m)
 moves_shown s ticks found meter m stands = record {
-  state = record {
-    operating = stands.operating;
-    clock = stands.clock;
-    began = stands.began;
-    taken = stands.taken;
-    latch = stands.latch;
-    position = stands.position;
-    zone = stands.zone;
-    roam = stands.roam;
-    number = stands.number;
-    held = stands.held;
-    trips = stands.trips;
-  };
+  state = stands_anew s meter m meter.began m.began meter.latch m.latch (Some (display_of s m)) stands.began stands.latch stands;
   found = rw (no_receipt ticks (is_shown m.shown (display_of s m)) (display_of s m)) (sym (append-nil found));
 }
 
@@ -172,60 +179,24 @@ pub hires_yet : (s : Setting) (meter : PlainMeter) (m : Meter) → Stands s mete
 hires_yet s meter m stands few = not_at_most 1000000000000000 m.durable.number (omega (arith, stands.number))
 
 -- a key that waits as the trip expires leaves the latch
-no_latch : (s : Setting) (ticks : ℕ) (found : List Expected) (meter new : PlainMeter) (m : Meter) (latch : Option Key) → m.latch ≡ latch → new ≡ record meter { latch = None } → Stands s meter m
-    → Moves s ticks found found new (latch_refused latch m)
-no_latch s ticks found meter new m None none same stands = record {
-  state = rw same (record {
-    operating = stands.operating;
-    clock = stands.clock;
-    began = stands.began;
-    taken = stands.taken;
-    latch = sym none;
-    position = stands.position;
-    zone = stands.zone;
-    roam = stands.roam;
-    number = stands.number;
-    held = stands.held;
-    trips = stands.trips;
-  });
+no_latch : (s : Setting) (ticks : ℕ) (found : List Expected) (meter : PlainMeter) (m : Meter) (latch : Option Key) → m.latch ≡ latch → Stands s meter m
+    → Moves s ticks found found (record meter { latch = None }) (latch_refused latch m)
+no_latch s ticks found meter m None none stands = record {
+  state = stands_anew s meter m meter.began m.began None m.latch m.shown stands.began (sym none) stands;
   found = sym (append-nil found);
 }
-no_latch s ticks found meter new m (Some key) some same stands = record {
-  state = rw same (record {
-    operating = stands.operating;
-    clock = stands.clock;
-    began = stands.began;
-    taken = stands.taken;
-    latch = refl;
-    position = stands.position;
-    zone = stands.zone;
-    roam = stands.roam;
-    number = stands.number;
-    held = stands.held;
-    trips = stands.trips;
-  });
+no_latch s ticks found meter m (Some key) some stands = record {
+  state = stands_anew s meter m meter.began m.began None None m.shown stands.began refl stands;
   found = sym (append-nil found);
 }
 
 pub moves_unlatched : (s : Setting) (ticks : ℕ) (found : List Expected) (meter : PlainMeter) (m : Meter) → Stands s meter m → Moves s ticks found found (record meter { latch = None }) (latch_refused m.latch m)
-moves_unlatched s ticks found meter m stands = no_latch s ticks found meter (record meter { latch = None }) m m.latch refl refl stands
+moves_unlatched s ticks found meter m stands = no_latch s ticks found meter m m.latch refl stands
 
 -- the next interval begins
 pub moves_begun : (s : Setting) (ticks : ℕ) (found : List Expected) (meter : PlainMeter) (m : Meter) → Stands s meter m → Moves s ticks found found (record meter { began = meter.clock }) (interval_begun m)
 moves_begun s ticks found meter m stands = record {
-  state = record {
-    operating = stands.operating;
-    clock = stands.clock;
-    began = stands.clock;
-    taken = stands.taken;
-    latch = stands.latch;
-    position = stands.position;
-    zone = stands.zone;
-    roam = stands.roam;
-    number = stands.number;
-    held = stands.held;
-    trips = stands.trips;
-  };
+  state = stands_anew s meter m meter.clock m.clock meter.latch m.latch m.shown stands.clock stands.latch stands;
   found = sym (append-nil found);
 }
 

@@ -4,20 +4,18 @@ use Rattle.std.proofs.lemmas.List.{append-nil}
 use Rattle.std.proofs.Math.Seq.{drop-cons}
 use Rattle.drive_text.specs.Runs.{interval_events, intervals_events, run_events}
 use Rattle.drive_text.specs.declared.run.Run.{Run}
-use Rattle.meter_states.specs.Meter.{Meter}
 use Rattle.meter_states.specs.Run.{ended}
-use Rattle.meter_states.specs.Interval.{ticks_so_far}
 use Rattle.meter_states.specs.Setting.{Setting}
 use Rattle.meter_states.specs.Step.{step}
 use Rattle.taxi_units.specs.declared.event.Event.{Event}
-use Rattle.verify_bench.specs.Bench.{Moves, Stands}
+use Rattle.verify_bench.specs.Bench.{GoesThrough, GoesThroughEvent}
 use Rattle.verify_bench.specs.Carrying.{Carries, IsAmid}
 use Rattle.verify_bench.specs.Expecting.{hirings_from, hirings_in, ticks_at}
 use Rattle.verify_bench.specs.declared.expected.Expected.{Expected}
 use Rattle.verify_bench.specs.declared.plain_meter.PlainMeter.{PlainMeter}
 
 -- an event
-pub carries_event : (s : Setting) (event : Event) (old new : PlainMeter) (a b : List Expected) → ((m : Meter) → Stands s old m → Moves s (ticks_at s event m) a b new (step s event m)) → Carries s (event ∷ []) old new a b
+pub carries_event : (s : Setting) (event : Event) (old new : PlainMeter) (a b : List Expected) → GoesThroughEvent s event (λ s. step s event) old new a b → Carries s (event ∷ []) old new a b
 unfolding hirings_from
 carries_event s event old new a b moves all left amid =
     let moved = moves amid.m amid.stands in
@@ -47,7 +45,7 @@ intervals_more pulses (suc count) =
     ∙ sym (ap (intervals_events pulses) (add-one (suc count))))
 
 -- the end of the drive
-pub carried_to_the_end : (s : Setting) (all : List Expected) (old new : PlainMeter) (a b : List Expected) → ((m : Meter) → Stands s old m → Moves s (ticks_so_far m.trip) a b new (ended s m)) → IsAmid s all [] old a → b ≡ all
+pub carried_to_the_end : (s : Setting) (all : List Expected) (old new : PlainMeter) (a b : List Expected) → GoesThrough s ended old new a b → IsAmid s all [] old a → b ≡ all
 unfolding hirings_from
 carried_to_the_end s all old new a b moves amid = (moves amid.m amid.stands).found ∙ amid.split
 

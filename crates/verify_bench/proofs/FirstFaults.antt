@@ -5,7 +5,8 @@ use Rattle.std.specs.Int.{abs_diff}
 use Rattle.std.specs.Prelude.{nat_le}
 use Rattle.std.proofs.lemmas.Bool.{false≢true, le-leb, leb-true}
 use Rattle.std.proofs.lemmas.Bool.Decides.{Decides-or}
-use Rattle.verify_bench.specs.Verdicts.{IsVerdict, IsWithin, is_within, verdict_by, verdict_of}
+use Rattle.verify_bench.specs.Verdicts.{IsVerdict, IsWithin, verdict_of}
+use Rattle.verify_bench.specs.VerdictStages.{is_within, verdict_by}
 use Rattle.verify_bench.specs.declared.expected.Expected.{Expected}
 use Rattle.verify_bench.specs.declared.judging.Verdict.{Verdict}
 use Rattle.verify_bench.specs.declared.judging.Verdict.TheVariants as verdicts

@@ -1,22 +1,44 @@
+-- what parts of a generated drive add to a writing, one behind the other
 mod Adds
+-- the supply of the bench's meter: what it finds held, and what it leaves
 mod BenchSupply
+-- the meter of the bench stands for the next state behind each stage of an event
 mod Benches
+-- a fare of more steps than can be shown is the fare of the most steps
 mod Capped
+-- events that the bench carries out, one behind the other
 mod Carried
+-- the cross-over lines of a list of lines of a tariff, line by line
 mod CrossOverLines
+-- the rows of a text by the relation of csv are those by its function
 mod CsvRows
+-- readings pass exactly where each row of the report does
 mod EachPasses
+-- the fields of a row of csv, where it has three
 mod Fields
+-- a verdict is the first fault, and one only
 mod FirstFaults
+-- a generated drive is good, means its lines, and is short
 mod GeneratedLaws
+-- the laws that the crates above may cite
 pub mod Laws
+-- the lines of a generated drive: their lengths, their events, and their texts
 mod Lines
+-- the lines of a generated drive are read as they are meant
 mod LinesRead
+-- a text of readings has one answer, which is that of the function
 mod OneReading
+-- permissible errors, found by division
 mod Permitted
+-- the numbers of a generated drive are those that a line of a drive may have, and its bytes are few
 mod Ranged
+-- the expected list has a hiring for each receipt of the meter's actions
 mod ReceiptList
+-- the rows of a report, one behind the other
 mod ReportRows
+-- rows of readings, taken one by one
 mod Rows
+-- the parts of a sound tariff that hold in a context are sound
 mod TreeParts
+-- the trips of a generated drive, one behind the other
 mod Trips

@@ -12,7 +12,8 @@ use Rattle.taxi_units.specs.declared.event.Event.TheVariants.{Up, Down, Pulses, 
 use Rattle.taxi_units.specs.declared.event.Event.TheVariants as events
 use Rattle.taxi_units.specs.declared.event.Key.TheVariants.{Hire, Stop, Clear, Position, Zone, Extra}
 use Rattle.taxi_units.proofs.Laws as units
-use Rattle.verify_bench.specs.Generated.{line_text, lines_text, lines_events}
+use Rattle.verify_bench.specs.Generated.{line_text, lines_text}
+use Rattle.verify_bench.specs.Adding.{lines_events}
 
 -- a number below a power of ten, and one byte behind it
 number_line : (places value : ℕ) (byte : ℕ) → 0 < places → places ≤ 64 → value < 10 ^ places → length (decimal value ++ byte ∷ []) ≤ places + 1
@@ -52,7 +53,7 @@ intervals_are_short pulses count slow few =
     let second = number_line 4 count 10 (omega arith) (omega arith) (omega arith) in
     omega (arith, length-append (decimal pulses) (32 ∷ (decimal count ++ 10 ∷ [])), first.1, second)
 
--- intervals have so many events each
+-- how many events intervals have
 events_of_each : (pulses count : ℕ) → length (intervals_events pulses count) ≡ count * length (interval_events pulses)
 events_of_each pulses zero = omega arith
 events_of_each pulses (suc count) =

@@ -8,7 +8,8 @@ use Rattle.std.proofs.lemmas.List.{append-nil}
 use Rattle.std.proofs.lemmas.Slice.Eq.{slice_eq-Decides}
 use Rattle.std.specs.Bool.{Decides}
 use Rattle.csv.specs.Reading.{default_config, records, strip_bom}
-use Rattle.verify_bench.specs.Readings.{AreFirstRows, AreGood, AreRows, IsBadBehind, IsFirstBad, IsReadAs, Row, SayAll, Says, bad, empty, header, reading_before, reading_said, readings_from, readings_in, readings_limit, rows_said}
+use Rattle.verify_bench.specs.Readings.{AreFirstRows, AreGood, AreRows, IsBadBehind, IsFirstBad, IsReadAs, Row, SayAll, Says, bad, empty, header, readings_in, readings_limit}
+use Rattle.verify_bench.specs.ReadingStages.{reading_before, reading_said, readings_from, rows_said}
 use Rattle.verify_bench.specs.declared.reading.Reading.{Reading}
 use Rattle.verify_bench.specs.declared.reading.ReadingsFault.{ReadingsFault}
 use Rattle.verify_bench.specs.declared.reading.ReadingsFault.TheVariants.{TooLong, BadRow, NoMemory}

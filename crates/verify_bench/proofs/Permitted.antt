@@ -5,9 +5,9 @@ use Rattle.std.specs.Int.{abs_diff}
 use Rattle.std.proofs.Math.Nat.{le-div_iff_mul-le}
 use Rattle.std.proofs.lemmas.Bool.{le-leb}
 use Rattle.std.proofs.lemmas.Bool.Decides.{leb_tells}
-use Rattle.verify_bench.specs.Verdicts.{is_within}
+use Rattle.verify_bench.specs.VerdictStages.{is_within}
 
--- an error is at most the whole part of one part in so many where so many times the error are at most the whole
+-- an error is at most a whole divided by a number, rounded down, where the number times the error is at most the whole
 pub parts_are_divided : (parts error expected : ℕ) → 0 < parts → nat_le error (expected / parts) ≡ nat_le (parts * error) expected
 parts_are_divided parts error expected some =
     let both = le-div_iff_mul-le {k = parts} {x = error} {y = expected} some in

@@ -15,7 +15,7 @@ use Rattle.verify_bench.specs.Generated.{Place, Written, away, beginning, came_b
 use Rattle.verify_bench.proofs.Adds.{lines_text-append}
 use Rattle.verify_bench.proofs.Lines.{events_are_short, intervals_are_short, intervals_line}
 
--- the lines are in range, and they take no more than so many tenths of a second and bytes
+-- the lines are in range, and they take no more than the given tenths of a second and bytes
 record IsRanged (start : ℕ) (written : Written) (tenths bytes : ℕ) : Type 0 where
   range : All IsRunInRange written.lines
   time : written.next.tenths ≤ start + tenths
@@ -57,7 +57,7 @@ no_parts place small = none_ranged place
 one_part : (part : Place → Written) (t b : ℕ) → IsPart part t b → IsPart (in_turn (part ∷ [])) (t + 0) (b + 0)
 one_part part t b one = both_ranged part [] t b 0 0 one no_parts
 
--- so many equal parts
+-- a number of equal parts
 all_ranged : (part : Place → Written) (t b count : ℕ) → IsPart part t b → IsPart (in_turn (replicate count part)) (count * t) (count * b)
 all_ranged part t b zero one place small = within place.tenths _ 0 0 _ _ (omega arith) (omega arith) (no_parts place (omega arith))
 all_ranged part t b (suc count) one place small =

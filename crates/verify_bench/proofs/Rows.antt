@@ -4,7 +4,9 @@ use Rattle.std.specs.Result.{result_ok}
 use Rattle.taxi_units.specs.Number.{decimal_read}
 use Rattle.taxi_units.specs.Reading.{◌>>=◌}
 use Rattle.taxi_units.specs.declared.decimal.NumberFault.{NumberFault}
-use Rattle.verify_bench.specs.Readings.{Row, header, Says, SayAll, AreGood, AreFirstRows, IsBadBehind, bad, IsRowFault, IsReadAs, readings_limit, reading_said}
+use Rattle.verify_bench.specs.Readings.{Row, header, Says, SayAll, AreGood, AreFirstRows, IsBadBehind, bad, IsReadAs, readings_limit}
+use Rattle.verify_bench.specs.RowsTaken.{IsRowFault}
+use Rattle.verify_bench.specs.ReadingStages.{reading_said}
 use Rattle.verify_bench.specs.declared.reading.ReadingsFault.{ReadingsFault}
 use Rattle.verify_bench.specs.declared.reading.ReadingsFault.TheVariants.{TooLong, BadRow, NoMemory}
 use Rattle.verify_bench.specs.declared.reading.Reading.{Reading}

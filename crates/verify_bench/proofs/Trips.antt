@@ -3,13 +3,13 @@ use Rattle.std.proofs.Common.{◌≡◌, ℕ, zero, suc, ◌+◌, ◌-◌, ◌<�
 use Rattle.std.proofs.Math.Seq.{drop-length}
 use Rattle.arrayvec.specs.ArrayVec.{array_vec_len}
 use Rattle.drive_text.specs.Written.{event_fields}
-use Rattle.verify_bench.specs.Adding.{place_of}
-use Rattle.verify_bench.specs.Generated.{Place, and_then, beginning, generated_lines, in_turn, line_text, lines_events, lines_text, trip, trips_from}
+use Rattle.verify_bench.specs.Adding.{place_of, lines_events}
+use Rattle.verify_bench.specs.Generated.{Place, and_then, beginning, generated_lines, in_turn, line_text, lines_text, trip, trips_from}
 use Rattle.verify_bench.specs.Left.{bytes_left}
 use Rattle.verify_bench.specs.declared.remaining.Remaining.{Remaining}
 use Rattle.verify_bench.proofs.Adds.{lines_events-append, lines_text-append}
 
--- the first of so many trips, and the others
+-- the first of some trips, and the others
 pub trips_split : (count : ℕ) (place : Place) → 0 < count → trips_from count place ≡ and_then (trip place) (trips_from (count - 1))
 unfolding in_turn
 trips_split zero place some = absurd (omega arith)

@@ -1,14 +1,21 @@
--- What the writing of lines adds to a text.
-use Rattle.std.specs.Prelude.{◌≡◌, ℕ, ◌+◌, ◌≤◌, ◌++◌}
+-- For proofs: what the writing of lines adds to a text. Generated says which lines are written.
+use Rattle.std.specs.Prelude.{◌≡◌, ℕ, ◌+◌, ◌≤◌, ◌++◌, List, length, flat_map}
 use Rattle.arrayvec.specs.ArrayVec.{array_vec_len}
-use Rattle.verify_bench.specs.Generated.{Place, Written, lines_events, lines_text}
+use Rattle.drive_text.specs.Runs.{run_events}
+use Rattle.drive_text.specs.declared.run.Run.{Run}
+use Rattle.verify_bench.specs.Generated.{Place, Written, lines_text}
 use Rattle.verify_bench.specs.declared.writing.Writing.{Writing}
 
--- where a writing stands
+-- lines have as many events as their runs together
+abbrev pub lines_events : List Run → ℕ
+lines_events lines = length (flat_map run_events lines)
+
+-- a writing stands at the state of its draws and at its time
 abbrev pub place_of : Writing → Place
 place_of writing = record { state = writing.state; tenths = writing.tenths }
 
--- the lines were written, and no more than so many bytes, tenths of a second and events
+-- a writing adds lines where it then stands behind them, and its text and its events have grown by those of the lines,
+-- by no more than the given bytes and events, in no more than the given tenths of a second
 pub record Adds (old new : Writing) (bytes tenths events : ℕ) (written : Written) : Type 0 where
   pub place : place_of new ≡ written.next
   pub text : new.text.items ≡ old.text.items ++ lines_text written.lines
@@ -17,7 +24,8 @@ pub record Adds (old new : Writing) (bytes tenths events : ℕ) (written : Writt
   pub few_tenths : new.tenths ≤ old.tenths + tenths
   pub few_events : new.events ≤ old.events + events
 
--- there is room for so many bytes, tenths of a second and events
+-- a writing has room for bytes, tenths of a second and events where with them its text has at most 512 bytes, its time
+-- is at most 10^9 tenths, and its events are at most 10^12
 abbrev pub HasRoom : Writing → (bytes tenths events : ℕ) → Type 0
 HasRoom writing bytes tenths events =
     (array_vec_len writing.text + bytes ≤ 512)

@@ -1,4 +1,4 @@
--- How far the bench has carried out a drive.
+-- For proofs: how far the bench has carried out a drive. Expecting says what the whole drive should come to.
 use Rattle.std.specs.Prelude.{◌≡◌, ◌++◌, List}
 use Rattle.meter_states.specs.Meter.{Meter}
 use Rattle.meter_states.specs.Setting.{Setting}
@@ -8,13 +8,16 @@ use Rattle.verify_bench.specs.Expecting.{hirings_from}
 use Rattle.verify_bench.specs.declared.expected.Expected.{Expected}
 use Rattle.verify_bench.specs.declared.plain_meter.PlainMeter.{PlainMeter}
 
--- these events are left, and what was found and what they give is all
-pub record IsAmid (s : Setting) (all : List Expected) (left : List Event) (meter : PlainMeter) (found : List Expected) : Type 0 where
+-- a meter of the bench is amid a drive where what was found, and behind it the hirings that the events that are left
+-- come to from the state that it stands for, is all that the drive should come to
+pub record IsAmid (s : Setting) (all : List Expected) (left : List Event) (meter : PlainMeter) (found : List Expected)
+    : Type 0 where
   pub m : Meter
   pub stands : Stands s meter m
   pub split : found ++ hirings_from s left m ≡ all
 
--- these events were carried out
+-- events were carried out between two meters of the bench where in each drive that goes on with these events the first
+-- is amid it before them, and the second behind them
 abbrev pub Carries : Setting → List Event → (old new : PlainMeter) → (before after : List Expected) → Type 0
 Carries s events old new before after =
     (all : List Expected) (left : List Event) → IsAmid s all (events ++ left) old before → IsAmid s all left new after

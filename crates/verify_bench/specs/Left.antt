@@ -1,21 +1,18 @@
--- What is left of a generated drive.
-use Rattle.std.specs.Prelude.{ℕ, ◌+◌, ◌*◌, ◌≤◌, List, [], ◌++◌, drop, ◌==◌, if◌then◌else◌}
+-- For proofs: what is left of a generated drive. Generated says what the whole drive is.
+use Rattle.std.specs.Prelude.{ℕ, ◌+◌, ◌*◌, ◌≤◌, List, ◌++◌, drop}
 use Rattle.arrayvec.specs.ArrayVec.{array_vec_len}
 use Rattle.verify_bench.specs.Adding.{place_of}
 use Rattle.verify_bench.specs.Generated.{lines_text, trips_from}
 use Rattle.verify_bench.specs.declared.remaining.Remaining.{Remaining}
 
--- the rest of what was written, and the trips to come
+-- a generated drive has left what was written of it and not yet given, and the lines of its trips to come
 abbrev pub bytes_left : Remaining → List ℕ
 bytes_left r = drop r.given r.writing.text.items ++ lines_text (trips_from r.trips (place_of r.writing)).lines
 
--- no more was given than was written, and the time of the trips to come is within a thousand trips
+-- what is left is sound where no more was given than was written, at most 1,000 trips are to come, and with 7,500
+-- tenths of a second for each of them the time is within that of 1,000 trips
 abbrev pub IsSound : Remaining → Type 0
 IsSound r =
     (r.given ≤ array_vec_len r.writing.text)
     × (r.trips ≤ 1000)
     × (r.writing.tenths + 7500 * r.trips ≤ 7500000)
-
--- word 0 has the drive, and every other word an empty file
-abbrev pub rest_of : (drive : List ℕ) → (word : ℕ) → List ℕ
-rest_of drive word = if word == 0 then drive else []

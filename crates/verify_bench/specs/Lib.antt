@@ -7,10 +7,15 @@ pub mod Generated
 pub mod Hirings
 pub mod Left
 pub mod Passing
+pub mod PassingStages
+pub mod ReadingRows
+pub mod ReadingStages
 pub mod Readings
 pub mod Report
+pub mod RowsTaken
 pub mod Settings
 pub mod Supplied
 pub mod Tree
+pub mod VerdictStages
 pub mod Verdicts
 pub mod Writing

@@ -1,9 +1,10 @@
--- The meter of the bench as the supply comes, before it is known what becomes of a held trip.
+-- For proofs: the meter as the supply comes, before it is known what becomes of a held trip. Supply, of meter_states,
+-- says what an `Up` comes to.
 use Rattle.taxi_units.specs.declared.event.Operating.TheVariants.{Off}
 use Rattle.meter_states.specs.Meter.{Meter}
 use Rattle.meter_states.specs.Supply.{powered}
 use Rattle.std.specs.Prelude.{ℕ}
 
--- as the meter is powered, but that it is still off
+-- a meter is waking at a second where it is as the coming supply makes it, but still in Off
 abbrev pub waking : (second : ℕ) → Meter → Meter
 waking second m = record (powered second m) { operating = Off }

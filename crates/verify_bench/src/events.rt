@@ -1,15 +1,12 @@
 //! What the events of a drive do to the meter of the bench.
-ghost use Rattle.std.specs.Prelude.{◌≡◌, ◌≢◌, ℕ, ◌≤◌, List, OnOk};
+ghost use Rattle.std.specs.Prelude.{◌≡◌, ◌≢◌, ◌≤◌, OnOk};
 ghost use Rattle.drive_text.specs.Ranges.{IsInRange};
-ghost use Rattle.meter_states.specs.Interval.{pulses_taken, ticks_so_far};
-ghost use Rattle.meter_states.specs.Meter.{Meter};
+ghost use Rattle.meter_states.specs.Interval.{pulses_taken};
 ghost use Rattle.meter_states.specs.Setting.{Setting};
 ghost use Rattle.meter_states.specs.Step.{clock_read, powered_step, step};
 ghost use Rattle.taxi_units.specs.Time.{IsSecond};
 ghost use Rattle.taxi_units.specs.declared.event.Operating.TheVariants.{Off};
-ghost use Rattle.verify_bench.specs.Expecting.{ticks_at};
 ghost use Rattle.verify_bench.specs.Settings.{setting_of};
-ghost use Rattle.verify_bench.specs.declared.expected.Expected.{Expected};
 
 use crate::expected::Expected;
 use crate::plain_meter::PlainMeter;
@@ -19,11 +16,11 @@ use std::sync::ledger::Ledger;
 use tariff_check::Checked;
 use taxi_units::{Event, NoMemory, Operating, Steps};
 
-/// An interval has at most so many pulses.
+/// An interval has at most 2,000 pulses.
 const INTERVAL_MOST: u32 = 2000;
 
 impl PlainMeter {
-    ghost use Rattle.verify_bench.specs.Bench.{IsSound, Moves, Stands};
+    ghost use Rattle.verify_bench.specs.Bench.{GoesThroughEvent, GoesThroughQuietly, IsSound};
 
     /// An event.
     pub(crate) fn event<L: Ledger>(
@@ -37,36 +34,17 @@ impl PlainMeter {
     ) -> Result<(), NoMemory>
         requires sound { IsSound 8639999 0 self.old }
         requires range { IsInRange event }
-        ensures moves { OnOk result ((m : Meter) → Stands (setting_of checked.now seal.now) self.old m
-            → Moves (setting_of checked.now seal.now) (ticks_at (setting_of checked.now seal.now) event m)
-            found.old.items found.new.items self.new (step (setting_of checked.now seal.now) event m)) }
+        ensures moves { OnOk result (GoesThroughEvent (setting_of checked.now seal.now) event (λ s. step s event)
+            self.old self.new found.old.items found.new.items) }
         ensures sound { OnOk result (IsSound 8639999 0 self.new) }
     {
         match self.operating {
             Operating::Off => match event {
-                Event::Up(second) => match self.come_up(second, checked, seal, found) {
-                    Ok(()) => Ok(()),
-                    Err(_) => Err(NoMemory),
-                },
+                Event::Up(second) => self.come_up(second, checked, seal, found),
                 _ => Ok(()),
             },
-            Operating::ForHire => {
-                match self.powered_event(event, alloc, checked, seal, found, steps) {
-                    Ok(()) => Ok(()),
-                    Err(_) => Err(NoMemory),
-                }
-            }
-            Operating::Hired => match self.powered_event(
-                event, alloc, checked, seal, found, steps,
-            ) {
-                Ok(()) => Ok(()),
-                Err(_) => Err(NoMemory),
-            },
-            Operating::Stopped => {
-                match self.powered_event(event, alloc, checked, seal, found, steps) {
-                    Ok(()) => Ok(()),
-                    Err(_) => Err(NoMemory),
-                }
+            Operating::ForHire | Operating::Hired | Operating::Stopped => {
+                self.powered_event(event, alloc, checked, seal, found, steps)
             }
         }
     }
@@ -83,25 +61,18 @@ impl PlainMeter {
     ) -> Result<(), NoMemory>
         requires sound { IsSound 8639999 0 self.old }
         requires range { IsInRange event }
-        ensures moves { OnOk result ((m : Meter) → Stands (setting_of checked.now seal.now) self.old m
-            → Moves (setting_of checked.now seal.now) (ticks_at (setting_of checked.now seal.now) event m)
-            found.old.items found.new.items self.new (powered_step (setting_of checked.now seal.now) event m)) }
+        ensures moves { OnOk result (GoesThroughEvent (setting_of checked.now seal.now) event
+            (λ s. powered_step s event) self.old self.new found.old.items found.new.items) }
         ensures sound { OnOk result (IsSound 8639999 0 self.new) }
     {
         match event {
             Event::Up(_) => Ok(()),
-            Event::Down => match self.go_down(checked, seal, found) {
-                Ok(()) => Ok(()),
-                Err(_) => Err(NoMemory),
-            },
+            Event::Down => self.go_down(checked, seal, found),
             Event::Pulses(pulses) => {
                 self.take_pulses(pulses);
                 Ok(())
             }
-            Event::Tick => match self.tick(alloc, checked, seal, found, steps) {
-                Ok(()) => Ok(()),
-                Err(_) => Err(NoMemory),
-            },
+            Event::Tick => self.tick(alloc, checked, seal, found, steps),
             Event::Clock(second) => {
                 self.read_clock(second);
                 Ok(())
@@ -116,8 +87,7 @@ impl PlainMeter {
     /// The interval takes the pulses that it has room for.
     fn take_pulses(&mut self, pulses: u32)
         requires sound { IsSound 8639999 0 self.old }
-        ensures moves { (s : Setting) (ticks : ℕ) (found : List Expected) (m : Meter) → Stands s self.old m
-            → Moves s ticks found found self.new (pulses_taken pulses m) }
+        ensures moves { (s : Setting) → GoesThroughQuietly s (λ s. pulses_taken pulses) self.old self.new }
         ensures sound { IsSound 8639999 0 self.new }
     {
         self.taken += pulses.min(INTERVAL_MOST - self.taken);
@@ -127,8 +97,8 @@ impl PlainMeter {
     fn read_clock(&mut self, second: u64)
         requires sound { IsSound 8639999 0 self.old }
         requires second { IsSecond second }
-        ensures moves { (s : Setting) (ticks : ℕ) (found : List Expected) (m : Meter) → Stands s self.old m
-            → Moves s ticks found found self.new (clock_read m.operating second m) }
+        ensures moves { (s : Setting) → GoesThroughQuietly s (λ s m. clock_read m.operating second m)
+            self.old self.new }
         ensures sound { IsSound 8639999 0 self.new }
     {
         match self.operating {

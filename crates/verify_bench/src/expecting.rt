@@ -108,20 +108,14 @@ impl PlainMeter {
         ensures sound { OnOk result (IsSound 8639999 0 self.new) }
     {
         match run {
-            Run::One(event) => match self.carry(event, alloc, checked, seal, found, steps) {
-                Ok(()) => Ok(()),
-                Err(_) => Err(NoMemory),
-            },
+            Run::One(event) => self.carry(event, alloc, checked, seal, found, steps),
             Run::Many { pulses, count } => {
-                match self.intervals(pulses, count, alloc, checked, seal, found, steps) {
-                    Ok(()) => Ok(()),
-                    Err(_) => Err(NoMemory),
-                }
+                self.intervals(pulses, count, alloc, checked, seal, found, steps)
             }
         }
     }
 
-    /// So many intervals.
+    /// Intervals, one after another.
     fn intervals<L: Ledger>(
         &mut self,
         pulses: u32,
@@ -164,10 +158,7 @@ impl PlainMeter {
         ensures sound { OnOk result (IsSound 8639999 0 self.new) }
     {
         if pulses == 0 {
-            return match self.carry(Event::Tick, alloc, checked, seal, found, steps) {
-                Ok(()) => Ok(()),
-                Err(_) => Err(NoMemory),
-            };
+            return self.carry(Event::Tick, alloc, checked, seal, found, steps);
         }
         match self.carry(Event::Pulses(pulses), alloc, checked, seal, found, steps) {
             Ok(()) => match self.carry(Event::Tick, alloc, checked, seal, found, steps) {

@@ -1,8 +1,7 @@
 //! The generated drive as a file.
 ghost use Rattle.std.specs.Prelude.{◌≡◌, ◌≢◌, ℕ, ◌<◌, ◌≤◌, ◌++◌, [], length, take, IfOk, IsOk, OnErr};
 ghost use Rattle.outside.specs.Faults.{HasCause};
-ghost use Rattle.verify_bench.specs.Generated.{generated};
-ghost use Rattle.verify_bench.specs.Left.{rest_of};
+ghost use Rattle.verify_bench.specs.Generated.{generated, rest_of};
 
 use crate::remaining::Remaining;
 use outside::{Failed, Files};

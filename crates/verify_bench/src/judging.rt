@@ -3,7 +3,8 @@ ghost use Rattle.std.specs.Prelude.{◌≡◌, ℕ, ◌<◌, ◌↔◌};
 ghost use Rattle.verify_bench.specs.declared.expected.Expected.{Expected};
 ghost use Rattle.verify_bench.specs.declared.judging.Verdict.{Verdict};
 ghost use Rattle.verify_bench.specs.declared.reading.Reading.{Reading};
-ghost use Rattle.verify_bench.specs.Verdicts.{is_within, verdict_of, IsVerdict};
+ghost use Rattle.verify_bench.specs.Verdicts.{verdict_of, IsVerdict};
+ghost use Rattle.verify_bench.specs.VerdictStages.{is_within};
 
 use crate::expected::Expected;
 use crate::reading::Reading;
@@ -21,10 +22,10 @@ pub enum Verdict {
     Time,
 }
 
-/// The distance may be wrong by so many millimetres, whatever it is.
+/// The distance may be wrong by 4 m, in millimetres, whatever it is.
 const LEAST_DISTANCE: u128 = 4000;
 
-/// The time may be wrong by so many tenths of a second, whatever it is.
+/// The time may be wrong by 0.2 s, in tenths of a second, whatever it is.
 const LEAST_TIME: u128 = 2;
 
 /// Judges a reading: names the first of fare, distance and time that is outside its permissible error.
@@ -62,7 +63,7 @@ pub fn judge(expected: &Expected, reading: &Reading, step: u64) -> Verdict
     }
 }
 
-/// Whether a reading is off by no more than one part in so many of what is expected, or by no more than
+/// Whether a reading is off by no more than one part in `parts` of what is expected, or by no more than
 /// the least error.
 #[tactic(auto, using(crate::proofs::Permitted::parts_are_divided))]
 fn is_permitted(parts: u128, least: u128, expected: u128, read: u128) -> bool

@@ -1,14 +1,9 @@
 //! What keys do to the meter of the bench.
-ghost use Rattle.std.specs.Prelude.{◌≡◌, ◌≢◌, ℕ, ◌≤◌, List, Some, OnOk, true};
-ghost use Rattle.meter_states.specs.Interval.{ticks_so_far};
-ghost use Rattle.meter_states.specs.Keys.{extra_added, hiring, key_in, latched, position_set, zone_set};
-ghost use Rattle.meter_states.specs.Keys as keys;
-ghost use Rattle.meter_states.specs.Meter.{Meter};
+ghost use Rattle.std.specs.Prelude.{◌≡◌, ◌≢◌, ◌≤◌, Some, OnOk, true};
+ghost use Rattle.meter_states.specs.Keys.{extra_added, hiring, key_in, key_pressed, latched, position_set, zone_set};
 ghost use Rattle.meter_states.specs.Setting.{Setting};
 ghost use Rattle.tariff_compile.specs.Tables.{supplement_at};
-ghost use Rattle.tariff_syntax.specs.Tree.{tree_of};
 ghost use Rattle.verify_bench.specs.Settings.{setting_of};
-ghost use Rattle.verify_bench.specs.declared.expected.Expected.{Expected};
 
 use crate::expected::Expected;
 use crate::hiring::Hiring;
@@ -23,13 +18,12 @@ use tariff_compile::Supplement;
 use taxi_units::{Key, Kind, NoMemory, Operating, Steps};
 
 impl PlainMeter {
-    ghost use Rattle.verify_bench.specs.Bench.{IsSound, Moves, Stands};
+    ghost use Rattle.verify_bench.specs.Bench.{GoesThrough, GoesThroughQuietly, IsSound};
 
     /// A key waits, where none does.
     pub(crate) fn latch_key(&mut self, key: Key)
         requires sound { IsSound 8639999 0 self.old }
-        ensures moves { (s : Setting) (ticks : ℕ) (found : List Expected) (m : Meter) → Stands s self.old m
-            → Moves s ticks found found self.new (latched m.latch key m) }
+        ensures moves { (s : Setting) → GoesThroughQuietly s (λ s m. latched m.latch key m) self.old self.new }
         ensures sound { IsSound 8639999 0 self.new }
     {
         match self.latch {
@@ -48,10 +42,7 @@ impl PlainMeter {
         steps: &mut Steps<L>,
     )
         requires sound { IsSound 8639999 0 self.old }
-        ensures moves { (ticks : ℕ) (found : List Expected) (m : Meter)
-            → Stands (setting_of checked.now seal.now) self.old m
-            → Moves (setting_of checked.now seal.now) ticks found found self.new
-            (hiring (setting_of checked.now seal.now) m) }
+        ensures moves { GoesThroughQuietly (setting_of checked.now seal.now) hiring self.old self.new }
         ensures sound { IsSound 8639999 0 self.new }
     {
         if self.number >= HIRINGS_END {
@@ -67,10 +58,8 @@ impl PlainMeter {
     /// A tariff position is set.
     fn set_position(&mut self, number: u8, checked: &Checked, seal: &Seal)
         requires sound { IsSound 8639999 0 self.old }
-        ensures moves { (ticks : ℕ) (found : List Expected) (m : Meter)
-            → Stands (setting_of checked.now seal.now) self.old m
-            → Moves (setting_of checked.now seal.now) ticks found found self.new
-            (position_set (setting_of checked.now seal.now) number m) }
+        ensures moves { GoesThroughQuietly (setting_of checked.now seal.now) (λ s. position_set s number)
+            self.old self.new }
         ensures sound { IsSound 8639999 0 self.new }
     {
         if 1 <= number && number <= checked.positions() {
@@ -81,10 +70,8 @@ impl PlainMeter {
     /// A zone is set.
     fn set_zone(&mut self, number: u8, checked: &Checked, seal: &Seal)
         requires sound { IsSound 8639999 0 self.old }
-        ensures moves { (ticks : ℕ) (found : List Expected) (m : Meter)
-            → Stands (setting_of checked.now seal.now) self.old m
-            → Moves (setting_of checked.now seal.now) ticks found found self.new
-            (zone_set (setting_of checked.now seal.now) number m) }
+        ensures moves { GoesThroughQuietly (setting_of checked.now seal.now) (λ s. zone_set s number)
+            self.old self.new }
         ensures sound { IsSound 8639999 0 self.new }
     {
         if 1 <= number && number <= checked.zones() {
@@ -95,10 +82,8 @@ impl PlainMeter {
     /// A supplement is added to the trip, where the tariff has it, up to its most.
     fn add_supplement(&mut self, number: u8, checked: &Checked, seal: &Seal) -> Result<(), NoMemory>
         requires sound { IsSound 8639999 0 self.old }
-        ensures moves { OnOk result ((ticks : ℕ) (found : List Expected) (m : Meter)
-            → Stands (setting_of checked.now seal.now) self.old m
-            → Moves (setting_of checked.now seal.now) ticks found found self.new
-            (extra_added number (supplement_at (tree_of checked.now) number) m)) }
+        ensures moves { OnOk result (GoesThroughQuietly (setting_of checked.now seal.now)
+            (λ s. extra_added number (supplement_at s.tariff number)) self.old self.new) }
         ensures sound { OnOk result (IsSound 8639999 0 self.new) }
     {
         match supplement_at(checked.tariff().lines.as_slice(), number) {
@@ -113,8 +98,8 @@ impl PlainMeter {
     /// It is added up to its most.
     fn add_up_to(&mut self, number: u8, supplement: Supplement) -> Result<(), NoMemory>
         requires sound { IsSound 8639999 0 self.old }
-        ensures moves { OnOk result ((s : Setting) (ticks : ℕ) (found : List Expected) (m : Meter) → Stands s self.old m
-            → Moves s ticks found found self.new (extra_added number (Some supplement) m)) }
+        ensures moves { OnOk result ((s : Setting) → GoesThroughQuietly s (λ s. extra_added number (Some supplement))
+            self.old self.new) }
         ensures sound { OnOk result (IsSound 8639999 0 self.new) }
     {
         match &mut self.hiring {
@@ -141,9 +126,8 @@ impl PlainMeter {
         steps: &mut Steps<L>,
     ) -> Result<(), NoMemory>
         requires sound { IsSound 8639999 0 self.old }
-        ensures moves { OnOk result ((m : Meter) → Stands (setting_of checked.now seal.now) self.old m
-            → Moves (setting_of checked.now seal.now) (ticks_so_far m.trip) found.old.items found.new.items self.new
-            (key_in (setting_of checked.now seal.now) key m.operating m)) }
+        ensures moves { OnOk result (GoesThrough (setting_of checked.now seal.now)
+            (λ s m. key_in s key m.operating m) self.old self.new found.old.items found.new.items) }
         ensures sound { OnOk result (IsSound 8639999 0 self.new) }
     {
         match (key, self.operating) {
@@ -202,9 +186,8 @@ impl PlainMeter {
         steps: &mut Steps<L>,
     ) -> Result<(), NoMemory>
         requires sound { IsSound 8639999 0 self.old }
-        ensures moves { OnOk result ((m : Meter) → Stands (setting_of checked.now seal.now) self.old m
-            → Moves (setting_of checked.now seal.now) (ticks_so_far m.trip) found.old.items found.new.items self.new
-            (keys.key_pressed (setting_of checked.now seal.now) m)) }
+        ensures moves { OnOk result (GoesThrough (setting_of checked.now seal.now) key_pressed
+            self.old self.new found.old.items found.new.items) }
         ensures sound { OnOk result (IsSound 8639999 0 self.new) }
     {
         match self.latch {

@@ -2,8 +2,9 @@
 ghost use Rattle.std.specs.Prelude.{◌≡◌, ℕ, ◌↔◌, List, max, length, true, slice_get};
 ghost use Rattle.verify_bench.specs.declared.expected.Expected.{Expected};
 ghost use Rattle.verify_bench.specs.declared.reading.Reading.{Reading};
-ghost use Rattle.verify_bench.specs.Passing as spec;
-ghost use Rattle.verify_bench.specs.Passing.{EachRowPasses, do_places_pass};
+ghost use Rattle.verify_bench.specs.Passing.{EachRowPasses};
+ghost use Rattle.verify_bench.specs.PassingStages.{do_places_pass};
+ghost use Rattle.verify_bench.specs.PassingStages as stages;
 
 use crate::expected::Expected;
 use crate::judging::{Verdict, judge};
@@ -13,7 +14,7 @@ use crate::reporting::at;
 /// Whether every row of the report of these lists passes: there are as many readings as receipts, and each
 /// reading is within its permissible errors, with a display step of `step` smallest units. No memory.
 pub fn do_all_pass(expected: &[Expected], readings: &[Reading], step: u64) -> bool
-    ensures { result ≡ spec.do_all_pass step expected.now readings.now }
+    ensures { result ≡ stages.do_all_pass step expected.now readings.now }
 {
     let mut pass = true;
     for place in 0..expected.len().max(readings.len()) {
@@ -25,7 +26,7 @@ pub fn do_all_pass(expected: &[Expected], readings: &[Reading], step: u64) -> bo
 
 /// Whether a place passes.
 fn does_place_pass(expected: Option<Expected>, reading: Option<Reading>, step: u64) -> bool
-    ensures { result ≡ spec.does_place_pass step expected reading }
+    ensures { result ≡ stages.does_place_pass step expected reading }
 {
     match (expected, reading) {
         (Some(expected), Some(reading)) => match judge(&expected, &reading, step) {
@@ -42,5 +43,5 @@ fn does_place_pass(expected: Option<Expected>, reading: Option<Reading>, step: u
 /// Readings pass exactly where the report has the verdict `PASS` in each of its rows.
 pub fn readings_pass_where_each_row_does()
     ensures { (step : ℕ) (expected : List Expected) (readings : List Reading)
-        → (spec.do_all_pass step expected readings ≡ true) ↔ EachRowPasses step expected readings }
+        → (stages.do_all_pass step expected readings ≡ true) ↔ EachRowPasses step expected readings }
 {}

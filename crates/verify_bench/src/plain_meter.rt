@@ -1,5 +1,5 @@
 //! The meter of the bench: it keeps each interval of a trip, and adds up at its end.
-ghost use Rattle.std.specs.Prelude.{◌≡◌, ◌≢◌, ℕ, ◌+◌, ◌-◌, ◌≤◌, ◌<◌, List, None, OnOk, true};
+ghost use Rattle.std.specs.Prelude.{◌≡◌, ◌≢◌, ℕ, ◌+◌, ◌-◌, ◌≤◌, ◌<◌, None, OnOk, true};
 ghost use Rattle.interval_clock.specs.LocalTime.{local_second, local_time_of};
 ghost use Rattle.meter_states.specs.Closing.{closed, roaming_checked, roaming_entered};
 ghost use Rattle.meter_states.specs.Interval.{context_on, interval_counted, interval_left, pulses_so_far, ticks_so_far, with_interval, with_roaming};
@@ -12,7 +12,6 @@ ghost use Rattle.totaliser_store.specs.Entries.{is_of_hiring};
 ghost use Rattle.verify_bench.specs.Hirings.{IsTrip, IsWhole, part_of, part_pulses, part_ticks};
 ghost use Rattle.pulse_input.specs.Distance.{millimetres_of};
 ghost use Rattle.verify_bench.specs.Settings.{setting_of};
-ghost use Rattle.verify_bench.specs.declared.expected.Expected.{Expected};
 
 use crate::expected::Expected;
 use crate::hiring::{Hiring, Part};
@@ -31,7 +30,7 @@ pub(crate) const HIRINGS_END: u64 = 1_000_000_000_000_000;
 /// And no held trip from this one on.
 pub(crate) const HOLDS_END: u64 = 2_000_000_000_000_000;
 
-/// Roaming pulses are entered from so many on.
+/// Roaming pulses are entered from this number on.
 const ROAMING_MOST: u64 = 1_000_000;
 
 /// How a trip that is held without supply goes on.
@@ -60,7 +59,7 @@ pub(crate) struct PlainMeter {
 }
 
 impl PlainMeter {
-    ghost use Rattle.verify_bench.specs.Bench.{HasTicks, IsSound, Moves, Stands};
+    ghost use Rattle.verify_bench.specs.Bench.{GoesThrough, GoesThroughQuietly, HasTicks, IsSound, Stands};
 
     /// How many ticks the trip has, 0 without one.
     pub(crate) fn ticks(&self) -> u32
@@ -96,7 +95,8 @@ impl PlainMeter {
         requires second { IsSecond second }
         requires sound { IsSound 8640000 1 self.now }
         ensures { (m : Meter) → Stands (setting_of checked.now seal.now) self.now m
-            → result ≡ context_on (setting_of checked.now seal.now) (local_at (setting_of checked.now seal.now) second) m }
+            → result ≡ context_on (setting_of checked.now seal.now)
+            (local_at (setting_of checked.now seal.now) second) m }
     {
         let local = civil(&seal.params.offsets, second, steps);
         let day = (local.year, local.month, local.date);
@@ -123,9 +123,8 @@ impl PlainMeter {
     ) -> Result<(), NoMemory>
         requires sound { IsSound 8640000 1 self.old }
         requires kind { is_of_hiring kind ≡ true }
-        ensures moves { OnOk result ((finish : ℕ) (m : Meter) → Stands (setting_of checked.now seal.now) self.old m
-            → Moves (setting_of checked.now seal.now) (ticks_so_far m.trip) found.old.items found.new.items self.new
-            (closed (setting_of checked.now seal.now) kind finish m)) }
+        ensures moves { OnOk result ((finish : ℕ) → GoesThrough (setting_of checked.now seal.now)
+            (λ s. closed s kind finish) self.old self.new found.old.items found.new.items) }
         ensures sound { OnOk result (IsSound 8639999 0 self.new) }
     {
         self.operating = Operating::ForHire;
@@ -148,8 +147,7 @@ impl PlainMeter {
     pub(crate) fn enter_roaming(&mut self)
         requires sound { IsSound 8639999 0 self.old }
         requires none { self.old.hiring ≡ None }
-        ensures moves { (s : Setting) (ticks : ℕ) (found : List Expected) (m : Meter) → Stands s self.old m
-            → Moves s ticks found found self.new (roaming_entered s m) }
+        ensures moves { (s : Setting) → GoesThroughQuietly s roaming_entered self.old self.new }
         ensures sound { IsSound 8639999 0 self.new }
         ensures operating { self.new.operating ≡ self.old.operating }
     {
@@ -160,8 +158,7 @@ impl PlainMeter {
     /// Roaming is entered for hire where it is long.
     pub(crate) fn check_roaming(&mut self)
         requires sound { IsSound 8639999 0 self.old }
-        ensures moves { (s : Setting) (ticks : ℕ) (found : List Expected) (m : Meter) → Stands s self.old m
-            → Moves s ticks found found self.new (roaming_checked s m) }
+        ensures moves { (s : Setting) → GoesThroughQuietly s roaming_checked self.old self.new }
         ensures sound { IsSound 8639999 0 self.new }
     {
         match self.operating {

@@ -19,7 +19,7 @@ use tariff_check::Checked;
 use tariff_compile::Initial;
 use tariff_syntax::{Context, Tariff, initial_of, minimum_of, rate_of};
 
-/// The charge of an interval of so many pulses, at most 2,000, in a context.
+/// The charge of an interval of at most 2,000 pulses, in a context.
 pub(crate) fn charge(checked: &Checked, seal: &Seal, x: &Context, pulses: u32) -> u128
     requires { pulses ≤ 2000 }
     ensures charge { result ≡ charge_at (setting_of checked.now seal.now) x.now pulses }
@@ -55,7 +55,7 @@ fn charge_by(mode: Mode, k: Constant, common: u64, rate: Rate, pulses: u32) -> u
     }
 }
 
-/// Whether so many pulses an interval are below the cross-over speed of a rate.
+/// Whether a number of pulses an interval is below the cross-over speed of a rate.
 fn is_slow(k: Constant, rate: Rate, pulses: u32) -> bool
     requires rate { IsSoundRate (numbers_of rate) }
     requires pulses { pulses ≤ 2000 }
@@ -90,7 +90,8 @@ fn fee_in(tariff: &Tariff, x: &Context) -> Initial
 
 /// The minimum fare of a context at the hiring, 0 where there is none.
 fn minimum_fare(tariff: &Tariff, x: &Context) -> u64
-    ensures { result ≡ get_or (0 ∷ minimums_of (tree_of tariff.now).lines) (number_of (minimum_place (tree_of tariff.now) x.now)) 0 }
+    ensures { result ≡ get_or (0 ∷ minimums_of (tree_of tariff.now).lines)
+        (number_of (minimum_place (tree_of tariff.now) x.now)) 0 }
 {
     match minimum_of(tariff, x) {
         None => 0,
@@ -98,7 +99,7 @@ fn minimum_fare(tariff: &Tariff, x: &Context) -> u64
     }
 }
 
-/// The fare that is shown of a hiring whose charges add up to so much.
+/// The fare that is shown of a hiring whose charges have this sum.
 pub(crate) fn fare(checked: &Checked, seal: &Seal, fee: Initial, charged: u128) -> u64
     requires fee { IsFitInitial fee }
     requires charged { charged ≤ 8640000 * (202 * 10 ^ 29) }
@@ -129,7 +130,7 @@ fn divided(rounding: Rounding, x: u128, y: u128) -> u128
     }
 }
 
-/// The fare after so many display steps.
+/// The fare after a number of display steps.
 #[tactic(auto, using(crate::proofs::Capped::capped_fare))]
 fn shown(fee: Initial, step: u64, steps: u128) -> u64
     requires fee { IsFitInitial fee }

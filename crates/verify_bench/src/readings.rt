@@ -1,7 +1,8 @@
 //! Reads texts of readings.
 ghost use Rattle.std.specs.Prelude.{◌≡◌, ◌≢◌, ◌↔◌, ℕ, ◌++◌, ◌∷◌, [], List, Result, Ok, Err, IfOk, IfErr, OnOk, true};
 ghost use Rattle.csv.specs.Records.{fields_of};
-ghost use Rattle.verify_bench.specs.Readings.{Row, HaveGiven, IsReadAs, IsRowFault, readings_in};
+ghost use Rattle.verify_bench.specs.Readings.{Row, IsReadAs, readings_in};
+ghost use Rattle.verify_bench.specs.RowsTaken.{HaveGiven, IsRowFault};
 ghost use Rattle.verify_bench.specs.declared.reading.Reading.{Reading};
 ghost use Rattle.verify_bench.specs.declared.reading.ReadingsFault.{ReadingsFault};
 
@@ -10,7 +11,7 @@ use crate::row::{is_header, reading_of};
 use csv::{ByteRecord, ReaderBuilder};
 use std::alloc::Global;
 
-/// A text of readings has at most so many bytes.
+/// A text of readings has at most 1,048,576 bytes.
 const LONGEST: usize = 1_048_576;
 
 /// Reads a text of readings: rows as `csv` reads them, the first of which is the header
@@ -18,8 +19,8 @@ const LONGEST: usize = 1_048_576;
 /// in metres of three and a time in seconds of one.
 ///
 /// `TooLong` above 1,048,576 bytes; `BadRow` with the first row, counted from 1 as `csv` gives them,
-/// that isn't so, which is 1 for a text without rows; `NoMemory` where memory ran out. The form is this
-/// project's own.
+/// that is neither the header nor a reading where it has to be, which is 1 for a text without rows;
+/// `NoMemory` where memory ran out. The form is this project's own.
 pub fn read_readings(
     alloc: Global,
     text: &[u8],

@@ -1,7 +1,8 @@
 //! Rows of readings.
 ghost use Rattle.std.specs.Prelude.{◌≡◌, ◌≢◌, ◌↔◌, ◌∷◌, [], length, codes, IsTrue, MatchOption};
 ghost use Rattle.csv.specs.Records.{fields_of};
-ghost use Rattle.verify_bench.specs.Readings.{header, reading_said};
+ghost use Rattle.verify_bench.specs.Readings.{header};
+ghost use Rattle.verify_bench.specs.ReadingStages.{reading_said};
 
 use crate::reading::Reading;
 use csv::ByteRecord;

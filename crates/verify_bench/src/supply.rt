@@ -1,5 +1,5 @@
 //! What the supply does to the meter of the bench.
-ghost use Rattle.std.specs.Prelude.{◌≡◌, ◌≢◌, ℕ, ◌+◌, ◌<◌, ◌≤◌, ◌&&◌, nat_le, List, None, Some, OnOk};
+ghost use Rattle.std.specs.Prelude.{◌≡◌, ◌≢◌, ◌+◌, ◌<◌, ◌≤◌, ◌&&◌, nat_le, None, Some, OnOk};
 ghost use Rattle.meter_states.specs.Interval.{ticks_so_far};
 ghost use Rattle.meter_states.specs.Meter.{Meter, held};
 ghost use Rattle.meter_states.specs.Trip.{Trip, held_trip};
@@ -12,7 +12,6 @@ ghost use Rattle.totaliser_store.specs.declared.trip.Trip as store;
 ghost use Rattle.verify_bench.specs.Bench.{held_of};
 ghost use Rattle.verify_bench.specs.Settings.{setting_of};
 ghost use Rattle.verify_bench.specs.Supplied.{waking};
-ghost use Rattle.verify_bench.specs.declared.expected.Expected.{Expected};
 
 use crate::expected::Expected;
 use crate::plain_meter::{HOLDS_END, Held, PlainMeter};
@@ -21,7 +20,7 @@ use tariff_check::Checked;
 use taxi_units::{Kind, NoMemory, Operating};
 
 impl PlainMeter {
-    ghost use Rattle.verify_bench.specs.Bench.{IsSound, Moves, Stands};
+    ghost use Rattle.verify_bench.specs.Bench.{GoesThrough, GoesThroughQuietly, IsSound, Moves, Stands};
 
     /// The supply comes.
     pub(crate) fn come_up(
@@ -33,16 +32,12 @@ impl PlainMeter {
     ) -> Result<(), NoMemory>
         requires sound { IsSound 8639999 0 self.old }
         requires second { IsSecond second }
-        ensures moves { OnOk result ((m : Meter) → Stands (setting_of checked.now seal.now) self.old m
-            → Moves (setting_of checked.now seal.now) (ticks_so_far m.trip) found.old.items found.new.items self.new
-            (supply_came (setting_of checked.now seal.now) second m)) }
+        ensures moves { OnOk result (GoesThrough (setting_of checked.now seal.now) (λ s. supply_came s second)
+            self.old self.new found.old.items found.new.items) }
         ensures sound { OnOk result (IsSound 8639999 0 self.new) }
     {
         self.wake(second);
-        match self.take_hold(second, checked, seal, found) {
-            Ok(()) => Ok(()),
-            Err(_) => Err(NoMemory),
-        }
+        self.take_hold(second, checked, seal, found)
     }
 
     /// It is powered, and still off.
@@ -100,8 +95,8 @@ impl PlainMeter {
     /// A held trip goes on.
     fn resume(&mut self, held: Held)
         requires sound { IsSound 8639999 0 self.old }
-        ensures moves { (s : Setting) (ticks : ℕ) (found : List Expected) (trip : store.Trip) (m : Meter) → held ≡ held_of trip
-            → Stands s self.old m → Moves s ticks found found self.new (resumed trip m) }
+        ensures moves { (s : Setting) (trip : store.Trip) → held ≡ held_of trip
+            → GoesThroughQuietly s (λ s. resumed trip) self.old self.new }
         ensures sound { IsSound 8639999 0 self.new }
     {
         self.operating = if held.stopped {
@@ -122,10 +117,9 @@ impl PlainMeter {
         found: &mut Vec<Expected>,
     ) -> Result<(), NoMemory>
         requires sound { IsSound 8639999 0 self.old }
-        ensures moves { OnOk result ((trip : store.Trip) (m : Meter) → held ≡ held_of trip
-            → Stands (setting_of checked.now seal.now) self.old m
-            → Moves (setting_of checked.now seal.now) (ticks_so_far m.trip) found.old.items found.new.items self.new
-            (aborted (setting_of checked.now seal.now) trip m)) }
+        ensures moves { OnOk result ((trip : store.Trip) → held ≡ held_of trip
+            → GoesThrough (setting_of checked.now seal.now) (λ s. aborted s trip)
+            self.old self.new found.old.items found.new.items) }
         ensures sound { OnOk result (IsSound 8639999 0 self.new) }
     {
         self.position = held.position;
@@ -147,9 +141,8 @@ impl PlainMeter {
         found: &mut Vec<Expected>,
     ) -> Result<(), NoMemory>
         requires sound { IsSound 8639999 0 self.old }
-        ensures moves { OnOk result ((m : Meter) → Stands (setting_of checked.now seal.now) self.old m
-            → Moves (setting_of checked.now seal.now) (ticks_so_far m.trip) found.old.items found.new.items self.new
-            (supply_dropped (setting_of checked.now seal.now) m)) }
+        ensures moves { OnOk result (GoesThrough (setting_of checked.now seal.now) supply_dropped
+            self.old self.new found.old.items found.new.items) }
         ensures sound { OnOk result (IsSound 8639999 0 self.new) }
     {
         if let Err(NoMemory) = self.leave_interval() {
@@ -171,9 +164,8 @@ impl PlainMeter {
         found: &mut Vec<Expected>,
     ) -> Result<(), NoMemory>
         requires sound { IsSound 8639999 1 self.old }
-        ensures moves { OnOk result ((m : Meter) → Stands (setting_of checked.now seal.now) self.old m
-            → Moves (setting_of checked.now seal.now) (ticks_so_far m.trip) found.old.items found.new.items self.new
-            (kept (setting_of checked.now seal.now) m.trip m)) }
+        ensures moves { OnOk result (GoesThrough (setting_of checked.now seal.now) (λ s m. kept s m.trip m)
+            self.old self.new found.old.items found.new.items) }
         ensures sound { OnOk result (IsSound 8639999 0 self.new) }
     {
         match &self.hiring {
@@ -186,10 +178,7 @@ impl PlainMeter {
                     self.hold();
                     return Ok(());
                 }
-                match self.close(Kind::Aborted, checked, seal, found) {
-                    Ok(()) => Ok(()),
-                    Err(_) => Err(NoMemory),
-                }
+                self.close(Kind::Aborted, checked, seal, found)
             }
         }
     }
@@ -199,8 +188,7 @@ impl PlainMeter {
     fn keep_roaming(&mut self)
         requires sound { IsSound 8639999 1 self.old }
         requires none { self.old.hiring ≡ None }
-        ensures moves { (s : Setting) (ticks : ℕ) (found : List Expected) (m : Meter) → Stands s self.old m
-            → Moves s ticks found found self.new (kept s m.trip m) }
+        ensures moves { (s : Setting) → GoesThroughQuietly s (λ s m. kept s m.trip m) self.old self.new }
         ensures sound { IsSound 8639999 0 self.new }
     {
         if self.roam == 0 {
@@ -213,9 +201,8 @@ impl PlainMeter {
     fn hold(&mut self)
         requires sound { IsSound 8639999 1 self.old }
         requires room { self.old.number < 2000000000000000 }
-        ensures moves { (s : Setting) (ticks : ℕ) (found : List Expected) (trip : Trip) (m : Meter) → Stands s self.old m
-            → Moves s ticks found found self.new
-            (held (held_trip s m.clock (is_stopped m.operating) m.position m.zone trip) m) }
+        ensures moves { (s : Setting) (trip : Trip) → GoesThroughQuietly s (λ s m.
+            held (held_trip s m.clock (is_stopped m.operating) m.position m.zone trip) m) self.old self.new }
         ensures sound { IsSound 8639999 0 self.new }
     {
         self.held = Some(Held {
@@ -235,17 +222,13 @@ impl PlainMeter {
         found: &mut Vec<Expected>,
     ) -> Result<(), NoMemory>
         requires sound { IsSound 8639999 0 self.old }
-        ensures { OnOk result ((m : Meter) → Stands (setting_of checked.now seal.now) self.old m
-            → Moves (setting_of checked.now seal.now) (ticks_so_far m.trip) found.old.items found.new.items self.new
-            (ended (setting_of checked.now seal.now) m)) }
+        ensures { OnOk result (GoesThrough (setting_of checked.now seal.now) ended
+            self.old self.new found.old.items found.new.items) }
     {
         match self.operating {
             Operating::Off => Ok(()),
             Operating::ForHire | Operating::Hired | Operating::Stopped => {
-                match self.go_down(checked, seal, found) {
-                    Ok(()) => Ok(()),
-                    Err(_) => Err(NoMemory),
-                }
+                self.go_down(checked, seal, found)
             }
         }
     }

@@ -264,7 +264,7 @@ fn readings_pass_where_all_do(rt: HostRuntime) {
     }
 }
 
-/// The bytes of a word of a generated drive, read in pieces of so many bytes.
+/// The bytes of a word of a generated drive, read in pieces of a given number of bytes.
 fn bytes_of(alloc: Global, seed: u64, trips: u32, word: usize, piece: usize) -> Option<Vec<u8>>
     requires { (1 ≤ trips) × (trips ≤ 1000) }
 {

@@ -1,11 +1,8 @@
 //! What a tick does to the meter of the bench.
-ghost use Rattle.std.specs.Prelude.{◌≡◌, ◌≢◌, ℕ, ◌≤◌, List, OnOk};
-ghost use Rattle.meter_states.specs.Interval.{interval_counted, ticks_so_far};
-ghost use Rattle.meter_states.specs.Meter.{Meter};
-ghost use Rattle.meter_states.specs.Setting.{Setting};
+ghost use Rattle.std.specs.Prelude.{◌≡◌, ◌≢◌, ◌≤◌, OnOk};
 ghost use Rattle.meter_states.specs.Step.{expired, expired_or_pressed, ticked};
+ghost use Rattle.taxi_units.specs.declared.event.Event.TheVariants.{Tick};
 ghost use Rattle.verify_bench.specs.Settings.{setting_of};
-ghost use Rattle.verify_bench.specs.declared.expected.Expected.{Expected};
 
 use crate::expected::Expected;
 use crate::plain_meter::PlainMeter;
@@ -16,7 +13,7 @@ use tariff_check::Checked;
 use taxi_units::{Kind, LONGEST_TRIP, NoMemory, Steps};
 
 impl PlainMeter {
-    ghost use Rattle.verify_bench.specs.Bench.{IsSound, Moves, Stands};
+    ghost use Rattle.verify_bench.specs.Bench.{GoesThrough, GoesThroughEvent, IsSound};
 
     /// A tick.
     pub(crate) fn tick<L: Ledger>(
@@ -28,10 +25,8 @@ impl PlainMeter {
         steps: &mut Steps<L>,
     ) -> Result<(), NoMemory>
         requires sound { IsSound 8639999 0 self.old }
-        ensures moves { OnOk result ((m : Meter) → Stands (setting_of checked.now seal.now) self.old m
-            → Moves (setting_of checked.now seal.now)
-            (ticks_so_far (interval_counted (setting_of checked.now seal.now) m).next.trip)
-            found.old.items found.new.items self.new (ticked (setting_of checked.now seal.now) m)) }
+        ensures moves { OnOk result (GoesThroughEvent (setting_of checked.now seal.now) Tick ticked
+            self.old self.new found.old.items found.new.items) }
         ensures sound { OnOk result (IsSound 8639999 0 self.new) }
     {
         if let Err(NoMemory) = self.count_interval(checked, seal, steps) {
@@ -56,21 +51,14 @@ impl PlainMeter {
         steps: &mut Steps<L>,
     ) -> Result<(), NoMemory>
         requires sound { IsSound 8640000 0 self.old }
-        ensures moves { OnOk result ((m : Meter) → Stands (setting_of checked.now seal.now) self.old m
-            → Moves (setting_of checked.now seal.now) (ticks_so_far m.trip) found.old.items found.new.items self.new
-            (expired_or_pressed (setting_of checked.now seal.now) m)) }
+        ensures moves { OnOk result (GoesThrough (setting_of checked.now seal.now) expired_or_pressed
+            self.old self.new found.old.items found.new.items) }
         ensures sound { OnOk result (IsSound 8639999 0 self.new) }
     {
         if self.ticks() >= LONGEST_TRIP {
-            match self.expire(checked, seal, found) {
-                Ok(()) => Ok(()),
-                Err(_) => Err(NoMemory),
-            }
+            self.expire(checked, seal, found)
         } else {
-            match self.press(alloc, checked, seal, found, steps) {
-                Ok(()) => Ok(()),
-                Err(_) => Err(NoMemory),
-            }
+            self.press(alloc, checked, seal, found, steps)
         }
     }
 
@@ -83,9 +71,8 @@ impl PlainMeter {
         found: &mut Vec<Expected>,
     ) -> Result<(), NoMemory>
         requires sound { IsSound 8640000 0 self.old }
-        ensures moves { OnOk result ((m : Meter) → Stands (setting_of checked.now seal.now) self.old m
-            → Moves (setting_of checked.now seal.now) (ticks_so_far m.trip) found.old.items found.new.items self.new
-            (expired (setting_of checked.now seal.now) m)) }
+        ensures moves { OnOk result (GoesThrough (setting_of checked.now seal.now) expired
+            self.old self.new found.old.items found.new.items) }
         ensures sound { OnOk result (IsSound 8639999 0 self.new) }
     {
         match self.close(Kind::Expired, checked, seal, found) {

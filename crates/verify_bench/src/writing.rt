@@ -4,7 +4,8 @@ ghost use Rattle.arrayvec.specs.ArrayVec.{array_vec_len};
 ghost use Rattle.drive_text.specs.Ranges.{IsInRange};
 ghost use Rattle.drive_text.specs.declared.run.Run.TheVariants.{One, Many};
 ghost use Rattle.taxi_units.specs.declared.event.Event.TheVariants.{Up};
-ghost use Rattle.verify_bench.specs.Generated.{beginning, clock_read, intervals, key_pressed, line, line_text, lines_events, next_state, second_of, value};
+ghost use Rattle.verify_bench.specs.Generated.{beginning, clock_read, intervals, key_pressed, line, line_text, next_state, second_of, value};
+ghost use Rattle.verify_bench.specs.Adding.{lines_events};
 
 use drive_text::put_event;
 use taxi_units::{Event, Key, Line, push_bytes, push_number};

@@ -1,6 +1,6 @@
 use Rattle.std.proofs.Common.{◌≡◌, ◌∙◌, Bool, refl, sym, ap}
 use Rattle.std.specs.Prelude.{◌&&◌, slice_get}
-use Rattle.verify_bench.specs.Passing.{does_place_pass}
+use Rattle.verify_bench.specs.PassingStages.{does_place_pass}
 use Rattle.verify_bench.proofs.EachPasses.{no_place, one_more}
 use Rattle.verify_bench.proofs.passing.do_all_pass.Goals.{then-here, else-here}
 use Rattle.verify_bench.proofs.passing.do_all_pass.Goals as goal

@@ -1,6 +1,7 @@
 use Rattle.std.proofs.Common.{◌≡◌, arith, ◌∙◌, sym, Some, None}
 use Rattle.csv.specs.Records.{fields_of}
-use Rattle.verify_bench.specs.Readings.{AreGood, reading_said}
+use Rattle.verify_bench.specs.Readings.{AreGood}
+use Rattle.verify_bench.specs.ReadingStages.{reading_said}
 use Rattle.verify_bench.proofs.Rows.{good_more, good_length, bad_behind}
 use Rattle.verify_bench.proofs.readings.take_row.Goals as goal
 

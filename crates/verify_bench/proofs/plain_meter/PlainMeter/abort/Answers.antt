@@ -9,7 +9,7 @@ use Rattle.verify_bench.proofs.Benches.{moves_quietly, moves_then}
 use Rattle.verify_bench.proofs.plain_meter.PlainMeter.abort.Goals as goal
 
 pub returns-in-Ok-clause-moves : goal.returns-in-Ok-clause-moves
-returns-in-Ok-clause-moves c trip m is stands =
+returns-in-Ok-clause-moves c trip is m stands =
     let s = setting_of c.args.checked.now c.args.seal.now in
     let t = ticks_so_far m.trip in
     let a = c.args.found.now.items in

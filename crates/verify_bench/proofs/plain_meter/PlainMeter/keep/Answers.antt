@@ -15,7 +15,7 @@ returns-then-self-lt-HOLDS_END-clause-moves c m stands =
     let t = ticks_so_far m.trip in
     let trip = trip_beside s c.in-Some.field-0 c.args.self.now.hiring m.trip c.in-Some.is stands.trips in
     subst (λ (o : Option Trip). Moves s t list list c.hold.new.self (kept s o m)) (sym trip.1)
-    (rw (holds_yet s c.args.self.now m stands c.if-self-lt-HOLDS_END.true) (c.hold.ensures.moves s t list trip.0 m stands))
+    (rw (holds_yet s c.args.self.now m stands c.if-self-lt-HOLDS_END.true) (c.hold.ensures.moves s trip.0 t list m stands))
 
 pub returns-in-None-clause-moves : goal.returns-in-None-clause-moves
 returns-in-None-clause-moves c m stands =

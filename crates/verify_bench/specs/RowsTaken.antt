@@ -1,0 +1,17 @@
+-- For proofs: rows of readings that are taken one by one. Readings says what all rows of a text come to.
+use Rattle.std.specs.Prelude.{◌≡◌, ℕ, ◌+◌, Bool, true, false, List, [], length}
+use Rattle.verify_bench.specs.Readings.{Row, AreGood, IsBadBehind}
+use Rattle.verify_bench.specs.declared.reading.Reading.{Reading}
+use Rattle.verify_bench.specs.declared.reading.ReadingsFault.{ReadingsFault}
+use Rattle.verify_bench.specs.declared.reading.ReadingsFault.TheVariants.{TooLong, BadRow, NoMemory}
+
+-- rows that were taken have given readings where none were taken yet, or where they are good and say these readings
+abbrev pub HaveGiven : (decimals : ℕ) → List Row → (headed : Bool) → List Reading → Type 0
+HaveGiven decimals rows false readings = (rows ≡ []) × (readings ≡ [])
+HaveGiven decimals rows true readings = AreGood decimals rows readings
+
+-- a row isn't taken behind other rows where it is bad, which its number tells, or where memory ran out
+abbrev pub IsRowFault : (decimals : ℕ) → List Row → Row → ReadingsFault → Type 0
+IsRowFault decimals rows row TooLong = ⊥
+IsRowFault decimals rows row (BadRow number) = (number ≡ length rows + 1) × IsBadBehind decimals rows row
+IsRowFault decimals rows row NoMemory = Unit {0}
