@@ -1,9 +1,8 @@
 -- A log that stands for a list passes each slot from the newest record back.
-use Rattle.std.proofs.Common.{◌≡◌, ◌≢◌, ◌⊎◌, inl, inr, ⊎_elim, ℕ, zero, suc, ◌+◌, ◌-◌, ◌*◌, ◌%◌, ◌<◌, ◌≤◌, ◌^◌, List, [], ◌∷◌, length, take, get_or, refl, ap, sym, ◌∙◌, subst, arith, Some, None, Option}
+use Rattle.std.proofs.Common.{◌≡◌, ◌⊎◌, inl, inr, ℕ, zero, suc, ◌+◌, ◌-◌, ◌<◌, ◌≤◌, ◌^◌, List, [], ◌∷◌, length, get_or, refl, ap, sym, ◌∙◌, subst, arith, Some}
 use Rattle.std.proofs.lemmas.Bool.{cases_lt}
-use Rattle.std.specs.Int.{w16, w64, from_be_bytes}
 use Rattle.hiring_log.specs.Record.{Record, IsRecord}
-use Rattle.hiring_log.specs.Slots.{slot_of, behind_gate, Holds, IsClosed, Spells}
+use Rattle.hiring_log.specs.Slots.{slot_of, behind_gate, Holds, IsClosed}
 use Rattle.hiring_log.specs.LogList.{AreHeld, EndsWith, RiseFrom}
 use Rattle.hiring_log.specs.LogRow.{IsBound, slot_back}
 use Rattle.hiring_log.specs.LogScan.{IsEntry}
@@ -11,7 +10,7 @@ use Rattle.hiring_log.specs.declared.scanning.Entry.{Entry}
 use Rattle.hiring_log.proofs.Held.{Bounds, bounds}
 use Rattle.hiring_log.proofs.Rows.{slots_agree}
 use Rattle.hiring_log.proofs.Scans.{one_place}
-use Rattle.hiring_log.proofs.Spelled.{one_spelled, small_number}
+use Rattle.hiring_log.proofs.Spelled.{one_spelled}
 
 -- each record of the list is in its slot
 pub held_at : (image : List ℕ) (place : ℕ) (records : List Record) (k : ℕ) (other : Record) → k < length records → AreHeld image place records

@@ -1,6 +1,6 @@
 -- A count of faults over calls one after another.
-use Rattle.std.proofs.Common.{◌≡◌, ℕ, ◌≤◌, arith, refl, Result}
-use Rattle.std.specs.declared.result.Result.TheVariants.{Ok, Err}
+use Rattle.std.proofs.Common.{ℕ, ◌≤◌, arith, refl, Result}
+use Rattle.std.specs.declared.result.Result.TheVariants.{Err}
 use Rattle.outside.specs.Faults.{HasCause, Rose}
 
 rose_later : (before mid now : ℕ) → before ≤ mid → Rose mid now → Rose before now

@@ -1,5 +1,5 @@
 -- What filing the receipts of a roll comes to.
-use Rattle.std.proofs.Common.{◌≡◌, ℕ, ◌+◌, ◌<◌, ◌≤◌, List, [], ◌∷◌, ◌++◌, Option, Some, None, refl, ap, sym, ◌∙◌, subst, arith}
+use Rattle.std.proofs.Common.{◌≡◌, ℕ, List, [], ◌∷◌, ◌++◌, Option, Some, None, refl, ap, sym, ◌∙◌, subst, arith}
 use Rattle.std.proofs.lemmas.List.{append-nil}
 use Rattle.hiring_log.specs.Filed.{EndsAt, Files, IsNewer, IsOlder}
 use Rattle.hiring_log.specs.Filed.Files.{over, passed, appended}

@@ -1,11 +1,11 @@
 -- What stays of the log where one of its slots is written.
-use Rattle.std.proofs.Common.{◌≡◌, ◌≢◌, ◌⊎◌, inl, inr, ⊎_elim, ℕ, zero, suc, ◌+◌, ◌-◌, ◌*◌, ◌%◌, ◌<◌, ◌≤◌, List, [], ◌∷◌, ◌++◌, length, take, drop, get_or, refl, ap, sym, ◌∙◌, subst, arith, length-append}
+use Rattle.std.proofs.Common.{◌≡◌, ◌≢◌, inl, inr, ℕ, zero, suc, ◌+◌, ◌-◌, ◌<◌, ◌≤◌, List, [], ◌∷◌, ◌++◌, length, drop, get_or, ap, sym, ◌∙◌, subst, arith, length-append}
 use Rattle.std.proofs.lemmas.Bool.{cases_eq, cases_lt}
 use Rattle.std.proofs.lemmas.List.{drop-append-le, length-drop}
 use Rattle.outside.specs.Disk.{IsWithin, SameBut}
 use Rattle.outside.proofs.Laws.{same_slice}
 use Rattle.hiring_log.specs.Record.{Record}
-use Rattle.hiring_log.specs.Slots.{slot_at, slot_of, behind_gate, Holds, IsClosed, IsOpen, Spells}
+use Rattle.hiring_log.specs.Slots.{slot_at, slot_of, Holds, IsClosed, Spells}
 use Rattle.hiring_log.specs.LogList.{AreHeld, EndsWith, IsCount, RiseFrom, last_ones}
 
 module _ (old new : List ℕ) (slot : ℕ) (same : SameBut (IsWithin (slot_at slot) 512) old new) where

@@ -1,8 +1,8 @@
 -- Calls that read alone.
-use Rattle.std.proofs.Common.{◌≡◌, ◌⊎◌, inl, inr, ⊎_elim, ℕ, ◌≤◌, List, length, get_or, refl, ap, sym, ◌∙◌, arith}
+use Rattle.std.proofs.Common.{◌≡◌, inl, inr, ⊎_elim, ℕ, List, length, get_or, refl, ap, ◌∙◌, arith}
 use Rattle.outside.specs.declared.board.Board.{Ghosts}
 use Rattle.outside.specs.Disk.{Elapses, MayLeave, SameBut}
-use Rattle.outside.specs.Runs.{LeavesNow, LeavesOnly}
+use Rattle.outside.specs.Runs.{LeavesNow}
 use Rattle.outside.proofs.Laws.{leaves_none, leaves_then, leaves_wider}
 use Rattle.slot_store.specs.Syncs.{IsSynced, ReadsOnly}
 

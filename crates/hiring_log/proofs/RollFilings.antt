@@ -1,15 +1,14 @@
 -- How the filing of a roll goes on and ends.
-use Rattle.std.proofs.Common.{◌≡◌, ◌≢◌, ◌⊎◌, inl, inr, ℕ, ◌+◌, ◌*◌, ◌≤◌, List, [], ◌∷◌, ◌++◌, length, Option, Some, None, Result, Ok, Err, refl, ap, sym, ◌∙◌, subst, arith, append_assoc, length-append}
+use Rattle.std.proofs.Common.{◌≡◌, ◌≢◌, ◌⊎◌, inl, inr, ℕ, ◌+◌, ◌*◌, ◌≤◌, List, [], ◌∷◌, ◌++◌, length, Option, Some, None, Result, Ok, Err, refl, sym, subst, arith, length-append}
 use Rattle.std.proofs.lemmas.List.{append-nil}
 use Rattle.std.specs.Prelude.{OnErr}
 use Rattle.outside.specs.Faults.{Rose}
 use Rattle.outside.specs.declared.board.Board.{Ghosts}
 use Rattle.outside.specs.declared.fault.Failed.{Failed}
-use Rattle.hiring_log.specs.Filed.{EndsAt, Files, IsNewer, IsOther}
+use Rattle.hiring_log.specs.Filed.{Files, IsFiledOf, IsNewer, IsOther}
 use Rattle.hiring_log.specs.Filings.{EndsAs, FailsInRoll, FilesRoll, FilesTo, IsFiling, IsTold, LeavesSome}
-use Rattle.hiring_log.specs.Reading.{EndsBy, GoesOn, HasRead, Place, roll_limit}
+use Rattle.hiring_log.specs.Reading.{EndsBy, GoesOn, HasRead, Place}
 use Rattle.hiring_log.specs.Record.{Record}
-use Rattle.hiring_log.specs.Roll.{AreOnRoll, Reads}
 use Rattle.hiring_log.specs.declared.file_roll.FileEnd.{FileEnd}
 use Rattle.hiring_log.specs.declared.file_roll.FileEnd.TheVariants as ends
 use Rattle.hiring_log.specs.declared.filing.Filing.{Filing}
@@ -18,6 +17,7 @@ use Rattle.hiring_log.specs.declared.roll.RollEnd.{RollEnd}
 use Rattle.hiring_log.specs.declared.roll.RollEnd.TheVariants.{Whole, TooLong, ReadFault}
 use Rattle.hiring_log.specs.declared.tail.Tail.{Tail}
 use Rattle.hiring_log.proofs.FiledLaws.{files_one_more}
+use Rattle.hiring_log.proofs.RollLaws.{read_first}
 use Rattle.hiring_log.proofs.Tails.{files_then, moments_then}
 use Rattle.hiring_log.proofs.WholeRolls.{receipts_of_all, receipts_so_far, receipts_taken}
 
@@ -65,6 +65,18 @@ module _ {D L : Type 0} (B : Ghosts D L) (tl tf : Type 0) where
 
   -- ---- no more is read
 
+  filed_of : (roll : List ℕ) (place : Place) (rest : List ℕ) (receipts filed : List Record) (newest last : Option Record) → HasRead roll place rest receipts → Files newest receipts filed last → IsFiledOf newest roll rest filed
+  filed_of roll place rest receipts filed newest last h files = record {
+    taken = h.taken;
+    unread = place.ahead;
+    receipts = receipts;
+    last = last;
+    roll_is = h.roll_is;
+    few = omega (arith, h.count);
+    reads = receipts_so_far roll place rest receipts h;
+    files = files;
+  }
+
   abbrev Reason : RollEnd → FileEnd → (filed : ℕ) → Type 0
   Reason end found filed = (end ≡ Whole → found ≡ ends.Filed filed) × (end ≡ TooLong → found ≡ ends.TooLong) × (end ≡ ReadFault → found ≡ ends.ReadFault)
 
@@ -94,6 +106,9 @@ module _ {D L : Type 0} (B : Ghosts D L) (tl tf : Type 0) where
     ends = λ told.
         let read = subst (HasRead roll place' rest') (append-nil h.receipts) (goes told roll h.receipts (h.read told)) in
         ends_as end roll rest' place' h.receipts h.filed first.newest last.newest last.filed read over.1 over.0 h.to.files found why;
+    of = λ told.
+        let read = subst (HasRead roll place' rest') (append-nil h.receipts) (goes told roll h.receipts (h.read told)) in
+        filed_of roll place' rest' h.receipts h.filed first.newest last.newest read h.to.files;
     told = told_as end h.filed last.filed (omega (arith, h.to.count, none)) found why;
     few = h.few;
   }
@@ -121,6 +136,19 @@ module _ {D L : Type 0} (B : Ghosts D L) (tl tf : Type 0) where
             place_is = omega (arith, h.seen_is);
           },
         );
+    of = λ told.
+        let read = goes told roll h.receipts (h.read told) in
+        let before = read_first read.taken place'.ahead (h.receipts ++ it ∷ []) h.receipts (it ∷ []) (receipts_so_far roll place' rest' (h.receipts ++ it ∷ []) read) refl in
+        record {
+          taken = read.taken;
+          unread = before.0;
+          receipts = h.receipts;
+          last = last.newest;
+          roll_is = read.roll_is;
+          few = omega (arith, read.count);
+          reads = before.1;
+          files = h.to.files;
+        };
     told = tt;
     few = h.few;
   }
@@ -146,8 +174,8 @@ module _ {D L : Type 0} (B : Ghosts D L) (tl tf : Type 0) where
     last = Some it;
     files = files_one_more first.newest then.newest it h.receipts h.filed h.to.files newer;
     moments = moments_then B tl old mid new first then h.receipts h.filed (it ∷ []) h.to moments;
-    read = λ told.
-        let read = goes told roll h.receipts (h.read told) in
-        (read.taken, place'.ahead, read.roll_is, receipts_so_far roll place' rest' (h.receipts ++ it ∷ []) read);
+    of = λ told.
+        filed_of roll place' rest' (h.receipts ++ it ∷ []) (h.filed ++ it ∷ []) first.newest (Some it) (goes told roll h.receipts (h.read told))
+        (files_one_more first.newest then.newest it h.receipts h.filed h.to.files newer);
     few = omega (arith, h.few, few, length-append h.filed (it ∷ []));
   }

@@ -49,7 +49,7 @@ one_by text a b after after' e f few h k =
 or_later : (m n : ℕ) → (m ≤ n) ⊎ (n ≤ m)
 or_later m n = grind arith
 
-one_in_front : (text : List ℕ) (a b : Record) (after after' : List ℕ) → text ≡ a.text ++ after → text ≡ b.text ++ after' → IsRecord a → IsRecord b → (a ≡ b) × (after ≡ after')
+pub one_in_front : (text : List ℕ) (a b : Record) (after after' : List ℕ) → text ≡ a.text ++ after → text ≡ b.text ++ after' → IsRecord a → IsRecord b → (a ≡ b) × (after ≡ after')
 one_in_front text a b after after' e f h k =
     elim (or_later (length a.text) (length b.text)) [
       | inl few ↦ one_by text a b after after' e f few h k
@@ -118,3 +118,16 @@ reads_bytes text rest receipts (found t after last r more is h reads) =
     let some = some_bytes r h in
     omega (arith, reads_bytes after last more reads, ap length is, length-append r.text after, ap length some.1)
 reads_bytes text rest receipts (passed t after last byte those is none reads) = omega (arith, reads_bytes after last those reads, ap length is)
+
+-- the first of the receipts that a reading gives are read first
+pub read_first : (text rest : List ℕ) (all some more : List Record) → Reads text all rest → all ≡ some ++ more → (mid : List ℕ) × Reads text some mid
+read_first text rest all [] more reads e = (text, over text)
+read_first text rest all (x ∷ some) more (over t) e = absurd (omega (arith, ap length e))
+read_first text rest all (x ∷ some) more (found t after last r others is h reads) e =
+    let same : r ≡ x = cc in
+    let behind : others ≡ some ++ more = cc in
+    let there = read_first after last others some more reads behind in
+    (there.0, subst (λ (y : Record). Reads text (y ∷ some) there.0) same (found text after there.0 r some is h there.1))
+read_first text rest all (x ∷ some) more (passed t after last byte those is none reads) e =
+    let there = read_first after last those (x ∷ some) more reads e in
+    (there.0, passed text after there.0 byte (x ∷ some) is none there.1)

@@ -1,9 +1,8 @@
 -- Going through the slots of the log from the newest record back.
-use Rattle.std.proofs.Common.{◌≡◌, ◌≢◌, ◌⊎◌, inl, inr, ⊎_elim, ℕ, zero, suc, ◌+◌, ◌-◌, ◌*◌, ◌%◌, ◌<◌, ◌≤◌, List, [], ◌∷◌, length, refl, ap, sym, ◌∙◌, subst, arith, Some}
-use Rattle.std.proofs.lemmas.Bool.{cases_eq, cases_lt}
-use Rattle.hiring_log.specs.Record.{Record}
+use Rattle.std.proofs.Common.{◌≡◌, inl, inr, ℕ, ◌+◌, ◌-◌, ◌<◌, ◌≤◌, List, [], ◌∷◌, length, refl, sym, ◌∙◌, subst, arith, Some}
+use Rattle.std.proofs.lemmas.Bool.{cases_lt}
 use Rattle.hiring_log.specs.Slots.{slot_of, Holds, IsClosed}
-use Rattle.hiring_log.specs.LogList.{AreHeld, EndsWith, IsCount, RiseFrom, StandsAt}
+use Rattle.hiring_log.specs.LogList.{AreHeld, IsCount, StandsAt}
 use Rattle.hiring_log.specs.LogRow.{IsCountBack, IsRow, slot_back}
 use Rattle.hiring_log.specs.LogScan.{IsEntry}
 use Rattle.hiring_log.specs.declared.scanning.Entry.{Entry}

@@ -1,12 +1,12 @@
 -- What a slot's content tells of it.
-use Rattle.std.proofs.Common.{◌≡◌, ◌≢◌, ◌⊎◌, ◌↔◌, inl, inr, ℕ, zero, suc, ◌+◌, ◌*◌, ◌^◌, ◌<◌, List, [], ◌∷◌, take, drop, length, get_or, refl, ap, sym, ◌∙◌, subst, arith, Option, Some, None, Result, IfOk}
+use Rattle.std.proofs.Common.{◌≡◌, ◌↔◌, inl, inr, ℕ, zero, suc, ◌+◌, ◌<◌, List, [], ◌∷◌, take, drop, length, get_or, refl, ap, sym, ◌∙◌, subst, arith, Option, Some, None, Result, IfOk}
 use Rattle.std.specs.declared.result.Result.TheVariants.{Ok, Err}
 use Rattle.std.specs.Int.{w64, from_be_bytes}
 use Rattle.std.proofs.lemmas.List.{drop-take, get_or-drop, get_or-take, get_or-set_other, get_or-set_same}
 use Rattle.std.proofs.lemmas.Bool.{cases_eq}
 use Rattle.std.specs.Prelude.{set}
 use Rattle.hiring_log.specs.Record.{Record}
-use Rattle.hiring_log.specs.Slots.{slot_at, slot_of, behind_gate, Holds, IsClosed, Spells}
+use Rattle.hiring_log.specs.Slots.{slot_at, slot_of, behind_gate, Spells}
 use Rattle.hiring_log.specs.LogScan.{IsBad, IsLowestBad, IsContent, IsContentOf, IsEntry, IsEntryOf}
 use Rattle.hiring_log.specs.declared.scanning.Entry.{Entry}
 use Rattle.hiring_log.specs.declared.scanning.ScanFault.{ScanFault}

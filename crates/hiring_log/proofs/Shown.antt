@@ -1,11 +1,10 @@
 -- How records are shown one after another.
-use Rattle.std.proofs.Common.{◌≡◌, inl, inr, ⊎_elim, ℕ, zero, suc, ◌+◌, ◌*◌, ◌<◌, ◌≤◌, List, [], ◌∷◌, ◌++◌, length, take, drop, Option, Some, None, refl, ap, sym, ◌∙◌, subst, arith, append_assoc}
-use Rattle.std.specs.Prelude.{flat_map}
+use Rattle.std.proofs.Common.{◌≡◌, inl, inr, ⊎_elim, ℕ, zero, suc, ◌+◌, ◌<◌, ◌≤◌, List, [], ◌∷◌, ◌++◌, length, take, drop, Option, Some, None, refl, ap, sym, ◌∙◌, subst, arith, append_assoc}
 use Rattle.std.proofs.lemmas.List.{append-nil, take-append-drop, take_all}
 use Rattle.outside.specs.Printing.{Begins}
 use Rattle.outside.specs.Runs.{KeepsStore}
 use Rattle.outside.specs.declared.board.Board.{Ghosts}
-use Rattle.outside.proofs.Laws.{begins_after, begins_more, begins_whole}
+use Rattle.outside.proofs.Laws.{begins_after, begins_more}
 use Rattle.slot_store.specs.Syncs.{ReadsOnly}
 use Rattle.hiring_log.specs.LogList.{AreHeld}
 use Rattle.hiring_log.specs.LogScan.{IsContent}

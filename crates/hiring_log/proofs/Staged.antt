@@ -1,5 +1,5 @@
 -- What each stage of an append leaves, while it goes on and at its end.
-use Rattle.std.proofs.Common.{◌≡◌, ◌≢◌, ◌⊎◌, inl, inr, ⊎_elim, ℕ, ◌+◌, ◌-◌, ◌*◌, ◌<◌, ◌≤◌, Bool, true, false, List, [], ◌∷◌, ◌++◌, length, take, drop, get_or, refl, ap, sym, ◌∙◌, subst, arith, length-append}
+use Rattle.std.proofs.Common.{◌≡◌, ◌⊎◌, inl, inr, ⊎_elim, ℕ, ◌+◌, ◌-◌, ◌<◌, ◌≤◌, Bool, true, false, List, [], ◌∷◌, ◌++◌, length, take, drop, get_or, refl, ap, sym, ◌∙◌, subst, arith, length-append}
 use Rattle.std.specs.Prelude.{nat_lt}
 use Rattle.std.proofs.lemmas.Bool.{cases_eq, cases_lt, false≢true}
 use Rattle.std.proofs.lemmas.Bool.Decides.{Decides-ltb}
@@ -8,7 +8,7 @@ use Rattle.outside.specs.Disk.{IsWithin, SameBut}
 use Rattle.outside.proofs.Laws.{same_slice}
 use Rattle.slot_store.specs.Writes.{OrWithin}
 use Rattle.hiring_log.specs.Record.{Record, IsRecord}
-use Rattle.hiring_log.specs.Slots.{slot_at, slot_of, behind_gate, spelling, Holds, IsClosed, IsOpen, Spells}
+use Rattle.hiring_log.specs.Slots.{slot_at, slot_of, behind_gate, spelling, IsClosed, IsOpen, Spells}
 use Rattle.hiring_log.specs.LogList.{AreHeld, EndsWith, RiseFrom, StandsFor, last_ones}
 use Rattle.hiring_log.specs.Appends.{IsKept, IsReady, IsShut, IsStill, IsWritten}
 use Rattle.hiring_log.proofs.Held.{bounds, ends_closed, ends_opened, kept_few, kept_of, rise_drop}

@@ -1,5 +1,5 @@
 -- How the end of the log goes on where receipts are filed.
-use Rattle.std.proofs.Common.{◌≡◌, ◌⊎◌, inl, inr, ⊎_elim, ℕ, zero, suc, ◌+◌, ◌-◌, ◌<◌, ◌≤◌, Bool, List, [], ◌∷◌, ◌++◌, length, take, drop, Option, Some, None, refl, ap, sym, ◌∙◌, subst, arith, append_assoc, length-append, length-drop}
+use Rattle.std.proofs.Common.{◌≡◌, inl, inr, ⊎_elim, ℕ, zero, suc, ◌+◌, ◌-◌, ◌<◌, ◌≤◌, Bool, List, [], ◌∷◌, ◌++◌, length, take, drop, Option, Some, None, refl, ap, sym, ◌∙◌, subst, arith, append_assoc, length-append, length-drop}
 use Rattle.std.specs.Prelude.{nat_lt}
 use Rattle.std.proofs.lemmas.List.{append-nil, drop-drop, take-append-le}
 use Rattle.std.proofs.Math.Seq.{take-append-add}
@@ -34,7 +34,7 @@ newest_drop (suc k) n [] few = absurd (omega arith)
 newest_drop (suc k) n (x ∷ xs) few = newest_drop k n xs (omega arith) ∙ newest_any n (Some x) xs (omega arith)
 
 -- the last of a list have its newest
-newest_last : (xs : List Record) → newest_of (last_ones 256 xs) ≡ newest_of xs
+pub newest_last : (xs : List Record) → newest_of (last_ones 256 xs) ≡ newest_of xs
 newest_last [] = refl
 newest_last (x ∷ xs) = newest_drop (length (x ∷ xs) - 256) None (x ∷ xs) (omega arith)
 

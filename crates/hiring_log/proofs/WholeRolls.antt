@@ -1,5 +1,5 @@
 -- What was handed out of a roll, when no more of it is read.
-use Rattle.std.proofs.Common.{◌≡◌, ℕ, Bool, true, false, List, [], ◌++◌, Option, Some, is_some, refl, ap, sym, ◌∙◌, subst}
+use Rattle.std.proofs.Common.{◌≡◌, ℕ, List, [], ◌++◌, Option, Some, is_some, ap, sym, ◌∙◌, subst}
 use Rattle.std.proofs.lemmas.List.{append-nil}
 use Rattle.hiring_log.specs.Reading.{EndsBy, HasRead, Place}
 use Rattle.hiring_log.specs.Record.{Record}

@@ -1,8 +1,8 @@
--- The log's board as a board: what is said of boards is said of it.
+-- Rules: the log's board as a board, so that what is said of boards is said of it.
 use Rattle.outside.specs.declared.board.Board.{Ghosts}
 use Rattle.hiring_log.specs.declared.log_board.LogBoard.{Ghosts as LogGhosts}
 
--- its meanings, which share nothing with the size of its store
+-- the meanings of a log's board are those of a board, and the size of its store plays no part in them
 abbrev pub board_of : {D L : Type 0} → LogGhosts D L → Ghosts D L
 board_of log = record {
   tells_image = log.tells_image;

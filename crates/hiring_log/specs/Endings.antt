@@ -1,9 +1,14 @@
--- What status and what last line belong to each end of the program.
+-- Rules: what status and what last line belong to each end of the program.
 use Rattle.std.specs.Prelude.{ℕ, List, [], ◌++◌, codes, decimal}
 use Rattle.hiring_log.specs.declared.ending.Ended.{Ended}
-use Rattle.hiring_log.specs.declared.ending.Ended.TheVariants.{Filed, Shown, BadWords, BadLog, BrokenLog, OtherTaxi, TooLong, ReadFault, BoardFault}
+use Rattle.hiring_log.specs.declared.ending.Ended.TheVariants.{Filed, Shown, BadWords, BadLog, BrokenLog, OtherTaxi}
+use Rattle.hiring_log.specs.declared.ending.Ended.TheVariants.{TooLong, ReadFault, BoardFault}
+use Rattle.hiring_log.specs.declared.file_roll.FileEnd.{FileEnd}
+use Rattle.hiring_log.specs.declared.file_roll.FileEnd.TheVariants as ends
+use Rattle.hiring_log.specs.declared.finding.FindFault.{FindFault}
+use Rattle.hiring_log.specs.declared.finding.FindFault.TheVariants as faults
 
--- the status
+-- an end of the program has this status
 abbrev pub status_of : Ended → ℕ
 status_of (Filed count) = 0
 status_of Shown = 0
@@ -15,11 +20,11 @@ status_of TooLong = 5
 status_of ReadFault = 7
 status_of BoardFault = 8
 
--- a word, a number and LF
+-- a numbered line is a word, a number in decimal digits, and LF
 abbrev pub numbered : List ℕ → ℕ → List ℕ
 numbered word number = word ++ (decimal number ++ codes "\n")
 
--- the last line
+-- an end of the program has this last line, or an empty text where it has none
 abbrev pub line_of : Ended → List ℕ
 line_of (Filed count) = numbered (codes "FILED ") count
 line_of Shown = []
@@ -30,3 +35,16 @@ line_of (OtherTaxi place) = numbered (codes "OTHER TAXI ") place
 line_of TooLong = codes "ROLL TOO LONG\n"
 line_of ReadFault = codes "READ FAULT\n"
 line_of BoardFault = []
+
+-- a call ends so where no end of its log is found
+abbrev pub unread_end : FindFault → Ended
+unread_end (faults.BadSlot slot) = BadLog slot
+unread_end faults.Broken = BrokenLog
+unread_end faults.LogFault = BoardFault
+
+-- a call ends so where the filing of its roll does
+abbrev pub filing_end : FileEnd → Ended
+filing_end (ends.Filed count) = Filed count
+filing_end (ends.OtherTaxi place) = OtherTaxi place
+filing_end ends.TooLong = TooLong
+filing_end ends.ReadFault = ReadFault

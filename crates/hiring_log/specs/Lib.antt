@@ -1,7 +1,11 @@
+pub mod AppendStages
 pub mod Appends
 pub mod Boards
+pub mod Calls
+pub mod Comes
 pub mod Endings
 pub mod Filed
+pub mod FilingEnds
 pub mod Filings
 pub mod LogList
 pub mod LogRow
@@ -12,4 +16,5 @@ pub mod Record
 pub mod Roll
 pub mod Showing
 pub mod Slots
+pub mod Unread
 pub mod Words

@@ -1,14 +1,15 @@
--- What looking for a receipt at the front of a part of a roll comes to.
+-- For proofs: what looking for a receipt at the front of a part of a roll comes to. Reads, in Roll, says what a roll
+-- has.
 use Rattle.std.specs.Prelude.{◌≡◌, ℕ, ◌≤◌, List, [], ◌++◌, length, drop, Bool, true, false}
 use Rattle.hiring_log.specs.Record.{Record}
 use Rattle.hiring_log.specs.Roll.{Reads}
 
--- these bytes may follow: any where the roll hasn't ended, and none where it has
+-- bytes may follow a part of a roll: any where the roll hasn't ended, and none where it has
 abbrev pub MayFollow : (ended : Bool) → List ℕ → Type 0
 MayFollow false more = Unit {0}
 MayFollow true more = more ≡ []
 
--- so many bytes of a text were passed, and these receipts found in them, whatever may follow
+-- a look passes so many bytes of a text and finds these receipts in them, whatever may follow the text
 pub record LooksTo (ended : Bool) (text : List ℕ) (count : ℕ) (receipts : List Record) : Type 0 where
   pub within : count ≤ length text
   pub reads : (more : List ℕ) → MayFollow ended more → Reads (text ++ more) receipts (drop count text ++ more)

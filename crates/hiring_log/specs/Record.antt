@@ -1,16 +1,16 @@
--- What the log keeps of a receipt.
+-- Rules: what the log keeps of a receipt.
 use Rattle.std.specs.Prelude.{◌≡◌, ℕ, List}
 use Rattle.taxi_units.specs.declared.receipt.Receipt.{Receipt}
 use Rattle.receipt_text.specs.Grammar.{IsReceiptText}
 use Rattle.receipt_text.specs.Part.{Part}
 
--- the text of a receipt, its number, and the identifier of its taxi
+-- a record of the log is the text of a receipt, its number, and the identifier of its taxi
 pub record Record : Type 0 where
   pub text : List ℕ
   pub number : ℕ
   pub taxi : List ℕ
 
--- the text is a receipt's by the grammar, which says this number and this taxi
+-- a record is a receipt's where its text is one by the grammar, and says its number and its taxi
 pub record IsRecord (it : Record) : Type 0 where
   pub receipt : Receipt
   pub part : Part

@@ -1,13 +1,13 @@
--- Which receipts a roll has.
-use Rattle.std.specs.Prelude.{◌≡◌, ℕ, List, [], ◌∷◌, ◌++◌}
+-- Rules: which receipts a roll has.
+use Rattle.std.specs.Prelude.{◌≡◌, ℕ, ◌^◌, List, [], ◌∷◌, ◌++◌}
 use Rattle.hiring_log.specs.Record.{Record, IsRecord}
 
--- no beginning of the text is a receipt
+-- a text begins with none where no beginning of it is a receipt
 abbrev pub BeginsWithNone : List ℕ → Type 0
 BeginsWithNone text = (receipt : Record) (after : List ℕ) → text ≡ receipt.text ++ after → ¬ (IsRecord receipt)
 
--- a text read from its front has these receipts, and this rest of it isn't read: where a beginning of what is left is a
--- receipt, that receipt and then those after it, and otherwise those after the next byte
+-- a text read from its front gives receipts and leaves a rest: where a beginning of what is left is a receipt, that
+-- receipt and then those after it, and otherwise those after the next byte
 pub data Reads : (text : List ℕ) → (receipts : List Record) → (rest : List ℕ) → Type 0 where
   over : (text : List ℕ) → Reads text [] text
   found : (text after rest : List ℕ) (receipt : Record) (more : List Record) → text ≡ receipt.text ++ after
@@ -15,6 +15,10 @@ pub data Reads : (text : List ℕ) → (receipts : List Record) → (rest : List
   passed : (text after rest : List ℕ) (byte : ℕ) (receipts : List Record) → text ≡ byte ∷ after
       → BeginsWithNone text → Reads after receipts rest → Reads text receipts rest
 
--- the receipts of a roll, which is read to its end
+-- receipts are those on a roll where reading it to its end gives them
 abbrev pub AreOnRoll : (receipts : List Record) → (roll : List ℕ) → Type 0
 AreOnRoll receipts roll = Reads roll receipts []
+
+-- of a roll at most so many bytes are taken: 2^40
+abbrev pub roll_limit : ℕ
+roll_limit = 2 ^ 40

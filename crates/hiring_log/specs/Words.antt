@@ -1,22 +1,22 @@
--- The words of a command.
+-- Rules: which words are a command.
 use Rattle.std.specs.Prelude.{ℕ, Bool, List, [], ◌∷◌, Option, Some, None, if◌then◌else◌, nat_eq, codes}
 use Rattle.std.specs.Cmp.Lexicographic.{pointwise}
 use Rattle.hiring_log.specs.declared.words.Call.{Call}
 use Rattle.hiring_log.specs.declared.words.Call.TheVariants.{File, Show}
 
--- a word is this one
+-- a word is `name` where it has the same bytes
 abbrev pub is_word : List ℕ → List ℕ → Bool
 is_word word name = pointwise nat_eq word name
 
--- the commands by the number of their words: `show`,
+-- one word is a command where it is `show`
 abbrev pub one_word : (command : List ℕ) → Option Call
 one_word command = if is_word command (codes "show") then Some Show else None
 
--- and `file ROLL`
+-- two words are a command where the first is `file`, and the second then names the roll
 abbrev pub two_words : (command : List ℕ) → Option Call
 two_words command = if is_word command (codes "file") then Some File else None
 
--- the command that words are
+-- words are this command: `show`, `file ROLL`, or none
 abbrev pub call_of : List (List ℕ) → Option Call
 call_of (command ∷ []) = one_word command
 call_of (command ∷ roll ∷ []) = two_words command

@@ -1,10 +1,27 @@
 //! What the words of the hiring log mean: laws.
-ghost use Rattle.std.specs.Prelude.{◌≡◌, ℕ, List, [], Option, Some};
+ghost use Rattle.std.specs.Prelude.{◌≡◌, ◌++◌, ℕ, List, [], Option, Some};
+ghost use Rattle.hiring_log.specs.Calls.{AppendsNothing, FilesUpTo};
 ghost use Rattle.hiring_log.specs.Filed.{EndsAt, Files};
 ghost use Rattle.hiring_log.specs.Reading.{HasRead, Place};
-ghost use Rattle.hiring_log.specs.Record.{Record};
-ghost use Rattle.hiring_log.specs.Roll.{AreOnRoll};
+ghost use Rattle.hiring_log.specs.Record.{Record, IsRecord};
+ghost use Rattle.hiring_log.specs.Roll.{AreOnRoll, Reads};
+ghost use Rattle.hiring_log.specs.declared.file_roll.FileEnd.{FileEnd};
 ghost use Rattle.hiring_log.specs.declared.roll.RollEnd.TheVariants.{Whole};
+ghost use Rattle.hiring_log.specs.declared.words.Call.TheVariants.{File};
+
+/// A law: no receipt's text is the beginning of another's, and none lies in another's with more behind it.
+pub fn receipts_stand_apart()
+    ensures beginning { (one other : Record) (more : List ℕ) → IsRecord one → IsRecord other
+        → other.text ≡ one.text ++ more → more ≡ [] }
+    ensures within { (one other : Record) (before behind : List ℕ) → IsRecord one → IsRecord other
+        → other.text ≡ before ++ (one.text ++ behind) → behind ≡ [] }
+{}
+
+/// A law: the receipts of a beginning of a roll are the first of the roll's.
+pub fn a_beginning_is_read_as_the_roll()
+    ensures { (taken more rest : List ℕ) (some all : List Record) → Reads taken some rest
+        → AreOnRoll all (taken ++ more) → (others : List Record) × (all ≡ some ++ others) }
+{}
 
 /// A law: a roll is read in one way.
 pub fn a_roll_is_read_once()
@@ -34,4 +51,6 @@ pub fn filing_again_appends_nothing()
         → Files newest receipts filed last → Files last receipts [] last }
     ensures ends { (newest last : Option Record) (roll : List ℕ) (filed : List Record) (place : ℕ)
         → EndsAt newest roll filed last place → EndsAt last roll [] last place }
+    ensures calls { (image roll rest : List ℕ) (end : FileEnd) (found filed : List Record) → AppendsNothing image roll
+        → FilesUpTo (Some File) image roll rest end found filed → filed ≡ [] }
 {}

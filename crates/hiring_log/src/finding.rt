@@ -1,12 +1,12 @@
 //! The end of the log, found by a scan.
-ghost use Rattle.std.specs.Prelude.{◌≡◌, ℕ, ◌+◌, ◌≤◌, List, Some, IfOk, IfSome, Err};
+ghost use Rattle.std.specs.Prelude.{◌≡◌, ◌≢◌, ℕ, ◌+◌, ◌≤◌, List, Some, IfOk, IfSome, Err};
 ghost use Rattle.outside.specs.Faults.{Rose};
 ghost use Rattle.slot_store.specs.Syncs.{IsAsHeld, LeavesFromSync, ReadsOnly};
 ghost use Rattle.hiring_log.specs.Appends.{IsStill};
 ghost use Rattle.hiring_log.specs.Boards.{board_of};
 ghost use Rattle.hiring_log.specs.Filings.{IsLast, IsTailOf, newest_of};
 ghost use Rattle.hiring_log.specs.LogList.{EndsWith, StandsAt, StandsFor};
-ghost use Rattle.hiring_log.specs.LogScan.{IsLowestBad, IsSoundContent};
+ghost use Rattle.hiring_log.specs.LogScan.{IsBroken, IsLowestBad, IsSoundContent};
 ghost use Rattle.hiring_log.specs.Record.{Record, IsRecord};
 ghost use Rattle.hiring_log.specs.declared.scanning.ScanFault.TheVariants.{BadSlot, DeviceFailed};
 ghost use Rattle.hiring_log.specs.declared.finding.FindFault.{FindFault};
@@ -107,8 +107,7 @@ fn tail_of<G: LogBoard<L>, L: Ledger>(
         × IsTailOf (G.image log.old) (G.in_flight log.new) tail records) }
     ensures bad { (slot : ℕ) → result ≡ Err (FindFault.BadSlot slot) → G.tells_image
         → ¬ AreEntries (G.image log.old) entries.now }
-    ensures broken { result ≡ Err Broken → (image : List ℕ) → AreEntries image entries.now
-        → (records : List Record) → ¬ StandsFor records image }
+    ensures broken { result ≡ Err Broken → (image : List ℕ) → AreEntries image entries.now → IsBroken image }
     ensures last { IfOk result (λ tail. IsLast tail.last tail.newest × (tail.filed ≡ 0)) }
     ensures failed { result ≡ Err LogFault → Rose (G.faults log.old) (G.faults log.new) }
     ensures later { G.faults log.old ≤ G.faults log.new }
@@ -144,14 +143,14 @@ pub(crate) fn find_tail<G: LogBoard<L>, L: Ledger>(
         × StandsFor records (G.image log.old) × IsTailOf (G.image log.new) (G.in_flight log.new) tail records) }
     ensures bad { (slot : ℕ) → result ≡ Err (FindFault.BadSlot slot) → G.tells_image
         → IsLowestBad (G.image log.old) slot }
-    ensures broken { result ≡ Err Broken → G.tells_image
-        → (records : List Record) → ¬ StandsFor records (G.image log.old) }
+    ensures broken { result ≡ Err Broken → G.tells_image → IsBroken (G.image log.old) }
     ensures last { IfOk result (λ tail. IsLast tail.last tail.newest × (tail.filed ≡ 0)) }
     ensures failed { result ≡ Err LogFault → Rose (G.faults log.old) (G.faults log.new) }
     ensures later { G.faults log.old ≤ G.faults log.new }
     ensures synced { G.tells_image → LeavesFromSync (board_of G.LogBoard) (result ≡ Err LogFault)
         log.old log.new (IsAsHeld (board_of G.LogBoard) log.old) }
-    ensures text { G.printed log.new ≡ G.printed log.old }
+    ensures reads { ReadsOnly (board_of G.LogBoard) log.old log.new }
+    ensures same { result ≢ Err LogFault → G.image log.new ≡ G.image log.old }
     ensures steps { steps.new ≤ steps.old + 258 }
 {
     log.sync(steps)?;

@@ -3,21 +3,33 @@
 #![tactic(auto)]
 
 mod appending;
+#[cfg(test)]
+mod cut_tests;
 mod durable;
 mod ending;
 mod entries;
-mod file_log;
-mod file_roll;
 #[cfg(test)]
-mod file_roll_tests;
+mod failure_tests;
+mod file_log;
+#[cfg(test)]
+mod file_log_tests;
+mod file_roll;
 mod filing;
 mod filing_laws;
 mod finding;
 mod front;
+#[cfg(test)]
+mod growth_tests;
+mod keep_log;
+#[cfg(test)]
+mod keep_log_tests;
 mod log_board;
+mod log_laws;
 mod log_record;
 mod look;
 mod memory_log;
+#[cfg(test)]
+mod memory_log_tests;
 mod newest;
 mod roll;
 #[cfg(test)]
@@ -29,8 +41,61 @@ mod slot_record;
 mod tail;
 mod words;
 
-use std::process::ExitCode;
+ghost use Rattle.std.specs.Prelude.{◌≡◌, ◌<◌};
 
-fn main(_rt: HostRuntime) -> ExitCode {
-    ExitCode::from(0)
+use file_log::FileLog;
+use outside::HostFiles;
+use std::env;
+use std::io::ErrorKind;
+use std::marker::Brand;
+use std::process::ExitCode;
+use std::rt::Env;
+use std::sync::ledger::{Blank, Ledger};
+use taxi_units::Steps;
+
+/// The status where a word isn't text.
+const BAD_WORDS: u8 = 1;
+
+/// The status where memory runs out.
+const NO_MEMORY: u8 = 12;
+
+/// The words after the program's name, or the status where they can't be had.
+fn program_words<R: Env + AllocGlobal>(rt: &R) -> Result<Vec<String>, u8> {
+    let args = match env::args(rt) {
+        Ok(args) => args,
+        Err(error) => {
+            return match error.kind() {
+                ErrorKind::InvalidData => Err(BAD_WORDS),
+                _ => Err(NO_MEMORY),
+            };
+        }
+    };
+    let mut words = Vec::new(rt.alloc());
+    for word in args.skip(1) {
+        let Ok(()) = words.push(word) else {
+            return Err(NO_MEMORY);
+        };
+    }
+    Ok(words)
+}
+
+/// Carries out the words of the program, under its one counter of steps.
+fn status<L: Ledger>(rt: HostRuntime, blank: Blank) -> u8
+    requires name { blank.name ≡ L.name }
+    requires parts { blank.parts ≡ L.parts }
+    requires some { 0 < blank.parts }
+{
+    let alloc = rt.alloc();
+    let words = match program_words(&rt) {
+        Ok(words) => words,
+        Err(status) => return status,
+    };
+    let mut files = HostFiles::new(rt, alloc, words.as_slice());
+    let mut log = FileLog::new(rt, alloc);
+    let mut steps: Steps<L> = Steps::open(blank);
+    keep_log::keep_log(words.as_slice(), &mut files, &mut log, &mut steps)
+}
+
+fn main(rt: HostRuntime) -> ExitCode {
+    ExitCode::from(status::<Brand>(rt, Blank::new(1)))
 }

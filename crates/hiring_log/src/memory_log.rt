@@ -39,9 +39,7 @@ impl MemoryLog {
         ensures state { IfOk result (λ b. b.state ≡ new_board image.now fail.now) }
         ensures new { IfOk result (λ b. IsNew image.now b.state) }
     {
-        let mut store = [0; 131072];
-        store.copy_from_slice(image);
-        let device = MemoryDevice::new(alloc, &store, fail)?;
+        let device = MemoryDevice::new(alloc, whole(image), fail)?;
         Ok(MemoryLog { device })
     }
 
@@ -79,6 +77,7 @@ impl MemoryLog {
     /// gave before the call. `NoMemory` comes only where there is no memory.
     pub fn cut(&self, alloc: Global, call: u64, fill: Fill) -> Result<Vec<u8>, NoMemory>
         requires { call ≤ length self.now.state.calls }
+        ensures size { IfOk result (λ cut. length cut.items ≡ 131072) }
         ensures left { IfOk result (λ cut. left_since_of self.now.state 0 cut.items
             (held_inside self.now.state call).text) }
         ensures inside { IfOk result (λ cut. SameBut (IsInSome (held_inside self.now.state call).ranges)
@@ -87,11 +86,17 @@ impl MemoryLog {
             → cut.items ≡ (held_inside self.now.state call).image) }
         ensures zero { IfOk result (λ cut. call ≡ 0 → cut.items ≡ self.now.state.start) }
     {
-        let left = self.device.cut(call, fill);
-        match Vec::from_slice(alloc, &left) {
-            Ok(cut) => Ok(cut),
-            Err(_) => Err(NoMemory),
-        }
+        let mut image = room(alloc)?;
+        let mut settled = room(alloc)?;
+        let mut left = room(alloc)?;
+        self.device.cut_into(
+            call,
+            fill,
+            image.as_mut_slice(),
+            settled.as_mut_slice(),
+            left.as_mut_slice(),
+        );
+        Ok(left)
     }
 }
 
@@ -196,5 +201,26 @@ impl<L: Ledger> LogBoard<L> for MemoryLog {
     {
         steps.spend();
         self.device.print(bytes)
+    }
+}
+
+/// The bytes of a store, as an array of their number.
+fn whole(image: &[u8]) -> &[u8; 131072]
+    requires { length image.now ≡ 131072 }
+    ensures { result.now ≡ image.now }
+{
+    match <&[u8; 131072]>::try_from(image) {
+        Ok(whole) => whole,
+        Err(_) => unreachable!(),
+    }
+}
+
+/// As many bytes as the store has, each of them zero.
+fn room(alloc: Global) -> Result<Vec<u8>, NoMemory>
+    ensures { IfOk result (λ room. length room.items ≡ 131072) }
+{
+    match vec![in alloc; 0u8; 131072] {
+        Ok(room) => Ok(room),
+        Err(_) => Err(NoMemory),
     }
 }

@@ -9,6 +9,9 @@ use crate::look::look;
 use outside::{Failed, Files};
 use std::marker::Model;
 
+#[cfg(test)]
+mod tests;
+
 /// At most so many bytes of a roll are taken: 2^40.
 const LIMIT: u64 = 1 << 40;
 

@@ -1,11 +1,10 @@
-use Rattle.std.proofs.Common.{◌≡◌, inl, inr, ℕ, List, ap, sym, ◌∙◌, subst, IfOk, rules}
-use Rattle.slot_store.specs.Syncs.{IsSynced}
+use Rattle.std.proofs.Common.{inl, inr, ℕ, List, sym, ◌∙◌, subst, IfOk, rules}
 use Rattle.slot_store.proofs.Laws.{held_on}
 use Rattle.hiring_log.specs.Boards.{board_of}
 use Rattle.hiring_log.specs.Filings.{IsTailOf}
 use Rattle.hiring_log.specs.LogList.{StandsFor}
 use Rattle.hiring_log.specs.LogRow.{AreEntries}
-use Rattle.hiring_log.specs.LogScan.{IsLowestBad}
+use Rattle.hiring_log.specs.LogScan.{IsBroken, IsLowestBad}
 use Rattle.hiring_log.specs.Record.{Record}
 use Rattle.hiring_log.specs.declared.scanning.ScanFault.TheVariants.{BadSlot}
 use Rattle.hiring_log.proofs.NewestFound.{fault_known, same_fault}
@@ -32,10 +31,10 @@ returns-in-Ok-clause-bad g c slot err told =
     absurd (c.tail_of.ensures.bad slot err told are)
 
 pub returns-in-Ok-clause-broken : goal.returns-in-Ok-clause-broken
-returns-in-Ok-clause-broken g c err told records stands =
+returns-in-Ok-clause-broken g c err told =
     let same = c.read_entries.ensures.image ∙ c.in_ok-sync.ensures.same in
     let are = subst (λ (i : List ℕ). AreEntries i c.in-Ok.entries) (sym c.read_entries.ensures.image) (c.in-Ok.ensures.entries told) in
-    c.tail_of.ensures.broken err (g.G.LogBoard.image c.read_entries.new.log) are records (subst (StandsFor records) (sym same) stands)
+    subst IsBroken same (c.tail_of.ensures.broken err (g.G.LogBoard.image c.read_entries.new.log) are)
 
 pub returns-in-Ok-clause-synced : goal.returns-in-Ok-clause-synced
 returns-in-Ok-clause-synced g c told =
@@ -54,10 +53,36 @@ returns-in-Err-clause-bad g c slot err told =
     (c.in-Err.ensures.bad slot (fault_known _ c.in-Err.fault (BadSlot slot) (c.fault_of.ensures.bad slot (same_fault _ _ _ err))) told)
 
 pub returns-in-Err-clause-broken : goal.returns-in-Err-clause-broken
-returns-in-Err-clause-broken g c err told records = absurd (c.fault_of.ensures.whole (same_fault _ _ _ err))
+returns-in-Err-clause-broken g c err told = absurd (c.fault_of.ensures.whole (same_fault _ _ _ err))
 
 pub returns-in-Err-clause-synced : goal.returns-in-Err-clause-synced
 returns-in-Err-clause-synced g c told =
     let board = board_of g.G.LogBoard in
     let synced = synced_by board c.args.log.now c.sync.new.self (g.met.G.LogBoard.only_now c.args.log.now) c.sync.ensures.image c.sync.ensures.flight c.sync.ensures.text c.sync.ensures.time c.in_ok-sync.ensures.same (c.in_ok-sync.ensures.durable told) in
     inr (c.sync.new.self, synced, held_on board c.args.log.now c.sync.new.self c.read_entries.new.log synced c.read_entries.ensures.reads.leaves)
+
+-- ---- whatever is told
+
+pub returns-in_err-sync-clause-reads : goal.returns-in_err-sync-clause-reads
+returns-in_err-sync-clause-reads g c =
+    reads_sync (board_of g.G.LogBoard) _ _ (g.met.G.LogBoard.only_now c.args.log.now) c.sync.ensures.image c.sync.ensures.flight c.sync.ensures.text c.sync.ensures.time
+
+pub returns-in-Ok-clause-reads : goal.returns-in-Ok-clause-reads
+returns-in-Ok-clause-reads g c =
+    let board = board_of g.G.LogBoard in
+    reads_then board c.args.log.now c.sync.new.self c.tail_of.new.log
+    (reads_sync board c.args.log.now c.sync.new.self (g.met.G.LogBoard.only_now c.args.log.now) c.sync.ensures.image c.sync.ensures.flight c.sync.ensures.text c.sync.ensures.time) c.in_ok-sync.ensures.same
+    (reads_then board c.sync.new.self c.read_entries.new.log c.tail_of.new.log c.read_entries.ensures.reads c.read_entries.ensures.image c.tail_of.ensures.reads)
+
+pub returns-in-Err-clause-reads : goal.returns-in-Err-clause-reads
+returns-in-Err-clause-reads g c =
+    let board = board_of g.G.LogBoard in
+    reads_then board c.args.log.now c.sync.new.self c.read_entries.new.log
+    (reads_sync board c.args.log.now c.sync.new.self (g.met.G.LogBoard.only_now c.args.log.now) c.sync.ensures.image c.sync.ensures.flight c.sync.ensures.text c.sync.ensures.time) c.in_ok-sync.ensures.same
+    c.read_entries.ensures.reads
+
+pub returns-in-Ok-clause-same : goal.returns-in-Ok-clause-same
+returns-in-Ok-clause-same g c = λ not. c.tail_of.ensures.image ∙ (c.read_entries.ensures.image ∙ c.in_ok-sync.ensures.same)
+
+pub returns-in-Err-clause-same : goal.returns-in-Err-clause-same
+returns-in-Err-clause-same g c = λ not. c.read_entries.ensures.image ∙ c.in_ok-sync.ensures.same

@@ -1,4 +1,4 @@
-use Rattle.std.proofs.Common.{◌≡◌, ℕ, sym, ◌∙◌, arith, Option, Some, None}
+use Rattle.std.proofs.Common.{◌≡◌, sym, ◌∙◌, arith, Option, Some, None}
 use Rattle.hiring_log.specs.Record.{Record}
 use Rattle.hiring_log.proofs.NewestFound.{newest_told, none_newest}
 use Rattle.hiring_log.proofs.finding.read_newest.Goals as goal

@@ -4,13 +4,17 @@ use Rattle.hiring_log.specs.LogList.{StandsAt}
 use Rattle.hiring_log.specs.LogScan.{IsEntry}
 use Rattle.hiring_log.specs.Slots.{slot_of}
 use Rattle.hiring_log.proofs.NewestFound.{tail_found}
+use Rattle.hiring_log.proofs.Scans.{not_bad}
 use Rattle.hiring_log.proofs.finding.tail_of.Goals as goal
 
 pub returns-then-not-is_row-clause-broken : goal.returns-then-not-is_row-clause-broken
-returns-then-not-is_row-clause-broken g c err image are records stands =
-    let last_is = c.newest_place-last.ensures image stands.0 are (records, stands.1) in
-    let told = c.if-not-is_row.ensures.stands image are (subst (StandsAt image) last_is (records, stands.1)) in
-    absurd cc
+returns-then-not-is_row-clause-broken g c err image are = record {
+  none_bad = λ slot small. not_bad image slot (get_or c.args.entries.now slot None) (are slot small);
+  no_list = λ records stands.
+      let last_is = c.newest_place-last.ensures image stands.0 are (records, stands.1) in
+      let told = c.if-not-is_row.ensures.stands image are (subst (StandsAt image) last_is (records, stands.1)) in
+      absurd cc;
+}
 
 pub returns-in-Ok-clause-found : goal.returns-in-Ok-clause-found
 returns-in-Ok-clause-found g c told still are =

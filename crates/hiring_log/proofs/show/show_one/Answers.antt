@@ -1,4 +1,4 @@
-use Rattle.std.proofs.Common.{◌≡◌, ℕ, List, ◌++◌, ap, sym, ◌∙◌, subst, Some, None}
+use Rattle.std.proofs.Common.{◌≡◌, ℕ, List, ◌++◌, ap, ◌∙◌, subst}
 use Rattle.std.proofs.lemmas.Result.{on_ok_weaker}
 use Rattle.outside.specs.Printing.{Begins}
 use Rattle.outside.proofs.Laws.{begins_not}

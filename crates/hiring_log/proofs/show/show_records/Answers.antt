@@ -1,4 +1,4 @@
-use Rattle.std.proofs.Common.{◌≡◌, ℕ, ◌+◌, ◌≤◌, List, sym, subst, arith}
+use Rattle.std.proofs.Common.{ℕ, ◌+◌, List, sym, subst, arith}
 use Rattle.outside.proofs.Laws.{keeps_then}
 use Rattle.hiring_log.specs.Boards.{board_of}
 use Rattle.hiring_log.specs.Slots.{Holds, slot_of}

@@ -1,4 +1,4 @@
-use Rattle.std.proofs.Common.{◌≡◌, ℕ, ◌+◌, ◌*◌, ◌≤◌, ◌++◌, List, length, take}
+use Rattle.std.proofs.Common.{◌≡◌, ◌+◌, ◌*◌, ◌≤◌, ◌++◌, List, length, take}
 use Rattle.outside.specs.Runs.{KeepsStore}
 use Rattle.hiring_log.specs.Boards.{board_of}
 use Rattle.hiring_log.specs.LogList.{AreHeld}

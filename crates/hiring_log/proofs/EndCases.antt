@@ -1,0 +1,67 @@
+-- Which ends and statuses the finding of the log's end and the filing of a roll come to.
+use Rattle.std.proofs.Common.{◌≡◌, ◌≢◌, inl, inr, ℕ, ◌≤◌, List, Some, Result, Ok, Err, refl, sym, ◌∙◌, arith}
+use Rattle.outside.specs.declared.board.Board.{Ghosts}
+use Rattle.slot_store.specs.Syncs.{LeavesFromSync}
+use Rattle.slot_store.proofs.Laws.{from_sync_as}
+use Rattle.hiring_log.specs.Calls.{WritesNothing}
+use Rattle.hiring_log.specs.Endings.{filing_end, status_of, unread_end}
+use Rattle.hiring_log.specs.declared.ending.Ended.TheVariants.{ReadFault, BoardFault}
+use Rattle.hiring_log.specs.declared.file_roll.FileEnd.{FileEnd}
+use Rattle.hiring_log.specs.declared.file_roll.FileEnd.TheVariants as ends
+use Rattle.hiring_log.specs.declared.finding.FindFault.{FindFault}
+use Rattle.hiring_log.specs.declared.finding.FindFault.TheVariants as faults
+use Rattle.hiring_log.specs.declared.words.Call.TheVariants.{File}
+use Rattle.hiring_log.proofs.NewestFound.{same_fault}
+
+pub unread_no_read : (fault : FindFault) → unread_end fault ≡ ReadFault → ⊥
+unread_no_read (faults.BadSlot slot) e = absurd cc
+unread_no_read faults.Broken e = absurd cc
+unread_no_read faults.LogFault e = absurd cc
+
+pub unread_board : (fault : FindFault) → unread_end fault ≡ BoardFault → fault ≡ faults.LogFault
+unread_board (faults.BadSlot slot) e = absurd cc
+unread_board faults.Broken e = absurd cc
+unread_board faults.LogFault e = refl
+
+pub filing_read : (end : FileEnd) → filing_end end ≡ ReadFault → end ≡ ends.ReadFault
+filing_read (ends.Filed count) e = absurd cc
+filing_read (ends.OtherTaxi place) e = absurd cc
+filing_read ends.TooLong e = absurd cc
+filing_read ends.ReadFault e = refl
+
+pub filing_no_board : (end : FileEnd) → filing_end end ≡ BoardFault → ⊥
+filing_no_board (ends.Filed count) e = absurd cc
+filing_no_board (ends.OtherTaxi place) e = absurd cc
+filing_no_board ends.TooLong e = absurd cc
+filing_no_board ends.ReadFault e = absurd cc
+
+in_range : (end : FileEnd) → 1 ≤ status_of (filing_end end) → status_of (filing_end end) ≤ 3 → ⊥
+in_range (ends.Filed count) low high = omega (arith, low)
+in_range (ends.OtherTaxi place) low high = omega (arith, high)
+in_range ends.TooLong low high = omega (arith, high)
+in_range ends.ReadFault low high = omega (arith, high)
+
+-- a filing writes
+pub filing_writes : (end : FileEnd) (status : ℕ) → status ≡ status_of (filing_end end) → WritesNothing (Some File) status → ⊥
+filing_writes end status is (inl not) = not refl
+filing_writes end status is (inr range) = in_range end (omega (arith, is, range.0)) (omega (arith, is, range.1))
+
+pub fault_writes : WritesNothing (Some File) 8 → ⊥
+fault_writes (inl not) = not refl
+fault_writes (inr range) = omega (arith, range.1)
+
+module _ {D L T : Type 0} (B : Ghosts D L) (kind : List ℕ → List ℕ → Type 0) (old new : D) (r : Result T FindFault) where
+  -- where no end is found, a sync that fails is the fault
+  pub unread_sync : (fault : FindFault) → r ≡ Err fault → LeavesFromSync B (r ≡ Err faults.LogFault) old new kind → LeavesFromSync B (fault ≡ faults.LogFault) old new kind
+  unread_sync fault is synced = from_sync_as B kind kind (r ≡ Err faults.LogFault) (fault ≡ faults.LogFault) old new (λ e. same_fault T fault faults.LogFault (sym is ∙ e)) (λ image text is_kind. is_kind) synced
+
+  no_fault : (found : T) → r ≡ Ok found → r ≡ Err faults.LogFault → ⊥
+  no_fault found is e = let no : ◌≡◌ {A = Result T FindFault} (Ok found) (Err faults.LogFault) = sym is ∙ e in absurd cc
+
+  -- where one is found, it has succeeded
+  pub found_sync : (found : T) → r ≡ Ok found → LeavesFromSync B (r ≡ Err faults.LogFault) old new kind → LeavesFromSync B ⊥ old new kind
+  found_sync found is synced = from_sync_as B kind kind (r ≡ Err faults.LogFault) ⊥ old new (no_fault found is) (λ image text is_kind. is_kind) synced
+
+  -- and the image is as it was
+  pub found_same : {S : Type 0} (found : T) → r ≡ Ok found → (r ≢ Err faults.LogFault → S) → S
+  found_same found is same = same (no_fault found is)

@@ -1,0 +1,79 @@
+use Rattle.std.proofs.Common.{◌≡◌, ◌∙◌, Some, Err, refl, sym, ap, subst, arith}
+use Rattle.std.specs.Prelude.{is_err}
+use Rattle.slot_store.specs.Syncs.{IsAsHeld}
+use Rattle.hiring_log.specs.Boards.{board_of}
+use Rattle.hiring_log.specs.Comes.{Comes}
+use Rattle.hiring_log.specs.Endings.{status_of, unread_end}
+use Rattle.hiring_log.specs.declared.ending.Ended.{Ended}
+use Rattle.hiring_log.specs.declared.finding.FindFault.TheVariants.{LogFault}
+use Rattle.hiring_log.specs.declared.words.Call.TheVariants.{Show}
+use Rattle.hiring_log.proofs.Comings.{comes_cut, comes_shown, comes_unread}
+use Rattle.hiring_log.proofs.Counted.{found_ends, found_held}
+use Rattle.hiring_log.proofs.EndCases.{found_same, unread_board, unread_no_read, unread_sync}
+use Rattle.hiring_log.proofs.Finishing.{looks_keeps, looks_read}
+use Rattle.hiring_log.proofs.NewestFound.{same_fault}
+use Rattle.hiring_log.proofs.keep_log.show.Goals as goal
+
+-- ---- the log isn't read
+
+pub returns-in-Err-clause-comes : goal.returns-in-Err-clause-comes
+returns-in-Err-clause-comes g c = λ told.
+    let B = board_of g.G.LogBoard in
+    let fault = c.in-Err.fault in
+    subst (λ (end : Ended). Comes g.F.Files B (Some Show) c.args.files.now c.args.files.now c.args.log.now c.find_tail.new.log c.args.steps.now c.find_tail.new.steps end) (sym c.ended_unread.ensures)
+    (comes_unread g.F.Files B (Some Show) c.args.files.now c.args.files.now c.args.log.now c.find_tail.new.log c.args.steps.now c.find_tail.new.steps fault (Show, refl)
+    (λ slot is. c.find_tail.ensures.bad slot (c.in-Err.is ∙ ap Err is) told) (λ is. c.find_tail.ensures.broken (c.in-Err.is ∙ ap Err is) told) (λ is. c.find_tail.ensures.failed (c.in-Err.is ∙ ap Err is))
+    (unread_sync B (IsAsHeld B c.args.log.now) c.args.log.now c.find_tail.new.log c.find_tail.result fault c.in-Err.is (c.find_tail.ensures.synced told)) c.find_tail.ensures.reads.text c.find_tail.ensures.steps)
+
+pub returns-in-Err-clause-unread : goal.returns-in-Err-clause-unread
+returns-in-Err-clause-unread g c = λ e. unread_no_read c.in-Err.fault (sym c.ended_unread.ensures ∙ e)
+
+pub returns-in-Err-clause-board_fault : goal.returns-in-Err-clause-board_fault
+returns-in-Err-clause-board_fault g c = λ e. c.find_tail.ensures.failed (c.in-Err.is ∙ ap Err (unread_board c.in-Err.fault (sym c.ended_unread.ensures ∙ e)))
+
+pub returns-in-Err-clause-looks : goal.returns-in-Err-clause-looks
+returns-in-Err-clause-looks g c =
+    looks_read (board_of g.G.LogBoard) c.args.log.now c.find_tail.new.log (status_of c.ended_unread.result) c.find_tail.ensures.reads
+    (λ not. c.find_tail.ensures.same (λ e. not (ap status_of (c.ended_unread.ensures ∙ ap unread_end (same_fault _ c.in-Err.fault LogFault (sym c.in-Err.is ∙ e))))))
+
+-- ---- the records are printed
+
+pub returns-in-Ok-show_records-clause-comes : goal.returns-in-Ok-show_records-clause-comes
+returns-in-Ok-show_records-clause-comes g c = λ told.
+    let B = board_of g.G.LogBoard in
+    let old = g.G.LogBoard.image c.args.log.now in
+    let new = g.G.LogBoard.image c.find_tail.new.log in
+    let flying = g.G.LogBoard.in_flight c.find_tail.new.log in
+    let found = c.in-Ok.ensures.found told in
+    let same : new ≡ old = found_same B (IsAsHeld B c.args.log.now) c.args.log.now c.find_tail.new.log c.find_tail.result c.in-Ok.tail c.in-Ok.is c.find_tail.ensures.same in
+    let count = c.count_of-count.ensures.count new found.0 (found_ends old new flying c.in-Ok.tail found.0 found.1 same found.2) found.2.ready.opened found.2.ready.closed in
+    comes_shown g.F.Files B c.args.files.now c.args.log.now c.find_tail.new.log c.show_records.new.log c.args.steps.now c.show_records.new.steps found.0 found.1 c.find_tail.ensures.reads.text
+    (λ text. c.in-Ok-show_records.ensures.shown told text found.0 (found_held old new flying c.in-Ok.tail found.0 found.1 same found.2 c.count_of-count.result _ count refl) count)
+
+pub returns-in-Ok-show_records-clause-looks : goal.returns-in-Ok-show_records-clause-looks
+returns-in-Ok-show_records-clause-looks g c =
+    let B = board_of g.G.LogBoard in
+    looks_keeps B c.args.log.now c.find_tail.new.log c.show_records.new.log 0 (g.met.G.LogBoard.only_now c.find_tail.new.log) c.find_tail.ensures.reads
+    (found_same B (IsAsHeld B c.args.log.now) c.args.log.now c.find_tail.new.log c.find_tail.result c.in-Ok.tail c.in-Ok.is c.find_tail.ensures.same) c.show_records.ensures.keeps
+
+pub returns-in-Err-show_records-clause-comes : goal.returns-in-Err-show_records-clause-comes
+returns-in-Err-show_records-clause-comes g c = λ told.
+    let B = board_of g.G.LogBoard in
+    let old = g.G.LogBoard.image c.args.log.now in
+    let new = g.G.LogBoard.image c.find_tail.new.log in
+    let flying = g.G.LogBoard.in_flight c.find_tail.new.log in
+    let found = c.in-Ok.ensures.found told in
+    let same : new ≡ old = found_same B (IsAsHeld B c.args.log.now) c.args.log.now c.find_tail.new.log c.find_tail.result c.in-Ok.tail c.in-Ok.is c.find_tail.ensures.same in
+    let count = c.count_of-count.ensures.count new found.0 (found_ends old new flying c.in-Ok.tail found.0 found.1 same found.2) found.2.ready.opened found.2.ready.closed in
+    comes_cut g.F.Files B c.args.files.now c.args.log.now c.find_tail.new.log c.show_records.new.log c.args.steps.now c.show_records.new.steps found.0 found.1 c.find_tail.ensures.reads.text
+    (λ text. c.show_records.ensures.begun told text found.0 (found_held old new flying c.in-Ok.tail found.0 found.1 same found.2 c.count_of-count.result _ count refl) count)
+    (omega (arith, c.show_records.ensures.cause.failed (ap is_err c.in-Err-show_records.is), c.find_tail.ensures.later))
+
+pub returns-in-Err-show_records-clause-board_fault : goal.returns-in-Err-show_records-clause-board_fault
+returns-in-Err-show_records-clause-board_fault g c = λ e. omega (arith, c.show_records.ensures.cause.failed (ap is_err c.in-Err-show_records.is), c.find_tail.ensures.later)
+
+pub returns-in-Err-show_records-clause-looks : goal.returns-in-Err-show_records-clause-looks
+returns-in-Err-show_records-clause-looks g c =
+    let B = board_of g.G.LogBoard in
+    looks_keeps B c.args.log.now c.find_tail.new.log c.show_records.new.log 8 (g.met.G.LogBoard.only_now c.find_tail.new.log) c.find_tail.ensures.reads
+    (found_same B (IsAsHeld B c.args.log.now) c.args.log.now c.find_tail.new.log c.find_tail.result c.in-Ok.tail c.in-Ok.is c.find_tail.ensures.same) c.show_records.ensures.keeps
