@@ -27,7 +27,8 @@ use Rattle.taxi_cli.specs.declared.seal.Base.{Base}
 use Rattle.taxi_cli.specs.Call.{IsEnd}
 use Rattle.taxi_cli.specs.LastLine.{line_of, status_of}
 use Rattle.taxi_cli.specs.Opening.{opened, opening_of}
-use Rattle.taxi_cli.specs.Seal.{HasSealed, IsAmidOf, RestsAmid, Seals, over_seal, over_totals, sealing_of, sealing_over, sealing_with}
+use Rattle.taxi_cli.specs.Seal.{HasSealed, IsAmidOf, Seals, over_seal, over_totals, sealing_of, sealing_over, sealing_with}
+use Rattle.taxi_cli.specs.SealSteps.{RestsAmid}
 use Rattle.taxi_cli.proofs.Rests.{board_or_not}
 
 -- ---- the opening image is amid the sealing already

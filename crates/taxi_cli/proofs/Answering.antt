@@ -1,5 +1,5 @@
 -- Commands that end by the store: with a refusal, or with a fault of the board before their answer.
-use Rattle.std.proofs.Common.{◌≡◌, ◌≢◌, ℕ, List, [], ◌++◌, refl, sym, ap, ◌∙◌, inl, inr}
+use Rattle.std.proofs.Common.{◌≡◌, ◌≢◌, ℕ, List, [], ◌++◌, refl, sym, ap, subst, ◌∙◌, inl, inr}
 use Rattle.std.proofs.lemmas.List.{append-nil}
 use Rattle.outside.specs.Printing.{Begins}
 use Rattle.outside.proofs.Laws.{begins_not}
@@ -9,8 +9,10 @@ use Rattle.taxi_cli.specs.declared.opening.StoreFault.{StoreFault}
 use Rattle.taxi_cli.specs.declared.opening.StoreFault.TheVariants as stores
 use Rattle.taxi_cli.specs.Answer.{Answer}
 use Rattle.taxi_cli.specs.Course.{Command, Answered, BoardFailed}
-use Rattle.taxi_cli.specs.Ending.{Comes, refused_as, store_ended}
-use Rattle.taxi_cli.specs.LastLine.{status_of}
+use Rattle.taxi_cli.specs.Ending.{Comes}
+use Rattle.taxi_cli.specs.Opened.{IsBarred}
+use Rattle.taxi_cli.specs.Opening.{store_ended}
+use Rattle.taxi_cli.specs.LastLine.{refused_as, status_of}
 use Rattle.taxi_cli.specs.Stream.{Takes, bad_status}
 use Rattle.taxi_cli.proofs.Streams as streams
 
@@ -24,6 +26,10 @@ pub board_fault-store : (fault : StoreFault) → store_ended fault ≡ ended.Boa
 board_fault-store (stores.BadSlot slot) e = absurd cc
 board_fault-store (stores.SameNumber first second) e = absurd cc
 board_fault-store stores.BoardFault e = refl
+
+pub not_read-barred : (end : Ended) → IsBarred end → end ≢ ended.ReadFault
+not_read-barred end (inl e) = λ f. absurd cc
+not_read-barred end (inr (fault, e)) = λ f. not_read-store fault (sym e ∙ f)
 
 module _ (c : Command) (contents left : ℕ → List ℕ) (image : List ℕ) (read_failed : ℕ → Type 0) (failed told : Type 0) (before now : List ℕ)
     (untouched : Takes c.drive contents left []) (still : now ≡ before) where
@@ -63,3 +69,15 @@ module _ (c : Command) (contents left : ℕ → List ℕ) (image : List ℕ) (re
   comes-store (stores.BadSlot slot) answer cause = comes-refusal (ended.BadSlot slot) (answer (λ e. absurd cc)) (λ e. absurd cc) (streams.not_bad 5 c.drive (λ e. absurd cc) (λ e. absurd cc))
   comes-store (stores.SameNumber first second) answer cause = comes-refusal (ended.SameNumber first second) (answer (λ e. absurd cc)) (λ e. absurd cc) (streams.not_bad 5 c.drive (λ e. absurd cc) (λ e. absurd cc))
   comes-store stores.BoardFault answer cause = comes-board (cause refl)
+
+  -- the store bars the command, by its answer or by a fault of the board
+  pub comes-barred : (end : Ended) → IsBarred end → (end ≢ ended.BoardFault → c.answer contents image ≡ refused_as end) → (end ≡ ended.BoardFault → failed)
+      → Stopped end
+  comes-barred end (inl e) answer cause =
+      subst (λ (w : Ended). Stopped w) (sym e)
+      (comes-refusal ended.NotSealed (subst (λ (w : Ended). c.answer contents image ≡ refused_as w) e (answer (λ f. absurd cc)))
+      (λ z. absurd cc) (streams.not_bad 4 c.drive (λ z. absurd cc) (λ z. absurd cc)))
+  comes-barred end (inr (fault, e)) answer cause =
+      subst (λ (w : Ended). Stopped w) (sym e)
+      (comes-store fault (λ not_board. subst (λ (w : Ended). c.answer contents image ≡ refused_as w) e (answer (λ f. not_board (board_fault-store fault (sym e ∙ f)))))
+      (λ is. cause (e ∙ ap store_ended is)))

@@ -1,5 +1,5 @@
 -- The command `bench`: how it comes to its last line.
-use Rattle.std.proofs.Common.{◌≡◌, ◌≢◌, ℕ, Bool, true, false, List, [], ◌++◌, Result, Ok, Err, refl, sym, ap, subst, ◌∙◌, inl, inr, ⊎_elim, arith}
+use Rattle.std.proofs.Common.{◌≡◌, ◌≢◌, ℕ, ◌+◌, ◌≤◌, Bool, true, false, List, [], ◌++◌, length, Result, Ok, Err, refl, sym, ap, subst, ◌∙◌, inl, inr, ⊎_elim, arith}
 use Rattle.std.specs.Prelude.{◌⊎◌}
 use Rattle.std.proofs.lemmas.List.{append-nil}
 use Rattle.drive_text.specs.Ending.{DriveEnd, Whole, BadAt, Endless, IsGoing, IsSplit, TellsEnd, drive_end}
@@ -8,17 +8,20 @@ use Rattle.verify_bench.specs.Readings.{readings_in}
 use Rattle.verify_bench.specs.declared.reading.Reading.{Reading}
 use Rattle.verify_bench.specs.declared.reading.ReadingsFault.{ReadingsFault}
 use Rattle.taxi_cli.specs.Answer.{Answer}
-use Rattle.taxi_cli.specs.Bench.{Terms, bench_answer, bench_command, bench_text, ended_with, ending_answer, passing_status, readings_answer, terms_of}
+use Rattle.taxi_cli.specs.Bench.{Terms, bench_answer, bench_command, bench_text, ending_answer, passing_status, readings_answer, terms_of}
 use Rattle.taxi_cli.specs.BenchSteps.{HasNoTerms, IsJudged, IsNotJudged, IsStopped}
 use Rattle.taxi_cli.specs.Call.{MayTake}
 use Rattle.taxi_cli.specs.Course.{Answered, NoMemory, ReadFailed}
-use Rattle.taxi_cli.specs.Ending.{Comes, refused_as}
-use Rattle.taxi_cli.specs.LastLine.{line_of, status_of}
+use Rattle.taxi_cli.specs.Ending.{Comes, ended_with}
+use Rattle.taxi_cli.specs.LastLine.{line_of, refused_as, status_of}
 use Rattle.taxi_cli.specs.Opening.{opening_of}
+use Rattle.taxi_cli.specs.Pieces.{pieces_of}
 use Rattle.taxi_cli.specs.RunSteps.{IsRefusal}
 use Rattle.taxi_cli.specs.declared.ending.Ended.{Ended}
 use Rattle.taxi_cli.specs.declared.ending.Ended.TheVariants as ended
 use Rattle.taxi_cli.proofs.Answering.{comes-board, comes-refusal}
+use Rattle.taxi_cli.proofs.Judging.{judged-over}
+use Rattle.taxi_cli.proofs.Showing.{comes-part, comes-whole}
 
 -- the status and the line of how it ended where the report was printed
 status-passing : (pass : Bool) → status_of (ended_with pass) ≡ passing_status pass
@@ -36,6 +39,24 @@ passing-other false = (λ e. absurd (omega arith), λ e. absurd (omega arith))
 pub not_fault-passing : (pass : Bool) → (ended_with pass ≢ ended.ReadFault) × (ended_with pass ≢ ended.BoardFault)
 not_fault-passing true = (λ e. absurd cc, λ e. absurd cc)
 not_fault-passing false = (λ e. absurd cc, λ e. absurd cc)
+
+-- the drive and the readings were judged under terms, and each file was read to its end
+pub record HasJudged (contents left : ℕ → List ℕ) (image : List ℕ) (terms : Terms) (text : List ℕ) (pass : Bool) : Type 0 where
+  pub are : terms_of (opening_of image) (contents 1) ≡ Ok terms
+  pub is : IsJudged terms (contents 2) (left 2) (contents 3) text pass
+  pub tariff_read : left 1 ≡ []
+  pub readings_read : left 3 ≡ []
+
+-- so it is where the terms were had first, with the tariff's file alone
+pub has_judged : (contents mid left : ℕ → List ℕ) (image : List ℕ) {terms : Terms} {text : List ℕ} {pass : Bool} → terms_of (opening_of image) (contents 1) ≡ Ok terms → mid 1 ≡ []
+    → ((other : ℕ) → other ≢ 1 → mid other ≡ contents other) → ((other : ℕ) → other ≢ 2 → other ≢ 3 → left other ≡ mid other)
+    → IsJudged terms (mid 2) (left 2) (mid 3) text pass → left 3 ≡ [] → HasJudged contents left image terms text pass
+has_judged contents mid left image {terms = terms} {text = text} {pass = pass} are read first others is ended = record {
+  are = are;
+  is = judged-over terms (mid 2) (contents 2) (left 2) (mid 3) (contents 3) text pass (first 2 (λ e. absurd (omega (arith, e)))) (first 3 (λ e. absurd (omega (arith, e)))) is;
+  tariff_read = others 1 (λ e. absurd (omega (arith, e))) (λ e. absurd (omega (arith, e))) ∙ read;
+  readings_read = ended;
+}
 
 module _ (contents left : ℕ → List ℕ) (image : List ℕ) (read_failed : ℕ → Type 0) (failed told : Type 0) (before now : List ℕ) where
   abbrev pub Here : Ended → Type 0
@@ -67,30 +88,7 @@ module _ (contents left : ℕ → List ℕ) (image : List ℕ) (read_failed : �
       stands = inl (record { status_is = refl; line_is = refl; shown = nothing still });
     }
     comes-no_terms ended.BoardFault h = comes-board bench_command contents left image read_failed failed told before now untouched still h
-    comes-no_terms ended.Done h = refused ended.Done h
-    comes-no_terms (ended.Sound cells measure) h = refused (ended.Sound cells measure) h
-    comes-no_terms ended.BadWords h = refused ended.BadWords h
-    comes-no_terms (ended.BadTariff why) h = refused (ended.BadTariff why) h
-    comes-no_terms ended.NotSealed h = refused ended.NotSealed h
-    comes-no_terms (ended.BadSlot slot) h = refused (ended.BadSlot slot) h
-    comes-no_terms (ended.SameNumber a b) h = refused (ended.SameNumber a b) h
-    comes-no_terms ended.BadTrip h = refused ended.BadTrip h
-    comes-no_terms (ended.WrongTariff a b) h = refused (ended.WrongTariff a b) h
-    comes-no_terms ended.TripHeld h = refused ended.TripHeld h
-    comes-no_terms ended.SealEnded h = refused ended.SealEnded h
-    comes-no_terms (ended.OtherDecimals a b) h = refused (ended.OtherDecimals a b) h
-    comes-no_terms (ended.BadParams fault) h = refused (ended.BadParams fault) h
-    comes-no_terms (ended.Sealed n) h = refused (ended.Sealed n) h
-    comes-no_terms (ended.BadReadings row) h = refused (ended.BadReadings row) h
-    comes-no_terms ended.LongReadings h = refused ended.LongReadings h
-    comes-no_terms ended.NotPassed h = refused ended.NotPassed h
-    comes-no_terms (ended.BadRules fault) h = refused (ended.BadRules fault) h
-    comes-no_terms (ended.BadFrame place) h = refused (ended.BadFrame place) h
-    comes-no_terms ended.EndlessRequests h = refused ended.EndlessRequests h
-    comes-no_terms ended.LongBook h = refused ended.LongBook h
-    comes-no_terms (ended.BadBook line) h = refused (ended.BadBook line) h
-    comes-no_terms (ended.BadDrive line) h = refused (ended.BadDrive line) h
-    comes-no_terms ended.EndlessDrive h = refused ended.EndlessDrive h
+    comes-no_terms why h = refused why h
 
   -- there are terms
   module _ (terms : Terms) (are : terms_of (opening_of image) (contents 1) ≡ Ok terms) where
@@ -158,68 +156,43 @@ module _ (contents left : ℕ → List ℕ) (image : List ℕ) (read_failed : �
         refuses-with (ended.BadReadings row) (by_readings _ h.0 h.1) (λ z. absurd (omega arith)) (λ z. absurd (omega arith)) (λ z. absurd (omega arith)) still
     comes-not_judged ended.LongReadings still h =
         refuses-with ended.LongReadings (by_readings _ h.0 h.1) (λ z. absurd (omega arith)) (λ z. absurd (omega arith)) (λ z. absurd (omega arith)) still
-    comes-not_judged ended.Done still h = absurd h
-    comes-not_judged (ended.Sound cells measure) still h = absurd h
-    comes-not_judged ended.BadWords still h = absurd h
-    comes-not_judged (ended.BadTariff why) still h = absurd h
-    comes-not_judged ended.NotSealed still h = absurd h
-    comes-not_judged (ended.BadSlot slot) still h = absurd h
-    comes-not_judged (ended.SameNumber a b) still h = absurd h
-    comes-not_judged ended.BadTrip still h = absurd h
-    comes-not_judged (ended.WrongTariff a b) still h = absurd h
-    comes-not_judged ended.TripHeld still h = absurd h
-    comes-not_judged ended.SealEnded still h = absurd h
-    comes-not_judged (ended.OtherDecimals a b) still h = absurd h
-    comes-not_judged (ended.BadParams fault) still h = absurd h
-    comes-not_judged (ended.Sealed n) still h = absurd h
-    comes-not_judged ended.NotPassed still h = absurd h
-    comes-not_judged (ended.BadRules fault) still h = absurd h
-    comes-not_judged (ended.BadFrame place) still h = absurd h
-    comes-not_judged ended.EndlessRequests still h = absurd h
-    comes-not_judged ended.LongBook still h = absurd h
-    comes-not_judged (ended.BadBook line) still h = absurd h
-    comes-not_judged ended.BoardFault still h = absurd h
+    comes-not_judged why still h = absurd h
 
-    -- the readings were judged
-    module _ (text : List ℕ) (pass : Bool) (h : IsJudged terms (contents 2) (left 2) (contents 3) text pass) (read : left 1 ≡ []) (ended_too : left 3 ≡ []) where
-      pub judged : answer ≡ record { status = passing_status pass; shown = text; line = [] }
-      judged = by_readings (Ok h.found) h.end_is h.read
-          ∙ ap (λ (p : Bool). record { status = passing_status p; shown = bench_text terms (contents 2) h.found; line = [] }) (sym h.pass_is)
-          ∙ ap (λ (x : List ℕ). record { status = passing_status pass; shown = x; line = [] }) (sym h.printed_is)
+  -- the readings were judged
+  module _ {terms : Terms} {text : List ℕ} {pass : Bool} (j : HasJudged contents left image terms text pass) where
+    judged : answer ≡ record { status = passing_status pass; shown = text; line = [] }
+    judged = by_readings terms j.are (Ok j.is.found) j.is.end_is j.is.read
+        ∙ ap (λ (p : Bool). record { status = passing_status p; shown = bench_text terms (contents 2) j.is.found; line = [] }) (sym j.is.pass_is)
+        ∙ ap (λ (x : List ℕ). record { status = passing_status pass; shown = x; line = [] }) (sym j.is.printed_is)
 
-      status : answer.status ≡ passing_status pass
-      status = ap (λ (a : Answer). a.status) judged
+    status : answer.status ≡ passing_status pass
+    status = ap (λ (a : Answer). a.status) judged
 
-      each_read : (word : ℕ) → (word ≡ 1) ⊎ ((word ≡ 2) ⊎ (word ≡ 3)) → left word ≡ []
-      each_read word (inl e) = ap left e ∙ read
-      each_read word (inr (inl e)) = ap left e ∙ h.none_left
-      each_read word (inr (inr e)) = ap left e ∙ ended_too
+    each_read : (word : ℕ) → (word ≡ 1) ⊎ ((word ≡ 2) ⊎ (word ≡ 3)) → left word ≡ []
+    each_read word (inl e) = ap left e ∙ j.tariff_read
+    each_read word (inr (inl e)) = ap left e ∙ j.is.none_left
+    each_read word (inr (inr e)) = ap left e ∙ j.readings_read
 
-      may : MayTake bench_command contents left image read_failed failed Answered
-      may = record {
-        whole = λ is word reads. each_read word reads;
-        refused = λ is. absurd ((passing-other pass).0 (sym status ∙ is));
-        bad = λ is. absurd ((passing-other pass).1 (sym status ∙ is));
-      }
+    may : MayTake bench_command contents left image read_failed failed Answered
+    may = record {
+      whole = λ is word reads. each_read word reads;
+      refused = λ is. absurd ((passing-other pass).0 (sym status ∙ is));
+      bad = λ is. absurd ((passing-other pass).1 (sym status ∙ is));
+    }
 
-      pub comes-judged : (told → now ≡ before ++ text) → Here (ended_with pass)
-      comes-judged printed = record {
-        course = Answered;
-        may = may;
-        stands = inl (record {
-          status_is = status-passing pass ∙ sym status;
-          line_is = line-passing pass ∙ sym (ap (λ (a : Answer). a.line) judged);
-          shown = λ t. printed t ∙ ap (λ (x : List ℕ). before ++ x) (sym (ap (λ (a : Answer). a.shown) judged));
-        });
-      }
+    pub comes-judged : (told → now ≡ before ++ text) → Here (ended_with pass)
+    comes-judged printed =
+        comes-whole bench_command contents left image read_failed failed told before now (passing_status pass) text judged may (ended_with pass)
+        (status-passing pass) (line-passing pass) printed
 
-      pub comes-begun : (told → Begins before now text) → failed → Here ended.BoardFault
-      comes-begun begun cause = record {
-        course = Answered;
-        may = may;
-        stands = inr (record {
-          ended_is = refl;
-          failed = cause;
-          started = λ t. subst (λ (x : List ℕ). Begins before now x) (sym (ap (λ (a : Answer). a.shown ++ a.line) judged ∙ append-nil text)) (begun t);
-        });
-      }
+    pub comes-begun : (told → Begins before now text) → failed → Here ended.BoardFault
+    comes-begun begun cause =
+        comes-part bench_command contents left image read_failed failed told before now (passing_status pass) text judged may begun cause
+
+-- the bound of steps by the text that was printed is one by the answer
+pub steps-judged : (contents left : ℕ → List ℕ) (image : List ℕ) {terms : Terms} {text : List ℕ} {pass : Bool} (j : HasJudged contents left image terms text pass) (printed : List ℕ) (mid last : ℕ)
+    → printed ≡ text → last ≤ mid + pieces_of (length printed)
+    → last ≤ mid + pieces_of (length (bench_answer (terms_of (opening_of image) (contents 1)) (contents 2) (contents 3)).shown)
+steps-judged contents left image j printed mid last is bound =
+    subst (λ (x : List ℕ). last ≤ mid + pieces_of (length x))
+    (is ∙ sym (ap (λ (a : Answer). a.shown) (judged contents left image (λ word. ⊥) ⊥ ⊥ [] [] j))) bound

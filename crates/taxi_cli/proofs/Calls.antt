@@ -89,10 +89,17 @@ steps_later rows.Run files_tell image_told contents left image before mid now fe
 steps_later rows.Bench files_tell image_told contents left image before mid now fewer h = λ tells told. omega (arith, fewer, h tells told)
 steps_later (rows.Gen seed trips) files_tell image_told contents left image before mid now fewer h = omega (arith, fewer, h)
 steps_later rows.Port files_tell image_told contents left image before mid now fewer h = λ tells.
-    let b = h tells in record { taken = b.taken; split = b.split; bound = omega (arith, fewer, b.bound) }
+    let b = h tells in
+    record {
+      steps = record { taken = b.steps.taken; split = b.steps.split; bound = omega (arith, fewer, b.steps.bound) };
+      unread = b.unread;
+    }
 steps_later (rows.Offsets years) files_tell image_told contents left image before mid now fewer h = omega (arith, fewer, h)
 steps_later (rows.Mark driver) files_tell image_told contents left image before mid now fewer h = omega (arith, fewer, h)
-steps_later rows.Shifts files_tell image_told contents left image before mid now fewer h = λ tells. omega (arith, fewer, h tells)
+steps_later rows.Shifts files_tell image_told contents left image before mid now fewer h = record {
+  by_report = λ tells told. omega (arith, fewer, h.by_report tells told);
+  by_book = λ tells. omega (arith, fewer, h.by_book tells);
+}
 
 -- without a fault of the outside the status is that of the answer, unless memory ran out
 module _ {E D L : Type 0} (F : FileGhosts E) (B : Ghosts D L) (c : Command) (files files' : E) (old new : D) (status : ℕ)

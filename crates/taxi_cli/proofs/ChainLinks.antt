@@ -25,7 +25,8 @@ use Rattle.meter_run.proofs.Laws.{the_number_tells_the_commits-beginning}
 use Rattle.taxi_cli.specs.Call.{IsEnd, MayTake}
 use Rattle.taxi_cli.specs.Command.{command_of}
 use Rattle.taxi_cli.specs.Course.{Course, Answered, ReadFailed, NoMemory, BoardFailed, line_in, status_in}
-use Rattle.taxi_cli.specs.Link.{HasLink, deeds_from}
+use Rattle.taxi_cli.specs.Link.{deeds_from}
+use Rattle.taxi_cli.specs.ChainSteps.{HasLink}
 use Rattle.taxi_cli.specs.Opening.{opening_of}
 use Rattle.taxi_cli.specs.Run.{IsOfTotals, IsRun, MayFind, Stands, Start, bytes_in, deeds_in, run_command, start_of}
 use Rattle.taxi_cli.specs.declared.ending.Ended.{Ended}

@@ -6,7 +6,8 @@ use Rattle.outside.specs.declared.replay.Fill.{Fill}
 use Rattle.totaliser_store.specs.Stored.{HasState}
 use Rattle.totaliser_store.specs.declared.durable.Durable.{Durable}
 use Rattle.taxi_cli.specs.Chain.{HasChain, IsChain, last_image, last_state}
-use Rattle.taxi_cli.specs.Link.{HasLink, IsLink, Link}
+use Rattle.taxi_cli.specs.Link.{IsLink, Link}
+use Rattle.taxi_cli.specs.ChainSteps.{HasLink}
 
 -- ---- one run more
 

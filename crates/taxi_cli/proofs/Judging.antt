@@ -1,5 +1,5 @@
 -- Judging readings by a drive, and why nothing is judged.
-use Rattle.std.proofs.Common.{◌≡◌, ◌≢◌, ℕ, ◌<◌, Bool, List, ◌++◌, length, Ok, Err, refl, sym, ap, ◌∙◌, inl, inr, flat_map}
+use Rattle.std.proofs.Common.{◌≡◌, ◌≢◌, ℕ, ◌<◌, Bool, List, ◌++◌, length, Ok, Err, refl, sym, ap, subst, ◌∙◌, inl, inr, flat_map}
 use Rattle.std.proofs.lemmas.Bool.{lt-ltb}
 use Rattle.std.proofs.lemmas.List.{append-nil}
 use Rattle.drive_text.specs.Runs.{run_events}
@@ -41,29 +41,7 @@ no_readings-as decimals text read_failed more ended.ReadFault is h = is h
 no_readings-as decimals text read_failed more ended.NoMemory is h = tt
 no_readings-as decimals text read_failed more (ended.BadReadings row) is h = h
 no_readings-as decimals text read_failed more ended.LongReadings is h = h
-no_readings-as decimals text read_failed more ended.Done is h = absurd h
-no_readings-as decimals text read_failed more (ended.Sound cells measure) is h = absurd h
-no_readings-as decimals text read_failed more ended.BadWords is h = absurd h
-no_readings-as decimals text read_failed more (ended.BadTariff why) is h = absurd h
-no_readings-as decimals text read_failed more ended.NotSealed is h = absurd h
-no_readings-as decimals text read_failed more (ended.BadSlot slot) is h = absurd h
-no_readings-as decimals text read_failed more (ended.SameNumber first second) is h = absurd h
-no_readings-as decimals text read_failed more ended.BadTrip is h = absurd h
-no_readings-as decimals text read_failed more (ended.WrongTariff digest own) is h = absurd h
-no_readings-as decimals text read_failed more ended.TripHeld is h = absurd h
-no_readings-as decimals text read_failed more ended.SealEnded is h = absurd h
-no_readings-as decimals text read_failed more (ended.OtherDecimals found own) is h = absurd h
-no_readings-as decimals text read_failed more (ended.BadParams fault) is h = absurd h
-no_readings-as decimals text read_failed more (ended.Sealed n) is h = absurd h
-no_readings-as decimals text read_failed more ended.NotPassed is h = absurd h
-no_readings-as decimals text read_failed more (ended.BadRules fault) is h = absurd h
-no_readings-as decimals text read_failed more (ended.BadFrame place) is h = absurd h
-no_readings-as decimals text read_failed more ended.EndlessRequests is h = absurd h
-no_readings-as decimals text read_failed more ended.LongBook is h = absurd h
-no_readings-as decimals text read_failed more (ended.BadBook line) is h = absurd h
-no_readings-as decimals text read_failed more (ended.BadDrive line) is h = absurd h
-no_readings-as decimals text read_failed more ended.EndlessDrive is h = absurd h
-no_readings-as decimals text read_failed more ended.BoardFault is h = absurd h
+no_readings-as decimals text read_failed more why is h = absurd h
 
 -- ---- the drive
 
@@ -105,29 +83,7 @@ module _ (terms : Terms) (drive left text : List ℕ) (drive_failed text_failed 
     not_judged-readings ended.NoMemory h = all_taken
     not_judged-readings (ended.BadReadings row) h = (whole.end_is, h)
     not_judged-readings ended.LongReadings h = (whole.end_is, h)
-    not_judged-readings ended.Done h = absurd h
-    not_judged-readings (ended.Sound cells measure) h = absurd h
-    not_judged-readings ended.BadWords h = absurd h
-    not_judged-readings (ended.BadTariff why) h = absurd h
-    not_judged-readings ended.NotSealed h = absurd h
-    not_judged-readings (ended.BadSlot slot) h = absurd h
-    not_judged-readings (ended.SameNumber first second) h = absurd h
-    not_judged-readings ended.BadTrip h = absurd h
-    not_judged-readings (ended.WrongTariff digest own) h = absurd h
-    not_judged-readings ended.TripHeld h = absurd h
-    not_judged-readings ended.SealEnded h = absurd h
-    not_judged-readings (ended.OtherDecimals found own) h = absurd h
-    not_judged-readings (ended.BadParams fault) h = absurd h
-    not_judged-readings (ended.Sealed n) h = absurd h
-    not_judged-readings ended.NotPassed h = absurd h
-    not_judged-readings (ended.BadRules fault) h = absurd h
-    not_judged-readings (ended.BadFrame place) h = absurd h
-    not_judged-readings ended.EndlessRequests h = absurd h
-    not_judged-readings ended.LongBook h = absurd h
-    not_judged-readings (ended.BadBook line) h = absurd h
-    not_judged-readings (ended.BadDrive line) h = absurd h
-    not_judged-readings ended.EndlessDrive h = absurd h
-    not_judged-readings ended.BoardFault h = absurd h
+    not_judged-readings why h = absurd h
 
     pub is_judged : (found : List Reading) (printed : List ℕ) (pass : Bool) → readings_in terms.tree.decimals text ≡ Ok found
         → printed ≡ judged_text terms (flat_map run_events runs) found → pass ≡ judged_pass terms (flat_map run_events runs) found
@@ -141,6 +97,18 @@ module _ (terms : Terms) (drive left text : List ℕ) (drive_failed text_failed 
       pass_is = passes ∙ ap (λ (events : List Event). judged_pass terms events found) whole.events;
     }
 
+-- of texts that are equal
+pub judged-over : (terms : Terms) (drive drive' left text text' printed : List ℕ) (pass : Bool) → drive ≡ drive' → text ≡ text' → IsJudged terms drive left text printed pass
+    → IsJudged terms drive' left text' printed pass
+judged-over terms drive drive' left text text' printed pass e f h =
+    subst (λ (x : List ℕ). IsJudged terms drive' left x printed pass) f (subst (λ (x : List ℕ). IsJudged terms x left text printed pass) e h)
+
+pub not_judged-over : (terms : Terms) (drive drive' left text text' : List ℕ) (drive_failed text_failed : Type 0) (why : Ended) → drive ≡ drive' → text ≡ text'
+    → IsNotJudged terms drive left text drive_failed text_failed why → IsNotJudged terms drive' left text' drive_failed text_failed why
+not_judged-over terms drive drive' left text text' drive_failed text_failed why e f h =
+    subst (λ (x : List ℕ). IsNotJudged terms drive' left x drive_failed text_failed why) f
+    (subst (λ (x : List ℕ). IsNotJudged terms x left text drive_failed text_failed why) e h)
+
 -- more may be known of the reads that failed
 module _ (terms : Terms) (drive left text : List ℕ) (drive_failed text_failed more_drive more_text : Type 0) (first : drive_failed → more_drive) (second : text_failed → more_text) where
   pub not_judged-as : (why : Ended) → IsNotJudged terms drive left text drive_failed text_failed why → IsNotJudged terms drive left text more_drive more_text why
@@ -151,24 +119,4 @@ module _ (terms : Terms) (drive left text : List ℕ) (drive_failed text_failed 
   not_judged-as ended.LongReadings h = h
   not_judged-as (ended.BadDrive line) h = h
   not_judged-as ended.EndlessDrive h = h
-  not_judged-as ended.Done h = absurd h
-  not_judged-as (ended.Sound cells measure) h = absurd h
-  not_judged-as ended.BadWords h = absurd h
-  not_judged-as (ended.BadTariff why) h = absurd h
-  not_judged-as ended.NotSealed h = absurd h
-  not_judged-as (ended.BadSlot slot) h = absurd h
-  not_judged-as (ended.SameNumber first second) h = absurd h
-  not_judged-as ended.BadTrip h = absurd h
-  not_judged-as (ended.WrongTariff digest own) h = absurd h
-  not_judged-as ended.TripHeld h = absurd h
-  not_judged-as ended.SealEnded h = absurd h
-  not_judged-as (ended.OtherDecimals found own) h = absurd h
-  not_judged-as (ended.BadParams fault) h = absurd h
-  not_judged-as (ended.Sealed n) h = absurd h
-  not_judged-as ended.NotPassed h = absurd h
-  not_judged-as (ended.BadRules fault) h = absurd h
-  not_judged-as (ended.BadFrame place) h = absurd h
-  not_judged-as ended.EndlessRequests h = absurd h
-  not_judged-as ended.LongBook h = absurd h
-  not_judged-as (ended.BadBook line) h = absurd h
-  not_judged-as ended.BoardFault h = absurd h
+  not_judged-as why h = absurd h

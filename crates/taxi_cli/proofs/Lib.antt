@@ -1,39 +1,74 @@
-pub mod Amid
-pub mod Answering
-pub mod BenchTerms
-pub mod Benching
-pub mod BoardRuns
-pub mod Calls
-pub mod ChainLinks
-pub mod ChainLoop
-pub mod ChainReceipts
-pub mod ChainScan
-pub mod ChainSums
-pub mod Endings
-pub mod Faring
-pub mod Fitting
-pub mod Generating
-pub mod Judging
-pub mod Listing
-pub mod Looking
-pub mod Marking
-pub mod Openings
-pub mod Porting
-pub mod Refusals
-pub mod Rests
-pub mod Rows
-pub mod RunCuts
-pub mod RunEnds
-pub mod Running
-pub mod Sealings
-pub mod Seeds
-pub mod Shifting
-pub mod Showing
-pub mod Starting
-pub mod Streams
-pub mod Tabling
-pub mod Tariffs
-pub mod Totalling
-pub mod Unwritten
-pub mod WholeDrives
-pub mod Wording
+-- what the command `seal` leaves of the store, in the end and after a cut
+mod Amid
+-- commands that end by the store, with a refusal or with a fault of the board before their answer
+mod Answering
+-- what a verification goes by, and why there is nothing
+mod BenchTerms
+-- how the command `bench` comes to its last line
+mod Benching
+-- the laws of the runs of a board's calls that the functions of this crate try
+mod BoardRuns
+-- a call, from the end of its command to its last line
+mod Calls
+-- one run of a chain, from what holds of a call with the words of a run
+mod ChainLinks
+-- a chain with one run more, and the places that a loop has gone through
+mod ChainLoop
+-- where a byte of a receipt stands in a text of a chain, the receipt's entry is in the prefix
+mod ChainReceipts
+-- what is found of an image that stands for a durable state and a seal
+mod ChainScan
+-- sums over the prefixes of a chain
+mod ChainSums
+-- how the parts of a call end together
+mod Endings
+-- the drive of the command `fare`, under its tariff
+mod Faring
+-- the test whether a held trip fits the tables decides it
+mod Fitting
+-- the drive of the command `gen`, over a new store
+mod Generating
+-- readings that are judged by a drive, and why nothing is judged
+mod Judging
+-- the lines of a list of offsets, printed one after the other, and the answers of the command `offsets`
+mod Listing
+-- what a cut leaves of calls that only look at the store
+mod Looking
+-- the opening of the store, from its two scans
+mod Openings
+-- the replies to requests over a sealed store, and what is left of the store
+mod Porting
+-- a command whose tariff isn't accepted, or that finds no memory
+mod Refusals
+-- whether a command ended by a fault of the board
+mod Rests
+-- the rows of tables, printed one after the other
+mod Rows
+-- places in the list of what a run does, with the last line behind it
+mod RunCuts
+-- what the command `run` answers and leaves once its drive was carried out, and after its last line
+mod RunEnds
+-- what the command `run` answers, and what it leaves of the store
+mod Running
+-- what the command `seal` answers
+mod Sealings
+-- words of digits, and the numbers that they make
+mod Seeds
+-- the report of a book beside a sealed store
+mod Shifting
+-- commands that show a text, the whole of it or a beginning
+mod Showing
+-- how the command `run` begins
+mod Starting
+-- what is taken in pieces, and the status by which it is bad
+mod Streams
+-- the commands that say something of a tariff alone
+mod Tabling
+-- the sound tariff of a text that was read
+mod Tariffs
+-- calls that write nothing, one after another
+mod Unwritten
+-- a drive that is read whole into memory, part by part
+mod WholeDrives
+-- commands of two words, and of four
+mod Wording

@@ -16,8 +16,8 @@ use Rattle.taxi_cli.specs.declared.offsets.RulesFault.TheVariants as faults
 use Rattle.taxi_cli.specs.Answer.{Answer}
 use Rattle.taxi_cli.specs.Call.{MayTake}
 use Rattle.taxi_cli.specs.Course.{Answered, ReadFailed}
-use Rattle.taxi_cli.specs.Ending.{Comes}
-use Rattle.taxi_cli.specs.Offsets.{ended_for_rules, offsets_answer, offsets_command}
+use Rattle.taxi_cli.specs.Ending.{Comes, ended_for_rules}
+use Rattle.taxi_cli.specs.Offsets.{offsets_answer, offsets_command}
 
 -- the lines of one list behind another
 lines_append : (xs ys : List (ℕ × ℤ)) → offset_lines (xs ++ ys) ≡ offset_lines xs ++ offset_lines ys

@@ -9,10 +9,12 @@ use Rattle.slot_store.proofs.Laws.{from_sync_as, goes_on}
 use Rattle.taxi_cli.specs.declared.ending.Ended.{Ended}
 use Rattle.taxi_cli.specs.declared.ending.Ended.TheVariants as ended
 use Rattle.taxi_cli.specs.Call.{IsEnd}
-use Rattle.taxi_cli.specs.Ending.{LooksAt}
+use Rattle.taxi_cli.specs.Ending.{LooksAt, OnlyLooksAt}
+use Rattle.taxi_cli.specs.Opened.{OnlyOpens}
 use Rattle.taxi_cli.specs.LastLine.{line_of, status_of}
 use Rattle.taxi_cli.specs.Unwritten.{LeavesImage}
 use Rattle.taxi_cli.proofs.Rests.{board_or_not}
+use Rattle.taxi_cli.proofs.Unwritten.{bytes-kept, bytes-read, bytes-then}
 
 module _ {D L : Type 0} (B : Ghosts D L) where
   -- an image as it was, whatever the text is
@@ -53,6 +55,22 @@ module _ {D L : Type 0} (B : Ghosts D L) where
     leaves = looks-on fails (end ≡ ended.BoardFault) old mid new went (looks-scanned fails fails old mid (λ f. f) synced) now settled same kept;
     same = λ good. kept.same ∙ same;
     settled = λ good place flies. settled place (kept.flight place flies);
+  }
+
+  -- an opening, and an opening that went well with calls behind it that keep the store
+  pub looks-opened : (fails : Type 0) (end : Ended) (old new : D) → (fails → end ≡ ended.BoardFault) → OnlyOpens B fails old new → OnlyLooksAt B old new end
+  looks-opened fails end old new board h = record {
+    bytes = bytes-read B old new h.reads;
+    same = λ good. h.same (λ f. good (board f));
+    looks = λ told. looks-only fails end old new board (h.synced told) h.same (h.settled told);
+  }
+
+  pub looks-behind : (fails : Type 0) (end : Ended) (old mid new : D) → ¬ fails → OnlyOpens B fails old mid → LeavesNow B mid → KeepsStore B mid new
+      → OnlyLooksAt B old new end
+  looks-behind fails end old mid new went h now kept = record {
+    bytes = bytes-then B old mid new (bytes-read B old mid h.reads) (bytes-kept B mid new kept);
+    same = λ good. kept.same ∙ h.same went;
+    looks = λ told. looks-kept fails end old mid new went (h.synced told) now (h.settled told went) (h.same went) kept;
   }
 
   -- the last line behind it

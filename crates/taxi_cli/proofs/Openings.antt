@@ -1,18 +1,25 @@
 -- The opening of the store, from its two scans.
 use Rattle.std.proofs.Common.{◌≡◌, ℕ, List, Option, Result, Ok, Err, refl, sym, ap, subst, ◌∙◌}
+use Rattle.outside.specs.declared.board.Board.{Ghosts}
+use Rattle.outside.specs.Disk.{MayLeave}
+use Rattle.outside.specs.Runs.{IsSettled, LeavesOnly}
 use Rattle.slot_store.specs.declared.found.Found.{Found}
 use Rattle.slot_store.specs.declared.found.Found.TheVariants.{Blank, Latest}
 use Rattle.slot_store.specs.declared.found.SlotFault.{SlotFault}
 use Rattle.slot_store.specs.declared.found.SlotFault.TheVariants as slots
 use Rattle.slot_store.specs.Scan.{found_at, IsAsFound}
 use Rattle.slot_store.specs.Slots.{IsAt, IsBlank}
+use Rattle.slot_store.specs.Syncs.{IsAsHeld, LeavesFromSync, ReadsOnly}
+use Rattle.slot_store.proofs.Laws.{from_sync_as, goes_on, held_on}
 use Rattle.totaliser_store.specs.declared.durable.Durable.{Durable}
 use Rattle.totaliser_store.specs.Reading as totals
 use Rattle.totaliser_store.specs.Stored as states
 use Rattle.seal_store.specs.declared.seal.Seal.{Seal}
 use Rattle.seal_store.specs.Decoding as seals
+use Rattle.taxi_cli.specs.declared.opening.Opening.{Opening}
 use Rattle.taxi_cli.specs.declared.opening.StoreFault.TheVariants.{BoardFault}
-use Rattle.taxi_cli.specs.Opening.{fault_from, opened, opening_of}
+use Rattle.taxi_cli.specs.Opened.{OnlyOpens}
+use Rattle.taxi_cli.specs.Opening.{fault_from, opened, opening_of, sealed_or, sealed_store, store_of}
 
 -- only the board's fault in a scan is one of the opening
 pub failed_from : (first : ℕ) (fault : SlotFault) → fault_from first fault ≡ BoardFault → fault ≡ slots.DeviceFailed
@@ -45,3 +52,29 @@ stays_found reads number_of at old new flown flying (Latest place body) e fewer 
   quiet = λ byte within flies. h.quiet byte within (fewer byte flies);
   is_at = subst (λ (i : List ℕ). IsAt reads number_of at place i body) (sym e) h.is_at;
 }
+
+-- the store of an image, by what was opened
+pub store_opened : (image : List ℕ) (opening : Opening) (found : Option (Durable × Seal)) → Ok opening ≡ opening_of image
+    → found ≡ sealed_store opening.totals opening.seal → store_of (opening_of image) ≡ sealed_or found
+store_opened image opening found e f = ap store_of (sym e) ∙ ap sealed_or (sym f)
+
+-- an opening, where what fails is known by another name
+pub opens-as : {D L : Type 0} (B : Ghosts D L) (fails fails' : Type 0) (old new : D) → (fails → fails') → (fails' → fails) → OnlyOpens B fails old new → OnlyOpens B fails' old new
+opens-as B fails fails' old new more fewer h =
+    let held = IsAsHeld B old in
+    record {
+      reads = h.reads;
+      synced = λ told. from_sync_as B held held fails fails' old new more (λ i x is. is) (h.synced told);
+      settled = λ told good. h.settled told (λ f. good (more f));
+      same = λ good. h.same (λ f. good (more f));
+      count = h.count;
+      cause = λ f. h.cause (fewer f);
+    }
+
+-- the second scan behind a first one that went well
+module _ {D L : Type 0} (B : Ghosts D L) (old mid new : D) (first : ReadsOnly B old mid) (same : B.image mid ≡ B.image old) where
+  pub synced-on : (fails fails' : Type 0) → ¬ fails → IsSettled B mid → LeavesFromSync B fails old mid (IsAsHeld B old)
+      → LeavesOnly B mid new (MayLeave (B.image mid) (B.in_flight mid) (B.printed mid)) → LeavesFromSync B fails' old new (IsAsHeld B old)
+  synced-on fails fails' went settled synced next =
+      goes_on B (IsAsHeld B old) (IsAsHeld B old) fails fails' old mid new went (λ i x is. is) synced
+      (held_on B old mid new (record { reads = first; same = same; settled = settled }) next)

@@ -1,5 +1,5 @@
 -- The replies to requests over a sealed store, and what is left of the store.
-use Rattle.std.proofs.Common.{◌≡◌, ◌≢◌, ℕ, List, [], ◌++◌, Option, Some, Result, Ok, Err, refl, sym, ap, subst, ◌∙◌, inl, inr}
+use Rattle.std.proofs.Common.{◌≡◌, ◌≢◌, ℕ, List, [], ◌++◌, Result, Ok, Err, refl, sym, ap, subst, ◌∙◌, inl, inr}
 use Rattle.std.proofs.lemmas.List.{append-nil}
 use Rattle.outside.specs.Printing.{Begins}
 use Rattle.totaliser_store.specs.declared.durable.Durable.{Durable}
@@ -10,23 +10,16 @@ use Rattle.data_port.specs.Reading.{requests_in}
 use Rattle.data_port.specs.Serving.{StreamEnd, Whole, BadAt, Endless, ShowsEnd, Serves, ServesTo, replies, requests_of, stream_end}
 use Rattle.taxi_cli.specs.declared.ending.Ended.{Ended}
 use Rattle.taxi_cli.specs.declared.ending.Ended.TheVariants as ended
-use Rattle.taxi_cli.specs.declared.opening.Opening.{Opening}
 use Rattle.taxi_cli.specs.Answer.{Answer}
 use Rattle.taxi_cli.specs.Course.{Answered, ReadFailed, BoardFailed}
 use Rattle.taxi_cli.specs.Ending.{Comes, ended_serving}
 use Rattle.taxi_cli.specs.LastLine.{line_of, status_of}
-use Rattle.taxi_cli.specs.Opening.{opening_of, sealed_store}
-use Rattle.taxi_cli.specs.Port.{port_answer, port_command, replies_over, requests_answer, sealed_or, store_of}
-use Rattle.taxi_cli.specs.Run.{IsSealedIn}
+use Rattle.taxi_cli.specs.Opening.{opening_of, store_of}
+use Rattle.taxi_cli.specs.Port.{port_answer, port_command, replies_over, requests_answer}
 
--- the store of an image, by what was opened
-pub store_opened : (image : List ℕ) (opening : Opening) (found : Option (Durable × Seal)) → Ok opening ≡ opening_of image
-    → found ≡ sealed_store opening.totals opening.seal → store_of (opening_of image) ≡ sealed_or found
-store_opened image opening found e f = ap store_of (sym e) ∙ ap sealed_or (sym f)
-
-pub sealed_in : (image : List ℕ) (opening : Opening) (store : Durable × Seal) → Ok opening ≡ opening_of image
-    → Some store ≡ sealed_store opening.totals opening.seal → IsSealedIn image
-sealed_in image opening store e f = record { opening = opening; is = sym e; durable = store.0; seal = store.1; has = sym f }
+-- a store that is there is refused for nothing
+pub not_refused : (store : Result (Durable × Seal) Ended) (found : Durable × Seal) (why : Ended) → store ≡ Ok found → store ≡ Err why → ⊥
+not_refused store found why e f = absurd cc
 
 -- the status of requests that end so
 status_end : (shown : List ℕ) (reached : StreamEnd)
@@ -40,7 +33,7 @@ left_whole : (stream taken left : List ℕ) → ShowsEnd (stream_end stream) tak
 left_whole stream taken left shows e = subst (λ (reached : StreamEnd). ShowsEnd reached taken left) e shows
 
 module _ (contents left : ℕ → List ℕ) (image : List ℕ) (read_failed : ℕ → Type 0) (failed told : Type 0) (before now : List ℕ)
-    (durable : Durable) (seal : Seal) (store : store_of (opening_of image) ≡ Ok (durable, seal)) (sealed : IsSealedIn image) where
+    (durable : Durable) (seal : Seal) (store : store_of (opening_of image) ≡ Ok (durable, seal)) where
   abbrev Here : Ended → Type 0
   Here end = Comes port_command contents left image read_failed failed (λ text. told → now ≡ before ++ text) (λ text. told → Begins before now text) end
 
@@ -86,7 +79,7 @@ module _ (contents left : ℕ → List ℕ) (image : List ℕ) (read_failed : �
     course = ReadFailed 1 h.taken;
     may = record {
       reads = refl;
-      comes = (refl, record { sealed = sealed; going = h.stands });
+      comes = (refl, record { sealed = record { store = (durable, seal); is = store }; going = h.stands });
       failed = read_cause refl;
       takes = h.split;
     };

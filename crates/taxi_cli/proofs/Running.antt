@@ -19,8 +19,8 @@ use Rattle.taxi_cli.specs.declared.ending.Ended.{Ended}
 use Rattle.taxi_cli.specs.declared.ending.Ended.TheVariants as ended
 use Rattle.taxi_cli.specs.Answer.{Answer}
 use Rattle.taxi_cli.specs.Course.{Answered, NoMemory, ReadFailed, BoardFailed, line_in}
-use Rattle.taxi_cli.specs.Ending.{ComesOn, refused_as}
-use Rattle.taxi_cli.specs.LastLine.{line_of, status_of}
+use Rattle.taxi_cli.specs.Ending.{ComesOn}
+use Rattle.taxi_cli.specs.LastLine.{line_of, refused_as, status_of}
 use Rattle.taxi_cli.specs.Opening.{opening_of}
 use Rattle.taxi_cli.specs.Run.{IsOfTotals, MayFind, MayFindIn, Stands, Start, bytes_in, deeds_in, run_answer, run_command, setting_in, shown_in_run, start_at, start_of, tables_in}
 use Rattle.taxi_cli.specs.Stream.{Drive, Takes}
@@ -188,27 +188,6 @@ module _ {E D L : Type 0} (F : FileGhosts E) (B : Ghosts D L) (files files' : E)
           stands = inr (record { ended_is = refl; failed = h; started = λ t. begins_not (B.printed old) (B.printed new) _ reads.text });
         })
         (λ s e. refl) (λ good. absurd (good refl)) fails (λ f. refl) reads synced settled same
-    comes-not_begun ended.Done h board settled same = absurd (h.1.not_0 refl)
-    comes-not_begun (ended.Sound cells measure) h board settled same = absurd (h.1.not_0 refl)
-    comes-not_begun (ended.Sealed n) h board settled same = absurd (h.1.not_0 refl)
-    comes-not_begun (ended.BadReadings row) h board settled same = let good : ended.BadReadings row ≢ ended.BoardFault = λ e. absurd cc in refused (ended.BadReadings row) h.0 h.1 good board (settled good) (same good)
-    comes-not_begun ended.LongReadings h board settled same = let good : ended.LongReadings ≢ ended.BoardFault = λ e. absurd cc in refused ended.LongReadings h.0 h.1 good board (settled good) (same good)
-    comes-not_begun ended.NotPassed h board settled same = let good : ended.NotPassed ≢ ended.BoardFault = λ e. absurd cc in refused ended.NotPassed h.0 h.1 good board (settled good) (same good)
-    comes-not_begun (ended.BadDrive line) h board settled same = absurd (h.1.not_3 refl)
-    comes-not_begun ended.EndlessDrive h board settled same = absurd (h.1.not_3 refl)
-    comes-not_begun ended.BadWords h board settled same = let good : ended.BadWords ≢ ended.BoardFault = λ e. absurd cc in refused ended.BadWords h.0 h.1 good board (settled good) (same good)
-    comes-not_begun (ended.BadTariff why) h board settled same = let good : ended.BadTariff why ≢ ended.BoardFault = λ e. absurd cc in refused (ended.BadTariff why) h.0 h.1 good board (settled good) (same good)
-    comes-not_begun ended.NotSealed h board settled same = let good : ended.NotSealed ≢ ended.BoardFault = λ e. absurd cc in refused ended.NotSealed h.0 h.1 good board (settled good) (same good)
-    comes-not_begun (ended.BadSlot slot) h board settled same = let good : ended.BadSlot slot ≢ ended.BoardFault = λ e. absurd cc in refused (ended.BadSlot slot) h.0 h.1 good board (settled good) (same good)
-    comes-not_begun (ended.SameNumber a b) h board settled same = let good : ended.SameNumber a b ≢ ended.BoardFault = λ e. absurd cc in refused (ended.SameNumber a b) h.0 h.1 good board (settled good) (same good)
-    comes-not_begun ended.BadTrip h board settled same = let good : ended.BadTrip ≢ ended.BoardFault = λ e. absurd cc in refused ended.BadTrip h.0 h.1 good board (settled good) (same good)
-    comes-not_begun (ended.WrongTariff a b) h board settled same = let good : ended.WrongTariff a b ≢ ended.BoardFault = λ e. absurd cc in refused (ended.WrongTariff a b) h.0 h.1 good board (settled good) (same good)
-    comes-not_begun ended.TripHeld h board settled same = let good : ended.TripHeld ≢ ended.BoardFault = λ e. absurd cc in refused ended.TripHeld h.0 h.1 good board (settled good) (same good)
-    comes-not_begun ended.SealEnded h board settled same = let good : ended.SealEnded ≢ ended.BoardFault = λ e. absurd cc in refused ended.SealEnded h.0 h.1 good board (settled good) (same good)
-    comes-not_begun (ended.OtherDecimals a b) h board settled same = let good : ended.OtherDecimals a b ≢ ended.BoardFault = λ e. absurd cc in refused (ended.OtherDecimals a b) h.0 h.1 good board (settled good) (same good)
-    comes-not_begun (ended.BadFrame place) h board settled same = let good : ended.BadFrame place ≢ ended.BoardFault = λ e. absurd cc in refused (ended.BadFrame place) h.0 h.1 good board (settled good) (same good)
-    comes-not_begun ended.EndlessRequests h board settled same = let good : ended.EndlessRequests ≢ ended.BoardFault = λ e. absurd cc in refused ended.EndlessRequests h.0 h.1 good board (settled good) (same good)
-    comes-not_begun (ended.BadRules fault) h board settled same = let good : ended.BadRules fault ≢ ended.BoardFault = λ e. absurd cc in refused (ended.BadRules fault) h.0 h.1 good board (settled good) (same good)
-    comes-not_begun ended.LongBook h board settled same = let good : ended.LongBook ≢ ended.BoardFault = λ e. absurd cc in refused ended.LongBook h.0 h.1 good board (settled good) (same good)
-    comes-not_begun (ended.BadBook line) h board settled same = let good : ended.BadBook line ≢ ended.BoardFault = λ e. absurd cc in refused (ended.BadBook line) h.0 h.1 good board (settled good) (same good)
-    comes-not_begun (ended.BadParams fault) h board settled same = let good : ended.BadParams fault ≢ ended.BoardFault = λ e. absurd cc in refused (ended.BadParams fault) h.0 h.1 good board (settled good) (same good)
+    comes-not_begun why h board settled same =
+        let good : why ≢ ended.BoardFault = λ e. absurd cc in
+        refused why h.0 h.1 good board (settled good) (same good)

@@ -22,10 +22,11 @@ use Rattle.taxi_cli.specs.declared.tariff.TextFault.{TextFault}
 use Rattle.taxi_cli.specs.declared.tariff.TextFault.TheVariants as texts
 use Rattle.taxi_cli.specs.Answer.{Answer}
 use Rattle.taxi_cli.specs.Course.{Answered, NoMemory, ReadFailed}
-use Rattle.taxi_cli.specs.Ending.{Comes, ended_for, ended_for_params, store_ended}
+use Rattle.taxi_cli.specs.Ending.{Comes, ended_for, ended_for_params}
 use Rattle.taxi_cli.specs.LastLine.{sealed_line, status_of}
-use Rattle.taxi_cli.specs.Opening.{opening_of}
-use Rattle.taxi_cli.specs.Seal.{HasDecimals, IsNoSeal, IsNoTariff, IsSealable, IsTariffWith, are_decimals, base_in, over_totals, seal_answer, seal_command, seal_read, sealing_of, sealing_over, sealing_with, where_decimals, with_params, with_tariff}
+use Rattle.taxi_cli.specs.Opening.{opening_of, store_ended}
+use Rattle.taxi_cli.specs.Seal.{HasDecimals, IsSealable, are_decimals, base_in, over_totals, seal_answer, seal_command, seal_read, sealing_of, sealing_over, sealing_with, where_decimals, with_params, with_tariff}
+use Rattle.taxi_cli.specs.SealSteps.{IsNoSeal, IsNoTariff, IsTariffWith}
 use Rattle.taxi_cli.specs.Tariffs.{tariff_in}
 use Rattle.taxi_cli.proofs.Answering.{comes-refusal, none}
 

@@ -1,5 +1,5 @@
 -- The command `run`: how it begins.
-use Rattle.std.proofs.Common.{◌≡◌, ◌≢◌, ℕ, ◌<◌, ◌≤◌, Bool, true, false, if◌then◌else◌, List, length, take, drop, Option, Some, None, Result, Ok, Err, refl, sym, ap, subst, ◌∙◌, arith}
+use Rattle.std.proofs.Common.{◌≡◌, ◌≢◌, ℕ, ◌<◌, ◌≤◌, Bool, true, false, if◌then◌else◌, List, length, take, drop, Option, Some, Result, Ok, Err, inl, inr, refl, sym, ap, subst, ◌∙◌, arith}
 use Rattle.std.specs.Option.{ForSome}
 use Rattle.std.specs.Cmp.Lexicographic.{pointwise}
 use Rattle.std.specs.Prelude.{nat_eq}
@@ -30,9 +30,10 @@ use Rattle.taxi_cli.specs.declared.tariff.Refusal.{Refusal}
 use Rattle.taxi_cli.specs.declared.tariff.Refusal.TheVariants.{TooLong}
 use Rattle.taxi_cli.specs.declared.tariff.TextFault.{TextFault}
 use Rattle.taxi_cli.specs.declared.tariff.TextFault.TheVariants as texts
-use Rattle.taxi_cli.specs.Ending.{ended_for, store_ended}
-use Rattle.taxi_cli.specs.Opening.{opened, opening_of, sealed_store}
-use Rattle.taxi_cli.specs.Run.{IsOfTotals, IsSealedIn, Start, accepted, does_hold_fit, sealed_tariff, start_of, start_over, start_with, tables_in}
+use Rattle.taxi_cli.specs.Ending.{ended_for}
+use Rattle.taxi_cli.specs.Opening.{IsSealedIn, opened, opening_of, sealed_store, store_ended, store_of}
+use Rattle.taxi_cli.specs.Opened.{IsBarred}
+use Rattle.taxi_cli.specs.Run.{IsOfTotals, Start, accepted, does_hold_fit, sealed_tariff, start_of, start_over, start_with, tables_in}
 use Rattle.taxi_cli.specs.RunSteps.{AreNoTables, HasNotBegun, IsNoTables}
 use Rattle.taxi_cli.specs.Tariffs.{tariff_in}
 use Rattle.taxi_cli.proofs.Fitting.{Decides-hold, hold_fits}
@@ -65,31 +66,7 @@ no_tables-read digest text read_failed texts.NoMemory failed long = tt
 pub no_tables-made : (digest text : List ℕ) (read_failed : Type 0) (why : Ended) → sealed_tariff digest text ≡ accepted (tariff_in text) → IsNoTables text why → AreNoTables digest text read_failed why
 no_tables-made digest text read_failed ended.NoMemory e h = tt
 no_tables-made digest text read_failed (ended.BadTariff why) e h = e ∙ ap accepted h
-no_tables-made digest text read_failed ended.Done e h = absurd h
-no_tables-made digest text read_failed (ended.Sound cells measure) e h = absurd h
-no_tables-made digest text read_failed ended.BadWords e h = absurd h
-no_tables-made digest text read_failed ended.NotSealed e h = absurd h
-no_tables-made digest text read_failed (ended.BadSlot slot) e h = absurd h
-no_tables-made digest text read_failed (ended.SameNumber first second) e h = absurd h
-no_tables-made digest text read_failed ended.BadTrip e h = absurd h
-no_tables-made digest text read_failed (ended.WrongTariff sealed own) e h = absurd h
-no_tables-made digest text read_failed ended.TripHeld e h = absurd h
-no_tables-made digest text read_failed ended.SealEnded e h = absurd h
-no_tables-made digest text read_failed (ended.OtherDecimals found own) e h = absurd h
-no_tables-made digest text read_failed (ended.BadFrame place) e h = absurd h
-no_tables-made digest text read_failed ended.EndlessRequests e h = absurd h
-no_tables-made digest text read_failed (ended.BadRules fault) e h = absurd h
-no_tables-made digest text read_failed ended.LongBook e h = absurd h
-no_tables-made digest text read_failed (ended.BadBook line) e h = absurd h
-no_tables-made digest text read_failed (ended.BadParams fault) e h = absurd h
-no_tables-made digest text read_failed (ended.Sealed n) e h = absurd h
-no_tables-made digest text read_failed (ended.BadReadings row) e h = absurd h
-no_tables-made digest text read_failed ended.LongReadings e h = absurd h
-no_tables-made digest text read_failed ended.NotPassed e h = absurd h
-no_tables-made digest text read_failed (ended.BadDrive line) e h = absurd h
-no_tables-made digest text read_failed ended.EndlessDrive e h = absurd h
-no_tables-made digest text read_failed ended.ReadFault e h = absurd h
-no_tables-made digest text read_failed ended.BoardFault e h = absurd h
+no_tables-made digest text read_failed why e h = absurd h
 
 -- more may be known of a read that failed
 pub no_tables-as : (digest text : List ℕ) (read_failed more : Type 0) (why : Ended) → (read_failed → more) → AreNoTables digest text read_failed why → AreNoTables digest text more why
@@ -97,29 +74,7 @@ no_tables-as digest text read_failed more ended.ReadFault is h = is h
 no_tables-as digest text read_failed more ended.NoMemory is h = tt
 no_tables-as digest text read_failed more (ended.BadTariff why) is h = h
 no_tables-as digest text read_failed more (ended.WrongTariff sealed own) is h = h
-no_tables-as digest text read_failed more ended.Done is h = absurd h
-no_tables-as digest text read_failed more (ended.Sound cells measure) is h = absurd h
-no_tables-as digest text read_failed more ended.BadWords is h = absurd h
-no_tables-as digest text read_failed more ended.NotSealed is h = absurd h
-no_tables-as digest text read_failed more (ended.BadSlot slot) is h = absurd h
-no_tables-as digest text read_failed more (ended.SameNumber first second) is h = absurd h
-no_tables-as digest text read_failed more ended.BadTrip is h = absurd h
-no_tables-as digest text read_failed more ended.TripHeld is h = absurd h
-no_tables-as digest text read_failed more ended.SealEnded is h = absurd h
-no_tables-as digest text read_failed more (ended.OtherDecimals found own) is h = absurd h
-no_tables-as digest text read_failed more (ended.BadFrame place) is h = absurd h
-no_tables-as digest text read_failed more ended.EndlessRequests is h = absurd h
-no_tables-as digest text read_failed more (ended.BadRules fault) is h = absurd h
-no_tables-as digest text read_failed more ended.LongBook is h = absurd h
-no_tables-as digest text read_failed more (ended.BadBook line) is h = absurd h
-no_tables-as digest text read_failed more (ended.BadParams fault) is h = absurd h
-no_tables-as digest text read_failed more (ended.Sealed n) is h = absurd h
-no_tables-as digest text read_failed more (ended.BadReadings row) is h = absurd h
-no_tables-as digest text read_failed more ended.LongReadings is h = absurd h
-no_tables-as digest text read_failed more ended.NotPassed is h = absurd h
-no_tables-as digest text read_failed more (ended.BadDrive line) is h = absurd h
-no_tables-as digest text read_failed more ended.EndlessDrive is h = absurd h
-no_tables-as digest text read_failed more ended.BoardFault is h = absurd h
+no_tables-as digest text read_failed more why is h = absurd h
 
 -- a fault of making tables is none of a read or of the board
 pub no_tables-fault : (text : List ℕ) (why : Ended) → IsNoTables text why → (why ≢ ended.ReadFault) × (why ≢ ended.BoardFault)
@@ -228,64 +183,46 @@ starts_again image tariff left s place d e same found fits =
 -- ---- the run doesn't begin
 
 module _ (image tariff : List ℕ) (read_failed board_failed : Type 0) where
-  pub not_begun-store : (fault : StoreFault) → (¬ (fault ≡ stores.BoardFault) → opening_of image ≡ Err fault) → (fault ≡ stores.BoardFault → board_failed)
-      → HasNotBegun image tariff read_failed board_failed (store_ended fault)
-  not_begun-store (stores.BadSlot slot) answer cause = (ap (λ (r : Result Opening StoreFault). start_of r tariff) (answer (λ e. absurd cc)), record { not_0 = λ e. absurd cc; not_3 = λ e. absurd cc })
-  not_begun-store (stores.SameNumber first second) answer cause = (ap (λ (r : Result Opening StoreFault). start_of r tariff) (answer (λ e. absurd cc)), record { not_0 = λ e. absurd cc; not_3 = λ e. absurd cc })
-  not_begun-store stores.BoardFault answer cause = cause refl
-
-  pub not_begun-unsealed : (opening : Opening) → opening_of image ≡ Ok opening → sealed_store opening.totals opening.seal ≡ None → HasNotBegun image tariff read_failed board_failed ended.NotSealed
-  not_begun-unsealed opening e none = (
-    ap (λ (r : Result Opening StoreFault). start_of r tariff) e ∙ ap (λ (o : Option (Durable × Seal)). start_over o tariff) none,
+  -- the store bars the run
+  pub not_begun-barred : (why : Ended) → IsBarred why → (why ≢ ended.BoardFault → store_of (opening_of image) ≡ Err why) → (why ≡ ended.BoardFault → board_failed)
+      → HasNotBegun image tariff read_failed board_failed why
+  not_begun-barred why (inl e) store cause = subst (λ (w : Ended). HasNotBegun image tariff read_failed board_failed w) (sym e) (
+    ap (λ (r : Result (Durable × Seal) Ended). start_over r tariff) (subst (λ (w : Ended). store_of (opening_of image) ≡ Err w) e (store (λ f. absurd cc))),
     record { not_0 = λ z. absurd cc; not_3 = λ z. absurd cc },
   )
+  not_begun-barred why (inr (fault, e)) store cause =
+      subst (λ (w : Ended). HasNotBegun image tariff read_failed board_failed w) (sym e)
+      (by fault (λ not_board. subst (λ (w : Ended). store_of (opening_of image) ≡ Err w) e (store (λ f. not_board (sym e ∙ f)))) (λ is. cause (e ∙ is)))
+    where
+      by : (fault : StoreFault) → (store_ended fault ≢ ended.BoardFault → store_of (opening_of image) ≡ Err (store_ended fault)) → (store_ended fault ≡ ended.BoardFault → board_failed)
+          → HasNotBegun image tariff read_failed board_failed (store_ended fault)
+      by (stores.BadSlot slot) store cause = (ap (λ (r : Result (Durable × Seal) Ended). start_over r tariff) (store (λ f. absurd cc)), record { not_0 = λ z. absurd cc; not_3 = λ z. absurd cc })
+      by (stores.SameNumber first second) store cause = (ap (λ (r : Result (Durable × Seal) Ended). start_over r tariff) (store (λ f. absurd cc)), record { not_0 = λ z. absurd cc; not_3 = λ z. absurd cc })
+      by stores.BoardFault store cause = cause refl
 
-  module _ (opening : Opening) (e : opening_of image ≡ Ok opening) (d : Durable) (l : Seal) (has : sealed_store opening.totals opening.seal ≡ Some (d, l)) where
-    pub sealed_in : IsSealedIn image
-    sealed_in = record { opening = opening; is = e; durable = d; seal = l; has = has }
+  module _ (store : Durable × Seal) (e : store_of (opening_of image) ≡ Ok store) where
+    sealed_in : IsSealedIn image
+    sealed_in = record { store = store; is = e }
 
-    pub start_from : (r : Result Tree Ended) → sealed_tariff l.digest tariff ≡ r → start_of (opening_of image) tariff ≡ start_with d l r
-    start_from r f =
-        ap (λ (r : Result Opening StoreFault). start_of r tariff) e ∙ ap (λ (o : Option (Durable × Seal)). start_over o tariff) has ∙ ap (start_with d l) f
+    pub start_from : (r : Result Tree Ended) → sealed_tariff store.1.digest tariff ≡ r → start_of (opening_of image) tariff ≡ start_with store.0 store.1 r
+    start_from r f = ap (λ (r : Result (Durable × Seal) Ended). start_over r tariff) e ∙ ap (start_with store.0 store.1) f
 
-    pub not_begun-tables : (why : Ended) → AreNoTables l.digest tariff read_failed why → HasNotBegun image tariff read_failed board_failed why
+    pub not_begun-tables : (why : Ended) → AreNoTables store.1.digest tariff read_failed why → HasNotBegun image tariff read_failed board_failed why
     not_begun-tables ended.ReadFault h = (h, sealed_in)
     not_begun-tables ended.NoMemory h = sealed_in
     not_begun-tables (ended.BadTariff why) h = (start_from (Err (ended.BadTariff why)) h, record { not_0 = λ z. absurd cc; not_3 = λ z. absurd cc })
     not_begun-tables (ended.WrongTariff digest own) h = (start_from (Err (ended.WrongTariff digest own)) h, record { not_0 = λ z. absurd cc; not_3 = λ z. absurd cc })
-    not_begun-tables ended.Done h = absurd h
-    not_begun-tables (ended.Sound cells measure) h = absurd h
-    not_begun-tables ended.BadWords h = absurd h
-    not_begun-tables ended.NotSealed h = absurd h
-    not_begun-tables (ended.BadSlot slot) h = absurd h
-    not_begun-tables (ended.SameNumber first second) h = absurd h
-    not_begun-tables ended.BadTrip h = absurd h
-    not_begun-tables ended.TripHeld h = absurd h
-    not_begun-tables ended.SealEnded h = absurd h
-    not_begun-tables (ended.OtherDecimals found own) h = absurd h
-    not_begun-tables (ended.BadFrame place) h = absurd h
-    not_begun-tables ended.EndlessRequests h = absurd h
-    not_begun-tables (ended.BadRules fault) h = absurd h
-    not_begun-tables ended.LongBook h = absurd h
-    not_begun-tables (ended.BadBook line) h = absurd h
-    not_begun-tables (ended.BadParams fault) h = absurd h
-    not_begun-tables (ended.Sealed n) h = absurd h
-    not_begun-tables (ended.BadReadings row) h = absurd h
-    not_begun-tables ended.LongReadings h = absurd h
-    not_begun-tables ended.NotPassed h = absurd h
-    not_begun-tables (ended.BadDrive line) h = absurd h
-    not_begun-tables ended.EndlessDrive h = absurd h
-    not_begun-tables ended.BoardFault h = absurd h
+    not_begun-tables why h = absurd h
 
     -- by whether the held trip fits
-    fitted : (t : Tree) (fit : Bool) → does_hold_fit (tables_of t l.params.constant) d.hold ≡ fit
-        → start_with d l (Ok t) ≡ (if fit then Ok (record { durable = d; seal = l; tree = t }) else Err ended.BadTrip)
+    fitted : (t : Tree) (fit : Bool) → does_hold_fit (tables_of t store.1.params.constant) store.0.hold ≡ fit
+        → start_with store.0 store.1 (Ok t) ≡ (if fit then Ok (record { durable = store.0; seal = store.1; tree = t }) else Err ended.BadTrip)
     fitted t fit is = rw is refl
 
-    pub not_begun-trip : (t : Tree) → sealed_tariff l.digest tariff ≡ Ok t → does_hold_fit (tables_of t l.params.constant) d.hold ≡ false
+    pub not_begun-trip : (t : Tree) → sealed_tariff store.1.digest tariff ≡ Ok t → does_hold_fit (tables_of t store.1.params.constant) store.0.hold ≡ false
         → HasNotBegun image tariff read_failed board_failed ended.BadTrip
     not_begun-trip t f none = (start_from (Ok t) f ∙ fitted t false none, record { not_0 = λ z. absurd cc; not_3 = λ z. absurd cc })
 
-    pub has_begun : (t : Tree) → sealed_tariff l.digest tariff ≡ Ok t → does_hold_fit (tables_of t l.params.constant) d.hold ≡ true
-        → start_of (opening_of image) tariff ≡ Ok (record { durable = d; seal = l; tree = t })
+    pub has_begun : (t : Tree) → sealed_tariff store.1.digest tariff ≡ Ok t → does_hold_fit (tables_of t store.1.params.constant) store.0.hold ≡ true
+        → start_of (opening_of image) tariff ≡ Ok (record { durable = store.0; seal = store.1; tree = t })
     has_begun t f fits = start_from (Ok t) f ∙ fitted t true fits

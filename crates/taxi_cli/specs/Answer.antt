@@ -1,24 +1,20 @@
--- What the program answers.
-use Rattle.std.specs.Prelude.{ℕ, List, [], ◌++◌}
+-- Rules: what the program answers.
+use Rattle.std.specs.Prelude.{ℕ, List, []}
 
--- a status, what is shown, and the last line, where there is one
+-- an answer has a status, a text that is shown, and a last line, which is empty where there is none
 pub record Answer : Type 0 where
   pub status : ℕ
   pub shown : List ℕ
   pub line : List ℕ
 
--- what the program prints in all
-abbrev pub text_of : Answer → List ℕ
-text_of a = a.shown ++ a.line
-
--- the output is whole, with no last line
+-- an answer that shows a text has the status 0, and no last line
 abbrev pub shows : List ℕ → Answer
 shows text = record { status = 0; shown = text; line = [] }
 
--- the output is whole, and is one line
+-- an answer that says a line has the status 0, and shows nothing but the line
 abbrev pub says : List ℕ → Answer
 says line = record { status = 0; shown = []; line = line }
 
--- the input is refused, by one line
+-- an answer that refuses its input has a status and a last line, and shows nothing else
 abbrev pub refuses : ℕ → List ℕ → Answer
 refuses status line = record { status = status; shown = []; line = line }

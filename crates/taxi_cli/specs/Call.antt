@@ -1,4 +1,4 @@
--- What holds of a call.
+-- Rules: what holds of a call, by the contents of its files, the opening image, and which counts of faults rose.
 use Rattle.std.specs.Prelude.{◌≡◌, ◌⊎◌, ℕ, List, [], ◌++◌}
 use Rattle.outside.specs.Faults.{Rose}
 use Rattle.outside.specs.Printing.{Begins}
@@ -7,65 +7,70 @@ use Rattle.outside.specs.declared.files.Files.{Ghosts as FileGhosts}
 use Rattle.taxi_cli.specs.Course.{Command, Course, Answered, ReadFailed, NoMemory, BoardFailed, status_in, text_in}
 use Rattle.taxi_cli.specs.Stream.{Takes, TellsItsEnd, bad_status}
 
--- a call of a command, with what the files held and what is left of them, the opening image, and which counts of faults
--- rose
+-- A call of a command is told by what the files held and what is `left` of them, by the opening image, by the words of
+-- whose files a read failed, and by whether the board failed.
 module _ (c : Command) (contents left : ℕ → List ℕ) (image : List ℕ) (read_failed : ℕ → Type 0)
     (board_failed : Type 0) where
-  -- at the answer: at status 0 each file that the command reads was read to its end; at 2 nothing of the drive was
-  -- taken; and where the drive or the requests are bad the bytes that were taken have what is bad
+  -- a call came to its answer where at status 0 each file that the command reads was read to its end, at 2 nothing of
+  -- the drive was taken, and where the drive or the requests are bad the bytes that were taken have what is bad
   pub record IsAnswered : Type 0 where
     pub whole : (c.answer contents image).status ≡ 0 → (word : ℕ) → c.reads word → left word ≡ []
     pub refused : (c.answer contents image).status ≡ 2 → Takes c.drive contents left []
     pub bad : (c.answer contents image).status ≡ bad_status c.drive → TellsItsEnd c.drive contents left
 
-  -- a read failed, of a word that the command reads and had come to
+  -- a read failed of a word whose file the command reads and had come to, when these bytes of the drive or of the
+  -- requests were taken
   pub record FailsToRead (word : ℕ) (taken : List ℕ) : Type 0 where
     pub reads : c.reads word
     pub comes : c.comes_to contents image word taken
     pub failed : read_failed word
     pub takes : Takes c.drive contents left taken
 
-  -- memory ran out at such a place, when these bytes of the drive or of the requests were taken
+  -- memory ran out at a place where it may, when some bytes of the drive or of the requests were taken
   pub record LacksMemory : Type 0 where
     pub taken : List ℕ
     pub may : c.may_lack contents image taken
     pub takes : Takes c.drive contents left taken
 
-  -- the board failed
+  -- the board failed when these bytes of the drive or of the requests were taken
   pub record FailsAtBoard (taken : List ℕ) : Type 0 where
     pub failed : board_failed
     pub takes : Takes c.drive contents left taken
 
-  -- what must hold for a course to be taken
+  -- a call may take a course where what the course says has happened
   abbrev pub MayTake : Course → Type 0
   MayTake Answered = IsAnswered
   MayTake (ReadFailed word taken) = FailsToRead word taken
   MayTake NoMemory = LacksMemory
   MayTake (BoardFailed taken) = FailsAtBoard taken
 
--- memory may run out in a call
+-- memory may run out in a call of a command where it may when some bytes of the drive were taken
 abbrev pub MayLack : Command → (contents : ℕ → List ℕ) (image : List ℕ) → Type 0
 MayLack c contents image = (taken : List ℕ) × c.may_lack contents image taken
 
--- the text was printed whole, with its status
+-- a call ended whole where it has the status of its text, and where the printed text is told, all of the text was
+-- printed
 pub record IsWhole (tells_text : Type 0) (status : ℕ) (text : List ℕ) (ended : ℕ) (before now : List ℕ) : Type 0 where
   pub status_is : ended ≡ status
   pub printed : tells_text → now ≡ before ++ text
 
--- the board failed, and a beginning of the text was printed
+-- a call was cut short where it ended with 8, the board failed, and where the printed text is told, a beginning of its
+-- text was printed
 pub record IsCutShort (tells_text board_failed : Type 0) (text : List ℕ) (ended : ℕ)
     (before now : List ℕ) : Type 0 where
   pub status_is : ended ≡ 8
   pub failed : board_failed
   pub begun : tells_text → Begins before now text
 
--- a text was printed whole with its status, or cut short with 8
-abbrev pub IsEnd : (tells_text board_failed : Type 0) (status : ℕ) (text : List ℕ) (ended : ℕ) (before now : List ℕ) → Type 0
+-- a call ended with `ended` where it has a status and a text: whole with that status, or cut short with 8
+abbrev pub IsEnd : (tells_text board_failed : Type 0) (status : ℕ) (text : List ℕ) (ended : ℕ) (before now : List ℕ)
+    → Type 0
 IsEnd tells_text board_failed status text ended before now =
     IsWhole tells_text status text ended before now ⊎ IsCutShort tells_text board_failed text ended before now
 
 module _ {E D L : Type 0} (F : FileGhosts E) (B : Ghosts D L) where
-  -- a call of a command took a course, and ended with its status and its text, or with 8 and a beginning of its text
+  -- a call of a command took a course, and ended with the course's status and text, or with 8 and a beginning of the
+  -- text
   pub record IsCall (c : Command) (files files' : E) (board board' : D) (ended : ℕ) : Type 0 where
     pub course : Course
     pub may : MayTake c (F.rest files) (F.rest files') (B.image board)
@@ -74,7 +79,7 @@ module _ {E D L : Type 0} (F : FileGhosts E) (B : Ghosts D L) where
         (status_in c (F.rest files) (B.image board) course) (text_in c (F.rest files) (B.image board) course)
         ended (B.printed board) (B.printed board')
 
--- the count of faults rose of a file that the command reads
+-- a read failed in a call where the count of faults of a file that the command reads has risen
 pub record HasReadFault {E : Type 0} (F : FileGhosts E) (c : Command) (files files' : E) : Type 0 where
   pub word : ℕ
   pub reads : c.reads word

@@ -1,4 +1,4 @@
--- The command `check TARIFF`.
+-- Rules: the command `check TARIFF`.
 use Rattle.std.specs.Prelude.{◌≡◌, ◌+◌, ◌≤◌, [], None, Result, Ok, Err}
 use Rattle.tariff_syntax.specs.Tree.{Tree}
 use Rattle.tariff_check.specs.Cells.{cells_of}
@@ -9,12 +9,12 @@ use Rattle.taxi_cli.specs.LastLine.{sound_line}
 use Rattle.taxi_cli.specs.Tariffs.{tariff_in, bad_tariff}
 use Rattle.taxi_cli.specs.declared.tariff.Refusal.{Refusal}
 
--- how many cells a sound tariff has, and its common measure
+-- the answer to a sound tariff says how many cells it has and its common measure; to another text, why there is none
 abbrev pub check_answer : Result Tree Refusal → Answer
 check_answer (Err why) = bad_tariff why
 check_answer (Ok t) = says (sound_line (cells_of t.lines) (measure_of t.lines))
 
--- it reads its tariff, and prints one line
+-- the command `check` reads its tariff and prints one line, in one step at most
 abbrev pub check_command : Command
 check_command = record {
   answer = λ contents image. check_answer (tariff_in (contents 1));

@@ -1,4 +1,4 @@
--- The commands of the program.
+-- Rules: the commands of the program. What each of them is stands in a file of its own.
 use Rattle.std.specs.Prelude.{ℕ, List, Option, Some, None}
 use Rattle.taxi_cli.specs.Answer.{Answer}
 use Rattle.taxi_cli.specs.Bench.{bench_command}
@@ -20,7 +20,7 @@ use Rattle.taxi_cli.specs.declared.words.Row.{Row}
 use Rattle.taxi_cli.specs.declared.words.Row.TheVariants.{Check, Tables, Fare, Totals, Seal, Run, Bench, Gen}
 use Rattle.taxi_cli.specs.declared.words.Row.TheVariants.{Port, Offsets, Mark, Shifts}
 
--- the command of a row
+-- each row of words is a command, and words that are no row are refused
 abbrev pub command_of : Option Row → Command
 command_of None = no_command
 command_of (Some Check) = check_command
@@ -36,7 +36,7 @@ command_of (Some (Offsets years)) = offsets_command years
 command_of (Some (Mark driver)) = mark_command driver
 command_of (Some Shifts) = shifts_command
 
--- it only looks at the store: it opens it, and writes nothing
+-- a command only looks at the store where it opens the store and writes nothing
 abbrev pub OnlyLooks : Option Row → Type 0
 OnlyLooks (Some Totals) = Unit {0}
 OnlyLooks (Some Bench) = Unit {0}
@@ -45,10 +45,10 @@ OnlyLooks (Some (Mark driver)) = Unit {0}
 OnlyLooks (Some Shifts) = Unit {0}
 OnlyLooks row = ⊥
 
--- the command that words call
+-- words call the command of the row that they are
 abbrev pub called : List (List ℕ) → Command
 called words = command_of (row_of words)
 
--- the answer to words, where word n's file has these contents and the store holds this image
+-- the answer to words, where the file of word n has the contents n and the store holds an image
 abbrev pub command : List (List ℕ) → (ℕ → List ℕ) → List ℕ → Answer
 command words contents image = (called words).answer contents image

@@ -1,65 +1,65 @@
--- What a command is, and the course that a call of it takes.
+-- Rules: what a command is, and the course that a call of it takes.
 use Rattle.std.specs.Prelude.{ℕ, List, [], ◌++◌, Option}
 use Rattle.taxi_cli.specs.Answer.{Answer}
 use Rattle.taxi_cli.specs.LastLine.{read_fault_line, no_memory_line}
 use Rattle.taxi_cli.specs.Stream.{Stream}
 
--- a command, by the contents of the files of its words and by the opening image of the store
+-- A command is told by functions of the contents of the files of its words and of the opening image of the store.
 pub record Command : Type 1 where
-  -- its answer
+  -- what it answers
   pub answer : (contents : ℕ → List ℕ) (image : List ℕ) → Answer
-  -- its drive, or its requests, where it has such a file
+  -- the drive, or the requests, that it takes piece by piece, where it has such a file
   pub drive : Option Stream
-  -- what it shows of bytes of that file that were taken
+  -- what it shows when these bytes of the drive or the requests were taken
   pub shown : (contents : ℕ → List ℕ) (image taken : List ℕ) → List ℕ
   -- the words whose files it reads
   pub reads : ℕ → Type 0
-  -- it comes to a read of this word's file, when these bytes of that file were taken
+  -- it comes to a read of this word's file when these bytes of the drive or the requests were taken
   pub comes_to : (contents : ℕ → List ℕ) (image : List ℕ) (word : ℕ) (taken : List ℕ) → Type 0
-  -- it comes to a place where memory may run out, when these bytes of its drive were taken
+  -- it comes to a place where memory may run out when these bytes of the drive or the requests were taken
   pub may_lack : (contents : ℕ → List ℕ) (image taken : List ℕ) → Type 0
-  -- what has to be told for its answer to be known: the files' contents, the image
+  -- what has to be told for its answer to be known, of the files' contents and the image
   pub known : (files_tell image_told : Type 0) → Type 0
   -- it opens the store
   pub opens : Type 0
-  -- it may write the store, where it ends with this status
+  -- it may have written the store where it ends with this status
   pub writes : (ended : ℕ) → Type 0
-  -- how many steps it may take
+  -- its count of steps may rise from one number to another, by what is told and by what is left of the files
   pub steps : (files_tell image_told : Type 0) (contents left : ℕ → List ℕ) (image : List ℕ) (before now : ℕ) → Type 0
 
--- how far a call came
+-- a course says how far a call came: to its answer, or to a fault or a want before it
 pub data Course : Type 0 where
   -- to its answer
   Answered : Course
-  -- to a read of this word's file that failed, when these bytes of its drive or requests were taken
+  -- to a read of this word's file that failed, when these bytes of the drive or the requests were taken
   ReadFailed : (word : ℕ) (taken : List ℕ) → Course
   -- to a place where memory ran out
   NoMemory : Course
-  -- to a fault of the board before its answer, when these bytes of its drive or requests were taken
+  -- to a fault of the board before its answer, when these bytes of the drive or the requests were taken
   BoardFailed : (taken : List ℕ) → Course
 
 module _ (c : Command) (contents : ℕ → List ℕ) (image : List ℕ) where
-  -- the status of a course, where its text is printed whole
+  -- the status of a course whose text is printed whole: that of the answer, 7, 12 or 8
   abbrev pub status_in : Course → ℕ
   status_in Answered = (c.answer contents image).status
   status_in (ReadFailed word taken) = 7
   status_in NoMemory = 12
   status_in (BoardFailed taken) = 8
 
-  -- what is shown in a course
+  -- the text that is shown in a course: the whole answer, or what the bytes show that were taken
   abbrev pub shown_in : Course → List ℕ
   shown_in Answered = (c.answer contents image).shown
   shown_in (ReadFailed word taken) = c.shown contents image taken
   shown_in NoMemory = []
   shown_in (BoardFailed taken) = c.shown contents image taken
 
-  -- its last line, where there is one
+  -- the last line of a course, which is empty where the board failed
   abbrev pub line_in : Course → List ℕ
   line_in Answered = (c.answer contents image).line
   line_in (ReadFailed word taken) = read_fault_line
   line_in NoMemory = no_memory_line
   line_in (BoardFailed taken) = []
 
-  -- its text
+  -- the text of a course is what is shown in it, and then its last line
   abbrev pub text_in : Course → List ℕ
   text_in course = shown_in course ++ line_in course

@@ -1,4 +1,4 @@
--- The command `fare TARIFF DRIVE CONSTANT`.
+-- Rules: the command `fare TARIFF DRIVE CONSTANT`.
 use Rattle.std.specs.Prelude.{◌≡◌, ◌⊎◌, ℕ, pos, List, [], ◌∷◌, Some, Result, Ok, Err}
 use Rattle.drive_modes.specs.declared.charges.Mode.TheVariants.{Single}
 use Rattle.drive_text.specs.Ending.{DriveEnd, Whole, BadAt, Endless, IsGoing, drive_end}
@@ -14,32 +14,36 @@ use Rattle.taxi_cli.specs.Stream.{Drive}
 use Rattle.taxi_cli.specs.Tariffs.{tariff_in, bad_tariff}
 use Rattle.taxi_cli.specs.declared.tariff.Refusal.{Refusal}
 
--- the answer to a drive that shows this and ends so
+-- the answer to a drive shows its text, and has the status 3 and a last line where a line of the drive is bad or it has
+-- no end
 abbrev pub drive_answer : List ℕ → DriveEnd → Answer
 drive_answer shown Whole = shows shown
 drive_answer shown (BadAt n) = record { status = 3; shown = shown; line = bad_drive_line n }
 drive_answer shown Endless = record { status = 3; shown = shown; line = endless_drive_line }
 
--- a tariff under a constant: in mode S, with a hold of a minute, and local time that is UTC
+-- a meter without a store goes by a tariff and a constant in mode S, with a hold of a minute and local time that is UTC
 abbrev pub setting_of : (k : ℕ) → Tree → Setting
 setting_of k t = record { tariff = t; constant = k; mode = Single; hold = 60; offsets = (first_second, pos 0) ∷ [] }
 
--- what bytes of a drive show under a tariff, and nothing without one
+-- bytes of a drive show their displays and refusals under a tariff, and nothing where there is none
 abbrev pub shown_under : (k : ℕ) → Result Tree Refusal → List ℕ → List ℕ
 shown_under k (Err why) drive = []
 shown_under k (Ok t) drive = drive_shown (setting_of k t) drive
 
+-- the answer to a drive is that of its text under the tariff, or why there is no tariff
 abbrev pub fare_answer : (k : ℕ) → Result Tree Refusal → List ℕ → Answer
 fare_answer k (Err why) drive = bad_tariff why
 fare_answer k (Ok t) drive = drive_answer (drive_shown (setting_of k t) drive) (drive_end drive)
 
--- the tariff is sound, and the drive isn't over with these bytes
+-- a drive is being read under a tariff where the tariff is sound, and the bytes that were taken don't tell the drive's
+-- end
 pub record IsDriving (tariff taken : List ℕ) : Type 0 where
   pub tree : Tree
   pub sound : tariff_in tariff ≡ Ok tree
   pub going : IsGoing taken
 
--- it reads its tariff, and then its drive: at most 64 steps an event and for the drive's end, and one for the last line
+-- the command `fare` reads its tariff and then its drive, in at most 64 steps for each event, 64 for the drive's end
+-- and one for the last line
 abbrev pub fare_command : (k : ℕ) → Command
 fare_command k = record {
   answer = λ contents image. fare_answer k (tariff_in (contents 1)) (contents 2);

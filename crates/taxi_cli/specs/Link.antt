@@ -1,4 +1,4 @@
--- One run of a chain, and the cut of the power in it.
+-- Rules: one run of a chain, and the cut of the power in it.
 use Rattle.std.specs.Prelude.{◌≡◌, ◌≢◌, ℕ, ◌+◌, ◌-◌, ◌≤◌, List, [], length, take, Option, None, Some, Result, Ok, Err}
 use Rattle.outside.specs.Disk.{SameBut}
 use Rattle.outside.specs.Faults.{Rose}
@@ -15,9 +15,10 @@ use Rattle.taxi_cli.specs.Opening.{opening_of}
 use Rattle.taxi_cli.specs.Run.{IsOfTotals, MayFind, Start, bytes_in, deeds_in, run_command, start_of}
 use Rattle.taxi_cli.specs.declared.ending.Ended.{Ended}
 
--- A run of a chain: what its files held and what is left of them, how the power was cut, how far the run came, its
--- status, and what is left behind it: the next image, the state that this stands for, its number, and what had been
--- printed. A cut is one inside the board's call with a number, and what it makes of the bytes in flight.
+-- A run of a chain is told by what its files held and what is left of them, how the power was cut, how far the run
+-- came, its status, and what is left behind it, which is the next image, the state that this stands for, its number,
+-- and what had been printed. A cut is one inside the board's call with a number, and what it makes of the bytes in
+-- flight.
 pub record Link : Type 0 where
   pub files : FilesState
   pub files_left : FilesState
@@ -29,46 +30,45 @@ pub record Link : Type 0 where
   pub number : ℕ
   pub text : List ℕ
 
--- what a run does over bytes of its drive: nothing, where it is refused before the drive
+-- a run does the deeds of the bytes of its drive from its start on, and nothing where it is refused before the drive
 abbrev pub deeds_from : Result Start Ended → (bytes : List ℕ) → List Deed
 deeds_from (Err why) bytes = []
 deeds_from (Ok start) bytes = deeds_in start bytes
 
--- a run over an image
 module _ (image : List ℕ) (link : Link) where
-  -- what it begins with, or why it is refused
+  -- a run over an image begins with the start that the image and its tariff give, or is refused
   abbrev pub begun_with : Result Start Ended
   begun_with = start_of (opening_of image) (rest_of link.files 1)
 
-  -- the bytes of its drive that it carried out: all where it came to its answer, else those that were taken
+  -- the bytes of its drive that a run carried out are all where it came to its answer, and else those that were taken
   abbrev pub bytes_done : List ℕ
   bytes_done = bytes_in link.course (rest_of link.files 2)
 
-  -- what it does over them
+  -- the deeds that a run has done are those over the bytes that it carried out
   abbrev pub deeds_done : List Deed
   deeds_done = deeds_from begun_with bytes_done
 
-  -- what that commits, in order
+  -- the commits that a run has done are those of its deeds, in order
   abbrev pub commits_done : List Change
   commits_done = changes_of deeds_done
 
-  -- its last line, where it has one
+  -- the last line of a run is the one of its course
   abbrev pub last_line : List ℕ
   last_line = line_in run_command (rest_of link.files) image link.course
 
--- the prefix of a run's commits that the next image has: as many as its number is above that of the state before
+-- the prefix of a run is the commits that the next image has, as many as its number is above that of the state before
 abbrev pub prefix_of : (durable : Durable) (image : List ℕ) → Link → List Change
 prefix_of durable image link = take (link.number - durable.number) (commits_done image link)
 
--- A run over an image that stands for a durable state.
+-- A run of a chain is one over an image that stands for a durable state, as these parts say.
 pub record IsLink (durable : Durable) (image : List ℕ) (link : Link) : Type 0 where
-  -- it came to its answer over the whole drive, with the status of the command's definition, or to a read that failed,
-  -- with 7; memory didn't run out, and the board didn't fail
+  -- the run came to its answer over the whole drive, with the status of the command's definition, or to a read that
+  -- failed, with 7; memory didn't run out, and the board didn't fail
   pub may : MayTake run_command (rest_of link.files) (rest_of link.files_left) image
       (λ word. Rose link.files.failed link.files_left.failed) ⊥ link.course
   pub status : link.status ≡ status_in run_command (rest_of link.files) image link.course
   pub memory : link.status ≢ 12
-  -- it read no file but those of its words
+  -- the run read no file but those of its words
   pub others : (word : ℕ) → word ≢ 1 → word ≢ 2 → rest_of link.files_left word ≡ rest_of link.files word
   -- the next number is no smaller than the one before, and no greater than with all commits of the run
   pub least : durable.number ≤ link.number
@@ -77,7 +77,7 @@ pub record IsLink (durable : Durable) (image : List ℕ) (link : Link) : Type 0 
   pub stands : HasState link.image link.found
   pub number : link.number ≡ link.found.number
   pub follows : Follows durable link.found (prefix_of durable image link)
-  -- these are all where the power wasn't cut, and none where it was cut before the first call
+  -- the commits are all those of the run where the power wasn't cut, and none where it was cut before the first call
   pub whole : link.cut ≡ None → link.number ≡ durable.number + length (commits_done image link)
   pub none : (fill : Fill) → link.cut ≡ Some (0, fill) → (link.image ≡ image) × (link.number ≡ durable.number)
   -- the bytes of the seal stay
@@ -85,15 +85,3 @@ pub record IsLink (durable : Durable) (image : List ℕ) (link : Link) : Type 0 
   -- the next image and what had been printed are a pair that a cut of the power leaves of the run
   pub pair : MayFind (Unit {0}) image [] (begun_with image link) (bytes_done image link) (last_line image link)
       link.image link.text
-
--- a run of this kind, with these files before and after it, this cut, this status, and this image and number behind it
-pub record HasLink (durable : Durable) (image : List ℕ) (files files_left : FilesState) (cut : Option (ℕ × Fill))
-    (status : ℕ) (next : List ℕ) (number : ℕ) : Type 0 where
-  pub link : Link
-  pub is : IsLink durable image link
-  pub files_are : link.files ≡ files
-  pub left_are : link.files_left ≡ files_left
-  pub cut_is : link.cut ≡ cut
-  pub status_is : link.status ≡ status
-  pub image_is : link.image ≡ next
-  pub number_is : link.number ≡ number

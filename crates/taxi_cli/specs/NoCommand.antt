@@ -1,13 +1,14 @@
--- Words that are no command.
+-- Rules: words that are no command.
 use Rattle.std.specs.Prelude.{◌+◌, ◌≤◌, [], None}
 use Rattle.taxi_cli.specs.Answer.{Answer, refuses}
 use Rattle.taxi_cli.specs.Course.{Command}
 use Rattle.taxi_cli.specs.LastLine.{bad_words_line}
 
+-- the answer to words that are no command
 abbrev pub bad_words : Answer
 bad_words = refuses 1 bad_words_line
 
--- they are refused, whatever the outside tells, and nothing is read
+-- words that are no command are refused whatever the outside tells, and nothing is read
 abbrev pub no_command : Command
 no_command = record {
   answer = λ contents image. bad_words;

@@ -1,4 +1,4 @@
--- The command `offsets RULES FROM TO`.
+-- Rules: the command `offsets RULES FROM TO`.
 use Rattle.std.specs.Prelude.{◌≡◌, ℕ, ◌+◌, ◌≤◌, [], None, Result, Ok, Err}
 use Rattle.offset_rules.specs.Pairs.{pairs_of}
 use Rattle.offset_rules.specs.Reading.{rules_read}
@@ -8,17 +8,15 @@ use Rattle.offset_rules.specs.declared.fault.RuleFault.{RuleFault}
 use Rattle.taxi_cli.specs.Answer.{Answer, refuses, shows}
 use Rattle.taxi_cli.specs.Course.{Command}
 use Rattle.taxi_cli.specs.LastLine.{bad_rules_line}
-use Rattle.taxi_cli.specs.declared.ending.Ended.{Ended}
-use Rattle.taxi_cli.specs.declared.ending.Ended.TheVariants as ended
-use Rattle.taxi_cli.specs.declared.offsets.RulesFault.{RulesFault}
-use Rattle.taxi_cli.specs.declared.offsets.RulesFault.TheVariants as rules
 
--- the lines of the list of offsets that a rule gives for some years, the first and the last
+-- the answer to some years, the first and the last, shows the list of offsets that the rules give for them, or says why
+-- the rules aren't accepted
 abbrev pub offsets_answer : (years : ℕ × ℕ) → Result Rule RuleFault → Answer
 offsets_answer years (Err fault) = refuses 17 (bad_rules_line fault)
 offsets_answer years (Ok rule) = shows (offset_lines (pairs_of rule years.0 years.1))
 
--- it reads its rules, and prints each line by itself; it takes no memory
+-- the command `offsets` reads its rules, prints each line by itself and takes no memory, in at most 31 steps and one
+-- for the last line
 abbrev pub offsets_command : (years : ℕ × ℕ) → Command
 offsets_command years = record {
   answer = λ contents image. offsets_answer years (rules_read (contents 1));
@@ -32,8 +30,3 @@ offsets_command years = record {
   writes = λ ended. ⊥;
   steps = λ files_tell image_told contents left image before now. now ≤ before + 31 + 1;
 }
-
--- how the command ended where its rules weren't read
-abbrev pub ended_for_rules : RulesFault → Ended
-ended_for_rules rules.ReadFault = ended.ReadFault
-ended_for_rules (rules.Refused why) = ended.BadRules why

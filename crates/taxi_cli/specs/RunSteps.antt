@@ -1,4 +1,4 @@
--- How far the command `run` came, before its last line is printed.
+-- For proofs: how far the command `run` came before its last line is printed. Run says what a run is.
 use Rattle.std.specs.Prelude.{◌≡◌, ◌≢◌, ℕ, List, Ok, Err}
 use Rattle.outside.specs.Printing.{Begins}
 use Rattle.outside.specs.Runs.{MayHold}
@@ -11,8 +11,8 @@ use Rattle.tariff_syntax.specs.Tree.{Tree}
 use Rattle.meter_run.specs.Runs.{OpensWith}
 use Rattle.taxi_cli.specs.Ending.{ComesOn}
 use Rattle.taxi_cli.specs.LastLine.{line_of, status_of}
-use Rattle.taxi_cli.specs.Opening.{opening_of}
-use Rattle.taxi_cli.specs.Run.{IsSealedIn, MayFindIn, Stands, Start, bytes_in, run_command, sealed_tariff}
+use Rattle.taxi_cli.specs.Opening.{IsSealedIn, opening_of}
+use Rattle.taxi_cli.specs.Run.{MayFindIn, Stands, Start, bytes_in, run_command, sealed_tariff}
 use Rattle.taxi_cli.specs.Run.{start_at, start_of, tables_in}
 use Rattle.taxi_cli.specs.Tariffs.{tariff_in}
 use Rattle.taxi_cli.specs.Unwritten.{KeepsBytes}
@@ -21,20 +21,20 @@ use Rattle.taxi_cli.specs.declared.ending.Ended.TheVariants.{BadTariff, BoardFau
 
 -- ---- the tables of the sealed tariff
 
--- a text has no tariff: it is refused, or memory ran out
+-- a text has no tariff where it is refused or memory ran out
 abbrev pub IsNoTables : (text : List ℕ) → Ended → Type 0
 IsNoTables text NoMemory = Unit {0}
 IsNoTables text (BadTariff why) = tariff_in text ≡ Err why
 IsNoTables text why = ⊥
 
--- they are those of a text's tariff, which is the sealed one
+-- tables are sealed ones where they are those of a text's tariff, and the tariff is the sealed one
 pub record AreSealedTables (seal : Seal) (text : List ℕ) (tables : TableParts) : Type 0 where
   pub tree : Tree
   pub accepted : sealed_tariff seal.digest text ≡ Ok tree
   pub compiled : IsTablesOf tree tables
   pub value : tables ≡ tables_of tree seal.params.constant
 
--- no tables were made of a text that may be sealed: a read failed, memory ran out, or it is refused
+-- no tables were made of a text that should be the sealed one where a read failed, memory ran out, or it is refused
 abbrev pub AreNoTables : (digest text : List ℕ) → (read_failed : Type 0) → Ended → Type 0
 AreNoTables digest text read_failed ReadFault = read_failed
 AreNoTables digest text read_failed NoMemory = Unit {0}
@@ -45,7 +45,7 @@ AreNoTables digest text read_failed why = ⊥
 -- ---- how a run begins
 
 module _ {D L : Type 0} (B : Ghosts D L) where
-  -- the run begins with this over the opening image: the tables and the seal are its own, and the board may open
+  -- a run has begun over the opening image where it has a start with this seal and these tables, and the board may open
   -- with its durable state
   pub record HasBegun (image tariff : List ℕ) (board : D) (seal : Seal) (tables : TableParts) : Type 0 where
     pub start : Start
@@ -55,12 +55,12 @@ module _ {D L : Type 0} (B : Ghosts D L) where
     pub compiled : IsTablesOf start.tree tables
     pub opens : OpensWith B tables board start.durable
 
--- a refusal has a status of its own: none that a drive ends with, and none of a fault of the outside
+-- an end is a refusal where its status is neither of the two with which a run over a drive ends by itself
 pub record IsRefusal (why : Ended) : Type 0 where
   pub not_0 : status_of why ≢ 0
   pub not_3 : status_of why ≢ 3
 
--- the run hasn't begun: a read failed, memory ran out or the board failed, or it is refused
+-- a run hasn't begun where a read failed, memory ran out, the board failed, or it is refused
 abbrev pub HasNotBegun : (image tariff : List ℕ) → (read_failed board_failed : Type 0) → Ended → Type 0
 HasNotBegun image tariff read_failed board_failed ReadFault = read_failed × IsSealedIn image
 HasNotBegun image tariff read_failed board_failed NoMemory = IsSealedIn image
@@ -70,8 +70,8 @@ HasNotBegun image tariff read_failed board_failed why = (start_of (opening_of im
 -- ---- what it leaves
 
 module _ {E D L : Type 0} (F : FileGhosts E) (B : Ghosts D L) where
-  -- a run took a course, and came to its last line or to a fault of the board before it, as in what holds of it in
-  -- the end
+  -- a run came to its last line, or to a fault of the board before it, where all holds of it that `IsRun` says of a run
+  -- in the end
   pub record RunComes (files files' : E) (old new : D) (ended : Ended) : Type 0 where
     pub comes : ComesOn F B run_command files files' old new ended
     pub stands : ended ≢ BoardFault → Stands B.tells_text (B.image old) (B.printed old) (start_at F B files old)

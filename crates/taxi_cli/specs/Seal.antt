@@ -1,4 +1,4 @@
--- The command `seal TARIFF PARAMS`.
+-- Rules: the command `seal TARIFF PARAMS`.
 use Rattle.std.specs.Prelude.{◌≡◌, ◌⊎◌, ℕ, ◌+◌, ◌≤◌, ◌==◌, if◌then◌else◌, is_some, List, [], Option, None, Some, Result, Ok, Err}
 use Rattle.sha2.specs.Sha256.{sha256}
 use Rattle.slot_store.specs.declared.found.Found.{Found}
@@ -11,17 +11,15 @@ use Rattle.seal_store.specs.declared.seal.Seal.{Seal}
 use Rattle.seal_store.specs.Reading.{params_read}
 use Rattle.seal_store.specs.Sealing.{IsAmid, IsSealed, Sealing, found_number, next_number, old_seal}
 use Rattle.outside.specs.declared.board.Board.{Ghosts}
-use Rattle.outside.specs.Runs.{MayHold}
 use Rattle.slot_store.specs.Syncs.{LeavesFromSync}
 use Rattle.taxi_cli.specs.Answer.{Answer, says}
 use Rattle.taxi_cli.specs.Course.{Command}
-use Rattle.taxi_cli.specs.Ending.{refused_as, store_ended}
-use Rattle.taxi_cli.specs.LastLine.{sealed_line}
-use Rattle.taxi_cli.specs.Opening.{opening_of}
+use Rattle.taxi_cli.specs.LastLine.{refused_as, sealed_line}
+use Rattle.taxi_cli.specs.Opening.{opening_of, store_ended}
 use Rattle.taxi_cli.specs.Tariffs.{tariff_in}
 use Rattle.taxi_cli.specs.declared.ending.Ended.{Ended}
-use Rattle.taxi_cli.specs.declared.ending.Ended.TheVariants.{BadParams, BadTariff, NoMemory, OtherDecimals}
-use Rattle.taxi_cli.specs.declared.ending.Ended.TheVariants.{ReadFault, SealEnded, TripHeld}
+use Rattle.taxi_cli.specs.declared.ending.Ended.TheVariants.{BadParams, BadTariff, OtherDecimals}
+use Rattle.taxi_cli.specs.declared.ending.Ended.TheVariants.{SealEnded, TripHeld}
 use Rattle.taxi_cli.specs.declared.opening.Opening.{Opening}
 use Rattle.taxi_cli.specs.declared.opening.StoreFault.{StoreFault}
 use Rattle.taxi_cli.specs.declared.seal.Base.{Base}
@@ -29,118 +27,100 @@ use Rattle.taxi_cli.specs.declared.tariff.Refusal.{Refusal}
 
 -- ---- what is sealed over
 
--- the seal that was found: its place and number, and its decimals
+-- the base of a sealing has the place, the number and the decimals of the found seal; a seal with the last number is
+-- the end `SealEnded`
 abbrev pub over_seal : Option Durable → Found Seal → Result Base Ended
 over_seal totals Blank = Ok (record { totals = totals; found = None; decimals = None })
 over_seal totals (Latest place seal) =
     if seal.seal_number == 1000000000000000 then Err SealEnded
     else Ok (record { totals = totals; found = Some (place, seal.seal_number); decimals = Some seal.decimals })
 
--- the totals that were found, where they hold no trip
+-- the base of a sealing has the found totals, where they hold no trip; a held trip is the end `TripHeld`
 abbrev pub over_totals : Found Durable → Found Seal → Result Base Ended
 over_totals Blank seal = over_seal None seal
 over_totals (Latest place durable) seal = if is_some durable.hold then Err TripHeld else over_seal (Some durable) seal
 
--- what a sealing goes over, or why there is none
+-- the base of a sealing over what was opened, or the end by which the store is refused
 abbrev pub base_in : Result Opening StoreFault → Result Base Ended
 base_in (Err fault) = Err (store_ended fault)
 base_in (Ok opening) = over_totals opening.totals opening.seal
 
 -- ---- the new seal
 
--- the decimals of the tariff are those of the found seal, where there is one
+-- decimals may be sealed where they are those of the found seal, or there is none
 abbrev pub are_decimals : Option ℕ → ℕ → Result (Unit {0}) Ended
 are_decimals None own = Ok tt
 are_decimals (Some found) own = if found == own then Ok tt else Err (OtherDecimals found own)
 
+-- a seal of a number, a digest, decimals and parameters, which is refused where the parameters are
 abbrev pub with_params : (number : ℕ) → (digest : List ℕ) → (decimals : ℕ) → Result Params ParamFault
     → Result Seal Ended
 with_params number digest decimals (Err fault) = Err (BadParams fault)
 with_params number digest decimals (Ok params) =
     Ok (record { seal_number = number; params = params; digest = digest; decimals = decimals })
 
+-- a seal is refused where its decimals are
 abbrev pub where_decimals : Result (Unit {0}) Ended → Result Seal Ended → Result Seal Ended
 where_decimals (Err ended) seal = Err ended
 where_decimals (Ok same) seal = seal
 
+-- a seal of a number, a digest, a tariff and parameters, which is refused where the tariff is, before its decimals and
+-- its parameters are asked
 abbrev pub with_tariff : (number : ℕ) → Option ℕ → (digest : List ℕ) → Result Tree Refusal → Result Params ParamFault
     → Result Seal Ended
 with_tariff number found digest (Err why) params = Err (BadTariff why)
 with_tariff number found digest (Ok t) params =
     where_decimals (are_decimals found t.decimals) (with_params number digest t.decimals params)
 
--- the seal of this number that a tariff's text and a parameter text give, beside decimals that were found; or the
--- first refusal
+-- the seal of a number that a tariff's text and a parameter text give, beside decimals that were found, or the first
+-- refusal
 abbrev pub seal_read : (number : ℕ) → Option ℕ → (tariff params : List ℕ) → Result Seal Ended
 seal_read number found tariff params = with_tariff number found (sha256 tariff) (tariff_in tariff) (params_read params)
 
--- the tariff is sound, and has the decimals that were found
+-- a text fits decimals that were found where its tariff is sound and has them
 pub record HasDecimals (found : Option ℕ) (tariff : List ℕ) : Type 0 where
   pub tree : Tree
   pub sound : tariff_in tariff ≡ Ok tree
   pub decimals : are_decimals found tree.decimals ≡ Ok tt
 
--- the text's tariff is sound with these decimals, and they are those that were found
-pub record IsTariffWith (found : Option ℕ) (decimals : ℕ) (tariff : List ℕ) : Type 0 where
-  pub has : HasDecimals found tariff
-  pub decimals_are : has.tree.decimals ≡ decimals
-
--- a tariff is refused: it isn't sound, or has other decimals; or memory ran out
-abbrev pub IsNoTariff : (found : Option ℕ) (tariff : List ℕ) → Ended → Type 0
-IsNoTariff found tariff NoMemory = Unit {0}
-IsNoTariff found tariff (BadTariff why) = tariff_in tariff ≡ Err why
-IsNoTariff found tariff (OtherDecimals one own) =
-    (t : Tree) × (tariff_in tariff ≡ Ok t) × (are_decimals found t.decimals ≡ Err (OtherDecimals one own))
-IsNoTariff found tariff ended = ⊥
-
--- no seal was made: a read failed of a text that was come to, memory ran out, or the texts are refused
-abbrev pub IsNoSeal : (number : ℕ) → Option ℕ → (tariff params : List ℕ) → (read_failed : ℕ → Type 0) → Ended
-    → Type 0
-IsNoSeal number found tariff params read_failed ReadFault = read_failed 1 ⊎ (HasDecimals found tariff × read_failed 2)
-IsNoSeal number found tariff params read_failed NoMemory = Unit {0}
-IsNoSeal number found tariff params read_failed (BadTariff why) =
-    seal_read number found tariff params ≡ Err (BadTariff why)
-IsNoSeal number found tariff params read_failed (OtherDecimals one own) =
-    seal_read number found tariff params ≡ Err (OtherDecimals one own)
-IsNoSeal number found tariff params read_failed (BadParams fault) =
-    seal_read number found tariff params ≡ Err (BadParams fault)
-IsNoSeal number found tariff params read_failed ended = ⊥
-
 -- ---- the answer
 
+-- a sealing puts its new seal beside the totals of its base, in place of the old seal
 abbrev pub sealing_with : (old : Option Seal) → Base → Result Seal Ended → Result Sealing Ended
 sealing_with old base (Err ended) = Err ended
 sealing_with old base (Ok seal) = Ok (record { totals = base.totals; old = old; new = seal })
 
+-- the sealing over a base, with the number behind that of the found seal
 abbrev pub sealing_over : (old : Option Seal) → Result Base Ended → (tariff params : List ℕ) → Result Sealing Ended
 sealing_over old (Err ended) tariff params = Err ended
 sealing_over old (Ok base) tariff params =
     sealing_with old base (seal_read (next_number (found_number base.found)) base.decimals tariff params)
 
--- the sealing of what was opened, with a tariff's text and a parameter text; or the first refusal, of the store before
--- the tariff, and of the tariff before the parameters
+-- the sealing of what was opened, with a tariff's text and a parameter text, or the first refusal, which is one of the
+-- store before one of the tariff, and of the tariff before one of the parameters
 abbrev pub sealing_of : Result Opening StoreFault → (tariff params : List ℕ) → Result Sealing Ended
 sealing_of (Err fault) tariff params = Err (store_ended fault)
 sealing_of (Ok opening) tariff params =
     sealing_over (old_seal opening.seal) (over_totals opening.totals opening.seal) tariff params
 
+-- the answer to a sealing is the line with the number of the new seal, or the refusal
 abbrev pub seal_answer : Result Sealing Ended → Answer
 seal_answer (Err ended) = refused_as ended
 seal_answer (Ok sealing) = says (sealed_line sealing.new.seal_number)
 
--- the store may be sealed: nothing in it speaks against it
+-- the store of an image may be sealed where it has a base of a sealing
 pub record IsSealable (image : List ℕ) : Type 0 where
   pub base : Base
   pub is : base_in (opening_of image) ≡ Ok base
 
--- and so may it be with this tariff
+-- the store of an image may be sealed with a tariff where it has a base, and the tariff fits the base's decimals
 pub record IsFitting (tariff image : List ℕ) : Type 0 where
   pub base : Base
   pub is : base_in (opening_of image) ≡ Ok base
   pub fits : HasDecimals base.decimals tariff
 
--- it opens the store, reads its tariff and then its parameters, and writes: at most 64 steps, and one for the last
--- line
+-- the command `seal` opens the store, reads its tariff and then its parameters, and writes, in at most 64 steps and one
+-- for the last line
 abbrev pub seal_command : Command
 seal_command = record {
   answer = λ contents image. seal_answer (sealing_of (opening_of image) (contents 1) (contents 2));
@@ -158,24 +138,19 @@ seal_command = record {
 
 -- ---- the store
 
--- the image stands for what a sealing says
+-- an image has been sealed where it stands for the totals and the new seal of the sealing
 abbrev pub HasSealed : Result Sealing Ended → List ℕ → Type 0
 HasSealed (Err ended) image = ⊥
 HasSealed (Ok sealing) image = IsSealed sealing image
 
--- what a cut may leave from the opening sync on: an image amid the sealing, or the opening one where nothing is sealed
+-- from the opening sync on a cut may leave an image amid the sealing, or the opening image where nothing is sealed
 abbrev pub IsAmidOf : Result Sealing Ended → (image left_image : List ℕ) → Type 0
 IsAmidOf (Err ended) image left_image = left_image ≡ image
 IsAmidOf (Ok sealing) image left_image = IsAmid sealing left_image
 
 module _ {D L : Type 0} (B : Ghosts D L) where
-  -- a cut of this board leaves nothing else, if the call began with that image
-  abbrev pub RestsAmid : Result Sealing Ended → (image : List ℕ) → D → Type 0
-  RestsAmid sealing image board =
-      (left_image : List ℕ) → MayHold (B.image board) (B.in_flight board) left_image → IsAmidOf sealing image left_image
-
-  -- at 0 the store stands for what the sealing says; a cut from the opening sync on leaves an image amid the
-  -- sealing, and one before that sync has succeeded what it might have left before the call
+  -- a call seals the store where at 0 the store stands for what the sealing says, and a cut from the opening sync on
+  -- leaves an image amid the sealing, and one before that sync has succeeded what it might have left before the call
   pub record Seals (sealing : Result Sealing Ended) (old new : D) (ended : ℕ) : Type 0 where
     pub sealed : ended ≡ 0 → HasSealed sealing (B.image new)
     pub leaves : LeavesFromSync B (ended ≡ 8) old new

@@ -1,6 +1,7 @@
--- The command `shifts BOOK`.
-use Rattle.std.specs.Prelude.{◌≡◌, ℕ, ◌+◌, ◌*◌, ◌≤◌, List, [], length, Option, None, Some, Result, Ok, Err}
+-- Rules: the command `shifts BOOK`.
+use Rattle.std.specs.Prelude.{◌≡◌, ℕ, ◌+◌, ◌*◌, ◌≤◌, List, [], length, None, Result, Ok, Err}
 use Rattle.totaliser_store.specs.declared.durable.Durable.{Durable}
+use Rattle.seal_store.specs.declared.seal.Seal.{Seal}
 use Rattle.shift_book.specs.BookReading.{book_read}
 use Rattle.shift_book.specs.Following.{numbers_in}
 use Rattle.shift_book.specs.Marks.{Signing}
@@ -9,61 +10,47 @@ use Rattle.shift_book.specs.declared.book.BookFault.{BookFault}
 use Rattle.shift_book.specs.declared.book.BookFault.TheVariants as books
 use Rattle.taxi_cli.specs.Answer.{Answer, shows}
 use Rattle.taxi_cli.specs.Course.{Command}
-use Rattle.taxi_cli.specs.Ending.{refused_as, store_ended}
-use Rattle.taxi_cli.specs.Opening.{opening_of}
-use Rattle.taxi_cli.specs.Totals.{sealed_totals}
+use Rattle.taxi_cli.specs.LastLine.{refused_as}
+use Rattle.taxi_cli.specs.Opening.{IsSealedIn, opening_of, store_of}
+use Rattle.taxi_cli.specs.Pieces.{pieces_of}
 use Rattle.taxi_cli.specs.declared.ending.Ended.{Ended}
 use Rattle.taxi_cli.specs.declared.ending.Ended.TheVariants as ended
-use Rattle.taxi_cli.specs.declared.opening.Opening.{Opening}
-use Rattle.taxi_cli.specs.declared.opening.StoreFault.{StoreFault}
-use Rattle.taxi_cli.specs.declared.shifts.ReportFault.{ReportFault}
-use Rattle.taxi_cli.specs.declared.shifts.ReportFault.TheVariants as reports
 
--- how the command ended where its text is no book; no text lacks memory
+-- the command ended by the fault of its book; no text has the fault `NoMemory`, which is the want of memory
 abbrev pub ended_for_book : BookFault → Ended
 ended_for_book books.TooLong = ended.LongBook
 ended_for_book (books.BadLine line) = ended.BadBook line
 ended_for_book books.NoMemory = ended.NoMemory
 
--- the report of the book of a text beside a state of the store, with so many decimals of money
+-- the answer to a book that was read beside a state of the store is the report, and else the refusal of the book
 abbrev pub reported : (decimals : ℕ) (now : Durable) → Result (List Signing) BookFault → Answer
 reported decimals now (Err fault) = refused_as (ended_for_book fault)
 reported decimals now (Ok marks) = shows (report_text decimals (numbers_in now) marks)
 
-abbrev pub book_answer : Option (Durable × ℕ) → (text : List ℕ) → Answer
-book_answer None text = refused_as ended.NotSealed
-book_answer (Some (now, decimals)) text = reported decimals now (book_read now text)
+-- the answer to a text over a sealed store is that of the book, and else it is the refusal of the store
+abbrev pub shifts_answer : Result (Durable × Seal) Ended → (text : List ℕ) → Answer
+shifts_answer (Err why) text = refused_as why
+shifts_answer (Ok store) text = reported store.1.decimals store.0 (book_read store.0 text)
 
-abbrev pub shifts_answer : Result Opening StoreFault → (text : List ℕ) → Answer
-shifts_answer (Err fault) text = refused_as (store_ended fault)
-shifts_answer (Ok opening) text = book_answer (sealed_totals opening.totals opening.seal) text
+-- steps are bounded by a report where at most 7 are taken for the opening and the last line together, and one for each
+-- piece that is printed; whatever the store tells, 65 and two for each byte of the book are enough
+pub record IsBoundedByReport (files_tell image_told : Type 0) (image text : List ℕ) (before now : ℕ) : Type 0 where
+  pub by_report : files_tell → image_told
+      → now ≤ before + 7 + pieces_of (length (shifts_answer (store_of (opening_of image)) text).shown)
+  pub by_book : files_tell → now ≤ before + 65 + 2 * length text
 
--- the store is opened and sealed, so that the book is read
-pub record IsReporting (image : List ℕ) : Type 0 where
-  pub opening : Opening
-  pub found : Durable × ℕ
-  pub opened : opening_of image ≡ Ok opening
-  pub sealed : sealed_totals opening.totals opening.seal ≡ Some found
-
--- it scans the store, reads its book, makes the whole report in memory, and prints it: at most 64 steps, two for each
--- byte of the book, and one for the last line
+-- the command `shifts` opens the store, reads its book, makes the whole report in memory and prints it
 abbrev pub shifts_command : Command
 shifts_command = record {
-  answer = λ contents image. shifts_answer (opening_of image) (contents 1);
+  answer = λ contents image. shifts_answer (store_of (opening_of image)) (contents 1);
   drive = None;
   shown = λ contents image taken. [];
   reads = λ word. word ≡ 1;
-  comes_to = λ contents image word taken. (word ≡ 1) × IsReporting image;
-  may_lack = λ contents image taken. IsReporting image;
+  comes_to = λ contents image word taken. (word ≡ 1) × IsSealedIn image;
+  may_lack = λ contents image taken. IsSealedIn image;
   known = λ files_tell image_told. files_tell × image_told;
   opens = Unit {0};
   writes = λ ended. ⊥;
   steps = λ files_tell image_told contents left image before now.
-      files_tell → now ≤ before + 64 + 2 * length (contents 1) + 1;
+      IsBoundedByReport files_tell image_told image (contents 1) before now;
 }
-
--- how the command ended where there is no report
-abbrev pub ended_for_report : ReportFault → Ended
-ended_for_report reports.ReadFault = ended.ReadFault
-ended_for_report (reports.Refused fault) = ended_for_book fault
-ended_for_report reports.NoMemory = ended.NoMemory

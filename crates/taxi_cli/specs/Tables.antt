@@ -1,4 +1,4 @@
--- The command `tables TARIFF CONSTANT`.
+-- Rules: the command `tables TARIFF CONSTANT`.
 use Rattle.std.specs.Prelude.{◌≡◌, ℕ, ◌+◌, ◌≤◌, [], None, Result, Ok, Err}
 use Rattle.tariff_syntax.specs.Tree.{Tree}
 use Rattle.tariff_compile.specs.Rows.{row_count, rows_text}
@@ -8,17 +8,18 @@ use Rattle.taxi_cli.specs.Course.{Command}
 use Rattle.taxi_cli.specs.Tariffs.{tariff_in, bad_tariff}
 use Rattle.taxi_cli.specs.declared.tariff.Refusal.{Refusal}
 
--- the rows of the tables of a sound tariff under a constant
+-- the answer to a sound tariff shows the rows of its tables under a constant; to another text, it says why there is
+-- none
 abbrev pub tables_answer : (k : ℕ) → Result Tree Refusal → Answer
 tables_answer k (Err why) = bad_tariff why
 tables_answer k (Ok t) = shows (rows_text (tables_of t k))
 
--- how many they are
+-- how many rows are shown under a constant
 abbrev pub rows_under : (k : ℕ) → Result Tree Refusal → ℕ
 rows_under k (Err why) = 0
 rows_under k (Ok t) = row_count (tables_of t k)
 
--- it reads its tariff, and prints each row by itself
+-- the command `tables` reads its tariff and prints each row by itself, in a step for each row and one for the last line
 abbrev pub tables_command : (k : ℕ) → Command
 tables_command k = record {
   answer = λ contents image. tables_answer k (tariff_in (contents 1));

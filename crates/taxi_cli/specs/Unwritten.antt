@@ -1,4 +1,4 @@
--- Calls that write nothing.
+-- Rules: calls that write nothing.
 use Rattle.std.specs.Prelude.{◌≡◌, ◌≢◌, ◌⊎◌, ℕ, ◌≤◌, List}
 use Rattle.outside.specs.declared.board.Board.{Ghosts}
 use Rattle.outside.specs.Disk.{SameBut}
@@ -6,8 +6,9 @@ use Rattle.outside.specs.Runs.{MayHold}
 use Rattle.slot_store.specs.Syncs.{LeavesFromSync}
 
 module _ {D L : Type 0} (B : Ghosts D L) where
-  -- nothing was written: bytes may have changed only where some were in flight, and nothing more is in flight; a cut at a moment
-  -- since any earlier one might have left what it might have left before, or an image that it might have left at the old state
+  -- nothing was written where bytes may have changed only where some were in flight, nothing more is in flight, and a
+  -- cut at a moment since any earlier one might have left what it might have left before, or an image that it might
+  -- have left at the old board
   pub record KeepsBytes (old new : D) : Type 0 where
     pub image : SameBut (B.in_flight old) (B.image old) (B.image new)
     pub flight : (place : ℕ) → B.in_flight new place → B.in_flight old place
@@ -16,11 +17,11 @@ module _ {D L : Type 0} (B : Ghosts D L) where
         → B.left_since new start left_image left_text
         → B.left_since old start left_image left_text ⊎ MayHold (B.image old) (B.in_flight old) left_image
 
-  -- from the opening sync on a cut leaves the image as it was
+  -- a call leaves the image where a cut from its opening sync on leaves the image as it was
   abbrev pub LeavesImage : (fails : Type 0) (old new : D) → Type 0
   LeavesImage fails old new = LeavesFromSync B fails old new (λ left_image left_text. left_image ≡ B.image old)
 
-  -- and no byte has changed, but perhaps where the board failed
+  -- a call writes nothing where nothing was written, and unless it ended with 8 no byte has changed
   pub record WritesNothing (old new : D) (ended : ℕ) : Type 0 where
     pub bytes : KeepsBytes old new
     pub same : ended ≢ 8 → B.image new ≡ B.image old

@@ -1,23 +1,23 @@
--- The years for which offsets are asked.
+-- Rules: the years for which offsets are asked.
 use Rattle.std.specs.Prelude.{ℕ, ◌+◌, List, length, Option, Some, None, if◌then◌else◌, nat_le, ◌&&◌, ◌==◌}
 use Rattle.taxi_units.specs.Number.{number_at}
 
--- a number of four digits that is a year of 2000 to 2199
+-- a word is a year where a number was read of it with nothing left, of four digits and from 2000 to 2199
 abbrev pub year_in : List ℕ → Option (ℕ × List ℕ) → Option ℕ
 year_in word None = None
 year_in word (Some (year, rest)) =
     if (length rest == 0 && (length word == 4 && (nat_le 2000 year && nat_le year 2199))) then Some year else None
 
--- the year that a word is
+-- the year that a word is, if it is one
 unfoldable pub year_of : List ℕ → Option ℕ
 year_of word = year_in word (number_at word)
 
--- the first year and the last one, of at most fifteen
+-- two years are the first and the last of at most fifteen
 abbrev pub years_in : Option ℕ → Option ℕ → Option (ℕ × ℕ)
 years_in None last = None
 years_in (Some from) None = None
 years_in (Some from) (Some to) = if (nat_le from to && nat_le to (from + 14)) then Some (from, to) else None
 
--- the years that two words are
+-- the first and the last year that two words are, if they are the bounds of at most fifteen years
 abbrev pub years_of : (first last : List ℕ) → Option (ℕ × ℕ)
 years_of first last = years_in (year_of first) (year_of last)

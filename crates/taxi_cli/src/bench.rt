@@ -3,9 +3,9 @@ ghost use Rattle.std.specs.Prelude.{◌≡◌, ◌≢◌, ℕ, ◌+◌, ◌≤�
 ghost use Rattle.outside.specs.Faults.{Rose};
 ghost use Rattle.outside.specs.Printing.{Begins};
 ghost use Rattle.outside.specs.Runs.{KeepsStore};
-ghost use Rattle.taxi_cli.specs.Bench.{bench_answer, bench_command, ended_with, terms_of};
+ghost use Rattle.taxi_cli.specs.Bench.{bench_answer, bench_command, terms_of};
 ghost use Rattle.taxi_cli.specs.Call.{HasReadFault};
-ghost use Rattle.taxi_cli.specs.Ending.{ComesOn, LooksAt};
+ghost use Rattle.taxi_cli.specs.Ending.{ComesOn, LooksAt, ended_with};
 ghost use Rattle.taxi_cli.specs.Opening.{opening_of};
 ghost use Rattle.taxi_cli.specs.Pieces.{pieces_of};
 ghost use Rattle.taxi_cli.specs.Unwritten.{KeepsBytes};

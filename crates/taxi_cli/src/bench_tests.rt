@@ -1,13 +1,8 @@
 //! Readings judged by drives, over a sealed store in memory. The receipts are worked out by hand from the rules
 //! of a meter, and the speeds from the rates of the tariffs.
-ghost use Rattle.std.specs.Prelude.{◌≡◌, ◌<◌};
-
 use crate::run_tests::{CITY, HIRING, sealed};
-use crate::tests::{A, P, counted};
-use outside::{MemoryBoard, MemoryFiles};
+use crate::tests::{A, P, ZEROS, joined, must_answer, must_answer_amid};
 use std::alloc::Global;
-use std::marker::Brand;
-use std::sync::ledger::Blank;
 use std::test::Fail;
 
 /// Without a charge by distance.
@@ -26,38 +21,26 @@ const SPEED: &str = "CROSSOVER 1 16771 m/h\n";
 
 const HEADER: &str = "hiring,kind,fare,read_fare,distance,read_distance,time,read_time,verdict\n";
 
-/// The texts of a tariff, a drive and readings.
-#[derive(Drop)]
-struct Texts {
-    tariff: &'static str,
-    drive: &'static str,
-    readings: &'static str,
-}
+const BENCH: [&str; 4] = ["bench", "t", "d", "r"];
 
-/// A call of `bench` on a board.
-fn bench(alloc: Global, texts: &Texts, fail: &[u64], board: &mut MemoryBoard) -> Result<u8, Fail> {
-    let mut words = Vec::new(alloc);
-    words.push(String::from_str(alloc, "bench")?)?;
-    words.push(String::from_str(alloc, "t")?)?;
-    words.push(String::from_str(alloc, "d")?)?;
-    words.push(String::from_str(alloc, "r")?)?;
-    let mut files = MemoryFiles::new(alloc, fail)?;
-    files.add(b"")?;
-    files.add(texts.tariff.as_bytes())?;
-    files.add(texts.drive.as_bytes())?;
-    files.add(texts.readings.as_bytes())?;
-    Ok(counted::<Brand>(alloc, Blank::new(1), words.as_slice(), &mut files, board))
-}
-
-/// Whether a text is these three in a row.
-fn is_made_of(text: &[u8], first: &str, second: &str, third: &str) -> bool {
-    let Some(rest) = text.strip_prefix(first.as_bytes()) else {
-        return false;
-    };
-    match rest.strip_prefix(second.as_bytes()) {
-        Some(rest) => rest == third.as_bytes(),
-        None => false,
-    }
+/// Fails unless `bench` prints these three over a store, ends with this status and leaves the store.
+fn must_judge(
+    alloc: Global,
+    image: &[u8; 2048],
+    texts: &[&str; 3],
+    output: &[&str; 3],
+    status: u8,
+) -> Result<(), Fail> {
+    let output = joined(alloc, output)?;
+    must_answer(
+        alloc,
+        texts[2],
+        &BENCH,
+        texts,
+        image,
+        output.as_str(),
+        status,
+    )
 }
 
 /// Readings of the realistic trip, the rows of the report, and the status.
@@ -101,21 +84,10 @@ const REPORTS: [(&str, &str, u8); 7] = [
 
 #[test]
 fn a_realistic_trip_is_judged(rt: HostRuntime) -> Result<(), Fail> {
-    let alloc = rt.alloc();
-    let store = sealed(alloc, CITY, P)?;
-    for (readings, rows, status) in REPORTS {
-        let texts = Texts {
-            tariff: CITY,
-            drive: REALISTIC,
-            readings,
-        };
-        let mut board = MemoryBoard::new(alloc, store.image(), &[])?;
-        let ended = bench(alloc, &texts, &[], &mut board)?;
-        assert_eq!(rt; ended, status, "{readings}");
-        assert!(rt;
-            is_made_of(board.printed(), SPEEDS, HEADER, rows),
-            "{readings}"
-        );
+    let image = sealed(rt.alloc(), CITY, P)?;
+    for &(readings, rows, status) in &REPORTS {
+        let texts = [CITY, REALISTIC, readings];
+        must_judge(rt.alloc(), &image, &texts, &[SPEEDS, HEADER, rows], status)?;
     }
     Ok(())
 }
@@ -181,22 +153,15 @@ const CALLS: [Call; 9] = [
 
 #[test]
 fn calls_of_bench(rt: HostRuntime) -> Result<(), Fail> {
-    let alloc = rt.alloc();
-    let store = sealed(alloc, A, P)?;
-    for (tariff, drive, readings, text, status) in CALLS {
-        let texts = Texts {
-            tariff,
-            drive,
-            readings,
-        };
-        let mut board = MemoryBoard::new(alloc, store.image(), &[])?;
-        let ended = bench(alloc, &texts, &[], &mut board)?;
-        assert_eq!(rt; ended, status, "{drive} {readings}");
-        assert!(rt;
-            is_made_of(board.printed(), text[0], text[1], text[2]),
-            "{drive} {readings}"
-        );
-        assert!(rt; *board.image() == *store.image(), "{drive} {readings}");
+    let image = sealed(rt.alloc(), A, P)?;
+    for &(tariff, drive, readings, output, status) in &CALLS {
+        must_judge(
+            rt.alloc(),
+            &image,
+            &[tariff, drive, readings],
+            &output,
+            status,
+        )?;
     }
     Ok(())
 }
@@ -204,46 +169,48 @@ fn calls_of_bench(rt: HostRuntime) -> Result<(), Fail> {
 /// Where distance costs nothing, no speed is one of change.
 #[test]
 fn a_rate_without_a_speed(rt: HostRuntime) -> Result<(), Fail> {
-    let alloc = rt.alloc();
-    let mut board = sealed(alloc, STANDING, P)?;
-    let texts = Texts {
-        tariff: STANDING,
-        drive: "",
-        readings: "fare,distance,time\n",
-    };
-    assert_eq!(rt; bench(alloc, &texts, &[], &mut board)?, 0);
-    assert!(rt; is_made_of(board.printed(), "CROSSOVER 1 none\n", HEADER, ""));
-    Ok(())
+    let image = sealed(rt.alloc(), STANDING, P)?;
+    let texts = [STANDING, "", "fare,distance,time\n"];
+    must_judge(
+        rt.alloc(),
+        &image,
+        &texts,
+        &["CROSSOVER 1 none\n", HEADER, ""],
+        0,
+    )
 }
 
 /// A store that isn't sealed.
 #[test]
 fn nothing_is_judged_without_a_seal(rt: HostRuntime) -> Result<(), Fail> {
-    let mut board = MemoryBoard::new(rt.alloc(), &[0; 2048], &[])?;
-    let texts = Texts {
-        tariff: A,
-        drive: HIRING,
-        readings: READ,
-    };
-    assert_eq!(rt; bench(rt.alloc(), &texts, &[], &mut board)?, 4);
-    assert!(rt; board.printed() == b"NOT SEALED\n".as_slice());
-    Ok(())
+    must_answer(
+        rt.alloc(),
+        "blank",
+        &BENCH,
+        &[A, HIRING, READ],
+        &ZEROS,
+        "NOT SEALED\n",
+        4,
+    )
 }
 
 /// Each read fails in turn: nothing is printed but the line.
 #[test]
 fn reads_that_fail(rt: HostRuntime) -> Result<(), Fail> {
-    let alloc = rt.alloc();
-    let store = sealed(alloc, A, P)?;
-    let texts = Texts {
-        tariff: A,
-        drive: HIRING,
-        readings: READ,
-    };
-    for read in 1..=6u64 {
-        let mut board = MemoryBoard::new(alloc, store.image(), &[])?;
-        assert_eq!(rt; bench(alloc, &texts, &[read], &mut board)?, 7, "{read}");
-        assert!(rt; board.printed() == b"READ FAULT\n".as_slice(), "{read}");
+    let image = sealed(rt.alloc(), A, P)?;
+    let texts = [A, HIRING, READ];
+    for read in 1..=6 {
+        must_answer_amid(
+            rt.alloc(),
+            "a read",
+            &BENCH,
+            &texts,
+            &image,
+            &[],
+            &[read],
+            "READ FAULT\n",
+            7,
+        )?;
     }
     Ok(())
 }
@@ -251,18 +218,31 @@ fn reads_that_fail(rt: HostRuntime) -> Result<(), Fail> {
 /// Each call of the board fails in turn: two scans of three calls each, and one print.
 #[test]
 fn boards_that_fail(rt: HostRuntime) -> Result<(), Fail> {
-    let alloc = rt.alloc();
-    let store = sealed(alloc, A, P)?;
-    let texts = Texts {
-        tariff: A,
-        drive: HIRING,
-        readings: READ,
-    };
-    for number in 1..=7u64 {
-        let mut board = MemoryBoard::new(alloc, store.image(), &[number])?;
-        assert_eq!(rt; bench(alloc, &texts, &[], &mut board)?, 8, "{number}");
+    let image = sealed(rt.alloc(), A, P)?;
+    let texts = [A, HIRING, READ];
+    for number in 1..=7 {
+        must_answer_amid(
+            rt.alloc(),
+            "a call",
+            &BENCH,
+            &texts,
+            &image,
+            &[number],
+            &[],
+            "",
+            8,
+        )?;
     }
-    let mut board = MemoryBoard::new(alloc, store.image(), &[8])?;
-    assert_eq!(rt; bench(alloc, &texts, &[], &mut board)?, 0);
-    Ok(())
+    let output = joined(rt.alloc(), &[SPEED, HEADER, PASSES])?;
+    must_answer_amid(
+        rt.alloc(),
+        "no call",
+        &BENCH,
+        &texts,
+        &image,
+        &[8],
+        &[],
+        output.as_str(),
+        0,
+    )
 }

@@ -8,7 +8,7 @@ ghost use Rattle.seal_store.specs.declared.seal.Seal.{Seal};
 ghost use Rattle.totaliser_store.specs.Stored.{HasState};
 ghost use Rattle.totaliser_store.specs.declared.durable.Durable.{Durable};
 ghost use Rattle.taxi_cli.specs.Chain.{HasChain, IsSealedStore};
-ghost use Rattle.taxi_cli.specs.Link.{HasLink};
+ghost use Rattle.taxi_cli.specs.ChainSteps.{HasLink};
 ghost use Rattle.taxi_cli.specs.Run.{IsOfTotals};
 ghost use Rattle.taxi_cli.specs.Words.{row_of};
 ghost use Rattle.taxi_cli.specs.declared.words.Row.TheVariants.{Run};

@@ -3,7 +3,8 @@ ghost use Rattle.std.specs.Prelude.{◌≡◌, ◌<◌};
 
 use crate::chain::{chain, may_begin};
 use crate::run_tests::{HELD, HIRING, sealed};
-use crate::tests::{A, P};
+use crate::store_tests::with_bytes;
+use crate::tests::{A, P, files_of, must, must_behind, strings};
 use crate::words::{Row, row_in};
 use outside::{Fill, MemoryFiles};
 use std::alloc::Global;
@@ -62,15 +63,6 @@ fn called(
     counted::<Brand>(alloc, Blank::new(1), words, files, image, cuts)
 }
 
-/// The files of a run: its tariff is that of word 1, and its drive that of word 2.
-fn files_of(alloc: Global, drive: &str, fail: &[u64]) -> Result<MemoryFiles, Fail> {
-    let mut files = MemoryFiles::new(alloc, fail)?;
-    files.add(b"")?;
-    files.add(A.as_bytes())?;
-    files.add(drive.as_bytes())?;
-    Ok(files)
-}
-
 /// A chain of runs of these drives, each with the numbers of its reads that fail.
 pub(crate) fn chained(
     alloc: Global,
@@ -78,51 +70,54 @@ pub(crate) fn chained(
     image: &[u8; 2048],
     cuts: &[Cut],
 ) -> Result<Ended, Fail> {
-    let mut words = Vec::new(alloc);
-    for word in ["run", "t", "d"] {
-        words.push(String::from_str(alloc, word)?)?;
-    }
+    let words = strings(alloc, &["run", "t", "d"])?;
     let mut files = Vec::new(alloc);
     for (drive, fail) in drives {
-        files.push(files_of(alloc, drive, fail)?)?;
+        files.push(files_of(alloc, &[A, drive], fail)?)?;
     }
     called(alloc, words.as_slice(), files.as_mut_slice(), image, cuts)
 }
 
-/// The drives of a chain with their failing reads, its cuts, and for each run its status and number.
+/// A chain's name, its drives with their failing reads, its cuts, and for each run its status and number.
 type Chain = (
+    &'static str,
     &'static [(&'static str, &'static [u64])],
     &'static [Cut],
     &'static [(u8, u64)],
 );
 
 const CHAINS: [Chain; 9] = [
-    (&[], &[], &[]),
-    (&[(HELD, &[])], &[None], &[(0, 3)]),
+    ("no run", &[], &[], &[]),
+    ("one run", &[(HELD, &[])], &[None], &[(0, 3)]),
     (
+        "three runs",
         &[(HIRING, &[]), (HIRING, &[]), (HELD, &[])],
         &[None, None, None],
         &[(0, 2), (0, 3), (0, 5)],
     ),
     // A cut before the first call leaves the image before the run.
     (
+        "a cut before the first call",
         &[(HIRING, &[]), (HELD, &[]), (HIRING, &[])],
         &[None, Some((0, Fill::New)), None],
         &[(0, 2), (0, 2), (0, 3)],
     ),
     // The trip that the first run held when the power was cut goes on in the second.
     (
+        "a trip that goes on",
         &[(HELD, &[]), (HIRING, &[])],
         &[Some((14, Fill::New)), None],
         &[(0, 2), (0, 3)],
     ),
     (
+        "a trip that is lost",
         &[(HELD, &[]), (HIRING, &[])],
         &[Some((14, Fill::Old)), None],
         &[(0, 1), (0, 2)],
     ),
     // A bad line, and reads of the tariff and of the drive that fail.
     (
+        "runs that fail",
         &[
             ("U 1767225600\nI 20\n", &[]),
             (HIRING, &[2]),
@@ -132,17 +127,22 @@ const CHAINS: [Chain; 9] = [
         &[(3, 1), (7, 1), (7, 2)],
     ),
     // A number above that of the last call is taken as the last one's, and not as none.
-    (&[(HOLDING, &[])], &[None], &[(0, 2)]),
-    (&[(HOLDING, &[])], &[Some((u64::MAX, Fill::Old))], &[(0, 1)]),
+    ("a held trip", &[(HOLDING, &[])], &[None], &[(0, 2)]),
+    (
+        "a cut in the last call",
+        &[(HOLDING, &[])],
+        &[Some((u64::MAX, Fill::Old))],
+        &[(0, 1)],
+    ),
 ];
 
 #[test]
 fn chains(rt: HostRuntime) -> Result<(), Fail> {
-    let board = sealed(rt.alloc(), A, P)?;
-    for (drives, cuts, answers) in &CHAINS {
-        let ended = chained(rt.alloc(), drives, board.image(), cuts)?;
-        assert_eq!(rt; ended.1.as_slice(), *answers);
-        assert!(rt; ended.0[1024..] == board.image()[1024..]);
+    let image = sealed(rt.alloc(), A, P)?;
+    for (name, drives, cuts, answers) in &CHAINS {
+        let ended = chained(rt.alloc(), drives, &image, cuts)?;
+        must(ended.1.as_slice() == *answers, "other answers", name)?;
+        must(ended.0[1024..] == image[1024..], "another seal", name)?;
     }
     Ok(())
 }
@@ -170,18 +170,13 @@ const MOMENTS: [(u64, Fill, u64); 16] = [
 
 #[test]
 fn moments(rt: HostRuntime) -> Result<(), Fail> {
-    let board = sealed(rt.alloc(), A, P)?;
-    for (call, fill, number) in MOMENTS {
-        let cuts = [Some((call, fill))];
-        let ended = chained(rt.alloc(), &[(HELD, &[])], board.image(), &cuts)?;
-        assert_eq!(rt;
-            ended.1.as_slice(),
-            [(0, number)].as_slice(),
-            "{call} {fill:?}"
-        );
-        if call == 0 {
-            assert!(rt; ended.0 == *board.image());
-        }
+    let image = sealed(rt.alloc(), A, P)?;
+    for &(call, fill, number) in &MOMENTS {
+        let ended = chained(rt.alloc(), &[(HELD, &[])], &image, &[Some((call, fill))])?;
+        let is_found = ended.1.as_slice() == [(0, number)].as_slice();
+        must_behind(is_found, "another number", call, fill)?;
+        let stays = call != 0 || ended.0 == image;
+        must_behind(stays, "another image", call, fill)?;
     }
     Ok(())
 }
@@ -204,14 +199,18 @@ fn begins(image: &[u8; 2048]) -> bool {
 /// Images that a chain may begin with: those of a sealed store alone.
 #[test]
 fn beginnings(rt: HostRuntime) -> Result<(), Fail> {
-    let board = sealed(rt.alloc(), A, P)?;
-    let mut no_seal = *board.image();
-    no_seal[1024] = 0;
-    let mut no_totals = *board.image();
-    no_totals[0] = 0;
-    for image in [[0; 2048], [0xA5; 2048], no_seal, no_totals] {
-        assert!(rt; !begins(&image));
-    }
-    assert!(rt; begins(board.image()));
-    Ok(())
+    let image = sealed(rt.alloc(), A, P)?;
+    must(!begins(&[0; 2048]), "a chain begins", "zeros")?;
+    must(!begins(&[0xA5; 2048]), "a chain begins", "open slots")?;
+    must(
+        !begins(&with_bytes(&image, &[(1024, 0)])),
+        "a chain begins",
+        "no seal",
+    )?;
+    must(
+        !begins(&with_bytes(&image, &[(0, 0)])),
+        "a chain begins",
+        "no totals",
+    )?;
+    must(begins(&image), "no chain begins", "sealed")
 }

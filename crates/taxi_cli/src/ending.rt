@@ -4,7 +4,8 @@ ghost use Rattle.outside.specs.Faults.{Rose};
 ghost use Rattle.outside.specs.Disk.{MayLeaveAmid};
 ghost use Rattle.outside.specs.Runs.{KeepsStore, LeavesOnly};
 ghost use Rattle.taxi_cli.specs.Call.{IsEnd};
-ghost use Rattle.taxi_cli.specs.Ending.{ended_by, ended_for, ended_for_params, ended_serving, store_ended};
+ghost use Rattle.taxi_cli.specs.Ending.{ended_by, ended_for, ended_for_params, ended_serving};
+ghost use Rattle.taxi_cli.specs.Opening.{store_ended};
 ghost use Rattle.taxi_cli.specs.LastLine.{line_of, status_of};
 
 use crate::last_line::last_line;
@@ -173,7 +174,7 @@ fn status(ended: Ended) -> u8
 }
 
 /// Prints the last line of an end, and gives its status, or 8 where the board fails.
-#[tactic(auto, using(crate::proofs::BoardRuns::keeps_none, crate::proofs::BoardRuns::keeps_print, crate::proofs::BoardRuns::keeps_then))]
+#[tactic(auto, using(crate::proofs::BoardRuns::board_runs))]
 pub fn finish<B: Board<L>, L: Ledger>(ended: Ended, board: &mut B, steps: &mut Steps<L>) -> u8
     ensures ends { IsEnd B.tells_text (Rose (B.faults board.old) (B.faults board.new)) (status_of ended) (line_of ended)
         result (B.printed board.old) (B.printed board.new) }

@@ -1,7 +1,7 @@
 //! Each failure of the outside in turn, at each place of a run, and stores that no run begins with.
 use crate::chain_tests::chained;
-use crate::run_tests::{HELD, HIRING, RUN, sealed, totals_of};
-use crate::tests::{A, P, call};
+use crate::run_tests::{HELD, HIRING, RUN, has_totals, sealed};
+use crate::tests::{A, P, called, cut_in, must_answer, must_at, must_behind};
 use outside::{Fill, MemoryBoard};
 use std::alloc::Global;
 use std::test::Fail;
@@ -24,81 +24,127 @@ fn ran(
     calls: &[u64],
     reads: &[u64],
 ) -> Result<(MemoryBoard, u8), Fail> {
-    let mut board = MemoryBoard::new(alloc, image, calls)?;
-    let status = call(alloc, &RUN, A, drive, reads, &mut board)?;
-    Ok((board, status))
+    called(alloc, &RUN, &[A, drive], image, calls, reads)
+}
+
+/// Fails unless a run goes on over what a cut leaves of a board, with each fill.
+fn must_go_on(alloc: Global, board: &MemoryBoard, number: u64) -> Result<(), Fail> {
+    for fill in &FILLS {
+        let image = cut_in(board, board.calls(), *fill);
+        let ended = chained(alloc, &[(HIRING, &[])], &image, &[None])?;
+        let status = ended.1.first().map(|answer| answer.0);
+        must_behind(status == Some(0), "no run", number, *fill)?;
+    }
+    Ok(())
+}
+
+/// Fails unless the run breaks off where this call of the board fails, and another goes on over what it leaves.
+fn must_break_off(
+    alloc: Global,
+    whole: &MemoryBoard,
+    image: &[u8; 2048],
+    number: u64,
+) -> Result<(), Fail> {
+    let (board, status) = ran(alloc, image, HELD, &[number], &[])?;
+    must_at(status == 8, "another status at call", number)?;
+    must_at(
+        whole.printed().starts_with(board.printed()),
+        "another text at call",
+        number,
+    )?;
+    must_go_on(alloc, &board, number)
 }
 
 /// Each of the 28 calls of the board fails in a run with a loss of supply. What it leaves is cut with each fill, and
 /// a run goes on over it.
 #[test]
 fn runs_go_on_after_each_failed_call(rt: HostRuntime) -> Result<(), Fail> {
-    let start = sealed(rt.alloc(), A, P)?;
-    let (whole, _) = ran(rt.alloc(), start.image(), HELD, &[], &[])?;
-    assert_eq!(rt; whole.calls(), 28);
+    let image = sealed(rt.alloc(), A, P)?;
+    let (whole, _) = ran(rt.alloc(), &image, HELD, &[], &[])?;
+    assert!(rt; whole.calls() == 28);
     for number in 1..=28 {
-        let (board, status) = ran(rt.alloc(), start.image(), HELD, &[number], &[])?;
-        assert_eq!(rt; status, 8, "{number}");
-        assert!(rt; whole.printed().starts_with(board.printed()), "{number}");
-        let last = board.calls();
-        for fill in FILLS {
-            let image = board.cut(last, fill);
-            let ended = chained(rt.alloc(), &[(HIRING, &[])], &image, &[None])?;
-            let status = ended.1.first().map(|answer| answer.0);
-            assert_eq!(rt; status, Some(0), "{number} {fill:?}");
-        }
+        must_break_off(rt.alloc(), &whole, &image, number)?;
     }
     Ok(())
 }
 
-/// A drive ends at each of its places: well behind the end of a line, and else in a bad line.
+/// Fails unless a drive that ends at this place is carried out where a line ended there, and is else bad in this line.
+fn must_be_cut_short(
+    alloc: Global,
+    image: &[u8; 2048],
+    place: usize,
+    line: u64,
+    ended: bool,
+) -> Result<(), Fail> {
+    let drive = HIRING.get(..place).ok_or("no beginning")?;
+    let (board, status) = ran(alloc, image, drive, &[], &[])?;
+    let last = format!(in alloc; "BAD DRIVE {line}\n")?;
+    let is_bad = status == 3 && board.printed().ends_with(last.as_bytes());
+    must_at(
+        (ended && status == 0) || (!ended && is_bad),
+        "another end in line",
+        line,
+    )
+}
+
+/// A drive ends at each of its places.
 #[test]
 fn drives_cut_short(rt: HostRuntime) -> Result<(), Fail> {
-    let start = sealed(rt.alloc(), A, P)?;
+    let image = sealed(rt.alloc(), A, P)?;
     let mut lines = 1;
     let mut ended = true;
     for (place, byte) in HIRING.as_bytes().iter().enumerate() {
-        let drive = HIRING.get(..place).ok_or("no beginning")?;
-        let (board, status) = ran(rt.alloc(), start.image(), drive, &[], &[])?;
-        if ended {
-            assert_eq!(rt; status, 0, "{place}");
-        } else {
-            let line = format!(in rt.alloc(); "BAD DRIVE {lines}\n")?;
-            assert_eq!(rt; status, 3, "{place}");
-            assert!(rt; board.printed().ends_with(line.as_bytes()), "{place}");
-        }
+        must_be_cut_short(rt.alloc(), &image, place, lines, ended)?;
         ended = *byte == b'\n';
         if ended && lines < 100 {
             lines += 1;
         }
     }
-    assert_eq!(rt; (ended, lines), (true, 9));
+    assert!(rt; ended && lines == 9);
     Ok(())
 }
 
-/// Each read of a hiring's files fails: of the tariff, its bytes and its end, and of the drive likewise. Before the
-/// last read all events of the drive were carried out.
+/// The reads of a hiring's files, of the tariff, its bytes and its end, and of the drive likewise, and how the totals
+/// begin where each fails. Before the last read all events of the drive were carried out.
+const READS: [(u64, &str); 4] = [
+    (1, "NUMBER 1\nDISTANCE 0.000 m\n"),
+    (2, "NUMBER 1\nDISTANCE 0.000 m\n"),
+    (3, "NUMBER 1\nDISTANCE 0.000 m\n"),
+    (
+        4,
+        "NUMBER 2\nDISTANCE 234.800 m\nHIRED 234.800 m\nHIRINGS 1\nSUPPLEMENTS 0.00\nFARE 3.80\nHELD no\n",
+    ),
+];
+
+/// Fails unless a run ends with the line of this read's fault, and the totals behind it begin with this text.
+fn must_fail_to_read(
+    alloc: Global,
+    image: &[u8; 2048],
+    read: u64,
+    totals: &str,
+) -> Result<(), Fail> {
+    let (board, status) = ran(alloc, image, HIRING, &[], &[read])?;
+    must_at(status == 7, "another status at read", read)?;
+    must_at(
+        board.printed().ends_with(b"READ FAULT\n"),
+        "another line at read",
+        read,
+    )?;
+    must_at(
+        has_totals(alloc, board.image(), totals)?,
+        "other totals at read",
+        read,
+    )
+}
+
 #[test]
 fn each_read_fails(rt: HostRuntime) -> Result<(), Fail> {
-    let start = sealed(rt.alloc(), A, P)?;
-    for (read, totals) in [
-        (1, "NUMBER 1\nDISTANCE 0.000 m\n"),
-        (2, "NUMBER 1\nDISTANCE 0.000 m\n"),
-        (3, "NUMBER 1\nDISTANCE 0.000 m\n"),
-        (
-            4,
-            "NUMBER 2\nDISTANCE 234.800 m\nHIRED 234.800 m\nHIRINGS 1\nSUPPLEMENTS 0.00\nFARE 3.80\nHELD no\n",
-        ),
-    ] {
-        let (board, status) = ran(rt.alloc(), start.image(), HIRING, &[], &[read])?;
-        assert_eq!(rt; status, 7, "{read}");
-        assert!(rt; board.printed().ends_with(b"READ FAULT\n"), "{read}");
-        let after = totals_of(rt.alloc(), board.image())?;
-        assert!(rt; after.printed().starts_with(totals.as_bytes()), "{read}");
+    let image = sealed(rt.alloc(), A, P)?;
+    for &(read, totals) in &READS {
+        must_fail_to_read(rt.alloc(), &image, read, totals)?;
     }
-    let (_, status) = ran(rt.alloc(), start.image(), HIRING, &[], &[5])?;
-    assert_eq!(rt; status, 0);
-    Ok(())
+    let (_, status) = ran(rt.alloc(), &image, HIRING, &[], &[5])?;
+    must_at(status == 0, "another status at read", 5)
 }
 
 /// An image with other bytes from a place on.
@@ -112,35 +158,38 @@ fn changed(image: &[u8; 2048], place: usize, bytes: &[u8]) -> [u8; 2048] {
     changed
 }
 
-/// Stores that no run begins with, and their lines.
+/// Fails unless a run with this store prints this line alone, ends with this status and leaves the store.
+fn must_refuse(alloc: Global, image: &[u8; 2048], line: &str, status: u8) -> Result<(), Fail> {
+    must_answer(alloc, line, &RUN, &[A, HIRING], image, line, status)
+}
+
+/// Stores that aren't sealed, or of which a slot isn't read.
 #[test]
 fn stores_that_are_refused(rt: HostRuntime) -> Result<(), Fail> {
     let one = sealed(rt.alloc(), A, P)?;
-    let (held, _) = ran(
+    must_refuse(rt.alloc(), &[0xFF; 2048], "NOT SEALED\n", 4)?;
+    must_refuse(rt.alloc(), &[0xA5; 2048], "BAD STORE 0\n", 5)?;
+    must_refuse(rt.alloc(), &changed(&one, 511, &[3]), "BAD STORE 0\n", 5)?;
+    must_refuse(
         rt.alloc(),
-        one.image(),
-        "U 1767225600\nK H\nI 0 1\n",
-        &[],
-        &[],
+        &changed(&one, 512, &one[..512]),
+        "BAD STORE 0 1\n",
+        5,
     )?;
+    must_refuse(rt.alloc(), &changed(&one, 512, &[0xA5]), "BAD STORE 1\n", 5)?;
+    must_refuse(rt.alloc(), &changed(&one, 1024, &[0]), "NOT SEALED\n", 4)
+}
+
+/// A store whose held trip has another rest than a trip may have.
+#[test]
+fn a_trip_that_is_refused(rt: HostRuntime) -> Result<(), Fail> {
+    let image = sealed(rt.alloc(), A, P)?;
+    let (held, _) = ran(rt.alloc(), &image, "U 1767225600\nK H\nI 0 1\n", &[], &[])?;
     let rest = 29_584_800_000_u128.to_be_bytes();
-    for (image, line, want) in [
-        ([0xFF; 2048], "NOT SEALED\n", 4),
-        ([0xA5; 2048], "BAD STORE 0\n", 5),
-        (changed(one.image(), 511, &[3]), "BAD STORE 0\n", 5),
-        (
-            changed(one.image(), 512, &one.image()[..512]),
-            "BAD STORE 0 1\n",
-            5,
-        ),
-        (changed(one.image(), 512, &[0xA5]), "BAD STORE 1\n", 5),
-        (changed(one.image(), 1024, &[0]), "NOT SEALED\n", 4),
-        (changed(held.image(), 657, &rest), "BAD STORE TRIP\n", 5),
-    ] {
-        let (board, status) = ran(rt.alloc(), &image, HIRING, &[], &[])?;
-        assert_eq!(rt; status, want, "{line}");
-        assert_eq!(rt; board.printed(), line.as_bytes());
-        assert!(rt; *board.image() == image, "{line}");
-    }
-    Ok(())
+    must_refuse(
+        rt.alloc(),
+        &changed(held.image(), 657, &rest),
+        "BAD STORE TRIP\n",
+        5,
+    )
 }

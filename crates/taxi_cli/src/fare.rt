@@ -19,7 +19,7 @@ use tariff_compile::compile;
 use taxi_units::Steps;
 
 /// Reads the tariff of word 1, and carries out the drive of word 2 under it, without a store.
-#[tactic(auto, using(crate::proofs::BoardRuns::keeps_none, crate::proofs::BoardRuns::keeps_print, crate::proofs::BoardRuns::keeps_then))]
+#[tactic(auto, using(crate::proofs::BoardRuns::board_runs))]
 pub fn fare<F: Files, B: Board<L>, L: Ledger>(
     alloc: Global,
     constant: Constant,

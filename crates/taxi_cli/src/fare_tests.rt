@@ -1,6 +1,5 @@
 //! Drives under `fare`, over clocks, keys, supplements and losses of supply.
-use crate::tests::{A, call};
-use outside::MemoryBoard;
+use crate::tests::{A, ZEROS, must_answer};
 use std::test::Fail;
 
 /// Tariff A with two positions and a supplement that may be added twice.
@@ -83,12 +82,17 @@ const DRIVES: [(&str, &str, &str, &str); 10] = [
 
 #[test]
 fn drives(rt: HostRuntime) -> Result<(), Fail> {
-    for (tariff, constant, drive, output) in DRIVES {
-        let mut board = MemoryBoard::new(rt.alloc(), &[0; 2048], &[])?;
+    for &(tariff, constant, drive, output) in &DRIVES {
         let words = ["fare", "t", "d", constant];
-        let ended = call(rt.alloc(), &words, tariff, drive, &[], &mut board)?;
-        assert_eq!(rt; board.printed(), output.as_bytes(), "{drive}");
-        assert_eq!(rt; ended, 0, "{drive}");
+        must_answer(
+            rt.alloc(),
+            drive,
+            &words,
+            &[tariff, drive],
+            &ZEROS,
+            output,
+            0,
+        )?;
     }
     Ok(())
 }

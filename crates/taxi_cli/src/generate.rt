@@ -19,8 +19,9 @@ ghost use Rattle.taxi_cli.specs.Ending.{ComesFrom};
 ghost use Rattle.taxi_cli.specs.Generate.{city_text, event_count, gen_command, generated_text, state_after};
 
 use crate::ending::{Ended, refused_by};
+use crate::number_line::push_number_line;
 use crate::tariff::tariff_of_text;
-use crate::totals_text::{push_number_line, push_summary};
+use crate::totals_text::push_summary;
 use arrayvec::ArrayVec;
 use drive_modes::Mode;
 use interval_clock::Offsets;
@@ -37,8 +38,15 @@ use totaliser_store::Durable;
 use verify_bench::{Generator, generated_drives_mean_their_lines, generated_events};
 
 /// The city tariff, under which generated drives are run.
-const CITY: &[u8] =
-    b"decimals 2\nstep 0.20 ahead\npositions 2\nzones 2\nholiday 2026-01-01\nholiday 2026-12-25\nsupplement 1 2.00 max 4\nsupplement 2 0.50 max 9\nsupplement 3 5.00 max 1\ninitial 5.00 covers 0.40 when time 22:00..06:00 or day sun or holiday\ninitial 4.20 covers 0.40\nrate 0.20 per 80.0 m, 0.20 per 20.0 s when position 2 or zone 2\nrate 0.20 per 90.0 m, 0.20 per 20.0 s when time 22:00..06:00 or day sun or holiday\nrate 0.20 per 100.0 m, 0.20 per 20.0 s when after 5000.0 m\nrate 0.20 per 125.0 m, 0.20 per 25.0 s\n";
+const CITY: &[u8] = b"decimals 2\nstep 0.20 ahead\npositions 2\nzones 2\nholiday 2026-01-01\n\
+    holiday 2026-12-25\nsupplement 1 2.00 max 4\nsupplement 2 0.50 max 9\n\
+    supplement 3 5.00 max 1\n\
+    initial 5.00 covers 0.40 when time 22:00..06:00 or day sun or holiday\n\
+    initial 4.20 covers 0.40\n\
+    rate 0.20 per 80.0 m, 0.20 per 20.0 s when position 2 or zone 2\n\
+    rate 0.20 per 90.0 m, 0.20 per 20.0 s when time 22:00..06:00 or day sun or holiday\n\
+    rate 0.20 per 100.0 m, 0.20 per 20.0 s when after 5000.0 m\n\
+    rate 0.20 per 125.0 m, 0.20 per 25.0 s\n";
 
 /// The text of the city tariff.
 #[tactic(auto, unfolding(crate::specs::Generate::city_text))]
@@ -190,7 +198,7 @@ fn summary(seed: u64, trips: u32, durable: &Durable, decimals: u8) -> Line
 
 /// Carries out the drive of a seed and of 1 to 1,000 trips on a meter of its own under the city tariff, and
 /// prints the number of its events and the totals of that meter.
-#[tactic(auto, using(crate::proofs::BoardRuns::keeps_none, crate::proofs::BoardRuns::keeps_print, crate::proofs::BoardRuns::keeps_then))]
+#[tactic(auto, using(crate::proofs::BoardRuns::board_runs))]
 pub fn generate<B: Board<L>, L: Ledger>(
     alloc: Global,
     seed: u64,

@@ -5,10 +5,10 @@ ghost use Rattle.seal_store.specs.Ranges.{IsSeal};
 
 use crate::generate::{city_tariff, gen_seal, ten_thousand};
 use crate::tariff::tariff_of_text;
-use crate::tests::{A, call};
+use crate::tests::{A, ZEROS, called, must, must_answer, must_answer_amid};
 use crate::totals_text::push_summary;
 use meter_run::run_events;
-use outside::{MemoryBoard, QuietBoard};
+use outside::QuietBoard;
 use seal_store::{Seal, place_seal};
 use slot_store::{Found, scan};
 use std::alloc::Global;
@@ -25,19 +25,22 @@ const ROWS: [(&str, &str, &str, u8); 12] = [
     (
         "1",
         "40",
-        "GEN 1 40\nEVENTS 171077\nNUMBER 51\nDISTANCE 75136.100 m\nHIRED 54872.100 m\nHIRINGS 40\nSUPPLEMENTS 23.00\nFARE 327.80\n",
+        "GEN 1 40\nEVENTS 171077\nNUMBER 51\nDISTANCE 75136.100 m\nHIRED 54872.100 m\nHIRINGS 40\n\
+         SUPPLEMENTS 23.00\nFARE 327.80\n",
         0,
     ),
     (
         "7",
         "20",
-        "GEN 7 20\nEVENTS 97915\nNUMBER 26\nDISTANCE 42401.400 m\nHIRED 28866.400 m\nHIRINGS 20\nSUPPLEMENTS 17.50\nFARE 170.20\n",
+        "GEN 7 20\nEVENTS 97915\nNUMBER 26\nDISTANCE 42401.400 m\nHIRED 28866.400 m\nHIRINGS 20\n\
+         SUPPLEMENTS 17.50\nFARE 170.20\n",
         0,
     ),
     (
         "007",
         "0001",
-        "GEN 7 1\nEVENTS 4662\nNUMBER 2\nDISTANCE 2129.500 m\nHIRED 1751.500 m\nHIRINGS 1\nSUPPLEMENTS 5.00\nFARE 9.00\n",
+        "GEN 7 1\nEVENTS 4662\nNUMBER 2\nDISTANCE 2129.500 m\nHIRED 1751.500 m\nHIRINGS 1\n\
+         SUPPLEMENTS 5.00\nFARE 9.00\n",
         0,
     ),
     ("1", "0", "BAD WORDS\n", 1),
@@ -53,12 +56,16 @@ const ROWS: [(&str, &str, &str, u8); 12] = [
 
 #[test]
 fn generated_drives(rt: HostRuntime) -> Result<(), Fail> {
-    for (seed, trips, output, status) in ROWS {
-        let mut board = MemoryBoard::new(rt.alloc(), &[7; 2048], &[])?;
-        let ended = call(rt.alloc(), &["gen", seed, trips], A, "", &[], &mut board)?;
-        assert_eq!(rt; ended, status, "{seed} {trips}");
-        assert_eq!(rt; board.printed(), output.as_bytes(), "{seed} {trips}");
-        assert!(rt; *board.image() == [7; 2048], "{seed} {trips}");
+    for &(seed, trips, output, status) in &ROWS {
+        must_answer(
+            rt.alloc(),
+            output,
+            &["gen", seed, trips],
+            &[A],
+            &[7; 2048],
+            output,
+            status,
+        )?;
     }
     Ok(())
 }
@@ -66,23 +73,30 @@ fn generated_drives(rt: HostRuntime) -> Result<(), Fail> {
 /// The greatest seed.
 #[test]
 fn the_last_seed(rt: HostRuntime) -> Result<(), Fail> {
-    let mut board = MemoryBoard::new(rt.alloc(), &[0; 2048], &[])?;
     let words = ["gen", "18446744073709551615", "1"];
-    assert_eq!(rt; call(rt.alloc(), &words, "", "", &[], &mut board)?, 0);
-    let text = board.printed();
-    assert!(rt; text.starts_with(b"GEN 18446744073709551615 1\nEVENTS "));
-    Ok(())
+    let (board, status) = called(rt.alloc(), &words, &[], &ZEROS, &[], &[])?;
+    let start = b"GEN 18446744073709551615 1\nEVENTS ";
+    must(
+        status == 0 && board.printed().starts_with(start),
+        "another answer",
+        "the last seed",
+    )
 }
 
 /// A board that fails at the one print.
 #[test]
 fn a_failing_board(rt: HostRuntime) -> Result<(), Fail> {
-    let mut board = MemoryBoard::new(rt.alloc(), &[0; 2048], &[1])?;
-    assert_eq!(rt;
-        call(rt.alloc(), &["gen", "1", "1"], "", "", &[], &mut board)?,
-        8
-    );
-    Ok(())
+    must_answer_amid(
+        rt.alloc(),
+        "a print",
+        &["gen", "1", "1"],
+        &[],
+        &ZEROS,
+        &[1],
+        &[],
+        "",
+        8,
+    )
 }
 
 /// The totals after the drive of the seed 7 with 1,000 trips, as the run leaves them on a new store.
@@ -127,14 +141,14 @@ fn new_totals(alloc: Global) -> Option<Line> {
 /// The run of a large drive leaves what is printed of it.
 #[test]
 fn a_large_drive_is_run(rt: HostRuntime) -> Result<(), Fail> {
-    let mut board = MemoryBoard::new(rt.alloc(), &[0; 2048], &[])?;
-    let ended = call(rt.alloc(), &["gen", "7", "1000"], "", "", &[], &mut board)?;
-    assert_eq!(rt; ended, 0);
-    let totals = new_totals(rt.alloc()).expect(&rt, "a run");
-    let totals = totals.as_slice();
+    let (board, status) = called(rt.alloc(), &["gen", "7", "1000"], &[], &ZEROS, &[], &[])?;
+    let totals = new_totals(rt.alloc()).ok_or("no run")?;
     let rest = board
         .printed()
         .strip_prefix(b"GEN 7 1000\nEVENTS 4263699\n".as_slice());
-    assert!(rt; rest == Some(totals));
-    Ok(())
+    must(
+        status == 0 && rest == Some(totals.as_slice()),
+        "another answer",
+        "1000 trips",
+    )
 }

@@ -41,7 +41,7 @@ fn begins(text: &[u8], pieces: &[&str]) -> bool {
 fn a_hiring(rt: HostRuntime) -> Result<(), Fail> {
     let image = sealed_image();
     let mut board = MemoryBoard::new(rt.alloc(), &image, &[])?;
-    let status = call(rt.alloc(), &RUN, A, HIRING, &[], &mut board)?;
+    let status = call(rt.alloc(), &RUN, &[A, HIRING], &[], &mut board)?;
     let pieces = ROWS[0].3;
     if status == 0 && is_made_of(board.printed(), pieces) {
         return Ok(());

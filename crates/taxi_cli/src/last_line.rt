@@ -1,12 +1,12 @@
 //! The last lines of the program.
 ghost use Rattle.std.specs.Prelude.{◌≡◌, ◌+◌, ◌≤◌, ◌++◌, [], length};
 ghost use Rattle.arrayvec.specs.ArrayVec.{array_vec_len};
-ghost use Rattle.taxi_cli.specs.LastLine.{bad_book_line, bad_drive_line, bad_readings_line, bad_rules_line};
-ghost use Rattle.taxi_cli.specs.LastLine.{bad_slot_line, bad_tariff_line, dimension_text, fault_text};
-ghost use Rattle.taxi_cli.specs.LastLine.{bad_frame_line, bad_params_line, line_of, name_text, numbered, other_decimals_line};
-ghost use Rattle.taxi_cli.specs.LastLine.{param_fault_text, same_number_line, sealed_line, sound_line, wrong_tariff_line};
+ghost use Rattle.taxi_cli.specs.LastLine.{bad_params_line, bad_rules_line, bad_tariff_line, dimension_text, fault_text};
+ghost use Rattle.taxi_cli.specs.LastLine.{line_of, name_text, numbered, other_decimals_line, param_fault_text};
+ghost use Rattle.taxi_cli.specs.LastLine.{same_number_line, sound_line, wrong_tariff_line};
 
 use crate::ending::Ended;
+use crate::number_line::push_number_line;
 use crate::tariff::Refusal;
 use offset_rules::RuleFault;
 use receipt_text::push_hex;
@@ -25,7 +25,7 @@ pub fn last_line(ended: Ended) -> Line
         Ended::BadWords => push_bytes(&mut line, b"BAD WORDS\n"),
         Ended::BadTariff(why) => push_bad_tariff(&mut line, why),
         Ended::NotSealed => push_bytes(&mut line, b"NOT SEALED\n"),
-        Ended::BadSlot(slot) => push_bad_slot(&mut line, slot),
+        Ended::BadSlot(slot) => push_number_line(&mut line, b"BAD STORE ", slot as u64),
         Ended::SameNumber(first, second) => push_same_number(&mut line, first, second),
         Ended::BadTrip => push_bytes(&mut line, b"BAD STORE TRIP\n"),
         Ended::WrongTariff(digest, own) => push_wrong_tariff(&mut line, &digest, &own),
@@ -33,16 +33,16 @@ pub fn last_line(ended: Ended) -> Line
         Ended::SealEnded => push_bytes(&mut line, b"SEAL ENDED\n"),
         Ended::OtherDecimals(found, own) => push_other_decimals(&mut line, found, own),
         Ended::BadParams(fault) => push_bad_params(&mut line, fault),
-        Ended::Sealed(number) => push_sealed(&mut line, number),
-        Ended::BadFrame(place) => push_bad_frame(&mut line, place),
+        Ended::Sealed(number) => push_number_line(&mut line, b"SEALED ", number),
+        Ended::BadFrame(place) => push_number_line(&mut line, b"BAD FRAME ", place),
         Ended::EndlessRequests => push_bytes(&mut line, b"BAD FRAME TOO LONG\n"),
-        Ended::BadReadings(number) => push_bad_readings(&mut line, number),
+        Ended::BadReadings(number) => push_number_line(&mut line, b"BAD READINGS ", number),
         Ended::LongReadings => push_bytes(&mut line, b"BAD READINGS TOO LONG\n"),
         Ended::NotPassed => {}
         Ended::BadRules(fault) => push_bad_rules(&mut line, fault),
         Ended::LongBook => push_bytes(&mut line, b"BAD BOOK TOO LONG\n"),
-        Ended::BadBook(number) => push_bad_book(&mut line, number),
-        Ended::BadDrive(number) => push_bad_drive(&mut line, number),
+        Ended::BadBook(number) => push_number_line(&mut line, b"BAD BOOK ", number),
+        Ended::BadDrive(number) => push_number_line(&mut line, b"BAD DRIVE ", number),
         Ended::EndlessDrive => push_bytes(&mut line, b"BAD DRIVE TOO LONG\n"),
         Ended::ReadFault => push_bytes(&mut line, b"READ FAULT\n"),
         Ended::BoardFault => {}
@@ -70,11 +70,7 @@ fn push_bad_tariff(line: &mut Line, why: Refusal)
 {
     match why {
         Refusal::TooLong => push_bytes(line, b"BAD TARIFF TooLong\n"),
-        Refusal::Syntax(number) => {
-            push_bytes(line, b"BAD TARIFF Syntax ");
-            push_number(line, number as u128);
-            push_bytes(line, b"\n");
-        }
+        Refusal::Syntax(number) => push_number_line(line, b"BAD TARIFF Syntax ", number as u64),
         Refusal::Unsound(fault) => {
             push_bytes(line, b"BAD TARIFF ");
             push_fault(line, fault);
@@ -133,26 +129,6 @@ fn dimension_name(dimension: Dimension) -> &'static [u8]
         Dimension::Distance => b"Distance",
         Dimension::Time => b"Time",
     }
-}
-
-/// Appends the line of a bad drive.
-fn push_bad_drive(line: &mut Line, number: u64)
-    requires { line.old.items ≡ [] }
-    ensures { line.new.items ≡ bad_drive_line number }
-{
-    push_bytes(line, b"BAD DRIVE ");
-    push_number(line, number as u128);
-    push_bytes(line, b"\n");
-}
-
-/// Appends the line of a slot whose body isn't read.
-fn push_bad_slot(line: &mut Line, slot: u8)
-    requires { line.old.items ≡ [] }
-    ensures { line.new.items ≡ bad_slot_line slot }
-{
-    push_bytes(line, b"BAD STORE ");
-    push_number(line, slot as u128);
-    push_bytes(line, b"\n");
 }
 
 /// Appends the line of two slots of one number.
@@ -237,36 +213,6 @@ fn name_of(name: Name) -> &'static [u8]
     }
 }
 
-/// Appends the line of a store that was sealed.
-fn push_sealed(line: &mut Line, number: u64)
-    requires { line.old.items ≡ [] }
-    ensures { line.new.items ≡ sealed_line number }
-{
-    push_bytes(line, b"SEALED ");
-    push_number(line, number as u128);
-    push_bytes(line, b"\n");
-}
-
-/// Appends the line of a bad place of requests.
-fn push_bad_frame(line: &mut Line, place: u64)
-    requires { line.old.items ≡ [] }
-    ensures { line.new.items ≡ bad_frame_line place }
-{
-    push_bytes(line, b"BAD FRAME ");
-    push_number(line, place as u128);
-    push_bytes(line, b"\n");
-}
-
-/// Appends the line of bad readings.
-fn push_bad_readings(line: &mut Line, number: u64)
-    requires { line.old.items ≡ [] }
-    ensures { line.new.items ≡ bad_readings_line number }
-{
-    push_bytes(line, b"BAD READINGS ");
-    push_number(line, number as u128);
-    push_bytes(line, b"\n");
-}
-
 /// Appends the line of rules of offsets that aren't accepted.
 fn push_bad_rules(line: &mut Line, fault: RuleFault)
     requires { line.old.items ≡ [] }
@@ -274,21 +220,7 @@ fn push_bad_rules(line: &mut Line, fault: RuleFault)
 {
     match fault {
         RuleFault::TooLong => push_bytes(line, b"BAD RULES TooLong\n"),
-        RuleFault::BadLine(number) => {
-            push_bytes(line, b"BAD RULES BadLine ");
-            push_number(line, number as u128);
-            push_bytes(line, b"\n");
-        }
+        RuleFault::BadLine(number) => push_number_line(line, b"BAD RULES BadLine ", number as u64),
         RuleFault::SameMonth => push_bytes(line, b"BAD RULES SameMonth\n"),
     }
-}
-
-/// Appends the line of a book whose line is no mark that may follow.
-fn push_bad_book(line: &mut Line, number: u64)
-    requires { line.old.items ≡ [] }
-    ensures { line.new.items ≡ bad_book_line number }
-{
-    push_bytes(line, b"BAD BOOK ");
-    push_number(line, number as u128);
-    push_bytes(line, b"\n");
 }

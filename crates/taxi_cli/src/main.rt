@@ -27,6 +27,7 @@ mod last_line;
 #[cfg(test)]
 mod many_cuts_tests;
 mod mark;
+mod number_line;
 mod offsets;
 #[cfg(test)]
 mod offsets_tests;
@@ -42,6 +43,7 @@ mod run_tests;
 mod seal;
 #[cfg(test)]
 mod seal_tests;
+mod sealed;
 mod sealed_tariff;
 mod shifts;
 #[cfg(test)]

@@ -2,7 +2,7 @@
 ghost use Rattle.std.specs.Prelude.{◌≡◌, ◌<◌};
 
 use crate::run_tests::{CITY, RUN, sealed};
-use crate::tests::{FILLS, P, call};
+use crate::tests::{FILLS, P, called, cut_in, must};
 use outside::{Fill, MemoryBoard, QuietBoard};
 use receipt_text::read_receipt;
 use slot_store::{Found, scan};
@@ -156,22 +156,56 @@ fn ran(
     drive: &str,
     fail: &[u64],
 ) -> Result<(MemoryBoard, u8), Fail> {
-    let mut board = MemoryBoard::new(alloc, image, fail)?;
-    let status = call(alloc, &RUN, CITY, drive, &[], &mut board)?;
-    Ok((board, status))
+    called(alloc, &RUN, &[CITY, drive], image, fail, &[])
 }
 
-/// Fails with these words where something doesn't hold.
-fn must(holds: bool, words: &'static str) -> Result<(), Fail> {
-    if holds {
-        return Ok(());
-    }
-    Err(Fail::new(words))
+/// The same run broken off at a call of the board, and what a cut then leaves of it.
+fn cut_off(
+    alloc: Global,
+    image: &[u8; 2048],
+    drive: &str,
+    whole: &MemoryBoard,
+    dice: &mut Dice,
+) -> Result<([u8; 2048], MemoryBoard), Fail> {
+    let number = dice
+        .below(whole.calls().saturating_add(2))
+        .saturating_add(1);
+    let (board, status) = ran(alloc, image, drive, &[number])?;
+    let fails = number <= whole.calls();
+    must(
+        (status == 8) == fails,
+        "a failed call has another status",
+        drive,
+    )?;
+    must(
+        whole.printed().starts_with(board.printed()),
+        "a text isn't that of the run",
+        drive,
+    )?;
+    let fill = FILLS
+        .get(dice.below(6) as usize)
+        .copied()
+        .unwrap_or(Fill::Old);
+    Ok((cut_in(&board, board.calls(), fill), board))
 }
 
-/// A run over an image, and the same run broken off at a call of the board; what a cut then leaves of that one.
-/// Each receipt that was printed has an entry by its number, and the sums are those that are found. Answers also how
-/// many trips were aborted.
+/// Fails unless each receipt that a board has printed has at most this number.
+fn must_have_entries(alloc: Global, board: &MemoryBoard, number: u64) -> Result<(), Fail> {
+    let printed = receipts_in(alloc, board.printed())?;
+    let have_entries = printed.iter().all(|receipt| receipt.number <= number);
+    must(have_entries, "an entry is lost", "a receipt")
+}
+
+/// How many of these trips were aborted.
+fn aborted(receipts: &[Receipt]) -> usize {
+    receipts
+        .iter()
+        .filter(|receipt| receipt.kind == Kind::Aborted)
+        .count()
+}
+
+/// What a cut leaves of a run that breaks off at a call of the board, and how many trips the whole run aborts. Fails
+/// unless each receipt that was printed has an entry by its number, and the sums are those that are found.
 fn broken_off(
     alloc: Global,
     image: &[u8; 2048],
@@ -180,46 +214,21 @@ fn broken_off(
     sums: &mut Sums,
 ) -> Result<([u8; 2048], usize), Fail> {
     let (whole, status) = ran(alloc, image, drive, &[])?;
-    must(status == 0, "a run fails")?;
-    let number = dice
-        .below(whole.calls().saturating_add(2))
-        .saturating_add(1);
-    let (board, status) = ran(alloc, image, drive, &[number])?;
-    must(
-        (status == 8) == (number <= whole.calls()),
-        "a failed call has another status",
-    )?;
-    must(
-        whole.printed().starts_with(board.printed()),
-        "a text isn't that of the run",
-    )?;
-    let fill = FILLS
-        .get(dice.below(6) as usize)
-        .copied()
-        .unwrap_or(Fill::Old);
-    let left = board.cut(board.calls(), fill);
+    must(status == 0, "a run fails", drive)?;
+    let (left, board) = cut_off(alloc, image, drive, &whole, dice)?;
     let found = stored(&left).ok_or("no state")?;
-    let printed = receipts_in(alloc, board.printed())?;
-    must(
-        printed.iter().all(|receipt| receipt.number <= found.number),
-        "an entry is lost",
-    )?;
+    must_have_entries(alloc, &board, found.number)?;
     let receipts = receipts_in(alloc, whole.printed())?;
     *sums = added(*sums, receipts.as_slice(), found.number);
-    must(sums_of(&found) == *sums, "the totals are others")?;
-    let aborted = receipts
-        .iter()
-        .filter(|receipt| receipt.kind == Kind::Aborted)
-        .count();
-    Ok((left, aborted))
+    must(sums_of(&found) == *sums, "the totals are others", drive)?;
+    Ok((left, aborted(receipts.as_slice())))
 }
 
 /// Each receipt that was printed has its entry among those that are found after a cut, and the totals are those of
 /// the receipts of the runs so far, added up plainly, as far as the number says.
 #[test]
 fn a_hundred_cuts(rt: HostRuntime) -> Result<(), Fail> {
-    let board = sealed(rt.alloc(), CITY, P)?;
-    let mut image = *board.image();
+    let mut image = sealed(rt.alloc(), CITY, P)?;
     let mut dice = Dice { state: 20_260_101 };
     let mut second = 1_767_225_600;
     let mut sums = Sums {
@@ -228,15 +237,16 @@ fn a_hundred_cuts(rt: HostRuntime) -> Result<(), Fail> {
         supplements: 0,
         hired_mm: 0,
     };
-    let mut runs_that_aborted = 0;
-    for cut in 0..100 {
+    let mut runs_that_aborted = 0u64;
+    for _cut in 0..100 {
         let drive = drive_of(rt.alloc(), &mut second, &mut dice)?;
         let (left, aborted) = broken_off(rt.alloc(), &image, drive.as_str(), &mut dice, &mut sums)?;
         image = left;
-        if aborted > 0 && runs_that_aborted <= cut {
-            runs_that_aborted += 1;
-        }
+        runs_that_aborted = runs_that_aborted.saturating_add((aborted > 0) as u64);
     }
-    assert!(rt; sums.hirings > 50 && runs_that_aborted > 10);
-    Ok(())
+    must(
+        sums.hirings > 50 && runs_that_aborted > 10,
+        "few hirings or aborted trips",
+        "a hundred cuts",
+    )
 }

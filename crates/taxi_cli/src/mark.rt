@@ -1,16 +1,13 @@
 //! The commands `mark on DRIVER` and `mark off`.
 ghost use Rattle.std.specs.Prelude.{◌≡◌, ◌≢◌, ◌+◌, ◌<◌, ◌≤◌, ℕ, List, length};
-ghost use Rattle.outside.specs.Faults.{Rose};
 ghost use Rattle.shift_book.specs.Following.{numbers_in};
 ghost use Rattle.shift_book.specs.Marks.{mark_text};
-ghost use Rattle.taxi_cli.specs.Ending.{ComesFrom, LooksAt};
+ghost use Rattle.taxi_cli.specs.Ending.{ComesFrom, HasCauseOn, OnlyLooksAt};
 ghost use Rattle.taxi_cli.specs.Mark.{mark_command};
 ghost use Rattle.taxi_cli.specs.Mark as spec;
-ghost use Rattle.taxi_cli.specs.Unwritten.{KeepsBytes};
 
-use crate::ending::{Ended, refused_store};
-use crate::opening::open_store;
-use crate::totals::sealed_totals;
+use crate::ending::Ended;
+use crate::sealed::open_sealed;
 use arrayvec::ArrayVec;
 use outside::Board;
 use shift_book::{Mark, put_mark};
@@ -27,22 +24,16 @@ pub fn print_mark<B: Board<L>, L: Ledger>(
 ) -> Ended
     ensures ends { (contents left : ℕ → List ℕ) → B.tells_image
         → ComesFrom B.Board (mark_command driver) contents left (λ word. ⊥) board.old board.new result }
-    ensures board_fault { result ≡ Ended.BoardFault → Rose (B.faults board.old) (B.faults board.new) }
+    ensures cause { HasCauseOn B.Board board.old board.new result }
     ensures not_read { result ≢ Ended.ReadFault }
-    ensures count { B.faults board.old ≤ B.faults board.new }
     ensures steps { steps.new ≤ steps.old + 64 }
-    ensures store { KeepsBytes B.Board board.old board.new }
-    ensures same { result ≢ Ended.BoardFault → B.image board.new ≡ B.image board.old }
-    ensures looks { B.tells_image → LooksAt B.Board board.old board.new result }
+    ensures looks { OnlyLooksAt B.Board board.old board.new result }
 {
-    let opening = match open_store(board, steps) {
-        Ok(opening) => opening,
-        Err(fault) => return refused_store(fault),
+    let store = match open_sealed(board, steps) {
+        Ok(store) => store,
+        Err(why) => return why,
     };
-    let Some((now, _)) = sealed_totals(opening) else {
-        return Ended::NotSealed;
-    };
-    let line = mark_line(driver, &now);
+    let line = mark_line(driver, &store.0);
     match board.print(line.as_slice(), steps) {
         Ok(()) => Ended::Done,
         Err(_) => Ended::BoardFault,

@@ -5,8 +5,8 @@ ghost use Rattle.outside.specs.Printing.{Begins};
 ghost use Rattle.outside.specs.Runs.{KeepsStore};
 ghost use Rattle.offset_rules.specs.Reading.{rules_read};
 ghost use Rattle.offset_rules.specs.Texts.{offset_line, offset_lines};
-ghost use Rattle.taxi_cli.specs.Ending.{ComesOn};
-ghost use Rattle.taxi_cli.specs.Offsets.{ended_for_rules, offsets_command};
+ghost use Rattle.taxi_cli.specs.Ending.{ComesOn, ended_for_rules};
+ghost use Rattle.taxi_cli.specs.Offsets.{offsets_command};
 
 use crate::ending::Ended;
 use crate::years::Years;
@@ -28,7 +28,7 @@ pub enum RulesFault {
 const ROOM: usize = 4097;
 
 /// Reads the rules of word 1, and prints the list of offsets that they give for some years, a line a pair.
-#[tactic(auto, using(crate::proofs::BoardRuns::keeps_none, crate::proofs::BoardRuns::keeps_print, crate::proofs::BoardRuns::keeps_then))]
+#[tactic(auto, using(crate::proofs::BoardRuns::board_runs))]
 pub fn print_offsets<F: Files, B: Board<L>, L: Ledger>(
     years: Years,
     files: &mut F,
@@ -90,7 +90,7 @@ fn rules_of_word<F: Files>(files: &mut F, word: usize) -> Result<Rules, RulesFau
 }
 
 /// Prints the lines of a list of offsets, one after the other.
-#[tactic(auto, using(crate::proofs::BoardRuns::keeps_none, crate::proofs::BoardRuns::keeps_print, crate::proofs::BoardRuns::keeps_then))]
+#[tactic(auto, using(crate::proofs::BoardRuns::board_runs))]
 fn print_pairs<B: Board<L>, L: Ledger>(
     pairs: &[(u64, i32)],
     board: &mut B,

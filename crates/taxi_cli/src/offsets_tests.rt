@@ -2,10 +2,10 @@
 ghost use Rattle.std.specs.Prelude.{◌≡◌, ◌<◌};
 ghost use Rattle.interval_clock.specs.Offsets.{IsSecond};
 
-use crate::tests::call;
+use crate::tests::{ZEROS, called, must, must_answer_amid, must_at, repeated};
 use interval_clock::civil;
-use outside::MemoryBoard;
 use seal_store::read_params;
+use std::alloc::Global;
 use std::marker::Brand;
 use std::sync::ledger::{Blank, Ledger};
 use std::test::Fail;
@@ -123,40 +123,47 @@ const LISTS: [(&str, &str, &str, u64, u64, &str, u8); 22] = [
 
 #[test]
 fn lists_of_offsets(rt: HostRuntime) -> Result<(), Fail> {
-    for (rules, from, to, read, print, output, status) in LISTS {
-        let mut board = MemoryBoard::new(rt.alloc(), &[7; 2048], &[print])?;
+    for &(rules, from, to, read, print, output, status) in &LISTS {
         let words = ["offsets", "r", from, to];
-        let ended = call(rt.alloc(), &words, rules, "", &[read], &mut board)?;
-        assert_eq!(rt; ended, status, "{rules} {from} {to}");
-        assert_eq!(rt; board.printed(), output.as_bytes(), "{rules} {from} {to}");
-        assert!(rt; *board.image() == [7; 2048]);
+        let reads = [read];
+        must_answer_amid(
+            rt.alloc(),
+            rules,
+            &words,
+            &[rules],
+            &[7; 2048],
+            &[print],
+            &reads,
+            output,
+            status,
+        )?;
     }
     Ok(())
 }
 
-/// Fifteen years at once have a line for each change, and one before them; a text of 4,097 bytes is too long.
+/// How many bytes a text of rules has, the last year, how the list begins, and how many lines it has: fifteen years at
+/// once have a line for each change, and one before them; a text of 4,097 bytes is too long.
+const SIZES: [(usize, &str, &str, u64); 4] = [
+    (NORTH.len(), "2040", NORTH_2026, 31),
+    (4096, "2026", "BAD RULES BadLine 5\n", 1),
+    (4097, "2026", "BAD RULES TooLong\n", 1),
+    (4098, "2026", "BAD RULES TooLong\n", 1),
+];
+
+/// How many lines a text has.
+fn lines_in(text: &[u8]) -> usize {
+    text.iter().filter(|byte| **byte == b'\n').count()
+}
+
 #[test]
 fn the_longest_texts(rt: HostRuntime) -> Result<(), Fail> {
-    for (size, to, start, lines) in [
-        (NORTH.len(), "2040", NORTH_2026, 31),
-        (4096, "2026", "BAD RULES BadLine 5\n", 1),
-        (4097, "2026", "BAD RULES TooLong\n", 1),
-        (4098, "2026", "BAD RULES TooLong\n", 1),
-    ] {
-        let mut rules = String::from_str(rt.alloc(), NORTH)?;
-        for _ in NORTH.len()..size {
-            rules.push('#')?;
-        }
-        let mut board = MemoryBoard::new(rt.alloc(), &[0; 2048], &[])?;
+    for &(size, to, start, lines) in &SIZES {
+        let rules = repeated(rt.alloc(), NORTH, "#", size.saturating_sub(NORTH.len()))?;
         let words = ["offsets", "r", "2026", to];
-        let _ = call(rt.alloc(), &words, rules.as_str(), "", &[], &mut board)?;
-        assert!(rt; board.printed().starts_with(start.as_bytes()));
-        let ends = board
-            .printed()
-            .iter()
-            .filter(|byte| **byte == b'\n')
-            .count();
-        assert_eq!(rt; ends, lines, "{size}");
+        let (board, _) = called(rt.alloc(), &words, &[rules.as_str()], &ZEROS, &[], &[])?;
+        let is_listed = board.printed().starts_with(start.as_bytes())
+            && lines_in(board.printed()) as u64 == lines;
+        must_at(is_listed, "another list, bytes", size as u64)?;
     }
     Ok(())
 }
@@ -180,27 +187,36 @@ fn minute_afresh(params: &[u8], second: u64) -> Option<u16>
     minute_at::<Brand>(Blank::new(1), params, second)
 }
 
+/// Seconds, and the local minutes of their days.
+const MINUTES: [(u64, u16); 4] = [
+    (1_774_745_999, 119),
+    (1_774_746_000, 180),
+    (1_792_889_999, 179),
+    (1_792_890_000, 120),
+];
+
+/// Parameters with the printed list in the place of their offsets.
+fn params_with(alloc: Global, list: &[u8]) -> Result<Vec<u8>, Fail> {
+    let mut params = Vec::new(alloc);
+    params.extend_from_slice(b"taxi LX-4711\nconstant 10000\nmode single\nhold 60\n")?;
+    params.extend_from_slice(list)?;
+    params.extend_from_slice(b"secured 2025-12-01\n")?;
+    Ok(params)
+}
+
 /// The printed lines stand in parameters in the place of their offsets, and the clock goes from 2 to 3 in
 /// March and from 3 back to 2 in October.
 #[test]
 fn the_printed_lines_are_offsets_of_parameters(rt: HostRuntime) -> Result<(), Fail> {
-    let mut board = MemoryBoard::new(rt.alloc(), &[0; 2048], &[])?;
     let words = ["offsets", "r", "2026", "2026"];
-    let ended = call(rt.alloc(), &words, NORTH, "", &[], &mut board)?;
-    assert_eq!(rt; ended, 0);
-    let mut params = Vec::new(rt.alloc());
-    params.extend_from_slice(b"taxi LX-4711\nconstant 10000\nmode single\nhold 60\n")?;
-    params.extend_from_slice(board.printed())?;
-    params.extend_from_slice(b"secured 2025-12-01\n")?;
-    for (second, minute) in [
-        (1_774_745_999, 119),
-        (1_774_746_000, 180),
-        (1_792_889_999, 179),
-        (1_792_890_000, 120),
-    ] {
-        assert!(rt; FIRST_SECOND <= second && second <= LAST_SECOND);
-        let shown = minute_afresh(params.as_slice(), second);
-        assert_eq!(rt; shown, Some(minute), "{second}");
+    let (board, status) = called(rt.alloc(), &words, &[NORTH], &ZEROS, &[], &[])?;
+    let params = params_with(rt.alloc(), board.printed())?;
+    must(status == 0, "another status", "offsets")?;
+    for &(second, minute) in &MINUTES {
+        let is_shown = FIRST_SECOND <= second
+            && second <= LAST_SECOND
+            && minute_afresh(params.as_slice(), second) == Some(minute);
+        must_at(is_shown, "another minute at second", second)?;
     }
     Ok(())
 }

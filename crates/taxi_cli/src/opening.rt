@@ -6,7 +6,8 @@ ghost use Rattle.slot_store.specs.Syncs.{IsAsHeld, LeavesFromSync, ReadsOnly};
 ghost use Rattle.seal_store.specs.Ranges.{IsSeal};
 ghost use Rattle.totaliser_store.specs.Ranges.{IsDurable};
 ghost use Rattle.taxi_cli.specs.Opening as spec;
-ghost use Rattle.taxi_cli.specs.Opening.{IsOpened, IsSoundOpening, fault_from, opening_of};
+ghost use Rattle.taxi_cli.specs.Opening.{fault_from, opening_of};
+ghost use Rattle.taxi_cli.specs.Opened.{IsOpened, IsSoundOpening};
 
 use outside::Board;
 use seal_store::Seal;

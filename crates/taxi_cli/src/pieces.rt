@@ -10,7 +10,7 @@ use std::sync::ledger::Ledger;
 use taxi_units::Steps;
 
 /// Prints a text in pieces of at most 512 bytes, a step each.
-#[tactic(auto, using(crate::proofs::BoardRuns::keeps_none, crate::proofs::BoardRuns::keeps_print, crate::proofs::BoardRuns::keeps_then))]
+#[tactic(auto, using(crate::proofs::BoardRuns::board_runs))]
 pub fn print_text<B: Board<L>, L: Ledger>(
     text: &[u8],
     board: &mut B,

@@ -1,7 +1,7 @@
 //! Requests that are served from stores in memory. All bytes are written by hand from the table of items.
 use crate::store_tests::{SECOND_LAYOUT, image_of};
-use crate::tests::call;
-use outside::MemoryBoard;
+use crate::tests::{called, joined, must, must_answer, must_answer_amid, repeated};
+use std::alloc::Global;
 use std::test::Fail;
 
 /// A store that breaks its sums, and one without a seal.
@@ -73,15 +73,18 @@ const ROWS: [(&[(usize, u8)], &str, &str, &str, u8); 16] = [
 
 #[test]
 fn replies_over_stores(rt: HostRuntime) -> Result<(), Fail> {
-    for (more, requests, reply, line, status) in ROWS {
-        let image = image_of(more);
-        let mut board = MemoryBoard::new(rt.alloc(), &image, &[])?;
-        let ended = call(rt.alloc(), &["port", "r"], requests, "", &[], &mut board)?;
-        assert_eq!(rt; ended, status);
-        let mut output = String::from_str(rt.alloc(), reply)?;
-        output.push_str(line)?;
-        assert_eq!(rt; board.printed(), output.as_bytes());
-        assert!(rt; *board.image() == image);
+    for &(more, requests, reply, line, status) in &ROWS {
+        let output = joined(rt.alloc(), &[reply, line])?;
+        let output = output.as_str();
+        must_answer(
+            rt.alloc(),
+            requests,
+            &["port", "r"],
+            &[requests],
+            &image_of(more),
+            output,
+            status,
+        )?;
     }
     Ok(())
 }
@@ -101,7 +104,7 @@ const ENDED: [(&str, usize, &str, u8); 10] = [
     ("\x02\x01\x06\x03\x02\x02\x02\x09\x03", 2, "", 0),
 ];
 
-/// The first so many of the two replies, and a last line.
+/// Whether a text is this number of the two replies, from the first on, and then a last line.
 fn is_output(printed: &[u8], replies: usize, line: &str) -> bool {
     let mut rest = printed;
     for reply in [OF_NUMBER, OF_CONSTANT_AND_HIRINGS].iter().take(replies) {
@@ -113,14 +116,30 @@ fn is_output(printed: &[u8], replies: usize, line: &str) -> bool {
     rest == line.as_bytes()
 }
 
+/// Fails unless a call in which this call of the board and this read fail prints the first replies of the two and a
+/// last line, ends with this status and leaves the image.
+fn must_reply(
+    alloc: Global,
+    requests: &str,
+    failing: (u64, u64),
+    replies: usize,
+    line: &str,
+    status: u8,
+) -> Result<(), Fail> {
+    let image = image_of(&SECOND_LAYOUT);
+    let (made, read) = failing;
+    let ended = called(alloc, &["port", "r"], &[requests], &image, &[made], &[read])?;
+    let case = format!(in alloc; "{requests:?}, failing call {made} and read {read}")?;
+    must(ended.1 == status, "another status", case.as_str())?;
+    let is_printed = is_output(ended.0.printed(), replies, line);
+    must(is_printed, "another text", case.as_str())?;
+    must(*ended.0.image() == image, "another image", case.as_str())
+}
+
 #[test]
 fn requests_that_end_early(rt: HostRuntime) -> Result<(), Fail> {
-    let image = image_of(&SECOND_LAYOUT);
-    for (requests, replies, line, status) in ENDED {
-        let mut board = MemoryBoard::new(rt.alloc(), &image, &[])?;
-        let ended = call(rt.alloc(), &["port", "r"], requests, "", &[], &mut board)?;
-        assert_eq!(rt; ended, status, "{line}");
-        assert!(rt; is_output(board.printed(), replies, line), "{line}");
+    for &(requests, replies, line, status) in &ENDED {
+        must_reply(rt.alloc(), requests, (0, 0), replies, line, status)?;
     }
     Ok(())
 }
@@ -140,21 +159,9 @@ const FAILURES: [(u64, u64, usize, &str, u8); 8] = [
 
 #[test]
 fn failures_at_the_port(rt: HostRuntime) -> Result<(), Fail> {
-    let image = image_of(&SECOND_LAYOUT);
     let requests = "\x02\x01\x06\x03\x02\x02\x02\x09\x03\x07";
-    for (read, made, replies, line, status) in FAILURES {
-        let mut board = MemoryBoard::new(rt.alloc(), &image, &[made])?;
-        let ended = call(
-            rt.alloc(),
-            &["port", "r"],
-            requests,
-            "",
-            &[read],
-            &mut board,
-        )?;
-        assert_eq!(rt; ended, status, "{read} {made}");
-        assert!(rt; is_output(board.printed(), replies, line), "{read} {made}");
-        assert!(rt; *board.image() == image);
+    for &(read, made, replies, line, status) in &FAILURES {
+        must_reply(rt.alloc(), requests, (made, read), replies, line, status)?;
     }
     Ok(())
 }
@@ -169,44 +176,49 @@ const WORDS: [&[&str]; 4] = [
 
 #[test]
 fn words_of_the_port(rt: HostRuntime) -> Result<(), Fail> {
-    for words in WORDS {
-        let mut board = MemoryBoard::new(rt.alloc(), &image_of(&SECOND_LAYOUT), &[])?;
-        let ended = call(rt.alloc(), words, NUMBER, "", &[], &mut board)?;
-        assert_eq!(rt; ended, 1);
-        assert_eq!(rt; board.printed(), b"BAD WORDS\n".as_slice());
+    let image = image_of(&SECOND_LAYOUT);
+    for words in &WORDS {
+        must_answer(
+            rt.alloc(),
+            "words",
+            words,
+            &[NUMBER],
+            &image,
+            "BAD WORDS\n",
+            1,
+        )?;
     }
     Ok(())
 }
+
+/// The read that fails, how many requests are served, the last line and the status.
+const ACROSS: [(u64, usize, &str, u8); 3] = [
+    (0, 200, "", 0),
+    (2, 126, "READ FAULT\n", 7),
+    (3, 200, "READ FAULT\n", 7),
+];
 
 /// Requests that lie across the pieces of 512 bytes: one of five bytes and 200 of four; none of the reads
 /// fails, or the second does, or the third, which comes to the end.
 #[test]
 fn requests_across_pieces(rt: HostRuntime) -> Result<(), Fail> {
-    for (read, replies, line, status) in [
-        (0, 200, "", 0),
-        (2, 126, "READ FAULT\n", 7),
-        (3, 200, "READ FAULT\n", 7),
-    ] {
-        let mut requests = String::from_str(rt.alloc(), CONSTANT_AND_HIRINGS)?;
-        for _ in 0..200 {
-            requests.push_str(NUMBER)?;
-        }
-        let mut board = MemoryBoard::new(rt.alloc(), &image_of(&SECOND_LAYOUT), &[])?;
-        let ended = call(
-            rt.alloc(),
-            &["port", "r"],
-            requests.as_str(),
-            "",
-            &[read],
-            &mut board,
-        )?;
-        assert_eq!(rt; ended, status, "{read}");
-        let mut output = String::from_str(rt.alloc(), OF_CONSTANT_AND_HIRINGS)?;
-        for _ in 0..replies {
-            output.push_str(OF_NUMBER)?;
-        }
+    let image = image_of(&SECOND_LAYOUT);
+    let requests = repeated(rt.alloc(), CONSTANT_AND_HIRINGS, NUMBER, 200)?;
+    let texts = [requests.as_str()];
+    for &(read, replies, line, status) in &ACROSS {
+        let mut output = repeated(rt.alloc(), OF_CONSTANT_AND_HIRINGS, OF_NUMBER, replies)?;
         output.push_str(line)?;
-        assert_eq!(rt; board.printed(), output.as_bytes(), "{read}");
+        must_answer_amid(
+            rt.alloc(),
+            "across pieces",
+            &["port", "r"],
+            &texts,
+            &image,
+            &[],
+            &[read],
+            output.as_str(),
+            status,
+        )?;
     }
     Ok(())
 }

@@ -2,19 +2,18 @@
 ghost use Rattle.std.specs.Prelude.{◌≡◌, ◌≢◌, ◌↔◌, ℕ, ◌+◌, ◌≤◌, [], IfOk, OnOk, IsErrOf, IsTrue, Err};
 ghost use Rattle.std.specs.Option.{ForSome};
 ghost use Rattle.outside.specs.Faults.{Rose};
-ghost use Rattle.outside.specs.Runs.{IsSettled};
-ghost use Rattle.slot_store.specs.Syncs.{IsAsHeld, LeavesFromSync, ReadsOnly};
 ghost use Rattle.meter_run.specs.Drives.{IsBoundedBy};
 ghost use Rattle.meter_states.specs.Fits.{Fits};
 ghost use Rattle.seal_store.specs.Ranges.{IsSeal};
 ghost use Rattle.taxi_cli.specs.Call.{HasReadFault};
 ghost use Rattle.taxi_cli.specs.LastLine.{status_of};
+ghost use Rattle.taxi_cli.specs.Opened.{OnlyOpens};
 ghost use Rattle.taxi_cli.specs.Run.{does_hold_fit, run_command};
 ghost use Rattle.taxi_cli.specs.RunSteps.{AreNoTables, AreSealedTables, HasBegun, HasNotBegun, RunComes};
 ghost use Rattle.taxi_cli.specs.Unwritten.{KeepsBytes};
 
-use crate::ending::{Ended, ended_of, refused_store};
-use crate::opening::{open_store, sealed_store};
+use crate::ending::{Ended, ended_of};
+use crate::sealed::open_sealed;
 use crate::sealed_tariff::read_sealed;
 use meter_run::run_events;
 use meter_states::fits;
@@ -84,24 +83,15 @@ fn begin<F: Files, B: Board<L>, L: Ledger>(
     ensures refused { (why : Ended) → F.tells → B.tells_image → result ≡ Err why
         → HasNotBegun (B.image board.old) (F.rest files.old 1) (Rose (F.faults files.old 1) (F.faults files.new 1))
         (Rose (B.faults board.old) (B.faults board.new)) why }
-    ensures reads { ReadsOnly B.Board board.old board.new }
-    ensures synced { B.tells_image → LeavesFromSync B.Board (IsErrOf result Ended.BoardFault)
-        board.old board.new (IsAsHeld B.Board board.old) }
-    ensures settled { B.tells_image → ¬ IsErrOf result Ended.BoardFault → IsSettled B.Board board.new }
-    ensures same { ¬ IsErrOf result Ended.BoardFault → B.image board.new ≡ B.image board.old }
+    ensures opens { OnlyOpens B.Board (IsErrOf result Ended.BoardFault) board.old board.new }
     ensures read_fault { result ≡ Err Ended.ReadFault → Rose (F.faults files.old 1) (F.faults files.new 1) }
-    ensures board_fault { result ≡ Err Ended.BoardFault → Rose (B.faults board.old) (B.faults board.new) }
     ensures others { (other : ℕ) → other ≢ 1 → F.rest files.new other ≡ F.rest files.old other }
-    ensures count { B.faults board.old ≤ B.faults board.new }
     ensures counts { (other : ℕ) → F.faults files.old other ≤ F.faults files.new other }
     ensures steps { steps.new ≤ steps.old + 22 }
 {
-    let opening = match open_store(board, steps) {
-        Ok(opening) => opening,
-        Err(fault) => return Err(refused_store(fault)),
-    };
-    let Some((durable, seal)) = sealed_store(opening) else {
-        return Err(Ended::NotSealed);
+    let (durable, seal) = match open_sealed(board, steps) {
+        Ok(store) => store,
+        Err(why) => return Err(why),
     };
     let tables = match read_tables(alloc, files, &seal) {
         Ok(tables) => tables,

@@ -1,5 +1,8 @@
 //! Runs on a sealed store, over boards in memory.
-use crate::tests::{A, FILLS, P, call};
+use crate::store_tests::with_bytes;
+use crate::tests::{
+    A, FILLS, P, ZEROS, called, cut_in, joined, must, must_answer, must_at, must_behind,
+};
 use outside::{Fill, MemoryBoard};
 use std::alloc::Global;
 use std::test::Fail;
@@ -44,11 +47,17 @@ pub(crate) const HIRING: &str = "U 1767225600\nK H\nI 0 1\nI 20 117\nK S\nI 8 1\
 pub(crate) const HELD: &str =
     "U 1767225600\nK H\nI 0 1\nI 20 10\nD\nU 1767225660\nI 20 107\nK S\nI 8 1\nK C\nI 0 1\n";
 
-/// A board whose store was sealed with a tariff and parameters.
-pub(crate) fn sealed(alloc: Global, tariff: &str, params: &str) -> Result<MemoryBoard, Fail> {
-    let mut board = MemoryBoard::new(alloc, &[0; 2048], &[])?;
-    let _ = call(alloc, &["seal", "t", "p"], tariff, params, &[], &mut board)?;
-    Ok(MemoryBoard::new(alloc, board.image(), &[])?)
+/// The store that is sealed with a tariff and parameters.
+pub(crate) fn sealed(alloc: Global, tariff: &str, params: &str) -> Result<[u8; 2048], Fail> {
+    let (board, _) = called(
+        alloc,
+        &["seal", "t", "p"],
+        &[tariff, params],
+        &ZEROS,
+        &[],
+        &[],
+    )?;
+    Ok(*board.image())
 }
 
 /// The board after a run of a drive on a newly sealed store, and the status.
@@ -58,16 +67,31 @@ pub(crate) fn ran(
     params: &str,
     drive: &str,
 ) -> Result<(MemoryBoard, u8), Fail> {
-    let mut board = sealed(alloc, tariff, params)?;
-    let status = call(alloc, &RUN, tariff, drive, &[], &mut board)?;
-    Ok((board, status))
+    let image = sealed(alloc, tariff, params)?;
+    called(alloc, &RUN, &[tariff, drive], &image, &[], &[])
 }
 
-/// What `totals` prints over the store of a board.
-pub(crate) fn totals_of(alloc: Global, image: &[u8; 2048]) -> Result<MemoryBoard, Fail> {
-    let mut board = MemoryBoard::new(alloc, image, &[])?;
-    let _ = call(alloc, &["totals"], "", "", &[], &mut board)?;
-    Ok(board)
+/// Whether what `totals` prints of a store begins with this text.
+pub(crate) fn has_totals(alloc: Global, image: &[u8; 2048], start: &str) -> Result<bool, Fail> {
+    let (board, _) = called(alloc, &["totals"], &[], image, &[], &[])?;
+    Ok(board.printed().starts_with(start.as_bytes()))
+}
+
+/// The number that `totals` prints of a store, where it has one digit.
+fn number_of(alloc: Global, image: &[u8; 2048]) -> Result<u8, Fail> {
+    let (board, _) = called(alloc, &["totals"], &[], image, &[], &[])?;
+    match board.printed().strip_prefix(b"NUMBER ".as_slice()) {
+        Some(rest) => Ok(digit_of(rest)),
+        None => Err(Fail::new("no number")),
+    }
+}
+
+/// The digit that a line is, or 0.
+fn digit_of(line: &[u8]) -> u8 {
+    match line {
+        [digit, b'\n', ..] => digit.saturating_sub(b'0'),
+        _ => 0,
+    }
 }
 
 /// Whether a text is these pieces in a row.
@@ -263,80 +287,99 @@ pub(crate) const ROWS: [Row; 15] = [
     (A, P, "", &[], 0, "NUMBER 1\nDISTANCE 0.000 m\n"),
 ];
 
+/// Fails unless the run of a row goes as the row says.
+fn must_run(alloc: Global, row: &Row) -> Result<(), Fail> {
+    let (board, status) = ran(alloc, row.0, row.1, row.2)?;
+    must(status == row.4, "another status", row.2)?;
+    must(is_made_of(board.printed(), row.3), "another text", row.2)?;
+    must(
+        has_totals(alloc, board.image(), row.5)?,
+        "other totals",
+        row.2,
+    )
+}
+
 #[test]
 fn runs(rt: HostRuntime) -> Result<(), Fail> {
-    for (tariff, params, drive, pieces, status, totals) in ROWS {
-        let (board, ended) = ran(rt.alloc(), tariff, params, drive)?;
-        assert_eq!(rt; ended, status, "{drive}");
-        assert!(rt; is_made_of(board.printed(), pieces), "{drive}");
-        let after = totals_of(rt.alloc(), board.image())?;
-        assert!(rt; after.printed().starts_with(totals.as_bytes()), "{drive}");
+    for row in &ROWS {
+        must_run(rt.alloc(), row)?;
     }
     Ok(())
 }
 
 /// A trip through the city of 6 km with a minute of waiting and a piece of luggage: 51 display steps.
+const THROUGH_THE_CITY: &str =
+    "U 1772442000\nK H\nI 0 1\nI 0 600\nK E 1\nI 10 5999\nC 1772442660\nK S\nI 10 1\nK C\nI 0 1\n";
+
+/// The receipt of the trip through the city, and what follows it.
+const RECEIPT: [&str; 4] = [
+    "RECEIPT 2\nKIND CLOSED\n",
+    SEALED_CITY,
+    "START 2026-03-02 10:00:00\nFINISH 2026-03-02 10:11:00\nPOSITION 1\nDISTANCE 6000.000 m\n",
+    "CALC 4.20 + 51 x 0.20\nFARE 14.40\nSUPPLEMENTS 2.00\nTOTAL 16.40\nEND\nFOR HIRE T1 Z1\n",
+];
+
 #[test]
 fn a_trip_through_the_city(rt: HostRuntime) -> Result<(), Fail> {
-    let drive =
-        "U 1772442000\nK H\nI 0 1\nI 0 600\nK E 1\nI 10 5999\nC 1772442660\nK S\nI 10 1\nK C\nI 0 1\n";
-    let (board, ended) = ran(rt.alloc(), CITY, P, drive)?;
-    assert_eq!(rt; ended, 0);
-    let mut end = String::from_str(rt.alloc(), "RECEIPT 2\nKIND CLOSED\n")?;
-    end.push_str(SEALED_CITY)?;
-    end.push_str(
-        "START 2026-03-02 10:00:00\nFINISH 2026-03-02 10:11:00\nPOSITION 1\nDISTANCE 6000.000 m\n",
+    let (board, status) = ran(rt.alloc(), CITY, P, THROUGH_THE_CITY)?;
+    let end = joined(rt.alloc(), &RECEIPT)?;
+    must(status == 0, "another status", "city")?;
+    must(
+        board.printed().ends_with(end.as_bytes()),
+        "another receipt",
+        "city",
     )?;
-    end.push_str(
-        "CALC 4.20 + 51 x 0.20\nFARE 14.40\nSUPPLEMENTS 2.00\nTOTAL 16.40\nEND\nFOR HIRE T1 Z1\n",
-    )?;
-    assert!(rt; board.printed().ends_with(end.as_bytes()));
-    let after = totals_of(rt.alloc(), board.image())?;
     let totals =
-        b"NUMBER 2\nDISTANCE 6000.000 m\nHIRED 6000.000 m\nHIRINGS 1\nSUPPLEMENTS 2.00\nFARE 14.40\n";
-    assert!(rt; after.printed().starts_with(totals));
-    Ok(())
+        "NUMBER 2\nDISTANCE 6000.000 m\nHIRED 6000.000 m\nHIRINGS 1\nSUPPLEMENTS 2.00\nFARE 14.40\n";
+    must(
+        has_totals(rt.alloc(), board.image(), totals)?,
+        "other totals",
+        "city",
+    )
 }
 
-/// A held trip with two intervals left of the longest, and a key that waits at its end.
+/// A store with a held trip.
+fn held(alloc: Global) -> Result<[u8; 2048], Fail> {
+    let (board, _) = ran(alloc, A, P, "U 1767225600\nK H\nI 0 1\n")?;
+    Ok(*board.image())
+}
+
+/// Bytes of a held trip with two intervals left of the longest.
+const NEARLY_EXPIRED: [(usize, u8); 4] = [(625, 0x00), (626, 0x83), (627, 0xd5), (628, 0xfe)];
+
+/// What is printed of a trip that expires while a key waits.
+const EXPIRES: [&str; 5] = [
+    "HIRED T1 Z1 3.80 +0.00\nRECEIPT 3\nKIND EXPIRED\n",
+    SEALED,
+    "START 2026-01-01 01:00:00\nFINISH 2026-01-01 01:00:10\nPOSITION 1\nDISTANCE 0.000 m\n",
+    "CALC 3.80 + 0 x 0.20\nFARE 3.80\nSUPPLEMENTS 0.00\nTOTAL 3.80\nEND\n",
+    "REFUSED EXPIRED\nFOR HIRE T1 Z1\n",
+];
+
 #[test]
 fn a_trip_that_expires(rt: HostRuntime) -> Result<(), Fail> {
-    let (board, _) = ran(rt.alloc(), A, P, "U 1767225600\nK H\nI 0 1\n")?;
-    let mut image = *board.image();
-    for (place, byte) in [(625, 0x00), (626, 0x83), (627, 0xd5), (628, 0xfe)] {
-        image[place] = byte;
-    }
-    let mut board = MemoryBoard::new(rt.alloc(), &image, &[])?;
-    let drive = "U 1767225610\nI 0 1\nK S\nI 0 1\n";
-    assert_eq!(rt; call(rt.alloc(), &RUN, A, drive, &[], &mut board)?, 0);
-    let pieces = [
-        "HIRED T1 Z1 3.80 +0.00\nRECEIPT 3\nKIND EXPIRED\n",
-        SEALED,
-        "START 2026-01-01 01:00:00\nFINISH 2026-01-01 01:00:10\nPOSITION 1\nDISTANCE 0.000 m\n",
-        "CALC 3.80 + 0 x 0.20\nFARE 3.80\nSUPPLEMENTS 0.00\nTOTAL 3.80\nEND\n",
-        "REFUSED EXPIRED\nFOR HIRE T1 Z1\n",
-    ];
-    assert!(rt; is_made_of(board.printed(), &pieces));
-    Ok(())
+    let image = with_bytes(&held(rt.alloc())?, &NEARLY_EXPIRED);
+    let texts = [A, "U 1767225610\nI 0 1\nK S\nI 0 1\n"];
+    let (board, status) = called(rt.alloc(), &RUN, &texts, &image, &[], &[])?;
+    must(status == 0, "another status", "expired")?;
+    must(
+        is_made_of(board.printed(), &EXPIRES),
+        "another text",
+        "expired",
+    )
 }
 
-/// The same store, with the last number that a hiring may have, 10^15.
-fn ended(image: &[u8; 2048]) -> [u8; 2048] {
-    let mut ended = *image;
-    for (place, byte) in [
-        (1, 0x00),
-        (2, 0x03),
-        (3, 0x8d),
-        (4, 0x7e),
-        (5, 0xa4),
-        (6, 0xc6),
-        (7, 0x80),
-        (8, 0x00),
-    ] {
-        ended[place] = byte;
-    }
-    ended
-}
+/// The last number that a hiring may have, 10^15.
+const LAST_NUMBER: [(usize, u8); 8] = [
+    (1, 0x00),
+    (2, 0x03),
+    (3, 0x8d),
+    (4, 0x7e),
+    (5, 0xa4),
+    (6, 0xc6),
+    (7, 0x80),
+    (8, 0x00),
+];
 
 /// What is printed of a tariff without text beside a store that was sealed with A.
 const NO_TEXT: &str =
@@ -348,127 +391,136 @@ const NO_TEXT: &str =
 #[test]
 fn runs_that_write_nothing(rt: HostRuntime) -> Result<(), Fail> {
     let good = sealed(rt.alloc(), A, P)?;
-    for (image, tariff, drive, output, status) in [
-        ([0; 2048], A, HIRING, "NOT SEALED\n", 4),
-        (*good.image(), "", HIRING, NO_TEXT, 6),
-        (
-            ended(good.image()),
-            A,
-            "U 1767225600\nK H\nI 5 1\nI 0 1\n",
-            "FOR HIRE T1 Z1\nREFUSED ENDED\n",
-            0,
-        ),
-    ] {
-        let mut board = MemoryBoard::new(rt.alloc(), &image, &[])?;
-        assert_eq!(rt;
-            call(rt.alloc(), &RUN, tariff, drive, &[], &mut board)?,
-            status,
-            "{output}"
-        );
-        assert_eq!(rt; board.printed(), output.as_bytes());
-        assert!(rt; *board.image() == image);
-    }
-    Ok(())
+    let ended = with_bytes(&good, &LAST_NUMBER);
+    let drive = "U 1767225600\nK H\nI 5 1\nI 0 1\n";
+    let output = "FOR HIRE T1 Z1\nREFUSED ENDED\n";
+    must_answer(
+        rt.alloc(),
+        "blank",
+        &RUN,
+        &[A, HIRING],
+        &ZEROS,
+        "NOT SEALED\n",
+        4,
+    )?;
+    must_answer(
+        rt.alloc(),
+        "no text",
+        &RUN,
+        &["", HIRING],
+        &good,
+        NO_TEXT,
+        6,
+    )?;
+    must_answer(rt.alloc(), "ended", &RUN, &[A, drive], &ended, output, 0)
 }
 
 /// A held trip of a position that its tariff hasn't.
 #[test]
 fn a_trip_that_does_not_fit(rt: HostRuntime) -> Result<(), Fail> {
-    let (board, _) = ran(rt.alloc(), A, P, "U 1767225600\nK H\nI 0 1\n")?;
-    let mut image = *board.image();
-    assert_eq!(rt; (image[512], image[593], image[611]), (0xa5, 1, 1));
-    image[611] = 2;
-    let mut board = MemoryBoard::new(rt.alloc(), &image, &[])?;
-    assert_eq!(rt; call(rt.alloc(), &RUN, A, HIRING, &[], &mut board)?, 5);
-    assert_eq!(rt; board.printed(), b"BAD STORE TRIP\n".as_slice());
-    assert!(rt; *board.image() == image);
-    Ok(())
+    let held = held(rt.alloc())?;
+    let image = with_bytes(&held, &[(611, 2)]);
+    must(
+        (held[512], held[593], held[611]) == (0xa5, 1, 1),
+        "another store",
+        "held",
+    )?;
+    must_answer(
+        rt.alloc(),
+        "position 2",
+        &RUN,
+        &[A, HIRING],
+        &image,
+        "BAD STORE TRIP\n",
+        5,
+    )
 }
 
-/// Each read of a file that fails: reads 1 and 2 are the tariff's, 3 and 4 the drive's.
+/// The read that fails, the output, and how the totals begin behind it. Reads 1 and 2 are the tariff's, 3 and 4 the
+/// drive's.
+const READS: [(u64, &str, &str); 4] = [
+    (1, "READ FAULT\n", "NUMBER 1\n"),
+    (2, "READ FAULT\n", "NUMBER 1\n"),
+    (3, "READ FAULT\n", "NUMBER 1\n"),
+    (
+        4,
+        "FOR HIRE T1 Z1\nHIRED T1 Z1 3.80 +0.00\nREAD FAULT\n",
+        "NUMBER 2\n",
+    ),
+];
+
 #[test]
 fn failing_reads(rt: HostRuntime) -> Result<(), Fail> {
-    for (read, output, number) in [
-        (1, "READ FAULT\n", "NUMBER 1\n"),
-        (2, "READ FAULT\n", "NUMBER 1\n"),
-        (3, "READ FAULT\n", "NUMBER 1\n"),
-        (
-            4,
-            "FOR HIRE T1 Z1\nHIRED T1 Z1 3.80 +0.00\nREAD FAULT\n",
-            "NUMBER 2\n",
-        ),
-    ] {
-        let mut board = sealed(rt.alloc(), A, P)?;
-        let drive = "U 1767225600\nK H\nI 0 1\n";
-        assert_eq!(rt;
-            call(rt.alloc(), &RUN, A, drive, &[read], &mut board)?,
-            7,
-            "{read}"
-        );
-        assert_eq!(rt; board.printed(), output.as_bytes(), "{read}");
-        let after = totals_of(rt.alloc(), board.image())?;
-        assert!(rt; after.printed().starts_with(number.as_bytes()), "{read}");
+    let image = sealed(rt.alloc(), A, P)?;
+    let texts = [A, "U 1767225600\nK H\nI 0 1\n"];
+    for &(read, output, number) in &READS {
+        let ended = called(rt.alloc(), &RUN, &texts, &image, &[], &[read])?;
+        let is_printed = ended.1 == 7 && ended.0.printed() == output.as_bytes();
+        must_at(is_printed, "another answer at read", read)?;
+        must_at(
+            has_totals(rt.alloc(), ended.0.image(), number)?,
+            "other totals at read",
+            read,
+        )?;
     }
     Ok(())
 }
 
-/// Each call of the board that fails in a run with a loss of supply: what was printed begins what the whole
-/// run prints, and the next start finds a number of the run.
+/// Fails unless a run in which this call of the board fails has printed a beginning of what the whole run prints, and
+/// the next start finds a number of the run.
+fn must_begin(
+    alloc: Global,
+    whole: &MemoryBoard,
+    image: &[u8; 2048],
+    failed: u64,
+) -> Result<(), Fail> {
+    let (board, status) = called(alloc, &RUN, &[A, HELD], image, &[failed], &[])?;
+    must_at(status == 8, "another status at call", failed)?;
+    must_at(
+        whole.printed().starts_with(board.printed()),
+        "another text at call",
+        failed,
+    )?;
+    let number = number_of(alloc, &cut_in(&board, board.calls(), Fill::New))?;
+    must_at(1 <= number && number <= 3, "another number at call", failed)
+}
+
+/// Each call of the board that fails in a run with a loss of supply.
 #[test]
 fn failing_boards(rt: HostRuntime) -> Result<(), Fail> {
-    let (whole, status) = ran(rt.alloc(), A, P, HELD)?;
-    assert_eq!(rt; (status, whole.calls()), (0, 28));
+    let image = sealed(rt.alloc(), A, P)?;
+    let (whole, status) = called(rt.alloc(), &RUN, &[A, HELD], &image, &[], &[])?;
+    assert!(rt; (status, whole.calls()) == (0, 28));
     for failed in 1..=28 {
-        let start = sealed(rt.alloc(), A, P)?;
-        let mut board = MemoryBoard::new(rt.alloc(), start.image(), &[failed])?;
-        assert_eq!(rt;
-            call(rt.alloc(), &RUN, A, HELD, &[], &mut board)?,
-            8,
-            "{failed}"
-        );
-        assert!(rt; whole.printed().starts_with(board.printed()), "{failed}");
-        let last = board.calls();
-        let after = totals_of(rt.alloc(), &board.cut(last, Fill::New))?;
-        let text = after.printed();
-        assert!(rt;
-            text.starts_with(b"NUMBER 1\n")
-                || text.starts_with(b"NUMBER 2\n")
-                || text.starts_with(b"NUMBER 3\n"),
-            "{failed}"
-        );
+        must_begin(rt.alloc(), &whole, &image, failed)?;
     }
     Ok(())
 }
 
-/// A cut in each call of a run with a loss of supply. Calls 12 to 15 commit the held trip, 21 to 26 the entry
-/// over it, of which 25 and 26 open its slot; call 27 prints the receipt, and is there only beside its entry.
+/// The least number, and the greatest, that a cut in a call of the run may leave. Calls 12 to 15 commit the held
+/// trip, 21 to 26 the entry over it, of which 25 and 26 open its slot; call 27 prints the receipt, and is there only
+/// beside its entry.
+fn numbers_at(call: u64) -> (u8, u8) {
+    match call {
+        0..=13 => (1, 1),
+        14..=15 => (1, 2),
+        16..=24 => (2, 2),
+        25..=26 => (2, 3),
+        _ => (3, 3),
+    }
+}
+
+/// A cut in each call of a run with a loss of supply.
 #[test]
 fn cuts_through_a_run(rt: HostRuntime) -> Result<(), Fail> {
     let (board, status) = ran(rt.alloc(), A, P, HELD)?;
-    assert_eq!(rt; (status, board.calls()), (0, 28));
+    assert!(rt; (status, board.calls()) == (0, 28));
     for number in 1..=28 {
-        let least = if number < 16 {
-            1
-        } else if number < 27 {
-            2
-        } else {
-            3
-        };
-        let most = if number < 14 {
-            1
-        } else if number < 25 {
-            2
-        } else {
-            3
-        };
-        for fill in FILLS {
-            let after = totals_of(rt.alloc(), &board.cut(number, fill))?;
-            let found = match after.printed().get(7) {
-                Some(digit) => digit.saturating_sub(b'0'),
-                None => 0,
-            };
-            assert!(rt; after.printed().starts_with(b"NUMBER "), "{number}");
-            assert!(rt; least <= found && found <= most, "{number}: {found}");
+        let (least, most) = numbers_at(number);
+        for fill in &FILLS {
+            let found = number_of(rt.alloc(), &cut_in(&board, number, *fill))?;
+            let is_within = least <= found && found <= most;
+            must_behind(is_within, "another number", number, *fill)?;
         }
     }
     Ok(())

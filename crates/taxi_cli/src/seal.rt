@@ -8,8 +8,10 @@ ghost use Rattle.seal_store.specs.Sealing.{found_number, next_number, seal_found
 ghost use Rattle.taxi_cli.specs.Call.{HasReadFault};
 ghost use Rattle.taxi_cli.specs.Ending.{ComesOn};
 ghost use Rattle.taxi_cli.specs.LastLine.{status_of};
-ghost use Rattle.taxi_cli.specs.Opening.{IsSoundOpening, opening_of};
-ghost use Rattle.taxi_cli.specs.Seal.{IsNoSeal, IsNoTariff, IsTariffWith, RestsAmid, Seals};
+ghost use Rattle.taxi_cli.specs.Opening.{opening_of};
+ghost use Rattle.taxi_cli.specs.Opened.{IsSoundOpening};
+ghost use Rattle.taxi_cli.specs.Seal.{Seals};
+ghost use Rattle.taxi_cli.specs.SealSteps.{IsNoSeal, IsNoTariff, IsTariffWith, RestsAmid};
 ghost use Rattle.taxi_cli.specs.Seal.{seal_command, seal_read, sealing_of};
 ghost use Rattle.taxi_cli.specs.Seal as spec;
 ghost use Rattle.taxi_cli.specs.Unwritten.{KeepsBytes};

@@ -1,6 +1,8 @@
 //! Sealings, over boards in memory.
-use crate::store_tests::{SECOND_LAYOUT, SUMMARY, image_of};
-use crate::tests::{A, FILLS, P, call};
+use crate::store_tests::{SECOND_LAYOUT, SUMMARY, image_of, with_bytes};
+use crate::tests::{
+    A, FILLS, P, ZEROS, call, called, cut_in, joined, must, must_answer, must_behind,
+};
 use outside::{Fill, MemoryBoard};
 use std::alloc::Global;
 use std::test::Fail;
@@ -46,43 +48,48 @@ const DIGEST: [u8; 32] = [
 
 /// Whether an image is zeros but for the bytes of a first sealing.
 fn is_first_sealing(image: &[u8; 2048]) -> bool {
-    let mut wanted = [0u8; 2048];
-    for (place, byte) in SEALED {
-        if let Some(here) = wanted.get_mut(place) {
-            *here = byte;
-        }
-    }
-    for (place, byte) in DIGEST.iter().enumerate() {
-        if let Some(here) = wanted.get_mut(1056 + place) {
-            *here = *byte;
-        }
-    }
+    let mut wanted = with_bytes(&ZEROS, &SEALED);
+    wanted[1056..1088].copy_from_slice(&DIGEST);
     *image == wanted
 }
 
 #[test]
 fn sealing_a_store_of_zeros(rt: HostRuntime) -> Result<(), Fail> {
-    let mut board = MemoryBoard::new(rt.alloc(), &[0; 2048], &[])?;
-    for first in [true, false] {
-        assert_eq!(rt; call(rt.alloc(), &WORDS, A, P, &[], &mut board)?, 0);
-        assert_eq!(rt; is_first_sealing(board.image()), first);
-        assert!(rt; board.image().starts_with(&[0xa5, 0, 0, 0, 0, 0, 0, 0, 1]));
+    let mut board = MemoryBoard::new(rt.alloc(), &ZEROS, &[])?;
+    for (name, first) in [("sealing 1", true), ("sealing 2", false)] {
+        let status = call(rt.alloc(), &WORDS, &[A, P], &[], &mut board)?;
+        must(
+            status == 0 && is_first_sealing(board.image()) == first,
+            "another store",
+            name,
+        )?;
+        must(
+            board.image().starts_with(&[0xa5, 0, 0, 0, 0, 0, 0, 0, 1]),
+            "other totals",
+            name,
+        )?;
     }
-    assert_eq!(rt; board.printed(), b"SEALED 1\nSEALED 2\n".as_slice());
-    Ok(())
+    must(
+        board.printed() == b"SEALED 1\nSEALED 2\n".as_slice(),
+        "another text",
+        "sealed",
+    )
 }
 
 #[test]
 fn sealing_over_totals(rt: HostRuntime) -> Result<(), Fail> {
     let mut board = MemoryBoard::new(rt.alloc(), &image_of(&SECOND_LAYOUT), &[])?;
-    for words in [WORDS.as_slice(), &["totals"]] {
-        assert_eq!(rt; call(rt.alloc(), words, A, P, &[], &mut board)?, 0);
-    }
-    let mut output = String::from_str(rt.alloc(), "SEALED 2\n")?;
-    output.push_str(SUMMARY)?;
-    output.push_str("LAYOUT 2\nBEFORE 0 0.00\nPOSITION 1 1 3.80\n")?;
-    assert_eq!(rt; board.printed(), output.as_bytes());
-    Ok(())
+    let sealed = call(rt.alloc(), &WORDS, &[A, P], &[], &mut board)?;
+    must(sealed == 0, "another status", "a sealing")?;
+    let status = call(rt.alloc(), &["totals"], &[], &[], &mut board)?;
+    must(status == 0, "another status", "totals")?;
+    let rest = "LAYOUT 2\nBEFORE 0 0.00\nPOSITION 1 1 3.80\n";
+    let output = joined(rt.alloc(), &["SEALED 2\n", SUMMARY, rest])?;
+    must(
+        board.printed() == output.as_bytes(),
+        "another text",
+        "totals",
+    )
 }
 
 /// Texts that are refused over the sealed store, and the answers.
@@ -117,15 +124,16 @@ const REFUSED: [(&str, &str, &str, u8); 5] = [
 #[test]
 fn refused_sealings(rt: HostRuntime) -> Result<(), Fail> {
     let image = image_of(&SECOND_LAYOUT);
-    for (tariff, params, output, status) in REFUSED {
-        let mut board = MemoryBoard::new(rt.alloc(), &image, &[])?;
-        assert_eq!(rt;
-            call(rt.alloc(), &WORDS, tariff, params, &[], &mut board)?,
+    for &(tariff, params, output, status) in &REFUSED {
+        must_answer(
+            rt.alloc(),
+            output,
+            &WORDS,
+            &[tariff, params],
+            &image,
+            output,
             status,
-            "{output}"
-        );
-        assert_eq!(rt; board.printed(), output.as_bytes());
-        assert!(rt; *board.image() == image);
+        )?;
     }
     Ok(())
 }
@@ -164,22 +172,26 @@ const LAST: [(usize, u8); 10] = [
 
 #[test]
 fn stores_that_are_not_sealed(rt: HostRuntime) -> Result<(), Fail> {
-    let mut last = image_of(&LAST);
-    last[1032] = 0;
-    last[1535] = 1;
-    let mut held = image_of(&HELD);
-    held[1535] = 1;
-    for (image, output, status) in [(held, "TRIP HELD\n", 13), (last, "SEAL ENDED\n", 14)] {
-        let mut board = MemoryBoard::new(rt.alloc(), &image, &[])?;
-        assert_eq!(rt;
-            call(rt.alloc(), &WORDS, A, P, &[], &mut board)?,
-            status,
-            "{output}"
-        );
-        assert_eq!(rt; board.printed(), output.as_bytes());
-        assert!(rt; *board.image() == image);
-    }
-    Ok(())
+    let last = with_bytes(&image_of(&LAST), &[(1032, 0), (1535, 1)]);
+    let held = with_bytes(&image_of(&HELD), &[(1535, 1)]);
+    must_answer(
+        rt.alloc(),
+        "held",
+        &WORDS,
+        &[A, P],
+        &held,
+        "TRIP HELD\n",
+        13,
+    )?;
+    must_answer(
+        rt.alloc(),
+        "last",
+        &WORDS,
+        &[A, P],
+        &last,
+        "SEAL ENDED\n",
+        14,
+    )
 }
 
 /// What a call of these words prints over what a cut in a sealing left, and its status.
@@ -190,51 +202,68 @@ fn call_after_cut(
     number: u64,
     fill: Fill,
 ) -> Result<(MemoryBoard, u8), Fail> {
-    let last = number.min(sealed.calls());
-    let mut board = MemoryBoard::new(alloc, &sealed.cut(last, fill), &[])?;
-    let status = call(alloc, words, A, P, &[], &mut board)?;
-    Ok((board, status))
+    called(
+        alloc,
+        words,
+        &[A, P],
+        &cut_in(sealed, number, fill),
+        &[],
+        &[],
+    )
 }
 
-/// A cut in each call of a first sealing, of which call 7 is the first write, and calls 13 and 14 write and
-/// sync the gate of the seal: there are no totals, or totals of nothing, and the seal only beside totals.
+/// Fails unless `totals` finds no totals over a cut in this call of a first sealing, or totals of nothing, and the seal
+/// only beside totals. Call 7 is the first write, and calls 13 and 14 write and sync the gate of the seal.
+fn must_be_cut(alloc: Global, sealed: &MemoryBoard, number: u64, fill: Fill) -> Result<(), Fail> {
+    let (board, status) = call_after_cut(alloc, &["totals"], sealed, number, fill)?;
+    if status == 4 {
+        let is_blank = number < 15 && board.printed() == b"NOT SEALED\n".as_slice();
+        return must_behind(is_blank, "no totals", number, fill);
+    }
+    let has_totals = status == 0 && number >= 13 && board.printed().starts_with(b"NUMBER 1\n");
+    must_behind(has_totals, "other totals", number, fill)
+}
+
+/// A cut in each call of a first sealing.
 #[test]
 fn cuts_through_a_first_sealing(rt: HostRuntime) -> Result<(), Fail> {
-    let mut sealed = MemoryBoard::new(rt.alloc(), &[0; 2048], &[])?;
-    assert_eq!(rt; call(rt.alloc(), &WORDS, A, P, &[], &mut sealed)?, 0);
+    let (sealed, status) = called(rt.alloc(), &WORDS, &[A, P], &ZEROS, &[], &[])?;
+    must(status == 0, "another status", "sealed")?;
     for number in 1..=sealed.calls() {
-        for fill in FILLS {
-            let (board, status) = call_after_cut(rt.alloc(), &["totals"], &sealed, number, fill)?;
-            if number < 13 {
-                assert_eq!(rt; board.printed(), b"NOT SEALED\n".as_slice(), "{number}");
-            } else {
-                assert!(rt; status == 0 || number < 15 && status == 4, "{number}");
-                assert!(rt; status == 4 || board.printed().starts_with(b"NUMBER 1\n"));
-            }
+        for fill in &FILLS {
+            must_be_cut(rt.alloc(), &sealed, number, *fill)?;
         }
     }
     Ok(())
 }
 
-/// A cut in each call of a sealing over totals and a seal: the totals stay, and the next seal has the
+/// Fails unless another sealing over a cut in this call of a sealing leaves the totals, and gives the next seal the
 /// number after the old one's or the new one's.
+fn must_be_sealed(
+    alloc: Global,
+    sealed: &MemoryBoard,
+    image: &[u8; 2048],
+    number: u64,
+    fill: Fill,
+) -> Result<(), Fail> {
+    let (board, status) = call_after_cut(alloc, &WORDS, sealed, number, fill)?;
+    let stays = status == 0 && board.image()[..1024] == image[..1024];
+    must_behind(stays, "other totals", number, fill)?;
+    let old = board.printed() == b"SEALED 2\n".as_slice();
+    let new = board.printed() == b"SEALED 3\n".as_slice();
+    let is_found = (old && number < 11) || (new && 8 < number);
+    must_behind(is_found, "another number", number, fill)
+}
+
+/// A cut in each call of a sealing over totals and a seal.
 #[test]
 fn cuts_through_a_second_sealing(rt: HostRuntime) -> Result<(), Fail> {
     let image = image_of(&SECOND_LAYOUT);
-    let mut sealed = MemoryBoard::new(rt.alloc(), &image, &[])?;
-    assert_eq!(rt; call(rt.alloc(), &WORDS, A, P, &[], &mut sealed)?, 0);
+    let (sealed, status) = called(rt.alloc(), &WORDS, &[A, P], &image, &[], &[])?;
+    must(status == 0, "another status", "sealed")?;
     for number in 1..=sealed.calls() {
-        for fill in FILLS {
-            let (board, status) = call_after_cut(rt.alloc(), &WORDS, &sealed, number, fill)?;
-            assert_eq!(rt; status, 0, "{number}");
-            assert_eq!(rt;
-                board.image().split_at(1024).0,
-                image.split_at(1024).0,
-                "{number}"
-            );
-            let old = board.printed() == b"SEALED 2\n".as_slice();
-            let new = board.printed() == b"SEALED 3\n".as_slice();
-            assert!(rt; old && number < 11 || new && 8 < number, "{number}");
+        for fill in &FILLS {
+            must_be_sealed(rt.alloc(), &sealed, &image, number, *fill)?;
         }
     }
     Ok(())

@@ -3,14 +3,14 @@ ghost use Rattle.std.specs.Prelude.{◌≡◌, ◌≢◌, ℕ, ◌+◌, ◌*◌,
 ghost use Rattle.outside.specs.Faults.{Rose};
 ghost use Rattle.shift_book.specs.BookReading.{book_read};
 ghost use Rattle.taxi_cli.specs.Answer.{shows};
-ghost use Rattle.taxi_cli.specs.Ending.{ComesOn, LooksAt};
-ghost use Rattle.taxi_cli.specs.Shifts.{ended_for_book, ended_for_report, reported, shifts_command};
-ghost use Rattle.taxi_cli.specs.Unwritten.{KeepsBytes};
+ghost use Rattle.taxi_cli.specs.Ending.{ComesOn, HasCauseOn, OnlyLooksAt, ended_for_report};
+ghost use Rattle.taxi_cli.specs.Opening.{opening_of, store_of};
+ghost use Rattle.taxi_cli.specs.Pieces.{pieces_of};
+ghost use Rattle.taxi_cli.specs.Shifts.{ended_for_book, reported, shifts_answer, shifts_command};
 
-use crate::ending::{Ended, refused_store};
-use crate::opening::open_store;
+use crate::ending::Ended;
 use crate::pieces::print_text;
-use crate::totals::sealed_totals;
+use crate::sealed::open_sealed;
 use outside::{Board, Files, TextFault, read_text};
 use shift_book::{BookFault, read_book, shifts};
 use std::alloc::Global;
@@ -43,23 +43,19 @@ pub fn print_shifts<F: Files, B: Board<L>, L: Ledger>(
     ensures ends { F.tells → B.tells_image
         → ComesOn F.Files B.Board shifts_command files.old files.new board.old board.new result }
     ensures read_fault { result ≡ Ended.ReadFault → Rose (F.faults files.old 1) (F.faults files.new 1) }
-    ensures board_fault { result ≡ Ended.BoardFault → Rose (B.faults board.old) (B.faults board.new) }
+    ensures cause { HasCauseOn B.Board board.old board.new result }
     ensures others { (other : ℕ) → other ≢ 1 → F.rest files.new other ≡ F.rest files.old other }
-    ensures count { B.faults board.old ≤ B.faults board.new }
     ensures counts { (other : ℕ) → F.faults files.old other ≤ F.faults files.new other }
-    ensures steps { F.tells → steps.new ≤ steps.old + 64 + 2 * length (F.rest files.old 1) }
-    ensures store { KeepsBytes B.Board board.old board.new }
-    ensures same { result ≢ Ended.BoardFault → B.image board.new ≡ B.image board.old }
-    ensures looks { B.tells_image → LooksAt B.Board board.old board.new result }
+    ensures by_report { F.tells → B.tells_image → steps.new ≤ steps.old + 6 + pieces_of (length (shifts_answer
+        (store_of (opening_of (B.image board.old))) (F.rest files.old 1)).shown) }
+    ensures by_book { F.tells → steps.new ≤ steps.old + 64 + 2 * length (F.rest files.old 1) }
+    ensures looks { OnlyLooksAt B.Board board.old board.new result }
 {
-    let opening = match open_store(board, steps) {
-        Ok(opening) => opening,
-        Err(fault) => return refused_store(fault),
+    let store = match open_sealed(board, steps) {
+        Ok(store) => store,
+        Err(why) => return why,
     };
-    let Some((now, decimals)) = sealed_totals(opening) else {
-        return Ended::NotSealed;
-    };
-    let report = match report_of_word(alloc, files, 1, &now, decimals) {
+    let report = match report_of_word(alloc, files, 1, &store.0, store.1.decimals) {
         Ok(report) => report,
         Err(fault) => return refused_report(fault),
     };

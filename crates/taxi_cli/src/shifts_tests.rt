@@ -1,7 +1,10 @@
 //! Marks and reports, over files and boards in memory.
 use crate::run_tests::{HIRING, RUN, ran, sealed};
 use crate::store_tests::{SECOND_LAYOUT, image_of};
-use crate::tests::{A, FILLS, P, call};
+use crate::tests::{
+    A, FILLS, P, ZEROS, called, cut_in, joined, must, must_answer, must_answer_amid, must_behind,
+    repeated,
+};
 use outside::{Fill, MemoryBoard};
 use std::alloc::Global;
 use std::test::Fail;
@@ -20,22 +23,12 @@ const SHARED: &str =
     "SHIFT 1 ANNA 1 234.800 234.800 3.80 0.00\nDRIVER ANNA 1 234.800 234.800 3.80 0.00\n\
      UNSIGNED 0 0.000 0.000 0.00 0.00\nGROWTH 1 234.800 234.800 3.80 0.00\n";
 
+const SHIFTS: [&str; 2] = ["shifts", "b"];
+
 /// The report of a shift in which nothing grew.
 const NOTHING_SHARED: &str =
     "SHIFT 1 ANNA 0 0.000 0.000 0.00 0.00\nDRIVER ANNA 0 0.000 0.000 0.00 0.00\n\
      UNSIGNED 0 0.000 0.000 0.00 0.00\nGROWTH 0 0.000 0.000 0.00 0.00\n";
-
-/// The board after a call over an image, and the status. The file of word 1 has the book.
-fn called(
-    alloc: Global,
-    words: &[&str],
-    book: &str,
-    image: &[u8; 2048],
-) -> Result<(MemoryBoard, u8), Fail> {
-    let mut board = MemoryBoard::new(alloc, image, &[])?;
-    let status = call(alloc, words, book, "", &[], &mut board)?;
-    Ok((board, status))
-}
 
 /// Words over a store of one hiring, their output and status.
 const MARKS: [(&[&str], &str, u8); 14] = [
@@ -66,11 +59,8 @@ const MARKS: [(&[&str], &str, u8); 14] = [
 #[test]
 fn marks(rt: HostRuntime) -> Result<(), Fail> {
     let image = image_of(&SECOND_LAYOUT);
-    for (words, output, status) in MARKS {
-        let (board, ended) = called(rt.alloc(), words, "", &image)?;
-        assert_eq!(rt; ended, status, "{output}");
-        assert_eq!(rt; board.printed(), output.as_bytes());
-        assert!(rt; *board.image() == image);
+    for &(words, output, status) in &MARKS {
+        must_answer(rt.alloc(), output, words, &[""], &image, output, status)?;
     }
     Ok(())
 }
@@ -78,19 +68,36 @@ fn marks(rt: HostRuntime) -> Result<(), Fail> {
 /// A seal whose body isn't read.
 const BAD_SEAL: [(usize, u8); 5] = [(196, 1), (211, 0x01), (212, 0x7c), (511, 2), (1535, 2)];
 
+/// Words of the commands that open the store.
+const OPENING: [&[&str]; 2] = [&["mark", "off"], &SHIFTS];
+
 /// Stores that are refused, before the book is read.
 #[test]
 fn stores_without_marks(rt: HostRuntime) -> Result<(), Fail> {
-    for words in [&["mark", "off"], &["shifts", "b"]] {
-        for (image, output, status) in [
-            ([0; 2048], "NOT SEALED\n", 4),
-            (image_of(&BAD_SEAL), "BAD STORE 2\n", 5),
-        ] {
-            let mut board = MemoryBoard::new(rt.alloc(), &image, &[])?;
-            let ended = call(rt.alloc(), words, SHIFT, "", &[1], &mut board)?;
-            assert_eq!(rt; ended, status, "{output}");
-            assert_eq!(rt; board.printed(), output.as_bytes());
-        }
+    let bad = image_of(&BAD_SEAL);
+    for words in &OPENING {
+        must_answer_amid(
+            rt.alloc(),
+            "blank",
+            words,
+            &[SHIFT],
+            &ZEROS,
+            &[],
+            &[1],
+            "NOT SEALED\n",
+            4,
+        )?;
+        must_answer_amid(
+            rt.alloc(),
+            "bad",
+            words,
+            &[SHIFT],
+            &bad,
+            &[],
+            &[1],
+            "BAD STORE 2\n",
+            5,
+        )?;
     }
     Ok(())
 }
@@ -144,11 +151,8 @@ const BOOKS: [(&str, &str, u8); 14] = [
 #[test]
 fn reports(rt: HostRuntime) -> Result<(), Fail> {
     let image = image_of(&SECOND_LAYOUT);
-    for (book, output, status) in BOOKS {
-        let (board, ended) = called(rt.alloc(), &["shifts", "b"], book, &image)?;
-        assert_eq!(rt; ended, status, "{book}");
-        assert_eq!(rt; board.printed(), output.as_bytes(), "{book}");
-        assert!(rt; *board.image() == image);
+    for &(book, output, status) in &BOOKS {
+        must_answer(rt.alloc(), book, &SHIFTS, &[book], &image, output, status)?;
     }
     Ok(())
 }
@@ -158,17 +162,24 @@ fn reports(rt: HostRuntime) -> Result<(), Fail> {
 fn the_longest_books(rt: HostRuntime) -> Result<(), Fail> {
     let image = image_of(&SECOND_LAYOUT);
     for (size, output) in [
-        (1_048_576, "BAD BOOK 2\n"),
+        (1_048_576usize, "BAD BOOK 2\n"),
         (1_048_577, "BAD BOOK TOO LONG\n"),
     ] {
-        let mut book = String::from_str(rt.alloc(), SHIFT)?;
-        book.truncate(ON_AT_FIRST.len());
-        for _ in ON_AT_FIRST.len()..size {
-            book.push('x')?;
-        }
-        let (board, ended) = called(rt.alloc(), &["shifts", "b"], book.as_str(), &image)?;
-        assert_eq!(rt; ended, 18, "{size}");
-        assert_eq!(rt; board.printed(), output.as_bytes());
+        let book = repeated(
+            rt.alloc(),
+            ON_AT_FIRST,
+            "x",
+            size.saturating_sub(ON_AT_FIRST.len()),
+        )?;
+        must_answer(
+            rt.alloc(),
+            output,
+            &SHIFTS,
+            &[book.as_str()],
+            &image,
+            output,
+            18,
+        )?;
     }
     Ok(())
 }
@@ -178,10 +189,17 @@ fn the_longest_books(rt: HostRuntime) -> Result<(), Fail> {
 fn books_that_are_not_read(rt: HostRuntime) -> Result<(), Fail> {
     let image = image_of(&SECOND_LAYOUT);
     for read in [1, 2] {
-        let mut board = MemoryBoard::new(rt.alloc(), &image, &[])?;
-        let ended = call(rt.alloc(), &["shifts", "b"], SHIFT, "", &[read], &mut board)?;
-        assert_eq!(rt; ended, 7, "{read}");
-        assert_eq!(rt; board.printed(), b"READ FAULT\n".as_slice());
+        must_answer_amid(
+            rt.alloc(),
+            "a read",
+            &SHIFTS,
+            &[SHIFT],
+            &image,
+            &[],
+            &[read],
+            "READ FAULT\n",
+            7,
+        )?;
     }
     Ok(())
 }
@@ -191,13 +209,19 @@ fn books_that_are_not_read(rt: HostRuntime) -> Result<(), Fail> {
 #[test]
 fn boards_that_fail(rt: HostRuntime) -> Result<(), Fail> {
     let image = image_of(&SECOND_LAYOUT);
-    for words in [&["mark", "off"], &["shifts", "b"]] {
+    for words in &OPENING {
         for failed in 1..=7 {
-            let mut board = MemoryBoard::new(rt.alloc(), &image, &[failed])?;
-            let ended = call(rt.alloc(), words, SHIFT, "", &[], &mut board)?;
-            assert_eq!(rt; ended, 8, "{failed}");
-            assert_eq!(rt; board.printed(), b"".as_slice());
-            assert!(rt; *board.image() == image);
+            must_answer_amid(
+                rt.alloc(),
+                "a call",
+                words,
+                &[SHIFT],
+                &image,
+                &[failed],
+                &[],
+                "",
+                8,
+            )?;
         }
     }
     Ok(())
@@ -207,38 +231,28 @@ fn boards_that_fail(rt: HostRuntime) -> Result<(), Fail> {
 #[test]
 fn a_report_in_pieces(rt: HostRuntime) -> Result<(), Fail> {
     let image = image_of(&SECOND_LAYOUT);
-    let mut book = String::new(rt.alloc());
-    for _ in 0..14 {
-        book.push_str("ON ANNA 1 0 0 0 0 0\nOFF 1 0 0 0 0 0\n")?;
-    }
-    let (whole, status) = called(rt.alloc(), &["shifts", "b"], book.as_str(), &image)?;
-    assert_eq!(rt; (status, whole.calls()), (0, 8));
-    let mut board = MemoryBoard::new(rt.alloc(), &image, &[8])?;
-    let ended = call(
-        rt.alloc(),
-        &["shifts", "b"],
-        book.as_str(),
-        "",
-        &[],
-        &mut board,
+    let book = repeated(rt.alloc(), "", "ON ANNA 1 0 0 0 0 0\nOFF 1 0 0 0 0 0\n", 14)?;
+    let texts = [book.as_str()];
+    let (whole, status) = called(rt.alloc(), &SHIFTS, &texts, &image, &[], &[])?;
+    must((status, whole.calls()) == (0, 8), "other pieces", "whole")?;
+    let (board, status) = called(rt.alloc(), &SHIFTS, &texts, &image, &[8], &[])?;
+    must(
+        (status, board.printed().len()) == (8, 512),
+        "other pieces",
+        "broken off",
     )?;
-    assert_eq!(rt; (ended, board.printed().len()), (8, 512));
-    assert!(rt; whole.printed().starts_with(board.printed()));
-    Ok(())
+    must(
+        whole.printed().starts_with(board.printed()),
+        "another text",
+        "broken off",
+    )
 }
 
-/// The store of a board that was sealed and ran a hiring, and then roamed 100 km.
+/// The store that was sealed and ran a hiring, and then roamed 100 km.
 fn after_roaming(alloc: Global) -> Result<[u8; 2048], Fail> {
     let (board, _) = ran(alloc, A, P, HIRING)?;
-    let mut board = MemoryBoard::new(alloc, board.image(), &[])?;
-    let _ = call(
-        alloc,
-        &RUN,
-        A,
-        "U 1767225600\nI 2000 500\n",
-        &[],
-        &mut board,
-    )?;
+    let texts = [A, "U 1767225600\nI 2000 500\n"];
+    let (board, _) = called(alloc, &RUN, &texts, board.image(), &[], &[])?;
     Ok(*board.image())
 }
 
@@ -246,45 +260,53 @@ fn after_roaming(alloc: Global) -> Result<[u8; 2048], Fail> {
 #[test]
 fn roaming_behind_a_shift(rt: HostRuntime) -> Result<(), Fail> {
     let image = after_roaming(rt.alloc())?;
-    let (board, ended) = called(rt.alloc(), &["shifts", "b"], SHIFT, &image)?;
-    assert_eq!(rt; ended, 0);
     let output =
         "SHIFT 1 ANNA 1 234.800 234.800 3.80 0.00\nDRIVER ANNA 1 234.800 234.800 3.80 0.00\n\
          UNSIGNED 0 100000.000 0.000 0.00 0.00\nGROWTH 1 100234.800 234.800 3.80 0.00\n";
-    assert_eq!(rt; board.printed(), output.as_bytes());
-    Ok(())
+    must_answer(rt.alloc(), "roaming", &SHIFTS, &[SHIFT], &image, output, 0)
 }
 
-/// The mark off over an image, and what it makes of a book that has a mark on before it.
-fn signed_off(alloc: Global, image: &[u8; 2048]) -> Result<(MemoryBoard, MemoryBoard), Fail> {
-    let (off, _) = called(alloc, &["mark", "off"], "", image)?;
-    let mut book = String::from_str(alloc, ON_AT_FIRST)?;
-    for byte in off.printed() {
-        book.push(char::from(*byte))?;
-    }
-    let (report, _) = called(alloc, &["shifts", "b"], book.as_str(), image)?;
-    Ok((off, report))
+/// Fails unless the store has the hiring or not after a cut in this call of its run, the mark off says which, and the
+/// report shares out what the store has.
+fn must_sign_off(alloc: Global, board: &MemoryBoard, call: u64, fill: Fill) -> Result<(), Fail> {
+    let image = cut_in(board, call, fill);
+    let (off, _) = called(alloc, &["mark", "off"], &[], &image, &[], &[])?;
+    let (mark, report) = if off.printed() == OFF_AT_FIRST.as_bytes() {
+        (OFF_AT_FIRST, NOTHING_SHARED)
+    } else {
+        (OFF_AFTER, SHARED)
+    };
+    let is_mark = off.printed() == mark.as_bytes();
+    must_behind(is_mark, "another mark", call, fill)?;
+    let book = joined(alloc, &[ON_AT_FIRST, mark])?;
+    let texts = [book.as_str()];
+    let (shifts, status) = called(alloc, &SHIFTS, &texts, &image, &[], &[])?;
+    let is_shared = status == 0 && shifts.printed() == report.as_bytes();
+    must_behind(is_shared, "another report", call, fill)
 }
 
-/// A cut in each call of a run of a hiring, between the marks: the store has the hiring or not, the mark off
-/// says which, and the report shares out what the store has.
+/// A cut in each call of a run of a hiring, between the marks.
 #[test]
 fn cuts_before_a_mark(rt: HostRuntime) -> Result<(), Fail> {
     let start = sealed(rt.alloc(), A, P)?;
-    let (on, _) = called(rt.alloc(), &["mark", "on", "ANNA"], "", start.image())?;
-    assert_eq!(rt; on.printed(), ON_AT_FIRST.as_bytes());
+    must_answer(
+        rt.alloc(),
+        "on",
+        &["mark", "on", "ANNA"],
+        &[],
+        &start,
+        ON_AT_FIRST,
+        0,
+    )?;
     let (board, status) = ran(rt.alloc(), A, P, HIRING)?;
-    assert_eq!(rt; (status, board.calls()), (0, 18));
+    must(
+        (status, board.calls()) == (0, 18),
+        "another run",
+        "a hiring",
+    )?;
     for number in 1..=18 {
-        for fill in FILLS {
-            let (off, report) = signed_off(rt.alloc(), &board.cut(number, fill))?;
-            let (mark, shared) = if off.printed() == OFF_AT_FIRST.as_bytes() {
-                (OFF_AT_FIRST, NOTHING_SHARED)
-            } else {
-                (OFF_AFTER, SHARED)
-            };
-            assert_eq!(rt; off.printed(), mark.as_bytes(), "{number}");
-            assert_eq!(rt; report.printed(), shared.as_bytes(), "{number}");
+        for fill in &FILLS {
+            must_sign_off(rt.alloc(), &board, number, *fill)?;
         }
     }
     Ok(())

@@ -1,6 +1,5 @@
 //! Calls that open the store, over boards in memory.
-use crate::tests::call;
-use outside::MemoryBoard;
+use crate::tests::{ZEROS, joined, must_answer, must_answer_amid};
 use std::test::Fail;
 
 /// The bytes of a sealed store, by their places: the totals of one hiring in the first slot, beside a
@@ -85,15 +84,20 @@ const SAME_TOTALS: [(usize, u8); 16] = [
 
 const BAD_SEAL: [(usize, u8); 5] = [(196, 1), (211, 0x01), (212, 0x7c), (511, 2), (1535, 2)];
 
-/// An image with these bytes.
-pub(crate) fn image_of(more: &[(usize, u8)]) -> [u8; 2048] {
-    let mut image = [0; 2048];
-    for (place, byte) in STORE.iter().chain(more) {
-        if let Some(here) = image.get_mut(*place) {
+/// An image with other bytes at these places.
+pub(crate) fn with_bytes(image: &[u8; 2048], bytes: &[(usize, u8)]) -> [u8; 2048] {
+    let mut changed = *image;
+    for (place, byte) in bytes {
+        if let Some(here) = changed.get_mut(*place) {
             *here = *byte;
         }
     }
-    image
+    changed
+}
+
+/// The sealed store with these bytes more.
+pub(crate) fn image_of(more: &[(usize, u8)]) -> [u8; 2048] {
+    with_bytes(&with_bytes(&ZEROS, &STORE), more)
 }
 
 /// A sealed store whose second seal is the first again.
@@ -108,63 +112,88 @@ fn same_seals() -> [u8; 2048] {
 pub(crate) const SUMMARY: &str =
     "NUMBER 2\nDISTANCE 234.800 m\nHIRED 234.800 m\nHIRINGS 1\nSUPPLEMENTS 0.00\nFARE 3.80\nHELD no\n";
 
+/// What the store has more, and what `totals` prints behind the summary.
+const TOTALS: [(&[(usize, u8)], &str); 2] = [
+    (&FIRST_LAYOUT, "LAYOUT 1\nBEFORE 1 3.80\n"),
+    (
+        &SECOND_LAYOUT,
+        "LAYOUT 2\nBEFORE 0 0.00\nPOSITION 1 1 3.80\n",
+    ),
+];
+
 #[test]
 fn totals(rt: HostRuntime) -> Result<(), Fail> {
-    for (more, rest, status) in [
-        (FIRST_LAYOUT.as_slice(), "LAYOUT 1\nBEFORE 1 3.80\n", 0),
-        (
-            SECOND_LAYOUT.as_slice(),
-            "LAYOUT 2\nBEFORE 0 0.00\nPOSITION 1 1 3.80\n",
+    for &(more, rest) in &TOTALS {
+        let output = joined(rt.alloc(), &[SUMMARY, rest])?;
+        must_answer(
+            rt.alloc(),
+            rest,
+            &["totals"],
+            &[],
+            &image_of(more),
+            output.as_str(),
             0,
-        ),
-    ] {
-        let image = image_of(more);
-        let mut board = MemoryBoard::new(rt.alloc(), &image, &[])?;
-        assert_eq!(rt;
-            call(rt.alloc(), &["totals"], "", "", &[], &mut board)?,
-            status,
-            "{rest}"
-        );
-        let mut output = String::from_str(rt.alloc(), SUMMARY)?;
-        output.push_str(rest)?;
-        assert_eq!(rt; board.printed(), output.as_bytes());
-        assert!(rt; *board.image() == image);
+        )?;
     }
     Ok(())
 }
 
+/// What the store has more that isn't sealed or is bad, the output and the status.
+const WITHOUT_TOTALS: [(&[(usize, u8)], &str, u8); 4] = [
+    (&NO_SEAL, "NOT SEALED\n", 4),
+    (&TOO_MANY_BEFORE, "BAD STORE 0\n", 5),
+    (&BAD_SEAL, "BAD STORE 2\n", 5),
+    (&SAME_TOTALS, "BAD STORE 0 1\n", 5),
+];
+
 #[test]
 fn stores_without_totals(rt: HostRuntime) -> Result<(), Fail> {
-    for (image, output, status) in [
-        ([0; 2048], "NOT SEALED\n", 4),
-        (image_of(&NO_SEAL), "NOT SEALED\n", 4),
-        (image_of(&TOO_MANY_BEFORE), "BAD STORE 0\n", 5),
-        (image_of(&BAD_SEAL), "BAD STORE 2\n", 5),
-        (image_of(&SAME_TOTALS), "BAD STORE 0 1\n", 5),
-        (same_seals(), "BAD STORE 2 3\n", 5),
-    ] {
-        let mut board = MemoryBoard::new(rt.alloc(), &image, &[])?;
-        assert_eq!(rt;
-            call(rt.alloc(), &["totals"], "", "", &[], &mut board)?,
+    for &(more, output, status) in &WITHOUT_TOTALS {
+        must_answer(
+            rt.alloc(),
+            output,
+            &["totals"],
+            &[],
+            &image_of(more),
+            output,
             status,
-            "{output}"
-        );
-        assert_eq!(rt; board.printed(), output.as_bytes());
+        )?;
     }
-    Ok(())
+    must_answer(
+        rt.alloc(),
+        "blank",
+        &["totals"],
+        &[],
+        &ZEROS,
+        "NOT SEALED\n",
+        4,
+    )?;
+    must_answer(
+        rt.alloc(),
+        "seals",
+        &["totals"],
+        &[],
+        &same_seals(),
+        "BAD STORE 2 3\n",
+        5,
+    )
 }
 
 #[test]
 fn faults_at_the_opening(rt: HostRuntime) -> Result<(), Fail> {
+    let image = image_of(&SECOND_LAYOUT);
     for failed in 1..=7 {
-        let image = image_of(&SECOND_LAYOUT);
-        let mut board = MemoryBoard::new(rt.alloc(), &image, &[failed])?;
-        assert_eq!(rt;
-            call(rt.alloc(), &["totals"], "", "", &[], &mut board)?,
+        must_answer_amid(
+            rt.alloc(),
+            "a call",
+            &["totals"],
+            &[],
+            &image,
+            &[failed],
+            &[],
+            "",
             8,
-            "{failed}"
-        );
-        assert_eq!(rt; board.printed(), b"".as_slice(), "{failed}");
+        )?;
     }
     Ok(())
 }

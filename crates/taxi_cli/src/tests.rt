@@ -27,6 +27,12 @@ pub(crate) const FILLS: [Fill; 6] = [
     Fill::Byte(0xFF),
 ];
 
+/// A store of zeros.
+pub(crate) const ZEROS: [u8; 2048] = [0; 2048];
+
+/// Words of `fare` with a constant of 10,000.
+const FARE: [&str; 4] = ["fare", "t", "d", "10000"];
+
 const FIRST: &str = "U 1767225600\nK H\nI 0 1\nI 0 504\nI 0 1\n";
 
 /// A call under a new counter.
@@ -45,24 +51,166 @@ pub(crate) fn counted<L: Ledger>(
     taxi(alloc, words, files, board, &mut steps)
 }
 
-/// A call of these words; the file of word 1 has the tariff, and that of word 2 the drive.
-pub(crate) fn call(
-    alloc: Global,
-    words: &[&str],
-    tariff: &str,
-    drive: &str,
-    fail: &[u64],
-    board: &mut MemoryBoard,
-) -> Result<u8, Fail> {
+/// Words as a program has them.
+pub(crate) fn strings(alloc: Global, words: &[&str]) -> Result<Vec<String>, Fail> {
     let mut texts = Vec::new(alloc);
     for word in words {
         texts.push(String::from_str(alloc, word)?)?;
     }
+    Ok(texts)
+}
+
+/// The files of a call: that of word 1 has the first of these texts, that of word 2 the second, and so on, and the
+/// reads with these numbers fail.
+pub(crate) fn files_of(alloc: Global, texts: &[&str], fail: &[u64]) -> Result<MemoryFiles, Fail> {
     let mut files = MemoryFiles::new(alloc, fail)?;
     files.add(b"")?;
-    files.add(tariff.as_bytes())?;
-    files.add(drive.as_bytes())?;
-    Ok(counted::<Brand>(alloc, Blank::new(1), texts.as_slice(), &mut files, board))
+    for text in texts {
+        files.add(text.as_bytes())?;
+    }
+    Ok(files)
+}
+
+/// The status of a call of these words on a board, where the files have these texts and these reads fail.
+pub(crate) fn call(
+    alloc: Global,
+    words: &[&str],
+    texts: &[&str],
+    fail: &[u64],
+    board: &mut MemoryBoard,
+) -> Result<u8, Fail> {
+    let words = strings(alloc, words)?;
+    let mut files = files_of(alloc, texts, fail)?;
+    Ok(counted::<Brand>(alloc, Blank::new(1), words.as_slice(), &mut files, board))
+}
+
+/// The board after a call over an image, and the call's status, where these calls of the board and these reads fail.
+pub(crate) fn called(
+    alloc: Global,
+    words: &[&str],
+    texts: &[&str],
+    image: &[u8; 2048],
+    calls: &[u64],
+    reads: &[u64],
+) -> Result<(MemoryBoard, u8), Fail> {
+    let mut board = MemoryBoard::new(alloc, image, calls)?;
+    let status = call(alloc, words, texts, reads, &mut board)?;
+    Ok((board, status))
+}
+
+/// Fails unless something holds of the case with this name.
+pub(crate) fn must(holds: bool, what: &str, name: &str) -> Result<(), Fail> {
+    if holds {
+        return Ok(());
+    }
+    Err(Fail::new(format_args!("{what}: {name}")))
+}
+
+/// Fails unless something holds of the case with this number.
+pub(crate) fn must_at(holds: bool, what: &str, number: u64) -> Result<(), Fail> {
+    if holds {
+        return Ok(());
+    }
+    Err(Fail::new(format_args!("{what}: {number}")))
+}
+
+/// Fails unless something holds behind a cut with this fill in the call with this number.
+pub(crate) fn must_behind(holds: bool, what: &str, call: u64, fill: Fill) -> Result<(), Fail> {
+    if holds {
+        return Ok(());
+    }
+    Err(Fail::new(format_args!("{what} behind call {call}, {fill:?}")))
+}
+
+/// Fails unless a call ended with this status, and its board has printed this text.
+pub(crate) fn must_end(
+    name: &str,
+    ended: &(MemoryBoard, u8),
+    output: &str,
+    status: u8,
+) -> Result<(), Fail> {
+    must(ended.1 == status, "another status", name)?;
+    must(ended.0.printed() == output.as_bytes(), "another text", name)
+}
+
+/// Fails unless a call prints this text, ends with this status and leaves the image, where these calls of the board
+/// and these reads fail.
+pub(crate) fn must_answer_amid(
+    alloc: Global,
+    name: &str,
+    words: &[&str],
+    texts: &[&str],
+    image: &[u8; 2048],
+    calls: &[u64],
+    reads: &[u64],
+    output: &str,
+    status: u8,
+) -> Result<(), Fail> {
+    let ended = called(alloc, words, texts, image, calls, reads)?;
+    let failing = format!(in alloc; "failing calls {calls:?} and reads {reads:?}")?;
+    let case = format!(in alloc; "{name:?} by {words:?}, {failing}, for {output:?}")?;
+    must_end(case.as_str(), &ended, output, status)?;
+    must(*ended.0.image() == *image, "another image", case.as_str())
+}
+
+/// Fails unless a call prints this text, ends with this status and leaves the image.
+pub(crate) fn must_answer(
+    alloc: Global,
+    name: &str,
+    words: &[&str],
+    texts: &[&str],
+    image: &[u8; 2048],
+    output: &str,
+    status: u8,
+) -> Result<(), Fail> {
+    must_answer_amid(alloc, name, words, texts, image, &[], &[], output, status)
+}
+
+/// What a cut in a call of a board leaves, or in its last one where it has no such call.
+pub(crate) fn cut_in(board: &MemoryBoard, call: u64, fill: Fill) -> [u8; 2048] {
+    board.cut(call.min(board.calls()), fill)
+}
+
+/// These texts, one after the other.
+pub(crate) fn joined(alloc: Global, pieces: &[&str]) -> Result<String, Fail> {
+    let mut text = String::new(alloc);
+    for piece in pieces {
+        text.push_str(piece)?;
+    }
+    Ok(text)
+}
+
+/// A text, and behind it another one `count` times.
+pub(crate) fn repeated(
+    alloc: Global,
+    start: &str,
+    piece: &str,
+    count: usize,
+) -> Result<String, Fail> {
+    let mut text = String::from_str(alloc, start)?;
+    for _ in 0..count {
+        text.push_str(piece)?;
+    }
+    Ok(text)
+}
+
+/// Fails unless `fare` prints this of a tariff and a drive with a constant of 10,000, and ends with this status.
+fn must_show(
+    alloc: Global,
+    tariff: &str,
+    drive: &str,
+    output: &str,
+    status: u8,
+) -> Result<(), Fail> {
+    must_answer(
+        alloc,
+        tariff,
+        &FARE,
+        &[tariff, drive],
+        &ZEROS,
+        output,
+        status,
+    )
 }
 
 /// Drives under tariff A and a constant of 10,000, what they print, and their status.
@@ -104,18 +252,16 @@ const DRIVES: [(&str, &str, u8); 9] = [
 
 #[test]
 fn drives(rt: HostRuntime) -> Result<(), Fail> {
-    for (drive, output, status) in DRIVES {
-        let mut board = MemoryBoard::new(rt.alloc(), &[0; 2048], &[])?;
-        let ended = call(
+    for &(drive, output, status) in &DRIVES {
+        must_answer(
             rt.alloc(),
-            &["fare", "t", "d", "10000"],
-            A,
             drive,
-            &[],
-            &mut board,
+            &FARE,
+            &[A, drive],
+            &ZEROS,
+            output,
+            status,
         )?;
-        assert_eq!(rt; ended, status, "{drive}");
-        assert_eq!(rt; board.printed(), output.as_bytes(), "{drive}");
     }
     Ok(())
 }
@@ -182,32 +328,30 @@ const TARIFFS: [(&str, &str, u8); 12] = [
 
 #[test]
 fn tariffs(rt: HostRuntime) -> Result<(), Fail> {
-    for (tariff, output, status) in TARIFFS {
-        let mut board = MemoryBoard::new(rt.alloc(), &[0; 2048], &[])?;
-        let words = ["fare", "t", "d", "10000"];
-        let ended = call(rt.alloc(), &words, tariff, FIRST, &[], &mut board)?;
-        assert_eq!(rt; ended, status, "{tariff}");
-        assert_eq!(rt; board.printed(), output.as_bytes(), "{tariff}");
-    }
-    // A tariff and a comment behind it, of 65,536 bytes in all, and one byte more.
-    for (surplus, first) in [
-        (0, b"FOR HIRE T1 Z1\n".as_slice()),
-        (1, b"BAD TARIFF TooLong\n"),
-    ] {
-        let mut long = String::from_str(rt.alloc(), A)?;
-        for _ in 0..65_536 - A.len() + surplus {
-            long.push('#')?;
-        }
-        let mut board = MemoryBoard::new(rt.alloc(), &[0; 2048], &[])?;
-        call(
+    for &(tariff, output, status) in &TARIFFS {
+        must_answer(
             rt.alloc(),
-            &["fare", "t", "d", "10000"],
-            long.as_str(),
-            "U 1767225600\n",
-            &[],
-            &mut board,
+            tariff,
+            &FARE,
+            &[tariff, FIRST],
+            &ZEROS,
+            output,
+            status,
         )?;
-        assert_eq!(rt; board.printed(), first);
+    }
+    Ok(())
+}
+
+/// A tariff and a comment behind it, of 65,536 bytes in all, and one byte more.
+#[test]
+fn the_longest_tariff(rt: HostRuntime) -> Result<(), Fail> {
+    for (size, output, status) in [
+        (65_536usize, "FOR HIRE T1 Z1\n", 0),
+        (65_537, "BAD TARIFF TooLong\n", 2),
+    ] {
+        let long = repeated(rt.alloc(), A, "#", size.saturating_sub(A.len()))?;
+        let texts = [long.as_str(), "U 1767225600\n"];
+        must_answer(rt.alloc(), output, &FARE, &texts, &ZEROS, output, status)?;
     }
     Ok(())
 }
@@ -262,93 +406,80 @@ const MINIMUMS: [(&str, &str, &str, u8); 7] = [
 
 #[test]
 fn minimum_fares(rt: HostRuntime) -> Result<(), Fail> {
-    for (minimums, drive, output, status) in MINIMUMS {
-        let mut tariff = String::from_str(rt.alloc(), A)?;
-        tariff.push_str(minimums)?;
-        let mut board = MemoryBoard::new(rt.alloc(), &[0; 2048], &[])?;
-        let words = ["fare", "t", "d", "10000"];
-        let ended = call(rt.alloc(), &words, tariff.as_str(), drive, &[], &mut board)?;
-        assert_eq!(rt; ended, status, "{minimums}");
-        assert_eq!(rt; board.printed(), output.as_bytes(), "{minimums}");
+    for &(minimums, drive, output, status) in &MINIMUMS {
+        let tariff = joined(rt.alloc(), &[A, minimums])?;
+        must_show(rt.alloc(), tariff.as_str(), drive, output, status)?;
     }
     Ok(())
 }
 
-/// Words that are no command, with a tariff and a drive that would be taken.
-const CALLS: [(&str, &str); 6] = [
-    ("fare", "499"),
-    ("fare", "200001"),
-    ("fare", "0010000"),
-    ("fare", ""),
-    ("fare", "1e4"),
-    ("Fare", "10000"),
+/// Words that are no command, with their names. Tariff and drive would be taken.
+const CALLS: [(&str, &[&str]); 8] = [
+    ("too few pulses", &["fare", "t", "d", "499"]),
+    ("too many pulses", &["fare", "t", "d", "200001"]),
+    ("too many digits", &["fare", "t", "d", "0010000"]),
+    ("no digits", &["fare", "t", "d", ""]),
+    ("an exponent", &["fare", "t", "d", "1e4"]),
+    ("a capital", &["Fare", "t", "d", "10000"]),
+    ("no words", &[]),
+    ("a word more", &["fare", "t", "d", "10000", "x"]),
 ];
 
 #[test]
 fn words(rt: HostRuntime) -> Result<(), Fail> {
-    for (command, constant) in CALLS {
-        let mut board = MemoryBoard::new(rt.alloc(), &[0; 2048], &[])?;
-        let words = [command, "t", "d", constant];
-        assert_eq!(rt;
-            call(rt.alloc(), &words, A, FIRST, &[], &mut board)?,
-            1,
-            "{command} {constant}"
-        );
-        assert_eq!(rt;
-            board.printed(),
-            b"BAD WORDS\n".as_slice(),
-            "{command} {constant}"
-        );
-    }
-    let mut board = MemoryBoard::new(rt.alloc(), &[0; 2048], &[])?;
-    assert_eq!(rt; call(rt.alloc(), &[], A, FIRST, &[], &mut board)?, 1);
-    assert_eq!(rt;
-        call(
+    for &(name, words) in &CALLS {
+        must_answer(
             rt.alloc(),
-            &["fare", "t", "d", "10000", "x"],
-            A,
-            FIRST,
-            &[],
-            &mut board
-        )?,
-        1
-    );
-    assert_eq!(rt; board.printed(), b"BAD WORDS\nBAD WORDS\n".as_slice());
+            name,
+            words,
+            &[A, FIRST],
+            &ZEROS,
+            "BAD WORDS\n",
+            1,
+        )?;
+    }
     Ok(())
 }
 
+/// Names of failures, the numbers of the read and of the print that fail, the output and the status. Reads 1 and 2
+/// are the tariff's, 3 and 4 the drive's.
+const FAILURES: [(&str, u64, u64, &str, u8); 7] = [
+    ("read 1", 1, 0, "READ FAULT\n", 7),
+    ("read 2", 2, 0, "READ FAULT\n", 7),
+    ("read 3", 3, 0, "READ FAULT\n", 7),
+    (
+        "read 4",
+        4,
+        0,
+        "FOR HIRE T1 Z1\nHIRED T1 Z1 3.80 +0.00\nHIRED T1 Z1 4.00 +0.00\nREAD FAULT\n",
+        7,
+    ),
+    ("print 1", 0, 1, "", 8),
+    (
+        "print 3",
+        0,
+        3,
+        "FOR HIRE T1 Z1\nHIRED T1 Z1 3.80 +0.00\n",
+        8,
+    ),
+    ("read 1 and print 1", 1, 1, "", 8),
+];
+
 #[test]
 fn faults_of_the_outside(rt: HostRuntime) -> Result<(), Fail> {
-    // Reads 1 and 2 are the tariff's, 3 and 4 the drive's.
-    for (reads, prints, output, status) in [
-        (1, 0, "READ FAULT\n", 7),
-        (2, 0, "READ FAULT\n", 7),
-        (3, 0, "READ FAULT\n", 7),
-        (
-            4,
-            0,
-            "FOR HIRE T1 Z1\nHIRED T1 Z1 3.80 +0.00\nHIRED T1 Z1 4.00 +0.00\nREAD FAULT\n",
-            7,
-        ),
-        (0, 1, "", 8),
-        (0, 3, "FOR HIRE T1 Z1\nHIRED T1 Z1 3.80 +0.00\n", 8),
-        (1, 1, "", 8),
-    ] {
-        let mut board = MemoryBoard::new(rt.alloc(), &[0; 2048], &[prints])?;
-        let ended = call(
+    let texts = [A, FIRST];
+    for &(name, read, print, output, status) in &FAILURES {
+        must_answer_amid(
             rt.alloc(),
-            &["fare", "t", "d", "10000"],
-            A,
-            FIRST,
-            &[reads],
-            &mut board,
+            name,
+            &FARE,
+            &texts,
+            &ZEROS,
+            &[print],
+            &[read],
+            output,
+            status,
         )?;
-        assert_eq!(rt; ended, status, "read {reads}, print {prints}");
-        assert_eq!(rt;
-            board.printed(),
-            output.as_bytes(),
-            "read {reads}, print {prints}"
-        );
     }
     Ok(())
 }
@@ -386,28 +517,35 @@ const CHECKS: [(&str, &str, u8); 7] = [
 
 #[test]
 fn checks(rt: HostRuntime) -> Result<(), Fail> {
-    for (tariff, output, status) in CHECKS {
-        let mut board = MemoryBoard::new(rt.alloc(), &[0; 2048], &[])?;
-        let ended = call(rt.alloc(), &["check", "t"], tariff, "", &[], &mut board)?;
-        assert_eq!(rt; ended, status, "{tariff}");
-        assert_eq!(rt; board.printed(), output.as_bytes(), "{tariff}");
+    for &(tariff, output, status) in &CHECKS {
+        must_answer(
+            rt.alloc(),
+            tariff,
+            &["check", "t"],
+            &[tariff],
+            &ZEROS,
+            output,
+            status,
+        )?;
     }
-    // 65 rates, of which the last stands in line 67.
-    let mut many = String::from_str(rt.alloc(), "step 0.20\ninitial 3.80\n")?;
-    for _ in 0..65 {
-        many.push_str("rate 1 per 1 m, 1 per 1 s when zone 1\n")?;
-    }
-    let mut board = MemoryBoard::new(rt.alloc(), &[0; 2048], &[])?;
-    call(
-        rt.alloc(),
-        &["check", "t"],
-        many.as_str(),
-        "",
-        &[],
-        &mut board,
-    )?;
-    assert_eq!(rt; board.printed(), b"BAD TARIFF TooManyLines 67\n".as_slice());
     Ok(())
+}
+
+/// 65 rates, of which the last stands in line 67.
+#[test]
+fn too_many_rates(rt: HostRuntime) -> Result<(), Fail> {
+    let rate = "rate 1 per 1 m, 1 per 1 s when zone 1\n";
+    let many = repeated(rt.alloc(), "step 0.20\ninitial 3.80\n", rate, 65)?;
+    let output = "BAD TARIFF TooManyLines 67\n";
+    must_answer(
+        rt.alloc(),
+        output,
+        &["check", "t"],
+        &[many.as_str()],
+        &ZEROS,
+        output,
+        2,
+    )
 }
 
 /// Tariff A under a constant of 10,000, as rows.
@@ -415,27 +553,46 @@ const ROWS: &str =
     "MEASURE 1479240000\nRATE 1 25200000 117400000\nINITIAL 1 3.80 0.40\nCELL 0 1 1\nCELL 1 1 1\nCELL 2 1 1\n\
      CELL 3 1 1\nCELL 4 1 1\nCELL 5 1 1\nCELL 6 1 1\n";
 
+/// Constants, the number of the print that fails, the output and the status.
+const TABLES: [(&str, u64, &str, u8); 3] = [
+    ("10000", 0, ROWS, 0),
+    ("499", 0, "BAD WORDS\n", 1),
+    ("10000", 2, "MEASURE 1479240000\n", 8),
+];
+
 #[test]
 fn tables(rt: HostRuntime) -> Result<(), Fail> {
-    for (constant, print, output, status) in [
-        ("10000", 0, ROWS, 0),
-        ("499", 0, "BAD WORDS\n", 1),
-        ("10000", 2, "MEASURE 1479240000\n", 8),
-    ] {
-        let mut board = MemoryBoard::new(rt.alloc(), &[0; 2048], &[print])?;
+    for &(constant, print, output, status) in &TABLES {
         let words = ["tables", "t", constant];
-        let ended = call(rt.alloc(), &words, A, "", &[], &mut board)?;
-        assert_eq!(rt; ended, status, "{constant}");
-        assert_eq!(rt; board.printed(), output.as_bytes(), "{constant}");
+        must_answer_amid(
+            rt.alloc(),
+            output,
+            &words,
+            &[A],
+            &ZEROS,
+            &[print],
+            &[],
+            output,
+            status,
+        )?;
     }
-    let mut night = String::from_str(rt.alloc(), A)?;
-    night.push_str("minimum 6.00 when time 22:00..06:00\n")?;
-    let mut board = MemoryBoard::new(rt.alloc(), &[0; 2048], &[])?;
-    let words = ["tables", "t", "10000"];
-    call(rt.alloc(), &words, night.as_str(), "", &[], &mut board)?;
+    Ok(())
+}
+
+/// A minimum fare by night, as rows.
+#[test]
+fn tables_of_a_minimum_fare(rt: HostRuntime) -> Result<(), Fail> {
+    let night = joined(rt.alloc(), &[A, "minimum 6.00 when time 22:00..06:00\n"])?;
+    let (board, _) = called(
+        rt.alloc(),
+        &["tables", "t", "10000"],
+        &[night.as_str()],
+        &ZEROS,
+        &[],
+        &[],
+    )?;
     let rows =
         b"MEASURE 1479240000\nRATE 1 25200000 117400000\nINITIAL 1 3.80 0.40\nMINIMUM 1 6.00\nCELL 0 1 1 1\n\
           CELL 1 1 1 0\nCELL 2 1 1 1\nCELL 3 1 1 1\n";
-    assert!(rt; board.printed().starts_with(rows));
-    Ok(())
+    must(board.printed().starts_with(rows), "other rows", "by night")
 }

@@ -9,7 +9,8 @@ ghost use Rattle.taxi_cli.specs.LastLine.{status_of};
 ghost use Rattle.taxi_cli.specs.Opening.{opening_of};
 ghost use Rattle.taxi_cli.specs.Run.{IsRun};
 ghost use Rattle.taxi_cli.specs.RunSteps.{RunComes};
-ghost use Rattle.taxi_cli.specs.Seal.{IsAmidOf, RestsAmid, Seals, sealing_of};
+ghost use Rattle.taxi_cli.specs.Seal.{IsAmidOf, Seals, sealing_of};
+ghost use Rattle.taxi_cli.specs.SealSteps.{RestsAmid};
 ghost use Rattle.taxi_cli.specs.Unwritten.{KeepsBytes, LeavesImage, WritesNothing};
 ghost use Rattle.taxi_cli.specs.Words.{row_of};
 
@@ -33,7 +34,7 @@ use std::sync::ledger::Ledger;
 use taxi_units::Steps;
 
 /// Carries out a command, but for its last line.
-#[tactic(auto, using(crate::proofs::BoardRuns::keeps_none, crate::proofs::BoardRuns::keeps_print, crate::proofs::BoardRuns::keeps_then))]
+#[tactic(auto, using(crate::proofs::BoardRuns::board_runs))]
 fn carry_out<F: Files, B: Board<L>, L: Ledger>(
     alloc: Global,
     row: Row,
@@ -80,86 +81,66 @@ fn carry_out<F: Files, B: Board<L>, L: Ledger>(
     }
 }
 
-/// Carries out the words of a call.
-#[tactic(auto, using(crate::proofs::BoardRuns::keeps_none, crate::proofs::BoardRuns::keeps_print, crate::proofs::BoardRuns::keeps_then))]
-fn answer<F: Files, B: Board<L>, L: Ledger>(
-    alloc: Global,
-    words: &[String],
-    files: &mut F,
-    board: &mut B,
-    steps: &mut Steps<L>,
-) -> u8
-    ensures call { (called (map string_bytes words.now)).known F.tells B.tells_image
-        → IsCall F.Files B.Board (called (map string_bytes words.now)) files.old files.new board.old board.new result }
-    ensures refused { row_of (map string_bytes words.now) ≡ None → files.new ≡ files.old }
-    ensures others { (word : ℕ) → ¬ (called (map string_bytes words.now)).reads word
-        → F.rest files.new word ≡ F.rest files.old word }
-    ensures read_fault { result ≡ 7 → HasReadFault F.Files (called (map string_bytes words.now)) files.old files.new }
-    ensures board_fault { result ≡ 8 → Rose (B.faults board.old) (B.faults board.new) }
-    ensures steps { (called (map string_bytes words.now)).steps F.tells B.tells_image (F.rest files.old) (F.rest files.new)
-        (B.image board.old) steps.old steps.new }
-    ensures kept { ¬ (called (map string_bytes words.now)).opens → KeepsStore B.Board board.old board.new }
-    ensures unwritten { ¬ (called (map string_bytes words.now)).writes result
-        → WritesNothing B.Board board.old board.new result }
-    ensures looks { OnlyLooks (row_of (map string_bytes words.now)) → B.tells_image
-        → LeavesImage B.Board (result ≡ 8) board.old board.new }
-    ensures seals { row_of (map string_bytes words.now) ≡ Some Row.Seal → F.tells → B.tells_image
-        → Seals B.Board (sealing_of (opening_of (B.image board.old)) (F.rest files.old 1) (F.rest files.old 2))
-        board.old board.new result }
-    ensures runs { row_of (map string_bytes words.now) ≡ Some Row.Run → F.tells → B.tells_image
-        → IsRun F.Files B.Board files.old files.new board.old board.new result }
-{
-    match row_in(words) {
-        None => finish(Ended::BadWords, board, steps),
-        Some(row) => {
-            let ended = carry_out(alloc, row, files, board, steps);
-            finish(ended, board, steps)
-        }
-    }
-}
-
 /// Carries out the words of a call of the program, and gives its status. Word 0 is the command; word
 /// n's file is that of place n.
 ///
-/// | Words | Output |
-/// |---|---|
-/// | `check TARIFF` | `OK CELLS n MEASURE m`, for a sound tariff |
-/// | `tables TARIFF CONSTANT` | the rows of its tables, with so many pulses to a kilometre |
-/// | `fare TARIFF DRIVE CONSTANT` | the displays and refusals of the drive under the tariff |
-/// | `totals` | the totals of the store |
-/// | `seal TARIFF PARAMS` | `SEALED n`, with the number of the seal that is put in |
-/// | `run TARIFF DRIVE` | the displays, refusals and receipts of the drive on the sealed store |
-/// | `bench TARIFF DRIVE READINGS` | the cross-over speeds of the tariff, and the report of the readings on the hirings that the drive should come to on the sealed store |
-/// | `gen SEED N` | the totals that the generated drive of a seed and N trips comes to on a new store |
-/// | `port REQUESTS` | the replies to the requests, from the store |
-/// | `offsets RULES FROM TO` | the `offset` lines of the rules for the years from FROM to TO, at most fifteen of 2000 to 2199 |
-/// | `mark on DRIVER`, `mark off` | the mark of the store as it is, by which a driver signs on, or whoever is on signs off |
-/// | `shifts BOOK` | what the totals grew by in the shifts of a book of marks, for each driver, and while nobody was on |
+/// The words, and what is printed where the status is 0 (for `bench`, 0 or 11):
 ///
-/// | Status | Last line | Where |
-/// |---|---|---|
-/// | 0 | none | the output is whole; the drive was read to its end; for `bench`, every row of the report passes |
-/// | 1 | `BAD WORDS` | exactly: the words are no command |
-/// | 2 | `BAD TARIFF` with `TooLong`, `Syntax n`, or the fault | exactly: the tariff has more than 65,536 bytes; its line n is the first that is no line of a tariff; this is its first fault |
-/// | 3 | `BAD DRIVE n`, `BAD DRIVE TOO LONG` | exactly: line n is the first that is no line of a drive; 2^40 bytes were taken, and the end wasn't told |
-/// | 4 | `NOT SEALED` | exactly, for `totals`, `run`, `bench`, `port`, `mark` and `shifts`: the store's pair of totals or of seals is blank |
-/// | 5 | `BAD STORE s`, `BAD STORE s t`, `BAD STORE TRIP` | exactly, for a command that opens the store: slot s is open, and its body isn't read; slots s and t are open, with bodies of one number; for `run`, the held trip doesn't fit the tariff |
-/// | 6 | `WRONG TARIFF x y` | exactly, for `run` and `bench`: the sealed digest x and that of the tariff's text, y, differ |
-/// | 7 | `READ FAULT` | only where the count of faults of a file that the command reads rose |
-/// | 8 | none | only where the board's count of faults rose |
-/// | 9 | `BAD PARAMS` with the fault | exactly: the parameters have this first fault |
-/// | 10 | `BAD READINGS n`, `BAD READINGS TOO LONG` | exactly: row n is the first that is no row of readings; the readings have more than 1,048,576 bytes |
-/// | 11 | none | exactly: a row of the report of `bench` doesn't pass; the output is whole |
-/// | 12 | `NO MEMORY` | free but for `totals`, `port` and `mark`, before anything is printed or written and, but for `bench`, before the first byte of the drive is taken |
-/// | 13 | `TRIP HELD` | exactly: the totals of the store hold a trip |
-/// | 14 | `SEAL ENDED` | exactly: the found seal has the last number, 10^15 |
-/// | 15 | `OTHER DECIMALS x y` | exactly: the found seal has x decimals, and the tariff y |
-/// | 16 | `BAD FRAME p`, `BAD FRAME TOO LONG` | exactly: byte p, from 0 on, is the first that no stream of requests has there, or the end is and a request is unfinished; 2^40 bytes were taken, none of their places is bad, and the end wasn't told |
-/// | 17 | `BAD RULES` with `TooLong`, `BadLine n`, or `SameMonth` | exactly: the rules have more than 4,096 bytes; their line n is the first that isn't as it should be or is absent, or 5 where bytes follow the four; both changes are in one month |
-/// | 18 | `BAD BOOK TOO LONG`, `BAD BOOK n` | exactly: the book has more than 1,048,576 bytes; its line n is the first that is no mark, may not follow those before it, or has a number greater than the store's |
+/// - `check TARIFF`: `OK CELLS n MEASURE m`, for a sound tariff
+/// - `tables TARIFF CONSTANT`: the rows of its tables, with so many pulses to a kilometre
+/// - `fare TARIFF DRIVE CONSTANT`: the displays and refusals of the drive under the tariff
+/// - `totals`: the totals of the store
+/// - `seal TARIFF PARAMS`: `SEALED n`, with the number of the seal that is put in
+/// - `run TARIFF DRIVE`: the displays, refusals and receipts of the drive on the sealed store
+/// - `bench TARIFF DRIVE READINGS`: the cross-over speeds of the tariff, and the report of the readings on the
+///   hirings that the drive should come to on the sealed store
+/// - `gen SEED N`: the totals that the generated drive of a seed and N trips comes to on a new store
+/// - `port REQUESTS`: the replies to the requests, from the store
+/// - `offsets RULES FROM TO`: the `offset` lines of the rules for the years from FROM to TO, at most fifteen of
+///   2000 to 2199
+/// - `mark on DRIVER`, `mark off`: the mark of the store as it is, by which a driver signs on, or whoever is on
+///   signs off
+/// - `shifts BOOK`: what the totals grew by in the shifts of a book of marks, for each driver, and while nobody
+///   was on
+///
+/// The statuses, their last lines, and when they come:
+///
+/// - 0, no line: the output is whole, and the drive was read to its end; for `bench`, every row of the report
+///   passes
+/// - 1, `BAD WORDS`: exactly where the words are no command
+/// - 2, `BAD TARIFF` with `TooLong`, `Syntax n` or the fault: exactly where the tariff has more than 65,536
+///   bytes, its line n is the first that is no line of a tariff, or this is its first fault
+/// - 3, `BAD DRIVE n` or `BAD DRIVE TOO LONG`: exactly where line n is the first that is no line of a drive, or
+///   where 2^40 bytes were taken and the end wasn't told
+/// - 4, `NOT SEALED`, for `totals`, `run`, `bench`, `port`, `mark` and `shifts`: exactly where the store's pair of
+///   totals or of seals is blank
+/// - 5, `BAD STORE s`, `BAD STORE s t` or `BAD STORE TRIP`, for a command that opens the store: exactly where slot
+///   s is open and its body isn't read, where slots s and t are open with bodies of one number, or, for `run`, where
+///   the held trip doesn't fit the tariff
+/// - 6, `WRONG TARIFF x y`, for `run` and `bench`: exactly where the sealed digest x and that of the tariff's text,
+///   y, differ
+/// - 7, `READ FAULT`: only where the count of faults of a file that the command reads rose
+/// - 8, no line: only where the board's count of faults rose
+/// - 9, `BAD PARAMS` with the fault: exactly where the parameters have this first fault
+/// - 10, `BAD READINGS n` or `BAD READINGS TOO LONG`: exactly where row n is the first that is no row of readings,
+///   or the readings have more than 1,048,576 bytes
+/// - 11, no line: exactly where a row of the report of `bench` doesn't pass; the output is whole
+/// - 12, `NO MEMORY`: free but for `totals`, `port` and `mark`, before anything is printed or written and, but for
+///   `bench`, before the first byte of the drive is taken
+/// - 13, `TRIP HELD`: exactly where the totals of the store hold a trip
+/// - 14, `SEAL ENDED`: exactly where the found seal has the last number, 10^15
+/// - 15, `OTHER DECIMALS x y`: exactly where the found seal has x decimals, and the tariff y
+/// - 16, `BAD FRAME p` or `BAD FRAME TOO LONG`: exactly where byte p, from 0 on, is the first that no stream of
+///   requests has there, or the end is and a request is unfinished, or 2^40 bytes were taken, none of their places
+///   is bad, and the end wasn't told
+/// - 17, `BAD RULES` with `TooLong`, `BadLine n` or `SameMonth`: exactly where the rules have more than 4,096 bytes,
+///   their line n is the first that isn't as it should be or is absent, or 5 where bytes follow the four, or both
+///   changes are in one month
+/// - 18, `BAD BOOK TOO LONG` or `BAD BOOK n`: exactly where the book has more than 1,048,576 bytes, or its line n is
+///   the first that is no mark, may not follow those before it, or has a number greater than the store's
 ///
 /// The words, the statuses and the lines are this project's own.
-#[tactic(auto, using(crate::proofs::BoardRuns::keeps_none, crate::proofs::BoardRuns::keeps_print, crate::proofs::BoardRuns::keeps_then))]
+#[tactic(auto, using(crate::proofs::BoardRuns::board_runs))]
 pub fn taxi<F: Files, B: Board<L>, L: Ledger>(
     alloc: Global,
     words: &[String],
@@ -190,8 +171,8 @@ pub fn taxi<F: Files, B: Board<L>, L: Ledger>(
     // One step for the last line, one for each row of tables, at most 31 for offsets, 64 for an opening of the store,
     // 64 for each event of a drive that is run, one for each 512 bytes that are printed of a bench, one for each reply,
     // and two for each byte of a shift book.
-    ensures steps { (called (map string_bytes words.now)).steps F.tells B.tells_image (F.rest files.old) (F.rest files.new)
-        (B.image board.old) steps.old steps.new }
+    ensures steps { (called (map string_bytes words.now)).steps F.tells B.tells_image
+        (F.rest files.old) (F.rest files.new) (B.image board.old) steps.old steps.new }
 
     // The store is left alone where it isn't opened, and nothing is written but where a command may write.
     ensures kept { ¬ (called (map string_bytes words.now)).opens → KeepsStore B.Board board.old board.new }
@@ -221,5 +202,11 @@ pub fn taxi<F: Files, B: Board<L>, L: Ledger>(
     ensures runs { row_of (map string_bytes words.now) ≡ Some Row.Run → F.tells → B.tells_image
         → IsRun F.Files B.Board files.old files.new board.old board.new result }
 {
-    answer(alloc, words, files, board, steps)
+    match row_in(words) {
+        None => finish(Ended::BadWords, board, steps),
+        Some(row) => {
+            let ended = carry_out(alloc, row, files, board, steps);
+            finish(ended, board, steps)
+        }
+    }
 }

@@ -1,21 +1,11 @@
 //! The text of totals.
-ghost use Rattle.std.specs.Prelude.{◌≡◌, ◌+◌, ◌<◌, ◌≤◌, ◌++◌, [], length, codes};
+ghost use Rattle.std.specs.Prelude.{◌≡◌, ◌+◌, ◌<◌, ◌≤◌, ◌++◌, length};
 ghost use Rattle.arrayvec.specs.ArrayVec.{array_vec_len};
-ghost use Rattle.taxi_cli.specs.TotalsText.{amount_line, distances_text, heading_text, held_line, money_lines, number_line, position_text, share_text, summary_text};
+ghost use Rattle.taxi_cli.specs.TotalsText.{amount_line, distances_text, heading_text, held_line, money_lines, position_text, share_text, summary_text};
 
+use crate::number_line::push_number_line;
 use taxi_units::{Line, push_bytes, push_money, push_number};
 use totaliser_store::{Durable, Share, Totals, Trip};
-
-/// Appends a line of a name and a number.
-pub fn push_number_line(line: &mut Line, name: &[u8], number: u64)
-    requires { array_vec_len line.old + length name.now + 40 ≤ 512 }
-    ensures text { line.new.items ≡ line.old.items ++ number_line name.now number }
-    ensures len { array_vec_len line.new ≤ array_vec_len line.old + length name.now + 40 }
-{
-    push_bytes(line, name);
-    push_number(line, number as u128);
-    push_bytes(line, b"\n");
-}
 
 /// Appends a line of a name, an amount and an end.
 fn push_amount_line(line: &mut Line, name: &[u8], amount: u128, decimals: u8, end: &[u8])

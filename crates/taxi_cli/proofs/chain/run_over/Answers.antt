@@ -2,7 +2,7 @@ use Rattle.std.proofs.Common.{◌∙◌, sym, subst, List, ℕ}
 use Rattle.std.specs.Prelude.{map, string_bytes}
 use Rattle.outside.specs.MemoryBoard.{image_of, left_since_of, moment_of}
 use Rattle.totaliser_store.specs.Stored.{HasState}
-use Rattle.taxi_cli.specs.Link.{HasLink}
+use Rattle.taxi_cli.specs.ChainSteps.{HasLink}
 use Rattle.taxi_cli.specs.Words.{row_of}
 use Rattle.taxi_cli.proofs.ChainLinks.{linked, not_read, since_first}
 use Rattle.taxi_cli.proofs.chain.run_over.Goals as goal

@@ -1,13 +1,13 @@
 use Rattle.std.proofs.Common.{◌≡◌, ◌∙◌, Ok, Err, refl, sym, ap, arith}
 use Rattle.slot_store.specs.declared.found.SlotFault.TheVariants as slots
 use Rattle.slot_store.specs.Scan.{found_at}
-use Rattle.slot_store.specs.Syncs.{IsAsHeld, IsSynced}
-use Rattle.slot_store.proofs.Laws.{from_sync_as, goes_on, held_on}
+use Rattle.slot_store.specs.Syncs.{IsAsHeld}
+use Rattle.slot_store.proofs.Laws.{from_sync_as}
 use Rattle.totaliser_store.specs.Reading as totals
 use Rattle.totaliser_store.specs.Stored as states
 use Rattle.seal_store.specs.Decoding as seals
 use Rattle.taxi_cli.specs.Opening.{fault_from}
-use Rattle.taxi_cli.proofs.Openings.{failed_from, no_fault, opened_bad, opened_by, same_fault, stays_found}
+use Rattle.taxi_cli.proofs.Openings.{failed_from, no_fault, opened_bad, opened_by, same_fault, stays_found, synced-on}
 use Rattle.taxi_cli.proofs.Unwritten.{reads-then}
 use Rattle.taxi_cli.proofs.opening.open_store.Goals as goal
 
@@ -99,16 +99,10 @@ returns-in-Err-clause-settled g c = λ tells good.
 
 pub returns-in-Err-scan-clause-synced : goal.returns-in-Err-scan-clause-synced
 returns-in-Err-scan-clause-synced g c = λ tells.
-    let held = IsAsHeld g.B.Board c.args.board.now in
     let first = c.scan.ensures in
-    let went : ¬ (c.scan.result ≡ Err slots.DeviceFailed) = no_fault c.scan.result c.in-Ok.found slots.DeviceFailed c.in-Ok.is in
-    let synced : IsSynced g.B.Board c.args.board.now c.scan.new.board = record {
-      reads = record { leaves = first.any_moment; image = first.image; flight = first.flight; text = first.text };
-      same = first.same went;
-      settled = first.durable tells went;
-    } in
-    goes_on g.B.Board held held (c.scan.result ≡ Err slots.DeviceFailed) _ c.args.board.now c.scan.new.board c.scan-2.new.board went (λ i x is. is) (first.synced tells)
-    (held_on g.B.Board c.args.board.now c.scan.new.board c.scan-2.new.board synced c.scan-2.ensures.any_moment)
+    let went = no_fault c.scan.result c.in-Ok.found slots.DeviceFailed c.in-Ok.is in
+    synced-on g.B.Board c.args.board.now c.scan.new.board c.scan-2.new.board (record { leaves = first.any_moment; image = first.image; flight = first.flight; text = first.text }) (first.same went)
+    (c.scan.result ≡ Err slots.DeviceFailed) _ went (first.durable tells went) (first.synced tells) c.scan-2.ensures.any_moment
 
 pub returns-in-Err-scan-clause-settled : goal.returns-in-Err-scan-clause-settled
 returns-in-Err-scan-clause-settled g c = λ tells good.
@@ -116,16 +110,10 @@ returns-in-Err-scan-clause-settled g c = λ tells good.
 
 pub returns-clause-synced : goal.returns-clause-synced
 returns-clause-synced g c = λ tells.
-    let held = IsAsHeld g.B.Board c.args.board.now in
     let first = c.scan.ensures in
-    let went : ¬ (c.scan.result ≡ Err slots.DeviceFailed) = no_fault c.scan.result c.in-Ok.found slots.DeviceFailed c.in-Ok.is in
-    let synced : IsSynced g.B.Board c.args.board.now c.scan.new.board = record {
-      reads = record { leaves = first.any_moment; image = first.image; flight = first.flight; text = first.text };
-      same = first.same went;
-      settled = first.durable tells went;
-    } in
-    goes_on g.B.Board held held (c.scan.result ≡ Err slots.DeviceFailed) _ c.args.board.now c.scan.new.board c.scan-2.new.board went (λ i x is. is) (first.synced tells)
-    (held_on g.B.Board c.args.board.now c.scan.new.board c.scan-2.new.board synced c.scan-2.ensures.any_moment)
+    let went = no_fault c.scan.result c.in-Ok.found slots.DeviceFailed c.in-Ok.is in
+    synced-on g.B.Board c.args.board.now c.scan.new.board c.scan-2.new.board (record { leaves = first.any_moment; image = first.image; flight = first.flight; text = first.text }) (first.same went)
+    (c.scan.result ≡ Err slots.DeviceFailed) _ went (first.durable tells went) (first.synced tells) c.scan-2.ensures.any_moment
 
 pub returns-clause-settled : goal.returns-clause-settled
 returns-clause-settled g c = λ tells good. c.scan-2.ensures.durable tells (no_fault c.scan-2.result c.in-Ok-scan.found slots.DeviceFailed c.in-Ok-scan.is)

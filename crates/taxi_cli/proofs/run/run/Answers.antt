@@ -1,4 +1,4 @@
-use Rattle.std.proofs.Common.{◌≡◌, ◌≢◌, ◌∙◌, ℕ, List, [], refl, sym, subst, arith, inr}
+use Rattle.std.proofs.Common.{◌≡◌, ◌≢◌, ◌∙◌, ℕ, List, [], Err, refl, sym, ap, subst, arith, inr}
 use Rattle.std.specs.Prelude.{IsErrOf}
 use Rattle.meter_run.specs.Runs.{EndsRun, OpensWith}
 use Rattle.meter_states.specs.Setting.{IsSettingOf}
@@ -26,10 +26,13 @@ returns-in-Err-clause-runs g c = λ tells told.
     let why = c.in-Err.why in
     let before = c.begin.ensures in
     comes-not_begun g.F.Files g.B.Board c.args.files.now c.begin.new.files c.args.board.now c.begin.new.board (before.others 2 (two-one 2 refl))
-    (IsErrOf c.begin.result ended.BoardFault) before.reads (before.synced told) why (before.refused why tells told c.in-Err.is)
+    (IsErrOf c.begin.result ended.BoardFault) before.opens.reads (before.opens.synced told) why (before.refused why tells told c.in-Err.is)
     (λ f. same_fault c.begin.result why ended.BoardFault c.in-Err.is f)
-    (λ good. before.settled told (λ f. good (same_fault c.begin.result why ended.BoardFault c.in-Err.is f)))
-    (λ good. before.same (λ f. good (same_fault c.begin.result why ended.BoardFault c.in-Err.is f)))
+    (λ good. before.opens.settled told (λ f. good (same_fault c.begin.result why ended.BoardFault c.in-Err.is f)))
+    (λ good. before.opens.same (λ f. good (same_fault c.begin.result why ended.BoardFault c.in-Err.is f)))
+
+pub returns-in-Err-clause-board_fault : goal.returns-in-Err-clause-board_fault
+returns-in-Err-clause-board_fault g c = λ e. c.begin.ensures.opens.cause (c.in-Err.is ∙ ap Err e)
 
 pub returns-clause-runs : goal.returns-clause-runs
 returns-clause-runs g c = λ tells told.
@@ -57,9 +60,9 @@ returns-clause-runs g c = λ tells told.
     let read : rest c.run_events-ran.new.files 1 ≡ [] = c.run_events-ran.ensures.others 1 (one-two 1 refl) ∙ c.in-Ok.ensures.ended tells in
     subst (λ (end : Ended). RunComes g.F.Files g.B.Board files c.run_events-ran.new.files old new end) (sym c.ended_of.ensures)
     (ran-comes g.F.Files g.B.Board files c.run_events-ran.new.files old mid new s begun.is told is opens (IsErrOf c.begin.result ended.BoardFault) went
-    (before.synced told) (before.settled told went) (before.same went) before.reads.text (c.run_events-ran.ensures.beside told) read c.run_events-ran.result ends
+    (before.opens.synced told) (before.opens.settled told went) (before.opens.same went) before.opens.reads.text (c.run_events-ran.ensures.beside told) read c.run_events-ran.result ends
     (λ e. omega (arith, c.run_events-ran.ensures.read_fault e, before.counts 2))
-    (λ e. omega (arith, c.run_events-ran.ensures.board_fault e, before.count)))
+    (λ e. omega (arith, c.run_events-ran.ensures.board_fault e, before.opens.count)))
 
 pub returns-clause-unwritten : goal.returns-clause-unwritten
 returns-clause-unwritten g c = λ not. absurd (not (subst (λ (end : Ended). run_command.writes (status_of end)) (sym c.ended_of.ensures) (ran-writes c.run_events-ran.result)))

@@ -1,6 +1,6 @@
 use Rattle.std.proofs.Common.{◌∙◌, ℕ, List, Err, refl, ap, subst}
 use Rattle.outside.specs.Faults.{Rose}
-use Rattle.taxi_cli.specs.Seal.{IsNoSeal}
+use Rattle.taxi_cli.specs.SealSteps.{IsNoSeal}
 use Rattle.taxi_cli.proofs.Openings.{same_fault}
 use Rattle.taxi_cli.proofs.Sealings.{no_seal-tariff, no_tariff-fault}
 use Rattle.taxi_cli.proofs.seal.read_seal.Goals as goal

@@ -7,10 +7,11 @@ use Rattle.seal_store.specs.Sealing.{FoundSeal, FoundTotals, Sealing, found_numb
 use Rattle.seal_store.proofs.Laws.{seal_is_found, totals_are_found}
 use Rattle.taxi_cli.specs.declared.ending.Ended.{Ended}
 use Rattle.taxi_cli.specs.declared.opening.StoreFault.TheVariants as stores
-use Rattle.taxi_cli.specs.Ending.{ComesOn, store_ended}
+use Rattle.taxi_cli.specs.Ending.{ComesOn}
 use Rattle.taxi_cli.specs.LastLine.{status_of}
-use Rattle.taxi_cli.specs.Opening.{opening_of}
-use Rattle.taxi_cli.specs.Seal.{IsNoSeal, seal_answer, seal_command, seal_read, sealing_of}
+use Rattle.taxi_cli.specs.Opening.{opening_of, store_ended}
+use Rattle.taxi_cli.specs.Seal.{seal_answer, seal_command, seal_read, sealing_of}
+use Rattle.taxi_cli.specs.SealSteps.{IsNoSeal}
 use Rattle.taxi_cli.proofs.Answering.{board_fault-store, comes-board, comes-store, not_read-store}
 use Rattle.taxi_cli.proofs.Openings.{no_fault, same_fault}
 use Rattle.taxi_cli.proofs.Sealings.{barred-fault, comes-barred, comes-no_seal, comes-sealed, not_0-barred, not_0-no_seal, not_0-store, sealing-barred, sealing-over}

@@ -32,7 +32,16 @@ returns-in-Port-clause-ends g c = rw c.in-Port.is (λ known. c.serve_requests.en
 pub returns-in-Port-clause-steps : goal.returns-in-Port-clause-steps
 returns-in-Port-clause-steps g c = rw c.in-Port.is (λ tells.
     let h = c.serve_requests.ensures.steps tells in
-    record { taken = h.taken; split = h.split; bound = omega (arith, h.bound) })
+    record {
+      steps = record { taken = h.taken; split = h.split; bound = omega (arith, h.bound) };
+      unread = c.serve_requests.ensures.unread;
+    })
+
+pub returns-in-Shifts-clause-steps : goal.returns-in-Shifts-clause-steps
+returns-in-Shifts-clause-steps g c = rw c.in-Shifts.is (record {
+  by_report = λ tells told. omega (arith, c.print_shifts.ensures.by_report tells told);
+  by_book = λ tells. omega (arith, c.print_shifts.ensures.by_book tells);
+})
 
 pub returns-in-Port-clause-seals : goal.returns-in-Port-clause-seals
 returns-in-Port-clause-seals g c = λ e. let is = c.in-Port.is in absurd cc
@@ -169,16 +178,16 @@ pub returns-in-Offsets-clause-looks : goal.returns-in-Offsets-clause-looks
 returns-in-Offsets-clause-looks g c = rw c.in-Offsets.is (λ looks. absurd looks)
 
 pub returns-in-Totals-clause-looks : goal.returns-in-Totals-clause-looks
-returns-in-Totals-clause-looks g c = λ looks told. c.print_store.ensures.looks told
+returns-in-Totals-clause-looks g c = λ looks told. c.print_store.ensures.looks.looks told
 
 pub returns-in-Port-clause-looks : goal.returns-in-Port-clause-looks
-returns-in-Port-clause-looks g c = λ looks told. c.serve_requests.ensures.looks told
+returns-in-Port-clause-looks g c = λ looks told. c.serve_requests.ensures.looks.looks told
 
 pub returns-in-Mark-clause-looks : goal.returns-in-Mark-clause-looks
-returns-in-Mark-clause-looks g c = λ looks told. c.print_mark.ensures.looks told
+returns-in-Mark-clause-looks g c = λ looks told. c.print_mark.ensures.looks.looks told
 
 pub returns-in-Shifts-clause-looks : goal.returns-in-Shifts-clause-looks
-returns-in-Shifts-clause-looks g c = λ looks told. c.print_shifts.ensures.looks told
+returns-in-Shifts-clause-looks g c = λ looks told. c.print_shifts.ensures.looks.looks told
 
 pub returns-in-Bench-clause-ends : goal.returns-in-Bench-clause-ends
 returns-in-Bench-clause-ends g c = rw c.in-Bench.is (λ known. c.bench.ensures.ends known.0 known.1)
