@@ -52,3 +52,20 @@ pub record Elapses (before now : ℕ) (past since : ℕ → List ℕ → List �
       → since moment left_image left_text → past moment left_image left_text ⊎ outcome left_image left_text
   pub keeps : (moment : ℕ) (left_image left_text : List ℕ) → moment ≤ before
       → past moment left_image left_text → since moment left_image left_text
+
+-- a call that prints nothing takes the time between two states of a device where a cut in it might leave only what one
+-- may leave behind it
+abbrev pub CallTakes : {D : Type 0} → (moment : D → ℕ) → (left_since : D → ℕ → List ℕ → List ℕ → Type 0)
+    → (image : D → List ℕ) → (in_flight : D → ℕ → Type 0) → (printed : D → List ℕ) → (old new : D) → Type 0
+CallTakes moment left_since image in_flight printed old new =
+    Elapses (moment old) (moment new) (left_since old) (left_since new)
+    (MayLeave (image new) (in_flight new) (printed new))
+
+-- a print of a piece takes the time between two states of a device where a cut in it might leave only a beginning of
+-- the piece more
+abbrev pub PieceTakes : {D : Type 0} → (moment : D → ℕ) → (left_since : D → ℕ → List ℕ → List ℕ → Type 0)
+    → (image : D → List ℕ) → (in_flight : D → ℕ → Type 0) → (printed : D → List ℕ) → (piece : List ℕ)
+    → (old new : D) → Type 0
+PieceTakes moment left_since image in_flight printed piece old new =
+    Elapses (moment old) (moment new) (left_since old) (left_since new)
+    (MayLeaveAmid (image new) (in_flight new) (printed old) piece)

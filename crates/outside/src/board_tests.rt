@@ -1,14 +1,16 @@
 //! The boards, call by call.
 ghost use Rattle.std.specs.Prelude.{◌≡◌, ◌<◌};
 
+use crate::tests::must;
 use crate::{Board, Failed, Fill, MemoryBoard, QuietBoard};
+use std::alloc::Global;
 use std::marker::Brand;
 use std::sync::ledger::{Blank, Ledger};
 use std::test::Fail;
 use taxi_units::Steps;
 
 /// What is asked of a board.
-#[derive(Drop)]
+#[derive(Clone, Copy)]
 pub(crate) enum Asked<'a> {
     Read(u16),
     Write(u16, &'a [u8]),
@@ -16,50 +18,116 @@ pub(crate) enum Asked<'a> {
     Print(&'a [u8]),
 }
 
-/// A write of four bytes and its sync, a write over them and one that overlaps it, a read, a sync, and
-/// a print.
-const CALLS: [Asked<'static>; 7] = [
-    Asked::Write(0, &[1, 2, 3, 4]),
-    Asked::Sync,
-    Asked::Write(0, &[5, 6, 7, 8]),
-    Asked::Write(2, &[9, 10, 11]),
-    Asked::Read(0),
-    Asked::Sync,
-    Asked::Print(b"FOR HIRE\n"),
+/// Calls of a board in memory whose store is zeros, and what they leave.
+#[derive(Clone, Copy)]
+struct Story {
+    name: &'static str,
+
+    /// The numbers of the calls that fail.
+    fail: &'static [u64],
+
+    /// Each call, its answer, and what is printed behind it.
+    calls: &'static [(Asked<'static>, Result<[u8; 4], Failed>, &'static [u8])],
+
+    /// The bytes in front that a cut inside a call leaves, by the fill.
+    cuts: &'static [(u64, Fill, &'static [u8])],
+
+    /// The bytes in front that a read gives behind the calls.
+    image: &'static [u8],
+}
+
+const STORIES: &[Story] = &[
+    Story {
+        name: "one write",
+        fail: &[],
+        calls: &[(Asked::Write(0, &[1, 2]), Ok([0; 4]), b"")],
+        cuts: &[
+            (1, Fill::Old, &[0, 0, 0]),
+            (1, Fill::New, &[1, 2, 0]),
+            (1, Fill::Half, &[1, 0, 0]),
+            (1, Fill::Byte(7), &[7, 7, 0]),
+        ],
+        image: &[1, 2, 0],
+    },
+    Story {
+        name: "a write, its sync, a write over it, one that overlaps that, a read, a sync, a print",
+        fail: &[],
+        calls: &[
+            (Asked::Write(0, &[1, 2, 3, 4]), Ok([0; 4]), b""),
+            (Asked::Sync, Ok([0; 4]), b""),
+            (Asked::Write(0, &[5, 6, 7, 8]), Ok([0; 4]), b""),
+            (Asked::Write(2, &[9, 10, 11]), Ok([0; 4]), b""),
+            (Asked::Read(0), Ok([5, 6, 9, 10]), b""),
+            (Asked::Sync, Ok([0; 4]), b""),
+            (Asked::Print(b"FOR HIRE\n"), Ok([0; 4]), b"FOR HIRE\n"),
+        ],
+        cuts: &[
+            (0, Fill::Byte(165), &[0, 0, 0, 0, 0, 0]),
+            (1, Fill::Old, &[0, 0, 0, 0, 0, 0]),
+            (1, Fill::New, &[1, 2, 3, 4, 0, 0]),
+            (1, Fill::Half, &[1, 2, 0, 0, 0, 0]),
+            (1, Fill::Byte(165), &[165, 165, 165, 165, 0, 0]),
+            (2, Fill::Old, &[0, 0, 0, 0, 0, 0]),
+            (2, Fill::New, &[1, 2, 3, 4, 0, 0]),
+            (3, Fill::Old, &[1, 2, 3, 4, 0, 0]),
+            (3, Fill::New, &[5, 6, 7, 8, 0, 0]),
+            (3, Fill::Half, &[5, 6, 3, 4, 0, 0]),
+            (4, Fill::Old, &[1, 2, 3, 4, 0, 0]),
+            (4, Fill::New, &[5, 6, 9, 10, 11, 0]),
+            (4, Fill::Half, &[5, 6, 9, 4, 0, 0]),
+            (4, Fill::Byte(165), &[165, 165, 165, 165, 165, 0]),
+            (5, Fill::Half, &[5, 6, 9, 4, 0, 0]),
+            (6, Fill::Byte(165), &[165, 165, 165, 165, 165, 0]),
+            (7, Fill::Old, &[5, 6, 9, 10, 11, 0]),
+            (7, Fill::New, &[5, 6, 9, 10, 11, 0]),
+            (7, Fill::Half, &[5, 6, 9, 10, 11, 0]),
+            (7, Fill::Byte(165), &[5, 6, 9, 10, 11, 0]),
+        ],
+        image: &[5, 6, 9, 10, 11, 0],
+    },
+    Story {
+        name: "the same, where the second overlapping write and the sync behind it fail",
+        fail: &[4, 6],
+        calls: &[
+            (Asked::Write(0, &[1, 2, 3, 4]), Ok([0; 4]), b""),
+            (Asked::Sync, Ok([0; 4]), b""),
+            (Asked::Write(0, &[5, 6, 7, 8]), Ok([0; 4]), b""),
+            (Asked::Write(2, &[9, 10, 11]), Err(Failed), b""),
+            (Asked::Read(0), Ok([5, 6, 7, 8]), b""),
+            (Asked::Sync, Err(Failed), b""),
+            (Asked::Print(b"FOR HIRE\n"), Ok([0; 4]), b"FOR HIRE\n"),
+        ],
+        cuts: &[
+            (3, Fill::New, &[5, 6, 7, 8, 0, 0]),
+            (4, Fill::New, &[5, 6, 9, 10, 11, 0]),
+            (7, Fill::Old, &[1, 2, 3, 4, 0, 0]),
+            (7, Fill::New, &[5, 6, 9, 10, 11, 0]),
+            (7, Fill::Half, &[5, 6, 9, 4, 0, 0]),
+            (7, Fill::Byte(165), &[165, 165, 165, 165, 165, 0]),
+        ],
+        image: &[5, 6, 7, 8, 0, 0],
+    },
+    Story {
+        name: "three prints, of which the second fails",
+        fail: &[2],
+        calls: &[
+            (Asked::Print(b"FOR "), Ok([0; 4]), b"FOR "),
+            (Asked::Print(b"RENT"), Err(Failed), b"FOR "),
+            (Asked::Print(b"HIRE\n"), Ok([0; 4]), b"FOR HIRE\n"),
+        ],
+        cuts: &[],
+        image: &[0],
+    },
 ];
 
-/// The first six bytes that a cut inside each of the calls leaves, by the fill, where no call fails.
-const CUTS: [(u64, Fill, [u8; 6]); 20] = [
-    (0, Fill::Byte(165), [0, 0, 0, 0, 0, 0]),
-    (1, Fill::Old, [0, 0, 0, 0, 0, 0]),
-    (1, Fill::New, [1, 2, 3, 4, 0, 0]),
-    (1, Fill::Half, [1, 2, 0, 0, 0, 0]),
-    (1, Fill::Byte(165), [165, 165, 165, 165, 0, 0]),
-    (2, Fill::Old, [0, 0, 0, 0, 0, 0]),
-    (2, Fill::New, [1, 2, 3, 4, 0, 0]),
-    (3, Fill::Old, [1, 2, 3, 4, 0, 0]),
-    (3, Fill::New, [5, 6, 7, 8, 0, 0]),
-    (3, Fill::Half, [5, 6, 3, 4, 0, 0]),
-    (4, Fill::Old, [1, 2, 3, 4, 0, 0]),
-    (4, Fill::New, [5, 6, 9, 10, 11, 0]),
-    (4, Fill::Half, [5, 6, 9, 4, 0, 0]),
-    (4, Fill::Byte(165), [165, 165, 165, 165, 165, 0]),
-    (5, Fill::Half, [5, 6, 9, 4, 0, 0]),
-    (6, Fill::Byte(165), [165, 165, 165, 165, 165, 0]),
-    (7, Fill::Old, [5, 6, 9, 10, 11, 0]),
-    (7, Fill::New, [5, 6, 9, 10, 11, 0]),
-    (7, Fill::Half, [5, 6, 9, 10, 11, 0]),
-    (7, Fill::Byte(165), [5, 6, 9, 10, 11, 0]),
-];
-
-/// The same where the second overlapping write and the sync behind it fail.
-const FAILED_CUTS: [(u64, Fill, [u8; 6]); 6] = [
-    (3, Fill::New, [5, 6, 7, 8, 0, 0]),
-    (4, Fill::New, [5, 6, 9, 10, 11, 0]),
-    (7, Fill::Old, [1, 2, 3, 4, 0, 0]),
-    (7, Fill::New, [5, 6, 9, 10, 11, 0]),
-    (7, Fill::Half, [5, 6, 9, 4, 0, 0]),
-    (7, Fill::Byte(165), [165, 165, 165, 165, 165, 0]),
+/// Calls of a quiet board whose store is threes, and the four bytes that each answers.
+const QUIET: &[(Asked<'static>, [u8; 4])] = &[
+    (Asked::Read(2044), [3; 4]),
+    (Asked::Write(2046, &[1, 2]), [0; 4]),
+    (Asked::Sync, [0; 4]),
+    (Asked::Print(b"HIRED\n"), [0; 4]),
+    (Asked::Read(2044), [3, 3, 1, 2]),
+    (Asked::Read(0), [3; 4]),
 ];
 
 /// Makes a call, and answers the four bytes of a read, and zeros of any other call. A piece that doesn't
@@ -70,63 +138,68 @@ pub(crate) fn call<B: Board<L>, L: Ledger>(
     steps: &mut Steps<L>,
 ) -> Result<[u8; 4], Failed> {
     let mut buf = [0; 4];
-    match asked {
+    let answer = match asked {
         Asked::Read(at) => {
             if *at <= 2044 {
-                board.read(*at, &mut buf, steps)?;
+                board.read(*at, &mut buf, steps)
+            } else {
+                Ok(())
             }
         }
         Asked::Write(at, bytes) => {
             if !bytes.is_empty() && bytes.len() <= 512 && *at as usize + bytes.len() <= 2048 {
-                board.write_at(*at, bytes, steps)?;
+                board.write_at(*at, bytes, steps)
+            } else {
+                Ok(())
             }
         }
-        Asked::Sync => board.sync(steps)?,
+        Asked::Sync => board.sync(steps),
         Asked::Print(bytes) => {
             if !bytes.is_empty() && bytes.len() <= 512 {
-                board.print(bytes, steps)?;
+                board.print(bytes, steps)
+            } else {
+                Ok(())
             }
         }
+    };
+    match answer {
+        Ok(()) => Ok(buf),
+        Err(fault) => Err(fault),
     }
-    Ok(buf)
 }
 
-/// Makes a call of a memory board under a new counter.
-fn counted<L: Ledger>(
-    blank: Blank,
+/// Whether the board has printed this.
+fn has_printed(board: &MemoryBoard, text: &[u8]) -> bool {
+    board.printed() == text
+}
+
+/// Makes a story's calls, each of which must answer and print what the story says.
+fn must_answer<L: Ledger>(
     board: &mut MemoryBoard,
-    asked: &Asked,
-) -> Result<[u8; 4], Failed>
+    story: &Story,
+    steps: &mut Steps<L>,
+) -> Result<(), Fail> {
+    for (asked, answer, printed) in story.calls {
+        let answered = call(board, asked, steps) == *answer;
+        must(
+            answered && has_printed(board, printed),
+            story.name,
+            board.calls(),
+        )?;
+    }
+    Ok(())
+}
+
+/// The board behind a story's calls.
+fn called<L: Ledger>(alloc: Global, blank: Blank, story: &Story) -> Result<MemoryBoard, Fail>
     requires name { blank.name ≡ L.name }
     requires parts { blank.parts ≡ L.parts }
     requires one { 0 < blank.parts }
 {
     let mut steps: Steps<L> = Steps::open(blank);
-    call(board, asked, &mut steps)
-}
-
-/// Makes a call of a memory board.
-fn ask(board: &mut MemoryBoard, asked: &Asked) -> Result<[u8; 4], Failed> {
-    counted::<Brand>(Blank::new(1), board, asked)
-}
-
-/// Makes a call of a quiet board under a new counter.
-fn counted_quietly<L: Ledger>(
-    blank: Blank,
-    board: &mut QuietBoard,
-    asked: &Asked,
-) -> Result<[u8; 4], Failed>
-    requires name { blank.name ≡ L.name }
-    requires parts { blank.parts ≡ L.parts }
-    requires one { 0 < blank.parts }
-{
-    let mut steps: Steps<L> = Steps::open(blank);
-    call(board, asked, &mut steps)
-}
-
-/// Makes a call of a quiet board.
-fn ask_quietly(board: &mut QuietBoard, asked: &Asked) -> Result<[u8; 4], Failed> {
-    counted_quietly::<Brand>(Blank::new(1), board, asked)
+    let mut board = MemoryBoard::new(alloc, &[0; 2048], story.fail)?;
+    must_answer(&mut board, story, &mut steps)?;
+    Ok(board)
 }
 
 /// Whether the call was kept, and a cut inside it leaves these bytes in front.
@@ -134,84 +207,55 @@ fn leaves(board: &MemoryBoard, call: u64, fill: Fill, front: &[u8]) -> bool {
     call <= board.calls() && board.cut(call, fill).starts_with(front)
 }
 
-#[test]
-fn a_cut_of_one_write(rt: HostRuntime) -> Result<(), Fail> {
-    let mut board = MemoryBoard::new(rt.alloc(), &[0; 2048], &[])?;
-    let write = Asked::Write(0, &[1, 2]);
-    assert_eq!(rt; ask(&mut board, &write), Ok([0; 4]));
-    let rows = [
-        (Fill::Old, [0, 0, 0]),
-        (Fill::New, [1, 2, 0]),
-        (Fill::Half, [1, 0, 0]),
-        (Fill::Byte(7), [7, 7, 0]),
-    ];
-    for (fill, want) in rows {
-        assert!(rt; leaves(&board, 1, fill, &want), "{fill:?}");
+/// Fails unless each cut leaves what the story says.
+fn must_leave(board: &MemoryBoard, story: &Story) -> Result<(), Fail> {
+    for (call, fill, front) in story.cuts {
+        if !leaves(board, *call, *fill, front) {
+            return Err(Fail::new(format_args!("{}: cut in {call}, {fill:?}", story.name)));
+        }
     }
     Ok(())
 }
 
-#[test]
-fn cuts_in_each_call(rt: HostRuntime) -> Result<(), Fail> {
-    let mut board = MemoryBoard::new(rt.alloc(), &[0; 2048], &[])?;
-    for asked in &CALLS {
-        let read = ask(&mut board, asked);
-        assert!(rt; read.is_ok());
-    }
-    for (call, fill, want) in CUTS {
-        assert!(rt; leaves(&board, call, fill, &want), "{call} {fill:?}");
-    }
-    assert!(rt; board.image().starts_with(&[5, 6, 9, 10, 11, 0]));
-    assert_eq!(rt; board.printed(), b"FOR HIRE\n".as_slice());
-    Ok(())
+/// Fails unless the board has the story's image, and kept each call.
+fn must_have(board: &MemoryBoard, story: &Story) -> Result<(), Fail> {
+    let kept = board.calls() == story.calls.len() as u64 && board.refused() == 0;
+    let held = board.image().starts_with(story.image);
+    must(kept && held, story.name, 0)
+}
+
+/// Fails unless a story's calls and cuts are as it says.
+fn must_be_told(alloc: Global, story: &Story) -> Result<(), Fail> {
+    let board = called::<Brand>(alloc, Blank::new(1), story)?;
+    must_have(&board, story)?;
+    must_leave(&board, story)
 }
 
 #[test]
-fn cuts_behind_failed_calls(rt: HostRuntime) -> Result<(), Fail> {
-    let mut board = MemoryBoard::new(rt.alloc(), &[0; 2048], &[4, 6])?;
-    for asked in &CALLS {
-        let failed = board.calls() == 3 || board.calls() == 5;
-        let read = ask(&mut board, asked);
-        assert_eq!(rt; read.is_err(), failed);
+fn calls_of_a_memory_board_and_cuts_in_them(rt: HostRuntime) -> Result<(), Fail> {
+    for story in STORIES {
+        must_be_told(rt.alloc(), story)?;
     }
-    for (call, fill, want) in FAILED_CUTS {
-        assert!(rt; leaves(&board, call, fill, &want), "{call} {fill:?}");
-    }
-    assert!(rt; board.image().starts_with(&[5, 6, 7, 8, 0, 0]));
-    assert_eq!(rt; (board.calls(), board.refused()), (7, 0));
     Ok(())
 }
 
-#[test]
-fn prints_of_a_memory_board(rt: HostRuntime) -> Result<(), Fail> {
-    let mut board = MemoryBoard::new(rt.alloc(), &[0; 2048], &[2])?;
-    let rows = [
-        (b"FOR ".as_slice(), Ok([0; 4]), b"FOR ".as_slice()),
-        (b"RENT", Err(Failed), b"FOR "),
-        (b"HIRE\n", Ok([0; 4]), b"FOR HIRE\n"),
-    ];
-    for (bytes, want, text) in rows {
-        let print = Asked::Print(bytes);
-        assert_eq!(rt; ask(&mut board, &print), want);
-        assert_eq!(rt; board.printed(), text);
-    }
-    assert_eq!(rt; (board.calls(), board.refused()), (3, 0));
-    Ok(())
-}
-
-#[test]
-fn calls_of_a_quiet_board(rt: HostRuntime) {
+/// Fails unless the calls of a quiet board answer what they should.
+fn must_be_quiet<L: Ledger>(blank: Blank) -> Result<(), Fail>
+    requires name { blank.name ≡ L.name }
+    requires parts { blank.parts ≡ L.parts }
+    requires one { 0 < blank.parts }
+{
+    let mut steps: Steps<L> = Steps::open(blank);
     let mut board = QuietBoard::new(&[3; 2048]);
-    let rows = [
-        (Asked::Read(2044), [3; 4]),
-        (Asked::Write(2046, &[1, 2]), [0; 4]),
-        (Asked::Sync, [0; 4]),
-        (Asked::Print(b"HIRED\n"), [0; 4]),
-        (Asked::Read(2044), [3, 3, 1, 2]),
-        (Asked::Read(0), [3; 4]),
-    ];
-    for (asked, want) in &rows {
-        let read = ask_quietly(&mut board, asked);
-        assert_eq!(rt; read, Ok(*want));
+    for number in 0..QUIET.len() {
+        let (asked, want) = &QUIET[number];
+        let answered = call(&mut board, asked, &mut steps) == Ok(*want);
+        must(answered, "a quiet board", number as u64)?;
     }
+    Ok(())
+}
+
+#[test]
+fn calls_of_a_quiet_board() -> Result<(), Fail> {
+    must_be_quiet::<Brand>(Blank::new(1))
 }

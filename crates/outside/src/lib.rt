@@ -19,6 +19,7 @@ mod memory_device;
 mod memory_file;
 mod memory_files;
 mod memory_state;
+mod program;
 mod quiet_board;
 mod replay;
 mod retried;
@@ -36,6 +37,7 @@ pub use list_laws::{Places, a_slice_of_bytes, a_slice_that_is_not_touched, what_
 pub use memory_board::MemoryBoard;
 pub use memory_device::MemoryDevice;
 pub use memory_files::MemoryFiles;
+pub use program::program_words;
 pub use quiet_board::QuietBoard;
 pub use replay::Fill;
 pub use run_laws::{

@@ -1,11 +1,10 @@
 //! A board in memory, of which chosen calls fail.
-ghost use Rattle.std.specs.Prelude.{◌≡◌, ◌⊎◌, ℕ, ◌+◌, ◌<◌, ◌≤◌, ◌++◌, List, [], length, take, drop, IfOk, OnOk, OnErr};
-ghost use Rattle.outside.specs.Calls.{Read, Write, Sync, Print, IsInSome, opened};
-ghost use Rattle.outside.specs.Disk.{IsImage, IsPiece, IsWithin, SameBut, MayLeave, MayLeaveAmid};
-ghost use Rattle.outside.specs.Faults.{HasCause};
-ghost use Rattle.outside.specs.MemoryBoard.{Memory, IsDone, IsNew, IsUndone, TimePasses, new_board, faults_of, held_inside, image_of, in_flight_of, left_since_of, moment_of, text_of};
+ghost use Rattle.std.specs.Prelude.{◌≡◌, ◌+◌, ◌<◌, ◌≤◌, [], length, IfOk};
+ghost use Rattle.outside.specs.Calls.{IsInSome, opened};
+ghost use Rattle.outside.specs.Disk.{IsPiece, SameBut};
+ghost use Rattle.outside.specs.MemoryBoard.{Memory, IsNew, new_board, faults_of, held_inside, image_of, in_flight_of, left_since_of, moment_of, text_of};
+ghost use Rattle.outside.specs.MemoryCalls.{PrintsPiece, ReadsPiece, SyncsStore, WritesPiece};
 ghost use Rattle.outside.specs.MomentLaws.{counts_now, only_now};
-ghost use Rattle.outside.specs.Printing.{Begins};
 
 use crate::board::Board;
 use crate::fault::Failed;
@@ -16,12 +15,8 @@ use std::marker::Model;
 use std::sync::ledger::Ledger;
 use taxi_units::{NoMemory, Steps};
 
-/// A board in memory, which tells its image and what was printed. A call that finds no memory fails
-/// and raises `refused` by one; it isn't kept, takes no number and changes nothing else. The other
-/// calls are kept and numbered from 1, and exactly those with chosen numbers fail. A write among
-/// these leaves the image as it was, and its range in flight; a print among them prints nothing. The
-/// count of faults is `refused`, which stands still at the last value of a `u64`, and the number of
-/// the calls that failed by their numbers, together.
+/// A board in memory, a `MemoryDevice` of 2,048 bytes: it tells its image and what was printed, and calls
+/// of it fail as that says.
 #[derive(Drop)]
 pub struct MemoryBoard {
     device: MemoryDevice<2048>,
@@ -44,14 +39,14 @@ impl MemoryBoard {
         Ok(MemoryBoard { device })
     }
 
-    /// How many calls were kept, those that failed by their numbers among them.
+    /// How many calls the device has kept, those that failed by their numbers among them.
     pub fn calls(&self) -> u64
         ensures { result ≡ length self.now.state.calls }
     {
         self.device.calls()
     }
 
-    /// What was printed.
+    /// What the device has printed.
     pub fn printed(&self) -> &[u8]
         ensures { result.now ≡ text_of self.now.state }
     {
@@ -116,18 +111,8 @@ impl<L: Ledger> Board<L> for MemoryBoard {
 
     fn read(&mut self, at: u16, buf: &mut [u8], steps: &mut Steps<L>) -> Result<(), Failed>
         requires { IsPiece 2048 at (length buf.old) }
-        ensures bytes { OnOk result (buf.new ≡ take (length buf.old) (drop at (image_of self.old.state))) }
-        ensures image { image_of self.new.state ≡ image_of self.old.state }
-        ensures flight { (place : ℕ) → in_flight_of self.new.state place → in_flight_of self.old.state place }
-        ensures text { text_of self.new.state ≡ text_of self.old.state }
-        ensures time { TimePasses self.old.state self.new.state
-            (MayLeave (image_of self.new.state) (in_flight_of self.new.state) (text_of self.new.state)) }
-        ensures cause { HasCause (faults_of self.old.state) (faults_of self.new.state) result }
+        ensures reads { ReadsPiece self.old.state at buf.old buf.new self.new.state result }
         ensures step { steps.new ≡ steps.old + 1 }
-
-        // A call that is kept fails exactly by its number. One that isn't kept was refused.
-        ensures kept { OnOk result (IsDone self.old.state Read self.new.state) }
-        ensures failed { OnErr result (IsUndone self.old.state Read self.new.state) }
     {
         steps.spend();
         self.device.read(u32::from(at), buf)
@@ -135,38 +120,16 @@ impl<L: Ledger> Board<L> for MemoryBoard {
 
     fn write_at(&mut self, at: u16, bytes: &[u8], steps: &mut Steps<L>) -> Result<(), Failed>
         requires { IsPiece 2048 at (length bytes.now) }
-        ensures written { OnOk result (take (length bytes.now) (drop at (image_of self.new.state)) ≡ bytes.now) }
-        ensures image { SameBut (IsWithin at (length bytes.now)) (image_of self.old.state) (image_of self.new.state) }
-        ensures flight { (place : ℕ) → in_flight_of self.new.state place → in_flight_of self.old.state place
-            ⊎ IsWithin at (length bytes.now) place }
-        ensures text { text_of self.new.state ≡ text_of self.old.state }
-        ensures time { TimePasses self.old.state self.new.state
-            (MayLeave (image_of self.new.state) (in_flight_of self.new.state) (text_of self.new.state)) }
-        ensures cause { HasCause (faults_of self.old.state) (faults_of self.new.state) result }
+        ensures writes { WritesPiece self.old.state at bytes.now self.new.state result }
         ensures step { steps.new ≡ steps.old + 1 }
-
-        // A call that is kept fails exactly by its number. One that isn't kept was refused.
-        ensures kept { OnOk result (IsDone self.old.state (Write at bytes.now) self.new.state) }
-        ensures failed { OnErr result (IsUndone self.old.state (Write at bytes.now) self.new.state) }
     {
         steps.spend();
         self.device.write_at(u32::from(at), bytes)
     }
 
     fn sync(&mut self, steps: &mut Steps<L>) -> Result<(), Failed>
-        ensures durable { OnOk result ((place : ℕ) → ¬ in_flight_of self.new.state place) }
-        ensures same { OnOk result (image_of self.new.state ≡ image_of self.old.state) }
-        ensures image { SameBut (in_flight_of self.old.state) (image_of self.old.state) (image_of self.new.state) }
-        ensures flight { (place : ℕ) → in_flight_of self.new.state place → in_flight_of self.old.state place }
-        ensures text { text_of self.new.state ≡ text_of self.old.state }
-        ensures time { TimePasses self.old.state self.new.state
-            (MayLeave (image_of self.new.state) (in_flight_of self.new.state) (text_of self.new.state)) }
-        ensures cause { HasCause (faults_of self.old.state) (faults_of self.new.state) result }
+        ensures syncs { SyncsStore self.old.state self.new.state result }
         ensures step { steps.new ≡ steps.old + 1 }
-
-        // A call that is kept fails exactly by its number. One that isn't kept was refused.
-        ensures kept { OnOk result (IsDone self.old.state Sync self.new.state) }
-        ensures failed { OnErr result (IsUndone self.old.state Sync self.new.state) }
     {
         steps.spend();
         self.device.sync()
@@ -175,18 +138,8 @@ impl<L: Ledger> Board<L> for MemoryBoard {
     fn print(&mut self, bytes: &[u8], steps: &mut Steps<L>) -> Result<(), Failed>
         requires some { 0 < length bytes.now }
         requires few { length bytes.now ≤ 512 }
-        ensures whole { OnOk result (text_of self.new.state ≡ text_of self.old.state ++ bytes.now) }
-        ensures begun { Begins (text_of self.old.state) (text_of self.new.state) bytes.now }
-        ensures image { image_of self.new.state ≡ image_of self.old.state }
-        ensures flight { (place : ℕ) → in_flight_of self.new.state place → in_flight_of self.old.state place }
-        ensures time { TimePasses self.old.state self.new.state
-            (MayLeaveAmid (image_of self.new.state) (in_flight_of self.new.state) (text_of self.old.state) bytes.now) }
-        ensures cause { HasCause (faults_of self.old.state) (faults_of self.new.state) result }
+        ensures prints { PrintsPiece self.old.state bytes.now self.new.state result }
         ensures step { steps.new ≡ steps.old + 1 }
-
-        // A call that is kept fails exactly by its number. One that isn't kept was refused.
-        ensures kept { OnOk result (IsDone self.old.state (Print bytes.now) self.new.state) }
-        ensures failed { OnErr result (IsUndone self.old.state (Print bytes.now) self.new.state) }
     {
         steps.spend();
         self.device.print(bytes)

@@ -1,10 +1,9 @@
 //! The device in memory behind each board in memory: a store of some size, and a printer.
-ghost use Rattle.std.specs.Prelude.{◌≡◌, ◌⊎◌, ℕ, ◌+◌, ◌^◌, ◌<◌, ◌≤◌, ◌++◌, List, [], length, take, drop, IfOk, OnOk, OnErr};
-ghost use Rattle.outside.specs.Calls.{Read, Write, Sync, Print, IsInSome};
-ghost use Rattle.outside.specs.Disk.{IsImage, IsPiece, IsWithin, SameBut, MayLeave, MayLeaveAmid};
-ghost use Rattle.outside.specs.Faults.{HasCause};
-ghost use Rattle.outside.specs.MemoryBoard.{Memory, IsDone, IsNew, IsUndone, TimePasses, new_board, faults_of, held_inside, image_of, in_flight_of, left_since_of, text_of};
-ghost use Rattle.outside.specs.Printing.{Begins};
+ghost use Rattle.std.specs.Prelude.{◌≡◌, ◌^◌, ◌<◌, ◌≤◌, [], length, IfOk};
+ghost use Rattle.outside.specs.Calls.{IsInSome};
+ghost use Rattle.outside.specs.Disk.{IsImage, IsPiece, SameBut};
+ghost use Rattle.outside.specs.MemoryBoard.{Memory, IsNew, new_board, held_inside, image_of, left_since_of, text_of};
+ghost use Rattle.outside.specs.MemoryCalls.{PrintsPiece, ReadsPiece, SyncsStore, WritesPiece};
 
 use crate::fault::Failed;
 use crate::memory_state::MemoryState;
@@ -117,19 +116,10 @@ impl<const N: usize> MemoryDevice<N> {
         self.state.cut_into(call, fill, image, settled, left);
     }
 
-    /// Reads a piece of 1 to 512 bytes into the whole of `buf`. A call that is kept fails exactly by its
-    /// number; one that isn't kept was refused. It is so of each call below.
+    /// Reads a piece of 1 to 512 bytes into the whole of `buf`.
     pub fn read(&mut self, at: u32, buf: &mut [u8]) -> Result<(), Failed>
         requires { IsPiece N at (length buf.old) }
-        ensures bytes { OnOk result (buf.new ≡ take (length buf.old) (drop at (image_of self.old.state))) }
-        ensures image { image_of self.new.state ≡ image_of self.old.state }
-        ensures flight { (place : ℕ) → in_flight_of self.new.state place → in_flight_of self.old.state place }
-        ensures text { text_of self.new.state ≡ text_of self.old.state }
-        ensures time { TimePasses self.old.state self.new.state
-            (MayLeave (image_of self.new.state) (in_flight_of self.new.state) (text_of self.new.state)) }
-        ensures cause { HasCause (faults_of self.old.state) (faults_of self.new.state) result }
-        ensures kept { OnOk result (IsDone self.old.state Read self.new.state) }
-        ensures failed { OnErr result (IsUndone self.old.state Read self.new.state) }
+        ensures { ReadsPiece self.old.state at buf.old buf.new self.new.state result }
     {
         self.state.keep_read(at, buf)
     }
@@ -137,32 +127,14 @@ impl<const N: usize> MemoryDevice<N> {
     /// Writes a piece of 1 to 512 bytes, which is in flight until a sync succeeds.
     pub fn write_at(&mut self, at: u32, bytes: &[u8]) -> Result<(), Failed>
         requires { IsPiece N at (length bytes.now) }
-        ensures written { OnOk result (take (length bytes.now) (drop at (image_of self.new.state)) ≡ bytes.now) }
-        ensures image { SameBut (IsWithin at (length bytes.now)) (image_of self.old.state) (image_of self.new.state) }
-        ensures flight { (place : ℕ) → in_flight_of self.new.state place → in_flight_of self.old.state place
-            ⊎ IsWithin at (length bytes.now) place }
-        ensures text { text_of self.new.state ≡ text_of self.old.state }
-        ensures time { TimePasses self.old.state self.new.state
-            (MayLeave (image_of self.new.state) (in_flight_of self.new.state) (text_of self.new.state)) }
-        ensures cause { HasCause (faults_of self.old.state) (faults_of self.new.state) result }
-        ensures kept { OnOk result (IsDone self.old.state (Write at bytes.now) self.new.state) }
-        ensures failed { OnErr result (IsUndone self.old.state (Write at bytes.now) self.new.state) }
+        ensures { WritesPiece self.old.state at bytes.now self.new.state result }
     {
         self.state.keep_write(at, bytes)
     }
 
     /// Settles what was written.
     pub fn sync(&mut self) -> Result<(), Failed>
-        ensures durable { OnOk result ((place : ℕ) → ¬ in_flight_of self.new.state place) }
-        ensures same { OnOk result (image_of self.new.state ≡ image_of self.old.state) }
-        ensures image { SameBut (in_flight_of self.old.state) (image_of self.old.state) (image_of self.new.state) }
-        ensures flight { (place : ℕ) → in_flight_of self.new.state place → in_flight_of self.old.state place }
-        ensures text { text_of self.new.state ≡ text_of self.old.state }
-        ensures time { TimePasses self.old.state self.new.state
-            (MayLeave (image_of self.new.state) (in_flight_of self.new.state) (text_of self.new.state)) }
-        ensures cause { HasCause (faults_of self.old.state) (faults_of self.new.state) result }
-        ensures kept { OnOk result (IsDone self.old.state Sync self.new.state) }
-        ensures failed { OnErr result (IsUndone self.old.state Sync self.new.state) }
+        ensures { SyncsStore self.old.state self.new.state result }
     {
         self.state.keep_sync()
     }
@@ -171,15 +143,7 @@ impl<const N: usize> MemoryDevice<N> {
     pub fn print(&mut self, bytes: &[u8]) -> Result<(), Failed>
         requires some { 0 < length bytes.now }
         requires few { length bytes.now ≤ 512 }
-        ensures whole { OnOk result (text_of self.new.state ≡ text_of self.old.state ++ bytes.now) }
-        ensures begun { Begins (text_of self.old.state) (text_of self.new.state) bytes.now }
-        ensures image { image_of self.new.state ≡ image_of self.old.state }
-        ensures flight { (place : ℕ) → in_flight_of self.new.state place → in_flight_of self.old.state place }
-        ensures time { TimePasses self.old.state self.new.state
-            (MayLeaveAmid (image_of self.new.state) (in_flight_of self.new.state) (text_of self.old.state) bytes.now) }
-        ensures cause { HasCause (faults_of self.old.state) (faults_of self.new.state) result }
-        ensures kept { OnOk result (IsDone self.old.state (Print bytes.now) self.new.state) }
-        ensures failed { OnErr result (IsUndone self.old.state (Print bytes.now) self.new.state) }
+        ensures { PrintsPiece self.old.state bytes.now self.new.state result }
     {
         self.state.keep_print(bytes)
     }
