@@ -3,7 +3,7 @@ use Rattle.std.proofs.Common.{◌≡◌, ℕ, zero, suc, ◌+◌, ◌*◌, ◌<�
 use Rattle.std.proofs.lemmas.List.{append-nil, drop-drop, take_all, take_more}
 use Rattle.std.proofs.lemmas.Grind.{flat_map-append}
 use Rattle.std.specs.Int.{w32, w64, from_be_bytes, cast_signed}
-use Rattle.totaliser_store.specs.BytesAt.{eight_at}
+use Rattle.slot_store.specs.BytesAt.{eight_at}
 use Rattle.seal_store.specs.Decoding.{pairs_in, signed_at}
 use Rattle.seal_store.specs.Spelling.{pair_bytes}
 

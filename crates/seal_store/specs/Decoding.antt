@@ -7,12 +7,14 @@ use Rattle.drive_modes.specs.declared.charges.Mode.{Mode}
 use Rattle.drive_modes.specs.declared.charges.Mode.TheVariants.{Single, Double}
 use Rattle.seal_store.specs.declared.params.Params.{Params}
 use Rattle.seal_store.specs.declared.seal.Seal.{Seal}
+use Rattle.seal_store.specs.Limits.{longest_taxi, least_constant, greatest_constant, longest_hold, first_day, last_day}
+use Rattle.seal_store.specs.Limits.{last_seal_number, digest_size, most_decimals}
 use Rattle.seal_store.specs.Lines.{before}
 use Rattle.seal_store.specs.OffsetList.{is_offset_list}
 pub use Rattle.seal_store.specs.Ranges.{number_of}
-use Rattle.seal_store.specs.Spelling.{spelling}
+use Rattle.seal_store.specs.Spelling.{spelling, offset_size}
 use Rattle.seal_store.specs.Values.{is_taxi}
-use Rattle.totaliser_store.specs.BytesAt.{byte_at, four_at, eight_at}
+use Rattle.slot_store.specs.BytesAt.{byte_at, four_at, eight_at}
 
 -- the number in the two bytes from a place on
 abbrev pub two_at : List ℕ → ℕ → ℕ
@@ -29,12 +31,12 @@ mode_in byte = if byte == 1 then Double else Single
 -- the pairs of a list of offsets at the front of bytes, `count` of them
 abbrev pub pairs_in : (count : ℕ) → List ℕ → List (ℕ × ℤ)
 pairs_in zero bytes = []
-pairs_in (suc count) bytes = (eight_at bytes 0, signed_at bytes 8) ∷ pairs_in count (drop 12 bytes)
+pairs_in (suc count) bytes = (eight_at bytes 0, signed_at bytes 8) ∷ pairs_in count (drop offset_size bytes)
 
 -- the parameters whose fields stand in the bytes at their places, whatever they are
 abbrev pub params_in : List ℕ → Params
 params_in bytes = record {
-  taxi = record { items = before 0 (take 16 (drop 8 bytes)) };
+  taxi = record { items = before 0 (take longest_taxi (drop 8 bytes)) };
   constant = four_at bytes 24;
   mode = mode_in (byte_at bytes 28);
   hold = two_at bytes 29;
@@ -47,7 +49,7 @@ abbrev pub decoded : List ℕ → Seal
 decoded bytes = record {
   seal_number = eight_at bytes 0;
   params = params_in bytes;
-  digest = take 32 (drop 31 bytes);
+  digest = take digest_size (drop 31 bytes);
   decimals = byte_at bytes 452;
 }
 
@@ -55,14 +57,16 @@ decoded bytes = record {
 abbrev pub are_params : Params → Bool
 are_params params =
     is_taxi params.taxi.items
-    && (nat_le 500 params.constant && (nat_le params.constant 200000 && (nat_le params.hold 600
-    && (int_le (pos 10957) params.secured && (int_le params.secured (pos 84005) && is_offset_list params.offsets)))))
+    && (nat_le least_constant params.constant && (nat_le params.constant greatest_constant
+    && (nat_le params.hold longest_hold
+    && (int_le (pos first_day) params.secured && (int_le params.secured (pos last_day)
+    && is_offset_list params.offsets)))))
 
 -- a test whether each field of a seal is in its range
 abbrev pub is_seal : Seal → Bool
 is_seal seal =
-    nat_le 1 seal.seal_number && (nat_le seal.seal_number 1000000000000000 && (are_params seal.params
-    && ((length seal.digest == 32) && nat_le seal.decimals 3)))
+    nat_le 1 seal.seal_number && (nat_le seal.seal_number last_seal_number && (are_params seal.params
+    && ((length seal.digest == digest_size) && nat_le seal.decimals most_decimals)))
 
 -- bytes are read as the seal of their fields where each field is in its range and the bytes are the seal's own
 unfoldable pub reads : List ℕ → Option Seal

@@ -4,6 +4,7 @@ use Rattle.std.specs.Str.Parse.{IsNumeral, digits_value}
 use Rattle.drive_modes.specs.declared.charges.Mode.{Mode}
 use Rattle.drive_modes.specs.declared.charges.Mode.TheVariants.{Single, Double}
 use Rattle.interval_clock.specs.Calendar.{IsDateOf}
+use Rattle.seal_store.specs.Limits.{greatest_offset, first_year, last_year}
 use Rattle.seal_store.specs.Says.{IsNumberIn}
 
 -- a text is that of a mode where it is `single` for mode S, or `double` for mode D
@@ -13,8 +14,9 @@ pub data IsModeText : List ℕ → Mode → Type 0 where
 
 -- a text is that of an offset where it is a number of at most 50400, with a minus before it or not
 pub data IsOffsetText : List ℕ → ℤ → Type 0 where
-  ahead : (digits : List ℕ) (n : ℕ) → IsNumberIn 0 50400 digits n → IsOffsetText digits (pos n)
-  behind : (digits : List ℕ) (n : ℕ) → IsNumberIn 0 50400 digits n → IsOffsetText (45 ∷ digits) (neg_ℤ (pos n))
+  ahead : (digits : List ℕ) (n : ℕ) → IsNumberIn 0 greatest_offset digits n → IsOffsetText digits (pos n)
+  behind : (digits : List ℕ) (n : ℕ) → IsNumberIn 0 greatest_offset digits n
+      → IsOffsetText (45 ∷ digits) (neg_ℤ (pos n))
 
 -- a text is that of a pair where it is the 1 to 12 digits of its second, one blank, and its offset
 pub record IsPairText (text : List ℕ) (pair : ℕ × ℤ) : Type 0 where
@@ -44,6 +46,6 @@ pub record IsDateText (text : List ℕ) (day : ℤ) : Type 0 where
   pub year_is : IsWide 4 years year
   pub month_is : IsWide 2 months month
   pub date_is : IsWide 2 dates date
-  pub from : 2000 ≤ year
-  pub to : year ≤ 2199
+  pub from : first_year ≤ year
+  pub to : year ≤ last_year
   pub day_is : IsDateOf day year month date

@@ -3,6 +3,7 @@ use Rattle.std.specs.Prelude.{◌≡◌, ℕ, ℤ, List, [], ◌∷◌, ◌++◌
 use Rattle.drive_modes.specs.declared.charges.Mode.{Mode}
 use Rattle.interval_clock.specs.Offsets.{IsOffsetList}
 use Rattle.seal_store.specs.Forms.{IsDateText, IsModeText, IsPairText}
+use Rattle.seal_store.specs.Limits.{least_constant, greatest_constant, longest_hold}
 use Rattle.seal_store.specs.Ranges.{IsTaxi}
 use Rattle.seal_store.specs.Said.{Said}
 use Rattle.seal_store.specs.Says.{IsNumberIn, IsParted}
@@ -19,11 +20,11 @@ pub data SaysMore (said : Said) : (line : List ℕ) → (more : Said) → Type 0
   taxi_said : (line value : List ℕ) → IsParted line (codes "taxi") value → said.taxi ≡ None → IsTaxi value
       → SaysMore said line (record said { taxi = Some value })
   constant_said : (line value : List ℕ) (n : ℕ) → IsParted line (codes "constant") value → said.constant ≡ None
-      → IsNumberIn 500 200000 value n → SaysMore said line (record said { constant = Some n })
+      → IsNumberIn least_constant greatest_constant value n → SaysMore said line (record said { constant = Some n })
   mode_said : (line value : List ℕ) (mode : Mode) → IsParted line (codes "mode") value → said.mode ≡ None
       → IsModeText value mode → SaysMore said line (record said { mode = Some mode })
   hold_said : (line value : List ℕ) (n : ℕ) → IsParted line (codes "hold") value → said.hold ≡ None
-      → IsNumberIn 0 600 value n → SaysMore said line (record said { hold = Some n })
+      → IsNumberIn 0 longest_hold value n → SaysMore said line (record said { hold = Some n })
   offset_said : (line value : List ℕ) (pair : ℕ × ℤ) → IsParted line (codes "offset") value → IsPairText value pair
       → IsOffsetList (said.offsets ++ pair ∷ [])
       → SaysMore said line (record said { offsets = said.offsets ++ pair ∷ [] })

@@ -6,6 +6,7 @@ use Rattle.std.proofs.lemmas.Bool.Decides.{Decides-ltb, Decides-eqb, Decides-and
 use Rattle.std.proofs.lemmas.Int.{ints}
 use Rattle.interval_clock.specs.Offsets.{IsOffsetList, IsInRangeAt, RisesAt, EachPlace, second_at}
 use Rattle.taxi_units.specs.Time.{first_second, last_second}
+use Rattle.seal_store.specs.Limits.{greatest_offset, most_offsets}
 use Rattle.seal_store.specs.OffsetList.{is_in_range, is_rising, is_offset_list}
 
 -- the test of two numbers decides which is at most the other
@@ -19,11 +20,13 @@ Decides-int_le a b = (λ h. grind (arith, ints), λ h. grind (arith, ints))
 -- the test of a pair decides whether its second and its offset are in range
 range_decides : (pair : ℕ × ℤ)
     → Decides (is_in_range pair)
-    ((first_second ≤ pair.0) × ((pair.0 ≤ last_second) × ((neg_ℤ (pos 50400) ≤ℤ pair.1) × (pair.1 ≤ℤ pos 50400))))
+    ((first_second ≤ pair.0) × ((pair.0 ≤ last_second)
+    × ((neg_ℤ (pos greatest_offset) ≤ℤ pair.1) × (pair.1 ≤ℤ pos greatest_offset))))
 range_decides pair =
     Decides-and _ _ (Decides-leb first_second pair.0)
     (Decides-and _ _ (Decides-leb pair.0 last_second)
-    (Decides-and _ _ (Decides-int_le (neg_ℤ (pos 50400)) pair.1) (Decides-int_le pair.1 (pos 50400))))
+    (Decides-and _ _ (Decides-int_le (neg_ℤ (pos greatest_offset)) pair.1)
+    (Decides-int_le pair.1 (pos greatest_offset))))
 
 -- pairs that each pass their test are each in range
 ranges_sound : (pairs : List (ℕ × ℤ)) → list_all is_in_range pairs ≡ true → (place : ℕ) → place < length pairs
@@ -92,7 +95,8 @@ rises_next pairs each place lt =
 pub Decides-is_offset_list : (pairs : List (ℕ × ℤ)) → Decides (is_offset_list pairs) (IsOffsetList pairs)
 Decides-is_offset_list pairs =
     let tests = Decides-and _ _ (Decides-leb 1 (length pairs))
-    (Decides-and _ _ (Decides-leb (length pairs) 32) (Decides-and _ _ (Decides-eqb (second_at pairs 0) first_second)
+    (Decides-and _ _ (Decides-leb (length pairs) most_offsets)
+    (Decides-and _ _ (Decides-eqb (second_at pairs 0) first_second)
     (Decides-and _ _ (ranges_sound pairs, ranges_complete pairs)
     (λ all. rises_at pairs (rises_sound pairs all), λ each. rises_complete pairs (rises_next pairs each))))) in
     Decides-like (is_offset_list pairs)

@@ -3,12 +3,14 @@ use Rattle.std.specs.Prelude.{ℕ, ◌&&◌, ◌==◌, nat_le, nat_lt, Bool, tru
 use Rattle.std.specs.List.{list_all}
 use Rattle.interval_clock.specs.Offsets.{second_at}
 use Rattle.taxi_units.specs.Time.{first_second, last_second}
+use Rattle.seal_store.specs.Limits.{greatest_offset, most_offsets}
 
 -- a test whether a pair has a second of the meter's and an offset of at most 14 hours
 abbrev pub is_in_range : ℕ × ℤ → Bool
 is_in_range pair =
     nat_le first_second pair.0
-    && (nat_le pair.0 last_second && (int_le (neg_ℤ (pos 50400)) pair.1 && int_le pair.1 (pos 50400)))
+    && (nat_le pair.0 last_second
+    && (int_le (neg_ℤ (pos greatest_offset)) pair.1 && int_le pair.1 (pos greatest_offset)))
 
 -- a test whether each second of a list of pairs is greater than the one before
 abbrev pub is_rising : List (ℕ × ℤ) → Bool
@@ -19,7 +21,7 @@ is_rising (pair ∷ next ∷ pairs) = nat_lt pair.0 next.0 && is_rising (next �
 -- a test whether a list has 1 to 32 pairs in range, the first of 2000-01-01T00:00Z, with rising seconds
 abbrev pub is_offset_list : List (ℕ × ℤ) → Bool
 is_offset_list pairs =
-    nat_le 1 (length pairs) && (nat_le (length pairs) 32 && ((second_at pairs 0 == first_second)
+    nat_le 1 (length pairs) && (nat_le (length pairs) most_offsets && ((second_at pairs 0 == first_second)
     && (list_all is_in_range pairs && is_rising pairs)))
 
 -- a test whether a list that is being read has no pair yet or is lawful

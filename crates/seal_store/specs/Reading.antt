@@ -7,6 +7,7 @@ use Rattle.seal_store.specs.declared.params.Name.TheVariants as name
 use Rattle.seal_store.specs.declared.params.Params.{Params}
 use Rattle.seal_store.specs.declared.params.ParamFault.{ParamFault}
 use Rattle.seal_store.specs.declared.params.ParamFault.TheVariants.{TooLong, Missing}
+use Rattle.seal_store.specs.Limits.{longest_text}
 use Rattle.seal_store.specs.Lines.{lines_of}
 use Rattle.seal_store.specs.Said.{Said, nothing_said}
 use Rattle.seal_store.specs.SaidStages.{line_read}
@@ -48,4 +49,5 @@ whole said = whole_of said.taxi said.constant said.mode said.hold said.offsets s
 -- a text is read as the parameters that its lines say, or as its first fault; one of more than 65,536 bytes is too long
 unfoldable pub params_read : List ℕ → Result Params ParamFault
 params_read text =
-    if nat_lt 65536 (length text) then Err TooLong else and_then (lines_read nothing_said 1 (lines_of text)) whole
+    if nat_lt longest_text (length text) then Err TooLong
+    else and_then (lines_read nothing_said 1 (lines_of text)) whole

@@ -8,6 +8,7 @@ use Rattle.seal_store.specs.declared.params.Name.TheVariants.{Taxi, Constant, Ho
 use Rattle.seal_store.specs.declared.params.Name.TheVariants as name
 use Rattle.seal_store.specs.declared.params.ParamFault.{ParamFault}
 use Rattle.seal_store.specs.declared.params.ParamFault.TheVariants.{Unknown, BadValue, Twice}
+use Rattle.seal_store.specs.Limits.{least_constant, greatest_constant, longest_hold}
 use Rattle.seal_store.specs.Lines.{is_passed, key_in, value_in}
 use Rattle.seal_store.specs.OffsetList.{is_offset_list}
 use Rattle.seal_store.specs.Said.{Said}
@@ -50,9 +51,10 @@ with_pair said pair =
 -- what has been said with a parameter's value, where the value is of its form
 abbrev pub with_value : Said → Name → (value : List ℕ) → Option Said
 with_value said Taxi value = taxi_read value >>= (λ taxi. Some (record said { taxi = Some taxi }))
-with_value said Constant value = number_in 500 200000 value >>= (λ n. Some (record said { constant = Some n }))
+with_value said Constant value =
+    number_in least_constant greatest_constant value >>= (λ n. Some (record said { constant = Some n }))
 with_value said name.Mode value = mode_read value >>= (λ mode. Some (record said { mode = Some mode }))
-with_value said Hold value = number_in 0 600 value >>= (λ n. Some (record said { hold = Some n }))
+with_value said Hold value = number_in 0 longest_hold value >>= (λ n. Some (record said { hold = Some n }))
 with_value said Offset value = pair_read value >>= with_pair said
 with_value said Secured value = secured_read value >>= (λ day. Some (record said { secured = Some day }))
 

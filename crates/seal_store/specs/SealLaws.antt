@@ -15,10 +15,14 @@ use Rattle.std.proofs.lemmas.Slice.Eq.{bytes_eq-Decides}
 use Rattle.drive_modes.specs.declared.charges.Mode.{Mode}
 use Rattle.drive_modes.specs.declared.charges.Mode.TheVariants.{Single, Double}
 use Rattle.interval_clock.specs.Offsets.{IsOffset, IsInRangeAt}
-use Rattle.totaliser_store.specs.BytesAt.{byte_at, four_at}
+use Rattle.slot_store.specs.Bodies.{AreBodies}
+use Rattle.slot_store.specs.BytesAt.{byte_at, four_at}
+use Rattle.slot_store.specs.Sizes.{body_size}
 use Rattle.seal_store.specs.declared.params.Params.{Params}
 use Rattle.seal_store.specs.declared.seal.Seal.{Seal}
 use Rattle.seal_store.specs.Decoding.{are_params, decoded, is_seal, mode_in, pairs_in, reads, signed_at, two_at}
+use Rattle.seal_store.specs.Limits.{least_constant, greatest_constant, longest_hold, first_day, last_day}
+use Rattle.seal_store.specs.Limits.{last_seal_number, digest_size, most_decimals}
 use Rattle.seal_store.specs.Lines.{before}
 use Rattle.seal_store.specs.Says.{HasNone}
 use Rattle.seal_store.specs.OffsetLaws.{Decides-int_le, Decides-is_offset_list, Decides-leb}
@@ -58,10 +62,11 @@ Decides-are_params params =
     })
     (λ is. (is.taxi, (is.constant.0, (is.constant.1, (is.hold, (is.secured.0, (is.secured.1, is.offsets)))))))
     (Decides-and _ _ (Decides-is_taxi params.taxi.items)
-    (Decides-and _ _ (Decides-leb 500 params.constant) (Decides-and _ _ (Decides-leb params.constant 200000)
-    (Decides-and _ _ (Decides-leb params.hold 600)
-    (Decides-and _ _ (Decides-int_le (pos 10957) params.secured)
-    (Decides-and _ _ (Decides-int_le params.secured (pos 84005)) (Decides-is_offset_list params.offsets)))))))
+    (Decides-and _ _ (Decides-leb least_constant params.constant)
+    (Decides-and _ _ (Decides-leb params.constant greatest_constant)
+    (Decides-and _ _ (Decides-leb params.hold longest_hold)
+    (Decides-and _ _ (Decides-int_le (pos first_day) params.secured)
+    (Decides-and _ _ (Decides-int_le params.secured (pos last_day)) (Decides-is_offset_list params.offsets)))))))
 
 -- the test of a seal decides whether it is in its ranges
 pub Decides-is_seal : (seal : Seal) → Decides (is_seal seal) (IsSeal seal)
@@ -70,9 +75,9 @@ Decides-is_seal seal =
     (λ all. record { seal_number = (all.0, all.1.0); params = all.1.1.0; digest = all.1.1.1.0; decimals = all.1.1.1.1 })
     (λ is. (is.seal_number.0, (is.seal_number.1, (is.params, (is.digest, is.decimals)))))
     (Decides-and _ _ (Decides-leb 1 seal.seal_number)
-    (Decides-and _ _ (Decides-leb seal.seal_number 1000000000000000)
+    (Decides-and _ _ (Decides-leb seal.seal_number last_seal_number)
     (Decides-and _ _ (Decides-are_params seal.params)
-    (Decides-and _ _ (Decides-eqb (length seal.digest) 32) (Decides-leb seal.decimals 3)))))
+    (Decides-and _ _ (Decides-eqb (length seal.digest) digest_size) (Decides-leb seal.decimals most_decimals)))))
 
 -- ---- lists at their places
 
@@ -219,7 +224,7 @@ module _ (seal : Seal) (valid : IsSeal seal) where
       (omega (arith, length-pairs params.offsets, valid.params.offsets.few))
 
   -- a spelling fills a body
-  pub size : length (spelling seal) ≡ 511
+  size : length (spelling seal) ≡ body_size
   size = omega (
     arith,
     length-append (padded 16 params.taxi.items) rest_2,
@@ -335,3 +340,12 @@ pub nothing_else : (bytes : List ℕ) (seal : Seal) → reads bytes ≡ Some sea
 nothing_else bytes seal read =
     let tests = was_read bytes seal read in sym ((bytes_eq-Decides (spelling (decoded bytes)) bytes).0 tests.1)
     ∙ ap spelling tests.2
+
+-- seals in their ranges are bodies
+pub seals_are_bodies : AreBodies IsSeal spelling reads
+seals_are_bodies = record {
+  size = size;
+  reads_it = reads_it;
+  gives_valid = gives_valid;
+  nothing_else = λ bytes seal long small read. nothing_else bytes seal read;
+}

@@ -4,6 +4,7 @@ use Rattle.outside.specs.declared.board.Board.{Ghosts}
 use Rattle.slot_store.specs.declared.found.Found.{Found}
 use Rattle.slot_store.specs.declared.found.Found.TheVariants.{Blank, Latest}
 use Rattle.slot_store.specs.declared.pair.Place.{Place}
+use Rattle.slot_store.specs.Sizes.{pair_size}
 use Rattle.slot_store.specs.Slots.{IsQuiet, IsBlank, IsSettled, StandsFor, Shows, ShowsEither}
 use Rattle.slot_store.specs.Scan.{IsAsFound}
 use Rattle.slot_store.specs.Writes.{LeavesThroughout}
@@ -14,19 +15,20 @@ use Rattle.totaliser_store.specs.Stored as stored
 use Rattle.totaliser_store.specs.Stored.{HasState, KeepsState}
 use Rattle.seal_store.specs.declared.seal.Seal.{Seal}
 pub use Rattle.seal_store.specs.Decoding.{reads}
+use Rattle.seal_store.specs.Limits.{seals_at}
 use Rattle.seal_store.specs.Ranges.{number_of}
 
 -- an image has a seal where its pair of seals stands for it
 abbrev pub HasSeal : List ℕ → Seal → Type 0
-HasSeal image seal = StandsFor reads number_of 1024 image seal
+HasSeal image seal = StandsFor reads number_of seals_at image seal
 
 -- an image shows a seal where its pair of seals stands for it, and shows none where that pair is blank
 abbrev pub ShowsSeal : List ℕ → Option Seal → Type 0
-ShowsSeal image seal = Shows reads number_of 1024 image seal
+ShowsSeal image seal = Shows reads number_of seals_at image seal
 
 -- an image has either seal where it has the new one, or shows the old one, of which there may be none
 abbrev pub HasEitherSeal : (old : Option Seal) → (new : Seal) → List ℕ → Type 0
-HasEitherSeal old new image = ShowsEither reads number_of 1024 old new image
+HasEitherSeal old new image = ShowsEither reads number_of seals_at old new image
 
 -- a sealing begins with the totals and the seal that were found, if any, and puts a new seal in
 pub record Sealing : Type 0 where
@@ -63,12 +65,12 @@ pub record IsAmid (sealing : Sealing) (image : List ℕ) : Type 0 where
 -- the writes of a sealing begin at the pair of seals where totals were found, and else at the pair of totals
 abbrev pub first_written : (found : Option Durable) → ℕ
 first_written None = 0
-first_written (Some durable) = 1024
+first_written (Some durable) = seals_at
 
 -- the writes of a sealing may reach one pair where totals were found, and else both
 abbrev pub places_written : (found : Option Durable) → ℕ
-places_written None = 2048
-places_written (Some durable) = 1024
+places_written None = pair_size + pair_size
+places_written (Some durable) = pair_size
 
 -- the number of the found seal, where one was found
 abbrev pub found_number : Option (Place × ℕ) → Option ℕ
@@ -99,12 +101,12 @@ module _ {D L : Type 0} (B : Ghosts D L) where
 
   -- a board keeps a seal at a place where its pair of seals is settled there with that seal
   abbrev pub KeepsSeal : Place → D → Seal → Type 0
-  KeepsSeal place board seal = IsSettled reads number_of 1024 place (B.image board) (B.in_flight board) seal
+  KeepsSeal place board seal = IsSettled reads number_of seals_at place (B.image board) (B.in_flight board) seal
 
   -- a board has a found seal where its pair of seals is settled with it at the found place, and it has the found
   -- number; or where none was found, the pair is blank with nothing in flight
   abbrev pub FoundSeal : D → Option (Place × ℕ) → Option Seal → Type 0
-  FoundSeal board None None = IsBlank 1024 (B.image board) × IsQuiet 1024 (B.in_flight board)
+  FoundSeal board None None = IsBlank seals_at (B.image board) × IsQuiet seals_at (B.in_flight board)
   FoundSeal board None (Some seal) = ⊥
   FoundSeal board (Some found) None = ⊥
   FoundSeal board (Some found) (Some seal) = KeepsSeal found.0 board seal × (seal.seal_number ≡ found.1)
@@ -115,7 +117,7 @@ module _ {D L : Type 0} (B : Ghosts D L) where
 
   -- a scan of the pair of seals left it as it was found
   abbrev pub ScannedSeal : D → Found Seal → Type 0
-  ScannedSeal board found = IsAsFound reads number_of 1024 (B.image board) (B.in_flight board) found
+  ScannedSeal board found = IsAsFound reads number_of seals_at (B.image board) (B.in_flight board) found
 
   -- a board keeps what was sealed where both pairs are settled, the totals' with those that were found or the first
   -- ones, and the seals' with the new seal

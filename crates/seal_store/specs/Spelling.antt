@@ -5,6 +5,19 @@ use Rattle.drive_modes.specs.declared.charges.Mode.{Mode}
 use Rattle.drive_modes.specs.declared.charges.Mode.TheVariants.{Single, Double}
 use Rattle.seal_store.specs.declared.params.Params.{Params}
 use Rattle.seal_store.specs.declared.seal.Seal.{Seal}
+use Rattle.seal_store.specs.Limits.{longest_taxi}
+
+-- an offset has twelve bytes: its second, and the offset itself
+abbrev pub offset_size : ℕ
+offset_size = 12
+
+-- the offsets have 384 bytes, which are the room of 32
+abbrev pub offsets_size : ℕ
+offsets_size = 384
+
+-- behind the decimals 57 bytes are spare
+abbrev pub spare_size : ℕ
+spare_size = 57
 
 -- bytes are padded to a count by zeros behind them
 abbrev pub padded : (count : ℕ) → List ℕ → List ℕ
@@ -29,17 +42,17 @@ settings_bytes params = to_be_bytes w32 params.constant ++ (mode_byte params.mod
 
 -- the offsets are how many pairs there are, in one byte, and the room of 32 pairs, before the bytes behind them
 abbrev pub offset_bytes : List (ℕ × ℤ) → List ℕ → List ℕ
-offset_bytes offsets rest = length offsets ∷ (padded 384 (flat_map pair_bytes offsets) ++ rest)
+offset_bytes offsets rest = length offsets ∷ (padded offsets_size (flat_map pair_bytes offsets) ++ rest)
 
 -- the end is the decimals, 57 zeros, and the layout, which is 1
 abbrev pub end_bytes : (decimals : ℕ) → List ℕ
-end_bytes decimals = decimals ∷ (replicate 57 0 ++ 1 ∷ [])
+end_bytes decimals = decimals ∷ (replicate spare_size 0 ++ 1 ∷ [])
 
 -- the 511 bytes behind the gate spell the seal
 abbrev pub spelling : Seal → List ℕ
 spelling seal =
     to_be_bytes w64 seal.seal_number
-    ++ (padded 16 seal.params.taxi.items
+    ++ (padded longest_taxi seal.params.taxi.items
     ++ (settings_bytes seal.params
     ++ (seal.digest
     ++ (signed_bytes seal.params.secured

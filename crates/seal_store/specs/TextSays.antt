@@ -4,6 +4,7 @@ use Rattle.seal_store.specs.declared.params.Name.{Name}
 use Rattle.seal_store.specs.declared.params.Name.TheVariants.{Taxi, Constant, Hold, Offset, Secured}
 use Rattle.seal_store.specs.declared.params.Name.TheVariants as name
 use Rattle.seal_store.specs.declared.params.Params.{Params}
+use Rattle.seal_store.specs.Limits.{longest_text}
 use Rattle.seal_store.specs.LineSays.{SaysMore}
 use Rattle.seal_store.specs.Said.{Said, nothing_said}
 use Rattle.seal_store.specs.Says.{AreLines}
@@ -26,7 +27,7 @@ pub record AreSaid (said : Said) (params : Params) : Type 0 where
 
 -- a text says parameters where it has at most 65,536 bytes, and its lines, from the first to the last, say each of them
 pub record SaysParams (text : List ℕ) (params : Params) : Type 0 where
-  pub few : length text ≤ 65536
+  pub few : length text ≤ longest_text
   pub lines : List (List ℕ)
   pub said : Said
   pub are_lines : AreLines text lines
@@ -54,7 +55,7 @@ row_of Secured = 5
 -- a text lacks a parameter first where it has at most 65,536 bytes, all its lines are good, and the parameter is the
 -- first of the table that they don't say
 pub record LacksFirst (text : List ℕ) (which : Name) : Type 0 where
-  pub few : length text ≤ 65536
+  pub few : length text ≤ longest_text
   pub lines : List (List ℕ)
   pub said : Said
   pub are_lines : AreLines text lines

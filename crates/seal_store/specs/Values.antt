@@ -8,6 +8,7 @@ use Rattle.drive_modes.specs.declared.charges.Mode.TheVariants.{Single, Double}
 use Rattle.interval_clock.specs.Calendar.{is_date, day_number_of}
 use Rattle.taxi_units.specs.Number.{number_at, number_of_width}
 use Rattle.taxi_units.specs.Reading.{◌>>=◌, word_at}
+use Rattle.seal_store.specs.Limits.{longest_taxi, greatest_offset, first_year, last_year}
 
 -- a test whether a byte is one of A to Z, of 0 to 9, or -
 abbrev pub is_taxi_character : ℕ → Bool
@@ -15,7 +16,7 @@ is_taxi_character c = (nat_le 65 c && nat_le c 90) || ((nat_le 48 c && nat_le c 
 
 -- a test whether a text has 1 to 16 characters of taxi identifiers, and no other
 abbrev pub is_taxi : List ℕ → Bool
-is_taxi text = nat_le 1 (length text) && (nat_le (length text) 16 && list_all is_taxi_character text)
+is_taxi text = nat_le 1 (length text) && (nat_le (length text) longest_taxi && list_all is_taxi_character text)
 
 -- a text is read as a taxi identifier where it is one
 abbrev pub taxi_read : List ℕ → Option (List ℕ)
@@ -40,8 +41,8 @@ unfoldable pub offset_read : List ℕ → Option ℤ
 offset_read text = signed_read text (word_at (codes "-") text)
   where
     signed_read : List ℕ → Option (List ℕ) → Option ℤ
-    signed_read text (Some digits) = number_in 0 50400 digits >>= (λ n. Some (neg_ℤ (pos n)))
-    signed_read text None = number_in 0 50400 text >>= (λ n. Some (pos n))
+    signed_read text (Some digits) = number_in 0 greatest_offset digits >>= (λ n. Some (neg_ℤ (pos n)))
+    signed_read text None = number_in 0 greatest_offset text >>= (λ n. Some (pos n))
 
 -- a text is read as a pair where it is a second, one blank, and the offset that is in force from it on
 unfoldable pub pair_read : List ℕ → Option (ℕ × ℤ)
@@ -55,7 +56,7 @@ pair_read text = do
 -- the years 2000 to 2199
 abbrev pub where_date : (year month date : ℕ) → (rest : List ℕ) → Option ℤ
 where_date year month date rest =
-    if (length rest == 0 && (nat_le 2000 year && (nat_le year 2199 && is_date year month date)))
+    if (length rest == 0 && (nat_le first_year year && (nat_le year last_year && is_date year month date)))
     then Some (pos (day_number_of year month date)) else None
 
 -- a text is read as the day number of a date where it is YYYY-MM-DD

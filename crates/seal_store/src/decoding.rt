@@ -1,20 +1,24 @@
 //! The fields of a seal at their places in bytes.
 ghost use Rattle.std.specs.Prelude.{◌≡◌, ◌+◌, ◌*◌, ◌≤◌, ◌∷◌, FitsSigned, drop, take, length, MatchOption};
 ghost use Rattle.std.specs.Int.{w32};
-ghost use Rattle.totaliser_store.specs.BytesAt.{four_at, eight_at};
 ghost use Rattle.seal_store.specs.Decoding as spec;
 ghost use Rattle.seal_store.specs.Decoding.{decoded, signed_at, two_at};
+ghost use Rattle.seal_store.specs.Limits.{most_offsets};
+ghost use Rattle.seal_store.specs.Spelling.{offsets_size};
 ghost use Rattle.seal_store.specs.Ranges.{IsParams, IsSeal, IsTaxi};
 ghost use Rattle.interval_clock.specs.Offsets.{IsOffsetList};
 
 use crate::lines::before;
 use crate::offset_list::offsets_of;
-use crate::params::LONGEST_HOLD;
+use crate::params::{LONGEST_HOLD, LONGEST_TAXI, MOST_OFFSETS};
+use crate::seal::DIGEST_SIZE;
+use crate::spelling::OFFSET_SIZE;
 use crate::{Params, Seal, values};
 use arrayvec::ArrayVec;
 use drive_modes::Mode;
 use interval_clock::Offsets;
 use pulse_input::Constant;
+use slot_store::{BODY_SIZE, eight_at, four_at};
 
 /// The day number of 2000-01-01, before which nothing is secured.
 const FIRST_DAY: i32 = 10_957;
@@ -36,26 +40,6 @@ fn two_at(bytes: &[u8], at: usize) -> u16
     let mut part = [0; 2];
     part.copy_from_slice(&bytes[at..at + 2]);
     u16::from_be_bytes(part)
-}
-
-/// The number in the four bytes from a place on.
-fn four_at(bytes: &[u8], at: usize) -> u32
-    requires { at + 4 ≤ length bytes.now }
-    ensures { result ≡ four_at bytes.now at }
-{
-    let mut part = [0; 4];
-    part.copy_from_slice(&bytes[at..at + 4]);
-    u32::from_be_bytes(part)
-}
-
-/// The number in the eight bytes from a place on.
-fn eight_at(bytes: &[u8], at: usize) -> u64
-    requires { at + 8 ≤ length bytes.now }
-    ensures { result ≡ eight_at bytes.now at }
-{
-    let mut part = [0; 8];
-    part.copy_from_slice(&bytes[at..at + 8]);
-    u64::from_be_bytes(part)
 }
 
 /// The signed number in the four bytes from a place on.
@@ -81,32 +65,35 @@ fn mode_in(byte: u8) -> Mode
 }
 
 /// The pairs at the front of bytes, `count` of them.
-fn pairs_in(count: usize, bytes: &[u8]) -> ArrayVec<(u64, i32), 32>
-    requires few { count ≤ 32 }
-    requires long { 384 ≤ length bytes.now }
+fn pairs_in(count: usize, bytes: &[u8]) -> ArrayVec<(u64, i32), MOST_OFFSETS>
+    requires few { count ≤ most_offsets }
+    requires long { offsets_size ≤ length bytes.now }
     ensures { result.items ≡ spec.pairs_in count bytes.now }
 {
     let mut pairs = ArrayVec::new();
     for i in 0..count {
-        pairs.push((eight_at(bytes, 12 * i), signed_at(bytes, 12 * i + 8)));
+        pairs.push((
+            eight_at(bytes, OFFSET_SIZE * i),
+            signed_at(bytes, OFFSET_SIZE * i + 8),
+        ));
     }
     pairs
 }
 
 /// The offsets, where they are lawful.
-fn offsets_in(bytes: &[u8; 511]) -> Option<Offsets>
+fn offsets_in(bytes: &[u8; BODY_SIZE]) -> Option<Offsets>
     ensures { MatchOption result (¬ IsOffsetList (spec.params_in bytes.now).offsets)
         (λ offsets. (offsets ≡ (spec.params_in bytes.now).offsets) × IsOffsetList offsets) }
 {
     let count = bytes[67] as usize;
-    if count > 32 {
+    if count > MOST_OFFSETS {
         return None;
     }
     offsets_of(pairs_in(count, &bytes[68..]).as_slice())
 }
 
 /// The taxi identifier, where it is one.
-fn taxi_in(bytes: &[u8; 511]) -> Option<ArrayVec<u8, 16>>
+fn taxi_in(bytes: &[u8; BODY_SIZE]) -> Option<ArrayVec<u8, LONGEST_TAXI>>
     ensures { MatchOption result (¬ IsTaxi (spec.params_in bytes.now).taxi.items)
         (λ taxi. (taxi.items ≡ (spec.params_in bytes.now).taxi.items) × IsTaxi taxi.items) }
 {
@@ -114,7 +101,7 @@ fn taxi_in(bytes: &[u8; 511]) -> Option<ArrayVec<u8, 16>>
 }
 
 /// The parameters, where they are in their ranges.
-fn params_in(bytes: &[u8; 511]) -> Option<Params>
+fn params_in(bytes: &[u8; BODY_SIZE]) -> Option<Params>
     ensures { MatchOption result (¬ IsParams (spec.params_in bytes.now))
         (λ params. (params ≡ spec.params_in bytes.now) × IsParams params) }
 {
@@ -142,7 +129,7 @@ fn params_in(bytes: &[u8; 511]) -> Option<Params>
 }
 
 /// The seal, where it is in its ranges.
-pub(crate) fn seal_in(bytes: &[u8; 511]) -> Option<Seal>
+pub(crate) fn seal_in(bytes: &[u8; BODY_SIZE]) -> Option<Seal>
     ensures { MatchOption result (¬ IsSeal (decoded bytes.now))
         (λ seal. (seal ≡ decoded bytes.now) × IsSeal seal) }
 {
@@ -155,7 +142,7 @@ pub(crate) fn seal_in(bytes: &[u8; 511]) -> Option<Seal>
     if decimals > MOST_DECIMALS {
         return None;
     }
-    let mut digest = [0; 32];
+    let mut digest = [0; DIGEST_SIZE];
     digest.copy_from_slice(&bytes[31..63]);
     Some(Seal {
         seal_number,

@@ -5,8 +5,14 @@ use interval_clock::Offsets;
 use pulse_input::Constant;
 use thiserror::Error;
 
+/// How many characters a taxi identifier has at most.
+pub(crate) const LONGEST_TAXI: usize = 16;
+
 /// How long a trip may be held without supply at most, in seconds.
 pub(crate) const LONGEST_HOLD: u16 = 600;
+
+/// How many pairs a list of offsets has at most.
+pub(crate) const MOST_OFFSETS: usize = 32;
 
 /// The secured settings of a taximeter.
 #[derive(Drop)]

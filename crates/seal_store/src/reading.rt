@@ -1,5 +1,6 @@
 //! Reads the text of the parameters.
 ghost use Rattle.std.specs.Prelude.{◌≡◌, ◌+◌, ◌<◌, ◌≤◌, length, IfOk};
+ghost use Rattle.seal_store.specs.Limits.{longest_text};
 ghost use Rattle.seal_store.specs.Ranges.{IsParams};
 ghost use Rattle.seal_store.specs.Lines.{lines_of};
 ghost use Rattle.seal_store.specs.Reading.{lines_read, params_read};
@@ -55,7 +56,7 @@ fn read_text(text: &[u8]) -> Result<Params, ParamFault>
 /// What the lines of a text say.
 #[tactic(auto, unfolding(crate::specs::Reading::lines_read))]
 fn read_lines(text: &[u8]) -> Result<Said, ParamFault>
-    requires { length text.now ≤ 65536 }
+    requires { length text.now ≤ longest_text }
     ensures { result ≡ lines_read nothing_said 1 (lines_of text.now) }
 {
     let mut said = Said::nothing();

@@ -10,7 +10,7 @@ ghost use Rattle.seal_store.specs.Reading.{whole};
 use crate::lines::{is_passed, key_and_value};
 use crate::names::name_of;
 use crate::offset_list::offsets_of;
-use crate::params::{Name, ParamFault, Params};
+use crate::params::{LONGEST_TAXI, MOST_OFFSETS, Name, ParamFault, Params};
 use crate::values;
 use arrayvec::ArrayVec;
 use drive_modes::Mode;
@@ -18,12 +18,12 @@ use pulse_input::Constant;
 use std::marker::Model;
 
 /// A list of offsets, as long as a lawful one may be.
-type Pairs = ArrayVec<(u64, i32), 32>;
+type Pairs = ArrayVec<(u64, i32), MOST_OFFSETS>;
 
 /// The parameters that have been said, and the list of the offsets so far.
 #[derive(Drop)]
 pub(crate) struct Said {
-    taxi: Option<ArrayVec<u8, 16>>,
+    taxi: Option<ArrayVec<u8, LONGEST_TAXI>>,
     constant: Option<Constant>,
     mode: Option<Mode>,
     hold: Option<u16>,

@@ -5,7 +5,10 @@ use crate::decoding::seal_in;
 use crate::names::is_text;
 use crate::params::Params;
 use crate::spelling::spell;
-use slot_store::Body;
+use slot_store::{BODY_SIZE, Body};
+
+/// How many bytes a digest has.
+pub(crate) const DIGEST_SIZE: usize = 32;
 
 /// What a taximeter is sealed with.
 #[derive(Drop)]
@@ -15,7 +18,7 @@ pub struct Seal {
     /// The secured parameters.
     pub params: Params,
     /// The SHA-256 of the tariff's text.
-    pub digest: [u8; 32],
+    pub digest: [u8; DIGEST_SIZE],
     /// The decimals of the tariff's money, 0 to 3.
     pub decimals: u8,
 }
@@ -26,7 +29,7 @@ impl Body for Seal {
     ghost use Rattle.seal_store.specs.Ranges.{IsSeal, number_of};
     ghost use Rattle.seal_store.specs.Spelling.{spelling};
     ghost use Rattle.seal_store.specs.Decoding.{reads};
-    ghost use Rattle.seal_store.specs.SealLaws.{size, reads_it, gives_valid, nothing_else};
+    ghost use Rattle.seal_store.specs.SealLaws.{seals_are_bodies};
 
     ghost valid = { IsSeal };
 
@@ -36,23 +39,17 @@ impl Body for Seal {
 
     ghost reads = { reads };
 
-    ghost size = { size };
-
-    ghost reads_it = { reads_it };
-
-    ghost gives_valid = { gives_valid };
-
-    ghost nothing_else = { λ bytes seal long below read. nothing_else bytes seal read };
+    ghost bodies = { seals_are_bodies };
 
     fn number(&self) -> u64 {
         self.seal_number
     }
 
-    fn put(&self, out: &mut [u8; 511]) {
+    fn put(&self, out: &mut [u8; BODY_SIZE]) {
         out.copy_from_slice(spell(self).as_slice());
     }
 
-    fn get(bytes: &[u8; 511]) -> Option<Seal> {
+    fn get(bytes: &[u8; BODY_SIZE]) -> Option<Seal> {
         let seal = seal_in(bytes)?;
         if !is_text(spell(&seal).as_slice(), bytes) {
             return None;

@@ -2,10 +2,12 @@
 ghost use Rattle.std.specs.Prelude.{◌≡◌, ◌+◌, ◌≤◌, Option, Some, None, IfOk, OnOk};
 ghost use Rattle.std.specs.Option.{ForSome, option_map};
 ghost use Rattle.outside.specs.Faults.{HasCause};
+ghost use Rattle.slot_store.specs.Sizes.{pair_size};
 ghost use Rattle.slot_store.specs.Writes.{LeavesThroughout, WritesIn};
 ghost use Rattle.totaliser_store.specs.States.{first_state};
 ghost use Rattle.totaliser_store.specs.Stored.{KeepsState};
 ghost use Rattle.seal_store.specs.declared.seal.Seal.{Seal};
+ghost use Rattle.seal_store.specs.Limits.{seals_at};
 ghost use Rattle.seal_store.specs.Ranges.{IsSeal};
 ghost use Rattle.seal_store.specs.Sealing.{FoundSeal, FoundTotals, HasEitherSeal, KeepsSeal, KeepsSealed, KeepsTotals};
 ghost use Rattle.seal_store.specs.Sealing.{LeavesSealing, first_written, found_number, next_number};
@@ -17,6 +19,9 @@ use slot_store::{Place, Ready};
 use std::sync::ledger::Ledger;
 use taxi_units::Steps;
 use totaliser_store::{DeviceFailed, Durable};
+
+/// Where the pair of seals begins in the store.
+const SEALS_AT: u16 = 1024;
 
 /// Seals the store. Totals that were found stay as they are, byte for byte; where none were found,
 /// totals of zero with number 1 are written first, in layout 2. Then the seal is written, whose number
@@ -67,9 +72,9 @@ fn put_totals<B: Board<L>, L: Ledger>(
     steps: &mut Steps<L>,
 ) -> Result<Place, DeviceFailed>
     requires { B.tells_image → FoundTotals B.Board board.old None }
-    ensures any_moment { B.tells_image → LeavesThroughout B.Board 0 1024 (KeepsTotals None) board.old board.new }
+    ensures any_moment { B.tells_image → LeavesThroughout B.Board 0 pair_size (KeepsTotals None) board.old board.new }
     ensures settled { B.tells_image → IfOk result (λ place. KeepsState B.Board place board.new first_state) }
-    ensures beside { WritesIn B.Board 0 1024 board.old board.new }
+    ensures beside { WritesIn B.Board 0 pair_size board.old board.new }
     ensures cause { HasCause (B.faults board.old) (B.faults board.new) result }
     ensures steps { steps.new ≤ steps.old + 4 }
 {
@@ -89,9 +94,9 @@ fn put_seal<B: Board<L>, L: Ledger>(
     requires slot { ForSome found (λ latest. latest.0.slot ≤ 1) }
     requires found { B.tells_image → (old : Option Seal) × FoundSeal B.Board board.old found old }
     ensures any_moment { B.tells_image → (old : Option Seal) → FoundSeal B.Board board.old found old
-        → LeavesThroughout B.Board 1024 1024 (HasEitherSeal old seal.now) board.old board.new }
+        → LeavesThroughout B.Board seals_at pair_size (HasEitherSeal old seal.now) board.old board.new }
     ensures settled { B.tells_image → IfOk result (λ place. KeepsSeal B.Board place board.new seal.now) }
-    ensures beside { WritesIn B.Board 1024 1024 board.old board.new }
+    ensures beside { WritesIn B.Board seals_at pair_size board.old board.new }
     ensures cause { HasCause (B.faults board.old) (B.faults board.new) result }
     ensures steps { steps.new ≤ steps.old + 6 }
 {
@@ -103,10 +108,10 @@ fn put_seal<B: Board<L>, L: Ledger>(
 /// The pair of seals, as it was found.
 fn ready_for(found: Option<(Place, u64)>) -> Ready
     requires { ForSome found (λ latest. latest.0.slot ≤ 1) }
-    ensures { result ≡ record { at = 1024; latest = option_map (λ latest. latest.0) found } }
+    ensures { result ≡ record { at = seals_at; latest = option_map (λ latest. latest.0) found } }
 {
     match found {
-        Some((place, _)) => Ready::new(1024, place),
-        None => Ready::blank(1024),
+        Some((place, _)) => Ready::new(SEALS_AT, place),
+        None => Ready::blank(SEALS_AT),
     }
 }

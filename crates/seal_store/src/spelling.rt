@@ -2,33 +2,36 @@
 ghost use Rattle.std.specs.Prelude.{◌≡◌, ◌+◌, ◌≤◌, ◌++◌, ◌∷◌, [], flat_map, length, replicate, ◌*◌};
 ghost use Rattle.arrayvec.specs.ArrayVec.{array_vec_len};
 ghost use Rattle.interval_clock.specs.Offsets.{IsOffset, IsOffsetList};
+ghost use Rattle.slot_store.specs.Sizes.{body_size};
+ghost use Rattle.seal_store.specs.Limits.{longest_taxi};
 ghost use Rattle.seal_store.specs.Ranges.{IsSeal};
-ghost use Rattle.seal_store.specs.Spelling.{spelling, settings_bytes, offset_bytes, pair_bytes, padded, mode_byte};
+ghost use Rattle.seal_store.specs.Spelling.{spelling, offset_size, offsets_size, settings_bytes, offset_bytes, pair_bytes, padded, mode_byte};
 
+use crate::params::LONGEST_TAXI;
 use crate::{Params, Seal};
-use arrayvec::ArrayVec;
 use drive_modes::Mode;
+use slot_store::{Spelled, put_bytes};
 
-/// A body that is being spelled.
-type Bytes = ArrayVec<u8, 511>;
+/// How many bytes a pair of a list of offsets has.
+pub(crate) const OFFSET_SIZE: usize = 12;
 
-/// Appends bytes, for which there is room.
-fn put(out: &mut Bytes, bytes: &[u8])
-    requires { array_vec_len out.old + length bytes.now ≤ 511 }
-    ensures items { out.new.items ≡ out.old.items ++ bytes.now }
-    ensures len { array_vec_len out.new ≡ array_vec_len out.old + length bytes.now }
-{
-    let _ = out.try_extend_from_slice(bytes);
-}
+/// How many bytes the longest list of offsets has.
+const OFFSETS_SIZE: usize = 384;
+
+/// How many bytes between the decimals and the layout are spare.
+const SPARE_SIZE: usize = 57;
+
+/// The layout of a seal.
+const LAYOUT: u8 = 1;
 
 /// Appends zeros, for which there is room.
-fn put_zeros(out: &mut Bytes, count: usize)
-    requires { array_vec_len out.old + count ≤ 511 }
+fn put_zeros(out: &mut Spelled, count: usize)
+    requires { array_vec_len out.old + count ≤ body_size }
     ensures items { out.new.items ≡ out.old.items ++ replicate count 0 }
     ensures len { array_vec_len out.new ≡ array_vec_len out.old + count }
 {
     for _i in 0..count {
-        put(out, &[0]);
+        put_bytes(out, &[0]);
     }
 }
 
@@ -43,23 +46,23 @@ fn byte_of(mode: Mode) -> u8
 }
 
 /// Appends a pair of a list of offsets.
-fn put_pair(out: &mut Bytes, pair: (u64, i32))
-    requires room { array_vec_len out.old + 12 ≤ 511 }
+fn put_pair(out: &mut Spelled, pair: (u64, i32))
+    requires room { array_vec_len out.old + offset_size ≤ body_size }
     requires offset { IsOffset pair.1 }
     ensures items { out.new.items ≡ out.old.items ++ pair_bytes pair }
-    ensures len { array_vec_len out.new ≡ array_vec_len out.old + 12 }
+    ensures len { array_vec_len out.new ≡ array_vec_len out.old + offset_size }
 {
-    put(out, &pair.0.to_be_bytes());
-    put(out, &pair.1.to_be_bytes());
+    put_bytes(out, &pair.0.to_be_bytes());
+    put_bytes(out, &pair.1.to_be_bytes());
 }
 
 /// Appends the pairs of a list of offsets.
 #[tactic(auto, using(crate::proofs::Pairs::one_more_pair))]
-fn put_pairs(out: &mut Bytes, pairs: &[(u64, i32)])
+fn put_pairs(out: &mut Spelled, pairs: &[(u64, i32)])
     requires lawful { IsOffsetList pairs.now }
-    requires room { array_vec_len out.old + 384 ≤ 511 }
+    requires room { array_vec_len out.old + offsets_size ≤ body_size }
     ensures items { out.new.items ≡ out.old.items ++ flat_map pair_bytes pairs.now }
-    ensures len { array_vec_len out.new ≡ array_vec_len out.old + 12 * length pairs.now }
+    ensures len { array_vec_len out.new ≡ array_vec_len out.old + offset_size * length pairs.now }
 {
     for pair in pairs {
         put_pair(out, *pair);
@@ -67,54 +70,54 @@ fn put_pairs(out: &mut Bytes, pairs: &[(u64, i32)])
 }
 
 /// Appends a taxi identifier, with zeros behind it up to 16 bytes.
-fn put_taxi(out: &mut Bytes, taxi: &[u8])
-    requires few { length taxi.now ≤ 16 }
-    requires room { array_vec_len out.old + 16 ≤ 511 }
-    ensures items { out.new.items ≡ out.old.items ++ padded 16 taxi.now }
-    ensures len { array_vec_len out.new ≡ array_vec_len out.old + 16 }
+fn put_taxi(out: &mut Spelled, taxi: &[u8])
+    requires few { length taxi.now ≤ longest_taxi }
+    requires room { array_vec_len out.old + longest_taxi ≤ body_size }
+    ensures items { out.new.items ≡ out.old.items ++ padded longest_taxi taxi.now }
+    ensures len { array_vec_len out.new ≡ array_vec_len out.old + longest_taxi }
 {
-    put(out, taxi);
-    put_zeros(out, 16 - taxi.len());
+    put_bytes(out, taxi);
+    put_zeros(out, LONGEST_TAXI - taxi.len());
 }
 
 /// Appends the bytes of a list of offsets.
-fn put_offsets(out: &mut Bytes, pairs: &[(u64, i32)])
+fn put_offsets(out: &mut Spelled, pairs: &[(u64, i32)])
     requires lawful { IsOffsetList pairs.now }
-    requires room { array_vec_len out.old + 385 ≤ 511 }
+    requires room { array_vec_len out.old + 385 ≤ body_size }
     ensures items { out.new.items ≡ out.old.items ++ offset_bytes pairs.now [] }
     ensures len { array_vec_len out.new ≡ array_vec_len out.old + 385 }
 {
-    put(out, &[pairs.len() as u8]);
+    put_bytes(out, &[pairs.len() as u8]);
     put_pairs(out, pairs);
-    put_zeros(out, 384 - 12 * pairs.len());
+    put_zeros(out, OFFSETS_SIZE - OFFSET_SIZE * pairs.len());
 }
 
 /// Appends the settings: the constant, the mode and the hold time.
-fn put_settings(out: &mut Bytes, params: &Params)
-    requires { array_vec_len out.old + 7 ≤ 511 }
+fn put_settings(out: &mut Spelled, params: &Params)
+    requires { array_vec_len out.old + 7 ≤ body_size }
     ensures items { out.new.items ≡ out.old.items ++ settings_bytes params.now }
     ensures len { array_vec_len out.new ≡ array_vec_len out.old + 7 }
 {
-    put(out, &params.constant.get().to_be_bytes());
-    put(out, &[byte_of(params.mode)]);
-    put(out, &params.hold.to_be_bytes());
+    put_bytes(out, &params.constant.get().to_be_bytes());
+    put_bytes(out, &[byte_of(params.mode)]);
+    put_bytes(out, &params.hold.to_be_bytes());
 }
 
 /// The bytes of a seal in its ranges.
-pub(crate) fn spell(seal: &Seal) -> Bytes
+pub(crate) fn spell(seal: &Seal) -> Spelled
     requires { IsSeal seal.now }
     ensures { result.items ≡ spelling seal.now }
 {
     let params = &seal.params;
-    let mut out = Bytes::new();
-    put(&mut out, &seal.seal_number.to_be_bytes());
+    let mut out = Spelled::new();
+    put_bytes(&mut out, &seal.seal_number.to_be_bytes());
     put_taxi(&mut out, params.taxi.as_slice());
     put_settings(&mut out, params);
-    put(&mut out, &seal.digest);
-    put(&mut out, &params.secured.to_be_bytes());
+    put_bytes(&mut out, &seal.digest);
+    put_bytes(&mut out, &params.secured.to_be_bytes());
     put_offsets(&mut out, params.offsets.pairs());
-    put(&mut out, &[seal.decimals]);
-    put_zeros(&mut out, 57);
-    put(&mut out, &[1]);
+    put_bytes(&mut out, &[seal.decimals]);
+    put_zeros(&mut out, SPARE_SIZE);
+    put_bytes(&mut out, &[LAYOUT]);
     out
 }

@@ -2,15 +2,31 @@
 ghost use Rattle.std.specs.Prelude.{◌≡◌, ◌+◌, ◌<◌, ◌≤◌, ◌^◌, [], length, IfSome};
 ghost use Rattle.std.specs.List.{list_all};
 ghost use Rattle.taxi_units.specs.Reading.{Gives};
+ghost use Rattle.seal_store.specs.Limits.{least_constant, greatest_constant, longest_hold, first_year, last_year};
 ghost use Rattle.seal_store.specs.Values as spec;
 
 use crate::names::is_text;
-use crate::params::LONGEST_HOLD;
+use crate::params::{LONGEST_HOLD, LONGEST_TAXI};
 use arrayvec::ArrayVec;
 use drive_modes::Mode;
 use interval_clock::day_number;
 use pulse_input::Constant;
 use taxi_units::{number_at, number_of_width, word};
+
+/// The least constant, in pulses a kilometre.
+const LEAST_CONSTANT: u64 = 500;
+
+/// The greatest constant, in pulses a kilometre.
+const GREATEST_CONSTANT: u64 = 200_000;
+
+/// The greatest offset to either side, in seconds: 14 hours.
+const GREATEST_OFFSET: u64 = 50_400;
+
+/// The first year of a date of securing.
+const FIRST_YEAR: u64 = 2000;
+
+/// The last year of a date of securing.
+const LAST_YEAR: u64 = 2199;
 
 /// Whether a byte is a character of taxi identifiers.
 fn is_taxi_character(byte: u8) -> bool
@@ -30,11 +46,11 @@ fn are_taxi_characters(text: &[u8]) -> bool
 pub(crate) fn is_taxi(text: &[u8]) -> bool
     ensures { result ≡ spec.is_taxi text.now }
 {
-    1 <= text.len() && (text.len() <= 16 && are_taxi_characters(text))
+    1 <= text.len() && (text.len() <= LONGEST_TAXI && are_taxi_characters(text))
 }
 
 /// A taxi identifier.
-pub(crate) fn taxi(text: &[u8]) -> Option<ArrayVec<u8, 16>>
+pub(crate) fn taxi(text: &[u8]) -> Option<ArrayVec<u8, LONGEST_TAXI>>
     ensures { Gives (λ taxi. taxi.items) result (spec.taxi_read text.now) }
 {
     if !is_taxi(text) {
@@ -63,9 +79,9 @@ fn number(text: &[u8], low: u64, high: u64) -> Option<u64>
 
 /// The constant of the distance signal generator.
 pub(crate) fn constant(text: &[u8]) -> Option<Constant>
-    ensures { Gives (λ k. k) result (spec.number_in 500 200000 text.now) }
+    ensures { Gives (λ k. k) result (spec.number_in least_constant greatest_constant text.now) }
 {
-    let per_kilometre = number(text, 500, 200_000)?;
+    let per_kilometre = number(text, LEAST_CONSTANT, GREATEST_CONSTANT)?;
     match Constant::new(per_kilometre as u32) {
         Ok(constant) => Some(constant),
         Err(_) => None,
@@ -74,7 +90,7 @@ pub(crate) fn constant(text: &[u8]) -> Option<Constant>
 
 /// The seconds for which a trip may be held.
 pub(crate) fn hold(text: &[u8]) -> Option<u16>
-    ensures { Gives (λ n. n) result (spec.number_in 0 600 text.now) }
+    ensures { Gives (λ n. n) result (spec.number_in 0 longest_hold text.now) }
 {
     let seconds = number(text, 0, u64::from(LONGEST_HOLD))?;
     Some(seconds as u16)
@@ -101,11 +117,11 @@ fn offset(text: &[u8]) -> Option<i32>
 {
     match word(text, b"-") {
         Some(digits) => {
-            let seconds = number(digits, 0, 50_400)?;
+            let seconds = number(digits, 0, GREATEST_OFFSET)?;
             Some(-(seconds as i32))
         }
         None => {
-            let seconds = number(text, 0, 50_400)?;
+            let seconds = number(text, 0, GREATEST_OFFSET)?;
             Some(seconds as i32)
         }
     }
@@ -132,7 +148,7 @@ pub(crate) fn secured(text: &[u8]) -> Option<i32>
     let (month, rest) = number_of_width(rest, 2)?;
     let rest = word(rest, b"-")?;
     let (date, rest) = number_of_width(rest, 2)?;
-    if rest.len() == 0 && 2000 <= year && year <= 2199 {
+    if rest.len() == 0 && FIRST_YEAR <= year && year <= LAST_YEAR {
         return day_of(year as u16, month as u8, date as u8);
     }
     None
@@ -141,8 +157,8 @@ pub(crate) fn secured(text: &[u8]) -> Option<i32>
 /// The day number of a date.
 #[tactic(auto, using(crate::proofs::DayBounds::days_in_range))]
 fn day_of(year: u16, month: u8, date: u8) -> Option<i32>
-    requires from { 2000 ≤ year }
-    requires to { year ≤ 2199 }
+    requires from { first_year ≤ year }
+    requires to { year ≤ last_year }
     ensures { Gives (λ day. day) result (spec.where_date year month date []) }
 {
     match day_number(year, month, date) {

@@ -3,6 +3,7 @@ ghost use Rattle.std.specs.Prelude.{◌≡◌, ◌↔◌, ℕ, ◌<◌, List, le
 ghost use Rattle.seal_store.specs.declared.params.Name.{Name};
 ghost use Rattle.seal_store.specs.declared.params.ParamFault.TheVariants.{Missing, TooLong};
 ghost use Rattle.seal_store.specs.declared.params.Params.{Params};
+ghost use Rattle.seal_store.specs.Limits.{longest_text};
 ghost use Rattle.seal_store.specs.Reading.{params_read};
 ghost use Rattle.seal_store.specs.TextSays.{LacksFirst, SaysParams};
 
@@ -16,7 +17,7 @@ pub fn texts_say_their_parameters()
 /// text isn't too long, all its lines are good, and that parameter is the first by the table of the
 /// format that no line says.
 pub fn texts_are_too_long_or_lack_a_parameter()
-    ensures too_long { (text : List ℕ) → (params_read text ≡ Err TooLong) ↔ (65536 < length text) }
+    ensures too_long { (text : List ℕ) → (params_read text ≡ Err TooLong) ↔ (longest_text < length text) }
     ensures missing { (text : List ℕ) (which : Name)
         → (params_read text ≡ Err (Missing which)) ↔ LacksFirst text which }
 {}

@@ -1,6 +1,9 @@
+pub mod Bodies
+pub mod BytesAt
 pub mod Numbered
 pub mod Order
 pub mod Scan
+pub mod Sizes
 pub mod Slots
 pub mod Stages
 pub mod Syncs

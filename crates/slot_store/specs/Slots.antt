@@ -2,27 +2,28 @@
 use Rattle.std.specs.Prelude.{◌≡◌, ◌≢◌, ◌⊎◌, ℕ, ◌+◌, ◌-◌, ◌*◌, ◌<◌, ◌≤◌, true, false, List, length, take, drop, get_or, Option, Some, None}
 use Rattle.outside.specs.Disk.{IsWithin}
 use Rattle.slot_store.specs.declared.pair.Place.{Place}
+use Rattle.slot_store.specs.Sizes.{body_size, slot_size, pair_size, open_gate}
 
 -- the slot of this number, 0 or 1, of the pair that begins at `at` begins here
 abbrev pub slot_at : ℕ → ℕ → ℕ
-slot_at at slot = at + 512 * slot
+slot_at at slot = at + slot_size * slot
 
 -- a pair is quiet where none of its 1,024 places is in flight
 abbrev pub IsQuiet : ℕ → (ℕ → Type 0) → Type 0
-IsQuiet at in_flight = (place : ℕ) → IsWithin at 1024 place → ¬ in_flight place
+IsQuiet at in_flight = (place : ℕ) → IsWithin at pair_size place → ¬ in_flight place
 
 -- no more of a pair flies where each of its places that is in flight in the new state was in flight in the old one
 abbrev pub FliesNoMore : ℕ → (ℕ → Type 0) → (ℕ → Type 0) → Type 0
-FliesNoMore at old new = (place : ℕ) → IsWithin at 1024 place → new place → old place
+FliesNoMore at old new = (place : ℕ) → IsWithin at pair_size place → new place → old place
 
 -- a pair is the same in two images of one length where each of its 1,024 places has one byte in both
 pub record IsSamePair (at : ℕ) (image left : List ℕ) : Type 0 where
   pub size : length left ≡ length image
-  pub bytes : (place : ℕ) → IsWithin at 1024 place → get_or left place 0 ≡ get_or image place 0
+  pub bytes : (place : ℕ) → IsWithin at pair_size place → get_or left place 0 ≡ get_or image place 0
 
 -- the slot that begins at `start` is closed where its gate, the first byte, is another than 0xA5
 abbrev pub IsClosed : ℕ → List ℕ → Type 0
-IsClosed start image = get_or image start 0 ≢ 165
+IsClosed start image = get_or image start 0 ≢ open_gate
 
 -- a pair is blank where both of its slots are closed
 abbrev pub IsBlank : ℕ → List ℕ → Type 0
@@ -32,11 +33,11 @@ module _ {T : Type 0} (reads : List ℕ → Option T) where
   -- the slot that begins at `start` has a body where the 511 bytes behind its gate are read as that body, and has none
   -- where they are read as none
   abbrev pub HasBody : ℕ → List ℕ → Option T → Type 0
-  HasBody start image body = reads (take 511 (drop (start + 1) image)) ≡ body
+  HasBody start image body = reads (take body_size (drop (start + 1) image)) ≡ body
 
   -- the slot that begins at `start` is open with a body where its gate is 0xA5 and the bytes behind it are read as it
   pub record IsOpen (start : ℕ) (image : List ℕ) (body : Option T) : Type 0 where
-    pub gate : get_or image start 0 ≡ 165
+    pub gate : get_or image start 0 ≡ open_gate
     pub body_is : HasBody start image body
 
 module _ {T : Type 0} (reads : List ℕ → Option T) (number_of : T → ℕ) where

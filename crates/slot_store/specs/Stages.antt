@@ -4,6 +4,7 @@ use Rattle.outside.specs.declared.board.Board.{Ghosts}
 use Rattle.slot_store.specs.declared.body.Body.{Ghosts as BodyGhosts}
 use Rattle.slot_store.specs.declared.pair.Pair.{Pair}
 use Rattle.slot_store.specs.declared.pair.Place.{Place}
+use Rattle.slot_store.specs.Sizes.{last_pair}
 use Rattle.slot_store.specs.Slots.{slot_at, IsQuiet, IsClosed, IsBlank, IsOpen, HasBody, IsSettled}
 
 -- the slot that is kept is the one with the latest body, and slot 1 of a blank pair
@@ -35,7 +36,7 @@ new_place pair = record { slot = spare_slot pair.latest; other_open = is_some pa
 
 -- a pair lies in the store where it begins at 1,024 at most, and the slot that is kept is slot 0 or 1
 pub record IsPair (pair : Pair) : Type 0 where
-  pub at_in : pair.at ≤ 1024
+  pub at_in : pair.at ≤ last_pair
   pub slot_in : kept_slot pair.latest ≤ 1
 
 -- the latest body is before a number where its own number is below it; where there is no body, that holds too

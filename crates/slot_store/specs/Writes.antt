@@ -3,6 +3,7 @@ use Rattle.std.specs.Prelude.{◌≡◌, ◌⊎◌, ℕ, ◌+◌, ◌≤◌, Lis
 use Rattle.outside.specs.declared.board.Board.{Ghosts}
 use Rattle.outside.specs.Disk.{IsWithin, SameBut, MayLeave}
 use Rattle.outside.specs.Runs.{LeavesOnly}
+use Rattle.slot_store.specs.Sizes.{pair_size}
 
 -- a place is among these or one of the `count` places from `at` on
 abbrev pub OrWithin : (ℕ → Type 0) → ℕ → ℕ → ℕ → Type 0
@@ -10,7 +11,7 @@ OrWithin places at count place = places place ⊎ IsWithin at count place
 
 -- a pair of slots that begins at `at` is apart from a part where the part ends before the pair, or begins behind it
 abbrev pub IsApart : ℕ → ℕ → ℕ → Type 0
-IsApart at start count = (start + count ≤ at) ⊎ (at + 1024 ≤ start)
+IsApart at start count = (start + count ≤ at) ⊎ (at + pair_size ≤ start)
 
 -- a cut leaves the text that was printed and an image of this kind, and outside a part what it might have left at the
 -- start

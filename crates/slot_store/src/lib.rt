@@ -4,6 +4,7 @@
 #![tactic(auto)]
 
 mod body;
+mod body_bytes;
 mod durable;
 mod found;
 mod pair;
@@ -16,7 +17,8 @@ mod storing;
 mod sync_laws;
 mod written;
 
-pub use body::Body;
+pub use body::{BODY_SIZE, Body};
+pub use body_bytes::{Spelled, eight_at, four_at, put_bytes};
 pub use found::{Found, SlotFault};
 pub use pair::{Pair, Place};
 pub use pair_laws::{

@@ -8,6 +8,9 @@ pub const OPEN: u8 = 0xA5;
 /// The gate of a slot that is shut.
 pub const CLOSED: u8 = 0;
 
+/// How many bytes a slot has: its gate, and its body behind it.
+pub const SLOT_SIZE: usize = 512;
+
 /// Where the latest body of a pair is: its slot, 0 or 1, and whether the gate of the other slot is
 /// open.
 #[derive(Clone, Copy, Debug, PartialEq, Eq)]
@@ -41,7 +44,7 @@ impl Pair {
         requires { IsPair self }
         ensures { result ≡ spare_at self }
     {
-        self.at + 512 * u16::from(self.spare_slot())
+        self.at + SLOT_SIZE as u16 * u16::from(self.spare_slot())
     }
 
     /// Whether the gate of the slot that is written next is open.

@@ -7,6 +7,7 @@ ghost use Rattle.slot_store.specs.declared.pair.Place.{Place};
 ghost use Rattle.slot_store.specs.declared.found.Found.{Found};
 ghost use Rattle.slot_store.specs.declared.found.Found.TheVariants.{Latest};
 ghost use Rattle.slot_store.specs.declared.found.SlotFault.{SlotFault};
+ghost use Rattle.slot_store.specs.Sizes.{body_size, slot_size, pair_size};
 ghost use Rattle.slot_store.specs.Slots.{IsQuiet, IsSamePair, IsBlank, IsOpen, IsAt, FliesNoMore, StandsFor, Shows, ShowsEither};
 ghost use Rattle.slot_store.specs.Scan.{found_at, IsAnswer};
 ghost use Rattle.slot_store.specs.Stages.{spare_at, IsPair, IsReadyOn, IsSettledOn};
@@ -36,8 +37,8 @@ pub fn a_pair_stands_for_one_body<T: Body>()
 
 /// An open slot whose body is read has that body's own spelling, in an image of bytes.
 pub fn an_open_slot_has_a_spelling<T: Body>()
-    ensures { (start : ℕ) (image : List ℕ) (body : T) → AreBytes image → start + 512 ≤ length image
-        → IsOpen T.reads start image (Some body) → take 511 (drop (start + 1) image) ≡ T.spelling body }
+    ensures { (start : ℕ) (image : List ℕ) (body : T) → AreBytes image → start + slot_size ≤ length image
+        → IsOpen T.reads start image (Some body) → take body_size (drop (start + 1) image) ≡ T.spelling body }
 {}
 
 /// A pair whose latest body is at a place stands for that body. It stays so, and a blank pair stays
@@ -80,8 +81,10 @@ pub fn a_pair_apart_is_the_same<B: Board<L>, L: Ledger>()
 /// What a stage or a store promises of the slot that is written next holds of the whole pair.
 pub fn a_store_of_the_whole_pair<T: Body, B: Board<L>, L: Ledger>()
     ensures leaves { (pair : Pair) (latest : Option T) (body : T) (old new : B) → IsPair pair
-        → LeavesThroughout B.Board (spare_at pair) 512 (ShowsEither T.reads T.number_of pair.at latest body) old new
-        → LeavesThroughout B.Board pair.at 1024 (ShowsEither T.reads T.number_of pair.at latest body) old new }
+        → LeavesThroughout B.Board (spare_at pair) slot_size
+        (ShowsEither T.reads T.number_of pair.at latest body) old new
+        → LeavesThroughout B.Board pair.at pair_size
+        (ShowsEither T.reads T.number_of pair.at latest body) old new }
     ensures writes { (pair : Pair) (old new : B) → IsPair pair
-        → WritesIn B.Board (spare_at pair) 512 old new → WritesIn B.Board pair.at 1024 old new }
+        → WritesIn B.Board (spare_at pair) slot_size old new → WritesIn B.Board pair.at pair_size old new }
 {}

@@ -2,6 +2,7 @@
 ghost use Rattle.std.specs.Prelude.{◌≡◌, ◌+◌, ◌≤◌, true, false, get_or, Option, Some, None, IfOk, OnOk, IsOk};
 ghost use Rattle.outside.specs.Faults.{HasCause};
 ghost use Rattle.slot_store.specs.declared.pair.Pair.{Pair};
+ghost use Rattle.slot_store.specs.Sizes.{slot_size, last_pair};
 ghost use Rattle.slot_store.specs.Slots.{Shows};
 ghost use Rattle.slot_store.specs.Stages.{spare_at, is_spare_open, IsPair, IsReadyOn, IsShutOn};
 ghost use Rattle.slot_store.specs.Writes.{LeavesThroughout, WritesIn};
@@ -33,7 +34,7 @@ impl Ready {
     /// The pair that begins at `at`, at most 1,024, with its latest body at a place, whose slot is 0
     /// or 1. The other slot is written next.
     pub fn new(at: u16, place: Place) -> Ready
-        requires at { at ≤ 1024 }
+        requires at { at ≤ last_pair }
         requires slot { place.slot ≤ 1 }
         ensures { result ≡ record { at = at; latest = Some place } }
     {
@@ -47,7 +48,7 @@ impl Ready {
 
     /// The pair that begins at `at`, at most 1,024, of which no gate is open. Slot 0 is written next.
     pub fn blank(at: u16) -> Ready
-        requires { at ≤ 1024 }
+        requires { at ≤ last_pair }
         ensures { result ≡ record { at = at; latest = None } }
     {
         Ready {
@@ -58,7 +59,7 @@ impl Ready {
     /// Where the pair begins.
     pub fn at(&self) -> u16
         ensures is { result ≡ self.now.at }
-        ensures in_store { result ≤ 1024 }
+        ensures in_store { result ≤ last_pair }
     {
         self.pair.at
     }
@@ -74,7 +75,7 @@ impl Ready {
     ) -> Result<Shut, Failed>
         requires ready { B.tells_image → (latest : Option T) × IsReadyOn T.Body B.Board self board.old latest }
         ensures any_moment { B.tells_image → (latest : Option T) → IsReadyOn T.Body B.Board self board.old latest
-            → LeavesThroughout B.Board (spare_at self) 512
+            → LeavesThroughout B.Board (spare_at self) slot_size
             (λ image. Shows T.reads T.number_of self.at image latest) board.old board.new }
         ensures shut { B.tells_image → OnOk result ((latest : Option T) → IsReadyOn T.Body B.Board self board.old latest
             → IsShutOn T.Body B.Board self board.new latest) }
@@ -83,7 +84,7 @@ impl Ready {
         ensures closed { is_spare_open self.latest ≡ false
             → IsOk result × (board.new ≡ board.old) × (steps.new ≡ steps.old) }
         ensures gate_alone { WritesIn B.Board (spare_at self) 1 board.old board.new }
-        ensures beside { WritesIn B.Board (spare_at self) 512 board.old board.new }
+        ensures beside { WritesIn B.Board (spare_at self) slot_size board.old board.new }
         ensures pair { IfOk result (λ shut. shut ≡ self) }
         ensures cause { HasCause (B.faults board.old) (B.faults board.new) result }
         ensures calls { is_spare_open self.latest ≡ true → OnOk result (steps.new ≡ steps.old + 2) }

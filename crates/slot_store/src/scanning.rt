@@ -4,12 +4,13 @@ ghost use Rattle.outside.specs.Disk.{SameBut, MayLeave};
 ghost use Rattle.outside.specs.Faults.{HasCause, Rose};
 ghost use Rattle.outside.specs.Runs.{LeavesOnly};
 ghost use Rattle.slot_store.specs.Scan.{found_at, IsAsFound, IsSound};
+ghost use Rattle.slot_store.specs.Sizes.{slot_size, last_pair};
 ghost use Rattle.slot_store.specs.Syncs.{IsAsHeld, LeavesFromSync};
 ghost use Rattle.slot_store.specs.Verdicts.{held, verdict_on};
 
 use crate::found::Held;
-use crate::pair::OPEN;
-use crate::{Body, Found, Place, SlotFault};
+use crate::pair::{OPEN, SLOT_SIZE};
+use crate::{BODY_SIZE, Body, Found, Place, SlotFault};
 use outside::{Board, Failed};
 use std::sync::ledger::Ledger;
 use taxi_units::Steps;
@@ -28,7 +29,7 @@ pub fn scan<T: Body, B: Board<L>, L: Ledger>(
     at: u16,
     steps: &mut Steps<L>,
 ) -> Result<Found<T>, SlotFault>
-    requires { at ≤ 1024 }
+    requires { at ≤ last_pair }
     ensures exact { B.tells_image → ¬ IsErrOf result SlotFault.DeviceFailed
         → result ≡ found_at T.reads T.number_of at (B.image board.old) }
     ensures settled { B.tells_image → IfOk result
@@ -58,10 +59,11 @@ fn read_pair<B: Board<L>, L: Ledger>(
     board: &mut B,
     at: u16,
     steps: &mut Steps<L>,
-) -> Result<([u8; 512], [u8; 512]), Failed>
-    requires { at ≤ 1024 }
-    ensures first { B.tells_image → IfOk result (λ slots. slots.0 ≡ take 512 (drop at (B.image board.old))) }
-    ensures second { B.tells_image → IfOk result (λ slots. slots.1 ≡ take 512 (drop (at + 512) (B.image board.old))) }
+) -> Result<([u8; SLOT_SIZE], [u8; SLOT_SIZE]), Failed>
+    requires { at ≤ last_pair }
+    ensures first { B.tells_image → IfOk result (λ slots. slots.0 ≡ take slot_size (drop at (B.image board.old))) }
+    ensures second { B.tells_image
+        → IfOk result (λ slots. slots.1 ≡ take slot_size (drop (at + slot_size) (B.image board.old))) }
     ensures same { OnOk result (B.image board.new ≡ B.image board.old) }
     ensures durable { B.tells_image → OnOk result ((place : ℕ) → ¬ B.in_flight board.new place) }
     ensures synced { B.tells_image → LeavesFromSync B.Board (IsErr result)
@@ -84,10 +86,11 @@ fn read_slots<B: Board<L>, L: Ledger>(
     board: &mut B,
     at: u16,
     steps: &mut Steps<L>,
-) -> Result<([u8; 512], [u8; 512]), Failed>
-    requires { at ≤ 1024 }
-    ensures first { B.tells_image → IfOk result (λ slots. slots.0 ≡ take 512 (drop at (B.image board.old))) }
-    ensures second { B.tells_image → IfOk result (λ slots. slots.1 ≡ take 512 (drop (at + 512) (B.image board.old))) }
+) -> Result<([u8; SLOT_SIZE], [u8; SLOT_SIZE]), Failed>
+    requires { at ≤ last_pair }
+    ensures first { B.tells_image → IfOk result (λ slots. slots.0 ≡ take slot_size (drop at (B.image board.old))) }
+    ensures second { B.tells_image
+        → IfOk result (λ slots. slots.1 ≡ take slot_size (drop (at + slot_size) (B.image board.old))) }
     ensures same { B.image board.new ≡ B.image board.old }
     ensures any_moment { LeavesOnly B.Board board.old board.new
         (MayLeave (B.image board.old) (B.in_flight board.old) (B.printed board.old)) }
@@ -97,15 +100,15 @@ fn read_slots<B: Board<L>, L: Ledger>(
     ensures calls { OnOk result (steps.new ≡ steps.old + 2) }
     ensures steps { steps.new ≤ steps.old + 2 }
 {
-    let mut first = [0; 512];
+    let mut first = [0; SLOT_SIZE];
     board.read(at, &mut first, steps)?;
-    let mut second = [0; 512];
-    board.read(at + 512, &mut second, steps)?;
+    let mut second = [0; SLOT_SIZE];
+    board.read(at + SLOT_SIZE as u16, &mut second, steps)?;
     Ok((first, second))
 }
 
 /// The answer to the bytes of two slots.
-fn judge<T: Body>(first: &[u8; 512], second: &[u8; 512]) -> Result<Found<T>, SlotFault>
+fn judge<T: Body>(first: &[u8; SLOT_SIZE], second: &[u8; SLOT_SIZE]) -> Result<Found<T>, SlotFault>
     ensures exact { result ≡ verdict_on T.reads T.number_of first.now second.now }
     ensures sound { IfOk result (IsSound T.valid) }
     ensures not_failed { ¬ IsErrOf result SlotFault.DeviceFailed }
@@ -140,13 +143,13 @@ fn latest<T: Body>(slot: u8, other_open: bool, body: T) -> Found<T>
 }
 
 /// What the bytes of a slot hold.
-fn held_in<T: Body>(slot: &[u8; 512]) -> Held<T>
+fn held_in<T: Body>(slot: &[u8; SLOT_SIZE]) -> Held<T>
     ensures { result ≡ held T.reads slot.now }
 {
     if slot[0] != OPEN {
         return Held::Closed;
     }
-    let mut body = [0; 511];
+    let mut body = [0; BODY_SIZE];
     body.copy_from_slice(&slot[1..]);
     match T::get(&body) {
         Some(body) => Held::Read(body),

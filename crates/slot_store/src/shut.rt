@@ -2,12 +2,13 @@
 ghost use Rattle.std.specs.Prelude.{◌≡◌, ◌+◌, ◌≤◌, take, drop, Option, IfOk, OnOk};
 ghost use Rattle.outside.specs.Faults.{HasCause};
 ghost use Rattle.slot_store.specs.declared.pair.Pair.{Pair};
+ghost use Rattle.slot_store.specs.Sizes.{body_size, slot_size};
 ghost use Rattle.slot_store.specs.Slots.{Shows};
 ghost use Rattle.slot_store.specs.Stages.{spare_at, IsPair, IsBefore, IsShutOn, IsWrittenOn};
 ghost use Rattle.slot_store.specs.Writes.{LeavesThroughout, WritesIn};
 
 use crate::durable::write_and_sync;
-use crate::{Body, Pair, Written};
+use crate::{BODY_SIZE, Body, Pair, Written};
 use outside::{Board, Failed};
 use std::marker::Model;
 use std::sync::ledger::Ledger;
@@ -51,22 +52,22 @@ impl Shut {
             × IsBefore T.number_of latest (T.number_of body.now) }
         ensures any_moment { B.tells_image → (latest : Option T)
             → IsShutOn T.Body B.Board self board.old latest
-            → LeavesThroughout B.Board (spare_at self) 512
+            → LeavesThroughout B.Board (spare_at self) slot_size
             (λ image. Shows T.reads T.number_of self.at image latest) board.old board.new }
         ensures written { B.tells_image → OnOk result ((latest : Option T)
             → IsShutOn T.Body B.Board self board.old latest
             → IsBefore T.number_of latest (T.number_of body.now)
             → IsWrittenOn T.Body B.Board self board.new latest body.now) }
         ensures spelled { B.tells_image → OnOk result
-            (take 511 (drop (spare_at self + 1) (B.image board.new)) ≡ T.spelling body.now) }
-        ensures body_alone { WritesIn B.Board (spare_at self + 1) 511 board.old board.new }
-        ensures beside { WritesIn B.Board (spare_at self) 512 board.old board.new }
+            (take body_size (drop (spare_at self + 1) (B.image board.new)) ≡ T.spelling body.now) }
+        ensures body_alone { WritesIn B.Board (spare_at self + 1) body_size board.old board.new }
+        ensures beside { WritesIn B.Board (spare_at self) slot_size board.old board.new }
         ensures pair { IfOk result (λ written. written ≡ self) }
         ensures cause { HasCause (B.faults board.old) (B.faults board.new) result }
         ensures calls { OnOk result (steps.new ≡ steps.old + 2) }
         ensures steps { steps.new ≤ steps.old + 2 }
     {
-        let mut bytes = [0; 511];
+        let mut bytes = [0; BODY_SIZE];
         body.put(&mut bytes);
         write_and_sync(board, self.pair.spare() + 1, &bytes, steps)?;
         Ok(Written::of(self.pair))

@@ -2,6 +2,7 @@
 ghost use Rattle.std.specs.Prelude.{◌≡◌, ◌⊎◌, ◌+◌, ◌*◌, ◌≤◌, false, ℕ, List, [], length, Option, IfOk, OnOk};
 ghost use Rattle.std.specs.List.{All};
 ghost use Rattle.outside.specs.Faults.{HasCause};
+ghost use Rattle.slot_store.specs.Sizes.{slot_size, pair_size};
 ghost use Rattle.slot_store.specs.Slots.{ShowsEither};
 ghost use Rattle.slot_store.specs.Stages.{spare_at, is_spare_open, new_place, IsBefore, IsReadyOn, IsSettledOn};
 ghost use Rattle.slot_store.specs.Writes.{LeavesThroughout, WritesIn};
@@ -30,13 +31,13 @@ impl Ready {
         ensures any_moment { B.tells_image → (latest : Option T)
             → IsReadyOn T.Body B.Board self board.old latest
             → IsBefore T.number_of latest (T.number_of body.now)
-            → LeavesThroughout B.Board (spare_at self) 512
+            → LeavesThroughout B.Board (spare_at self) slot_size
             (ShowsEither T.reads T.number_of self.at latest body.now) board.old board.new }
         ensures settled { B.tells_image → IfOk result (λ place. (latest : Option T)
             → IsReadyOn T.Body B.Board self board.old latest
             → IsBefore T.number_of latest (T.number_of body.now)
             → IsSettledOn T.Body B.Board self.at place board.new body.now) }
-        ensures beside { WritesIn B.Board (spare_at self) 512 board.old board.new }
+        ensures beside { WritesIn B.Board (spare_at self) slot_size board.old board.new }
         ensures place { IfOk result (λ place. place ≡ new_place self) }
         ensures slot_in { IfOk result (λ place. place.slot ≤ 1) }
         ensures cause { HasCause (B.faults board.old) (B.faults board.new) result }
@@ -65,7 +66,7 @@ impl Ready {
         ensures any_moment { B.tells_image → (latest : Option T)
             → IsReadyOn T.Body B.Board self board.old latest
             → AreNewer T.number_of latest bodies.now
-            → LeavesThroughout B.Board self.at 1024
+            → LeavesThroughout B.Board self.at pair_size
             (ShowsOne T.reads T.number_of self.at latest bodies.now) board.old board.new }
         ensures in_order { B.tells_image → (latest : Option T)
             → IsReadyOn T.Body B.Board self board.old latest
@@ -80,7 +81,7 @@ impl Ready {
             → AreNewer T.number_of latest bodies.now
             → IsReadyOn T.Body B.Board ready board.new (last_of latest bodies.now)) }
         ensures pair { IfOk result (λ ready. ready.at ≡ self.at) }
-        ensures beside { WritesIn B.Board self.at 1024 board.old board.new }
+        ensures beside { WritesIn B.Board self.at pair_size board.old board.new }
         ensures cause { HasCause (B.faults board.old) (B.faults board.new) result }
         ensures steps { steps.new ≤ steps.old + 6 * length bodies.now }
     {

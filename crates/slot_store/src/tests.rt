@@ -5,12 +5,11 @@ mod staged;
 
 ghost use Rattle.std.specs.Prelude.{◌≡◌, ◌<◌, ◌≤◌};
 
-use crate::{Body, Found, Ready, SlotFault, scan};
+use crate::{Body, Found, SlotFault, scan};
 use numbered::{Numbered, spell};
-use outside::{Fill, MemoryBoard};
+use outside::MemoryBoard;
 use std::alloc::Global;
 use std::marker::Brand;
-use std::process::Abort;
 use std::sync::ledger::{Blank, Ledger};
 use std::test::Fail;
 use taxi_units::Steps;
@@ -24,8 +23,10 @@ type Answer = Result<Option<(u8, bool, u64)>, SlotFault>;
 
 const SHUT: Slot = (0, 0, 0);
 
-/// Pairs of slots: a name, the two slots, and what a scan answers.
-const PAIRS: [(&str, Slot, Slot, Answer); 10] = [
+/// A pair of slots: a name, the two slots, and what a scan answers.
+type Case = (&'static str, Slot, Slot, Answer);
+
+const PAIRS: [Case; 10] = [
     ("both closed", SHUT, SHUT, Ok(None)),
     ("slot 0 open", (0xA5, 1, 0), SHUT, Ok(Some((0, false, 1)))),
     ("slot 1 open", SHUT, (0xA5, 1, 0), Ok(Some((1, false, 1)))),
@@ -93,34 +94,62 @@ fn store_of(at: u16, first: Slot, second: Slot) -> [u8; 2048]
     image
 }
 
-/// What a scan of a board answers.
-fn answer<L: Ledger>(board: &mut MemoryBoard, at: u16, steps: &mut Steps<L>) -> Answer
-    requires { at ≤ 1024 }
-{
-    match scan::<Numbered, MemoryBoard, L>(board, at, steps)? {
-        Found::Blank => Ok(None),
-        Found::Latest { place, body } => Ok(Some((place.slot, place.other_open, body.number()))),
-    }
-}
-
-/// Scans the table's pairs, at both places of the store.
-fn scan_pairs<L: Ledger>(alloc: Global, blank: Blank, rt: &impl Abort) -> Result<(), Fail>
+/// What a scan of a board answers, under a new counter.
+fn answer<L: Ledger>(board: &mut MemoryBoard, at: u16, blank: Blank) -> Answer
+    requires at { at ≤ 1024 }
     requires name { blank.name ≡ L.name }
     requires parts { blank.parts ≡ L.parts }
     requires one { 0 < blank.parts }
 {
     let mut steps: Steps<L> = Steps::open(blank);
-    for (name, first, second, want) in PAIRS {
-        for at in [0, 1024] {
-            let image = store_of(at, first, second);
-            let mut board = MemoryBoard::new(alloc, &image, &[])?;
-            assert_eq!(rt; answer(&mut board, at, &mut steps), want, "{name} at {at}");
-        }
+    match scan::<Numbered, MemoryBoard, L>(board, at, &mut steps)? {
+        Found::Blank => Ok(None),
+        Found::Latest { place, body } => Ok(Some((place.slot, place.other_open, body.number()))),
     }
-    Ok(())
+}
+
+/// What a scan of a board answers.
+fn scanned(board: &mut MemoryBoard, at: u16) -> Answer
+    requires { at ≤ 1024 }
+{
+    answer::<Brand>(board, at, Blank::new(1))
+}
+
+/// Fails unless something holds of the case with this name.
+fn must(holds: bool, what: &str, name: &str) -> Result<(), Fail> {
+    if holds {
+        return Ok(());
+    }
+    Err(Fail::new(format_args!("{what}: {name}")))
+}
+
+/// What a scan of a store with this image answers, where there is memory for it.
+fn answer_in(alloc: Global, image: &[u8; 2048], at: u16) -> Option<Answer>
+    requires { at ≤ 1024 }
+{
+    let Ok(mut board) = MemoryBoard::new(alloc, image, &[]) else {
+        return None;
+    };
+    Some(scanned(&mut board, at))
+}
+
+/// Fails unless a scan of a case's pair at a place of the store answers what the case says.
+fn must_answer(alloc: Global, at: u16, case: &Case) -> Result<(), Fail>
+    requires { at ≤ 1024 }
+{
+    let image = store_of(at, case.1, case.2);
+    must(
+        answer_in(alloc, &image, at) == Some(case.3),
+        "another answer",
+        case.0,
+    )
 }
 
 #[test]
 fn scans_pairs(rt: HostRuntime) -> Result<(), Fail> {
-    scan_pairs::<Brand>(rt.alloc(), Blank::new(1), &rt)
+    for case in &PAIRS {
+        must_answer(rt.alloc(), 0, case)?;
+        must_answer(rt.alloc(), 1024, case)?;
+    }
+    Ok(())
 }

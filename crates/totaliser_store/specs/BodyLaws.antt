@@ -8,6 +8,8 @@ use Rattle.std.proofs.lemmas.Slice.Eq.{bytes_eq-Decides}
 use Rattle.std.proofs.lemmas.Nat.{from_be_bytes-to_be_bytes_8}
 use Rattle.std.proofs.lemmas.List.{get_or-append_right}
 use Rattle.std.proofs.Math.Seq.{drop-append_seam}
+use Rattle.slot_store.specs.Bodies.{AreBodies}
+use Rattle.slot_store.specs.Sizes.{body_size}
 use Rattle.totaliser_store.specs.declared.durable.Durable.{Durable}
 use Rattle.totaliser_store.specs.declared.totals.Share.{Share}
 use Rattle.totaliser_store.specs.declared.totals.Totals.{Totals}
@@ -76,7 +78,7 @@ parts_of durable valid = parts _ _ _ durable.layout refl (held_long durable.numb
     (shared_long durable.layout durable.totals valid.shares.nine)
 
 -- a spelling fills a body
-pub size : (durable : Durable) → IsDurable durable → length (spelling durable) ≡ 511
+size : (durable : Durable) → IsDurable durable → length (spelling durable) ≡ body_size
 size durable valid = (parts_of durable valid).size
 
 -- the part of the shares in layout 2 is the shares, what was counted before, and zeros, before what comes behind it
@@ -206,7 +208,7 @@ decoded_back durable valid =
     place.fourth
 
 -- the spelling of a state in its ranges is read as that state
-pub reads_it : (durable : Durable) → IsDurable durable → reads (spelling durable) ≡ Some durable
+reads_it : (durable : Durable) → IsDurable durable → reads (spelling durable) ≡ Some durable
 reads_it durable valid =
     let bytes = spelling durable in
     ap (λ (d : Durable). if length bytes == 511 && is_durable d && bytes_eq (spelling d) bytes then Some d else None)
@@ -228,7 +230,7 @@ passed bytes durable read =
     (equal (length bytes) 511 first.0, first.1, (bytes_eq-Decides (spelling found) bytes).0 last.1, result.1)
 
 -- bytes that are read as a state are its spelling
-pub nothing_else : (bytes : List ℕ) (durable : Durable) → reads bytes ≡ Some durable → bytes ≡ spelling durable
+nothing_else : (bytes : List ℕ) (durable : Durable) → reads bytes ≡ Some durable → bytes ≡ spelling durable
 nothing_else bytes durable read =
     let tests = passed bytes durable read in
     sym tests.2 ∙ ap spelling tests.3
@@ -262,7 +264,7 @@ in_ranges bytes long pass = durable_of (decoded bytes) (nine_in (byte_at bytes 5
     (counts_in (drop 80 bytes) (omega (arith, long, length-drop 80 bytes))) pass
 
 -- a state that is read is in its ranges
-pub gives_valid : (bytes : List ℕ) (durable : Durable) → reads bytes ≡ Some durable → IsDurable durable
+gives_valid : (bytes : List ℕ) (durable : Durable) → reads bytes ≡ Some durable → IsDurable durable
 gives_valid bytes durable read =
     let tests = passed bytes durable read in
     subst IsDurable tests.3 (in_ranges bytes tests.0 tests.1)
@@ -291,3 +293,12 @@ reads_exactly bytes durable = (
   λ spelled. ap reads spelled.1
       ∙ reads_it durable spelled.0,
 )
+
+-- states in their ranges are bodies
+pub states_are_bodies : AreBodies IsDurable spelling reads
+states_are_bodies = record {
+  size = size;
+  reads_it = reads_it;
+  gives_valid = gives_valid;
+  nothing_else = λ bytes durable long small read. nothing_else bytes durable read;
+}

@@ -2,6 +2,7 @@
 use Rattle.std.specs.Prelude.{ℕ, List, Some}
 use Rattle.outside.specs.declared.board.Board.{Ghosts}
 use Rattle.slot_store.specs.declared.pair.Place.{Place}
+use Rattle.slot_store.specs.Sizes.{pair_size}
 use Rattle.slot_store.specs.Slots.{IsSettled, StandsFor, ShowsEither}
 use Rattle.slot_store.specs.Writes.{LeavesThroughout}
 use Rattle.totaliser_store.specs.declared.durable.Durable.{Durable}
@@ -27,4 +28,4 @@ module _ {D L : Type 0} (B : Ghosts D L) where
   -- a run leaves either of two states where a cut at each of its moments leaves an image of the one or the other, and
   -- outside the pair of totals what it might have left at the old board
   abbrev pub LeavesEither : Durable → Durable → D → D → Type 0
-  LeavesEither before after old new = LeavesThroughout B 0 1024 (HasEither before after) old new
+  LeavesEither before after old new = LeavesThroughout B 0 pair_size (HasEither before after) old new

@@ -9,10 +9,10 @@ use crate::Durable;
 use crate::decoding::decode;
 use crate::ranges::is_durable;
 use crate::spelling::spell;
-use slot_store::Body;
+use slot_store::{BODY_SIZE, Body};
 
 impl Body for Durable {
-    ghost use Rattle.totaliser_store.specs.BodyLaws.{size, reads_it, gives_valid, nothing_else};
+    ghost use Rattle.totaliser_store.specs.BodyLaws.{states_are_bodies};
 
     ghost valid = { IsDurable };
 
@@ -22,23 +22,17 @@ impl Body for Durable {
 
     ghost reads = { reads };
 
-    ghost size = { size };
-
-    ghost reads_it = { reads_it };
-
-    ghost gives_valid = { gives_valid };
-
-    ghost nothing_else = { λ bytes durable long below read. nothing_else bytes durable read };
+    ghost bodies = { states_are_bodies };
 
     fn number(&self) -> u64 {
         self.number
     }
 
-    fn put(&self, out: &mut [u8; 511]) {
+    fn put(&self, out: &mut [u8; BODY_SIZE]) {
         *out = spell(self);
     }
 
-    fn get(bytes: &[u8; 511]) -> Option<Durable> {
+    fn get(bytes: &[u8; BODY_SIZE]) -> Option<Durable> {
         let durable = decode(bytes);
         if !is_durable(&durable) {
             return None;

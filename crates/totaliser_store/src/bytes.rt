@@ -1,39 +1,28 @@
 //! Numbers in bytes, the greatest byte first.
 ghost use Rattle.std.specs.Prelude.{◌≡◌, [], ◌∷◌, ◌++◌, ◌+◌, ◌<◌, ◌≤◌, ◌^◌, length, drop};
 ghost use Rattle.arrayvec.specs.ArrayVec.{array_vec_len};
+ghost use Rattle.slot_store.specs.Sizes.{body_size};
 ghost use Rattle.totaliser_store.specs.Bytes.{four, eight, sixteen, bit};
-ghost use Rattle.totaliser_store.specs.BytesAt.{four_at, eight_at, sixteen_at};
+ghost use Rattle.totaliser_store.specs.BytesAt.{sixteen_at};
 
-use arrayvec::ArrayVec;
-
-/// A body that is being spelled.
-pub type Spelled = ArrayVec<u8, 511>;
-
-/// Appends bytes, for which there is room.
-pub fn put(out: &mut Spelled, bytes: &[u8])
-    requires { array_vec_len out.old + length bytes.now ≤ 511 }
-    ensures items { out.new.items ≡ out.old.items ++ bytes.now }
-    ensures len { array_vec_len out.new ≡ array_vec_len out.old + length bytes.now }
-{
-    let _ = out.try_extend_from_slice(bytes);
-}
+use slot_store::{Spelled, eight_at, put_bytes};
 
 /// Appends a number in four bytes.
 pub fn put_four(out: &mut Spelled, n: u32)
-    requires { array_vec_len out.old + 4 ≤ 511 }
+    requires { array_vec_len out.old + 4 ≤ body_size }
     ensures items { out.new.items ≡ out.old.items ++ four n }
     ensures len { array_vec_len out.new ≡ array_vec_len out.old + 4 }
 {
-    put(out, &n.to_be_bytes());
+    put_bytes(out, &n.to_be_bytes());
 }
 
 /// Appends a number in eight bytes.
 pub fn put_eight(out: &mut Spelled, n: u64)
-    requires { array_vec_len out.old + 8 ≤ 511 }
+    requires { array_vec_len out.old + 8 ≤ body_size }
     ensures items { out.new.items ≡ out.old.items ++ eight n }
     ensures len { array_vec_len out.new ≡ array_vec_len out.old + 8 }
 {
-    put(out, &n.to_be_bytes());
+    put_bytes(out, &n.to_be_bytes());
 }
 
 /// Two to the 64.
@@ -41,7 +30,7 @@ const HALF: u128 = 1 << 64;
 
 /// Appends a number in sixteen bytes.
 pub fn put_sixteen(out: &mut Spelled, n: u128)
-    requires { array_vec_len out.old + 16 ≤ 511 }
+    requires { array_vec_len out.old + 16 ≤ body_size }
     ensures items { out.new.items ≡ out.old.items ++ sixteen n }
     ensures len { array_vec_len out.new ≡ array_vec_len out.old + 16 }
 {
@@ -62,26 +51,6 @@ pub fn behind(bytes: &[u8], place: usize) -> &[u8]
     ensures { result.now ≡ drop place bytes.now }
 {
     &bytes[place..]
-}
-
-/// The number in the four bytes from a place on.
-pub fn four_at(bytes: &[u8], at: usize) -> u32
-    requires { at + 4 ≤ length bytes.now }
-    ensures { result ≡ four_at bytes.now at }
-{
-    let mut part = [0; 4];
-    part.copy_from_slice(&bytes[at..at + 4]);
-    u32::from_be_bytes(part)
-}
-
-/// The number in the eight bytes from a place on.
-pub fn eight_at(bytes: &[u8], at: usize) -> u64
-    requires { at + 8 ≤ length bytes.now }
-    ensures { result ≡ eight_at bytes.now at }
-{
-    let mut part = [0; 8];
-    part.copy_from_slice(&bytes[at..at + 8]);
-    u64::from_be_bytes(part)
 }
 
 /// The number in the sixteen bytes from a place on.

@@ -1,6 +1,7 @@
 //! The commit: a new state over the one that the store has.
 ghost use Rattle.std.specs.Prelude.{◌≡◌, ◌+◌, ◌≤◌, IfOk};
 ghost use Rattle.outside.specs.Faults.{HasCause};
+ghost use Rattle.slot_store.specs.Sizes.{pair_size};
 ghost use Rattle.slot_store.specs.Writes.{WritesIn};
 ghost use Rattle.totaliser_store.specs.Ranges.{IsDurable};
 ghost use Rattle.totaliser_store.specs.States.{after};
@@ -46,7 +47,7 @@ pub fn commit<B: Board<L>, L: Ledger>(
     ensures settled { B.tells_image → IfOk result (λ answer. KeepsState B.Board answer.1 board.new answer.0) }
     ensures state { IfOk result (λ answer. answer.0 ≡ after durable.now commit.now) }
     ensures slot_in { IfOk result (λ answer. answer.1.slot ≤ 1) }
-    ensures beside { WritesIn B.Board 0 1024 board.old board.new }
+    ensures beside { WritesIn B.Board 0 pair_size board.old board.new }
     ensures cause { HasCause (B.faults board.old) (B.faults board.new) result }
     ensures steps { steps.new ≤ steps.old + 6 }
 {

@@ -3,12 +3,13 @@ ghost use Rattle.std.specs.Prelude.{◌≡◌, ◌+◌, ◌≤◌, drop, length}
 ghost use Rattle.totaliser_store.specs.Reading.{decoded, held_in, before_of, share_at, shares_in, shares_of};
 ghost use Rattle.totaliser_store.specs.Reading.{totals_in, trip_in};
 
-use crate::bytes::{behind, eight_at, four_at, sixteen_at};
+use crate::bytes::{behind, sixteen_at};
 use crate::{Durable, Share, Totals, Trip};
 use drive_modes::Meterage;
+use slot_store::{BODY_SIZE, eight_at, four_at};
 
 /// The state whose fields have these bytes, whatever they are.
-pub fn decode(bytes: &[u8; 511]) -> Durable
+pub fn decode(bytes: &[u8; BODY_SIZE]) -> Durable
     ensures { result ≡ decoded bytes.now }
 {
     Durable {

@@ -1,16 +1,18 @@
 //! The bytes of a durable state.
 ghost use Rattle.std.specs.Prelude.{◌≡◌, [], ◌∷◌, ◌++◌, ◌+◌, ◌≤◌, ℕ, List, length, IfSome};
 ghost use Rattle.arrayvec.specs.ArrayVec.{array_vec_len};
+ghost use Rattle.slot_store.specs.Sizes.{body_size};
 ghost use Rattle.totaliser_store.specs.Ranges.{IsDurable, IsHeld};
 ghost use Rattle.totaliser_store.specs.Spelling.{head_bytes, course_bytes, meterage_bytes, trip_bytes};
 ghost use Rattle.totaliser_store.specs.Spelling.{held_bytes, share_bytes, shared_bytes, spelling};
 
-use crate::bytes::{Spelled, bit_of, put, put_eight, put_four, put_sixteen};
+use crate::bytes::{bit_of, put_eight, put_four, put_sixteen};
 use crate::{Durable, Share, Totals, Trip};
 use drive_modes::Meterage;
+use slot_store::{BODY_SIZE, Spelled, put_bytes};
 
-/// The 511 bytes of a state.
-pub fn spell(durable: &Durable) -> [u8; 511]
+/// The bytes of a state.
+pub fn spell(durable: &Durable) -> [u8; BODY_SIZE]
     requires { IsDurable durable.now }
     ensures { result ≡ spelling durable.now }
 {
@@ -18,15 +20,15 @@ pub fn spell(durable: &Durable) -> [u8; 511]
     put_head(&mut out, durable.number, &durable.totals);
     put_held(&mut out, durable.number, &durable.hold);
     put_shared(&mut out, durable.layout, &durable.totals);
-    put(&mut out, &[durable.layout]);
-    let mut bytes = [0; 511];
+    put_bytes(&mut out, &[durable.layout]);
+    let mut bytes = [0; BODY_SIZE];
     bytes.copy_from_slice(out.as_slice());
     bytes
 }
 
 /// Appends the number and the five totals.
 fn put_head(out: &mut Spelled, number: u64, totals: &Totals)
-    requires { array_vec_len out.old + 80 ≤ 511 }
+    requires { array_vec_len out.old + 80 ≤ body_size }
     ensures items { out.new.items ≡ out.old.items ++ head_bytes number totals.now }
     ensures len { array_vec_len out.new ≡ array_vec_len out.old + 80 }
 {
@@ -40,32 +42,32 @@ fn put_head(out: &mut Spelled, number: u64, totals: &Totals)
 
 /// Appends whether a trip is held, and the trip, or zeros.
 fn put_held(out: &mut Spelled, number: u64, hold: &Option<Trip>)
-    requires room { array_vec_len out.old + 108 ≤ 511 }
+    requires room { array_vec_len out.old + 108 ≤ body_size }
     requires held { IfSome hold.now (IsHeld number) }
     ensures items { out.new.items ≡ out.old.items ++ held_bytes hold.now }
     ensures len { array_vec_len out.new ≡ array_vec_len out.old + 108 }
 {
     match hold {
         Some(trip) => {
-            put(out, &[1]);
+            put_bytes(out, &[1]);
             put_trip(out, trip);
         }
-        None => put(out, &[0; 108]),
+        None => put_bytes(out, &[0; 108]),
     }
 }
 
 /// Appends how far a trip has come.
 fn put_course(out: &mut Spelled, trip: &Trip)
-    requires room { array_vec_len out.old + 39 ≤ 511 }
+    requires room { array_vec_len out.old + 39 ≤ body_size }
     requires initial { trip.now.initial ≤ 99999999 }
     ensures items { out.new.items ≡ out.old.items ++ course_bytes trip.now }
     ensures len { array_vec_len out.new ≡ array_vec_len out.old + 39 }
 {
     put_eight(out, trip.started);
     put_eight(out, trip.saved);
-    put(out, &[bit_of(trip.stopped)]);
-    put(out, &[trip.position]);
-    put(out, &[trip.zone]);
+    put_bytes(out, &[bit_of(trip.stopped)]);
+    put_bytes(out, &[trip.position]);
+    put_bytes(out, &[trip.zone]);
     put_four(out, trip.roam);
     put_eight(out, trip.pulses);
     put_four(out, trip.ticks);
@@ -74,7 +76,7 @@ fn put_course(out: &mut Spelled, trip: &Trip)
 
 /// Appends what the charges of a trip have come to.
 fn put_meterage(out: &mut Spelled, meterage: &Meterage)
-    requires { array_vec_len out.old + 40 ≤ 511 }
+    requires { array_vec_len out.old + 40 ≤ body_size }
     ensures items { out.new.items ≡ out.old.items ++ meterage_bytes meterage.now }
     ensures len { array_vec_len out.new ≡ array_vec_len out.old + 40 }
 {
@@ -85,7 +87,7 @@ fn put_meterage(out: &mut Spelled, meterage: &Meterage)
 
 /// Appends a trip.
 fn put_trip(out: &mut Spelled, trip: &Trip)
-    requires room { array_vec_len out.old + 107 ≤ 511 }
+    requires room { array_vec_len out.old + 107 ≤ body_size }
     requires initial { trip.now.initial ≤ 99999999 }
     requires minimum { trip.now.minimum ≤ 99999999 }
     ensures items { out.new.items ≡ out.old.items ++ trip_bytes trip.now }
@@ -93,31 +95,31 @@ fn put_trip(out: &mut Spelled, trip: &Trip)
 {
     put_course(out, trip);
     put_meterage(out, &trip.meterage);
-    put(out, &trip.extras);
+    put_bytes(out, &trip.extras);
     put_eight(out, trip.extras_sum);
     put_four(out, trip.minimum as u32);
 }
 
 /// Appends the shares and what was counted before, or in layout 1 zeros.
 fn put_shared(out: &mut Spelled, layout: u8, totals: &Totals)
-    requires { array_vec_len out.old + 322 ≤ 511 }
+    requires { array_vec_len out.old + 322 ≤ body_size }
     ensures items { out.new.items ≡ out.old.items ++ shared_bytes layout totals.now }
     ensures len { array_vec_len out.new ≡ array_vec_len out.old + 322 }
 {
     if layout == 1 {
-        put(out, &[0; 322]);
+        put_bytes(out, &[0; 322]);
         return;
     }
     for share in &totals.shares {
         put_share(out, share);
     }
     put_share(out, &totals.before);
-    put(out, &[0; 82]);
+    put_bytes(out, &[0; 82]);
 }
 
 /// Appends a share.
 fn put_share(out: &mut Spelled, share: &Share)
-    requires { array_vec_len out.old + 24 ≤ 511 }
+    requires { array_vec_len out.old + 24 ≤ body_size }
     ensures items { out.new.items ≡ out.old.items ++ share_bytes share.now }
     ensures len { array_vec_len out.new ≡ array_vec_len out.old + 24 }
 {

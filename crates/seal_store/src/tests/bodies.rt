@@ -1,29 +1,51 @@
 //! The bytes of seals.
-use super::P;
+use super::texts::is_p;
+use super::{P, must};
 use crate::{Seal, read_params};
-use slot_store::Body;
+use slot_store::{BODY_SIZE, Body};
 use std::test::Fail;
 
-/// The 511 bytes of P sealed for the first time, with a digest of 0xD1 alone and 2 decimals. A place
-/// here is one less than in the slot.
-pub fn sealed_p() -> [u8; 511] {
-    let mut bytes = [0; 511];
-    bytes[7] = 1;
-    bytes[8..15].copy_from_slice(&[0x4c, 0x58, 0x2d, 0x34, 0x37, 0x31, 0x31]);
-    bytes[24..28].copy_from_slice(&[0x00, 0x00, 0x27, 0x10]);
-    bytes[30] = 60;
-    bytes[31..63].copy_from_slice(&[0xD1; 32]);
-    bytes[63..67].copy_from_slice(&[0x00, 0x00, 0x4f, 0xc7]);
-    bytes[67] = 1;
-    bytes[68..76].copy_from_slice(&[0x00, 0x00, 0x00, 0x00, 0x38, 0x6d, 0x43, 0x80]);
-    bytes[76..80].copy_from_slice(&[0x00, 0x00, 0x0e, 0x10]);
-    bytes[452] = 2;
-    bytes[510] = 1;
-    bytes
+/// Bytes, and the place of the slot where the first of them stands.
+type Piece = (usize, &'static [u8]);
+
+/// The bytes of P sealed for the first time, with a digest of 0xD1 alone and 2 decimals. All others are zeros.
+const SEALED_P: [Piece; 11] = [
+    (8, &[1]),
+    (9, b"LX-4711"),
+    (25, &[0x00, 0x00, 0x27, 0x10]),
+    (31, &[60]),
+    (32, &[0xD1; 32]),
+    (64, &[0x00, 0x00, 0x4f, 0xc7]),
+    (68, &[1]),
+    (69, &[0x00, 0x00, 0x00, 0x00, 0x38, 0x6d, 0x43, 0x80]),
+    (77, &[0x00, 0x00, 0x0e, 0x10]),
+    (453, &[2]),
+    (511, &[1]),
+];
+
+/// Writes bytes at their place of the slot. Fails where they don't lie in a body.
+fn write(body: &mut [u8; BODY_SIZE], piece: &Piece) -> Result<(), Fail> {
+    let (place, bytes) = *piece;
+    if place < 1 || place > 511 || bytes.len() > 512 - place {
+        return Err(Fail::new(format_args!("{piece:?} lies in no body")));
+    }
+    body[place - 1..place - 1 + bytes.len()].copy_from_slice(bytes);
+    Ok(())
 }
 
-/// Bytes at places of the slot, and whether the seal with them is read.
-const ROWS: [(usize, &[u8], bool); 33] = [
+/// The bytes of P sealed for the first time.
+pub fn sealed_p() -> Result<[u8; BODY_SIZE], Fail> {
+    let mut body = [0; BODY_SIZE];
+    for piece in &SEALED_P {
+        write(&mut body, piece)?;
+    }
+    Ok(body)
+}
+
+/// Bytes at places of the slot, and whether the seal of P with them is read.
+type Row = (usize, &'static [u8], bool);
+
+const ROWS: [Row; 33] = [
     (1, &[0, 0, 0, 0, 0, 0, 0, 0], false),
     (1, &[0x00, 0x03, 0x8d, 0x7e, 0xa4, 0xc6, 0x80, 0x00], true),
     (1, &[0x00, 0x03, 0x8d, 0x7e, 0xa4, 0xc6, 0x80, 0x01], false),
@@ -59,45 +81,41 @@ const ROWS: [(usize, &[u8], bool); 33] = [
     (511, &[2], false),
 ];
 
-/// The bytes of P sealed with others at a place of the slot.
-fn sealed_with(place: usize, others: &[u8]) -> Option<[u8; 511]> {
-    let mut bytes = sealed_p();
-    if place < 1 || place > 511 || others.len() > 512 - place {
-        return None;
+/// Fails unless the seal of P with the bytes of a row is read, or not, as the row says.
+fn must_read(row: &Row) -> Result<(), Fail> {
+    let mut body = sealed_p()?;
+    write(&mut body, &(row.0, row.1))?;
+    if Seal::get(&body).is_some() == row.2 {
+        return Ok(());
     }
-    bytes[place - 1..place - 1 + others.len()].copy_from_slice(others);
-    Some(bytes)
+    Err(Fail::new(format_args!("{row:?}")))
 }
 
 #[test]
-fn reads_bodies_in_their_ranges(rt: HostRuntime) {
-    for (place, others, good) in ROWS {
-        let read = sealed_with(place, others).map(|bytes| Seal::get(&bytes).is_some());
-        assert_eq!(rt; read, Some(good), "{others:?} at {place}");
+fn reads_bodies_in_their_ranges() -> Result<(), Fail> {
+    for row in &ROWS {
+        must_read(row)?;
+    }
+    Ok(())
+}
+
+/// Whether a seal is P sealed for the first time, with a digest of 0xD1 alone and 2 decimals.
+fn is_sealed_p(seal: &Seal) -> bool {
+    is_p(&seal.params) && seal.seal_number == 1 && seal.decimals == 2 && seal.digest == [0xD1; 32]
+}
+
+/// Whether the bytes of P sealed are read as that seal.
+fn reads_p(body: &[u8; BODY_SIZE]) -> bool {
+    match Seal::get(body) {
+        Some(seal) => is_sealed_p(&seal),
+        None => false,
     }
 }
 
-#[test]
-fn spells_what_it_reads(rt: HostRuntime) -> Result<(), Fail> {
-    let Some(seal) = Seal::get(&sealed_p()) else {
-        return Err("not read")?;
-    };
-    assert_eq!(rt; seal.seal_number, 1);
-    assert_eq!(rt; seal.params.taxi.as_slice(), b"LX-4711".as_slice());
-    assert_eq!(rt; seal.params.constant.get(), 10_000);
-    assert_eq!(rt;
-        seal.params.offsets.pairs(),
-        [(946_684_800, 3600)].as_slice()
-    );
-    assert_eq!(rt; seal.params.secured, 20_423);
-    assert_eq!(rt;
-        (seal.params.hold, seal.decimals, seal.digest[31]),
-        (60, 2, 0xD1)
-    );
-    let Ok(params) = read_params(P) else {
-        return Err("no parameters")?;
-    };
-    let mut bytes = [0xFF; 511];
+/// The bytes that P sealed is spelled by, where P is read.
+fn spelled_p() -> Option<[u8; BODY_SIZE]> {
+    let params = read_params(P).ok()?;
+    let mut bytes = [0xFF; BODY_SIZE];
     let seal = Seal {
         seal_number: 1,
         params,
@@ -105,6 +123,12 @@ fn spells_what_it_reads(rt: HostRuntime) -> Result<(), Fail> {
         decimals: 2,
     };
     seal.put(&mut bytes);
-    assert!(rt; bytes == sealed_p());
-    Ok(())
+    Some(bytes)
+}
+
+#[test]
+fn spells_what_it_reads() -> Result<(), Fail> {
+    let body = sealed_p()?;
+    must(reads_p(&body), "another seal", "P")?;
+    must(spelled_p() == Some(body), "other bytes", "P")
 }

@@ -1,7 +1,6 @@
 //! The limits of each value.
-ghost use Rattle.std.specs.Prelude.{◌≤◌};
-
-use crate::{Name, ParamFault, read_params};
+use super::{must, must_have};
+use crate::{ParamFault, read_params};
 use std::alloc::{AllocError, Global};
 use std::test::Fail;
 
@@ -15,8 +14,10 @@ const LINES: [&str; 6] = [
     "secured 2025-12-01",
 ];
 
-/// Places of lines, from 0, lines that stand there in P, and whether their values are good.
-const VALUES: [(u8, &str, bool); 59] = [
+/// A place of a line, from 0, a line that stands there in P, and whether its value is good.
+type Value = (u8, &'static str, bool);
+
+const VALUES: [Value; 59] = [
     (0, "taxi Z", true),
     (0, "taxi -09AZ", true),
     (0, "taxi ABCDEFGHIJ-01234", true),
@@ -79,70 +80,59 @@ const VALUES: [(u8, &str, bool); 59] = [
 ];
 
 /// The text of P with another line at a place.
-fn text_with(alloc: Global, place: usize, line: &str) -> Result<String, AllocError> {
+fn text_with(alloc: Global, place: u8, line: &str) -> Result<String, AllocError> {
     let mut text = String::new(alloc);
     for (at, there) in LINES.iter().enumerate() {
-        text.push_str(if at == place { line } else { there })?;
+        text.push_str(if at == usize::from(place) {
+            line
+        } else {
+            there
+        })?;
         text.push('\n')?;
     }
     Ok(text)
 }
 
+/// Fails unless P with another line is read, or has a bad value there, as the row says.
+fn must_read(alloc: Global, value: &Value) -> Result<(), Fail> {
+    let text = text_with(alloc, value.0, value.1)?;
+    let fault = if value.2 {
+        None
+    } else {
+        Some(ParamFault::BadValue(u32::from(value.0) + 1))
+    };
+    must_have(text.as_bytes(), fault, value.1)
+}
+
 #[test]
 fn reads_values_in_their_ranges(rt: HostRuntime) -> Result<(), Fail> {
-    for (place, line, good) in VALUES {
-        let text = text_with(rt.alloc(), usize::from(place), line)?;
-        let fault = read_params(text.as_bytes()).err();
-        let number = u32::from(place) + 1;
-        let want = if good {
-            None
-        } else {
-            Some(ParamFault::BadValue(number))
-        };
-        assert_eq!(rt; fault, want, "{line}");
+    for value in &VALUES {
+        must_read(rt.alloc(), value)?;
     }
     Ok(())
 }
 
-/// A text of `count` offsets alone.
-fn offsets(alloc: Global, count: u64) -> Result<String, AllocError>
-    requires { count ≤ 100 }
-{
-    let mut text = String::new(alloc);
-    for place in 0..count {
-        let line = format!(in alloc; "offset {} -1\n", 946_684_800 + place)?;
-        text.push_str(&line)?;
-    }
-    Ok(text)
-}
+/// The last line of P with other dates, and their day numbers.
+const DAYS: [(&str, i32); 3] = [
+    ("secured 2000-01-01", 10_957),
+    ("secured 2025-12-01", 20_423),
+    ("secured 2199-12-31", 84_005),
+];
 
-#[test]
-fn reads_32_offsets(rt: HostRuntime) -> Result<(), Fail> {
-    let most = offsets(rt.alloc(), 32)?;
-    assert_eq!(rt;
-        read_params(most.as_bytes()).err(),
-        Some(ParamFault::Missing(Name::Taxi))
-    );
-    let more = offsets(rt.alloc(), 33)?;
-    assert_eq!(rt;
-        read_params(more.as_bytes()).err(),
-        Some(ParamFault::BadValue(33))
-    );
-    Ok(())
+/// Fails unless P with this last line is secured on this day.
+fn must_be_secured(alloc: Global, line: &str, day: i32) -> Result<(), Fail> {
+    let text = text_with(alloc, 5, line)?;
+    let is_secured = match read_params(text.as_bytes()) {
+        Ok(params) => params.secured == day,
+        Err(_) => false,
+    };
+    must(is_secured, "another day", line)
 }
 
 #[test]
 fn counts_days(rt: HostRuntime) -> Result<(), Fail> {
-    for (line, day) in [
-        ("secured 2000-01-01", 10_957),
-        ("secured 2025-12-01", 20_423),
-        ("secured 2199-12-31", 84_005),
-    ] {
-        let text = text_with(rt.alloc(), 5, line)?;
-        let secured = read_params(text.as_bytes())
-            .ok()
-            .map(|params| params.secured);
-        assert_eq!(rt; secured, Some(day), "{line}");
+    for &(line, day) in &DAYS {
+        must_be_secured(rt.alloc(), line, day)?;
     }
     Ok(())
 }

@@ -3,14 +3,13 @@ ghost use Rattle.std.specs.Prelude.{◌≡◌, ◌<◌, ◌≤◌, ◌^◌, IfSo
 ghost use Rattle.seal_store.specs.Ranges.{IsParams, IsSeal};
 ghost use Rattle.seal_store.specs.Sealing.{found_number, next_number, seal_found, totals_found};
 
-use super::P;
 use super::bodies::sealed_p;
+use super::{P, must};
 use crate::{Params, Seal, place_seal, read_params};
 use outside::{Board, Fill, MemoryBoard};
-use slot_store::{Found, Place, scan};
+use slot_store::{BODY_SIZE, Found, Place, scan};
 use std::alloc::Global;
 use std::marker::Brand;
-use std::process::Abort;
 use std::sync::ledger::{Blank, Ledger};
 use std::test::Fail;
 use taxi_units::Steps;
@@ -102,12 +101,32 @@ fn seal_with_p<B: Board<L>, L: Ledger>(board: &mut B, steps: &mut Steps<L>) -> b
     place_seal(board, totals, found, &sealed(params, number), steps).is_ok()
 }
 
-/// What scans find of a board: none where they find a fault.
-fn numbers_of<L: Ledger>(board: &mut MemoryBoard, steps: &mut Steps<L>) -> Option<Numbers> {
-    let Ok(totals) = scan::<Durable, MemoryBoard, L>(board, 0, steps) else {
+/// Scans a board, and seals it with P, under the counter of a blank.
+fn seal_counted<L: Ledger>(board: &mut MemoryBoard, blank: Blank) -> bool
+    requires name { blank.name ≡ L.name }
+    requires parts { blank.parts ≡ L.parts }
+    requires one { 0 < blank.parts }
+{
+    let mut steps: Steps<L> = Steps::open(blank);
+    seal_with_p(board, &mut steps)
+}
+
+/// Scans a board, and seals it with P, under a counter of its own.
+fn seal_anew(board: &mut MemoryBoard) -> bool {
+    seal_counted::<Brand>(board, Blank::new(1))
+}
+
+/// What scans find of a board, under a new counter: none where they find a fault.
+fn numbers_of<L: Ledger>(board: &mut MemoryBoard, blank: Blank) -> Option<Numbers>
+    requires name { blank.name ≡ L.name }
+    requires parts { blank.parts ≡ L.parts }
+    requires one { 0 < blank.parts }
+{
+    let mut steps: Steps<L> = Steps::open(blank);
+    let Ok(totals) = scan::<Durable, MemoryBoard, L>(board, 0, &mut steps) else {
         return None;
     };
-    let Ok(seal) = scan::<Seal, MemoryBoard, L>(board, 1024, steps) else {
+    let Ok(seal) = scan::<Seal, MemoryBoard, L>(board, 1024, &mut steps) else {
         return None;
     };
     let totals = totals_of(totals).map(|durable| durable.number);
@@ -122,6 +141,24 @@ fn may_leave(before: Numbers, numbers: Numbers) -> bool {
     }
 }
 
+/// What scans find of a store with this image, where there is memory for it.
+fn numbers_in(alloc: Global, image: &[u8; 2048]) -> Option<Numbers> {
+    let Ok(mut board) = MemoryBoard::new(alloc, image, &[]) else {
+        return None;
+    };
+    numbers_of::<Brand>(&mut board, Blank::new(1))
+}
+
+/// Fails unless scans behind a cut or a failure found what it may leave of a sealing that found other numbers.
+fn must_find(numbers: Option<Numbers>, before: Numbers, call: u64) -> Result<(), Fail> {
+    if let Some(numbers) = numbers {
+        if may_leave(before, numbers) {
+            return Ok(());
+        }
+    }
+    Err(Fail::new(format_args!("{numbers:?} at {call}")))
+}
+
 /// Whether an image has these bytes from a place on.
 fn has_at(image: &[u8; 2048], at: usize, bytes: &[u8]) -> bool
     requires { at ≤ 2048 }
@@ -129,110 +166,109 @@ fn has_at(image: &[u8; 2048], at: usize, bytes: &[u8]) -> bool
     image[at..].starts_with(bytes)
 }
 
-/// Whether all but slot 1 of the seals is as it was.
-fn has_same_rest(first: &[u8; 2048], second: &[u8; 2048]) -> bool {
-    &second[..1536] == &first[..1536]
+/// Whether an image is zeros after a sealing: totals of nothing with number 1 and layout 2, and this seal in slot 0.
+fn is_sealed_once(image: &[u8; 2048], body: &[u8; BODY_SIZE]) -> bool {
+    has_at(image, 0, &[0xA5, 0, 0, 0, 0, 0, 0, 0, 1])
+        && has_at(image, 9, &[0; 502])
+        && image[511] == 2
+        && has_at(image, 512, &[0; 512])
+        && image[1024] == 0xA5
+        && has_at(image, 1025, body)
+        && has_at(image, 1536, &[0; 512])
 }
 
-/// Whether slot 1 of the seals has behind its number what slot 0 had.
-fn has_same_seal(first: &[u8; 2048], second: &[u8; 2048]) -> bool {
-    &second[1545..] == &first[1033..1536]
+/// Whether an image is another after one more sealing: slot 1 of the seals has number 2, and behind it what slot 0 has,
+/// and all else is as it was.
+fn is_sealed_again(second: &[u8; 2048], first: &[u8; 2048]) -> bool {
+    has_at(second, 1536, &[0xA5, 0, 0, 0, 0, 0, 0, 0, 2])
+        && &second[..1536] == &first[..1536]
+        && &second[1545..] == &first[1033..1536]
+}
+
+/// Whether a sealing of zeros by 14 calls leaves this seal, and one more the next number beside it.
+fn is_sealed_twice(board: &mut MemoryBoard, body: &[u8; BODY_SIZE]) -> bool {
+    let sealed = seal_anew(board);
+    let is_first = sealed && board.calls() == 14 && is_sealed_once(board.image(), body);
+    let first = *board.image();
+    let sealed = seal_anew(board);
+    is_first && sealed && is_sealed_again(board.image(), &first)
 }
 
 /// Seals zeros, and then seals again.
-fn seal_twice<L: Ledger>(alloc: Global, blank: Blank, rt: &impl Abort) -> Result<(), Fail>
-    requires name { blank.name ≡ L.name }
-    requires parts { blank.parts ≡ L.parts }
-    requires one { 0 < blank.parts }
-{
-    let mut steps: Steps<L> = Steps::open(blank);
-    let mut board = MemoryBoard::new(alloc, &[0; 2048], &[])?;
-    assert!(rt; seal_with_p(&mut board, &mut steps));
-    assert_eq!(rt; board.calls(), 14);
-    let first = *board.image();
-    assert!(rt; has_at(&first, 0, &[0xA5, 0, 0, 0, 0, 0, 0, 0, 1]));
-    assert!(rt; has_at(&first, 512, &[0; 512]));
-    assert_eq!(rt; first[1024], 0xA5);
-    assert!(rt; has_at(&first, 1025, &sealed_p()));
-    assert!(rt; has_at(&first, 1536, &[0; 512]));
-    assert!(rt; seal_with_p(&mut board, &mut steps));
-    let second = *board.image();
-    assert!(rt; has_same_rest(&first, &second));
-    assert!(rt; has_at(&second, 1536, &[0xA5, 0, 0, 0, 0, 0, 0, 0, 2]));
-    assert!(rt; has_same_seal(&first, &second));
-    assert_eq!(rt;
-        numbers_of(&mut board, &mut steps),
-        Some((Some(1), Some(2)))
-    );
+#[test]
+fn seals_and_seals_again(rt: HostRuntime) -> Result<(), Fail> {
+    let body = sealed_p()?;
+    let mut board = MemoryBoard::new(rt.alloc(), &[0; 2048], &[])?;
+    let is_sealed = is_sealed_twice(&mut board, &body);
+    let numbers = numbers_of::<Brand>(&mut board, Blank::new(1));
+    let is_found = numbers == Some((Some(1), Some(2)));
+    must(is_sealed && is_found, "another store", "sealed twice")
+}
+
+/// Fails unless each cut in this call leaves what it may of a sealing that found these numbers.
+fn must_leave(alloc: Global, board: &MemoryBoard, before: Numbers, call: u64) -> Result<(), Fail> {
+    for fill in &FILLS {
+        let image = board.cut(call.min(board.calls()), *fill);
+        must_find(numbers_in(alloc, &image), before, call)?;
+    }
     Ok(())
 }
 
-#[test]
-fn seals_and_seals_again(rt: HostRuntime) -> Result<(), Fail> {
-    seal_twice::<Brand>(rt.alloc(), Blank::new(1), &rt)
+/// Fails unless a sealing that found these numbers ended well, and each cut in its calls leaves what it may.
+fn must_leave_each(
+    alloc: Global,
+    board: &MemoryBoard,
+    before: Numbers,
+    sealed: bool,
+) -> Result<(), Fail> {
+    must(sealed, "not sealed", "no failure")?;
+    for call in 0..=board.calls() {
+        must_leave(alloc, board, before, call)?;
+    }
+    Ok(())
 }
 
-/// Seals a board with this image, and cuts the power in each call.
-fn cut_sealing<L: Ledger>(
-    alloc: Global,
-    image: &[u8; 2048],
-    before: Numbers,
-    steps: &mut Steps<L>,
-    rt: &impl Abort,
-) -> Result<[u8; 2048], Fail> {
+/// Seals an image in which scans find these numbers, and cuts the power in each call. Gives the image that is left
+/// without a cut.
+fn cut_sealing(alloc: Global, image: &[u8; 2048], before: Numbers) -> Result<[u8; 2048], Fail> {
     let mut board = MemoryBoard::new(alloc, image, &[])?;
-    assert!(rt; seal_with_p(&mut board, steps));
-    for call in 0..=board.calls() {
-        for fill in FILLS {
-            let mut left = MemoryBoard::new(alloc, &board.cut(call, fill), &[])?;
-            let numbers = numbers_of(&mut left, steps);
-            assert!(rt;
-                numbers.is_some_and(|n| may_leave(before, n)),
-                "call {call}"
-            );
-        }
-    }
+    let sealed = seal_anew(&mut board);
+    must_leave_each(alloc, &board, before, sealed)?;
     Ok(*board.image())
 }
 
-/// Cuts the power in each call of a sealing of zeros, and of two more.
-fn cut_each_call<L: Ledger>(alloc: Global, blank: Blank, rt: &impl Abort) -> Result<(), Fail>
-    requires name { blank.name ≡ L.name }
-    requires parts { blank.parts ≡ L.parts }
-    requires one { 0 < blank.parts }
-{
-    let mut steps: Steps<L> = Steps::open(blank);
-    let first = cut_sealing(alloc, &[0; 2048], (None, None), &mut steps, rt)?;
-    cut_sealing(alloc, &first, (Some(1), Some(1)), &mut steps, rt)?;
-    Ok(())
-}
-
+/// A sealing of zeros, and one more.
 #[test]
 fn cuts_leave_old_or_new(rt: HostRuntime) -> Result<(), Fail> {
-    cut_each_call::<Brand>(rt.alloc(), Blank::new(1), &rt)
+    let first = cut_sealing(rt.alloc(), &[0; 2048], (None, None))?;
+    cut_sealing(rt.alloc(), &first, (Some(1), Some(1)))?;
+    Ok(())
 }
 
-/// Lets each call of a sealing of zeros fail in turn.
-fn fail_each_call<L: Ledger>(alloc: Global, blank: Blank, rt: &impl Abort) -> Result<(), Fail>
-    requires name { blank.name ≡ L.name }
-    requires parts { blank.parts ≡ L.parts }
-    requires one { 0 < blank.parts }
-{
-    let mut steps: Steps<L> = Steps::open(blank);
-    for call in 1..=14 {
-        let mut board = MemoryBoard::new(alloc, &[0; 2048], &[call])?;
-        assert!(rt; !seal_with_p(&mut board, &mut steps));
-        assert_eq!(rt; board.calls(), call);
-        let numbers = numbers_of(&mut board, &mut steps);
-        assert!(rt;
-            numbers.is_some_and(|n| may_leave((None, None), n)),
-            "call {call}"
-        );
-    }
-    Ok(())
+/// Whether a sealing of zeros of which this call fails ended with it, and what scans of the board find then.
+fn broken_off(alloc: Global, call: u64) -> (bool, Option<Numbers>) {
+    let Ok(mut board) = MemoryBoard::new(alloc, &[0; 2048], &[call]) else {
+        return (false, None);
+    };
+    let sealed = seal_anew(&mut board);
+    let is_broken_off = !sealed && board.calls() == call;
+    (
+        is_broken_off,
+        numbers_of::<Brand>(&mut board, Blank::new(1)),
+    )
+}
+
+/// Fails unless a sealing of zeros of which this call fails ends with it, and leaves what it may.
+fn must_break_off(alloc: Global, call: u64) -> Result<(), Fail> {
+    let (is_broken_off, numbers) = broken_off(alloc, call);
+    must(is_broken_off, "not broken off", "a failure")?;
+    must_find(numbers, (None, None), call)
 }
 
 #[test]
 fn failed_calls_leave_old_or_new(rt: HostRuntime) -> Result<(), Fail> {
-    fail_each_call::<Brand>(rt.alloc(), Blank::new(1), &rt)
+    for call in 1..=14 {
+        must_break_off(rt.alloc(), call)?;
+    }
+    Ok(())
 }

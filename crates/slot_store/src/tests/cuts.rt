@@ -2,12 +2,11 @@
 ghost use Rattle.std.specs.Prelude.{◌≡◌, ◌<◌, [], ◌∷◌};
 
 use super::numbered::Numbered;
-use super::{Answer, answer};
+use super::{Answer, answer_in, must, scanned};
 use crate::{Found, Ready, scan};
 use outside::{Fill, MemoryBoard};
 use std::alloc::Global;
 use std::marker::Brand;
-use std::process::Abort;
 use std::sync::ledger::{Blank, Ledger};
 use std::test::Fail;
 use taxi_units::Steps;
@@ -26,22 +25,26 @@ const FILLS: [Fill; 6] = [
 /// first two bodies go into closed slots, by four calls each, and the others into open ones, by six.
 const STORED_AFTER: [u64; 10] = [7, 11, 17, 23, 29, 35, 41, 47, 53, 59];
 
-/// The number of the latest body that a scan found, and 0 for a blank pair.
-fn number_in(answer: Answer) -> Option<u64> {
-    match answer {
-        Ok(None) => Some(0),
-        Ok(Some((_, _, number))) => Some(number),
-        Err(_) => None,
+/// How many bodies were stored before a call.
+fn stored_before(call: u64) -> u64 {
+    let mut count: u64 = 0;
+    for last in &STORED_AFTER {
+        if *last < call {
+            count = count.saturating_add(1);
+        }
     }
+    count
 }
 
-/// Whether a cut in a call may leave this number: all bodies before the last call of a store are
-/// there, and the one whose gate is in flight in this call may be.
-fn may_find(call: u64, number: u64) -> bool {
-    let next = call.saturating_add(1);
-    let least = STORED_AFTER.iter().filter(|last| **last < call).count();
-    let most = STORED_AFTER.iter().filter(|last| **last <= next).count();
-    least as u64 <= number && number <= most as u64
+/// Whether a cut or a failure in a call may leave a pair of which a scan answers this: all bodies before the last call
+/// of a store are there, and the one whose gate is in flight in this call may be. A blank pair has number 0.
+fn may_find(call: u64, answer: &Answer) -> bool {
+    let number = match answer {
+        Ok(None) => 0,
+        Ok(Some(latest)) => latest.2,
+        Err(_) => return false,
+    };
+    stored_before(call) <= number && number <= stored_before(call.saturating_add(2))
 }
 
 /// The numbers from 1 to 10.
@@ -62,68 +65,75 @@ fn ten() -> [Numbered; 10]
     ]
 }
 
-/// Stores the numbers from 1 to 10 on a board whose pair is blank, of which chosen calls fail.
-fn store_ten<L: Ledger>(
-    alloc: Global,
-    fail: &[u64],
-    steps: &mut Steps<L>,
-) -> Result<(MemoryBoard, bool), Fail> {
-    let mut board = MemoryBoard::new(alloc, &[0; 2048], fail)?;
-    let Ok(Found::Blank) = scan::<Numbered, MemoryBoard, L>(&mut board, 0, steps) else {
-        return Ok((board, false));
-    };
-    let stored = Ready::blank(0).store_all(&mut board, &ten(), steps).is_ok();
-    Ok((board, stored))
-}
-
-/// Cuts the power in each call of the list.
-fn cut_each_call<L: Ledger>(alloc: Global, blank: Blank, rt: &impl Abort) -> Result<(), Fail>
+/// Stores the numbers from 1 to 10 on a board, and tells whether its pair was blank and all were stored.
+fn store_ten<L: Ledger>(board: &mut MemoryBoard, blank: Blank) -> bool
     requires name { blank.name ≡ L.name }
     requires parts { blank.parts ≡ L.parts }
     requires one { 0 < blank.parts }
 {
     let mut steps: Steps<L> = Steps::open(blank);
-    let (board, stored) = store_ten(alloc, &[], &mut steps)?;
-    assert_eq!(rt; (stored, board.calls()), (true, 59));
-    for call in 0..=board.calls() {
-        for fill in FILLS {
-            let image = board.cut(call, fill);
-            let mut left = MemoryBoard::new(alloc, &image, &[])?;
-            let number = number_in(answer(&mut left, 0, &mut steps));
-            assert!(rt;
-                number.is_some_and(|n| may_find(call, n)),
-                "{number:?} at {call}"
-            );
+    let Ok(Found::Blank) = scan::<Numbered, MemoryBoard, L>(board, 0, &mut steps) else {
+        return false;
+    };
+    Ready::blank(0).store_all(board, &ten(), &mut steps).is_ok()
+}
+
+/// Fails unless a scan behind a cut or a failure in this call answers what it may.
+fn must_find(answer: Option<Answer>, call: u64) -> Result<(), Fail> {
+    if let Some(answer) = answer {
+        if may_find(call, &answer) {
+            return Ok(());
         }
+    }
+    Err(Fail::new(format_args!("{answer:?} at {call}")))
+}
+
+/// Fails unless each cut in this call leaves what it may.
+fn must_leave(alloc: Global, board: &MemoryBoard, call: u64) -> Result<(), Fail> {
+    for fill in &FILLS {
+        let image = board.cut(call.min(board.calls()), *fill);
+        must_find(answer_in(alloc, &image, 0), call)?;
     }
     Ok(())
 }
 
-/// Lets each call of the list fail in turn, and scans again.
-fn fail_each_call<L: Ledger>(alloc: Global, blank: Blank, rt: &impl Abort) -> Result<(), Fail>
-    requires name { blank.name ≡ L.name }
-    requires parts { blank.parts ≡ L.parts }
-    requires one { 0 < blank.parts }
-{
-    let mut steps: Steps<L> = Steps::open(blank);
-    for call in 1..=59 {
-        let (mut board, stored) = store_ten(alloc, &[call], &mut steps)?;
-        assert_eq!(rt; (stored, board.calls()), (false, call));
-        let number = number_in(answer(&mut board, 0, &mut steps));
-        assert!(rt;
-            number.is_some_and(|n| may_find(call, n)),
-            "{number:?} at {call}"
-        );
+/// Fails unless the numbers were stored by 59 calls, and each cut in each of them leaves what it may.
+fn must_leave_each(alloc: Global, board: &MemoryBoard, stored: bool) -> Result<(), Fail> {
+    must(stored && board.calls() == 59, "not stored", "no failure")?;
+    for call in 0..=59 {
+        must_leave(alloc, board, call)?;
     }
     Ok(())
 }
 
 #[test]
 fn cuts_leave_the_latest_or_the_next(rt: HostRuntime) -> Result<(), Fail> {
-    cut_each_call::<Brand>(rt.alloc(), Blank::new(1), &rt)
+    let mut board = MemoryBoard::new(rt.alloc(), &[0; 2048], &[])?;
+    let stored = store_ten::<Brand>(&mut board, Blank::new(1));
+    must_leave_each(rt.alloc(), &board, stored)
+}
+
+/// Whether stores of which this call fails ended with it, and what a scan of the board answers then.
+fn broken_off(alloc: Global, call: u64) -> (bool, Option<Answer>) {
+    let Ok(mut board) = MemoryBoard::new(alloc, &[0; 2048], &[call]) else {
+        return (false, None);
+    };
+    let stored = store_ten::<Brand>(&mut board, Blank::new(1));
+    let is_broken_off = !stored && board.calls() == call;
+    (is_broken_off, Some(scanned(&mut board, 0)))
+}
+
+/// Fails unless stores of which this call fails end with it, and leave what they may.
+fn must_break_off(alloc: Global, call: u64) -> Result<(), Fail> {
+    let (is_broken_off, answer) = broken_off(alloc, call);
+    must(is_broken_off, "not broken off", "a failure")?;
+    must_find(answer, call)
 }
 
 #[test]
 fn failed_calls_leave_the_latest_or_the_next(rt: HostRuntime) -> Result<(), Fail> {
-    fail_each_call::<Brand>(rt.alloc(), Blank::new(1), &rt)
+    for call in 1..=59 {
+        must_break_off(rt.alloc(), call)?;
+    }
+    Ok(())
 }

@@ -2,7 +2,7 @@
 ghost use Rattle.std.specs.Prelude.{◌≡◌, ℕ, ◌<◌, ◌^◌};
 ghost use Rattle.slot_store.specs.Numbered.{spelling, reads};
 
-use crate::Body;
+use crate::{BODY_SIZE, Body};
 use std::marker::Model;
 
 #[derive(Drop)]
@@ -25,7 +25,7 @@ impl Numbered {
 }
 
 impl Body for Numbered {
-    ghost use Rattle.slot_store.specs.Numbered.{size, reads_it, gives_valid, nothing_else};
+    ghost use Rattle.slot_store.specs.Numbered.{numbers};
 
     ghost valid = { λ number. number < 2 ^ 64 };
 
@@ -35,23 +35,17 @@ impl Body for Numbered {
 
     ghost reads = { reads };
 
-    ghost size = { λ number valid. size number };
-
-    ghost reads_it = { reads_it };
-
-    ghost gives_valid = { gives_valid };
-
-    ghost nothing_else = { λ bytes number long below read. nothing_else bytes number read };
+    ghost bodies = { numbers };
 
     fn number(&self) -> u64 {
         self.number
     }
 
-    fn put(&self, out: &mut [u8; 511]) {
+    fn put(&self, out: &mut [u8; BODY_SIZE]) {
         *out = spell(self.number);
     }
 
-    fn get(bytes: &[u8; 511]) -> Option<Numbered> {
+    fn get(bytes: &[u8; BODY_SIZE]) -> Option<Numbered> {
         let mut front = [0; 8];
         front.copy_from_slice(&bytes[..8]);
         let number = u64::from_be_bytes(front);
@@ -63,10 +57,10 @@ impl Body for Numbered {
 }
 
 /// The bytes of a number.
-pub fn spell(number: u64) -> [u8; 511]
+pub fn spell(number: u64) -> [u8; BODY_SIZE]
     ensures { result ≡ spelling number }
 {
-    let mut bytes = [0; 511];
+    let mut bytes = [0; BODY_SIZE];
     bytes[..8].copy_from_slice(&number.to_be_bytes());
     bytes
 }

@@ -1,12 +1,16 @@
 //! Bodies byte by byte, with values from the table. Places are those of the slot, whose byte 0 is the
 //! gate.
-use crate::{Durable, Share, Trip};
+use super::must;
+use crate::{Durable, Share, Totals, Trip};
 use drive_modes::Meterage;
-use slot_store::Body;
-use std::process::Abort;
+use slot_store::{BODY_SIZE, Body};
+use std::test::Fail;
 
 /// The place of a field, how many bytes it has, and its number, whose greatest byte comes first.
 type Field = (u16, u8, u128);
+
+/// What is written over a body, and whether it is read then.
+type Limit = (Field, Field, bool);
 
 /// Nothing else is written.
 const SAME: Field = (511, 0, 0);
@@ -52,8 +56,8 @@ const GREATEST: [Field; 27] = [
     (511, 1, 2),
 ];
 
-/// What is written over the greatest values, and whether the body is read then.
-const LIMITS: [(Field, Field, bool); 46] = [
+/// What is written over the greatest values.
+const LIMITS: [Limit; 46] = [
     (SAME, SAME, true),
     ((1, 8, 2_000_000_000_000_001), SAME, false),
     (
@@ -134,8 +138,8 @@ const LIMITS: [(Field, Field, bool); 46] = [
     ((511, 1, 3), SAME, false),
 ];
 
-/// What is written over the first store of layout 1, and whether the body is read then.
-const FIRST_LIMITS: [(Field, Field, bool); 10] = [
+/// What is written over the first store of layout 1.
+const FIRST_LIMITS: [Limit; 10] = [
     (SAME, SAME, true),
     ((1, 8, 2_000_000_000_000_001), SAME, true),
     ((1, 8, 2_000_000_000_000_002), SAME, false),
@@ -148,72 +152,93 @@ const FIRST_LIMITS: [(Field, Field, bool); 10] = [
     ((511, 1, 2), (405, 8, 1), false),
 ];
 
-/// Writes a field.
-fn write(body: &mut [u8; 511], field: Field, rt: &impl Abort) {
-    let (place, width, value) = field;
-    let (place, width) = (place as usize, width as usize);
-    assert!(rt; 1 <= place && width <= 16 && place + width <= 512);
-    let bytes = value.to_be_bytes();
+/// Writes a field. Fails where it doesn't lie in a body.
+fn write(body: &mut [u8; BODY_SIZE], field: &Field) -> Result<(), Fail> {
+    let (place, width) = (field.0 as usize, field.1 as usize);
+    if place < 1 || width > 16 || place + width > 512 {
+        return Err(Fail::new(format_args!("{field:?} lies in no body")));
+    }
+    let bytes = field.2.to_be_bytes();
     body[place - 1..place - 1 + width].copy_from_slice(&bytes[16 - width..]);
+    Ok(())
 }
 
-/// The body with these fields, and zeros elsewhere.
-pub fn body_of(fields: &[Field], rt: &impl Abort) -> [u8; 511] {
-    let mut body = [0; 511];
+/// The body with these fields and these others, which go over the first ones, and zeros elsewhere.
+pub fn body_of(fields: &[Field], others: &[Field]) -> Result<[u8; BODY_SIZE], Fail> {
+    let mut body = [0; BODY_SIZE];
     for field in fields {
-        write(&mut body, *field, rt);
+        write(&mut body, field)?;
     }
-    body
+    for field in others {
+        write(&mut body, field)?;
+    }
+    Ok(body)
 }
 
-/// Writes the two fields of each row over a body, and tries whether it is read.
-fn try_limits(fields: &[Field], rows: &[(Field, Field, bool)], rt: &impl Abort) {
-    for (one, other, want) in rows {
-        let mut body = body_of(fields, rt);
-        write(&mut body, *one, rt);
-        write(&mut body, *other, rt);
-        assert_eq!(rt;
-            Durable::get(&body).is_some(),
-            *want,
-            "{one:?} and {other:?}"
-        );
+/// Fails unless each body with the fields of a limit over these is read, or not, as the limit says.
+fn must_keep(fields: &[Field], limits: &[Limit]) -> Result<(), Fail> {
+    for limit in limits {
+        let body = body_of(fields, &[limit.0, limit.1])?;
+        if Durable::get(&body).is_some() != limit.2 {
+            return Err(Fail::new(format_args!("{limit:?}")));
+        }
     }
+    Ok(())
 }
 
 #[test]
-fn reads_up_to_each_limit(rt: HostRuntime) {
-    try_limits(&GREATEST, &LIMITS, &rt);
-    try_limits(&FIRST, &FIRST_LIMITS, &rt);
+fn reads_up_to_each_limit() -> Result<(), Fail> {
+    must_keep(&GREATEST, &LIMITS)?;
+    must_keep(&FIRST, &FIRST_LIMITS)
 }
 
-#[test]
-fn reads_layout_1_without_shares(rt: HostRuntime) {
-    let body = body_of(&FIRST, &rt);
-    let state = Durable::get(&body).expect(&rt, "it is read");
-    let all = Share {
+/// The hiring of the first store.
+const HIRING: Share = Share {
+    hirings: 1,
+    fare: 380,
+};
+
+/// The state of the first store: the hiring was counted before there were shares.
+const FIRST_STATE: Durable = Durable {
+    number: 2,
+    totals: Totals {
+        distance_mm: 234_800,
+        hired_mm: 234_800,
         hirings: 1,
+        supplements: 0,
         fare: 380,
-    };
-    assert_eq!(rt; (state.number, state.layout, state.hold), (2, 1, None));
-    let shares = state.totals.shares;
-    assert!(rt; shares == [Share::NONE; 9] && state.totals.before == all);
-}
+        shares: [Share::NONE; 9],
+        before: HIRING,
+    },
+    hold: None,
+    layout: 1,
+};
 
-#[test]
-fn reads_layout_2_with_shares(rt: HostRuntime) {
-    let mut body = body_of(&FIRST, &rt);
-    for field in [(189, 8, 1), (197, 16, 380), (511, 1, 2)] {
-        write(&mut body, field, &rt);
-    }
-    let state = Durable::get(&body).expect(&rt, "it is read");
-    assert_eq!(rt; (state.layout, state.totals.before), (2, Share::NONE));
-    assert_eq!(rt;
-        (state.totals.shares[0].hirings, state.totals.shares[0].fare),
-        (1, 380)
-    );
-    write(&mut body, (405, 8, 1), &rt);
-    assert_eq!(rt; Durable::get(&body), None);
-}
+/// The same state in layout 2, with the hiring at position 1.
+const SHARED_STATE: Durable = Durable {
+    number: 2,
+    totals: Totals {
+        distance_mm: 234_800,
+        hired_mm: 234_800,
+        hirings: 1,
+        supplements: 0,
+        fare: 380,
+        shares: [
+            HIRING,
+            Share::NONE,
+            Share::NONE,
+            Share::NONE,
+            Share::NONE,
+            Share::NONE,
+            Share::NONE,
+            Share::NONE,
+            Share::NONE,
+        ],
+        before: Share::NONE,
+    },
+    hold: None,
+    layout: 2,
+};
 
 /// A trip of which each field has a value of its own.
 const TRIP: [Field; 18] = [
@@ -237,10 +262,19 @@ const TRIP: [Field; 18] = [
     (511, 1, 2),
 ];
 
-#[test]
-fn reads_a_held_trip(rt: HostRuntime) {
-    let state = Durable::get(&body_of(&TRIP, &rt)).expect(&rt, "it is read");
-    let want = Trip {
+/// The state with this trip, and no totals.
+const TRIP_STATE: Durable = Durable {
+    number: 7,
+    totals: Totals {
+        distance_mm: 0,
+        hired_mm: 0,
+        hirings: 0,
+        supplements: 0,
+        fare: 0,
+        shares: [Share::NONE; 9],
+        before: Share::NONE,
+    },
+    hold: Some(Trip {
         started: 946_684_801,
         saved: 946_684_802,
         stopped: true,
@@ -258,6 +292,45 @@ fn reads_a_held_trip(rt: HostRuntime) {
         },
         extras: [0, 1, 2, 3, 4, 5, 6, 7, 8, 9, 10, 11, 12, 13, 14, 15],
         extras_sum: 1_500_000_012,
-    };
-    assert_eq!(rt; state.hold, Some(want));
+    }),
+    layout: 2,
+};
+
+/// A name, the fields of a body, others over them, and the state that is read.
+type State = (
+    &'static str,
+    &'static [Field],
+    &'static [Field],
+    Option<Durable>,
+);
+
+const STATES: [State; 4] = [
+    ("layout 1 without shares", &FIRST, &[], Some(FIRST_STATE)),
+    (
+        "layout 2 with shares",
+        &FIRST,
+        &[(189, 8, 1), (197, 16, 380), (511, 1, 2)],
+        Some(SHARED_STATE),
+    ),
+    (
+        "layout 2 with more shares than hirings",
+        &FIRST,
+        &[(189, 8, 1), (197, 16, 380), (511, 1, 2), (405, 8, 1)],
+        None,
+    ),
+    ("a held trip", &TRIP, &[], Some(TRIP_STATE)),
+];
+
+/// Fails unless a body is read as its state.
+fn must_read(state: &State) -> Result<(), Fail> {
+    let body = body_of(state.1, state.2)?;
+    must(Durable::get(&body) == state.3, "another state", state.0)
+}
+
+#[test]
+fn reads_layouts_and_trips() -> Result<(), Fail> {
+    for state in &STATES {
+        must_read(state)?;
+    }
+    Ok(())
 }

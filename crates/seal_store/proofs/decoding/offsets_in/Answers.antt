@@ -1,12 +1,12 @@
 use Rattle.std.proofs.Common.{arith, ap, drop, ◌∙◌}
-use Rattle.totaliser_store.specs.BytesAt.{byte_at}
+use Rattle.slot_store.specs.BytesAt.{byte_at}
 use Rattle.seal_store.specs.Decoding.{pairs_in}
 use Rattle.seal_store.proofs.Pairs.{all_left, length-pairs_in}
 use Rattle.seal_store.proofs.Ranged.{offsets_by}
 use Rattle.seal_store.proofs.decoding.offsets_in.Goals as goal
 
-pub returns-then-count-gt32 : goal.returns-then-count-gt32
-returns-then-count-gt32 c = λ lawful. omega (arith, lawful.few, length-pairs_in, c.if-count-gt32.true)
+pub returns-then-count-gt-MOST_OFFSETS : goal.returns-then-count-gt-MOST_OFFSETS
+returns-then-count-gt-MOST_OFFSETS c = λ lawful. omega (arith, lawful.few, length-pairs_in, c.if-count-gt-MOST_OFFSETS.true)
 
 pub returns : goal.returns
 returns c =
