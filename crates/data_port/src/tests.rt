@@ -316,18 +316,38 @@ const ROWS: [(
     ),
 ];
 
+/// Fails unless something holds of the case with this name.
+fn must(holds: bool, what: &str, name: &str) -> Result<(), Fail> {
+    if holds {
+        return Ok(());
+    }
+    Err(Fail::new(format_args!("{what}: {name}")))
+}
+
+/// Fails unless serving a stream ends like this, prints these parts and leaves the image, where these reads and
+/// these calls of the board fail.
+fn must_serve(
+    alloc: Global,
+    case: &str,
+    image: &[u8; 2048],
+    stream: &[u8],
+    reads: &[u64],
+    calls: &[u64],
+    parts: &[&[&[u8]]],
+    answer: Result<(), PortFault>,
+) -> Result<(), Fail> {
+    let mut board = MemoryBoard::new(alloc, image, calls)?;
+    let ended = served(alloc, stream, reads, &mut board)?;
+    must(ended == answer, "another end", case)?;
+    must(is_joined(board.printed(), parts), "other replies", case)?;
+    must(*board.image() == *image, "another image", case)
+}
+
 #[test]
 fn replies(rt: HostRuntime) -> Result<(), Fail> {
-    for (case, more, stream, parts, answer) in ROWS {
+    for &(case, more, stream, parts, answer) in &ROWS {
         let image = image_of(more);
-        let mut board = MemoryBoard::new(rt.alloc(), &image, &[])?;
-        assert_eq!(rt;
-            served(rt.alloc(), stream, &[], &mut board)?,
-            answer,
-            "{case}"
-        );
-        assert!(rt; is_joined(board.printed(), parts), "{case}");
-        assert!(rt; *board.image() == image, "{case}");
+        must_serve(rt.alloc(), case, &image, stream, &[], &[], parts, answer)?;
     }
     Ok(())
 }
@@ -369,14 +389,8 @@ const FAILURES: [(&str, &[u64], &[u64], &[&[&[u8]]], Result<(), PortFault>); 5] 
 #[test]
 fn failures(rt: HostRuntime) -> Result<(), Fail> {
     let image = image_of(&SECOND_LAYOUT);
-    for (case, reads, calls, parts, answer) in FAILURES {
-        let mut board = MemoryBoard::new(rt.alloc(), &image, calls)?;
-        assert_eq!(rt;
-            served(rt.alloc(), BOTH, reads, &mut board)?,
-            answer,
-            "{case}"
-        );
-        assert!(rt; is_joined(board.printed(), parts), "{case}");
+    for &(case, reads, calls, parts, answer) in &FAILURES {
+        must_serve(rt.alloc(), case, &image, BOTH, reads, calls, parts, answer)?;
     }
     Ok(())
 }
@@ -459,26 +473,79 @@ fn count_cuts(stream: &[u8]) -> usize
     stream.len() + 1
 }
 
-/// Each stream is cut at each place, and ended there.
-#[test]
-fn pieces(rt: HostRuntime) {
-    for (case, stream, wholes, bad, codes) in STREAMS {
-        for cut in 0..count_cuts(stream) {
-            let (one, other) = stream.split_at(cut);
-            let mut out = ArrayVec::new();
-            let answer = ending(wholes, bad, stream.len() as u64);
-            assert_eq!(rt; fed(one, other, &mut out), answer, "{case}, cut at {cut}");
-            assert!(rt; ask_for(out.as_slice(), codes), "{case}, cut at {cut}");
-            let mut out = ArrayVec::new();
-            let answer = ending(wholes, bad, cut as u64);
-            assert_eq!(rt; fed(one, b"", &mut out), answer, "{case}, ended at {cut}");
-        }
+/// Fails unless something holds of the case with this name where its stream is cut or ended here.
+fn must_at(holds: bool, what: &str, name: &str, place: usize) -> Result<(), Fail> {
+    if holds {
+        return Ok(());
     }
+    Err(Fail::new(format_args!("{what} at {place}: {name}")))
 }
 
-/// Sixty-five requests and a bad byte: the list is full before the last request.
+/// Fails unless a stream that comes in two pieces ends like this, and gives requests with these codes.
+fn must_take(
+    case: &str,
+    one: &[u8],
+    other: &[u8],
+    answer: Result<(), BadFrame>,
+    codes: &[&[u8]],
+) -> Result<(), Fail> {
+    let mut out = ArrayVec::new();
+    let cut = one.len();
+    must_at(
+        fed(one, other, &mut out) == answer,
+        "another end, cut",
+        case,
+        cut,
+    )?;
+    must_at(
+        ask_for(out.as_slice(), codes),
+        "other requests, cut",
+        case,
+        cut,
+    )
+}
+
+/// Fails unless a stream that ends here does so as its wholes and its bad place say.
+fn must_end(case: &str, front: &[u8], wholes: &[u64], bad: Option<u64>) -> Result<(), Fail> {
+    let mut out = ArrayVec::new();
+    let end = front.len();
+    let answer = ending(wholes, bad, end as u64);
+    must_at(
+        fed(front, b"", &mut out) == answer,
+        "another end, ended",
+        case,
+        end,
+    )
+}
+
+/// Fails unless a stream gives these requests wherever it is cut, and ends rightly wherever it is ended.
+fn must_come_in_pieces(
+    case: &str,
+    stream: &[u8],
+    wholes: &[u64],
+    bad: Option<u64>,
+    codes: &[&[u8]],
+) -> Result<(), Fail> {
+    let answer = ending(wholes, bad, stream.len() as u64);
+    for cut in 0..count_cuts(stream) {
+        let (one, other) = stream.split_at(cut);
+        must_take(case, one, other, answer, codes)?;
+        must_end(case, one, wholes, bad)?;
+    }
+    Ok(())
+}
+
+/// Each stream is cut at each place, and ended there.
 #[test]
-fn full_lists(rt: HostRuntime) {
+fn pieces(rt: HostRuntime) -> Result<(), Fail> {
+    for &(case, stream, wholes, bad, codes) in &STREAMS {
+        must_come_in_pieces(case, stream, wholes, bad, codes)?;
+    }
+    Ok(())
+}
+
+/// Sixty-five requests and a bad byte.
+fn long_stream() -> [u8; 261] {
     let mut stream = [0; 261];
     for place in 0..65 {
         stream[4 * place] = 2;
@@ -486,6 +553,13 @@ fn full_lists(rt: HostRuntime) {
         stream[4 * place + 2] = 6;
         stream[4 * place + 3] = 3;
     }
+    stream
+}
+
+/// Sixty-five requests and a bad byte: the list is full before the last request.
+#[test]
+fn full_lists(rt: HostRuntime) {
+    let stream = long_stream();
     let mut port = Port::new();
     let mut out = ArrayVec::new();
     assert_eq!(rt; port.feed(&stream, &mut out), Ok(256));

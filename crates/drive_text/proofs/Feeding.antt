@@ -1,5 +1,5 @@
 -- What a part of a piece, and then a piece, changes of a reader.
-use Rattle.std.proofs.Common.{◌≡◌, ◌≢◌, ◌⊎◌, inl, inr, ℕ, zero, suc, ◌+◌, ◌-◌, ◌<◌, ◌≤◌, true, false, List, [], ◌∷◌, ◌++◌, length, take, drop, refl, ap, sym, ◌∙◌, subst, arith, append_assoc, length-append, Option, Some, None, All, Result, Err, IsOk, option_to_list, MatchOption}
+use Rattle.std.proofs.Common.{◌≡◌, ◌≢◌, ◌⊎◌, inl, inr, ℕ, zero, suc, ◌+◌, ◌-◌, ◌<◌, ◌≤◌, true, false, List, [], ◌∷◌, ◌++◌, length, take, drop, refl, ap, sym, ◌∙◌, subst, arith, append_assoc, length-append, Option, Some, None, All, Result, Err, IsOk, MatchOption}
 use Rattle.std.proofs.Math.Seq.{take-append_seam, drop-append_seam}
 use Rattle.std.proofs.lemmas.Bool.{cases_lt}
 use Rattle.std.proofs.lemmas.List.{append-nil, take-append-le}
@@ -13,7 +13,6 @@ use Rattle.drive_text.specs.Ranges.{IsRunInRange}
 use Rattle.drive_text.specs.Reading.{Reading, HasFailed, HasTaken, TakesTo, BreaksIn}
 use Rattle.drive_text.proofs.Cuts.{runs_in-append_bad}
 use Rattle.drive_text.proofs.Parts.{no_runs}
-use Rattle.drive_text.proofs.Ranges.{runs_in_range}
 use Rattle.drive_text.proofs.Standing.{goes_on, failed_at, failed_stays, number_of, number_small, line_is_bad, bad_gives_none, line_too_long}
 
 -- ---- a part
@@ -85,10 +84,6 @@ refused_many r e n is fits = either (cases_lt 81 n)
     either : (81 < n) ⊎ (n ≤ 81) → 81 < n
     either (inl many) = many
     either (inr few) = let ok : IsOk r = fits few in absurd (cc)
-
--- the runs of a good line
-pub range_of : (line : List ℕ) (run : Option Run) → line_runs line ≡ Some (option_to_list run) → All IsRunInRange (option_to_list run)
-range_of line run e = runs_in_range line (option_to_list run) e
 
 -- a piece that was parted at an LF
 pub split_of : {R : Type 0} (now : R → List ℕ) (piece line : List ℕ) (found : Option R) (rest : R) → found ≡ Some rest → MatchOption found (piece ≡ line) (λ r. piece ≡ line ++ 10 ∷ now r) → piece ≡ line ++ 10 ∷ now rest

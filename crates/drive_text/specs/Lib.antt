@@ -1,3 +1,4 @@
+pub mod Content
 pub mod Drive
 pub mod Ending
 pub mod Fields

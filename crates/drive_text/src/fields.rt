@@ -1,5 +1,5 @@
 //! What one line of a drive gives.
-ghost use Rattle.std.specs.Prelude.{◌≡◌, ◌≤◌, ◌∷◌, [], ◌==◌, nat_lt, length, IfSome, option_to_list};
+ghost use Rattle.std.specs.Prelude.{◌≡◌, ◌≤◌, ◌∷◌, [], ◌==◌, nat_lt, length, IfSome};
 ghost use Rattle.std.specs.Str.Lines.{strip_carriage_return};
 ghost use Rattle.std.specs.List.{slice_split};
 ghost use Rattle.std.specs.Option.{option_map_or};
@@ -8,6 +8,7 @@ ghost use Rattle.taxi_units.specs.Time.{IsSecond};
 ghost use Rattle.drive_text.specs.Fields as spec;
 ghost use Rattle.drive_text.specs.Lines as lines;
 ghost use Rattle.drive_text.specs.Fields.{text_runs, line_runs};
+ghost use Rattle.drive_text.specs.Content.{runs_of};
 
 use crate::parting::part_at;
 use crate::run::Run;
@@ -181,31 +182,36 @@ pub(crate) fn without_carriage_return(line: &[u8]) -> &[u8]
     line.strip_suffix(b"\r").unwrap_or(line)
 }
 
-/// The run of a whole line without its LF and its CR: none where the line is empty or a comment.
-///
-/// `None` where it is no line of a drive.
+/// What a line of a drive has.
+#[derive(Clone, Copy)]
+pub(crate) enum Content {
+    /// No run, since it is empty or a comment.
+    Nothing,
+    /// A run.
+    One(Run),
+}
+
+/// What a whole line without its LF and its CR has. `None` where it is no line of a drive.
 #[tactic(auto, unfolding(crate::specs::Fields::text_runs))]
-fn run_of_text(text: &[u8]) -> Option<Option<Run>>
-    ensures { Gives option_to_list result (text_runs text.now) }
+fn content_of_text(text: &[u8]) -> Option<Content>
+    ensures { Gives runs_of result (text_runs text.now) }
 {
     let Some((first, _)) = text.split_first() else {
-        return Some(None);
+        return Some(Content::Nothing);
     };
     if *first == b'#' {
-        return Some(None);
+        return Some(Content::Nothing);
     }
     if is_long(text) {
         return None;
     }
     let run = run_of_fields(text)?;
-    Some(Some(run))
+    Some(Content::One(run))
 }
 
-/// The run of a whole line without its LF: none where the line is empty or a comment.
-///
-/// `None` where it is no line of a drive.
-pub(crate) fn run_of_line(line: &[u8]) -> Option<Option<Run>>
-    ensures { Gives option_to_list result (line_runs line.now) }
+/// What a whole line without its LF has. `None` where it is no line of a drive.
+pub(crate) fn content_of_line(line: &[u8]) -> Option<Content>
+    ensures { Gives runs_of result (line_runs line.now) }
 {
-    run_of_text(without_carriage_return(line))
+    content_of_text(without_carriage_return(line))
 }

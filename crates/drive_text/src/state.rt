@@ -1,14 +1,15 @@
 //! Where a reader stands, and what one part of a piece changes of it.
-ghost use Rattle.std.specs.Prelude.{◌≡◌, ◌∷◌, ◌++◌, ◌+◌, ◌<◌, ◌^◌, [], List, length, true, false, if◌then◌else◌, ◌==◌, IfOk, IfErr, OnErr, option_to_list};
+ghost use Rattle.std.specs.Prelude.{◌≡◌, ◌∷◌, ◌++◌, ◌+◌, ◌<◌, ◌^◌, [], List, length, true, false, if◌then◌else◌, ◌==◌, IfOk, IfErr, OnErr};
 ghost use Rattle.arrayvec.specs.ArrayVec.{array_vec_len};
 ghost use Rattle.taxi_units.specs.Reading.{Gives};
 ghost use Rattle.drive_text.specs.declared.run.Run.{Run};
 ghost use Rattle.drive_text.specs.Fields.{line_runs};
 ghost use Rattle.drive_text.specs.Lines.{is_comment, IsOneLine};
+ghost use Rattle.drive_text.specs.Content.{runs_of};
 ghost use Rattle.drive_text.specs.Reading.{HasTaken, HasFailed, HasSense};
 
 use crate::fields;
-use crate::fields::{is_long, run_of_line, without_carriage_return};
+use crate::fields::{Content, content_of_line, is_long, without_carriage_return};
 use crate::parting::part_at;
 use crate::reader::BadLine;
 use crate::run::Run;
@@ -89,13 +90,13 @@ impl State {
             return Ok(());
         }
         let number = self.number();
-        match self.run_with(line) {
+        match self.content_with(line) {
             None => Err(self.fail(number)),
-            Some(None) => {
+            Some(Content::Nothing) => {
                 self.begun = number;
                 Ok(())
             }
-            Some(Some(run)) => {
+            Some(Content::One(run)) => {
                 self.begun = number;
                 out.push(run);
                 Ok(())
@@ -155,23 +156,23 @@ impl State {
         }
     }
 
-    /// The run of the line that these bytes end, where it has one. Nothing of the line is kept.
+    /// What the line has that these bytes end. Nothing of the line is kept.
     ///
     /// `None` where it is no line of a drive.
-    fn run_with(&mut self, line: &[u8]) -> Option<Option<Run>>
+    fn content_with(&mut self, line: &[u8]) -> Option<Content>
         requires { is_comment self.old.kept.items ≡ false }
-        ensures run { Gives option_to_list result (line_runs (self.old.kept.items ++ line.now)) }
+        ensures content { Gives runs_of result (line_runs (self.old.kept.items ++ line.now)) }
         ensures state { reading_of self.new
             ≡ record { begun = self.old.begun; kept = []; comment = self.old.comment; failed = self.old.failed } }
     {
         if self.kept.is_empty() {
-            return run_of_line(line);
+            return content_of_line(line);
         }
         match self.kept.try_extend_from_slice(line) {
             Ok(()) => {
-                let run = run_of_line(self.kept.as_slice());
+                let content = content_of_line(self.kept.as_slice());
                 self.kept.clear();
-                run
+                content
             }
             Err(_) => {
                 self.kept.clear();

@@ -37,12 +37,7 @@ fn has_numbers(receipt: &Receipt) -> bool
 fn is_hiring(kind: Kind) -> bool
     ensures { IsTrue result ↔ (kind ≢ Roam) }
 {
-    match kind {
-        Kind::Closed => true,
-        Kind::Aborted => true,
-        Kind::Expired => true,
-        Kind::Roam => false,
-    }
+    !matches!(kind, Kind::Roam)
 }
 
 /// Whether the amounts are in their ranges, and the fare is the one that they give.

@@ -7,7 +7,8 @@ use crate::receipts::put_part_receipt;
 use crate::{put_display, put_receipt, put_refusal, receipt_in_front};
 use arrayvec::ArrayVec;
 use seal_store::{Seal, read_params};
-use taxi_units::{Display, Kind, Line, LineFull, Operating, Receipt, Why, put_bytes};
+use std::test::Fail;
+use taxi_units::{Display, Kind, Line, LineFull, Operating, Receipt, Stamp, Why, put_bytes};
 
 /// A receipt under examples/simple.tariff. The digest is what sha256sum gives of that file.
 const RECEIPT: &str = "\
@@ -28,13 +29,57 @@ TOTAL 3.80
 END
 ";
 
-/// Whether a receipt and a part are written as this text.
-fn writes(receipt: &Receipt, part: &SealPart, text: &str) -> bool {
-    if receipt.decimals > 3 || part.secured < 10_957 || part.secured > 84_005 {
-        return false;
+/// What it says of the hiring.
+const SAID: Receipt = Receipt {
+    number: 2,
+    kind: Kind::Closed,
+    start: ONE_O_CLOCK,
+    finish: ONE_O_CLOCK,
+    position: 1,
+    hired_mm: 234_800,
+    initial: 380,
+    minimum: 0,
+    steps: 0,
+    step: 20,
+    fare: 380,
+    supplements: 0,
+    decimals: 2,
+};
+
+const ONE_O_CLOCK: Stamp = Stamp {
+    year: 2026,
+    month: 1,
+    date: 1,
+    second: 3600,
+};
+
+/// Fails unless something holds of the case with this name.
+fn must(holds: bool, what: &str, name: &str) -> Result<(), Fail> {
+    if holds {
+        return Ok(());
     }
+    Err(Fail::new(format_args!("{what}: {name}")))
+}
+
+/// Whether this is what the receipt says of the seal.
+fn is_said_of_seal(part: &SealPart) -> bool {
+    part.taxi.as_slice() == b"LX-4711".as_slice()
+        && (part.constant, part.secured) == (10_000, 20_423)
+        && (part.digest[0], part.digest[1], part.digest[31]) == (0x26, 0x45, 0x9b)
+}
+
+/// Appends a receipt and a part; `None` where the amounts or the date are beyond what can be written.
+fn put(line: &mut Line, receipt: &Receipt, part: &SealPart) -> Option<Result<(), LineFull>> {
+    if receipt.decimals > 3 || part.secured < 10_957 || part.secured > 84_005 {
+        return None;
+    }
+    Some(put_part_receipt(line, receipt, part))
+}
+
+/// Whether a receipt and a part are written as this text.
+fn writes(receipt: &Receipt, part: &SealPart, text: &[u8]) -> bool {
     let mut line = Line::new();
-    put_part_receipt(&mut line, receipt, part).is_ok() && line.as_slice() == text.as_bytes()
+    put(&mut line, receipt, part) == Some(Ok(())) && line.as_slice() == text
 }
 
 /// The lines of a receipt's trip and fare, after those of its seal.
@@ -47,57 +92,65 @@ fn with_body(text: &mut Line, heading: &str, body: &str) -> bool {
 }
 
 #[test]
-fn reads_a_receipt(rt: HostRuntime) {
+fn reads_a_receipt(rt: HostRuntime) -> Result<(), Fail> {
     let Some((receipt, part)) = read_receipt(RECEIPT.as_bytes()) else {
-        assert!(rt; false);
-        return;
+        return Err(Fail::new("it isn't read"));
     };
-    assert_eq!(rt; receipt.number, 2);
-    assert_eq!(rt; receipt.kind, Kind::Closed);
-    assert_eq!(rt; receipt.start.year, 2026);
-    assert_eq!(rt; receipt.start.second, 3600);
-    assert_eq!(rt; receipt.finish, receipt.start);
-    assert_eq!(rt; receipt.hired_mm, 234_800);
-    assert_eq!(rt;
-        (receipt.initial, receipt.steps, receipt.step),
-        (380, 0, 20)
-    );
-    assert_eq!(rt;
-        (receipt.fare, receipt.supplements, receipt.minimum),
-        (380, 0, 0)
-    );
-    assert_eq!(rt; receipt.decimals, 2);
-    assert_eq!(rt; part.taxi.as_slice(), b"LX-4711".as_slice());
-    assert_eq!(rt; (part.constant, part.secured), (10_000, 20_423));
-    assert_eq!(rt;
-        (part.digest[0], part.digest[1], part.digest[31]),
-        (0x26, 0x45, 0x9b)
-    );
-    assert!(rt; writes(&receipt, &part, RECEIPT));
+    must(receipt == SAID, "another hiring", RECEIPT)?;
+    must(is_said_of_seal(&part), "another seal", RECEIPT)?;
+    must(
+        writes(&receipt, &part, RECEIPT.as_bytes()),
+        "another text",
+        RECEIPT,
+    )
 }
 
-/// What stands behind a receipt, and how many of its bytes are cut off.
-const BEHIND: [(&str, usize); 4] = [("", 0), ("FOR HIRE T1 Z1\n", 0), (RECEIPT, 0), ("", 1)];
+/// What stands behind a receipt, how many of its bytes are cut off, and whether it then stands in front.
+const BEHIND: [(&str, usize, Option<bool>); 4] = [
+    ("", 0, Some(true)),
+    ("FOR HIRE T1 Z1\n", 0, Some(true)),
+    (RECEIPT, 0, Some(true)),
+    ("", 1, None),
+];
+
+/// Whether a receipt that stands in front of a text is the one above, where one does.
+fn is_above(text: &[u8]) -> Option<bool> {
+    let (receipt, part, count) = receipt_in_front(text)?;
+    Some(receipt == SAID && is_said_of_seal(&part) && count == RECEIPT.len())
+}
+
+/// Fails unless the receipt, with this behind it and less so many bytes, has it in front, and without its first byte
+/// none.
+fn must_have_in_front(behind: &str, less: usize, want: Option<bool>) -> Result<(), Fail> {
+    let mut text: ArrayVec<u8, 1024> = ArrayVec::new();
+    must(
+        text.try_extend_from_slice(RECEIPT.as_bytes()).is_ok(),
+        "no room",
+        behind,
+    )?;
+    must(
+        text.try_extend_from_slice(behind.as_bytes()).is_ok(),
+        "no room",
+        behind,
+    )?;
+    text.truncate(text.len().saturating_sub(less));
+    must(is_above(text.as_slice()) == want, "another front", behind)?;
+    let Some((_, rest)) = text.as_slice().split_first() else {
+        return Err(Fail::new("no text"));
+    };
+    must(
+        receipt_in_front(rest).is_none(),
+        "a front without its first byte",
+        behind,
+    )
+}
 
 #[test]
-fn reads_a_receipt_in_front(rt: HostRuntime) {
-    for (behind, less) in BEHIND {
-        let mut text: ArrayVec<u8, 1024> = ArrayVec::new();
-        assert!(rt; text.try_extend_from_slice(RECEIPT.as_bytes()).is_ok());
-        assert!(rt; text.try_extend_from_slice(behind.as_bytes()).is_ok());
-        text.truncate(text.len().saturating_sub(less));
-        match receipt_in_front(text.as_slice()) {
-            None => assert_eq!(rt; less, 1),
-            Some((receipt, part, count)) => {
-                assert_eq!(rt; (receipt.number, receipt.fare), (2, 380));
-                assert_eq!(rt; (count, less), (RECEIPT.len(), 0));
-                assert_eq!(rt; part.taxi.as_slice(), b"LX-4711".as_slice());
-            }
-        }
-        if let Some((_, rest)) = text.as_slice().split_first() {
-            assert!(rt; receipt_in_front(rest).is_none(), "{behind}");
-        }
+fn reads_a_receipt_in_front(rt: HostRuntime) -> Result<(), Fail> {
+    for &(behind, less, want) in &BEHIND {
+        must_have_in_front(behind, less, want)?;
     }
+    Ok(())
 }
 
 /// The parameters of the receipt's meter, as a text.
@@ -106,14 +159,12 @@ const PARAMS: &str =
 
 /// A receipt says of the seal what its parameters and its digest are.
 #[test]
-fn writes_the_receipt_of_a_seal(rt: HostRuntime) {
+fn writes_the_receipt_of_a_seal(rt: HostRuntime) -> Result<(), Fail> {
     let Some((receipt, part)) = read_receipt(RECEIPT.as_bytes()) else {
-        assert!(rt; false);
-        return;
+        return Err(Fail::new("it isn't read"));
     };
     let Ok(params) = read_params(PARAMS.as_bytes()) else {
-        assert!(rt; false);
-        return;
+        return Err(Fail::new("no parameters"));
     };
     let digest = part.digest;
     let seal = Seal {
@@ -123,8 +174,16 @@ fn writes_the_receipt_of_a_seal(rt: HostRuntime) {
         decimals: 2,
     };
     let mut line = Line::new();
-    assert_eq!(rt; put_receipt(&mut line, &receipt, &seal), Ok(()));
-    assert_eq!(rt; line.as_slice(), RECEIPT.as_bytes());
+    must(
+        put_receipt(&mut line, &receipt, &seal).is_ok(),
+        "no room",
+        RECEIPT,
+    )?;
+    must(
+        line.as_slice() == RECEIPT.as_bytes(),
+        "another text",
+        RECEIPT,
+    )
 }
 
 /// Receipts of the grammar, by heading and body.
@@ -155,22 +214,26 @@ const RECEIPTS: [(&str, &str); 4] = [
     ),
 ];
 
+/// Fails unless the receipt of this heading and body is read, and written as it was.
+fn must_read_back(heading: &str, body: &str) -> Result<(), Fail> {
+    let mut text = Line::new();
+    must(with_body(&mut text, heading, body), "no room", body)?;
+    let Some((receipt, part)) = read_receipt(text.as_slice()) else {
+        return Err(Fail::new(format_args!("it isn't read: {heading}{body}")));
+    };
+    must(
+        writes(&receipt, &part, text.as_slice()),
+        "another text",
+        body,
+    )
+}
+
 #[test]
-fn reads_what_it_wrote(rt: HostRuntime) {
-    for (heading, body) in RECEIPTS {
-        let mut text = Line::new();
-        assert!(rt; with_body(&mut text, heading, body));
-        match read_receipt(text.as_slice()) {
-            None => assert!(rt; false, "{heading}{body}"),
-            Some((receipt, part)) => {
-                assert!(rt; receipt.decimals <= 3);
-                assert!(rt; 10_957 <= part.secured && part.secured <= 84_005);
-                let mut line = Line::new();
-                assert_eq!(rt; put_part_receipt(&mut line, &receipt, &part), Ok(()));
-                assert_eq!(rt; line.as_slice(), text.as_slice(), "{heading}{body}");
-            }
-        }
+fn reads_what_it_wrote(rt: HostRuntime) -> Result<(), Fail> {
+    for &(heading, body) in &RECEIPTS {
+        must_read_back(heading, body)?;
     }
+    Ok(())
 }
 
 /// Texts that are no receipts: a piece of the receipt above, and what stands there instead.
@@ -205,40 +268,57 @@ const NONE: [(&str, &str); 28] = [
     ("KIND CLOSED\n", ""),
 ];
 
+/// Fails unless the receipt is none with another piece in place of one of its own.
+fn must_be_none(old: &str, new: &str) -> Result<(), Fail> {
+    let Some((before, after)) = RECEIPT.split_once(old) else {
+        return Err(Fail::new(format_args!("no piece: {old}")));
+    };
+    let mut text = Line::new();
+    let put = put_bytes(&mut text, before.as_bytes()).is_ok()
+        && put_bytes(&mut text, new.as_bytes()).is_ok()
+        && put_bytes(&mut text, after.as_bytes()).is_ok();
+    must(put, "no room", new)?;
+    must(read_receipt(text.as_slice()).is_none(), "it is read", new)
+}
+
 #[test]
-fn refuses_what_is_none(rt: HostRuntime) {
-    for (old, new) in NONE {
-        let Some((before, after)) = RECEIPT.split_once(old) else {
-            assert!(rt; false, "{old}");
-            return;
-        };
-        let mut text = Line::new();
-        assert_eq!(rt; put_bytes(&mut text, before.as_bytes()), Ok(()));
-        assert_eq!(rt; put_bytes(&mut text, new.as_bytes()), Ok(()));
-        assert_eq!(rt; put_bytes(&mut text, after.as_bytes()), Ok(()));
-        assert!(rt; read_receipt(text.as_slice()).is_none(), "{new}");
+fn refuses_what_is_none(rt: HostRuntime) -> Result<(), Fail> {
+    for &(old, new) in &NONE {
+        must_be_none(old, new)?;
     }
-    assert!(rt; read_receipt(b"").is_none());
+    must(read_receipt(b"").is_none(), "it is read", "no text")
 }
 
 /// A line with 500 bytes in it takes no receipt and no long text, and is then as it was.
 #[test]
-fn refuses_a_full_line(rt: HostRuntime) {
+fn refuses_a_full_line(rt: HostRuntime) -> Result<(), Fail> {
     let mut line = Line::new();
-    assert_eq!(rt; put_bytes(&mut line, &[b'x'; 500]), Ok(()));
+    must(
+        put_bytes(&mut line, &[b'x'; 500]).is_ok(),
+        "no room",
+        "500 bytes",
+    )?;
     let Some((receipt, part)) = read_receipt(RECEIPT.as_bytes()) else {
-        assert!(rt; false);
-        return;
+        return Err(Fail::new("it isn't read"));
     };
-    assert!(rt; receipt.decimals <= 3);
-    assert!(rt; 10_957 <= part.secured && part.secured <= 84_005);
-    assert_eq!(rt; put_part_receipt(&mut line, &receipt, &part), Err(LineFull));
-    assert_eq!(rt;
-        put_display(&mut line, &display(Operating::ForHire)),
-        Err(LineFull)
-    );
-    assert_eq!(rt; put_refusal(&mut line, Why::NotNow), Err(LineFull));
-    assert_eq!(rt; line.as_slice(), [b'x'; 500].as_slice());
+    let full = Err(LineFull);
+    must(
+        put(&mut line, &receipt, &part) == Some(full),
+        "it is taken",
+        "a receipt",
+    )?;
+    let shown = put_display(&mut line, &display(Operating::ForHire));
+    must(shown == full, "it is taken", "a display")?;
+    must(
+        put_refusal(&mut line, Why::NotNow) == full,
+        "it is taken",
+        "a refusal",
+    )?;
+    must(
+        line.as_slice() == [b'x'; 500].as_slice(),
+        "another line",
+        "500 bytes",
+    )
 }
 
 /// A display of the tariff of two decimals.
@@ -256,39 +336,63 @@ fn display(operating: Operating) -> Display
     }
 }
 
-#[test]
-fn writes_displays(rt: HostRuntime) {
-    for (operating, want) in [
-        (Operating::ForHire, "FOR HIRE T1 Z2\n"),
-        (Operating::Hired, "HIRED T1 Z2 3.80 +0.50\n"),
-        (Operating::Stopped, "STOPPED T1 Z2 3.80 +0.50\n"),
-    ] {
-        assert!(rt; operating != Operating::Off);
-        let mut line = Line::new();
-        assert_eq!(rt; put_display(&mut line, &display(operating)), Ok(()));
-        assert_eq!(rt; line.as_slice(), want.as_bytes());
+const DISPLAYS: [(Operating, &str); 3] = [
+    (Operating::ForHire, "FOR HIRE T1 Z2\n"),
+    (Operating::Hired, "HIRED T1 Z2 3.80 +0.50\n"),
+    (Operating::Stopped, "STOPPED T1 Z2 3.80 +0.50\n"),
+];
+
+/// Fails unless the display in this operating position, which isn't Off, is written as this text.
+fn must_display(operating: Operating, want: &str) -> Result<(), Fail> {
+    if operating == Operating::Off {
+        return Err(Fail::new("Off has no display"));
     }
+    let mut line = Line::new();
+    must(
+        put_display(&mut line, &display(operating)).is_ok(),
+        "no room",
+        want,
+    )?;
+    must(line.as_slice() == want.as_bytes(), "another display", want)
 }
 
 #[test]
-fn writes_refusals(rt: HostRuntime) {
-    let back = Why::ClockBack {
-        last: 1000,
-        given: 999,
-    };
-    for (why, want) in [
-        (Why::NotNow, "REFUSED NOT NOW\n"),
-        (Why::KeyWaiting, "REFUSED KEY WAITING\n"),
-        (Why::NoSuch, "REFUSED NO SUCH\n"),
-        (Why::AtMost, "REFUSED AT MOST\n"),
-        (back, "REFUSED CLOCK BACK 1000 999\n"),
-        (Why::TooFast(7), "REFUSED TOO FAST 7\n"),
-        (Why::Powered, "REFUSED POWERED\n"),
-        (Why::Expired, "REFUSED EXPIRED\n"),
-        (Why::Ended, "REFUSED ENDED\n"),
-    ] {
-        let mut line = Line::new();
-        assert_eq!(rt; put_refusal(&mut line, why), Ok(()));
-        assert_eq!(rt; line.as_slice(), want.as_bytes());
+fn writes_displays(rt: HostRuntime) -> Result<(), Fail> {
+    for &(operating, want) in &DISPLAYS {
+        must_display(operating, want)?;
     }
+    Ok(())
+}
+
+const REFUSALS: [(Why, &str); 9] = [
+    (Why::NotNow, "REFUSED NOT NOW\n"),
+    (Why::KeyWaiting, "REFUSED KEY WAITING\n"),
+    (Why::NoSuch, "REFUSED NO SUCH\n"),
+    (Why::AtMost, "REFUSED AT MOST\n"),
+    (
+        Why::ClockBack {
+            last: 1000,
+            given: 999,
+        },
+        "REFUSED CLOCK BACK 1000 999\n",
+    ),
+    (Why::TooFast(7), "REFUSED TOO FAST 7\n"),
+    (Why::Powered, "REFUSED POWERED\n"),
+    (Why::Expired, "REFUSED EXPIRED\n"),
+    (Why::Ended, "REFUSED ENDED\n"),
+];
+
+/// Fails unless a refusal is written as this text.
+fn must_refuse(why: Why, want: &str) -> Result<(), Fail> {
+    let mut line = Line::new();
+    must(put_refusal(&mut line, why).is_ok(), "no room", want)?;
+    must(line.as_slice() == want.as_bytes(), "another refusal", want)
+}
+
+#[test]
+fn writes_refusals(rt: HostRuntime) -> Result<(), Fail> {
+    for &(why, want) in &REFUSALS {
+        must_refuse(why, want)?;
+    }
+    Ok(())
 }

@@ -22,13 +22,9 @@ pub(crate) fn next_mark<'a>(
         → ¬ IsNext now.now (last_of marks.now) text.now mark rest) }
 {
     let _limit = numbers_in(now);
-    let Some(mark) = mark_at(text) else {
-        return None;
-    };
+    let mark = mark_at(text)?;
     let line = spelled(&mark);
-    let Some(rest) = word(text, line.as_slice()) else {
-        return None;
-    };
+    let rest = word(text, line.as_slice())?;
     if may_follow(marks, &mark, now) {
         Some((mark, rest))
     } else {

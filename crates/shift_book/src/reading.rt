@@ -53,10 +53,8 @@ pub fn read_driver(word: &[u8]) -> Option<ArrayVec<u8, 16>>
     ensures some { IfSome result (λ driver. (driver.items ≡ word.now) × IsDriver word.now) }
     ensures none { IfNone result (¬ IsDriver word.now) }
 {
-    match driver_at(word) {
-        None => None,
-        Some((driver, rest)) => { if rest.is_empty() { Some(driver) } else { None } }
-    }
+    let (driver, rest) = driver_at(word)?;
+    if rest.is_empty() { Some(driver) } else { None }
 }
 
 /// A driver at the front of a text, and what stands after.

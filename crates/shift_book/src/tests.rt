@@ -34,91 +34,100 @@ fn after_roaming() -> Durable {
     }
 }
 
+/// The store after one hiring, or after the roaming behind it.
+fn store_of(roams: bool) -> Durable {
+    if roams {
+        return after_roaming();
+    }
+    after_one_hiring()
+}
+
+/// Fails unless something holds of the case with this name.
+fn must(holds: bool, what: &str, name: &str) -> Result<(), Fail> {
+    if holds {
+        return Ok(());
+    }
+    Err(Fail::new(format_args!("{what}: {name:?}")))
+}
+
 /// How many marks a text has beside the store after one hiring, or what is wrong with it.
 fn outcome(alloc: Global, text: &[u8]) -> Result<usize, BookFault> {
     let marks = read_book(alloc, text, &after_one_hiring())?;
     Ok(marks.len())
 }
 
-/// The first text that has another outcome than stands beside it.
-fn first_other<'a>(alloc: Global, rows: &[(&'a str, Result<usize, BookFault>)]) -> Option<&'a str> {
-    for (text, want) in rows {
-        if outcome(alloc, text.as_bytes()) != *want {
-            return Some(*text);
-        }
+/// Fails unless a text has this outcome.
+fn must_come_to(alloc: Global, text: &str, want: Result<usize, BookFault>) -> Result<(), Fail> {
+    must(
+        outcome(alloc, text.as_bytes()) == want,
+        "another outcome",
+        text,
+    )
+}
+
+/// Books, and how many marks they have.
+const BOOKS: [(&str, usize); 4] = [
+    ("", 0),
+    ("ON ANNA 1 0 0 0 0 0\n", 1),
+    ("ON ANNA 1 0 0 0 0 0\nOFF 2 234800 234800 1 0 380\n", 2),
+    (
+        "ON A-1 1 0 0 0 0 0\nOFF 1 0 0 0 0 0\nON ABCDEFGHIJKLMNOP 2 234800 234800 1 0 380\n",
+        3,
+    ),
+];
+
+#[test]
+fn reads_books(rt: HostRuntime) -> Result<(), Fail> {
+    for &(text, count) in &BOOKS {
+        must_come_to(rt.alloc(), text, Ok(count))?;
     }
-    None
+    Ok(())
 }
 
-#[test]
-fn reads_books(rt: HostRuntime) {
-    let other = first_other(
-        rt.alloc(),
-        &[
-            ("", Ok(0)),
-            ("ON ANNA 1 0 0 0 0 0\n", Ok(1)),
-            ("ON ANNA 1 0 0 0 0 0\nOFF 2 234800 234800 1 0 380\n", Ok(2)),
-            (
-                "ON A-1 1 0 0 0 0 0\nOFF 1 0 0 0 0 0\nON ABCDEFGHIJKLMNOP 2 234800 234800 1 0 380\n",
-                Ok(3),
-            ),
-        ],
-    );
-    assert_eq!(rt; other, None);
-}
+/// Texts with a mark that may not follow, and its line.
+const MARKS_OUT_OF_PLACE: [(&str, u64); 5] = [
+    ("ON ANNA 1 0 0 0 0 0\nON BEA 1 0 0 0 0 0\n", 2),
+    ("OFF 1 0 0 0 0 0\n", 1),
+    ("ON ANNA 2 0 0 0 0 0\nOFF 1 0 0 0 0 0\n", 2),
+    ("ON ANNA 3 0 0 0 0 0\n", 1),
+    ("ON ANNA 1 0 0 0 0 381\n", 1),
+];
 
 #[test]
-fn names_the_mark_that_may_not_follow(rt: HostRuntime) {
-    let other = first_other(
-        rt.alloc(),
-        &[
-            (
-                "ON ANNA 1 0 0 0 0 0\nON BEA 1 0 0 0 0 0\n",
-                Err(BookFault::BadLine(2)),
-            ),
-            ("OFF 1 0 0 0 0 0\n", Err(BookFault::BadLine(1))),
-            (
-                "ON ANNA 2 0 0 0 0 0\nOFF 1 0 0 0 0 0\n",
-                Err(BookFault::BadLine(2)),
-            ),
-            ("ON ANNA 3 0 0 0 0 0\n", Err(BookFault::BadLine(1))),
-            ("ON ANNA 1 0 0 0 0 381\n", Err(BookFault::BadLine(1))),
-        ],
-    );
-    assert_eq!(rt; other, None);
+fn names_the_mark_that_may_not_follow(rt: HostRuntime) -> Result<(), Fail> {
+    for &(text, line) in &MARKS_OUT_OF_PLACE {
+        must_come_to(rt.alloc(), text, Err(BookFault::BadLine(line)))?;
+    }
+    Ok(())
 }
 
+/// Texts with a line that is no mark, and its number.
+const NO_MARKS: [(&str, u64); 11] = [
+    (
+        "ON ANNA 1 340282366920938463463374607431768211455 0 0 0 0\n",
+        1,
+    ),
+    (
+        "ON ANNA 1 340282366920938463463374607431768211456 0 0 0 0\n",
+        1,
+    ),
+    ("ON ANNA 1 0 0 0 0 0", 1),
+    ("ON ANNA 1 0 0 0 0 0\r\n", 1),
+    ("ON ANNA 01 0 0 0 0 0\n", 1),
+    ("ON ANNA 1 0 0 0 0\n", 1),
+    ("ON ANNA  1 0 0 0 0 0\n", 1),
+    ("ON Anna 1 0 0 0 0 0\n", 1),
+    ("ON  1 0 0 0 0 0\n", 1),
+    ("ON ABCDEFGHIJKLMNOPQ 1 0 0 0 0 0\n", 1),
+    ("ON ANNA 1 0 0 0 0 0\n\nOFF 1 0 0 0 0 0\n", 2),
+];
+
 #[test]
-fn names_the_line_that_is_no_mark(rt: HostRuntime) {
-    let other = first_other(
-        rt.alloc(),
-        &[
-            (
-                "ON ANNA 1 340282366920938463463374607431768211455 0 0 0 0\n",
-                Err(BookFault::BadLine(1)),
-            ),
-            (
-                "ON ANNA 1 340282366920938463463374607431768211456 0 0 0 0\n",
-                Err(BookFault::BadLine(1)),
-            ),
-            ("ON ANNA 1 0 0 0 0 0", Err(BookFault::BadLine(1))),
-            ("ON ANNA 1 0 0 0 0 0\r\n", Err(BookFault::BadLine(1))),
-            ("ON ANNA 01 0 0 0 0 0\n", Err(BookFault::BadLine(1))),
-            ("ON ANNA 1 0 0 0 0\n", Err(BookFault::BadLine(1))),
-            ("ON ANNA  1 0 0 0 0 0\n", Err(BookFault::BadLine(1))),
-            ("ON Anna 1 0 0 0 0 0\n", Err(BookFault::BadLine(1))),
-            ("ON  1 0 0 0 0 0\n", Err(BookFault::BadLine(1))),
-            (
-                "ON ABCDEFGHIJKLMNOPQ 1 0 0 0 0 0\n",
-                Err(BookFault::BadLine(1)),
-            ),
-            (
-                "ON ANNA 1 0 0 0 0 0\n\nOFF 1 0 0 0 0 0\n",
-                Err(BookFault::BadLine(2)),
-            ),
-        ],
-    );
-    assert_eq!(rt; other, None);
+fn names_the_line_that_is_no_mark(rt: HostRuntime) -> Result<(), Fail> {
+    for &(text, line) in &NO_MARKS {
+        must_come_to(rt.alloc(), text, Err(BookFault::BadLine(line)))?;
+    }
+    Ok(())
 }
 
 #[test]
@@ -130,17 +139,23 @@ fn refuses_books_that_are_too_long(rt: HostRuntime) -> Result<(), Fail> {
     Ok(())
 }
 
+/// Whether a word is read as the driver that it is.
+fn is_driver(word: &str) -> bool {
+    match read_driver(word.as_bytes()) {
+        Some(driver) => driver.as_slice() == word.as_bytes(),
+        None => false,
+    }
+}
+
 #[test]
-fn reads_drivers(rt: HostRuntime) {
-    for word in ["A", "ANNA", "A-1", "-", "ABCDEFGHIJKLMNOP"] {
-        assert!(rt;
-            read_driver(word.as_bytes()).is_some_and(|driver| driver.as_slice() == word.as_bytes()),
-            "{word}"
-        );
+fn reads_drivers(rt: HostRuntime) -> Result<(), Fail> {
+    for word in &["A", "ANNA", "A-1", "-", "ABCDEFGHIJKLMNOP"] {
+        must(is_driver(*word), "no driver", *word)?;
     }
-    for word in ["", "anna", "A B", "ANNA\n", "ABCDEFGHIJKLMNOPQ", "Ä"] {
-        assert!(rt; read_driver(word.as_bytes()).is_none(), "{word}");
+    for word in &["", "anna", "A B", "ANNA\n", "ABCDEFGHIJKLMNOPQ", "Ä"] {
+        must(read_driver(word.as_bytes()).is_none(), "a driver", *word)?;
     }
+    Ok(())
 }
 
 #[test]
@@ -163,38 +178,51 @@ fn report_of(alloc: Global, text: &[u8], now: &Durable) -> Result<Vec<u8>, BookF
     }
 }
 
-#[test]
-fn reports(rt: HostRuntime) {
-    let hiring = "ON ANNA 1 0 0 0 0 0\nOFF 2 234800 234800 1 0 380\n";
-    for (text, now, want) in [
-        (
-            hiring,
-            after_one_hiring(),
-            "SHIFT 1 ANNA 1 234.800 234.800 3.80 0.00\nDRIVER ANNA 1 234.800 234.800 3.80 0.00\n\
-            UNSIGNED 0 0.000 0.000 0.00 0.00\nGROWTH 1 234.800 234.800 3.80 0.00\n",
-        ),
-        (
-            hiring,
-            after_roaming(),
-            "SHIFT 1 ANNA 1 234.800 234.800 3.80 0.00\nDRIVER ANNA 1 234.800 234.800 3.80 0.00\n\
-            UNSIGNED 0 100000.000 0.000 0.00 0.00\nGROWTH 1 100234.800 234.800 3.80 0.00\n",
-        ),
-        (
-            "",
-            after_roaming(),
-            "UNSIGNED 0 0.000 0.000 0.00 0.00\nGROWTH 0 0.000 0.000 0.00 0.00\n",
-        ),
-        (
-            "ON BEA 1 0 0 0 0 0\nOFF 1 0 0 0 0 0\nON ANNA 1 0 0 0 0 0\nOFF 2 234800 234800 1 0 380\n\
-            ON BEA 2 234800 234800 1 0 380\n",
-            after_roaming(),
-            "SHIFT 1 BEA 0 0.000 0.000 0.00 0.00\nSHIFT 2 ANNA 1 234.800 234.800 3.80 0.00\n\
-            SHIFT 3 BEA 0 100000.000 0.000 0.00 0.00\nDRIVER ANNA 1 234.800 234.800 3.80 0.00\n\
-            DRIVER BEA 0 100000.000 0.000 0.00 0.00\nUNSIGNED 0 0.000 0.000 0.00 0.00\n\
-            GROWTH 1 100234.800 234.800 3.80 0.00\n",
-        ),
-    ] {
-        let report = report_of(rt.alloc(), text.as_bytes(), &now).expect(&rt, "a report");
-        assert_eq!(rt; report.as_slice(), want.as_bytes(), "{text}");
+/// One shift with one hiring.
+const HIRING: &str = "ON ANNA 1 0 0 0 0 0\nOFF 2 234800 234800 1 0 380\n";
+
+/// Books, whether the store has roamed since the hiring, and the reports.
+const REPORTS: [(&str, bool, &str); 4] = [
+    (
+        HIRING,
+        false,
+        "SHIFT 1 ANNA 1 234.800 234.800 3.80 0.00\nDRIVER ANNA 1 234.800 234.800 3.80 0.00\n\
+        UNSIGNED 0 0.000 0.000 0.00 0.00\nGROWTH 1 234.800 234.800 3.80 0.00\n",
+    ),
+    (
+        HIRING,
+        true,
+        "SHIFT 1 ANNA 1 234.800 234.800 3.80 0.00\nDRIVER ANNA 1 234.800 234.800 3.80 0.00\n\
+        UNSIGNED 0 100000.000 0.000 0.00 0.00\nGROWTH 1 100234.800 234.800 3.80 0.00\n",
+    ),
+    (
+        "",
+        true,
+        "UNSIGNED 0 0.000 0.000 0.00 0.00\nGROWTH 0 0.000 0.000 0.00 0.00\n",
+    ),
+    (
+        "ON BEA 1 0 0 0 0 0\nOFF 1 0 0 0 0 0\nON ANNA 1 0 0 0 0 0\nOFF 2 234800 234800 1 0 380\n\
+        ON BEA 2 234800 234800 1 0 380\n",
+        true,
+        "SHIFT 1 BEA 0 0.000 0.000 0.00 0.00\nSHIFT 2 ANNA 1 234.800 234.800 3.80 0.00\n\
+        SHIFT 3 BEA 0 100000.000 0.000 0.00 0.00\nDRIVER ANNA 1 234.800 234.800 3.80 0.00\n\
+        DRIVER BEA 0 100000.000 0.000 0.00 0.00\nUNSIGNED 0 0.000 0.000 0.00 0.00\n\
+        GROWTH 1 100234.800 234.800 3.80 0.00\n",
+    ),
+];
+
+/// Fails unless the report of a book beside a store is this.
+fn must_report(alloc: Global, text: &str, now: &Durable, want: &str) -> Result<(), Fail> {
+    match report_of(alloc, text.as_bytes(), now) {
+        Ok(report) => must(report.as_slice() == want.as_bytes(), "another report", text),
+        Err(_) => must(false, "no report", text),
     }
+}
+
+#[test]
+fn reports(rt: HostRuntime) -> Result<(), Fail> {
+    for &(text, roams, want) in &REPORTS {
+        must_report(rt.alloc(), text, &store_of(roams), want)?;
+    }
+    Ok(())
 }

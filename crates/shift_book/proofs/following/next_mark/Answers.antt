@@ -1,4 +1,4 @@
-use Rattle.std.proofs.Common.{◌≡◌, ◌∙◌, subst, List, ℕ, Some, None}
+use Rattle.std.proofs.Common.{◌≡◌, ◌∙◌, subst, List, ℕ, Some, None, rules}
 use Rattle.taxi_units.specs.Reading.{word_at}
 use Rattle.taxi_units.proofs.Laws.{words_are_read_by_their_text}
 use Rattle.shift_book.specs.Following.{Fit, MayFollow, last_of}
@@ -6,31 +6,33 @@ use Rattle.shift_book.specs.Marks.{Signing, mark_text}
 use Rattle.shift_book.proofs.Nexts.{none_is_next, other_is_next, unspelled_is_next}
 use Rattle.shift_book.proofs.following.next_mark.Goals as goal
 
-pub returns-in_default-clause-none : goal.returns-in_default-clause-none
-returns-in_default-clause-none c =
+pub returns-in_err-mark-clause-none : goal.returns-in_err-mark-clause-none
+returns-in_err-mark-clause-none c =
+    let none : c.from_residual.result ≡ None = search rules in
     let fit = subst Fit c.numbers_in-limit.ensures.numbers c.numbers_in-limit.ensures.fit in
-    none_is_next c.args.now.now (last_of c.args.marks.now) c.args.text.now fit c.in_default.ensures.mark
+    rw none (none_is_next c.args.now.now (last_of c.args.marks.now) c.args.text.now fit c.in_err-mark.ensures.mark)
 
-pub returns-in_default-word-clause-none : goal.returns-in_default-word-clause-none
-returns-in_default-word-clause-none c =
+pub returns-in_err-rest-clause-none : goal.returns-in_err-rest-clause-none
+returns-in_err-rest-clause-none c =
+    let none : c.from_residual-in_err-rest.result ≡ None = search rules in
     let fit = subst Fit c.numbers_in-limit.ensures.numbers c.numbers_in-limit.ensures.fit in
     let line = c.as_slice.ensures.value ∙ c.spelled-line.ensures.text in
-    unspelled_is_next c.args.now.now (last_of c.args.marks.now) c.args.text.now c.in-Some.mark fit c.in-Some.ensures.mark
-    (subst (λ (w : List ℕ). word_at w c.args.text.now ≡ None) line c.in_default-word.ensures)
+    rw none (unspelled_is_next c.args.now.now (last_of c.args.marks.now) c.args.text.now c.in_ok-mark.mark fit c.in_ok-mark.ensures.mark
+    (subst (λ (w : List ℕ). word_at w c.args.text.now ≡ None) line c.in_err-rest.ensures))
 
 pub returns-then-may_follow-clause-some : goal.returns-then-may_follow-clause-some
 returns-then-may_follow-clause-some c =
     let line = c.as_slice.ensures.value ∙ c.spelled-line.ensures.text in
     record {
-      line = (words_are_read_by_their_text (mark_text c.in-Some.mark) c.args.text.now c.in-Some-word.rest.now).0
-          (subst (λ (w : List ℕ). word_at w c.args.text.now ≡ Some c.in-Some-word.rest.now) line c.in-Some-word.ensures);
+      line = (words_are_read_by_their_text (mark_text c.in_ok-mark.mark) c.args.text.now c.in_ok-rest.rest.now).0
+          (subst (λ (w : List ℕ). word_at w c.args.text.now ≡ Some c.in_ok-rest.rest.now) line c.in_ok-rest.ensures);
       follows = c.may_follow.ensures.0 c.if-may_follow.true;
     }
 
 pub returns-else-may_follow-clause-none : goal.returns-else-may_follow-clause-none
 returns-else-may_follow-clause-none c mark rest next =
     let fit = subst Fit c.numbers_in-limit.ensures.numbers c.numbers_in-limit.ensures.fit in
-    let same = other_is_next c.args.now.now (last_of c.args.marks.now) c.args.text.now c.in-Some.mark fit c.in-Some.ensures.mark mark rest next in
+    let same = other_is_next c.args.now.now (last_of c.args.marks.now) c.args.text.now c.in_ok-mark.mark fit c.in_ok-mark.ensures.mark mark rest next in
     let told = c.may_follow.ensures.1 (subst (λ (m : Signing). MayFollow c.args.now.now (last_of c.args.marks.now) m) same next.follows) in
     let not = c.if-may_follow.false in
     absurd cc

@@ -1,10 +1,10 @@
 use Rattle.std.proofs.Common.{rules, ◌++◌, ◌+◌, ◌∙◌, arith, length, length-append}
 use Rattle.drive_text.proofs.Endings.{many_fail, comment-append, line_runs-long}
 use Rattle.drive_text.proofs.Feeding.{refused_many}
-use Rattle.drive_text.proofs.state.State.run_with.Goals as goal
+use Rattle.drive_text.proofs.state.State.content_with.Goals as goal
 
-pub returns-in-Err-clause-run : goal.returns-in-Err-clause-run
-returns-in-Err-clause-run c =
+pub returns-in-Err-clause-content : goal.returns-in-Err-clause-content
+returns-in-Err-clause-content c =
     let kept = c.args.self.now.kept.items in
     let whole = kept ++ c.args.line.now in
     let many = refused_many c.try_extend_from_slice.result c.in-Err.field-0 (length kept + length c.args.line.now) c.in-Err.is c.try_extend_from_slice.ensures.variant.1 in
