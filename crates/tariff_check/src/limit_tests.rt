@@ -15,6 +15,15 @@ fn cells_of(alloc: Global, text: &str) -> Result<u64, CheckFault> {
     }
 }
 
+/// Fails unless a text's tariff has so many cells, or this fault.
+fn must_have(alloc: Global, text: &str, want: Result<u64, CheckFault>) -> Result<(), Fail> {
+    let found = cells_of(alloc, text);
+    if found == want {
+        return Ok(());
+    }
+    Err(Fail::new(format_args!("{found:?}: {text}")))
+}
+
 /// A condition that cuts a dimension `count` times.
 fn cuts_of(alloc: Global, dimension: Dimension, count: u8) -> Result<String, Fail> {
     match dimension {
@@ -71,8 +80,10 @@ fn afters(alloc: Global, count: u8, unit: &str) -> Result<String, Fail> {
     Ok(when)
 }
 
-/// Dimensions, numbers of cuts, and the cells of seven weekdays or the fault.
-const CUTS: [(Dimension, u8, Result<u64, CheckFault>); 8] = [
+/// A dimension, a number of cuts, and the cells of seven weekdays or the fault.
+type CutRow = (Dimension, u8, Result<u64, CheckFault>);
+
+const CUTS: &[CutRow] = &[
     (Dimension::MonthDay, 63, Ok(448)),
     (
         Dimension::MonthDay,
@@ -99,25 +110,32 @@ const CUTS: [(Dimension, u8, Result<u64, CheckFault>); 8] = [
     ),
 ];
 
+/// Fails unless a tariff that is cut so often has so many cells, or this fault.
+fn must_count_cuts(alloc: Global, row: &CutRow) -> Result<(), Fail> {
+    let when = cuts_of(alloc, row.0, row.1)?;
+    let text = format!(in alloc;
+        "step 1\ninitial 1\nminimum 2 when {when}\nrate 1 per 1 m, 1 per 1 s\n"
+    )?;
+    must_have(alloc, text.as_str(), row.2)
+}
+
 #[test]
 fn counts_cuts_up_to_their_limits(rt: HostRuntime) -> Result<(), Fail> {
-    for (dimension, count, want) in CUTS {
-        let when = cuts_of(rt.alloc(), dimension, count)?;
-        let text = format!(in rt.alloc();
-            "step 1\ninitial 1\nminimum 2 when {when}\nrate 1 per 1 m, 1 per 1 s\n"
-        )?;
-        assert_eq!(rt; cells_of(rt.alloc(), text.as_str()), want, "{when}");
+    for row in CUTS {
+        must_count_cuts(rt.alloc(), row)?;
     }
     Ok(())
 }
 
 /// The cells, or the fault, of nine positions under a condition that cuts two dimensions, and perhaps time.
-const CELLS: [(
+type CellRow = (
     (Dimension, u8),
     (Dimension, u8),
-    &str,
+    &'static str,
     Result<u64, CheckFault>,
-); 3] = [
+);
+
+const CELLS: &[CellRow] = &[
     (
         (Dimension::Minute, 63),
         (Dimension::Distance, 15),
@@ -138,22 +156,30 @@ const CELLS: [(
     ),
 ];
 
+/// Fails unless a tariff that is cut so often in two dimensions has so many cells, or this fault.
+fn must_count_cells(alloc: Global, row: &CellRow) -> Result<(), Fail> {
+    let one = cuts_of(alloc, row.0.0, row.0.1)?;
+    let other = cuts_of(alloc, row.1.0, row.1.1)?;
+    let more = row.2;
+    let text = format!(in alloc;
+        "positions 9\nstep 1\ninitial 1\nminimum 2 when {one} or {other}{more}\nrate 1 per 1 m, 1 per 1 s\n"
+    )?;
+    must_have(alloc, text.as_str(), row.3)
+}
+
 #[test]
 fn counts_cells_up_to_their_limit(rt: HostRuntime) -> Result<(), Fail> {
-    for (first, second, more, want) in CELLS {
-        let one = cuts_of(rt.alloc(), first.0, first.1)?;
-        let other = cuts_of(rt.alloc(), second.0, second.1)?;
-        let text = format!(in rt.alloc();
-            "positions 9\nstep 1\ninitial 1\nminimum 2 when {one} or {other}{more}\nrate 1 per 1 m, 1 per 1 s\n"
-        )?;
-        assert_eq!(rt; cells_of(rt.alloc(), text.as_str()), want, "{text}");
+    for row in CELLS {
+        must_count_cells(rt.alloc(), row)?;
     }
     Ok(())
 }
 
 /// Lines of which there may be 64: what stands before them, the lines, the last of them, and the line
 /// that is one too many.
-const LINES: [(&str, &str, &str, u32); 3] = [
+type LineRow = (&'static str, &'static str, &'static str, u32);
+
+const LINES: &[LineRow] = &[
     (
         "step 1\ninitial 1\n",
         "rate 1 per 1 m, 1 per 1 s when day sun\n",
@@ -174,45 +200,48 @@ const LINES: [(&str, &str, &str, u32); 3] = [
     ),
 ];
 
+/// Fails unless a tariff with so many of these lines before the last has so many cells, or this fault.
+fn must_count_lines(
+    alloc: Global,
+    row: &LineRow,
+    count: usize,
+    want: Result<u64, CheckFault>,
+) -> Result<(), Fail> {
+    let (head, last) = (row.0, row.2);
+    let lines = row.1.repeat(alloc, count)?;
+    let text = format!(in alloc; "{head}{lines}{last}")?;
+    must_have(alloc, text.as_str(), want)
+}
+
 #[test]
 fn counts_lines_up_to_their_limits(rt: HostRuntime) -> Result<(), Fail> {
-    for (head, line, last, one_too_many) in LINES {
-        for more in 0..2u32 {
-            let mut text = String::new(rt.alloc());
-            text.push_str(head)?;
-            for _ in 0..63 + more {
-                text.push_str(line)?;
-            }
-            text.push_str(last)?;
-            let want = if more == 0 {
-                Ok(7)
-            } else {
-                Err(CheckFault::TooManyLines(one_too_many))
-            };
-            assert_eq!(rt; cells_of(rt.alloc(), text.as_str()), want, "{line}");
-        }
+    for row in LINES {
+        must_count_lines(rt.alloc(), row, 63, Ok(7))?;
+        must_count_lines(rt.alloc(), row, 64, Err(CheckFault::TooManyLines(row.3)))?;
     }
     Ok(())
 }
 
+/// Fails unless a tariff with so many holidays has so many cells, or this fault.
+fn must_count_holidays(
+    alloc: Global,
+    count: u16,
+    want: Result<u64, CheckFault>,
+) -> Result<(), Fail> {
+    let mut text = String::new(alloc);
+    text.push_str("step 1\ninitial 1\nrate 1 per 1 m, 1 per 1 s\n")?;
+    for place in 0..count {
+        let year = 2000 + place / 57;
+        let month = 10 + place / 19 % 3;
+        let date = 10 + place % 19;
+        let line = format!(in alloc; "holiday {year}-{month}-{date}\n")?;
+        text.push_str(line.as_str())?;
+    }
+    must_have(alloc, text.as_str(), want)
+}
+
 #[test]
 fn counts_holidays_up_to_their_limit(rt: HostRuntime) -> Result<(), Fail> {
-    for more in 0..2u16 {
-        let mut text = String::new(rt.alloc());
-        text.push_str("step 1\ninitial 1\nrate 1 per 1 m, 1 per 1 s\n")?;
-        for place in 0..255 + more {
-            let year = 2000 + place / 57;
-            let month = 10 + place / 19 % 3;
-            let date = 10 + place % 19;
-            let line = format!(in rt.alloc(); "holiday {year}-{month}-{date}\n")?;
-            text.push_str(line.as_str())?;
-        }
-        let want = if more == 0 {
-            Ok(14)
-        } else {
-            Err(CheckFault::TooManyLines(259))
-        };
-        assert_eq!(rt; cells_of(rt.alloc(), text.as_str()), want);
-    }
-    Ok(())
+    must_count_holidays(rt.alloc(), 255, Ok(14))?;
+    must_count_holidays(rt.alloc(), 256, Err(CheckFault::TooManyLines(259)))
 }

@@ -1,6 +1,7 @@
 //! Which texts are sound tariffs, and their cuts.
 use super::*;
 use std::alloc::Global;
+use std::test::Fail;
 use tariff_syntax::{parse, texts_have_their_numbers};
 
 /// The cells and the measure of a text's tariff, or its fault; `NoMemory` where it is none.
@@ -13,6 +14,15 @@ fn outcome(alloc: Global, text: &str) -> Result<(u64, u64), CheckFault> {
         }
         Err(_) => Err(CheckFault::NoMemory),
     }
+}
+
+/// Fails unless a text's tariff has these cells and this measure, or this fault.
+fn must_give(alloc: Global, text: &str, want: Result<(u64, u64), CheckFault>) -> Result<(), Fail> {
+    let found = outcome(alloc, text);
+    if found == want {
+        return Ok(());
+    }
+    Err(Fail::new(format_args!("{found:?}: {text}")))
 }
 
 /// A tariff of a city.
@@ -33,153 +43,146 @@ rate 0.20 per 100.0 m, 0.20 per 20.0 s when after 5000.0 m
 rate 0.20 per 125.0 m, 0.20 per 25.0 s
 ";
 
-/// Sound tariffs, with their cells and their measures.
-const SOUND: [(&str, (u64, u64)); 5] = [
-    (CITY, (336, 180_000)),
+/// A text, and its tariff's cells and measure, or its fault.
+type TextRow = (&'static str, Result<(u64, u64), CheckFault>);
+
+/// Sound tariffs, and texts that have a fault. Those that have two faults have the one that is looked for first.
+const TEXTS: &[TextRow] = &[
+    (CITY, Ok((336, 180_000))),
     (
         "decimals 2\nstep 0.20 ahead\ninitial 3.80 covers 0.40\nrate 0.20 per 117.4 m, 0.20 per 25.2 s\n",
-        (7, 147_924),
+        Ok((7, 147_924)),
     ),
     (
         "decimals 2\nstep 0.20 ahead\ninitial 3.80 covers 0.40\nrate 0.20 per 117.4 m, 0.20 per 25.2 s\n\
          minimum 6.00 when time 22:00..06:00\n",
-        (21, 147_924),
+        Ok((21, 147_924)),
     ),
     (
         "decimals 0\nstep 1\ninitial 1\nminimum 0 when holiday\nminimum 99999999\nrate 1 per 1 m, 1 per 1 s\n",
-        (7, 10),
+        Ok((7, 10)),
     ),
     (
         "step 0.10\ninitial 4\nrate 0.10 per 100000000.0 m, 0.10 per 99999999.9 s\n",
-        (7, 999_999_999_000_000_000),
+        Ok((7, 999_999_999_000_000_000)),
     ),
-];
-
-/// Texts, and the fault of each. Those that have two faults have the one that is looked for first.
-const FAULTY: [(&str, CheckFault); 29] = [
-    ("", CheckFault::NoStep),
-    ("initial 1\nzones 2\nzones 2\n", CheckFault::NoStep),
-    ("step 0\nstep 1\n", CheckFault::StepZero),
+    ("", Err(CheckFault::NoStep)),
+    ("initial 1\nzones 2\nzones 2\n", Err(CheckFault::NoStep)),
+    ("step 0\nstep 1\n", Err(CheckFault::StepZero)),
     (
         "step 1\n\nstep 1\nzones 2\nzones 2\n",
-        CheckFault::Duplicate(3),
+        Err(CheckFault::Duplicate(3)),
     ),
     (
         "step 1\npositions 1\npositions 2\n",
-        CheckFault::Duplicate(3),
+        Err(CheckFault::Duplicate(3)),
     ),
     (
         "step 1\nsupplement 1 1 max 1\nsupplement 2 1 max 1\nsupplement 1 2 max 2\n",
-        CheckFault::Duplicate(4),
+        Err(CheckFault::Duplicate(4)),
     ),
     (
         "step 1\nholiday 2026-01-06\nholiday 2027-01-06\nholiday 2026-01-06\n",
-        CheckFault::Duplicate(4),
+        Err(CheckFault::Duplicate(4)),
     ),
     (
         "step 1\npositions 2\nrate 1 per 1 m, 1 per 1 s when position 2 or zone 2\n",
-        CheckFault::UnknownNumber(3),
+        Err(CheckFault::UnknownNumber(3)),
     ),
     (
         "step 0.20 ahead\ninitial 3.80 covers 0.40\nrate 0.20 per 117.4 m, 0.20 per 25.2 s when zone 1\n",
-        CheckFault::NoDefaultRate,
+        Err(CheckFault::NoDefaultRate),
     ),
     (
         "step 1\ninitial 1 when holiday\nrate 1 per 1 m, 1 per 1 s\nrate 1 per 1 m, 1 per 1 s\n",
-        CheckFault::NoDefaultInitial,
+        Err(CheckFault::NoDefaultInitial),
     ),
     (
         "decimals 2\nstep 0.20 ahead\ninitial 3.80 covers 0.40\nrate 0.20 per 117.4 m, 0.20 per 25.2 s\n\
          rate 0.20 per 117.4 m, 0.20 per 25.2 s\n",
-        CheckFault::LineAfterDefault(5),
+        Err(CheckFault::LineAfterDefault(5)),
     ),
     (
         "step 1\nholiday 2027-02-29\ninitial 1\nrate 1 per 1 m, 1 per 1 s\n",
-        CheckFault::BadDate(2),
+        Err(CheckFault::BadDate(2)),
     ),
     (
         "step 1\nholiday 2200-01-01\ninitial 1\nrate 1 per 1 m, 1 per 1 s\n",
-        CheckFault::BadDate(2),
+        Err(CheckFault::BadDate(2)),
     ),
     (
         "step 1\ninitial 1 when date 02-29..02-30\ninitial 1\nrate 1 per 1 m, 1 per 1 s\n",
-        CheckFault::BadDate(2),
+        Err(CheckFault::BadDate(2)),
     ),
     (
         "step 10000.01\ninitial 1000000.00\nrate 1 per 1 m, 1 per 1 s\n",
-        CheckFault::AmountTooBig(1),
+        Err(CheckFault::AmountTooBig(1)),
     ),
     (
         "step 10000.00\ninitial 999999.99 covers 1000000.00\nrate 1 per 1 m, 1 per 1 s\n",
-        CheckFault::AmountTooBig(2),
+        Err(CheckFault::AmountTooBig(2)),
     ),
     (
         "step 1\ninitial 1\nsupplement 1 10000.01 max 1\nrate 1 per 0.0 m, 1 per 1 s\n",
-        CheckFault::AmountTooBig(3),
+        Err(CheckFault::AmountTooBig(3)),
     ),
     (
         "decimals 2\nstep 0.20 ahead\ninitial 3.80 covers 0.40\nrate 0.20 per 0.0 m, 0.20 per 25.2 s\n",
-        CheckFault::MeasureZero(4),
+        Err(CheckFault::MeasureZero(4)),
     ),
     (
         "step 1\ninitial 1 when not after 0.0 s\ninitial 1\nrate 1 per 1 m, 1 per 1 s\n",
-        CheckFault::MeasureZero(2),
+        Err(CheckFault::MeasureZero(2)),
     ),
     (
         "step 0.10\ninitial 4\nrate 0.10 per 100000000.0 m, 0.10 per 100000000.1 s\n",
-        CheckFault::NoCommonMeasure,
+        Err(CheckFault::NoCommonMeasure),
     ),
     (
         "step 1\ninitial 1\nrate 1 per 1 m, 1 per 1 s when after 1 s or after 2 s or after 3 s or after 4 s \
          or after 5 s or after 6 s or after 7 s or after 8 s or after 9 s or after 10 s or after 11 s \
          or after 12 s or after 13 s or after 14 s or after 15 s or after 16 s or after 1 s\n\
          rate 1 per 1 m, 1 per 1 s\n",
-        CheckFault::TooManyCuts(Dimension::Time, 16),
+        Err(CheckFault::TooManyCuts(Dimension::Time, 16)),
     ),
     (
         "step 1\nminimum 1 when zone 2\n",
-        CheckFault::UnknownNumber(2),
+        Err(CheckFault::UnknownNumber(2)),
     ),
     (
         "decimals 2\nstep 0.20 ahead\ninitial 3.80 covers 0.40\nrate 0.20 per 117.4 m, 0.20 per 25.2 s\n\
          minimum 6.00\nminimum 7.00\n",
-        CheckFault::LineAfterDefault(6),
+        Err(CheckFault::LineAfterDefault(6)),
     ),
     (
         "step 1\nminimum 1\ninitial 1\nminimum 1 when holiday\nrate 1 per 1 m, 1 per 1 s\n",
-        CheckFault::LineAfterDefault(4),
+        Err(CheckFault::LineAfterDefault(4)),
     ),
     (
         "step 1\ninitial 1\nminimum 1 when date 02-30..03-01\nrate 1 per 1 m, 1 per 1 s\n",
-        CheckFault::BadDate(3),
+        Err(CheckFault::BadDate(3)),
     ),
     (
         "step 1\ninitial 1\nminimum 1000000.00\nrate 1 per 1 m, 1 per 1 s\n",
-        CheckFault::AmountTooBig(3),
+        Err(CheckFault::AmountTooBig(3)),
     ),
     (
         "step 1\ninitial 1\nminimum 999999.99 when after 0.0 m\nrate 1 per 1 m, 1 per 1 s\n",
-        CheckFault::MeasureZero(3),
+        Err(CheckFault::MeasureZero(3)),
     ),
     (
         "step 1\nminimum 1\nrate 1 per 1 m, 1 per 1 s\n",
-        CheckFault::NoDefaultInitial,
+        Err(CheckFault::NoDefaultInitial),
     ),
-    ("step 1 step\n", CheckFault::NoMemory),
+    ("step 1 step\n", Err(CheckFault::NoMemory)),
 ];
 
 #[test]
-fn counts_cells_and_measures(rt: HostRuntime) {
-    for (text, want) in SOUND {
-        assert_eq!(rt; outcome(rt.alloc(), text), Ok(want), "{text}");
+fn counts_cells_and_measures_or_names_the_first_fault(rt: HostRuntime) -> Result<(), Fail> {
+    for (text, want) in TEXTS {
+        must_give(rt.alloc(), text, *want)?;
     }
-}
-
-#[test]
-fn names_the_first_fault(rt: HostRuntime) {
-    for (text, want) in FAULTY {
-        assert_eq!(rt; outcome(rt.alloc(), text), Err(want), "{text}");
-    }
+    Ok(())
 }
 
 /// The lines of a text's tariff and its cuts in a dimension.
@@ -210,8 +213,10 @@ rate 1 per 1 m, 1 per 1 s when date 02-28..03-01 or date 02-29..03-01 or after 2
 rate 1 per 1 m, 1 per 1 s
 ";
 
-/// Texts, how many lines they have, a dimension, and their cuts in it.
-const CUTS: [(&str, usize, Dimension, &[u64]); 7] = [
+/// A text, how many lines it has, a dimension, and its cuts in it.
+type CutRow = (&'static str, usize, Dimension, &'static [u64]);
+
+const CUTS: &[CutRow] = &[
     (CITY, 14, Dimension::Minute, &[360, 1320]),
     (CITY, 14, Dimension::Distance, &[50_000]),
     (CITY, 14, Dimension::MonthDay, &[]),
@@ -221,14 +226,19 @@ const CUTS: [(&str, usize, Dimension, &[u64]); 7] = [
     (RANGES, 5, Dimension::Time, &[10, 20]),
 ];
 
-#[test]
-fn gives_cuts_in_order(rt: HostRuntime) {
-    for (text, lines, dimension, want) in CUTS {
-        let (found, cuts) = lines_and_cuts(rt.alloc(), text, dimension).expect(
-            &rt,
-            "a sound tariff",
-        );
-        assert_eq!(rt; found, lines);
-        assert_eq!(rt; cuts.as_slice(), want);
+/// Fails unless a text has so many lines and these cuts.
+fn must_be_cut(alloc: Global, row: &CutRow) -> Result<(), Fail> {
+    let (lines, cuts) = lines_and_cuts(alloc, row.0, row.2)?;
+    if lines == row.1 && cuts.as_slice() == row.3 {
+        return Ok(());
     }
+    Err(Fail::new(format_args!("{lines} lines, {cuts:?}: {:?} of {}", row.2, row.0)))
+}
+
+#[test]
+fn gives_cuts_in_order(rt: HostRuntime) -> Result<(), Fail> {
+    for row in CUTS {
+        must_be_cut(rt.alloc(), row)?;
+    }
+    Ok(())
 }

@@ -9,6 +9,7 @@ pub mod Grammar
 pub mod IsCondition
 pub mod IsItem
 pub mod Items
+pub mod Joints
 pub mod Meaning
 pub mod Parentheses
 pub mod Parsed

@@ -4,6 +4,8 @@ ghost use Rattle.tariff_syntax.specs.Built.{Builds, HasParts, HasPartsIf, IsBuil
 ghost use Rattle.tariff_syntax.specs.Condition.{Condition, condition_of, condition_if};
 ghost use Rattle.tariff_syntax.specs.Faults.{GivesOrFails};
 ghost use Rattle.tariff_syntax.specs.Grammar as spec;
+ghost use Rattle.tariff_syntax.specs.Joints as joints;
+ghost use Rattle.tariff_syntax.specs.Joints.{joined_by};
 ghost use Rattle.tariff_syntax.specs.Weight as weights;
 ghost use Rattle.tariff_syntax.specs.Grammar.{condition_by, term_by, factor_by, factor_first, chain_on, negated};
 ghost use Rattle.tariff_syntax.specs.Grammar.{closed_after, when_read};
@@ -27,6 +29,25 @@ pub enum LineFault {
     NoMemory,
 }
 
+/// How the parts of a condition are joined.
+#[derive(Clone, Copy)]
+pub enum Joint {
+    /// Terms, by `or`.
+    Or,
+    /// Factors, by `and`.
+    And,
+}
+
+/// The word that joins parts.
+fn word_of(joint: Joint) -> &'static [u8]
+    ensures { result.now ≡ joints.word_of joint }
+{
+    match joint {
+        Joint::Or => b"or",
+        Joint::And => b"and",
+    }
+}
+
 /// A condition, and what stands after it; with fewer `not` and `(` around each atom than a number. A line is
 /// read on where memory runs out: the condition is missing then, and what stands after it is known.
 #[cycle(conditions)]
@@ -36,44 +57,7 @@ fn condition(alloc: Global, depth: u8, line: &[u8]) -> Option<(Option<Cond>, &[u
         (condition_by (factor_first depth) (tokens_of line.now)) }
 {
     let (first, rest) = term(alloc, depth, line)?;
-    more_terms(alloc, depth, 64, first, rest)
-}
-
-/// A condition, to which further terms are joined, fewer than a number.
-#[cycle(conditions)]
-fn more_terms(
-    alloc: Global,
-    depth: u8,
-    most: u8,
-    left: Option<Cond>,
-    line: &[u8],
-) -> Option<(Option<Cond>, &[u8])>
-    ensures { (c : Condition) → IsBuilt left c → Builds (λ x. (x.0, tokens_of x.1.now)) result
-        (chain_on (codes "or") (spec.or_joined (factor_first depth)) most c (tokens_of line.now)) }
-{
-    if most == 0 {
-        return None;
-    }
-    let Some(rest) = after_word(line, b"or") else {
-        return Some((left, line));
-    };
-    let (either, rest) = or_joined(alloc, depth, left, rest)?;
-    more_terms(alloc, depth, most - 1, either, rest)
-}
-
-/// A term, joined by `or` to what stands to the left, and what stands after it.
-#[cycle(conditions)]
-fn or_joined(
-    alloc: Global,
-    depth: u8,
-    left: Option<Cond>,
-    line: &[u8],
-) -> Option<(Option<Cond>, &[u8])>
-    ensures { (c : Condition) → IsBuilt left c → Builds (λ x. (x.0, tokens_of x.1.now)) result
-        (spec.or_joined (factor_first depth) c (tokens_of line.now)) }
-{
-    let (right, rest) = term(alloc, depth, line)?;
-    Some((or(alloc, left, right), rest))
+    more_parts(alloc, Joint::Or, depth, 64, first, rest)
 }
 
 /// A term, and what stands after it.
@@ -84,44 +68,54 @@ fn term(alloc: Global, depth: u8, line: &[u8]) -> Option<(Option<Cond>, &[u8])>
         (term_by (factor_first depth) (tokens_of line.now)) }
 {
     let (first, rest) = factor(alloc, depth, line)?;
-    more_factors(alloc, depth, 64, first, rest)
+    more_parts(alloc, Joint::And, depth, 64, first, rest)
 }
 
-/// A term, to which further factors are joined, fewer than a number.
+/// What stands to the left, to which further parts are joined, fewer than a number.
 #[cycle(conditions)]
-fn more_factors(
+fn more_parts(
     alloc: Global,
+    joint: Joint,
     depth: u8,
     most: u8,
     left: Option<Cond>,
     line: &[u8],
 ) -> Option<(Option<Cond>, &[u8])>
     ensures { (c : Condition) → IsBuilt left c → Builds (λ x. (x.0, tokens_of x.1.now)) result
-        (chain_on (codes "and") (spec.and_joined (factor_first depth)) most c (tokens_of line.now)) }
+        (chain_on (joints.word_of joint) (joined_by joint (factor_first depth)) most c (tokens_of line.now)) }
 {
     if most == 0 {
         return None;
     }
-    let Some(rest) = after_word(line, b"and") else {
+    let Some(rest) = after_word(line, word_of(joint)) else {
         return Some((left, line));
     };
-    let (both, rest) = and_joined(alloc, depth, left, rest)?;
-    more_factors(alloc, depth, most - 1, both, rest)
+    let (joined, rest) = joined_part(alloc, joint, depth, left, rest)?;
+    more_parts(alloc, joint, depth, most - 1, joined, rest)
 }
 
-/// A factor, joined by `and` to what stands to the left, and what stands after it.
+/// The part that stands first, joined to what stands to the left, and what stands after it.
 #[cycle(conditions)]
-fn and_joined(
+fn joined_part(
     alloc: Global,
+    joint: Joint,
     depth: u8,
     left: Option<Cond>,
     line: &[u8],
 ) -> Option<(Option<Cond>, &[u8])>
     ensures { (c : Condition) → IsBuilt left c → Builds (λ x. (x.0, tokens_of x.1.now)) result
-        (spec.and_joined (factor_first depth) c (tokens_of line.now)) }
+        (joined_by joint (factor_first depth) c (tokens_of line.now)) }
 {
-    let (right, rest) = factor(alloc, depth, line)?;
-    Some((and(alloc, left, right), rest))
+    match joint {
+        Joint::Or => {
+            let (right, rest) = term(alloc, depth, line)?;
+            Some((or(alloc, left, right), rest))
+        }
+        Joint::And => {
+            let (right, rest) = factor(alloc, depth, line)?;
+            Some((and(alloc, left, right), rest))
+        }
+    }
 }
 
 /// A factor, and what stands after it.

@@ -8,12 +8,12 @@ use std::test::Fail;
 use tariff_check::check;
 use tariff_syntax::{parse, texts_have_their_numbers};
 
-/// The lists of a text's tariff under `k` pulses a kilometre. `None` where it isn't sound.
-fn collected(alloc: Global, text: &str, k: u32) -> Option<Cuts> {
-    let tariff = parse(alloc, text.as_bytes()).ok()?;
+/// The lists of a text's tariff under `k` pulses a kilometre.
+fn collected(alloc: Global, text: &str, k: u32) -> Result<Cuts, Fail> {
+    let tariff = parse(alloc, text.as_bytes())?;
     texts_have_their_numbers();
-    let checked = check(alloc, tariff).ok()?;
-    Cuts::collect(alloc, &checked, Constant::new(k).ok()?).ok()
+    let checked = check(alloc, tariff)?;
+    Ok(Cuts::collect(alloc, &checked, Constant::new(k)?)?)
 }
 
 /// How many cuts are at most a value, counting steps from 0.
@@ -36,9 +36,36 @@ fn is_holiday<L: Ledger>(blank: Blank, cuts: &Cuts, day: i32) -> bool
     cuts.holiday(day, &mut steps)
 }
 
-/// Conditions, pulses a kilometre, and the cuts of a dimension. A distance is cut at the first pulse at
+/// Fails unless so many cuts of minutes are at most a minute.
+fn must_be_found(cuts: &Cuts, minute: u64, want: usize) -> Result<(), Fail> {
+    let count = found::<Brand>(Blank::new(1), cuts, Dimension::Minute, minute);
+    if count == want {
+        return Ok(());
+    }
+    Err(Fail::new(format_args!("{count}: minute {minute}")))
+}
+
+/// Fails unless a day is a holiday, or is none.
+fn must_be_holiday(cuts: &Cuts, day: i32, want: bool) -> Result<(), Fail> {
+    if is_holiday::<Brand>(Blank::new(1), cuts, day) == want {
+        return Ok(());
+    }
+    Err(Fail::new(day))
+}
+
+/// Fails unless these days are holidays, or are none.
+fn must_have_holidays(cuts: &Cuts, days: &[(i32, bool)]) -> Result<(), Fail> {
+    for (day, want) in days {
+        must_be_holiday(cuts, *day, *want)?;
+    }
+    Ok(())
+}
+
+/// A condition, pulses a kilometre, and the cuts of a dimension. A distance is cut at the first pulse at
 /// which a trip has come as far.
-const LISTS: [(&str, u32, Dimension, &[u64]); 10] = [
+type Row = (&'static str, u32, Dimension, &'static [u64]);
+
+const LISTS: &[Row] = &[
     ("after 9656.1 m", 10_000, Dimension::Distance, &[96_561]),
     ("after 9656.1 m", 3_000, Dimension::Distance, &[28_969]),
     (
@@ -61,19 +88,28 @@ const LISTS: [(&str, u32, Dimension, &[u64]); 10] = [
     ("after 60 s or day sun", 500, Dimension::Distance, &[]),
 ];
 
-#[test]
-fn collects_cuts(rt: HostRuntime) -> Result<(), Fail> {
-    for (when, k, dimension, want) in LISTS {
-        let text = format!(in rt.alloc();
-            "step 0.10
+/// Fails unless a condition gives these cuts.
+fn must_be_cut(alloc: Global, row: &Row) -> Result<(), Fail> {
+    let when = row.0;
+    let text = format!(in alloc;
+        "step 0.10
 initial 4.00
 rate 0.20 per 100.0 m, 0.10 per 20.0 s when {when}
 rate 0.10 per 100.0 m, 0.10 per 20.0 s
 "
-        )?;
-        let cuts = collected(rt.alloc(), text.as_str(), k);
-        let found = cuts.as_ref().map(|cuts| cuts.list(dimension));
-        assert_eq!(rt; found, Some(want), "{when}");
+    )?;
+    let cuts = collected(alloc, text.as_str(), row.1)?;
+    let found = cuts.list(row.2);
+    if found == row.3 {
+        return Ok(());
+    }
+    Err(Fail::new(format_args!("{found:?}: {when}")))
+}
+
+#[test]
+fn collects_cuts(rt: HostRuntime) -> Result<(), Fail> {
+    for row in LISTS {
+        must_be_cut(rt.alloc(), row)?;
     }
     Ok(())
 }
@@ -100,50 +136,54 @@ rate 0.20 per 125.0 m, 0.20 per 25.0 s
 const CITY_LISTS: [&[u64]; 5] = [&[], &[360, 1320], &[50_000], &[], &[20_454, 20_812]];
 
 /// The lists are all that there is: numbers, and no condition, line or text.
-#[test]
-fn keeps_numbers_alone(rt: HostRuntime) {
-    let cuts = collected(rt.alloc(), CITY, 10_000);
-    assert!(rt; cuts.is_some());
-    if let Some(cuts) = cuts {
-        let Cuts {
-            month_days,
-            minutes,
-            distances,
-            times,
-            holidays,
-        } = cuts;
-        let lists: [Vec<u64>; 5] = [month_days, minutes, distances, times, holidays];
-        for place in 0..5 {
-            assert_eq!(rt; lists[place].as_slice(), CITY_LISTS[place]);
-        }
-    }
+fn lists_of(cuts: Cuts) -> [Vec<u64>; 5] {
+    let Cuts {
+        month_days,
+        minutes,
+        distances,
+        times,
+        holidays,
+    } = cuts;
+    [month_days, minutes, distances, times, holidays]
 }
 
 #[test]
-fn looks_up(rt: HostRuntime) {
-    let cuts = collected(rt.alloc(), CITY, 10_000);
-    assert!(rt; cuts.is_some());
-    if let Some(cuts) = cuts {
-        for (value, want) in [(0, 0), (359, 0), (360, 1), (1319, 1), (1320, 2), (1321, 2)] {
-            let count = found::<Brand>(Blank::new(1), &cuts, Dimension::Minute, value);
-            assert_eq!(rt; count, want, "minute {value}");
-        }
-        for (day, want) in [
-            (-20_454, false),
-            (0, false),
-            (20_453, false),
-            (20_454, true),
-            (20_455, false),
-            (20_812, true),
-            (20_813, false),
-        ] {
-            assert_eq!(rt;
-                is_holiday::<Brand>(Blank::new(1), &cuts, day),
-                want,
-                "day {day}"
-            );
-        }
+fn keeps_numbers_alone(rt: HostRuntime) -> Result<(), Fail> {
+    let lists = lists_of(collected(rt.alloc(), CITY, 10_000)?);
+    for place in 0..5 {
+        assert_eq!(rt; lists[place].as_slice(), CITY_LISTS[place]);
     }
+    Ok(())
+}
+
+/// Minutes, and how many cuts of the city tariff are at most each.
+const CITY_MINUTES: &[(u64, usize)] = &[
+    (0, 0),
+    (359, 0),
+    (360, 1),
+    (1319, 1),
+    (1320, 2),
+    (1321, 2),
+];
+
+/// Days, and whether they are holidays of the city tariff.
+const CITY_DAYS: &[(i32, bool)] = &[
+    (-20_454, false),
+    (0, false),
+    (20_453, false),
+    (20_454, true),
+    (20_455, false),
+    (20_812, true),
+    (20_813, false),
+];
+
+#[test]
+fn looks_up(rt: HostRuntime) -> Result<(), Fail> {
+    let cuts = collected(rt.alloc(), CITY, 10_000)?;
+    for (minute, want) in CITY_MINUTES {
+        must_be_found(&cuts, *minute, *want)?;
+    }
+    must_have_holidays(&cuts, CITY_DAYS)
 }
 
 /// As many holidays as there may be: the dates 10 to 28 of October, November and December.
@@ -160,28 +200,21 @@ fn most_holidays(alloc: Global) -> Result<String, Fail> {
     Ok(text)
 }
 
+/// Days, and whether they are among the most holidays.
+const MOST_DAYS: &[(i32, bool)] = &[
+    (11_239, false),
+    (11_240, true),
+    (11_258, true),
+    (11_259, false),
+    (12_049, true),
+    (12_739, true),
+    (12_740, false),
+];
+
 #[test]
 fn looks_up_among_the_most_holidays(rt: HostRuntime) -> Result<(), Fail> {
     let text = most_holidays(rt.alloc())?;
-    let cuts = collected(rt.alloc(), text.as_str(), 10_000);
-    assert!(rt; cuts.is_some());
-    if let Some(cuts) = cuts {
-        assert!(rt; cuts.has_holidays());
-        for (day, want) in [
-            (11_239, false),
-            (11_240, true),
-            (11_258, true),
-            (11_259, false),
-            (12_049, true),
-            (12_739, true),
-            (12_740, false),
-        ] {
-            assert_eq!(rt;
-                is_holiday::<Brand>(Blank::new(1), &cuts, day),
-                want,
-                "day {day}"
-            );
-        }
-    }
-    Ok(())
+    let cuts = collected(rt.alloc(), text.as_str(), 10_000)?;
+    assert!(rt; cuts.has_holidays());
+    must_have_holidays(&cuts, MOST_DAYS)
 }

@@ -10,40 +10,41 @@ use std::test::Fail;
 use tariff_check::{Dimension, check};
 use tariff_syntax::{parse, texts_have_their_numbers};
 
-/// The tables of a text's tariff. `None` where there are none.
-fn tables_of(alloc: Global, text: &str) -> Option<Tables> {
-    let tariff = parse(alloc, text.as_bytes()).ok()?;
+/// The tables of a text's tariff.
+fn tables_of(alloc: Global, text: &str) -> Result<Tables, Fail> {
+    let tariff = parse(alloc, text.as_bytes())?;
     texts_have_their_numbers();
-    let checked = check(alloc, tariff).ok()?;
-    compile(alloc, &checked, Constant::new(1000).ok()?).ok()
-}
-
-/// How many rows the tables of a text's tariff have, and some of them by their places. `None` where there
-/// are no tables or no such rows.
-fn rows_at(alloc: Global, text: &str, places: [u64; 3]) -> Option<(u64, Line, Line, Line)> {
-    let tables = tables_of(alloc, text)?;
-    let first = row_at(&tables, places[0])?;
-    let second = row_at(&tables, places[1])?;
-    let third = row_at(&tables, places[2])?;
-    Some((tables.rows(), first, second, third))
-}
-
-/// A row by its place.
-fn row_at(tables: &Tables, place: u64) -> Option<Line> {
-    if place >= tables.rows() {
-        return None;
-    }
-    let mut line = Line::new();
-    tables.put_row(place, &mut line).ok()?;
-    Some(line)
+    let checked = check(alloc, tariff)?;
+    Ok(compile(alloc, &checked, Constant::new(1000)?)?)
 }
 
 /// Whether this is a row of the tables.
 fn is_row(tables: &Tables, place: u64, want: &str) -> bool {
-    match row_at(tables, place) {
-        Some(row) => row.as_slice() == want.as_bytes(),
-        None => false,
+    if place >= tables.rows() {
+        return false;
     }
+    let mut line = Line::new();
+    tables.put_row(place, &mut line).is_ok() && line.as_slice() == want.as_bytes()
+}
+
+/// Fails unless this is a row of the tables.
+fn must_be_row(tables: &Tables, place: u64, want: &str) -> Result<(), Fail> {
+    if is_row(tables, place, want) {
+        return Ok(());
+    }
+    Err(Fail::new(want))
+}
+
+/// Fails unless the tables of a text have so many rows, and these by their places.
+fn must_have_rows(alloc: Global, text: &str, count: u64, rows: &[(u64, &str)]) -> Result<(), Fail> {
+    let tables = tables_of(alloc, text)?;
+    if tables.rows() != count {
+        return Err(Fail::new(tables.rows()));
+    }
+    for (place, want) in rows {
+        must_be_row(&tables, *place, want)?;
+    }
+    Ok(())
 }
 
 /// Nine positions, 63 cuts of minutes and 15 of distances: as many cells as there may be. A rate by day
@@ -68,18 +69,17 @@ fn most_cells(alloc: Global) -> Result<String, Fail> {
     Ok(text)
 }
 
+/// Some of its rows.
+const CELL_ROWS: &[(u64, &str)] = &[
+    (4, "CELL 0 1 1\n"),
+    (64_500, "CELL 64496 2 1\n"),
+    (64_515, "CELL 64511 1 1\n"),
+];
+
 #[test]
 fn makes_the_most_cells(rt: HostRuntime) -> Result<(), Fail> {
     let text = most_cells(rt.alloc())?;
-    let rows = rows_at(rt.alloc(), text.as_str(), [4, 64_500, 64_515]);
-    assert!(rt; rows.is_some());
-    if let Some((count, first, second, third)) = rows {
-        assert_eq!(rt; count, 64_516);
-        assert_eq!(rt; first.as_slice(), "CELL 0 1 1\n".as_bytes());
-        assert_eq!(rt; second.as_slice(), "CELL 64496 2 1\n".as_bytes());
-        assert_eq!(rt; third.as_slice(), "CELL 64511 1 1\n".as_bytes());
-    }
-    Ok(())
+    must_have_rows(rt.alloc(), text.as_str(), 64_516, CELL_ROWS)
 }
 
 /// 64 rates, 64 initial hire fees and 64 minimum fares, of which the last of each holds.
@@ -95,18 +95,17 @@ fn most_lines(alloc: Global) -> Result<String, Fail> {
     Ok(text)
 }
 
+/// Some of its rows.
+const LINE_ROWS: &[(u64, &str)] = &[
+    (128, "INITIAL 64 2 1\n"),
+    (192, "MINIMUM 64 3\n"),
+    (199, "CELL 6 64 64 64\n"),
+];
+
 #[test]
 fn makes_the_most_lines(rt: HostRuntime) -> Result<(), Fail> {
     let text = most_lines(rt.alloc())?;
-    let rows = rows_at(rt.alloc(), text.as_str(), [128, 192, 199]);
-    assert!(rt; rows.is_some());
-    if let Some((count, first, second, third)) = rows {
-        assert_eq!(rt; count, 200);
-        assert_eq!(rt; first.as_slice(), "INITIAL 64 2 1\n".as_bytes());
-        assert_eq!(rt; second.as_slice(), "MINIMUM 64 3\n".as_bytes());
-        assert_eq!(rt; third.as_slice(), "CELL 6 64 64 64\n".as_bytes());
-    }
-    Ok(())
+    must_have_rows(rt.alloc(), text.as_str(), 200, LINE_ROWS)
 }
 
 /// The date at a place of a leap year's first months.
@@ -156,27 +155,37 @@ fn every_second(alloc: Global, dimension: Dimension, bands: u8) -> Result<String
 }
 
 /// The dimensions, and how many bands each may have.
-const BANDS: [(Dimension, u8); 4] = [
+const BANDS: &[(Dimension, u8)] = &[
     (Dimension::MonthDay, 64),
     (Dimension::Minute, 64),
     (Dimension::Distance, 16),
     (Dimension::Time, 16),
 ];
 
+/// Fails unless tables have so many cells behind four other rows, with these two rates by turns.
+fn must_alternate(alloc: Global, tables: &Tables, cells: u16, rates: (u8, u8)) -> Result<(), Fail> {
+    if tables.rows() != 4 + cells as u64 {
+        return Err(Fail::new(tables.rows()));
+    }
+    for cell in 0..cells {
+        let rate = if cell % 2 == 0 { rates.0 } else { rates.1 };
+        let want = format!(in alloc; "CELL {cell} {rate} 1\n")?;
+        must_be_row(tables, 4 + cell as u64, want.as_str())?;
+    }
+    Ok(())
+}
+
+/// Fails unless every second of so many bands of a dimension has a rate of its own.
+fn must_have_bands(alloc: Global, dimension: Dimension, bands: u8) -> Result<(), Fail> {
+    let text = every_second(alloc, dimension, bands)?;
+    let tables = tables_of(alloc, text.as_str())?;
+    must_alternate(alloc, &tables, 7 * bands as u16, (1, 2))
+}
+
 #[test]
 fn makes_the_most_bands(rt: HostRuntime) -> Result<(), Fail> {
     for (dimension, bands) in BANDS {
-        let text = every_second(rt.alloc(), dimension, bands)?;
-        let tables = tables_of(rt.alloc(), text.as_str());
-        assert!(rt; tables.is_some(), "{text}");
-        if let Some(tables) = tables {
-            let cells = 7 * bands as u64;
-            assert_eq!(rt; tables.rows(), 4 + cells);
-            for cell in 0..cells {
-                let want = format!(in rt.alloc(); "CELL {cell} {} 1\n", 1 + cell % 2)?;
-                assert!(rt; is_row(&tables, 4 + cell, want.as_str()), "{want}");
-            }
-        }
+        must_have_bands(rt.alloc(), *dimension, *bands)?;
     }
     Ok(())
 }
@@ -200,7 +209,7 @@ fn most_holidays(alloc: Global) -> Result<String, Fail> {
 
 /// Days around the first and the last of these holidays, by their numbers, and whether they are holidays:
 /// 9, 10, 28 and 29 October 2000, 17 and 18 November 2004.
-const DAYS: [(i32, bool); 6] = [
+const DAYS: &[(i32, bool)] = &[
     (11239, false),
     (11240, true),
     (11258, true),
@@ -219,24 +228,21 @@ fn is_holiday<L: Ledger>(blank: Blank, tables: &Tables, day: i32) -> bool
     tables.holiday(day, &mut steps)
 }
 
+/// Fails unless a day is a holiday, or is none.
+fn must_be_holiday(tables: &Tables, day: i32, want: bool) -> Result<(), Fail> {
+    if is_holiday::<Brand>(Blank::new(1), tables, day) == want {
+        return Ok(());
+    }
+    Err(Fail::new(day))
+}
+
 #[test]
 fn keeps_the_most_holidays(rt: HostRuntime) -> Result<(), Fail> {
     let text = most_holidays(rt.alloc())?;
-    let tables = tables_of(rt.alloc(), text.as_str());
-    assert!(rt; tables.is_some());
-    if let Some(tables) = tables {
-        assert_eq!(rt; tables.rows(), 18);
-        for cell in 0..14u64 {
-            let want = format!(in rt.alloc(); "CELL {cell} {} 1\n", 2 - cell % 2)?;
-            assert!(rt; is_row(&tables, 4 + cell, want.as_str()), "{want}");
-        }
-        for (day, want) in DAYS {
-            assert_eq!(rt;
-                is_holiday::<Brand>(Blank::new(1), &tables, day),
-                want,
-                "{day}"
-            );
-        }
+    let tables = tables_of(rt.alloc(), text.as_str())?;
+    must_alternate(rt.alloc(), &tables, 14, (2, 1))?;
+    for (day, want) in DAYS {
+        must_be_holiday(&tables, *day, *want)?;
     }
     Ok(())
 }

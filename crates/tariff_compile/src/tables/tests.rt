@@ -11,24 +11,24 @@ use std::test::Fail;
 use tariff_check::{Dimension, check};
 use tariff_syntax::{parse, texts_have_their_numbers};
 
-/// The tables of a text's tariff under `k` pulses a kilometre. `None` where there are none.
-fn compiled(alloc: Global, text: &str, k: u32) -> Option<Tables> {
-    let tariff = parse(alloc, text.as_bytes()).ok()?;
+/// The tables of a text's tariff under `k` pulses a kilometre.
+fn compiled(alloc: Global, text: &str, k: u32) -> Result<Tables, Fail> {
+    let tariff = parse(alloc, text.as_bytes())?;
     texts_have_their_numbers();
-    let checked = check(alloc, tariff).ok()?;
-    compile(alloc, &checked, Constant::new(k).ok()?).ok()
+    let checked = check(alloc, tariff)?;
+    Ok(compile(alloc, &checked, Constant::new(k)?)?)
 }
 
-/// The rows of the tables of a text's tariff. `None` where there are none.
-fn rows_of(alloc: Global, text: &str, k: u32) -> Option<Vec<u8>> {
+/// The rows of the tables of a text's tariff.
+fn rows_of(alloc: Global, text: &str, k: u32) -> Result<Vec<u8>, Fail> {
     let tables = compiled(alloc, text, k)?;
     let mut rows = Vec::new(alloc);
     for row in 0..tables.rows() {
         let mut line = Line::new();
-        tables.put_row(row, &mut line).ok()?;
-        rows.extend_from_slice(line.as_slice()).ok()?;
+        tables.put_row(row, &mut line)?;
+        rows.extend_from_slice(line.as_slice())?;
     }
-    Some(rows)
+    Ok(rows)
 }
 
 /// A tariff of one rate.
@@ -146,28 +146,34 @@ CELL 5 1 1 2
 ";
 
 /// Texts, pulses a kilometre, and the rows. Memory is there for all of them.
-const TEXTS: [(&str, u32, &str); 3] = [
+const TEXTS: &[(&str, u32, &str)] = &[
     (PLAIN, 10_000, PLAIN_ROWS),
     (NIGHT, 1000, NIGHT_ROWS),
     (LONG, 500, LONG_ROWS),
 ];
 
-#[test]
-fn writes_rows(rt: HostRuntime) {
-    for (text, k, want) in TEXTS {
-        let rows = rows_of(rt.alloc(), text, k).unwrap_or(Vec::new(rt.alloc()));
-        assert_eq!(rt; rows.as_slice(), want.as_bytes(), "{text}");
+/// Fails unless the tables of a text have these rows.
+fn must_write(alloc: Global, text: &str, k: u32, want: &str) -> Result<(), Fail> {
+    if rows_of(alloc, text, k)?.as_slice() == want.as_bytes() {
+        return Ok(());
     }
+    Err(Fail::new(text))
 }
 
 #[test]
-fn writes_rows_of_minimum_fares(rt: HostRuntime) {
-    let rows = rows_of(rt.alloc(), LEAST, 10_000).unwrap_or(Vec::new(rt.alloc()));
-    let wanted = LEAST_ROWS.as_bytes();
-    assert!(rt; rows.len() > wanted.len());
-    assert_eq!(rt; &rows[..wanted.len()], wanted);
+fn writes_rows(rt: HostRuntime) -> Result<(), Fail> {
+    for (text, k, want) in TEXTS {
+        must_write(rt.alloc(), text, *k, want)?;
+    }
+    Ok(())
+}
+
+#[test]
+fn writes_rows_of_minimum_fares(rt: HostRuntime) -> Result<(), Fail> {
+    let rows = rows_of(rt.alloc(), LEAST, 10_000)?;
     let lines = rows.iter().filter(|b| **b == b'\n').count();
-    assert_eq!(rt; lines, 47);
+    assert!(rt; rows.as_slice().starts_with(LEAST_ROWS.as_bytes()) && lines == 47);
+    Ok(())
 }
 
 /// What holds first at a minute of a day, with nothing driven, in the first position and zone. The day
@@ -233,9 +239,11 @@ rate 0.20 per 100.0 m, 0.20 per 20.0 s when after 5000.0 m
 rate 0.20 per 125.0 m, 0.20 per 25.0 s
 ";
 
-/// Texts, a day, its weekday and its place in a leap year, a minute, and the weight of a pulse, the
+/// A text, a day, its weekday and its place in a leap year, a minute, and the weight of a pulse, the
 /// initial hire fee and the minimum fare.
-const FOUND: [(&str, i32, u8, u16, u16, (u128, u64, u64)); 12] = [
+type Row = (&'static str, i32, u8, u16, u16, (u128, u64, u64));
+
+const FOUND: &[Row] = &[
     (DAYS, 20_459, 2, 5, 720, (300_000, 400, 0)),
     (DAYS, 21_243, 2, 59, 720, (200_000, 400, 0)),
     (DAYS, 20_454, 4, 0, 0, (100_000, 400, 0)),
@@ -250,17 +258,26 @@ const FOUND: [(&str, i32, u8, u16, u16, (u128, u64, u64)); 12] = [
     (LEAST, 20_514, 1, 61, 1320, (25_200_000, 380, 600)),
 ];
 
-#[test]
-fn looks_up_lines(rt: HostRuntime) {
-    for (text, day, weekday, month_day, minute, want) in FOUND {
-        let tables = compiled(rt.alloc(), text, 10_000);
-        assert!(rt; tables.is_some());
-        assert!(rt; 1 <= weekday && weekday <= 7 && month_day <= 365 && minute <= 1439);
-        if let Some(tables) = tables {
-            let lines = found::<Brand>(Blank::new(1), &tables, day, weekday, month_day, minute);
-            assert_eq!(rt; lines, want, "day {day} minute {minute}");
-        }
+/// Fails unless these hold first.
+fn must_be_found(alloc: Global, row: &Row) -> Result<(), Fail> {
+    let tables = compiled(alloc, row.0, 10_000)?;
+    let (day, weekday, month_day, minute) = (row.1, row.2, row.3, row.4);
+    if weekday < 1 || weekday > 7 || month_day > 365 || minute > 1439 {
+        return Err(Fail::new("no such day"));
     }
+    let lines = found::<Brand>(Blank::new(1), &tables, day, weekday, month_day, minute);
+    if lines == row.5 {
+        return Ok(());
+    }
+    Err(Fail::new(format_args!("{lines:?}: day {day} minute {minute}")))
+}
+
+#[test]
+fn looks_up_lines(rt: HostRuntime) -> Result<(), Fail> {
+    for row in FOUND {
+        must_be_found(rt.alloc(), row)?;
+    }
+    Ok(())
 }
 
 /// The supplement of a number, counting steps from 0.
@@ -274,7 +291,7 @@ fn supplement<L: Ledger>(blank: Blank, tables: &Tables, number: u8) -> Option<Su
 }
 
 /// Numbers, and the supplement of each in the city tariff.
-const SUPPLEMENTS: [(u8, Option<Supplement>); 7] = [
+const SUPPLEMENTS: &[(u8, Option<Supplement>)] = &[
     (0, None),
     (
         1,
@@ -296,84 +313,101 @@ const SUPPLEMENTS: [(u8, Option<Supplement>); 7] = [
     (255, None),
 ];
 
-#[test]
-fn finds_supplements(rt: HostRuntime) {
-    let tables = compiled(rt.alloc(), CITY, 10_000);
-    assert!(rt; tables.is_some());
-    if let Some(tables) = tables {
-        for (number, want) in SUPPLEMENTS {
-            assert_eq!(rt;
-                supplement::<Brand>(Blank::new(1), &tables, number),
-                want,
-                "{number}"
-            );
-        }
-        assert_eq!(rt; tables.rows(), 343);
-        assert_eq!(rt; tables.measure(), 1_800_000_000);
-        assert_eq!(rt; (tables.step(), tables.rounding()), (20, Rounding::Ahead));
-        assert_eq!(rt;
-            (tables.decimals(), tables.positions(), tables.zones()),
-            (2, 2, 2)
-        );
+/// Fails unless this is the supplement of a number.
+fn must_have_supplement(tables: &Tables, number: u8, want: Option<Supplement>) -> Result<(), Fail> {
+    if supplement::<Brand>(Blank::new(1), tables, number) == want {
+        return Ok(());
     }
+    Err(Fail::new(number))
 }
 
-/// The parts are all that there is: numbers, and no condition, line or text.
 #[test]
-fn keeps_numbers_alone(rt: HostRuntime) {
-    let tables = compiled(rt.alloc(), PLAIN, 10_000);
-    assert!(rt; tables.is_some());
-    if let Some(tables) = tables {
-        let Tables {
-            cuts,
-            weights,
-            initials,
-            minimums,
-            cells,
-            supplements,
-            constant,
-            measure,
-            step,
-            rounding,
-            decimals,
-            positions,
-            zones,
-        } = tables;
-        let cuts: Cuts = cuts;
-        let weights: Vec<Weights> = weights;
-        let initials: Vec<Fee> = initials;
-        let minimums: Vec<u64> = minimums;
-        let cells: Vec<CellLines> = cells;
-        let supplements: Vec<Option<Supplement>> = supplements;
-        let numbers: (Constant, u128, u64, Rounding, u8, u8, u8) = (
-            constant, measure, step, rounding, decimals, positions, zones,
-        );
-        assert_eq!(rt; cuts.list(Dimension::Minute).len(), 0);
-        assert_eq!(rt; (weights.len(), initials.len(), minimums.len()), (1, 1, 0));
-        assert_eq!(rt; (cells.len(), supplements.len()), (7, 16));
-        assert_eq!(rt; numbers.1, 1_479_240_000);
+fn finds_supplements(rt: HostRuntime) -> Result<(), Fail> {
+    let tables = compiled(rt.alloc(), CITY, 10_000)?;
+    for (number, want) in SUPPLEMENTS {
+        must_have_supplement(&tables, *number, *want)?;
     }
+    Ok(())
+}
+
+/// Whether the tables' numbers are those of the city tariff.
+fn has_city_numbers(tables: &Tables) -> bool {
+    tables.rows() == 343
+        && tables.measure() == 1_800_000_000
+        && (tables.step(), tables.rounding()) == (20, Rounding::Ahead)
+        && (tables.decimals(), tables.positions(), tables.zones()) == (2, 2, 2)
+}
+
+#[test]
+fn gives_its_numbers(rt: HostRuntime) -> Result<(), Fail> {
+    let tables = compiled(rt.alloc(), CITY, 10_000)?;
+    assert!(rt; has_city_numbers(&tables));
+    Ok(())
+}
+
+/// Whether tables are those of the plain tariff. The parts are all that there is: numbers, and no condition, line
+/// or text.
+fn is_plain(tables: Tables) -> bool {
+    let Tables {
+        cuts,
+        weights,
+        initials,
+        minimums,
+        cells,
+        supplements,
+        constant,
+        measure,
+        step,
+        rounding,
+        decimals,
+        positions,
+        zones,
+    } = tables;
+    let cuts: Cuts = cuts;
+    let weights: Vec<Weights> = weights;
+    let initials: Vec<Fee> = initials;
+    let minimums: Vec<u64> = minimums;
+    let cells: Vec<CellLines> = cells;
+    let supplements: Vec<Option<Supplement>> = supplements;
+    let numbers: (Constant, u128, u64, Rounding, u8, u8, u8) = (
+        constant, measure, step, rounding, decimals, positions, zones,
+    );
+    cuts.list(Dimension::Minute).is_empty()
+        && (weights.len(), initials.len(), minimums.len()) == (1, 1, 0)
+        && (cells.len(), supplements.len()) == (7, 16)
+        && numbers.1 == 1_479_240_000
+}
+
+#[test]
+fn keeps_numbers_alone(rt: HostRuntime) -> Result<(), Fail> {
+    let tables = compiled(rt.alloc(), PLAIN, 10_000)?;
+    assert!(rt; is_plain(tables));
+    Ok(())
+}
+
+/// Whether a fee is the plain tariff's, and is two amounts alone.
+fn is_plain_fee(fee: &Fee) -> bool {
+    let Fee { amount, covers } = *fee;
+    let amounts: (u64, u64) = (amount, covers);
+    amounts == (380, 40)
+}
+
+/// Whether a cell is the plain tariff's, and is three places alone.
+fn is_plain_cell(lines: &CellLines) -> bool {
+    let CellLines {
+        rate,
+        initial,
+        minimum,
+    } = *lines;
+    let places: (u8, u8, u8) = (rate, initial, minimum);
+    places == (0, 0, 0)
 }
 
 /// The same of each fee and each cell.
 #[test]
-fn keeps_numbers_alone_in_fees_and_cells(rt: HostRuntime) {
-    let tables = compiled(rt.alloc(), PLAIN, 10_000);
-    assert!(rt; tables.is_some());
-    if let Some(tables) = tables {
-        for fee in &tables.initials {
-            let Fee { amount, covers } = *fee;
-            let amounts: (u64, u64) = (amount, covers);
-            assert_eq!(rt; amounts, (380, 40));
-        }
-        for lines in &tables.cells {
-            let CellLines {
-                rate,
-                initial,
-                minimum,
-            } = *lines;
-            let places: (u8, u8, u8) = (rate, initial, minimum);
-            assert_eq!(rt; places, (0, 0, 0));
-        }
-    }
+fn keeps_numbers_alone_in_fees_and_cells(rt: HostRuntime) -> Result<(), Fail> {
+    let tables = compiled(rt.alloc(), PLAIN, 10_000)?;
+    let fees_are_plain = tables.initials.iter().all(|fee| is_plain_fee(fee));
+    assert!(rt; fees_are_plain && tables.cells.iter().all(|lines| is_plain_cell(lines)));
+    Ok(())
 }

@@ -11,8 +11,17 @@ fn outcome(alloc: Global, text: &[u8]) -> Result<usize, u32> {
     }
 }
 
+/// Fails unless a text has so many lines, or this line of it is bad.
+fn must_be_read(alloc: Global, text: &str, want: Result<usize, u32>) -> Result<(), Fail> {
+    let found = outcome(alloc, text.as_bytes());
+    if found == want {
+        return Ok(());
+    }
+    Err(Fail::new(format_args!("{found:?}: {text}")))
+}
+
 /// Texts, and how many lines they have or which line of theirs is bad.
-const TEXTS: [(&str, Result<usize, u32>); 65] = [
+const TEXTS: &[(&str, Result<usize, u32>)] = &[
     ("", Ok(0)),
     ("\n\r\n \t\n# none\n", Ok(0)),
     ("decimals 0", Ok(0)),
@@ -93,14 +102,15 @@ const TEXTS: [(&str, Result<usize, u32>); 65] = [
 ];
 
 #[test]
-fn reads_each_form_of_a_line(rt: HostRuntime) {
+fn reads_each_form_of_a_line(rt: HostRuntime) -> Result<(), Fail> {
     for (text, want) in TEXTS {
-        assert_eq!(rt; outcome(rt.alloc(), text.as_bytes()), want, "{text}");
+        must_be_read(rt.alloc(), text, *want)?;
     }
+    Ok(())
 }
 
 /// Conditions, and whether they are read.
-const CONDITIONS: [(&str, bool); 44] = [
+const CONDITIONS: &[(&str, bool)] = &[
     ("position 1", true),
     ("position 9", true),
     ("position 0", false),
@@ -147,20 +157,29 @@ const CONDITIONS: [(&str, bool); 44] = [
     ("7", false),
 ];
 
+/// Lines that may have a condition.
+const CONDITIONED: &[&str] = &["initial 1", "rate 1 per 1 m, 1 per 1 s", "minimum 1"];
+
+/// Fails unless each line that may have a condition is read with this one, or is bad with it.
+fn must_hold_in_each_line(alloc: Global, condition: &str, is_read: bool) -> Result<(), Fail> {
+    let want = if is_read { Ok(2) } else { Err(2) };
+    for line in CONDITIONED {
+        let text = format!(in alloc; "step 1\n{line} when {condition}")?;
+        must_be_read(alloc, text.as_str(), want)?;
+    }
+    Ok(())
+}
+
 #[test]
 fn reads_each_form_of_a_condition(rt: HostRuntime) -> Result<(), Fail> {
-    for (condition, want) in CONDITIONS {
-        for line in ["initial 1", "rate 1 per 1 m, 1 per 1 s", "minimum 1"] {
-            let text = format!(in rt.alloc(); "step 1\n{line} when {condition}")?;
-            let outcome = outcome(rt.alloc(), text.as_bytes());
-            assert_eq!(rt; outcome, if want { Ok(2) } else { Err(2) }, "{text}");
-        }
+    for (condition, is_read) in CONDITIONS {
+        must_hold_in_each_line(rt.alloc(), condition, *is_read)?;
     }
     Ok(())
 }
 
 /// Texts, and the tariffs that they are.
-const TREES: [(&str, &str); 3] = [
+const TREES: &[(&str, &str)] = &[
     ("", "Tariff { decimals: 2, lines: Lines { lines: [] } }"),
     (
         "
@@ -205,42 +224,60 @@ minimum 0",
     ),
 ];
 
+/// Fails unless a text is this tariff.
+fn must_be(alloc: Global, text: &str, want: &str) -> Result<(), Fail> {
+    let tariff = parse(alloc, text.as_bytes())?;
+    let found = format!(in alloc; "{tariff:?}")?;
+    if found.as_str() == want {
+        return Ok(());
+    }
+    Err(Fail::new(found.as_str()))
+}
+
 #[test]
 fn reads_what_each_line_says(rt: HostRuntime) -> Result<(), Fail> {
     for (text, want) in TREES {
-        let tariff = parse(rt.alloc(), text.as_bytes())?;
-        let found = format!(in rt.alloc(); "{tariff:?}")?;
-        assert!(rt; found.as_str() == want, "{found}");
+        must_be(rt.alloc(), text, want)?;
     }
     Ok(())
 }
 
-#[test]
-fn bounds_a_text_and_a_condition(rt: HostRuntime) -> Result<(), Fail> {
-    for (blanks, want) in [(65_536, true), (65_537, false)] {
-        let mut text = Vec::new(rt.alloc());
-        for _ in 0..blanks {
-            text.push(b' ')?;
-        }
-        match parse(rt.alloc(), &text) {
-            Ok(_) => assert!(rt; want, "at {blanks}"),
-            Err(fault) => assert!(rt; fault == ParseFault::TooLong && !want, "at {blanks}"),
-        }
+/// Fails unless a text of so many blanks gives no fault, or this one.
+fn must_be_bounded(alloc: Global, blanks: usize, want: Option<ParseFault>) -> Result<(), Fail> {
+    let text = " ".repeat(alloc, blanks)?;
+    if parse(alloc, text.as_bytes()).err() == want {
+        return Ok(());
     }
-    let parts = [("holiday or ", ""), ("not ", ""), ("(", ")")];
-    for (front, back) in parts {
-        for (more, want) in [(63, Ok(1)), (64, Err(1))] {
-            let mut text = Vec::new(rt.alloc());
-            text.extend_from_slice(b"initial 1 when ")?;
-            for _ in 0..more {
-                text.extend_from_slice(front.as_bytes())?;
-            }
-            text.extend_from_slice(b"holiday")?;
-            for _ in 0..more {
-                text.extend_from_slice(back.as_bytes())?;
-            }
-            assert_eq!(rt; outcome(rt.alloc(), &text), want, "{more} of {front}");
-        }
+    Err(Fail::new(blanks))
+}
+
+#[test]
+fn bounds_a_text(rt: HostRuntime) -> Result<(), Fail> {
+    must_be_bounded(rt.alloc(), 65_536, None)?;
+    must_be_bounded(rt.alloc(), 65_537, Some(ParseFault::TooLong))
+}
+
+/// What stands before an atom so many times, and what stands behind it as often.
+const DEEP: &[(&str, &str)] = &[("holiday or ", ""), ("not ", ""), ("(", ")")];
+
+/// Fails unless a condition with so many parts around its last atom is read, or is bad.
+fn must_be_this_deep(
+    alloc: Global,
+    parts: &(&str, &str),
+    times: usize,
+    want: Result<usize, u32>,
+) -> Result<(), Fail> {
+    let front = parts.0.repeat(alloc, times)?;
+    let back = parts.1.repeat(alloc, times)?;
+    let text = format!(in alloc; "initial 1 when {front}holiday{back}")?;
+    must_be_read(alloc, text.as_str(), want)
+}
+
+#[test]
+fn bounds_a_condition(rt: HostRuntime) -> Result<(), Fail> {
+    for parts in DEEP {
+        must_be_this_deep(rt.alloc(), parts, 63, Ok(1))?;
+        must_be_this_deep(rt.alloc(), parts, 64, Err(1))?;
     }
     Ok(())
 }

@@ -1,17 +1,21 @@
-use Rattle.std.proofs.Common.{◌+◌, ◌*◌}
+use Rattle.std.proofs.Common.{ℕ, ◌+◌, ◌*◌}
+use Rattle.tariff_syntax.specs.declared.conditions.Joint.{Joint}
+use Rattle.tariff_syntax.specs.declared.conditions.Joint.TheVariants.{Or, And}
 use Rattle.tariff_syntax.proofs.conditions.+conditions.Given as goal
 
 abbrev pub decreases-condition : goal.decreases-condition
 decreases-condition l = 1000 * l.depth + 700
 
-abbrev pub decreases-more_terms : goal.decreases-more_terms
-decreases-more_terms l = 1000 * l.depth + 400 + l.most
+-- a join by `or` stands above one by `and`
+abbrev pub height : Joint → ℕ
+height Or = 398
+height And = 0
+
+abbrev pub decreases-more_parts : goal.decreases-more_parts
+decreases-more_parts l = 1000 * l.depth + 2 + height l.joint + l.most
 
 abbrev pub decreases-term : goal.decreases-term
 decreases-term l = 1000 * l.depth + 300
-
-abbrev pub decreases-more_factors : goal.decreases-more_factors
-decreases-more_factors l = 1000 * l.depth + 2 + l.most
 
 abbrev pub decreases-factor : goal.decreases-factor
 decreases-factor l = 1000 * l.depth
@@ -25,8 +29,5 @@ decreases-negation l = 1000 * l.depth + 800
 abbrev pub decreases-in_parentheses : goal.decreases-in_parentheses
 decreases-in_parentheses l = 1000 * l.depth + 800
 
-abbrev pub decreases-or_joined : goal.decreases-or_joined
-decreases-or_joined l = 1000 * l.depth + 350
-
-abbrev pub decreases-and_joined : goal.decreases-and_joined
-decreases-and_joined l = 1000 * l.depth + 1
+abbrev pub decreases-joined_part : goal.decreases-joined_part
+decreases-joined_part l = 1000 * l.depth + 1 + height l.joint

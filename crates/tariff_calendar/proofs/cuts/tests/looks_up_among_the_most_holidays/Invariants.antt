@@ -1,4 +1,0 @@
-use Rattle.tariff_calendar.proofs.cuts.tests.looks_up_among_the_most_holidays.Given as goal
-
-abbrev pub ghosts-is_holiday : goal.ghosts-is_holiday
-ghosts-is_holiday g a = record { name = a.blank.name; parts = a.blank.parts }

@@ -1,0 +1,17 @@
+-- For proofs: how the parts of a condition are joined, by the value of the program that stands for it. The law
+-- texts_are_parsed_as_they_read says what the answers mean.
+use Rattle.std.specs.Prelude.{ℕ, List, codes}
+use Rattle.tariff_syntax.specs.Condition.{Condition}
+use Rattle.tariff_syntax.specs.Grammar.{Reader, and_joined, or_joined}
+use Rattle.tariff_syntax.specs.declared.conditions.Joint.{Joint}
+use Rattle.tariff_syntax.specs.declared.conditions.Joint.TheVariants.{Or, And}
+
+-- parts are joined by `or` where they are terms, and by `and` where they are factors
+abbrev pub word_of : Joint → List ℕ
+word_of Or = codes "or"
+word_of And = codes "and"
+
+-- what stands to the left, joined by `or` to the term that stands first, or by `and` to the factor
+abbrev pub joined_by : Joint → (factors : Reader) → Condition → Reader
+joined_by Or factors = or_joined factors
+joined_by And factors = and_joined factors
