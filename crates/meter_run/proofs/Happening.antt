@@ -1,9 +1,14 @@
 -- One event on a store.
-use Rattle.std.proofs.Common.{◌≡◌, ◌≢◌, inl, ℕ, List, [], ◌∷◌, ◌++◌, Option, Some, None, IfSome, refl, sym, ap, subst, ◌∙◌}
+use Rattle.std.proofs.Common.{◌≡◌, ◌≢◌, inl, ℕ, ◌≤◌, List, [], ◌∷◌, ◌++◌, All, Option, Some, None, IfSome, Result, OnOk, arith, refl, sym, ap, subst, ◌∙◌}
 use Rattle.std.specs.Option.{ForSome}
 use Rattle.std.proofs.lemmas.List.{append-nil}
-use Rattle.outside.specs.Runs.{KeepsStore}
+use Rattle.std.proofs.lemmas.Result.{on_ok_weaker}
+use Rattle.outside.specs.Disk.{MayLeaveAmid}
+use Rattle.outside.specs.Faults.{HasCause}
+use Rattle.outside.specs.Printing.{Begins}
+use Rattle.outside.specs.Runs.{KeepsStore, LeavesNow, LeavesOnly}
 use Rattle.outside.specs.declared.board.Board.{Ghosts}
+use Rattle.receipt_text.specs.Texts.{refusal_text}
 use Rattle.taxi_units.specs.declared.event.Event.{Event}
 use Rattle.taxi_units.specs.declared.event.Event.TheVariants.{Up, Down, Pulses, Tick, Clock, Key}
 use Rattle.taxi_units.specs.declared.event.Operating.TheVariants.{Off}
@@ -15,7 +20,8 @@ use Rattle.totaliser_store.specs.Ranges.{IsDurable, IsHeld}
 use Rattle.totaliser_store.specs.Stored.{KeepsState}
 use Rattle.totaliser_store.specs.declared.durable.Durable.{Durable}
 use Rattle.totaliser_store.specs.declared.trip.Trip as store
-use Rattle.meter_states.specs.Core.{Meets, Stands}
+use Rattle.meter_states.specs.Acts.{IsLawfulAct}
+use Rattle.meter_states.specs.Core.{IsSavedIn, Meets}
 use Rattle.meter_states.specs.Facts.{Whole}
 use Rattle.meter_states.specs.Fits.{Fits}
 use Rattle.meter_states.specs.Kept as kept
@@ -24,6 +30,7 @@ use Rattle.meter_states.specs.Meter.{Meter, Outcome, refused}
 use Rattle.meter_states.specs.Run.{opened, run}
 use Rattle.meter_states.specs.Setting.{Setting, IsSettingOf, IsTariffOf}
 use Rattle.meter_states.specs.Step.{step}
+use Rattle.meter_states.specs.Supply.{supply_came}
 use Rattle.meter_states.specs.declared.act.Act.{Act}
 use Rattle.meter_states.specs.declared.act.Act.TheVariants.{Refuse}
 use Rattle.meter_states.proofs.Laws.{the_store_keeps_the_trip-begins, the_store_keeps_the_trip-fits}
@@ -31,14 +38,15 @@ use Rattle.meter_run.specs.Commits.{after_acts}
 use Rattle.meter_run.specs.Deeds.{Deed, Does, deeds_of, texts}
 use Rattle.meter_run.specs.Dry.{IsReady}
 use Rattle.meter_run.specs.Kept.{StandsWith}
-use Rattle.meter_run.specs.OnStore.{Agrees, CarriesOut, Has, IsSecured, StandsOn, StopsAmid, WritesTotals}
+use Rattle.meter_run.specs.OnStore.{Agrees, Attempts, CarriesOut, Has, IsReadyOn, IsSecured, Knows, StandsOn, StopsAmid, WritesTotals}
 use Rattle.meter_run.specs.PointLaws.{keeps_longer, keeps_next}
 use Rattle.meter_run.specs.Points.{KeepsTo}
 use Rattle.meter_run.specs.StoreLaws.{beside_then, has_settled}
 use Rattle.meter_run.specs.declared.stored.Known.{Known}
 use Rattle.meter_run.specs.declared.stored.StoreMeter.{StoreMeter}
-use Rattle.meter_run.proofs.Dropping.{off_of, stands_after}
-use Rattle.meter_run.proofs.Leaves.{settled_kept}
+use Rattle.meter_run.proofs.Dropping.{came, off_of, ready_after, stands_after}
+use Rattle.meter_run.proofs.Going.{on_ok, on_ok_both, on_ok_under}
+use Rattle.meter_run.proofs.Leaves.{beside_kept, print_point, settled_kept}
 
 -- ---- a meter that opens with a durable state
 
@@ -82,6 +90,12 @@ pub meets_as : (tables : TableParts) (seal : Seal) (core : Whole) (d : Durable) 
     → (s : Setting) (m : Meter) → IsSettingOf s tables seal → StandsWith s core.plain d m → Meets s core'.plain xs (step s event m)
 meets_as tables seal core d core' event xs ys same meets s m is st = subst (λ (acts : List Act). Meets s core'.plain acts (step s event m)) (sym same) (meets s m is st)
 
+pub came_as : (tables : TableParts) (seal : Seal) (core : Whole) (d : Durable) (core' : Whole) (second : ℕ) (xs ys : List Act) → xs ≡ ys → core.plain.operating ≡ Off
+    → ((s : Setting) (m : Meter) → IsSettingOf s tables seal → m.durable ≡ d → IsSavedIn s d.hold m.trip → Meets s core'.plain ys (supply_came s second m))
+    → (s : Setting) (m : Meter) → IsSettingOf s tables seal → StandsWith s core.plain d m → Meets s core'.plain xs (step s (Up second) m)
+came_as tables seal core d core' second xs ys same off meets =
+    meets_as tables seal core d core' (Up second) xs ys same (λ s m is st. came s second core core' d ys off (λ n at saved. meets s n is at saved) m st)
+
 -- what was found is one
 pub found_same : (o : Option Known) (a b : Known) (d : Durable) → o ≡ Some a → o ≡ Some b → a.durable ≡ d → b.durable ≡ d
 found_same o a b d one other is = ap (λ (k : Known). k.durable) (by (sym other ∙ one)) ∙ is
@@ -96,6 +110,13 @@ never_found o a one none = by (sym one ∙ none)
     by bad = absurd cc
 
 module _ {D L : Type 0} (B : Ghosts D L) (tables : TableParts) (seal : Seal) where
+  -- a meter that knows a state is ready at it, and one that knows none is off
+  pub known_ready : (x : StoreMeter) (k : Known) (a : D) → x.known ≡ Some k → IsReadyOn B tables seal x a → IsReady tables seal x.core k.durable
+  known_ready x k a is ready = (subst (λ (o : Option Known). Knows B tables seal x.core o a) is ready.knows).0
+
+  unknown_off : (x : StoreMeter) (a : D) → x.known ≡ None → IsReadyOn B tables seal x a → x.core.plain.operating ≡ Off
+  unknown_off x a is ready = subst (λ (o : Option Known). Knows B tables seal x.core o a) is ready.knows
+
   -- the state that is known
   known_is : (known : Option Known) (k : Known) (a : D) (d : Durable) → known ≡ Some k → Has B known a d → (d ≡ k.durable) × KeepsState B k.place a k.durable
   known_is known k a d is has = subst (λ (o : Option Known). Has B o a d) is has
@@ -115,18 +136,15 @@ module _ {D L : Type 0} (B : Ghosts D L) (tables : TableParts) (seal : Seal) whe
         subst (λ (d : Durable). KeepsTo B tables seal a b d (deeds_of (step s event m).acts)) (sym (known_is x.known k a m.durable known h.has).0)
         (subst (λ (xs : List Act). KeepsTo B tables seal a b k.durable (deeds_of xs)) (acts_are s m is h) (points told))
 
-    pub amid_event : StopsAmid B tables seal (λ s m. step s event m) x a b
-    amid_event = record { points = points_are; beside = beside }
-
-    pub out_event : (y : StoreMeter) (l : Known) → y.core ≡ core → y.known ≡ Some l → l.durable ≡ after_acts k.durable acts → Agrees B tables l b
-        → (B.tells_text → B.printed b ≡ B.printed a ++ texts seal (deeds_of acts)) → CarriesOut B tables seal (λ s m. step s event m) x a y b
-    out_event y l core_is known_now durable agrees whole = record {
+    out_event : (l : Known) → l.durable ≡ after_acts k.durable acts → Agrees B tables l b → (B.tells_text → B.printed b ≡ B.printed a ++ texts seal (deeds_of acts))
+        → CarriesOut B tables seal (λ s m. step s event m) x a (record { core = core; known = Some l }) b
+    out_event l durable agrees whole = record {
       stands = λ told s m is h.
           let st = stands_known s x k a m known h in
           let after = stands_after s event x.core core k.durable l.durable acts m st (meets s m is st) durable in
           record {
-            stands = record { core = subst (λ (c : Whole). Stands s c.plain (step s event m).next) (sym core_is) after.core; durable = refl; kept = after.kept };
-            has = subst (λ (o : Option Known). Has B o b (step s event m).next.durable) (sym known_now) (sym after.durable, agrees.settled told);
+            stands = record { core = after.core; durable = refl; kept = after.kept };
+            has = (sym after.durable, agrees.settled told);
             fits = subst (λ (d : Durable). ForSome d.hold (Fits tables)) after.durable agrees.fits;
           };
       printed = λ told s m is h t. subst (λ (xs : List Act). B.printed b ≡ B.printed a ++ texts seal (deeds_of xs)) (acts_are s m is h) (whole t);
@@ -134,30 +152,56 @@ module _ {D L : Type 0} (B : Ghosts D L) (tables : TableParts) (seal : Seal) whe
       beside = beside;
     }
 
+    pub event_attempted : {T E : Type 0} (r : Result T E) (l : Known) → IsSecured tables seal → IsReady tables seal x.core k.durable → All (IsLawfulAct tables k.durable.number) acts → IsLawful tables seal core
+        → OnOk r (l.durable ≡ after_acts k.durable acts) → OnOk r (Agrees B tables l b) → (B.tells_text → OnOk r (B.printed b ≡ B.printed a ++ texts seal (deeds_of acts))) → HasCause (B.faults a) (B.faults b) r
+        → Attempts B tables seal (λ s m. step s event m) x a r (record { core = core; known = Some l }) b
+    event_attempted r l secured ready ranges lawful durable agrees whole cause = record {
+      ready = on_ok_weaker r (λ both. record {
+        secured = secured;
+        lawful = lawful;
+        knows = (ready_after tables seal event x.core core k.durable l.durable acts ready meets ranges lawful both.0, both.1);
+      }) (on_ok_both _ _ r durable agrees);
+      carried = on_ok_weaker r (λ all. out_event l all.0 all.1.0 all.1.1) (on_ok_both _ _ r durable (on_ok_both _ _ r agrees (on_ok_under _ _ r whole)));
+      stopped = record { points = points_are; beside = beside };
+      cause = cause;
+    }
+
   -- a refusal while the meter is off
-  module _ (x : StoreMeter) (a b : D) (event : Event) (off : x.core.plain.operating ≡ Off) (other : (second : ℕ) → event ≢ Up second) (kept : KeepsStore B a b) (beside : WritesTotals B a b)
-      (points : (place : Place) (d : Durable) → KeepsState B place a d → ForSome d.hold (Fits tables) → KeepsTo B tables seal a b d (Does (Refuse NotNow) ∷ [])) where
+  module _ (x : StoreMeter) (a b : D) (event : Event) (ready : IsReadyOn B tables seal x a) (unknown : x.known ≡ None) (other : (second : ℕ) → x.core.plain.operating ≡ Off → event ≢ Up second)
+      (now : LeavesNow B a) (kept : KeepsStore B a b) (leaves : LeavesOnly B a b (MayLeaveAmid (B.image a) (B.in_flight a) (B.printed a) (refusal_text NotNow)))
+      (begun : B.tells_text → Begins (B.printed a) (B.printed b) (refusal_text NotNow)) where
+    off : x.core.plain.operating ≡ Off
+    off = unknown_off x a unknown ready
+
     refuses : (s : Setting) (m : Meter) → StandsOn B tables s x a m → step s event m ≡ refused NotNow m
-    refuses s m h = refused_event s event m (off_of s x.core m h.stands.core off) other
+    refuses s m h = refused_event s event m (off_of s x.core m h.stands.core off) (λ second. other second off)
 
     refused_points : (s : Setting) (m : Meter) → StandsOn B tables s x a m → KeepsTo B tables seal a b m.durable (deeds_of (step s event m).acts)
     refused_points s m h =
         let at = has_settled B x.known a m.durable h.has in
-        subst (λ (o : Outcome). KeepsTo B tables seal a b m.durable (deeds_of o.acts)) (sym (refuses s m h)) (points at.0 m.durable at.1 h.fits)
-
-    pub amid_refused : StopsAmid B tables seal (λ s m. step s event m) x a b
-    amid_refused = record { points = λ told s m is h. refused_points s m h; beside = λ told. beside }
+        subst (λ (o : Outcome). KeepsTo B tables seal a b m.durable (deeds_of o.acts)) (sym (refuses s m h))
+        (print_point B tables seal a b m.durable at.0 (Does (Refuse NotNow)) (refusal_text NotNow) refl at.1 h.fits kept leaves begun)
 
     has_kept : (known : Option Known) (d : Durable) → Has B known a d → Has B known b d
     has_kept None d h = (h.0, settled_kept B h.0 d a b kept h.1)
     has_kept (Some k) d h = (h.0, settled_kept B k.place k.durable a b kept h.1)
 
-    pub out_refused : (B.tells_text → B.printed b ≡ B.printed a ++ texts seal (Does (Refuse NotNow) ∷ [])) → CarriesOut B tables seal (λ s m. step s event m) x a x b
+    out_refused : (B.tells_text → B.printed b ≡ B.printed a ++ refusal_text NotNow) → CarriesOut B tables seal (λ s m. step s event m) x a x b
     out_refused whole = record {
       stands = λ told s m is h. subst (λ (o : Outcome). StandsOn B tables s x b o.next) (sym (refuses s m h)) (record { stands = h.stands; has = has_kept x.known m.durable h.has; fits = h.fits });
-      printed = λ told s m is h t. subst (λ (o : Outcome). B.printed b ≡ B.printed a ++ texts seal (deeds_of o.acts)) (sym (refuses s m h)) (whole t);
+      printed = λ told s m is h t. subst (λ (o : Outcome). B.printed b ≡ B.printed a ++ texts seal (deeds_of o.acts)) (sym (refuses s m h))
+          (whole t ∙ ap (λ (text : List ℕ). B.printed a ++ text) (sym (append-nil (refusal_text NotNow))));
       points = λ told s m is h. refused_points s m h;
-      beside = λ told. beside;
+      beside = λ told. beside_kept B a b now kept;
+    }
+
+    pub refusal_attempted : {T E : Type 0} (r : Result T E) → (B.tells_text → OnOk r (B.printed b ≡ B.printed a ++ refusal_text NotNow)) → HasCause (B.faults a) (B.faults b) r
+        → Attempts B tables seal (λ s m. step s event m) x a r x b
+    refusal_attempted r whole cause = record {
+      ready = on_ok r _ (record { secured = ready.secured; lawful = ready.lawful; knows = subst (λ (o : Option Known). Knows B tables seal x.core o b) (sym unknown) off });
+      carried = on_ok_weaker r out_refused (on_ok_under _ _ r whole);
+      stopped = record { points = λ told s m is h. refused_points s m h; beside = λ told. beside_kept B a b now kept };
+      cause = cause;
     }
 
   -- ---- the supply comes
@@ -175,12 +219,18 @@ module _ {D L : Type 0} (B : Ghosts D L) (tables : TableParts) (seal : Seal) whe
     }
 
     -- nothing was found, which isn't so on a board that tells its image
-    pub out_blank : (y : StoreMeter) → ((s : Setting) (m : Meter) → B.tells_image → StandsOn B tables s x a m → ⊥) → CarriesOut B tables seal (λ s m. step s (Up second) m) x a y b
-    out_blank y never = record {
-      stands = λ told s m is h. absurd (never s m told h);
-      printed = λ told s m is h t. absurd (never s m told h);
-      points = amid_scan.points;
-      beside = beside;
+    pub blank_attempted : {T E : Type 0} (r : Result T E) → IsReadyOn B tables seal x a → x.core.plain.operating ≡ Off → ((s : Setting) (m : Meter) → B.tells_image → StandsOn B tables s x a m → ⊥)
+        → HasCause (B.faults a) (B.faults b) r → Attempts B tables seal (λ s m. step s (Up second) m) x a r (record { core = x.core; known = None }) b
+    blank_attempted r ready off never cause = record {
+      ready = on_ok r _ (record { secured = ready.secured; lawful = ready.lawful; knows = off });
+      carried = on_ok r _ (record {
+        stands = λ told s m is h. absurd (never s m told h);
+        printed = λ told s m is h t. absurd (never s m told h);
+        points = amid_scan.points;
+        beside = beside;
+      });
+      stopped = amid_scan;
+      cause = cause;
     }
 
     module _ (k : Known) (agrees : Agrees B tables k b) (finds : B.tells_image → (place : Place) (d : Durable) → KeepsState B place a d → ForSome d.hold (Fits tables) → k.durable ≡ d) where
@@ -202,10 +252,7 @@ module _ {D L : Type 0} (B : Ghosts D L) (tables : TableParts) (seal : Seal) whe
       points_found c h told s m is st = let at = has_settled B x.known a m.durable st.has in
           behind_scan c m.durable (deeds_of (step s (Up second) m).acts) (points told at.0 m.durable at.1 st.fits) (h.points told s m is (stands_found told s m st))
 
-      pub amid_found : (c : D) → StopsAmid B tables seal (λ s m. step s (Up second) m) found b c → StopsAmid B tables seal (λ s m. step s (Up second) m) x a c
-      amid_found c h = record { points = points_found c h; beside = λ told. beside_then B a b c (beside told) (h.beside told) }
-
-      pub out_found : (y : StoreMeter) (c : D) → CarriesOut B tables seal (λ s m. step s (Up second) m) found b y c → CarriesOut B tables seal (λ s m. step s (Up second) m) x a y c
+      out_found : (y : StoreMeter) (c : D) → CarriesOut B tables seal (λ s m. step s (Up second) m) found b y c → CarriesOut B tables seal (λ s m. step s (Up second) m) x a y c
       out_found y c h = record {
         stands = λ told s m is st. h.stands told s m is (stands_found told s m st);
         printed = λ told s m is st t. subst (λ (p : List ℕ). B.printed c ≡ p ++ texts seal (deeds_of (step s (Up second) m).acts)) text (h.printed told s m is (stands_found told s m st) t);
@@ -213,9 +260,18 @@ module _ {D L : Type 0} (B : Ghosts D L) (tables : TableParts) (seal : Seal) whe
         beside = λ told. beside_then B a b c (beside told) (h.beside told);
       }
 
+      pub found_attempted : {T E : Type 0} (r : Result T E) (y : StoreMeter) (c : D) → B.faults a ≤ B.faults b → Attempts B tables seal (λ s m. step s (Up second) m) found b r y c
+          → Attempts B tables seal (λ s m. step s (Up second) m) x a r y c
+      found_attempted r y c later h = record {
+        ready = h.ready;
+        carried = on_ok_weaker r (out_found y c) h.carried;
+        stopped = record { points = points_found c h.stopped; beside = λ told. beside_then B a b c (beside told) (h.stopped.beside told) };
+        cause = record { later = omega (arith, later, h.cause.later); failed = λ err. omega (arith, later, h.cause.failed err) };
+      }
+
   -- ---- an event as a list of one
 
-  pub out_one : (x : StoreMeter) (a : D) (y : StoreMeter) (b : D) (event : Event) → CarriesOut B tables seal (λ s m. step s event m) x a y b → CarriesOut B tables seal (λ s m. run s (event ∷ []) m) x a y b
+  out_one : (x : StoreMeter) (a : D) (y : StoreMeter) (b : D) (event : Event) → CarriesOut B tables seal (λ s m. step s event m) x a y b → CarriesOut B tables seal (λ s m. run s (event ∷ []) m) x a y b
   out_one x a y b event h = record {
     stands = h.stands;
     printed = λ told s m is st t. subst (λ (xs : List Act). B.printed b ≡ B.printed a ++ texts seal (deeds_of xs)) (sym (append-nil (step s event m).acts)) (h.printed told s m is st t);
@@ -223,8 +279,14 @@ module _ {D L : Type 0} (B : Ghosts D L) (tables : TableParts) (seal : Seal) whe
     beside = h.beside;
   }
 
-  pub amid_one : (x : StoreMeter) (a b : D) (event : Event) → StopsAmid B tables seal (λ s m. step s event m) x a b → StopsAmid B tables seal (λ s m. run s (event ∷ []) m) x a b
+  amid_one : (x : StoreMeter) (a b : D) (event : Event) → StopsAmid B tables seal (λ s m. step s event m) x a b → StopsAmid B tables seal (λ s m. run s (event ∷ []) m) x a b
   amid_one x a b event h = record {
     points = λ told s m is st. subst (λ (xs : List Act). KeepsTo B tables seal a b m.durable (deeds_of xs)) (sym (append-nil (step s event m).acts)) (h.points told s m is st);
     beside = h.beside;
   }
+
+  pub attempts_one : {T E : Type 0} (r : Result T E) (x : StoreMeter) (a : D) (y : StoreMeter) (b : D) (event other : Event) → event ≡ other → Attempts B tables seal (λ s m. step s other m) x a r y b
+      → Attempts B tables seal (λ s m. run s (event ∷ []) m) x a r y b
+  attempts_one r x a y b event other is h =
+      subst (λ (e : Event). Attempts B tables seal (λ s m. run s (e ∷ []) m) x a r y b) (sym is)
+      (record { ready = h.ready; carried = on_ok_weaker r (out_one x a y b other) h.carried; stopped = amid_one x a b other h.stopped; cause = h.cause })

@@ -36,7 +36,8 @@ use Rattle.meter_run.specs.RunLaws.{after_deeds_of, after_is, run_durable}
 use Rattle.meter_run.specs.Runs.{CutsLeave, EndsRun, FromOpening, HasDone, HasStopped, LeavesPoints, OpensWith, RunsUpTo}
 use Rattle.meter_run.specs.Source.{EndsBy}
 use Rattle.meter_run.specs.StoreLaws.{beside_then, has_settled, out_none}
-use Rattle.meter_run.specs.Drives.{answer_of}
+use Rattle.meter_run.specs.Drives.{BreaksDrive, TakesDrive, answer_of}
+use Rattle.meter_run.specs.declared.fault.RunFault.{RunFault}
 use Rattle.meter_run.specs.declared.fault.RunFault.TheVariants as faults
 use Rattle.meter_run.specs.declared.source.Stop.{Stop}
 use Rattle.meter_run.specs.declared.source.Stop.TheVariants as stops
@@ -177,10 +178,10 @@ module _ {D L : Type 0} (B : Ghosts D L) (tables : TableParts) (seal : Seal) whe
       cuts = cuts_of a c s d events h (beside told);
     }
 
-    pub run_stopped : (c : D) → StopsAmid B tables seal (λ s m. run s events m) x a c → FromOpening B tables seal a c (λ s d. HasStopped B tables seal a c d (all_deeds s d events))
+    run_stopped : (c : D) → StopsAmid B tables seal (λ s m. run s events m) x a c → FromOpening B tables seal a c (λ s d. HasStopped B tables seal a c d (all_deeds s d events))
     run_stopped c h = stopped_of c (run_points c h) h.beside
 
-    pub end_stopped : (y : StoreMeter) (b c : D) → CarriesOut B tables seal (λ s m. run s events m) x a y b → StopsAmid B tables seal (λ s m. ended s m) y b c
+    end_stopped : (y : StoreMeter) (b c : D) → CarriesOut B tables seal (λ s m. run s events m) x a y b → StopsAmid B tables seal (λ s m. ended s m) y b c
         → FromOpening B tables seal a c (λ s d. HasStopped B tables seal a c d (all_deeds s d events))
     end_stopped y b c h k = stopped_of c (end_points y b c h k) (λ told. beside_then B a b c (h.beside told) (k.beside told))
 
@@ -188,7 +189,7 @@ module _ {D L : Type 0} (B : Ghosts D L) (tables : TableParts) (seal : Seal) whe
     durable_end : (s : Setting) (d : Durable) → (ended s (run s events (opened s d)).next).next.durable ≡ after_deeds d (all_deeds s d events)
     durable_end s d = the_store_has_what_the_acts_commit-run s d events ∙ sym (after_is d (actions_of s d events)) ∙ sym (after_deeds_of d (actions_of s d events))
 
-    pub all_done : (y : StoreMeter) (b : D) (z : StoreMeter) (c : D) → CarriesOut B tables seal (λ s m. run s events m) x a y b → CarriesOut B tables seal (λ s m. ended s m) y b z c
+    all_done : (y : StoreMeter) (b : D) (z : StoreMeter) (c : D) → CarriesOut B tables seal (λ s m. run s events m) x a y b → CarriesOut B tables seal (λ s m. ended s m) y b z c
         → FromOpening B tables seal a c (λ s d. HasDone B tables seal a c d (all_deeds s d events))
     all_done y b z c h k told s d is opens =
         let m = opened s d in
@@ -222,17 +223,46 @@ module _ {D L : Type 0} (B : Ghosts D L) (tables : TableParts) (seal : Seal) whe
     up_to : (taken : List ℕ) (reached : DriveEnd) → ReachesEnd drive left reached (events_in taken) → DoneAll (events_in taken) → RunsUpTo B tables seal a c drive left reached
     up_to taken reached h done = record { end_is = h.end_is; tells = h.tells; runs = subst DoneAll (sym h.events_are) done }
 
-    pub run_ends : (taken : List ℕ) (stop : Stop) → length taken ≤ drive_limit → IsSplit drive taken left → EndsBy drive taken left stop → DoneAll (events_in taken) → EndsRun B tables seal a c drive left (answer_of stop)
+    run_ends : (taken : List ℕ) (stop : Stop) → length taken ≤ drive_limit → IsSplit drive taken left → EndsBy drive taken left stop → DoneAll (events_in taken) → EndsRun B tables seal a c drive left (answer_of stop)
     run_ends taken stops.Whole few split h done = up_to taken Whole h done
     run_ends taken (stops.BadLine line) few split h done = up_to taken (BadAt line) h done
     run_ends taken stops.TooLong few split h done = up_to taken Endless h done
     run_ends taken stops.ReadFault few split h done = record { taken = taken; split = split; stands = h; printed = subst DoneAll (sym (events_taken taken few)) done }
 
-    pub run_breaks : (taken : List ℕ) → length taken ≤ drive_limit → IsSplit drive taken left → DonePart (events_in taken) → EndsRun B tables seal a c drive left {T = Unit {0}} (Err faults.BoardFault)
+    run_breaks : (taken : List ℕ) → length taken ≤ drive_limit → IsSplit drive taken left → DonePart (events_in taken) → EndsRun B tables seal a c drive left {T = Unit {0}} (Err faults.BoardFault)
     run_breaks taken few split part = record { taken = taken; split = split; stands = tt; printed = subst DonePart (sym (events_taken taken few)) part }
 
-    pub points_done : (taken : List ℕ) → length taken ≤ drive_limit → IsSplit drive taken left → DoneAll (events_in taken) → LeavesPoints B tables seal a c drive left
+    points_done : (taken : List ℕ) → length taken ≤ drive_limit → IsSplit drive taken left → DoneAll (events_in taken) → LeavesPoints B tables seal a c drive left
     points_done taken few split done = record { taken = taken; split = split; cuts = λ told s d is opens. (subst DoneAll (sym (events_taken taken few)) done told s d is opens).cuts }
 
-    pub points_part : (taken : List ℕ) → length taken ≤ drive_limit → IsSplit drive taken left → DonePart (events_in taken) → LeavesPoints B tables seal a c drive left
+    points_part : (taken : List ℕ) → length taken ≤ drive_limit → IsSplit drive taken left → DonePart (events_in taken) → LeavesPoints B tables seal a c drive left
     points_part taken few split part = record { taken = taken; split = split; cuts = λ told s d is opens. (subst DonePart (sym (events_taken taken few)) part told s d is opens).cuts }
+
+  -- what a run came to, and what a cut of it leaves
+  pub record Ran {T : Type 0} (a c : D) (drive left : List ℕ) (answer : Result T RunFault) : Type 0 where
+    pub ends : EndsRun B tables seal a c drive left answer
+    pub cuts : LeavesPoints B tables seal a c drive left
+
+  module _ (x : StoreMeter) (a : D) (off : x.core.plain.operating ≡ Off) (unknown : x.known ≡ None) {told : Type 0} {drive left : List ℕ} {before now : ℕ} where
+    -- the drive was taken, and the supply dropped
+    pub ran_whole : {stop : Stop} (y : StoreMeter) (b : D) (z : StoreMeter) (c : D) → TakesDrive told drive left stop (λ events. CarriesOut B tables seal (λ s m. run s events m) x a y b) before now
+        → CarriesOut B tables seal (λ s m. ended s m) y b z c → told → Ran a c drive left (answer_of stop)
+    ran_whole {stop} y b z c h last tells =
+        let done = all_done x a off unknown (events_in h.taken) y b z c h.carried last in
+        record {
+          ends = run_ends a c drive left h.taken stop h.few (h.split tells) (h.ends tells) done;
+          cuts = points_done a c drive left h.taken h.few (h.split tells) done;
+        }
+
+    -- the board failed in the supply drop
+    pub ran_to_end : {stop : Stop} (y : StoreMeter) (b c : D) → TakesDrive told drive left stop (λ events. CarriesOut B tables seal (λ s m. run s events m) x a y b) before now
+        → StopsAmid B tables seal (λ s m. ended s m) y b c → told → Ran {T = Unit {0}} a c drive left (Err faults.BoardFault)
+    ran_to_end y b c h last tells =
+        let part = end_stopped x a off unknown (events_in h.taken) y b c h.carried last in
+        record { ends = run_breaks a c drive left h.taken h.few (h.split tells) part; cuts = points_part a c drive left h.taken h.few (h.split tells) part }
+
+    -- or amid the drive
+    pub ran_amid : (c : D) → BreaksDrive told drive left (λ events. StopsAmid B tables seal (λ s m. run s events m) x a c) before now → told → Ran {T = Unit {0}} a c drive left (Err faults.BoardFault)
+    ran_amid c h tells =
+        let part = run_stopped x a off unknown (events_in h.taken) c h.broke_off in
+        record { ends = run_breaks a c drive left h.taken h.few (h.split tells) part; cuts = points_part a c drive left h.taken h.few (h.split tells) part }

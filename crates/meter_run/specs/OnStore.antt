@@ -1,8 +1,9 @@
 -- Rules: the meter on a store, what it knows of the store, which state of the meter it stands for, and what events
 -- leave.
-use Rattle.std.specs.Prelude.{◌≡◌, ℕ, ◌≤◌, List, ◌++◌, Option, Some, None}
+use Rattle.std.specs.Prelude.{◌≡◌, ℕ, ◌≤◌, List, ◌++◌, Option, Some, None, Result, OnOk}
 use Rattle.std.specs.Option.{ForSome}
 use Rattle.outside.specs.Disk.{SameBut}
+use Rattle.outside.specs.Faults.{HasCause}
 use Rattle.outside.specs.Runs.{LeavesOnly, MayHold}
 use Rattle.outside.specs.declared.board.Board.{Ghosts}
 use Rattle.seal_store.specs.Ranges.{IsSeal}
@@ -103,3 +104,12 @@ module _ {D L : Type 0} (B : Ghosts D L) (tables : TableParts) (seal : Seal) whe
   pub record StopsAmid (outcome : Setting → Meter → Outcome) (x : StoreMeter) (old new : D) : Type 0 where
     pub points : ForEach x old (λ s m. KeepsTo B tables seal old new m.durable (deeds_of (outcome s m).acts))
     pub beside : B.tells_image → WritesTotals B old new
+
+  -- a call attempts an outcome where, if it succeeds, a meter and a board carry the outcome out and are ready for the
+  -- next event; where the board stops amid the outcome, however the call ends; and where the call has a cause
+  pub record Attempts {T E : Type 0} (outcome : Setting → Meter → Outcome) (x : StoreMeter) (old : D)
+      (result : Result T E) (y : StoreMeter) (new : D) : Type 0 where
+    pub ready : OnOk result (IsReadyOn B tables seal y new)
+    pub carried : OnOk result (CarriesOut outcome x old y new)
+    pub stopped : StopsAmid outcome x old new
+    pub cause : HasCause (B.faults old) (B.faults new) result

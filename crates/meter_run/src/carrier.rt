@@ -46,21 +46,15 @@ pub(crate) trait Carrier<B: Board<L>, L: Ledger> {
         ensures cause { HasCause (B.faults board.old) (B.faults board.new) result }
         ensures steps { steps.new ≤ steps.old + 64 };
 
-    /// Carries out as many of `count` equal intervals as the core can at once, and answers how many. The
-    /// board isn't touched, and no step is taken.
-    fn carry_equal(
-        &mut self,
-        tables: &Tables,
-        seal: &Seal,
-        pulses: u32,
-        count: u32,
-        board: &B,
-    ) -> u32
-        requires ready { ready tables.now seal.now self.old board.now }
-        ensures ready { ready tables.now seal.now self.new board.now }
+    /// Carries out as many of `count` equal intervals as the core can at once, and answers how many. No board
+    /// is touched, so it is so on each board on which the next event may come, and no step is taken.
+    fn carry_equal(&mut self, tables: &Tables, seal: &Seal, pulses: u32, count: u32) -> u32
+        requires { (board : B) × ready tables.now seal.now self.old board }
         ensures most { result ≤ count }
-        ensures carried { carried tables.now seal.now self.old board.now (intervals_events pulses result)
-            self.new board.now };
+        ensures ready { (board : B) → ready tables.now seal.now self.old board
+            → ready tables.now seal.now self.new board }
+        ensures carried { (board : B) → ready tables.now seal.now self.old board
+            → carried tables.now seal.now self.old board (intervals_events pulses result) self.new board };
 
     /// No events leave all as it is.
     ghost nothing: { (t : TableParts) (k : Seal) (x : Self) (a : B) → ready t k x a → carried t k x a [] x a };

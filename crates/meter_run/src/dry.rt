@@ -95,6 +95,10 @@ impl<B: Board<L>, L: Ledger> Carrier<B, L> for DryMeter {
 
     ghost sooner = { λ t k es fs x a c h. breaks_sooner _ t k es fs x a c h };
 
+    fn carry_equal(&mut self, tables: &Tables, seal: &Seal, pulses: u32, count: u32) -> u32 {
+        self.core.equal_intervals(tables, seal, pulses, count)
+    }
+
     fn carry_out(
         &mut self,
         tables: &Tables,
@@ -108,17 +112,5 @@ impl<B: Board<L>, L: Ledger> Carrier<B, L> for DryMeter {
         let durable = &self.durable;
         advance(&mut self.core, tables, seal, durable, event, acts, steps);
         perform_all(&mut self.durable, acts.as_slice(), board, steps)
-    }
-
-    fn carry_equal(
-        &mut self,
-        tables: &Tables,
-        seal: &Seal,
-        pulses: u32,
-        count: u32,
-        board: &B,
-    ) -> u32 {
-        let _ = board;
-        self.core.equal_intervals(tables, seal, pulses, count)
     }
 }

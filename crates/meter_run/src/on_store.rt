@@ -1,13 +1,12 @@
 //! The meter on a store carries out events.
-ghost use Rattle.std.specs.Prelude.{◌≡◌, ◌≢◌, ℕ, ◌+◌, ◌≤◌, None, OnOk};
-ghost use Rattle.outside.specs.Faults.{HasCause};
+ghost use Rattle.std.specs.Prelude.{◌≡◌, ◌≢◌, ℕ, ◌+◌, ◌≤◌};
 ghost use Rattle.meter_states.specs.Lawful.{IsTimely};
 ghost use Rattle.meter_states.specs.Step.{step};
 ghost use Rattle.taxi_units.specs.Time.{IsSecond};
 ghost use Rattle.taxi_units.specs.declared.event.Event.TheVariants.{Up};
 ghost use Rattle.taxi_units.specs.declared.event.Operating.TheVariants.{Off};
 ghost use Rattle.totaliser_store.specs.Ranges.{IsDurable};
-ghost use Rattle.meter_run.specs.OnStore.{Agrees, CarriesOut, IsReadyOn, StopsAmid};
+ghost use Rattle.meter_run.specs.OnStore.{Agrees, Attempts, IsReadyOn};
 
 use crate::advancing::{advance, is_off};
 use crate::carrier::Carrier;
@@ -35,11 +34,8 @@ fn go_on<B: Board<L>, L: Ledger>(
     requires ready { IsReadyOn B.Board tables.now seal.now meter.old board.old }
     requires timely { IsTimely event }
     requires supply { (second : ℕ) → meter.old.core.plain.operating ≡ Off → event ≢ Up second }
-    ensures ready { OnOk result (IsReadyOn B.Board tables.now seal.now meter.new board.new) }
-    ensures carried { OnOk result (CarriesOut B.Board tables.now seal.now (λ s m. step s event m)
-        meter.old board.old meter.new board.new) }
-    ensures stopped { StopsAmid B.Board tables.now seal.now (λ s m. step s event m) meter.old board.old board.new }
-    ensures cause { HasCause (B.faults board.old) (B.faults board.new) result }
+    ensures attempts { Attempts B.Board tables.now seal.now (λ s m. step s event m) meter.old board.old result
+        meter.new board.new }
     ensures steps { steps.new ≤ steps.old + 57 }
 {
     match &mut meter.known {
@@ -75,20 +71,16 @@ fn resume<B: Board<L>, L: Ledger>(
     requires range { IsDurable found.durable }
     requires agrees { Agrees B.Board tables.now found board.old }
     requires second { IsSecond second }
-    ensures ready { OnOk result (IsReadyOn B.Board tables.now seal.now meter.new board.new) }
-    ensures carried { OnOk result (CarriesOut B.Board tables.now seal.now (λ s m. step s (Up second) m)
-        (record { core = meter.old.core; known = Some found }) board.old meter.new board.new) }
-    ensures stopped { StopsAmid B.Board tables.now seal.now (λ s m. step s (Up second) m)
-        (record { core = meter.old.core; known = Some found }) board.old board.new }
-    ensures cause { HasCause (B.faults board.old) (B.faults board.new) result }
+    ensures attempts { Attempts B.Board tables.now seal.now (λ s m. step s (Up second) m)
+        (record { core = meter.old.core; known = Some found }) board.old result meter.new board.new }
     ensures steps { steps.new ≤ steps.old + 21 }
 {
     let mut known = found;
     let (core, acts) = Core::resume(tables, seal, &known.durable, second, steps);
-    do_acts(&mut known, acts.as_slice(), tables, seal, board, steps)?;
+    let done = do_acts(&mut known, acts.as_slice(), tables, seal, board, steps);
     meter.core = core;
     meter.known = Some(known);
-    Ok(())
+    done
 }
 
 /// The supply comes while the meter is off: it goes on from what a scan of the store finds. Where it finds
@@ -104,12 +96,8 @@ fn power_up<B: Board<L>, L: Ledger>(
     requires ready { IsReadyOn B.Board tables.now seal.now meter.old board.old }
     requires off { meter.old.core.plain.operating ≡ Off }
     requires second { IsSecond second }
-    ensures ready { OnOk result (IsReadyOn B.Board tables.now seal.now meter.new board.new) }
-    ensures carried { OnOk result (CarriesOut B.Board tables.now seal.now (λ s m. step s (Up second) m)
-        meter.old board.old meter.new board.new) }
-    ensures stopped { StopsAmid B.Board tables.now seal.now (λ s m. step s (Up second) m)
-        meter.old board.old board.new }
-    ensures cause { HasCause (B.faults board.old) (B.faults board.new) result }
+    ensures attempts { Attempts B.Board tables.now seal.now (λ s m. step s (Up second) m) meter.old board.old result
+        meter.new board.new }
     ensures steps { steps.new ≤ steps.old + 40 }
 {
     meter.known = None;
@@ -131,43 +119,14 @@ fn take_supply<B: Board<L>, L: Ledger>(
 ) -> Result<(), Failed>
     requires ready { IsReadyOn B.Board tables.now seal.now meter.old board.old }
     requires second { IsSecond second }
-    ensures ready { OnOk result (IsReadyOn B.Board tables.now seal.now meter.new board.new) }
-    ensures carried { OnOk result (CarriesOut B.Board tables.now seal.now (λ s m. step s (Up second) m)
-        meter.old board.old meter.new board.new) }
-    ensures stopped { StopsAmid B.Board tables.now seal.now (λ s m. step s (Up second) m)
-        meter.old board.old board.new }
-    ensures cause { HasCause (B.faults board.old) (B.faults board.new) result }
+    ensures attempts { Attempts B.Board tables.now seal.now (λ s m. step s (Up second) m) meter.old board.old result
+        meter.new board.new }
     ensures steps { steps.new ≤ steps.old + 57 }
 {
     if is_off(&meter.core) {
         return power_up(meter, tables, seal, second, board, steps);
     }
     go_on(meter, tables, seal, Event::Up(second), acts, board, steps)
-}
-
-/// Any event. At most 57 steps.
-fn carry<B: Board<L>, L: Ledger>(
-    meter: &mut StoreMeter,
-    tables: &Tables,
-    seal: &Seal,
-    event: Event,
-    acts: &mut Acts,
-    board: &mut B,
-    steps: &mut Steps<L>,
-) -> Result<(), Failed>
-    requires ready { IsReadyOn B.Board tables.now seal.now meter.old board.old }
-    requires timely { IsTimely event }
-    ensures ready { OnOk result (IsReadyOn B.Board tables.now seal.now meter.new board.new) }
-    ensures carried { OnOk result (CarriesOut B.Board tables.now seal.now (λ s m. step s event m)
-        meter.old board.old meter.new board.new) }
-    ensures stopped { StopsAmid B.Board tables.now seal.now (λ s m. step s event m) meter.old board.old board.new }
-    ensures cause { HasCause (B.faults board.old) (B.faults board.new) result }
-    ensures steps { steps.new ≤ steps.old + 57 }
-{
-    match event {
-        Event::Up(second) => take_supply(meter, tables, seal, second, acts, board, steps),
-        event => go_on(meter, tables, seal, event, acts, board, steps),
-    }
 }
 
 impl<B: Board<L>, L: Ledger> Carrier<B, L> for StoreMeter {
@@ -208,18 +167,13 @@ impl<B: Board<L>, L: Ledger> Carrier<B, L> for StoreMeter {
         board: &mut B,
         steps: &mut Steps<L>,
     ) -> Result<(), Failed> {
-        carry(self, tables, seal, event, acts, board, steps)
+        match event {
+            Event::Up(second) => take_supply(self, tables, seal, second, acts, board, steps),
+            event => go_on(self, tables, seal, event, acts, board, steps),
+        }
     }
 
-    fn carry_equal(
-        &mut self,
-        tables: &Tables,
-        seal: &Seal,
-        pulses: u32,
-        count: u32,
-        board: &B,
-    ) -> u32 {
-        let _ = board;
+    fn carry_equal(&mut self, tables: &Tables, seal: &Seal, pulses: u32, count: u32) -> u32 {
         self.core.equal_intervals(tables, seal, pulses, count)
     }
 }

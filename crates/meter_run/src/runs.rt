@@ -65,7 +65,7 @@ fn carry_intervals<C: Carrier<B, L>, B: Board<L>, L: Ledger>(
     while done < count {
         carry_interval(meter, tables, seal, pulses, acts, board, steps)?;
         done += 1;
-        done += meter.carry_equal(tables, seal, pulses, count - done, board);
+        done += meter.carry_equal(tables, seal, pulses, count - done);
     }
     Ok(())
 }

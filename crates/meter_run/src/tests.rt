@@ -1,13 +1,11 @@
-//! Drives that are carried out without a store.
+//! Drives that are carried out without a store, and how tests carry out a drive.
 ghost use Rattle.std.specs.Prelude.{◌≡◌, ◌<◌, IfOk};
+ghost use Rattle.seal_store.specs.Ranges.{IsSeal};
 
-use crate::{RunFault, dry_run};
-use arrayvec::ArrayVec;
-use drive_modes::Mode;
-use interval_clock::Offsets;
+use crate::{RunFault, dry_run, run_events};
 use outside::{MemoryBoard, MemoryFiles};
 use pulse_input::Constant;
-use seal_store::{Params, Seal};
+use seal_store::{Seal, read_params};
 use std::alloc::Global;
 use std::marker::Brand;
 use std::sync::ledger::{Blank, Ledger};
@@ -20,8 +18,15 @@ use taxi_units::Steps;
 const TARIFF: &str =
     "decimals 2\nstep 0.20 ahead\ninitial 3.80 covers 0.40\nrate 0.20 per 117.4 m, 0.20 per 25.2 s\n";
 
+/// Parameters as docs/FORMATS.md gives them.
+const PARAMS: &str =
+    "taxi LX-4711\nconstant 10000\nmode single\nhold 60\noffset 946684800 3600\nsecured 2025-12-01\n";
+
+/// A store of zeros.
+pub(crate) const ZEROS: &[u8; 2048] = &[0; 2048];
+
 /// The tables of the tariff under a constant.
-pub(crate) fn tables(alloc: Global, constant: Constant) -> Result<Tables, Fail>
+fn tables(alloc: Global, constant: Constant) -> Result<Tables, Fail>
     ensures { IfOk result (λ tables. tables.constant ≡ constant) }
 {
     let Ok(tariff) = parse(alloc, TARIFF.as_bytes()) else {
@@ -37,33 +42,32 @@ pub(crate) fn tables(alloc: Global, constant: Constant) -> Result<Tables, Fail>
     }
 }
 
-/// A seal with a constant, in mode S, with a hold of 60 seconds and local time that is UTC.
-fn seal(constant: Constant) -> Result<Seal, Fail>
-    ensures { IfOk result (λ seal. seal.params.constant ≡ constant) }
+/// A seal with these parameters, of a tariff with two decimals.
+fn sealed() -> Result<Seal, Fail>
+    ensures { IfOk result IsSeal }
 {
-    let Ok(offsets) = Offsets::from_pairs(&[(946_684_800, 0)]) else {
-        return Err(Fail::new("the offsets are refused"));
+    let Ok(params) = read_params(PARAMS.as_bytes()) else {
+        return Err(Fail::new("the parameters are refused"));
     };
-    let mut taxi = ArrayVec::new();
-    taxi.push(b'T');
     Ok(Seal {
         seal_number: 1,
-        params: Params {
-            taxi,
-            constant,
-            mode: Mode::Single,
-            hold: 60,
-            offsets,
-            secured: 10_957,
-        },
+        params,
         digest: [0; 32],
         decimals: 2,
     })
 }
 
+/// How a drive is carried out: on the store or without it.
+#[derive(Clone, Copy)]
+pub(crate) enum Way {
+    Stored,
+    Dry,
+}
+
 /// A run of a drive over files and a board, under a new counter.
 fn counted<L: Ledger>(
     blank: Blank,
+    way: Way,
     tables: &Tables,
     seal: &Seal,
     files: &mut MemoryFiles,
@@ -73,73 +77,159 @@ fn counted<L: Ledger>(
     requires parts { blank.parts ≡ L.parts }
     requires some { 0 < blank.parts }
     requires constant { tables.now.constant ≡ seal.now.params.constant }
+    requires seal { IsSeal seal.now }
 {
     let mut steps: Steps<L> = Steps::open(blank);
-    dry_run(tables, seal, files, 0, board, &mut steps)
+    match way {
+        Way::Stored => run_events(tables, seal, files, 0, board, &mut steps),
+        Way::Dry => dry_run(tables, seal, files, 0, board, &mut steps),
+    }
 }
 
-/// A run of a drive, where the reads of these numbers fail.
-fn run(
+/// A run of a drive over a board, under a seal, where these reads fail.
+fn run_under(
+    alloc: Global,
+    seal: &Seal,
+    way: Way,
+    drive: &str,
+    reads: &[u64],
+    board: &mut MemoryBoard,
+) -> Result<Result<(), RunFault>, Fail>
+    requires { IsSeal seal.now }
+{
+    let tables = tables(alloc, seal.params.constant)?;
+    let mut files = MemoryFiles::new(alloc, reads)?;
+    files.add(drive.as_bytes())?;
+    Ok(counted::<Brand>(Blank::new(1), way, &tables, seal, &mut files, board))
+}
+
+/// The board after a run of a drive over an image, and how the run ended, where these calls of the board and
+/// these reads fail.
+pub(crate) fn ran(
+    alloc: Global,
+    way: Way,
+    drive: &str,
+    image: &[u8; 2048],
+    calls: &[u64],
+    reads: &[u64],
+) -> Result<(MemoryBoard, Result<(), RunFault>), Fail> {
+    let seal = sealed()?;
+    let mut board = MemoryBoard::new(alloc, image, calls)?;
+    let ended = run_under(alloc, &seal, way, drive, reads, &mut board)?;
+    Ok((board, ended))
+}
+
+/// Fails unless something holds of the case with this name.
+pub(crate) fn must(holds: bool, what: &str, name: &str) -> Result<(), Fail> {
+    if holds {
+        return Ok(());
+    }
+    Err(Fail::new(format_args!("{what}: {name}")))
+}
+
+/// These texts, one after the other.
+pub(crate) fn joined(alloc: Global, pieces: &[&str]) -> Result<String, Fail> {
+    let mut text = String::new(alloc);
+    for piece in pieces {
+        text.push_str(piece)?;
+    }
+    Ok(text)
+}
+
+/// Fails unless a run without a store prints this text, ends so and leaves the store, where these calls of the
+/// board and these reads fail.
+fn must_show(
     alloc: Global,
     drive: &str,
-    fail: &[u64],
-    board: &mut MemoryBoard,
-) -> Result<Result<(), RunFault>, Fail> {
-    let Ok(constant) = Constant::new(10_000) else {
-        return Err(Fail::new("the constant is refused"));
-    };
-    let tables = tables(alloc, constant)?;
-    let seal = seal(tables.constant())?;
-    let mut files = MemoryFiles::new(alloc, fail)?;
-    files.add(drive.as_bytes())?;
-    Ok(counted::<Brand>(Blank::new(1), &tables, &seal, &mut files, board))
+    calls: &[u64],
+    reads: &[u64],
+    output: &str,
+    ended: &Result<(), RunFault>,
+) -> Result<(), Fail> {
+    let (board, ran) = ran(alloc, Way::Dry, drive, ZEROS, calls, reads)?;
+    must(ran == *ended, "another end", drive)?;
+    must(board.printed() == output.as_bytes(), "another text", drive)?;
+    must(*board.image() == *ZEROS, "another image", drive)
 }
 
 const HIRED: &str = "U 1767225600\nK H\nI 0 1\nI 0 300\nD\n";
 
+/// What is printed of it.
+const SHOWN: &str = "FOR HIRE T1 Z1\nHIRED T1 Z1 3.80 +0.00\n";
+
 /// What follows a hiring that was dropped, what is printed from there on, and how the run ends.
-const DROPS: [(&str, &str, Result<(), RunFault>); 5] = [
-    (
-        "U 1767225660\nI 0 204\nI 0 1\n",
-        "HIRED T1 Z1 3.80 +0.00\nHIRED T1 Z1 4.00 +0.00\n",
-        Ok(()),
-    ),
-    ("U 1767225661\nI 0 204\nI 0 1\n", "FOR HIRE T1 Z1\n", Ok(())),
-    ("U 1767225599\n", "FOR HIRE T1 Z1\n", Ok(())),
-    ("D\n", "REFUSED NOT NOW\n", Ok(())),
-    (
-        "U 1767225660\nI 20\n",
-        "HIRED T1 Z1 3.80 +0.00\n",
-        Err(RunFault::BadDrive(7)),
-    ),
+struct Dropped {
+    rest: &'static str,
+    output: &'static str,
+    ended: Result<(), RunFault>,
+}
+
+const DROPS: &[Dropped] = &[
+    Dropped {
+        rest: "U 1767225660\nI 0 204\nI 0 1\n",
+        output: "HIRED T1 Z1 3.80 +0.00\nHIRED T1 Z1 4.00 +0.00\n",
+        ended: Ok(()),
+    },
+    Dropped {
+        rest: "U 1767225661\nI 0 204\nI 0 1\n",
+        output: "FOR HIRE T1 Z1\n",
+        ended: Ok(()),
+    },
+    Dropped {
+        rest: "U 1767225599\n",
+        output: "FOR HIRE T1 Z1\n",
+        ended: Ok(()),
+    },
+    Dropped {
+        rest: "D\n",
+        output: "REFUSED NOT NOW\n",
+        ended: Ok(()),
+    },
+    Dropped {
+        rest: "U 1767225660\nI 20\n",
+        output: "HIRED T1 Z1 3.80 +0.00\n",
+        ended: Err(RunFault::BadDrive(7)),
+    },
 ];
+
+/// Fails unless what follows the hiring does and ends so.
+fn must_follow(alloc: Global, case: &Dropped) -> Result<(), Fail> {
+    let drive = joined(alloc, &[HIRED, case.rest])?;
+    let output = joined(alloc, &[SHOWN, case.output])?;
+    must_show(
+        alloc,
+        drive.as_str(),
+        &[],
+        &[],
+        output.as_str(),
+        &case.ended,
+    )
+}
 
 #[test]
 fn drops(rt: HostRuntime) -> Result<(), Fail> {
-    for (rest, output, ended) in DROPS {
-        let drive = format!(in rt.alloc(); "{HIRED}{rest}")?;
-        let printed = format!(in rt.alloc(); "FOR HIRE T1 Z1\nHIRED T1 Z1 3.80 +0.00\n{output}")?;
-        let mut board = MemoryBoard::new(rt.alloc(), &[0; 2048], &[])?;
-        let ran = run(rt.alloc(), drive.as_str(), &[], &mut board)?;
-        assert_eq!(rt; ran, ended, "{rest}");
-        assert_eq!(rt; board.printed(), printed.as_bytes(), "{rest}");
-        assert_eq!(rt; board.image(), &[0; 2048], "{rest}");
+    for case in DROPS {
+        must_follow(rt.alloc(), case)?;
     }
     Ok(())
 }
 
 #[test]
 fn faults(rt: HostRuntime) -> Result<(), Fail> {
-    let mut board = MemoryBoard::new(rt.alloc(), &[0; 2048], &[])?;
-    let read = run(rt.alloc(), HIRED, &[2], &mut board)?;
-    assert_eq!(rt; read, Err(RunFault::ReadFault));
-    assert_eq!(rt;
-        board.printed(),
-        "FOR HIRE T1 Z1\nHIRED T1 Z1 3.80 +0.00\n".as_bytes()
-    );
-    let mut broken = MemoryBoard::new(rt.alloc(), &[0; 2048], &[2])?;
-    let print = run(rt.alloc(), HIRED, &[], &mut broken)?;
-    assert_eq!(rt; print, Err(RunFault::BoardFault));
-    assert_eq!(rt; broken.printed(), "FOR HIRE T1 Z1\n".as_bytes());
-    Ok(())
+    must_show(
+        rt.alloc(),
+        HIRED,
+        &[],
+        &[2],
+        SHOWN,
+        &Err(RunFault::ReadFault),
+    )?;
+    must_show(
+        rt.alloc(),
+        HIRED,
+        &[2],
+        &[],
+        "FOR HIRE T1 Z1\n",
+        &Err(RunFault::BoardFault),
+    )
 }

@@ -1,9 +1,10 @@
 -- For proofs: equal measuring intervals, one after the other, at which nothing is shown, refused or entered.
-use Rattle.std.specs.Prelude.{◌≡◌, ℕ, zero, suc, ◌+◌, ◌-◌, ◌*◌, ◌==◌, if◌then◌else◌, nat_lt, Option, Some, None, List, [], ◌∷◌, ◌++◌}
+use Rattle.std.specs.Prelude.{◌≡◌, ℕ, zero, suc, ◌+◌, ◌-◌, ◌*◌, ◌≤◌, ◌==◌, if◌then◌else◌, nat_lt, Option, Some, None, List, [], ◌∷◌, ◌++◌}
 use Rattle.drive_modes.specs.Fare.{shown_fare, steps_of}
 use Rattle.drive_modes.specs.declared.meterage.Meterage.{Meterage}
 use Rattle.drive_modes.specs.declared.meterage.Rounding.{Rounding}
 use Rattle.drive_modes.specs.declared.meterage.Rounding.TheVariants.{Behind, Ahead}
+use Rattle.seal_store.specs.declared.seal.Seal.{Seal}
 use Rattle.tariff_compile.specs.Tables.{TableParts}
 use Rattle.taxi_units.specs.declared.event.Event.{Event}
 use Rattle.taxi_units.specs.declared.event.Event.TheVariants.{Pulses, Tick}
@@ -11,6 +12,9 @@ use Rattle.taxi_units.specs.declared.receipt.Display.{Display}
 use Rattle.totaliser_store.specs.declared.trip.Trip.{Trip}
 use Rattle.meter_states.specs.Closing.{hirings_end}
 use Rattle.meter_states.specs.Core.{Plain}
+use Rattle.meter_states.specs.Lawful.{IsBetweenEvents}
+use Rattle.meter_states.specs.Run.{run}
+use Rattle.meter_states.specs.Stages.{FollowsStage}
 
 -- a measuring interval has the event of its pulses, if it has any, and then the tick at its end
 abbrev pub interval_of : (pulses : ℕ) → List Event
@@ -50,6 +54,19 @@ pub record IsStill (tables : TableParts) (c : Plain) : Type 0 where
   pub gate : c.gate ≡ 0
   pub began : c.began ≡ c.clock
   pub shown : c.shown ≡ Some (display_by tables c)
+
+-- a core has taken `taken` of `count` equal intervals where these are at most as many, it is between two events then,
+-- and its operating position and the store's number are the same
+pub record HasTaken (tables : TableParts) (count : ℕ) (old new : Plain) (taken : ℕ) : Type 0 where
+  pub lawful : IsBetweenEvents tables new
+  pub most : taken ≤ count
+  pub same : (new.operating ≡ old.operating) × (new.number ≡ old.number)
+
+-- a core follows `count` equal intervals of p pulses under tables and a seal where it follows their events and does
+-- nothing
+abbrev pub FollowsIntervals : TableParts → Seal → (old new : Plain) → (p count : ℕ) → Type 0
+FollowsIntervals tables seal old new p count =
+    FollowsStage tables seal old new [] [] (λ s m. run s (intervals_of p count) m)
 
 -- an interval of p pulses adds this many roaming pulses, where the store has a number: none where it takes no hiring
 abbrev pub roams : (number p : ℕ) → ℕ

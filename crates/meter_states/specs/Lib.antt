@@ -15,6 +15,7 @@ pub mod Pairs
 pub mod Refusals
 pub mod Run
 pub mod Setting
+pub mod Stages
 pub mod Step
 pub mod Supplements
 pub mod Supply

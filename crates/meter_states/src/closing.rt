@@ -1,5 +1,5 @@
 //! Entries: of a trip that is closed, with its receipt directly behind, and of roaming.
-ghost use Rattle.std.specs.Prelude.{◌≡◌, ◌≢◌, ◌⊎◌, ◌<◌, ◌≤◌, ◌+◌, ℕ, [], All, None, Some, length};
+ghost use Rattle.std.specs.Prelude.{◌≡◌, ◌≢◌, ◌⊎◌, ◌<◌, ◌≤◌, ◌+◌, ℕ, All, None, Some, length};
 ghost use Rattle.taxi_units.specs.Time.{IsSecond};
 ghost use Rattle.taxi_units.specs.declared.event.Operating.TheVariants.{ForHire};
 ghost use Rattle.taxi_units.specs.declared.receipt.Kind.TheVariants.{Roam};
@@ -9,6 +9,7 @@ ghost use Rattle.meter_states.specs.Core.{Follows, plain_of};
 ghost use Rattle.meter_states.specs.Lawful.{IsAmidEvent, IsBetweenEvents, IsPowered, IsTripBeside};
 ghost use Rattle.meter_states.specs.Meter.{Meter, entered, printed};
 ghost use Rattle.meter_states.specs.Setting.{Setting, IsSettingOf};
+ghost use Rattle.meter_states.specs.Stages.{FollowsStage};
 ghost use Rattle.meter_states.specs.Trip as model;
 
 use crate::act::{Act, Acts};
@@ -42,8 +43,8 @@ impl State {
         ensures few { length acts.new.items ≤ length acts.old.items + 2 }
         ensures roam { self.new.roam ≡ 0 }
         ensures ranges { StayLawful tables.now self.old.number acts.old.items acts.new.items }
-        ensures follows { (s : Setting) (m : Meter) → IsSettingOf s tables.now seal.now → self.old ≡ plain_of s m
-            → Follows s self.new acts.old.items acts.new.items (closed s closing.kind closing.finish m) }
+        ensures follows { FollowsStage tables.now seal.now self.old self.new acts.old.items acts.new.items
+            (λ s m. closed s closing.kind closing.finish m) }
         ensures steps { steps.new ≤ steps.old + 12 }
     {
         tables.are_fit();
@@ -145,8 +146,8 @@ impl State {
         ensures ranges { (number : ℕ) → (self.old.number ≡ number) ⊎ (self.old.roam ≡ 0)
             → All (IsLawfulAct tables.now number) acts.old.items
             → All (IsLawfulAct tables.now number) acts.new.items }
-        ensures follows { (s : Setting) (m : Meter) → IsSettingOf s tables.now seal.now → self.old ≡ plain_of s m
-            → Follows s self.new acts.old.items acts.new.items (roaming_checked s m) }
+        ensures follows { FollowsStage tables.now seal.now self.old self.new acts.old.items acts.new.items
+            (λ s m. roaming_checked s m) }
     {
         match self.operating {
             Operating::ForHire => {
@@ -167,8 +168,8 @@ impl State {
         ensures lawful { IsBetweenEvents tables.now self.new }
         ensures few { length acts.new.items ≤ length acts.old.items + 1 }
         ensures ranges { StayLawful tables.now self.old.number acts.old.items acts.new.items }
-        ensures follows { (s : Setting) (m : Meter) → IsSettingOf s tables.now seal.now → self.old ≡ plain_of s m
-            → Follows s self.new acts.old.items acts.new.items (roaming_entered s m) }
+        ensures follows { FollowsStage tables.now seal.now self.old self.new acts.old.items acts.new.items
+            (λ s m. roaming_entered s m) }
     {
         acts.push(Act::Enter(roaming_entry(self.roam, tables)));
         self.number += 1;

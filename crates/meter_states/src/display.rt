@@ -1,13 +1,14 @@
 //! The display.
-ghost use Rattle.std.specs.Prelude.{◌≡◌, ◌≤◌, ◌+◌, ℕ, All, length};
+ghost use Rattle.std.specs.Prelude.{◌≡◌, ◌≤◌, ℕ, All, length};
 ghost use Rattle.taxi_units.specs.Shown.{IsShown};
 ghost use Rattle.meter_states.specs.Acts.{IsLawfulAct};
-ghost use Rattle.meter_states.specs.Core.{Follows, plain_of};
+ghost use Rattle.meter_states.specs.Core.{plain_of};
 ghost use Rattle.meter_states.specs.Display.{display_of, extras_shown, fare_shown, shown};
 ghost use Rattle.meter_states.specs.Equals.{display_by, extras_by, fare_by};
 ghost use Rattle.meter_states.specs.Lawful.{IsBetweenEvents};
 ghost use Rattle.meter_states.specs.Meter.{Meter};
 ghost use Rattle.meter_states.specs.Setting.{Setting, IsSettingOf};
+ghost use Rattle.meter_states.specs.Stages.{FollowsStage};
 
 use crate::act::{Act, Acts};
 use crate::meter_state::State;
@@ -25,8 +26,8 @@ impl State {
         ensures lawful { IsBetweenEvents tables.now self.new }
         ensures ranges { (number : ℕ) → All (IsLawfulAct tables.now number) acts.old.items
             → All (IsLawfulAct tables.now number) acts.new.items }
-        ensures follows { (s : Setting) (m : Meter) → IsSettingOf s tables.now seal.now → self.old ≡ plain_of s m
-            → Follows s self.new acts.old.items acts.new.items (shown s m) }
+        ensures follows { FollowsStage tables.now seal.now self.old self.new acts.old.items acts.new.items
+            (λ s m. shown s m) }
     {
         let display = self.display(tables, seal);
         if !is_shown(&self.shown, &display) {

@@ -1,11 +1,11 @@
 //! Equal measuring intervals that are carried out at once.
-ghost use Rattle.std.specs.Prelude.{◌≡◌, ◌≢◌, ◌≤◌, ◌+◌, ◌*◌, ℕ, [], IfSome, IsTrue, None};
+ghost use Rattle.std.specs.Prelude.{◌≡◌, ◌≤◌, ◌*◌, [], IfSome, IsTrue, None};
 ghost use Rattle.tariff_compile.specs.Near.{IsNear};
 ghost use Rattle.tariff_compile.specs.Tables.{AreFit, IsInRangeFor, rate_by};
 ghost use Rattle.tariff_syntax.specs.declared.context.Context.{Context};
 ghost use Rattle.taxi_units.specs.declared.event.Operating.TheVariants.{ForHire, Hired, Stopped};
-ghost use Rattle.meter_states.specs.Core.{Follows, Meets, Stands, plain_of};
-ghost use Rattle.meter_states.specs.Equals.{IsStill, intervals_of};
+ghost use Rattle.meter_states.specs.Core.{Meets, Stands, plain_of};
+ghost use Rattle.meter_states.specs.Equals.{FollowsIntervals, HasTaken, IsStill, intervals_of};
 ghost use Rattle.meter_states.specs.Facts.{AreTrue};
 ghost use Rattle.meter_states.specs.Interval.{context_of};
 ghost use Rattle.meter_states.specs.Lawful.{IsBetweenEvents, IsLawful};
@@ -59,11 +59,8 @@ impl State {
     ) -> u32
         requires lawful { IsBetweenEvents tables.now self.old }
         requires facts { AreTrue tables.now seal.now facts.now }
-        ensures lawful { IsBetweenEvents tables.now self.new }
-        ensures most { result ≤ count }
-        ensures same { (self.new.operating ≡ self.old.operating) × (self.new.number ≡ self.old.number) }
-        ensures follows { (s : Setting) (m : Meter) → IsSettingOf s tables.now seal.now → self.old ≡ plain_of s m
-            → Follows s self.new [] [] (run s (intervals_of pulses result) m) }
+        ensures taken { HasTaken tables.now count self.old self.new result }
+        ensures follows { FollowsIntervals tables.now seal.now self.old self.new pulses result }
     {
         if pulses > 2000 {
             return 0;
@@ -99,11 +96,8 @@ impl State {
         requires hire { self.old.operating ≡ ForHire }
         requires still { IsStill tables.now self.old }
         requires pulses { pulses ≤ 2000 }
-        ensures lawful { IsBetweenEvents tables.now self.new }
-        ensures most { result ≤ count }
-        ensures same { (self.new.operating ≡ self.old.operating) × (self.new.number ≡ self.old.number) }
-        ensures follows { (s : Setting) (m : Meter) → IsSettingOf s tables.now seal.now → self.old ≡ plain_of s m
-            → Follows s self.new [] [] (run s (intervals_of pulses result) m) }
+        ensures taken { HasTaken tables.now count self.old self.new result }
+        ensures follows { FollowsIntervals tables.now seal.now self.old self.new pulses result }
     {
         tables.are_fit();
         let each = roams(self.number, pulses);
@@ -118,11 +112,8 @@ impl State {
         requires stopped { self.old.operating ≡ Stopped }
         requires still { IsStill tables.now self.old }
         requires pulses { pulses ≤ 2000 }
-        ensures lawful { IsBetweenEvents tables.now self.new }
-        ensures most { result ≤ count }
-        ensures same { (self.new.operating ≡ self.old.operating) × (self.new.number ≡ self.old.number) }
-        ensures follows { (s : Setting) (m : Meter) → IsSettingOf s tables.now seal.now → self.old ≡ plain_of s m
-            → Follows s self.new [] [] (run s (intervals_of pulses result) m) }
+        ensures taken { HasTaken tables.now count self.old self.new result }
+        ensures follows { FollowsIntervals tables.now seal.now self.old self.new pulses result }
     {
         let Some(trip) = &mut self.trip else {
             return 0;
@@ -148,11 +139,8 @@ impl State {
         requires hired { self.old.operating ≡ Hired }
         requires still { IsStill tables.now self.old }
         requires pulses { pulses ≤ 2000 }
-        ensures lawful { IsBetweenEvents tables.now self.new }
-        ensures most { result ≤ count }
-        ensures same { (self.new.operating ≡ self.old.operating) × (self.new.number ≡ self.old.number) }
-        ensures follows { (s : Setting) (m : Meter) → IsSettingOf s tables.now seal.now → self.old ≡ plain_of s m
-            → Follows s self.new [] [] (run s (intervals_of pulses result) m) }
+        ensures taken { HasTaken tables.now count self.old self.new result }
+        ensures follows { FollowsIntervals tables.now seal.now self.old self.new pulses result }
     {
         let Some(lasting) = self.kept_rate(facts, tables, seal) else {
             return 0;

@@ -1,16 +1,16 @@
 //! What keys do.
-ghost use Rattle.std.specs.Prelude.{◌≡◌, ◌≢◌, ◌⊎◌, ◌≤◌, ◌+◌, ℕ, [], None, Some, length};
+ghost use Rattle.std.specs.Prelude.{◌≡◌, ◌≢◌, ◌≤◌, ◌+◌, None, Some};
 ghost use Rattle.tariff_compile.specs.Tables.{IsFitInitial, initial_by, supplement_at};
 ghost use Rattle.taxi_units.specs.declared.event.Operating.TheVariants.{ForHire};
 ghost use Rattle.taxi_units.specs.declared.receipt.Kind.TheVariants.{Closed};
-ghost use Rattle.meter_states.specs.Acts.{StayLawful};
 ghost use Rattle.meter_states.specs.Closing.{closed};
-ghost use Rattle.meter_states.specs.Core.{Follows, plain_of};
+ghost use Rattle.meter_states.specs.Core.{plain_of};
 ghost use Rattle.meter_states.specs.Interval.{context_now};
-ghost use Rattle.meter_states.specs.Keys.{extra_added, extra_added_to, hiring, key_in, key_pressed, latched, position_set, zone_set};
-ghost use Rattle.meter_states.specs.Lawful.{IsAmidEvent, IsBetweenEvents, pressing_steps};
+ghost use Rattle.meter_states.specs.Keys.{extra_added, extra_added_to, hiring, position_set, zone_set};
+ghost use Rattle.meter_states.specs.Lawful.{IsAmidEvent};
 ghost use Rattle.meter_states.specs.Meter.{Meter};
 ghost use Rattle.meter_states.specs.Setting.{Setting, IsSettingOf};
+ghost use Rattle.meter_states.specs.Stages.{ClosesTrip, CommitsNothing, IsReadyForKey};
 ghost use Rattle.meter_states.specs.Supplements.{supplement_in};
 
 use crate::act::{Acts, refuse};
@@ -33,15 +33,10 @@ impl State {
         acts: &mut Acts,
         steps: &mut Steps<L>,
     )
-        requires lawful { IsAmidEvent tables.now self.old }
+        requires ready { IsReadyForKey tables.now self.old acts.old.items }
         requires hire { self.old.operating ≡ ForHire }
-        requires room { acts.old.items ≡ [] }
-        ensures lawful { IsAmidEvent tables.now self.new }
-        ensures few { length acts.new.items ≤ 1 }
-        ensures number { self.new.number ≡ self.old.number }
-        ensures ranges { StayLawful tables.now self.old.number acts.old.items acts.new.items }
-        ensures follows { (s : Setting) (m : Meter) → IsSettingOf s tables.now seal.now → self.old ≡ plain_of s m
-            → Follows s self.new acts.old.items acts.new.items (hiring s m) }
+        ensures stage { CommitsNothing tables.now seal.now self.old self.new acts.old.items acts.new.items
+            (λ s m. hiring s m) }
         ensures steps { steps.new ≤ steps.old + 29 }
     {
         if self.number >= HIRINGS_END {
@@ -74,15 +69,10 @@ impl State {
         acts: &mut Acts,
         steps: &mut Steps<L>,
     )
-        requires lawful { IsAmidEvent tables.now self.old }
+        requires ready { IsReadyForKey tables.now self.old acts.old.items }
         requires trip { self.old.trip ≢ None }
-        requires room { acts.old.items ≡ [] }
-        ensures lawful { IsBetweenEvents tables.now self.new }
-        ensures few { length acts.new.items ≤ 2 }
-        ensures roam { self.new.roam ≡ 0 }
-        ensures ranges { StayLawful tables.now self.old.number acts.old.items acts.new.items }
-        ensures follows { (s : Setting) (m : Meter) → IsSettingOf s tables.now seal.now → self.old ≡ plain_of s m
-            → Follows s self.new acts.old.items acts.new.items (closed s Closed m.clock m) }
+        ensures stage { ClosesTrip tables.now seal.now 2 self.old self.new acts.old.items acts.new.items
+            (λ s m. closed s Closed m.clock m) }
         ensures steps { steps.new ≤ steps.old + 12 }
     {
         let closing = Closing {
@@ -94,38 +84,28 @@ impl State {
 
     /// A tariff position is chosen.
     pub(crate) fn set_position(&mut self, n: u8, tables: &Tables, seal: &Seal, acts: &mut Acts)
-        requires lawful { IsAmidEvent tables.now self.old }
-        requires room { acts.old.items ≡ [] }
-        ensures lawful { IsAmidEvent tables.now self.new }
-        ensures few { length acts.new.items ≤ 1 }
-        ensures number { self.new.number ≡ self.old.number }
-        ensures ranges { StayLawful tables.now self.old.number acts.old.items acts.new.items }
-        ensures follows { (s : Setting) (m : Meter) → IsSettingOf s tables.now seal.now → self.old ≡ plain_of s m
-            → Follows s self.new acts.old.items acts.new.items (position_set s n m) }
+        requires ready { IsReadyForKey tables.now self.old acts.old.items }
+        ensures stage { CommitsNothing tables.now seal.now self.old self.new acts.old.items acts.new.items
+            (λ s m. position_set s n m) }
     {
         if n < 1 || n > tables.positions() {
             refuse(Why::NoSuch, acts);
-            return;
+        } else {
+            self.position = n;
         }
-        self.position = n;
     }
 
     /// A zone is chosen.
     pub(crate) fn set_zone(&mut self, n: u8, tables: &Tables, seal: &Seal, acts: &mut Acts)
-        requires lawful { IsAmidEvent tables.now self.old }
-        requires room { acts.old.items ≡ [] }
-        ensures lawful { IsAmidEvent tables.now self.new }
-        ensures few { length acts.new.items ≤ 1 }
-        ensures number { self.new.number ≡ self.old.number }
-        ensures ranges { StayLawful tables.now self.old.number acts.old.items acts.new.items }
-        ensures follows { (s : Setting) (m : Meter) → IsSettingOf s tables.now seal.now → self.old ≡ plain_of s m
-            → Follows s self.new acts.old.items acts.new.items (zone_set s n m) }
+        requires ready { IsReadyForKey tables.now self.old acts.old.items }
+        ensures stage { CommitsNothing tables.now seal.now self.old self.new acts.old.items acts.new.items
+            (λ s m. zone_set s n m) }
     {
         if n < 1 || n > tables.zones() {
             refuse(Why::NoSuch, acts);
-            return;
+        } else {
+            self.zone = n;
         }
-        self.zone = n;
     }
 
     /// A supplement is added. One step.
@@ -137,14 +117,9 @@ impl State {
         acts: &mut Acts,
         steps: &mut Steps<L>,
     )
-        requires lawful { IsAmidEvent tables.now self.old }
-        requires room { acts.old.items ≡ [] }
-        ensures lawful { IsAmidEvent tables.now self.new }
-        ensures few { length acts.new.items ≤ 1 }
-        ensures number { self.new.number ≡ self.old.number }
-        ensures ranges { StayLawful tables.now self.old.number acts.old.items acts.new.items }
-        ensures follows { (s : Setting) (m : Meter) → IsSettingOf s tables.now seal.now → self.old ≡ plain_of s m
-            → Follows s self.new acts.old.items acts.new.items (extra_added n (supplement_at s.tariff n) m) }
+        requires ready { IsReadyForKey tables.now self.old acts.old.items }
+        ensures stage { CommitsNothing tables.now seal.now self.old self.new acts.old.items acts.new.items
+            (λ s m. extra_added n (supplement_at s.tariff n) m) }
         ensures steps { steps.new ≤ steps.old + 1 }
     {
         let Some(supplement) = find_supplement(tables, n, steps) else {
@@ -163,17 +138,12 @@ impl State {
         seal: &Seal,
         acts: &mut Acts,
     )
-        requires lawful { IsAmidEvent tables.now self.old }
+        requires ready { IsReadyForKey tables.now self.old acts.old.items }
         requires number { (1 ≤ n) × (n ≤ 16) }
         requires found { supplement_in tables.now n ≡ Some supplement }
         requires amount { supplement.amount ≤ 1000000 }
-        requires room { acts.old.items ≡ [] }
-        ensures lawful { IsAmidEvent tables.now self.new }
-        ensures few { length acts.new.items ≤ 1 }
-        ensures number { self.new.number ≡ self.old.number }
-        ensures ranges { StayLawful tables.now self.old.number acts.old.items acts.new.items }
-        ensures follows { (s : Setting) (m : Meter) → IsSettingOf s tables.now seal.now → self.old ≡ plain_of s m
-            → Follows s self.new acts.old.items acts.new.items (extra_added_to n supplement m.trip m) }
+        ensures stage { CommitsNothing tables.now seal.now self.old self.new acts.old.items acts.new.items
+            (λ s m. extra_added_to n supplement m.trip m) }
     {
         let Some(trip) = &mut self.trip else {
             return;

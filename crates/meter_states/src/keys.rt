@@ -1,17 +1,13 @@
 //! Keys: one may wait for the end of the interval, and acts then.
-ghost use Rattle.std.specs.Prelude.{◌≡◌, ◌≢◌, ◌⊎◌, ◌≤◌, ◌+◌, ℕ, [], None, Some, length};
-ghost use Rattle.tariff_compile.specs.Tables.{IsFitInitial, initial_by, supplement_at};
+ghost use Rattle.std.specs.Prelude.{◌≡◌, ◌≤◌, ◌+◌, [], None, Some};
 ghost use Rattle.taxi_units.specs.declared.event.Operating.TheVariants.{ForHire};
-ghost use Rattle.taxi_units.specs.declared.receipt.Kind.TheVariants.{Closed};
 ghost use Rattle.meter_states.specs.Acts.{StayLawful};
-ghost use Rattle.meter_states.specs.Closing.{closed};
 ghost use Rattle.meter_states.specs.Core.{Follows, plain_of};
-ghost use Rattle.meter_states.specs.Interval.{context_now};
-ghost use Rattle.meter_states.specs.Keys.{extra_added, extra_added_to, hiring, key_in, key_pressed, latched, position_set, zone_set};
-ghost use Rattle.meter_states.specs.Lawful.{IsAmidEvent, IsBetweenEvents, pressing_steps};
+ghost use Rattle.meter_states.specs.Keys.{key_in, key_pressed, latched};
+ghost use Rattle.meter_states.specs.Lawful.{IsBetweenEvents, pressing_steps};
 ghost use Rattle.meter_states.specs.Meter.{Meter};
-ghost use Rattle.meter_states.specs.Setting.{Setting, IsSettingOf};
-ghost use Rattle.meter_states.specs.Supplements.{supplement_in};
+ghost use Rattle.meter_states.specs.Setting.{Setting};
+ghost use Rattle.meter_states.specs.Stages.{IsReadyForKey, MayClose};
 
 use crate::act::{Acts, refuse};
 use crate::meter_state::State;
@@ -45,14 +41,9 @@ impl State {
         acts: &mut Acts,
         steps: &mut Steps<L>,
     )
-        requires lawful { IsAmidEvent tables.now self.old }
-        requires room { acts.old.items ≡ [] }
-        ensures lawful { IsAmidEvent tables.now self.new }
-        ensures few { length acts.new.items ≤ 2 }
-        ensures roam { ((length acts.new.items ≤ 1) × (self.new.number ≡ self.old.number)) ⊎ (self.new.roam ≡ 0) }
-        ensures ranges { StayLawful tables.now self.old.number acts.old.items acts.new.items }
-        ensures follows { (s : Setting) (m : Meter) → IsSettingOf s tables.now seal.now → self.old ≡ plain_of s m
-            → Follows s self.new acts.old.items acts.new.items (key_pressed s m) }
+        requires ready { IsReadyForKey tables.now self.old acts.old.items }
+        ensures stage { MayClose tables.now seal.now 2 self.old self.new acts.old.items acts.new.items
+            (λ s m. key_pressed s m) }
         ensures steps { steps.new ≤ steps.old + pressing_steps self.old.operating }
     {
         if let Some(key) = self.latch {
@@ -70,14 +61,9 @@ impl State {
         acts: &mut Acts,
         steps: &mut Steps<L>,
     )
-        requires lawful { IsAmidEvent tables.now self.old }
-        requires room { acts.old.items ≡ [] }
-        ensures lawful { IsAmidEvent tables.now self.new }
-        ensures few { length acts.new.items ≤ 2 }
-        ensures roam { ((length acts.new.items ≤ 1) × (self.new.number ≡ self.old.number)) ⊎ (self.new.roam ≡ 0) }
-        ensures ranges { StayLawful tables.now self.old.number acts.old.items acts.new.items }
-        ensures follows { (s : Setting) (m : Meter) → IsSettingOf s tables.now seal.now → self.old ≡ plain_of s m
-            → Follows s self.new acts.old.items acts.new.items (key_in s key m.operating m) }
+        requires ready { IsReadyForKey tables.now self.old acts.old.items }
+        ensures stage { MayClose tables.now seal.now 2 self.old self.new acts.old.items acts.new.items
+            (λ s m. key_in s key m.operating m) }
         ensures steps { steps.new ≤ steps.old + pressing_steps self.old.operating }
     {
         match (key, self.operating) {

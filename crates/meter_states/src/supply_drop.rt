@@ -1,15 +1,15 @@
 //! What a supply drop leaves.
-ghost use Rattle.std.specs.Prelude.{◌≡◌, ◌≢◌, ◌<◌, ◌≤◌, ◌+◌, ℕ, [], None, Some};
+ghost use Rattle.std.specs.Prelude.{◌≡◌, ◌<◌, ◌≤◌, ◌+◌, [], None, Some};
 ghost use Rattle.taxi_units.specs.declared.event.Operating.TheVariants.{Off};
 ghost use Rattle.totaliser_store.specs.Ranges.{IsTrip};
 ghost use Rattle.taxi_units.specs.declared.receipt.Kind.TheVariants.{Aborted};
 ghost use Rattle.meter_states.specs.Acts.{StayLawful};
-ghost use Rattle.meter_states.specs.Closing.{closed};
 ghost use Rattle.meter_states.specs.Core.{Follows, plain_of};
 ghost use Rattle.meter_states.specs.Fits.{Fits};
 ghost use Rattle.meter_states.specs.Lawful.{IsBetweenEvents, IsPowered};
 ghost use Rattle.meter_states.specs.Meter.{Meter, held};
 ghost use Rattle.meter_states.specs.Setting.{Setting, IsSettingOf};
+ghost use Rattle.meter_states.specs.Stages.{FollowsStage};
 ghost use Rattle.meter_states.specs.Supply as model;
 ghost use Rattle.meter_states.specs.Trip as trips;
 
@@ -49,7 +49,8 @@ impl State {
         *self = State::off();
     }
 
-    /// The trip is kept, or roaming pulses are entered without one. At most 12 steps.
+    /// The trip is held, or closed where the store takes no held trip; without one roaming pulses are entered. At most
+    /// 12 steps.
     fn keep<L: Ledger>(
         &mut self,
         tables: &Tables,
@@ -60,8 +61,8 @@ impl State {
         requires lawful { IsPowered tables.now 8639999 1001999 1 self.old }
         requires room { acts.old.items ≡ [] }
         ensures ranges { StayLawful tables.now self.old.number acts.old.items acts.new.items }
-        ensures follows { (s : Setting) (m : Meter) → IsSettingOf s tables.now seal.now → self.old ≡ plain_of s m
-            → Follows s self.new acts.old.items acts.new.items (model.kept s m.trip m) }
+        ensures follows { FollowsStage tables.now seal.now self.old self.new acts.old.items acts.new.items
+            (λ s m. model.kept s m.trip m) }
         ensures steps { steps.new ≤ steps.old + 12 }
     {
         match self.trip {
@@ -74,33 +75,14 @@ impl State {
                 if self.number < HOLDS_END {
                     self.hold(trip, tables, seal, acts);
                 } else {
-                    self.abort_now(tables, seal, acts, steps);
+                    let closing = Closing {
+                        kind: Kind::Aborted,
+                        finish: self.clock,
+                    };
+                    self.close(closing, tables, seal, acts, steps);
                 }
             }
         }
-    }
-
-    /// The trip is closed at the drop, where the store takes no held trip. At most 12 steps.
-    fn abort_now<L: Ledger>(
-        &mut self,
-        tables: &Tables,
-        seal: &Seal,
-        acts: &mut Acts,
-        steps: &mut Steps<L>,
-    )
-        requires lawful { IsPowered tables.now 8639999 1001999 1 self.old }
-        requires trip { self.old.trip ≢ None }
-        requires room { acts.old.items ≡ [] }
-        ensures ranges { StayLawful tables.now self.old.number acts.old.items acts.new.items }
-        ensures follows { (s : Setting) (m : Meter) → IsSettingOf s tables.now seal.now → self.old ≡ plain_of s m
-            → Follows s self.new acts.old.items acts.new.items (closed s Aborted m.clock m) }
-        ensures steps { steps.new ≤ steps.old + 12 }
-    {
-        let closing = Closing {
-            kind: Kind::Aborted,
-            finish: self.clock,
-        };
-        self.close(closing, tables, seal, acts, steps);
     }
 
     /// The trip is held.

@@ -1,13 +1,14 @@
 //! The tick, which ends a measuring interval.
-ghost use Rattle.std.specs.Prelude.{◌≡◌, ◌≢◌, ◌⊎◌, ◌≤◌, ◌+◌, ℕ, [], None, IsTrue, false, nat_le, length};
+ghost use Rattle.std.specs.Prelude.{◌≡◌, ◌≢◌, ◌≤◌, ◌+◌, [], None, IsTrue, false, nat_le};
 ghost use Rattle.taxi_units.specs.Time.{longest_trip};
 ghost use Rattle.meter_states.specs.Acts.{StayLawful};
-ghost use Rattle.meter_states.specs.Core.{Follows, plain_of};
+ghost use Rattle.meter_states.specs.Core.{plain_of};
 ghost use Rattle.meter_states.specs.Facts.{AreTrue};
 ghost use Rattle.meter_states.specs.Interval.{ticks_so_far};
 ghost use Rattle.meter_states.specs.Lawful.{IsAmidEvent, IsBetweenEvents, IsPowered, pressing_steps};
 ghost use Rattle.meter_states.specs.Meter.{Meter};
-ghost use Rattle.meter_states.specs.Setting.{Setting, IsSettingOf};
+ghost use Rattle.meter_states.specs.Setting.{Setting};
+ghost use Rattle.meter_states.specs.Stages.{ClosesTrip, FollowsStage, MayClose};
 ghost use Rattle.meter_states.specs.Step.{expired, expired_or_pressed, ticked};
 
 use crate::act::{Acts, refuse};
@@ -35,8 +36,8 @@ impl State {
         ensures lawful { IsBetweenEvents tables.now self.new }
         ensures facts { AreTrue tables.now seal.now facts.new }
         ensures ranges { StayLawful tables.now self.old.number acts.old.items acts.new.items }
-        ensures follows { (s : Setting) (m : Meter) → IsSettingOf s tables.now seal.now → self.old ≡ plain_of s m
-            → Follows s self.new acts.old.items acts.new.items (ticked s m) }
+        ensures follows { FollowsStage tables.now seal.now self.old self.new acts.old.items acts.new.items
+            (λ s m. ticked s m) }
         ensures steps { steps.new ≤ steps.old + 48 }
     {
         self.count_interval(facts, tables, seal, steps);
@@ -57,12 +58,8 @@ impl State {
     )
         requires lawful { IsPowered tables.now 8640000 1001999 0 self.old }
         requires room { acts.old.items ≡ [] }
-        ensures lawful { IsAmidEvent tables.now self.new }
-        ensures few { length acts.new.items ≤ 3 }
-        ensures roam { ((length acts.new.items ≤ 1) × (self.new.number ≡ self.old.number)) ⊎ (self.new.roam ≡ 0) }
-        ensures ranges { StayLawful tables.now self.old.number acts.old.items acts.new.items }
-        ensures follows { (s : Setting) (m : Meter) → IsSettingOf s tables.now seal.now → self.old ≡ plain_of s m
-            → Follows s self.new acts.old.items acts.new.items (expired_or_pressed s m) }
+        ensures stage { MayClose tables.now seal.now 3 self.old self.new acts.old.items acts.new.items
+            (λ s m. expired_or_pressed s m) }
         ensures steps { steps.new ≤ steps.old + pressing_steps self.old.operating }
     {
         if self.is_long(tables) {
@@ -97,12 +94,8 @@ impl State {
         requires lawful { IsPowered tables.now 8640000 1001999 0 self.old }
         requires trip { self.old.trip ≢ None }
         requires room { acts.old.items ≡ [] }
-        ensures lawful { IsBetweenEvents tables.now self.new }
-        ensures few { length acts.new.items ≤ 3 }
-        ensures roam { self.new.roam ≡ 0 }
-        ensures ranges { StayLawful tables.now self.old.number acts.old.items acts.new.items }
-        ensures follows { (s : Setting) (m : Meter) → IsSettingOf s tables.now seal.now → self.old ≡ plain_of s m
-            → Follows s self.new acts.old.items acts.new.items (expired s m) }
+        ensures stage { ClosesTrip tables.now seal.now 3 self.old self.new acts.old.items acts.new.items
+            (λ s m. expired s m) }
         ensures steps { steps.new ≤ steps.old + 12 }
     {
         let closing = Closing {

@@ -3,6 +3,9 @@ use Rattle.drive_text.specs.Runs.{intervals_events}
 use Rattle.meter_run.proofs.Going.{intervals_carried, intervals_broken, intervals_further, bounded_at_interval, bounded_further, on_err}
 use Rattle.meter_run.proofs.runs.carry_intervals.Goals as goal
 
+pub carry_equal-done-requires : goal.carry_equal-done-requires
+carry_equal-done-requires g c = (c.carry_interval.new.board, c.in_ok-carry_interval.ensures.ready)
+
 pub loop-done-preserved : goal.loop-done-preserved
 loop-done-preserved g c =
     let t = c.args.tables.now in
@@ -14,9 +17,9 @@ loop-done-preserved g c =
     p i c.args.meter.now c.args.board.now c.loop-done.meter c.loop-done.board c.carry_interval.new.meter c.carry_interval.new.board c.loop-done.invariant.carried c.in_ok-carry_interval.ensures.carried in
     record {
       few = omega (arith, c.carry_equal-done.ensures.most);
-      ready = c.carry_equal-done.ensures.ready;
+      ready = c.carry_equal-done.ensures.ready c.carry_interval.new.board c.in_ok-carry_interval.ensures.ready;
       carried = intervals_further (g.C.Carrier.carried t k) (g.C.Carrier.broke_off t k) (g.met.C.Carrier.behind t k) (g.met.C.Carrier.later t k) (g.met.C.Carrier.sooner t k)
-          p (i + 1) n c.args.meter.now c.args.board.now c.carry_interval.new.meter c.carry_interval.new.board c.carry_equal-done.new.self c.carry_interval.new.board one c.carry_equal-done.ensures.carried;
+          p (i + 1) n c.args.meter.now c.args.board.now c.carry_interval.new.meter c.carry_interval.new.board c.carry_equal-done.new.self c.carry_interval.new.board one (c.carry_equal-done.ensures.carried c.carry_interval.new.board c.in_ok-carry_interval.ensures.ready);
       faults = omega (arith, c.loop-done.invariant.faults, c.carry_interval.ensures.cause.later);
       steps = bounded_further p (i + 1) n c.args.steps.now c.carry_interval.new.steps
           (bounded_at_interval p i (i + 1) c.args.steps.now c.loop-done.steps c.carry_interval.new.steps (omega arith) c.loop-done.invariant.steps c.carry_interval.ensures.steps);

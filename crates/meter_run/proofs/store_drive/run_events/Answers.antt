@@ -1,7 +1,6 @@
 use Rattle.std.proofs.Common.{Ok, ap, refl}
-use Rattle.drive_text.specs.Drive.{events_in}
 use Rattle.meter_run.specs.StoreLaws.{beside_then}
-use Rattle.meter_run.proofs.Whole.{all_done, done_whole, end_stopped, points_done, points_part, ready_new, rose_later, run_breaks, run_ends, run_stopped, secured_of}
+use Rattle.meter_run.proofs.Whole.{done_whole, ran_amid, ran_to_end, ran_whole, ready_new, rose_later, secured_of}
 use Rattle.meter_run.proofs.store_drive.run_events.Goals as goal
 
 pub carry_drive-requires : goal.carry_drive-requires
@@ -11,76 +10,34 @@ carry_drive-requires g c = record {
 }
 
 pub returns-in-Ok-end-clause-ends : goal.returns-in-Ok-end-clause-ends
-returns-in-Ok-end-clause-ends g c = λ tells.
-    let t = c.args.tables.now in
-    let k = c.args.seal.now in
-    let a = c.args.board.now in
-    let x = c.new-meter.result in
-    let drive = g.F.Files.rest c.args.files.now c.args.word in
-    let left = g.F.Files.rest c.carry_drive.new.files c.args.word in
-    let h = c.in-Ok.ensures.carried in
-    rw c.answer.ensures (run_ends g.B.Board t k a c.end.new.board drive left h.taken c.in-Ok.stop h.few (h.split tells) (h.ends tells) (all_done g.B.Board t k x a c.new-meter.ensures.off c.new-meter.ensures.unknown (events_in h.taken) c.carry_drive.new.meter c.carry_drive.new.board c.end.new.meter c.end.new.board h.carried c.in-Ok-end.ensures.carried))
+returns-in-Ok-end-clause-ends g c = λ tells. rw c.answer.ensures
+    (ran_whole g.B.Board c.args.tables.now c.args.seal.now c.new-meter.result c.args.board.now c.new-meter.ensures.off c.new-meter.ensures.unknown c.carry_drive.new.meter c.carry_drive.new.board c.end.new.meter c.end.new.board c.in-Ok.ensures.carried c.in-Ok-end.ensures.carried tells).ends
 
 pub returns-in-Ok-end-clause-cuts : goal.returns-in-Ok-end-clause-cuts
 returns-in-Ok-end-clause-cuts g c = λ tells.
-    let t = c.args.tables.now in
-    let k = c.args.seal.now in
-    let a = c.args.board.now in
-    let x = c.new-meter.result in
-    let drive = g.F.Files.rest c.args.files.now c.args.word in
-    let left = g.F.Files.rest c.carry_drive.new.files c.args.word in
-    let h = c.in-Ok.ensures.carried in
-    points_done g.B.Board t k a c.end.new.board drive left h.taken h.few (h.split tells) (all_done g.B.Board t k x a c.new-meter.ensures.off c.new-meter.ensures.unknown (events_in h.taken) c.carry_drive.new.meter c.carry_drive.new.board c.end.new.meter c.end.new.board h.carried c.in-Ok-end.ensures.carried)
+    (ran_whole g.B.Board c.args.tables.now c.args.seal.now c.new-meter.result c.args.board.now c.new-meter.ensures.off c.new-meter.ensures.unknown c.carry_drive.new.meter c.carry_drive.new.board c.end.new.meter c.end.new.board c.in-Ok.ensures.carried c.in-Ok-end.ensures.carried tells).cuts
 
 pub returns-in-Ok-end-clause-beside : goal.returns-in-Ok-end-clause-beside
 returns-in-Ok-end-clause-beside g c = λ told. beside_then g.B.Board c.args.board.now c.carry_drive.new.board c.end.new.board (c.in-Ok.ensures.carried.carried.beside told) (c.end.ensures.stopped.beside told)
 
 pub returns-in-Err-end-clause-ends : goal.returns-in-Err-end-clause-ends
 returns-in-Err-end-clause-ends g c = λ tells.
-    let t = c.args.tables.now in
-    let k = c.args.seal.now in
-    let a = c.args.board.now in
-    let x = c.new-meter.result in
-    let drive = g.F.Files.rest c.args.files.now c.args.word in
-    let left = g.F.Files.rest c.carry_drive.new.files c.args.word in
-    let h = c.in-Ok.ensures.carried in
-    run_breaks g.B.Board t k a c.end.new.board drive left h.taken h.few (h.split tells) (end_stopped g.B.Board t k x a c.new-meter.ensures.off c.new-meter.ensures.unknown (events_in h.taken) c.carry_drive.new.meter c.carry_drive.new.board c.end.new.board h.carried c.end.ensures.stopped)
+    (ran_to_end g.B.Board c.args.tables.now c.args.seal.now c.new-meter.result c.args.board.now c.new-meter.ensures.off c.new-meter.ensures.unknown c.carry_drive.new.meter c.carry_drive.new.board c.end.new.board c.in-Ok.ensures.carried c.end.ensures.stopped tells).ends
 
 pub returns-in-Err-end-clause-cuts : goal.returns-in-Err-end-clause-cuts
 returns-in-Err-end-clause-cuts g c = λ tells.
-    let t = c.args.tables.now in
-    let k = c.args.seal.now in
-    let a = c.args.board.now in
-    let x = c.new-meter.result in
-    let drive = g.F.Files.rest c.args.files.now c.args.word in
-    let left = g.F.Files.rest c.carry_drive.new.files c.args.word in
-    let h = c.in-Ok.ensures.carried in
-    points_part g.B.Board t k a c.end.new.board drive left h.taken h.few (h.split tells) (end_stopped g.B.Board t k x a c.new-meter.ensures.off c.new-meter.ensures.unknown (events_in h.taken) c.carry_drive.new.meter c.carry_drive.new.board c.end.new.board h.carried c.end.ensures.stopped)
+    (ran_to_end g.B.Board c.args.tables.now c.args.seal.now c.new-meter.result c.args.board.now c.new-meter.ensures.off c.new-meter.ensures.unknown c.carry_drive.new.meter c.carry_drive.new.board c.end.new.board c.in-Ok.ensures.carried c.end.ensures.stopped tells).cuts
 
 pub returns-in-Err-end-clause-beside : goal.returns-in-Err-end-clause-beside
 returns-in-Err-end-clause-beside g c = λ told. beside_then g.B.Board c.args.board.now c.carry_drive.new.board c.end.new.board (c.in-Ok.ensures.carried.carried.beside told) (c.end.ensures.stopped.beside told)
 
 pub returns-in-Err-clause-ends : goal.returns-in-Err-clause-ends
 returns-in-Err-clause-ends g c = λ tells.
-    let t = c.args.tables.now in
-    let k = c.args.seal.now in
-    let a = c.args.board.now in
-    let x = c.new-meter.result in
-    let drive = g.F.Files.rest c.args.files.now c.args.word in
-    let left = g.F.Files.rest c.carry_drive.new.files c.args.word in
-    let h = c.in-Err.ensures.broke_off in
-    run_breaks g.B.Board t k a c.carry_drive.new.board drive left h.taken h.few (h.split tells) (run_stopped g.B.Board t k x a c.new-meter.ensures.off c.new-meter.ensures.unknown (events_in h.taken) c.carry_drive.new.board h.broke_off)
+    (ran_amid g.B.Board c.args.tables.now c.args.seal.now c.new-meter.result c.args.board.now c.new-meter.ensures.off c.new-meter.ensures.unknown c.carry_drive.new.board c.in-Err.ensures.broke_off tells).ends
 
 pub returns-in-Err-clause-cuts : goal.returns-in-Err-clause-cuts
 returns-in-Err-clause-cuts g c = λ tells.
-    let t = c.args.tables.now in
-    let k = c.args.seal.now in
-    let a = c.args.board.now in
-    let x = c.new-meter.result in
-    let drive = g.F.Files.rest c.args.files.now c.args.word in
-    let left = g.F.Files.rest c.carry_drive.new.files c.args.word in
-    let h = c.in-Err.ensures.broke_off in
-    points_part g.B.Board t k a c.carry_drive.new.board drive left h.taken h.few (h.split tells) (run_stopped g.B.Board t k x a c.new-meter.ensures.off c.new-meter.ensures.unknown (events_in h.taken) c.carry_drive.new.board h.broke_off)
+    (ran_amid g.B.Board c.args.tables.now c.args.seal.now c.new-meter.result c.args.board.now c.new-meter.ensures.off c.new-meter.ensures.unknown c.carry_drive.new.board c.in-Err.ensures.broke_off tells).cuts
 
 pub returns-in-Err-clause-beside : goal.returns-in-Err-clause-beside
 returns-in-Err-clause-beside g c = λ told. c.in-Err.ensures.broke_off.broke_off.beside told

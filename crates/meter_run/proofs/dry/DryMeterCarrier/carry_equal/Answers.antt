@@ -5,14 +5,17 @@ use Rattle.meter_run.specs.Dry.{Carries}
 use Rattle.meter_run.proofs.Equal.{carries_still, intervals_are, ready_still}
 use Rattle.meter_run.proofs.dry.DryMeterCarrier.carry_equal.Goals as goal
 
+pub equal_intervals-requires : goal.equal_intervals-requires
+equal_intervals-requires g c = record { lawful = c.requires.1.lawful }
+
 pub returns-clause-ready : goal.returns-clause-ready
-returns-clause-ready g c =
+returns-clause-ready g c = λ board ready.
     ready_still c.args.tables.now c.args.seal.now (intervals_of c.args.pulses c.equal_intervals.result) c.args.self.now.core c.equal_intervals.new.self
-    c.equal_intervals.ensures.meets c.equal_intervals.ensures.lawful c.args.self.now.durable c.requires.ready
+    c.equal_intervals.ensures.meets c.equal_intervals.ensures.lawful c.args.self.now.durable ready
 
 pub returns-clause-carried : goal.returns-clause-carried
-returns-clause-carried g c =
+returns-clause-carried g c = λ board ready.
     let n = c.equal_intervals.result in
     let x = c.args.self.now in
-    subst (λ (es : List Event). Carries g.B.Board c.args.tables.now c.args.seal.now x c.args.board.now es (record x { core = c.equal_intervals.new.self }) c.args.board.now) (intervals_are c.args.pulses n)
-    (carries_still g.B.Board c.args.tables.now c.args.seal.now (intervals_of c.args.pulses n) x c.equal_intervals.new.self c.args.board.now c.equal_intervals.ensures.meets)
+    subst (λ (es : List Event). Carries g.B.Board c.args.tables.now c.args.seal.now x board es (record x { core = c.equal_intervals.new.self }) board) (intervals_are c.args.pulses n)
+    (carries_still g.B.Board c.args.tables.now c.args.seal.now (intervals_of c.args.pulses n) x c.equal_intervals.new.self board c.equal_intervals.ensures.meets)

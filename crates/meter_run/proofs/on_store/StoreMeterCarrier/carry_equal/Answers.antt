@@ -6,17 +6,20 @@ use Rattle.meter_run.specs.OnStore.{CarriesOut}
 use Rattle.meter_run.proofs.Equal.{intervals_are, knows_still, out_still}
 use Rattle.meter_run.proofs.on_store.StoreMeterCarrier.carry_equal.Goals as goal
 
+pub equal_intervals-requires : goal.equal_intervals-requires
+equal_intervals-requires g c = record { lawful = c.requires.1.lawful }
+
 pub returns-clause-ready : goal.returns-clause-ready
-returns-clause-ready g c = record {
-  secured = c.requires.ready.secured;
+returns-clause-ready g c = λ board ready. record {
+  secured = ready.secured;
   lawful = c.equal_intervals.ensures.lawful;
   knows = knows_still c.args.tables.now c.args.seal.now (intervals_of c.args.pulses c.equal_intervals.result) c.args.self.now.core c.equal_intervals.new.self
-      c.equal_intervals.ensures.meets c.equal_intervals.ensures.lawful g.B.Board c.args.self.now.known c.args.board.now c.equal_intervals.ensures.same.0 c.requires.ready.knows;
+      c.equal_intervals.ensures.meets c.equal_intervals.ensures.lawful g.B.Board c.args.self.now.known board c.equal_intervals.ensures.same.0 ready.knows;
 }
 
 pub returns-clause-carried : goal.returns-clause-carried
-returns-clause-carried g c =
+returns-clause-carried g c = λ board ready.
     let n = c.equal_intervals.result in
     let x = c.args.self.now in
-    subst (λ (es : List Event). CarriesOut g.B.Board c.args.tables.now c.args.seal.now (λ s m. run s es m) x c.args.board.now (record x { core = c.equal_intervals.new.self }) c.args.board.now) (intervals_are c.args.pulses n)
-    (out_still g.B.Board c.args.tables.now c.args.seal.now (intervals_of c.args.pulses n) x c.equal_intervals.new.self c.args.board.now (g.met.B.Board.only_now c.args.board.now) c.equal_intervals.ensures.meets)
+    subst (λ (es : List Event). CarriesOut g.B.Board c.args.tables.now c.args.seal.now (λ s m. run s es m) x board (record x { core = c.equal_intervals.new.self }) board) (intervals_are c.args.pulses n)
+    (out_still g.B.Board c.args.tables.now c.args.seal.now (intervals_of c.args.pulses n) x c.equal_intervals.new.self board (g.met.B.Board.only_now board) c.equal_intervals.ensures.meets)

@@ -17,7 +17,7 @@ returns-clause-follows g c = λ s m is e.
     let acts = c.show.new.acts.items in
     let counted = (interval_counted s m).next in
     let count = quiet-follows s c.count_interval.new.self begin counted (c.count_interval.ensures.state s m is e) in
-    let a = c.expire_or_press.ensures.follows s counted is count.state in
+    let a = c.expire_or_press.ensures.stage.follows s counted is count.state in
     let pressed = (expired_or_pressed s counted).next in
     let b = c.check_roaming.ensures.follows s pressed is a.state in
     let checked = (roaming_checked s pressed).next in
@@ -35,5 +35,5 @@ returns-clause-ranges g c = λ before.
     let n = c.args.self.now.number in
     let same = c.count_interval.ensures.same.1 in
     let start = subst (λ (k : ℕ). All (IsLawfulAct p k) c.args.acts.now.items) (sym same) before in
-    let pressed = subst (λ (k : ℕ). All (IsLawfulAct p k) c.expire_or_press.new.acts.items) same (c.expire_or_press.ensures.ranges start) in
-    c.show.ensures.ranges n (c.check_roaming.ensures.ranges n (same-or _ _ _ n _ c.expire_or_press.ensures.roam same) pressed)
+    let pressed = subst (λ (k : ℕ). All (IsLawfulAct p k) c.expire_or_press.new.acts.items) same (c.expire_or_press.ensures.stage.ranges start) in
+    c.show.ensures.ranges n (c.check_roaming.ensures.ranges n (same-or _ _ _ n _ c.expire_or_press.ensures.stage.roam same) pressed)
