@@ -1,5 +1,5 @@
 -- The laws of this crate, as its public empty functions state them.
-use Rattle.std.proofs.Common.{◌≡◌, ◌≢◌, ◌↔◌, ℕ, ◌<◌, ◌≤◌, true, List, Option, None, Result, Err, length, map}
+use Rattle.std.proofs.Common.{◌≡◌, ◌≢◌, ◌↔◌, ℕ, ◌<◌, ◌≤◌, true, List, None, Result, Err, length, map}
 use Rattle.drive_text.specs.Drive.{bad_at_end, runs_in}
 use Rattle.drive_text.specs.Ending.{drive_limit}
 use Rattle.meter_states.specs.Run.{actions_of}

@@ -1,6 +1,7 @@
 -- For proofs: the meter of the bench, and which state of the meter it stands for. Meter, of meter_states, says what a
 -- state is.
 use Rattle.std.specs.Prelude.{◌≡◌, ℕ, ◌+◌, ◌*◌, ◌-◌, ◌^◌, ◌≤◌, ◌++◌, min, sum, List, Option, Some, None, option_map}
+use Rattle.drive_text.specs.Ranges.{IsInRange}
 use Rattle.meter_states.specs.Interval.{ticks_so_far}
 use Rattle.meter_states.specs.Meter.{Meter, Outcome}
 use Rattle.meter_states.specs.Setting.{Setting}
@@ -62,6 +63,11 @@ pub record IsSound (most more : ℕ) (meter : PlainMeter) : Type 0 where
   pub taken : meter.taken ≤ 2000
   pub for_hire : meter.operating ≡ ForHire → meter.hiring ≡ None
   pub hiring : IsSoundHiring meter.number most more meter.hiring
+
+-- a meter of the bench may take an event where it is sound, its hiring short of its longest time and no interval
+-- unfinished, and the numbers of the event are in their ranges
+abbrev pub MayTake : PlainMeter → Event → Type 0
+MayTake meter event = IsSound 8639999 0 meter × IsInRange event
 
 -- a hiring has the ticks that it counts, and where there is none they are 0
 abbrev pub HasTicks : Option Hiring → (ticks : ℕ) → Type 0

@@ -1,6 +1,5 @@
 //! What the events of a drive do to the meter of the bench.
 ghost use Rattle.std.specs.Prelude.{◌≡◌, ◌≢◌, ◌≤◌, OnOk};
-ghost use Rattle.drive_text.specs.Ranges.{IsInRange};
 ghost use Rattle.meter_states.specs.Interval.{pulses_taken};
 ghost use Rattle.meter_states.specs.Setting.{Setting};
 ghost use Rattle.meter_states.specs.Step.{clock_read, powered_step, step};
@@ -20,7 +19,7 @@ use taxi_units::{Event, NoMemory, Operating, Steps};
 const INTERVAL_MOST: u32 = 2000;
 
 impl PlainMeter {
-    ghost use Rattle.verify_bench.specs.Bench.{GoesThroughEvent, GoesThroughQuietly, IsSound};
+    ghost use Rattle.verify_bench.specs.Bench.{GoesThroughEvent, GoesThroughQuietly, IsSound, MayTake};
 
     /// An event.
     pub(crate) fn event<L: Ledger>(
@@ -32,8 +31,7 @@ impl PlainMeter {
         found: &mut Vec<Expected>,
         steps: &mut Steps<L>,
     ) -> Result<(), NoMemory>
-        requires sound { IsSound 8639999 0 self.old }
-        requires range { IsInRange event }
+        requires takes { MayTake self.old event }
         ensures moves { OnOk result (GoesThroughEvent (setting_of checked.now seal.now) event (λ s. step s event)
             self.old self.new found.old.items found.new.items) }
         ensures sound { OnOk result (IsSound 8639999 0 self.new) }
@@ -59,8 +57,7 @@ impl PlainMeter {
         found: &mut Vec<Expected>,
         steps: &mut Steps<L>,
     ) -> Result<(), NoMemory>
-        requires sound { IsSound 8639999 0 self.old }
-        requires range { IsInRange event }
+        requires takes { MayTake self.old event }
         ensures moves { OnOk result (GoesThroughEvent (setting_of checked.now seal.now) event
             (λ s. powered_step s event) self.old self.new found.old.items found.new.items) }
         ensures sound { OnOk result (IsSound 8639999 0 self.new) }

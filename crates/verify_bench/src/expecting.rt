@@ -1,6 +1,6 @@
 //! What a drive should come to.
 ghost use Rattle.std.specs.Prelude.{◌≡◌, ◌≢◌, ℕ, ◌<◌, ◌≤◌, ◌∷◌, [], All, List, flat_map, IfOk, OnOk};
-ghost use Rattle.drive_text.specs.Ranges.{IsInRange, IsRunInRange};
+ghost use Rattle.drive_text.specs.Ranges.{IsRunInRange};
 ghost use Rattle.drive_text.specs.Runs.{interval_events, intervals_events, run_events};
 ghost use Rattle.meter_states.specs.Run.{opened};
 ghost use Rattle.meter_states.specs.Setting.{Setting};
@@ -57,19 +57,14 @@ fn expect_counted<L: Ledger>(
     let mut meter = PlainMeter::new();
     let mut found = Vec::new(alloc);
     for run in runs {
-        match meter.follow(*run, alloc, checked, seal, &mut found, &mut steps) {
-            Ok(()) => {}
-            Err(_) => return Err(NoMemory),
-        }
+        meter.follow(*run, alloc, checked, seal, &mut found, &mut steps)?;
     }
-    match meter.end(checked, seal, &mut found) {
-        Ok(()) => Ok(found),
-        Err(_) => Err(NoMemory),
-    }
+    meter.end(checked, seal, &mut found)?;
+    Ok(found)
 }
 
 impl PlainMeter {
-    ghost use Rattle.verify_bench.specs.Bench.{IsSound, Stands};
+    ghost use Rattle.verify_bench.specs.Bench.{IsSound, MayTake, Stands};
 
     /// Before the supply first comes, over an empty store.
     fn new() -> PlainMeter
@@ -133,10 +128,7 @@ impl PlainMeter {
         ensures sound { OnOk result (IsSound 8639999 0 self.new) }
     {
         for place in 0..count {
-            match self.interval(pulses, alloc, checked, seal, found, steps) {
-                Ok(()) => {}
-                Err(_) => return Err(NoMemory),
-            }
+            self.interval(pulses, alloc, checked, seal, found, steps)?;
         }
         Ok(())
     }
@@ -160,13 +152,8 @@ impl PlainMeter {
         if pulses == 0 {
             return self.carry(Event::Tick, alloc, checked, seal, found, steps);
         }
-        match self.carry(Event::Pulses(pulses), alloc, checked, seal, found, steps) {
-            Ok(()) => match self.carry(Event::Tick, alloc, checked, seal, found, steps) {
-                Ok(()) => Ok(()),
-                Err(_) => Err(NoMemory),
-            },
-            Err(_) => Err(NoMemory),
-        }
+        self.carry(Event::Pulses(pulses), alloc, checked, seal, found, steps)?;
+        self.carry(Event::Tick, alloc, checked, seal, found, steps)
     }
 
     /// An event.
@@ -179,15 +166,12 @@ impl PlainMeter {
         found: &mut Vec<Expected>,
         steps: &mut Steps<L>,
     ) -> Result<(), NoMemory>
-        requires sound { IsSound 8639999 0 self.old }
-        requires range { IsInRange event }
+        requires takes { MayTake self.old event }
         ensures carries { OnOk result (Carries (setting_of checked.now seal.now) (event ∷ [])
             self.old self.new found.old.items found.new.items) }
         ensures sound { OnOk result (IsSound 8639999 0 self.new) }
     {
-        match self.event(event, alloc, checked, seal, found, steps) {
-            Ok(()) => Ok(()),
-            Err(_) => Err(NoMemory),
-        }
+        self.event(event, alloc, checked, seal, found, steps)?;
+        Ok(())
     }
 }

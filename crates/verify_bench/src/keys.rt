@@ -1,6 +1,6 @@
 //! What keys do to the meter of the bench.
 ghost use Rattle.std.specs.Prelude.{◌≡◌, ◌≢◌, ◌≤◌, Some, OnOk, true};
-ghost use Rattle.meter_states.specs.Keys.{extra_added, hiring, key_in, key_pressed, latched, position_set, zone_set};
+ghost use Rattle.meter_states.specs.Keys.{extra_added, hiring, key_in, latched, position_set, zone_set};
 ghost use Rattle.meter_states.specs.Setting.{Setting};
 ghost use Rattle.tariff_compile.specs.Tables.{supplement_at};
 ghost use Rattle.verify_bench.specs.Settings.{setting_of};
@@ -88,10 +88,10 @@ impl PlainMeter {
     {
         match supplement_at(checked.tariff().lines.as_slice(), number) {
             None => Ok(()),
-            Some(supplement) => match self.add_up_to(number, supplement) {
-                Ok(()) => Ok(()),
-                Err(_) => Err(NoMemory),
-            },
+            Some(supplement) => {
+                self.add_up_to(number, supplement)?;
+                Ok(())
+            }
         }
     }
 
@@ -161,41 +161,14 @@ impl PlainMeter {
                 Ok(())
             }
             (Key::Extra(number), Operating::Hired) => {
-                match self.add_supplement(number, checked, seal) {
-                    Ok(()) => Ok(()),
-                    Err(_) => Err(NoMemory),
-                }
+                self.add_supplement(number, checked, seal)?;
+                Ok(())
             }
             (Key::Extra(number), Operating::Stopped) => {
-                match self.add_supplement(number, checked, seal) {
-                    Ok(()) => Ok(()),
-                    Err(_) => Err(NoMemory),
-                }
+                self.add_supplement(number, checked, seal)?;
+                Ok(())
             }
             _ => Ok(()),
-        }
-    }
-
-    /// A key that waits leaves the latch and acts.
-    pub(crate) fn press<L: Ledger>(
-        &mut self,
-        alloc: Global,
-        checked: &Checked,
-        seal: &Seal,
-        found: &mut Vec<Expected>,
-        steps: &mut Steps<L>,
-    ) -> Result<(), NoMemory>
-        requires sound { IsSound 8639999 0 self.old }
-        ensures moves { OnOk result (GoesThrough (setting_of checked.now seal.now) key_pressed
-            self.old self.new found.old.items found.new.items) }
-        ensures sound { OnOk result (IsSound 8639999 0 self.new) }
-    {
-        match self.latch {
-            None => Ok(()),
-            Some(key) => {
-                self.latch = None;
-                self.act(key, alloc, checked, seal, found, steps)
-            }
         }
     }
 }

@@ -29,12 +29,9 @@ fn does_place_pass(expected: Option<Expected>, reading: Option<Reading>, step: u
     ensures { result ≡ stages.does_place_pass step expected reading }
 {
     match (expected, reading) {
-        (Some(expected), Some(reading)) => match judge(&expected, &reading, step) {
-            Verdict::Pass => true,
-            Verdict::Fare => false,
-            Verdict::Distance => false,
-            Verdict::Time => false,
-        },
+        (Some(expected), Some(reading)) => {
+            matches!(judge(&expected, &reading, step), Verdict::Pass)
+        }
         (Some(_), None) => false,
         (None, _) => false,
     }

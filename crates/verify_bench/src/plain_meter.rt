@@ -223,10 +223,8 @@ impl PlainMeter {
             }
             Operating::Hired => {
                 let x = self.context(self.began, checked, seal, steps);
-                match self.add_part(Part::Hired(self.taken, x)) {
-                    Ok(()) => Ok(()),
-                    Err(_) => Err(NoMemory),
-                }
+                self.add_part(Part::Hired(self.taken, x))?;
+                Ok(())
             }
             Operating::Stopped => self.add_part(Part::Stopped(self.taken)),
         }

@@ -42,9 +42,7 @@ pub fn read_readings(
         let Ok(row) = row else {
             return Err(ReadingsFault::NoMemory);
         };
-        if let Err(fault) = take_row(&row, decimals, headed, &mut readings) {
-            return Err(fault);
-        }
+        take_row(&row, decimals, headed, &mut readings)?;
         headed = true;
     }
     if headed {

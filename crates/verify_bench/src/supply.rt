@@ -83,10 +83,8 @@ impl PlainMeter {
                     self.resume(held);
                     Ok(())
                 } else {
-                    match self.abort(held, checked, seal, found) {
-                        Ok(()) => Ok(()),
-                        Err(_) => Err(NoMemory),
-                    }
+                    self.abort(held, checked, seal, found)?;
+                    Ok(())
                 }
             }
         }
@@ -123,14 +121,10 @@ impl PlainMeter {
         ensures sound { OnOk result (IsSound 8639999 0 self.new) }
     {
         self.position = held.position;
-        match self.close(Kind::Aborted, checked, seal, found) {
-            Ok(()) => {
-                self.position = 1;
-                self.zone = 1;
-                Ok(())
-            }
-            Err(_) => Err(NoMemory),
-        }
+        self.close(Kind::Aborted, checked, seal, found)?;
+        self.position = 1;
+        self.zone = 1;
+        Ok(())
     }
 
     /// The supply drops.
@@ -145,12 +139,8 @@ impl PlainMeter {
             self.old self.new found.old.items found.new.items) }
         ensures sound { OnOk result (IsSound 8639999 0 self.new) }
     {
-        if let Err(NoMemory) = self.leave_interval() {
-            return Err(NoMemory);
-        }
-        if let Err(NoMemory) = self.keep(checked, seal, found) {
-            return Err(NoMemory);
-        }
+        self.leave_interval()?;
+        self.keep(checked, seal, found)?;
         self.operating = Operating::Off;
         self.latch = None;
         Ok(())
@@ -238,10 +228,7 @@ impl PlainMeter {
 fn is_stopped(operating: Operating) -> bool
     ensures { result ≡ is_stopped operating }
 {
-    match operating {
-        Operating::Off | Operating::ForHire | Operating::Hired => false,
-        Operating::Stopped => true,
-    }
+    matches!(operating, Operating::Stopped)
 }
 
 /// Whether the supply was away for the hold at most.

@@ -8,7 +8,24 @@ use crate::{
 };
 use outside::Files;
 use std::alloc::Global;
+use std::test::Fail;
 use taxi_units::Kind;
+
+/// Fails unless something holds of the case with this name.
+fn must(holds: bool, what: &str, name: &str) -> Result<(), Fail> {
+    if holds {
+        return Ok(());
+    }
+    Err(Fail::new(format_args!("{what}: {name}")))
+}
+
+/// Fails unless something holds of the case with these numbers.
+fn must_of(holds: bool, what: &str, numbers: &[u64]) -> Result<(), Fail> {
+    if holds {
+        return Ok(());
+    }
+    Err(Fail::new(format_args!("{what}: {numbers:?}")))
+}
 
 /// A hiring of 14.40, 6 km and 660.1 s.
 const TRIP: Expected = Expected {
@@ -106,13 +123,29 @@ const JUDGED: [((u64, u128, u32), (u64, u64, u64), u64, Verdict); 17] = [
     ((0, u128::MAX, 0), (0, u64::MAX, 0), 1, Verdict::Distance),
 ];
 
+/// Fails unless what was read of a hiring has this verdict, with this display step.
+fn must_judge(
+    wanted: (u64, u128, u32),
+    found: (u64, u64, u64),
+    step: u64,
+    want: Verdict,
+) -> Result<(), Fail> {
+    let expected = due(wanted.0, wanted.1, wanted.2);
+    let reading = read(found.0, found.1, found.2);
+    let numbers = [found.0, found.1, found.2];
+    must_of(
+        judge(&expected, &reading, step) == want,
+        "another verdict",
+        &numbers,
+    )
+}
+
 #[test]
-fn readings_are_judged(rt: HostRuntime) {
-    for (wanted, found, step, want) in JUDGED {
-        let expected = due(wanted.0, wanted.1, wanted.2);
-        let reading = read(found.0, found.1, found.2);
-        assert_eq!(rt; judge(&expected, &reading, step), want, "{reading:?}");
+fn readings_are_judged(rt: HostRuntime) -> Result<(), Fail> {
+    for &(wanted, found, step, want) in &JUDGED {
+        must_judge(wanted, found, step, want)?;
     }
+    Ok(())
 }
 
 const ONE: Reading = Reading {
@@ -176,31 +209,48 @@ const TEXTS: [(&str, Result<&[Reading], ReadingsFault>); 18] = [
     ),
 ];
 
-#[test]
-fn readings_are_read(rt: HostRuntime) {
-    for (text, want) in TEXTS {
-        match (read_readings(rt.alloc(), text.as_bytes(), 2), want) {
-            (Ok(readings), Ok(want)) => assert_eq!(rt; readings.as_slice(), want, "{text}"),
-            (Err(fault), Err(want)) => assert_eq!(rt; fault, want, "{text}"),
-            (Ok(_), Err(_)) => panic!(rt; "{text} is read"),
-            (Err(fault), Ok(_)) => panic!(rt; "{text} isn't read: {fault:?}"),
-        }
+/// Fails unless a text says these readings, or isn't read for this reason.
+fn must_say(
+    alloc: Global,
+    text: &str,
+    want: Result<&[Reading], ReadingsFault>,
+) -> Result<(), Fail> {
+    match (read_readings(alloc, text.as_bytes(), 2), want) {
+        (Ok(readings), Ok(want)) => must(readings.as_slice() == want, "other readings", text),
+        (Err(fault), Err(want)) => must(fault == want, "another reason", text),
+        (Ok(_), Err(_)) => must(false, "it is read", text),
+        (Err(_), Ok(_)) => must(false, "it isn't read", text),
     }
 }
 
 #[test]
-fn long_texts_are_not_read(rt: HostRuntime) {
-    let alloc = rt.alloc();
-    for (size, want) in [
-        (1_048_576, ReadingsFault::BadRow(1)),
-        (1_048_577, ReadingsFault::TooLong),
-    ] {
-        let text = vec![in alloc; b'\n'; size].expect(&rt, "memory");
-        match read_readings(alloc, text.as_slice(), 2) {
-            Ok(_) => panic!(rt; "{size} bytes are read"),
-            Err(fault) => assert_eq!(rt; fault, want, "{size}"),
-        }
+fn readings_are_read(rt: HostRuntime) -> Result<(), Fail> {
+    for &(text, want) in &TEXTS {
+        must_say(rt.alloc(), text, want)?;
     }
+    Ok(())
+}
+
+const LONG_TEXTS: [(usize, ReadingsFault); 2] = [
+    (1_048_576, ReadingsFault::BadRow(1)),
+    (1_048_577, ReadingsFault::TooLong),
+];
+
+/// Fails unless a text of so many empty rows isn't read for this reason.
+fn must_not_read(alloc: Global, size: usize, want: ReadingsFault) -> Result<(), Fail> {
+    let text = vec![in alloc; b'\n'; size]?;
+    match read_readings(alloc, text.as_slice(), 2) {
+        Ok(_) => must_of(false, "it is read", &[size as u64]),
+        Err(fault) => must_of(fault == want, "another reason", &[size as u64]),
+    }
+}
+
+#[test]
+fn long_texts_are_not_read(rt: HostRuntime) -> Result<(), Fail> {
+    for &(size, want) in &LONG_TEXTS {
+        must_not_read(rt.alloc(), size, want)?;
+    }
+    Ok(())
 }
 
 /// Whether the report, with a display step of 0.20, is the header and this.
@@ -211,57 +261,82 @@ fn reports(alloc: Global, expected: &[Expected], readings: &[Reading], want: &st
     Some(rows == want.as_bytes())
 }
 
-#[test]
-fn reports_have_a_row_for_each_place(rt: HostRuntime) {
-    let readings = [read(1460, 6_012_000, 6607), read(5, 7, 9)];
-    let expected = [TRIP, due(1000, 1234, 10), due(0, 0, 0)];
-    for (count, number, want) in [
-        (0, 0, ""),
-        (
-            1,
-            1,
-            "1,CLOSED,14.40,14.60,6000.000,6012.000,660.1,660.7,PASS\n",
-        ),
-        (1, 0, "1,CLOSED,14.40,,6000.000,,660.1,,MISSING\n"),
-        (0, 1, "1,,,14.60,,6012.000,,660.7,EXTRA\n"),
-        (
-            3,
-            2,
-            "1,CLOSED,14.40,14.60,6000.000,6012.000,660.1,660.7,PASS
+/// A hiring of 10.00, 1.234 m and 1.0 s, and one of nothing.
+const SHORT: Expected = Expected {
+    kind: Kind::Aborted,
+    fare: 1000,
+    hired_mm: 1234,
+    ticks: 10,
+};
+
+const EMPTY: Expected = Expected {
+    kind: Kind::Aborted,
+    fare: 0,
+    hired_mm: 0,
+    ticks: 0,
+};
+
+const SMALL: Reading = Reading {
+    fare: 5,
+    distance_mm: 7,
+    tenths: 9,
+};
+
+/// What is expected, what was read, and the rows of the report.
+const REPORTS: [(&[Expected], &[Reading], &str); 5] = [
+    (&[], &[], ""),
+    (
+        &[TRIP],
+        &[ONE],
+        "1,CLOSED,14.40,14.60,6000.000,6012.000,660.1,660.7,PASS\n",
+    ),
+    (&[TRIP], &[], "1,CLOSED,14.40,,6000.000,,660.1,,MISSING\n"),
+    (&[], &[ONE], "1,,,14.60,,6012.000,,660.7,EXTRA\n"),
+    (
+        &[TRIP, SHORT, EMPTY],
+        &[ONE, SMALL],
+        "1,CLOSED,14.40,14.60,6000.000,6012.000,660.1,660.7,PASS
 2,ABORTED,10.00,0.05,1.234,0.007,1.0,0.9,FARE
 3,ABORTED,0.00,,0.000,,0.0,,MISSING
 ",
-        ),
-    ] {
-        let expected = &expected[..count];
-        let readings = &readings[..number];
-        assert_eq!(rt;
-            reports(rt.alloc(), expected, readings, want),
-            Some(true),
-            "{count} {number}"
-        );
-    }
-}
+    ),
+];
 
 #[test]
-fn readings_pass_where_all_do(rt: HostRuntime) {
-    let readings = [read(1460, 6_012_000, 6607), read(1000, 1234, 13)];
-    let expected = [TRIP, due(1000, 1234, 10)];
-    for (count, number, want) in [
-        (0, 0, true),
-        (1, 1, true),
-        (1, 0, false),
-        (0, 1, false),
-        (2, 2, false),
-    ] {
-        let expected = &expected[..count];
-        let readings = &readings[..number];
-        assert_eq!(rt;
-            do_all_pass(expected, readings, 20),
-            want,
-            "{count} {number}"
-        );
+fn reports_have_a_row_for_each_place(rt: HostRuntime) -> Result<(), Fail> {
+    for &(expected, readings, want) in &REPORTS {
+        let same = reports(rt.alloc(), expected, readings, want) == Some(true);
+        must(same, "another report", want)?;
     }
+    Ok(())
+}
+
+const LATE: Reading = Reading {
+    fare: 1000,
+    distance_mm: 1234,
+    tenths: 13,
+};
+
+/// What is expected, what was read, and whether all pass.
+const PASSES: [(&[Expected], &[Reading], bool); 5] = [
+    (&[], &[], true),
+    (&[TRIP], &[ONE], true),
+    (&[TRIP], &[], false),
+    (&[], &[ONE], false),
+    (&[TRIP, SHORT], &[ONE, LATE], false),
+];
+
+#[test]
+fn readings_pass_where_all_do(rt: HostRuntime) -> Result<(), Fail> {
+    for &(expected, readings, want) in &PASSES {
+        let counts = [expected.len() as u64, readings.len() as u64];
+        must_of(
+            do_all_pass(expected, readings, 20) == want,
+            "another end",
+            &counts,
+        )?;
+    }
+    Ok(())
 }
 
 /// The bytes of a word of a generated drive, read in pieces of a given number of bytes.
@@ -336,30 +411,67 @@ K C
 I 0 1
 ";
 
-#[test]
-fn drives_are_generated(rt: HostRuntime) {
-    for (seed, word, piece, want) in [
-        (7, 0, 512, WITH_EXTRA),
-        (7, 0, 1, WITH_EXTRA),
-        (8, 0, 7, WITH_DROP),
-        (7, 1, 512, ""),
-    ] {
-        let bytes = bytes_of(rt.alloc(), seed, 1, word, piece);
-        let bytes = bytes.expect(&rt, "memory");
-        assert_eq!(rt; bytes.as_slice(), want.as_bytes(), "{seed} {word} {piece}");
-    }
+/// Seeds, words, the size of a piece, and what that word of a drive of one trip says.
+const GENERATED: [(u64, usize, usize, &str); 4] = [
+    (7, 0, 512, WITH_EXTRA),
+    (7, 0, 1, WITH_EXTRA),
+    (8, 0, 7, WITH_DROP),
+    (7, 1, 512, ""),
+];
+
+/// Fails unless this word of the drive of a seed says this.
+fn must_generate(
+    alloc: Global,
+    seed: u64,
+    word: usize,
+    piece: usize,
+    want: &str,
+) -> Result<(), Fail> {
+    let Some(bytes) = bytes_of(alloc, seed, 1, word, piece) else {
+        return Err(Fail::new("no bytes"));
+    };
+    let numbers = [seed, word as u64, piece as u64];
+    must_of(
+        bytes.as_slice() == want.as_bytes(),
+        "another drive",
+        &numbers,
+    )
 }
 
 #[test]
-fn events_are_counted(rt: HostRuntime) {
-    for (seed, trips, want) in [
-        (7, 1, 4662),
-        (8, 1, 3819),
-        (7, 20, 97_915),
-        (1, 40, 171_077),
-        (7, 1000, 4_263_699),
-    ] {
-        assert!(rt; 1 <= trips && trips <= 1000);
-        assert_eq!(rt; generated_events(seed, trips), want, "{seed} {trips}");
+fn drives_are_generated(rt: HostRuntime) -> Result<(), Fail> {
+    for &(seed, word, piece, want) in &GENERATED {
+        must_generate(rt.alloc(), seed, word, piece, want)?;
     }
+    Ok(())
+}
+
+/// Seeds, trips, and the number of events.
+const EVENTS: [(u64, u32, u64); 5] = [
+    (7, 1, 4662),
+    (8, 1, 3819),
+    (7, 20, 97_915),
+    (1, 40, 171_077),
+    (7, 1000, 4_263_699),
+];
+
+/// Fails unless a generated drive of so many trips, 1 to 1000, has so many events.
+fn must_have_events(seed: u64, trips: u32, want: u64) -> Result<(), Fail> {
+    if trips < 1 || 1000 < trips {
+        return Err(Fail::new("another number of trips"));
+    }
+    let numbers = [seed, trips as u64];
+    must_of(
+        generated_events(seed, trips) == want,
+        "another number of events",
+        &numbers,
+    )
+}
+
+#[test]
+fn events_are_counted(rt: HostRuntime) -> Result<(), Fail> {
+    for &(seed, trips, want) in &EVENTS {
+        must_have_events(seed, trips, want)?;
+    }
+    Ok(())
 }

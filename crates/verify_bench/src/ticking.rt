@@ -29,18 +29,14 @@ impl PlainMeter {
             self.old self.new found.old.items found.new.items) }
         ensures sound { OnOk result (IsSound 8639999 0 self.new) }
     {
-        if let Err(NoMemory) = self.count_interval(checked, seal, steps) {
-            return Err(NoMemory);
-        }
-        if let Err(NoMemory) = self.expire_or_press(alloc, checked, seal, found, steps) {
-            return Err(NoMemory);
-        }
+        self.count_interval(checked, seal, steps)?;
+        self.expire_or_press(alloc, checked, seal, found, steps)?;
         self.check_roaming();
         self.began = self.clock;
         Ok(())
     }
 
-    /// A trip that has reached its longest time expires; otherwise the key that waits acts.
+    /// A trip that has reached its longest time expires; otherwise the key that waits leaves the latch and acts.
     #[tactic(auto, using(crate::proofs::Benches::looser, crate::proofs::Benches::timely))]
     fn expire_or_press<L: Ledger>(
         &mut self,
@@ -58,7 +54,13 @@ impl PlainMeter {
         if self.ticks() >= LONGEST_TRIP {
             self.expire(checked, seal, found)
         } else {
-            self.press(alloc, checked, seal, found, steps)
+            match self.latch {
+                None => Ok(()),
+                Some(key) => {
+                    self.latch = None;
+                    self.act(key, alloc, checked, seal, found, steps)
+                }
+            }
         }
     }
 
@@ -75,12 +77,8 @@ impl PlainMeter {
             self.old self.new found.old.items found.new.items) }
         ensures sound { OnOk result (IsSound 8639999 0 self.new) }
     {
-        match self.close(Kind::Expired, checked, seal, found) {
-            Ok(()) => {
-                self.latch = None;
-                Ok(())
-            }
-            Err(_) => Err(NoMemory),
-        }
+        self.close(Kind::Expired, checked, seal, found)?;
+        self.latch = None;
+        Ok(())
     }
 }

@@ -22,14 +22,14 @@ loop-run-preserved g c =
     let all = expected_of s (flat_map run_events c.args.runs.now) in
     let left = flat_map run_events (drop (c.loop-run.run-index + 1) c.args.runs.now) in
     record {
-      amid = c.in-Ok.ensures.carries all left (amid_next s all c.args.runs.now c.loop-run.run-index _ c.loop-run.meter c.loop-run.found.items (omega arith) c.loop-run.invariant.amid);
-      sound = c.in-Ok.ensures.sound;
+      amid = c.in_ok-follow.ensures.carries all left (amid_next s all c.args.runs.now c.loop-run.run-index _ c.loop-run.meter c.loop-run.found.items (omega arith) c.loop-run.invariant.amid);
+      sound = c.in_ok-follow.ensures.sound;
     }
 
-pub returns-in-Ok-end : goal.returns-in-Ok-end
-returns-in-Ok-end g c =
+pub returns : goal.returns
+returns g c =
     let s = setting_of c.args.checked.now c.args.seal.now in
     let all = expected_of s (flat_map run_events c.args.runs.now) in
     let whole : c.loop-run.run-index ≡ length c.args.runs.now = omega arith in
     let none : drop c.loop-run.run-index c.args.runs.now ≡ [] = rw whole (drop-length c.args.runs.now) in
-    carried_to_the_end s all c.loop-run.meter c.end.new.self c.loop-run.found.items c.end.new.found.items c.in-Ok-end.ensures (rw none at c.loop-run.invariant.amid)
+    carried_to_the_end s all c.loop-run.meter c.end.new.self c.loop-run.found.items c.end.new.found.items c.in_ok-end.ensures (rw none at c.loop-run.invariant.amid)

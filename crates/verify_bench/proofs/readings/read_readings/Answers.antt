@@ -1,4 +1,5 @@
 use Rattle.std.proofs.Common.{Bor, ◌∙◌, sym, refl, ℕ, List, [], ◌∷◌, ◌++◌, inl, inr, Some, length, ◌≤◌, arith}
+use Rattle.std.proofs.lemmas.Result.{err_from_is_err_and}
 use Rattle.csv.specs.Reading.{Reached, default_config, strip_bom}
 use Rattle.csv.specs.Records.{fields_of}
 use Rattle.csv.specs.declared.parser.State.TheVariants as states
@@ -40,16 +41,17 @@ loop-row-preserved c =
       source = more.1;
       rows = inv.rows ++ fields_of c.in-Ok.row ∷ [];
       reached = more.2;
-      given = c.in_default-take_row.ensures.ok inv.rows inv.given;
+      given = c.in_ok-take_row.ensures.ok inv.rows inv.given;
     }
 
-pub returns-in-Err-clause-err : goal.returns-in-Err-clause-err
-returns-in-Err-clause-err c =
+pub returns-in_err-take_row-clause-err : goal.returns-in_err-take_row-clause-err
+returns-in_err-take_row-clause-err c =
     let inv = c.loop-row.invariant in
     let step = rw (c.in-Some.is, c.in-Ok.is) at ((c.next.ensures.steps inv.left inv.trim).0 inv.ready) in
     let more = rows-more (λ (s : Bor (List ℕ)). Some s.now) c.loop-row.row-iterator.rdr c.next.new.self.rdr (fields_of c.in-Ok.row) default_config states.StartRecord (strip_bom c.args.text.now) inv.rest inv.rows inv.config inv.source inv.reached step.0 in
     let short : length c.args.text.now ≤ readings_limit = omega arith in
-    fault_of_row c.args.decimals c.args.text.now inv.rows (fields_of c.in-Ok.row) c.in-Err.fault short (c.next.new.self.rdr.state, more.0, more.2) (c.in-Err.ensures.err inv.rows inv.given)
+    let p = err_from_is_err_and c.from_residual.result c.from_residual.ensures.1 in
+    rw (p.1, p.2) (fault_of_row c.args.decimals c.args.text.now inv.rows (fields_of c.in-Ok.row) _ short (c.next.new.self.rdr.state, more.0, more.2) (c.in_err-take_row.ensures.err inv.rows inv.given))
 
 -- no row came, and the text ends
 pub returns-else-headed-clause-err : goal.returns-else-headed-clause-err

@@ -8,14 +8,14 @@ use Rattle.verify_bench.specs.declared.plain_meter.Held.{Held}
 use Rattle.verify_bench.proofs.Benches.{moves_quietly, moves_then}
 use Rattle.verify_bench.proofs.plain_meter.PlainMeter.abort.Goals as goal
 
-pub returns-in-Ok-clause-moves : goal.returns-in-Ok-clause-moves
-returns-in-Ok-clause-moves c trip is m stands =
+pub returns-clause-moves : goal.returns-clause-moves
+returns-clause-moves c trip is m stands =
     let s = setting_of c.args.checked.now c.args.seal.now in
     let t = ticks_so_far m.trip in
     let a = c.args.found.now.items in
     let b = c.close.new.found.items in
     let m1 = record m { position = trip.position } in
-    let end = c.in-Ok.ensures.moves trip.saved m1 (record {
+    let end = c.in_ok-close.ensures.moves trip.saved m1 (record {
       operating = stands.operating;
       clock = stands.clock;
       began = stands.began;

@@ -36,14 +36,14 @@ returns-in-Zone-Hired-clause-moves g c m stands =
     acts_by (setting_of c.args.checked.now c.args.seal.now) (ticks_so_far m.trip) list list c.set_zone-in-Zone-Hired.new.self m c.args.key (keys.Zone c.in-Zone-Hired.number) Hired
     c.in-Zone-Hired.is-0 (sym stands.operating ∙ c.in-Zone-Hired.is-1) (c.set_zone-in-Zone-Hired.ensures.moves (ticks_so_far m.trip) list m stands)
 
-pub returns-in-Ok-clause-moves : goal.returns-in-Ok-clause-moves
-returns-in-Ok-clause-moves g c m stands =
+pub returns-in_ok-add_supplement-in-Extra-Hired-clause-moves : goal.returns-in_ok-add_supplement-in-Extra-Hired-clause-moves
+returns-in_ok-add_supplement-in-Extra-Hired-clause-moves g c m stands =
     let list = c.args.found.now.items in
     acts_by (setting_of c.args.checked.now c.args.seal.now) (ticks_so_far m.trip) list list c.add_supplement.new.self m c.args.key (keys.Extra c.in-Extra-Hired.number) Hired
-    c.in-Extra-Hired.is-0 (sym stands.operating ∙ c.in-Extra-Hired.is-1) (c.in-Ok.ensures.moves (ticks_so_far m.trip) list m stands)
+    c.in-Extra-Hired.is-0 (sym stands.operating ∙ c.in-Extra-Hired.is-1) (c.in_ok-add_supplement-in-Extra-Hired.ensures.moves (ticks_so_far m.trip) list m stands)
 
-pub returns-in-Ok-add_supplement-clause-moves : goal.returns-in-Ok-add_supplement-clause-moves
-returns-in-Ok-add_supplement-clause-moves g c m stands =
+pub returns-in_ok-add_supplement-in-Extra-Stopped-clause-moves : goal.returns-in_ok-add_supplement-in-Extra-Stopped-clause-moves
+returns-in_ok-add_supplement-in-Extra-Stopped-clause-moves g c m stands =
     let list = c.args.found.now.items in
     acts_by (setting_of c.args.checked.now c.args.seal.now) (ticks_so_far m.trip) list list c.add_supplement-in-Extra-Stopped.new.self m c.args.key (keys.Extra c.in-Extra-Stopped.number) Stopped
-    c.in-Extra-Stopped.is-0 (sym stands.operating ∙ c.in-Extra-Stopped.is-1) (c.in-Ok-add_supplement.ensures.moves (ticks_so_far m.trip) list m stands)
+    c.in-Extra-Stopped.is-0 (sym stands.operating ∙ c.in-Extra-Stopped.is-1) (c.in_ok-add_supplement-in-Extra-Stopped.ensures.moves (ticks_so_far m.trip) list m stands)

@@ -5,8 +5,8 @@ use Rattle.verify_bench.specs.Settings.{setting_of}
 use Rattle.verify_bench.proofs.Benches.{counted_hired}
 use Rattle.verify_bench.proofs.plain_meter.PlainMeter.count_interval.Goals as goal
 
-pub returns-in-Ok-clause-stands : goal.returns-in-Ok-clause-stands
-returns-in-Ok-clause-stands g c m stands =
+pub returns-in_ok-add_part-in-Hired-clause-stands : goal.returns-in_ok-add_part-in-Hired-clause-stands
+returns-in_ok-add_part-in-Hired-clause-stands g c m stands =
     let s = setting_of c.args.checked.now c.args.seal.now in
     let x : c.context-x.result ≡ context_of s m = c.context-x.ensures m stands ∙ ap (λ (second : ℕ). context_on s (local_at s second) m) stands.began in
-    rw (counted_hired s c.args.self.now m c.context-x.result stands c.in-Hired.is x) at (c.in-Ok.ensures.stands s m stands)
+    rw (counted_hired s c.args.self.now m c.context-x.result stands c.in-Hired.is x) at (c.in_ok-add_part-in-Hired.ensures.stands s m stands)

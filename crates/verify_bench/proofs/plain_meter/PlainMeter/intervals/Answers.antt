@@ -15,6 +15,6 @@ loop-place-preserved g c =
     let done = c.loop-place in
     record {
       carries = rw (intervals_more c.args.pulses done.place) at (carries_then s (intervals_events c.args.pulses done.place) (interval_events c.args.pulses) c.args.self.now done.self c.interval.new.self
-          c.args.found.now.items done.found.items c.interval.new.found.items done.invariant.carries c.in-Ok.ensures.carries);
-      sound = c.in-Ok.ensures.sound;
+          c.args.found.now.items done.found.items c.interval.new.found.items done.invariant.carries c.in_ok-interval.ensures.carries);
+      sound = c.in_ok-interval.ensures.sound;
     }

@@ -21,8 +21,8 @@ returns-then-is_within-clause-moves c m stands =
     subst (λ (o : Option store.Trip). Moves s t list list c.resume.new.self (hold_taken s second o (powered second m))) (sym hold.1)
     (rw inside (c.resume.ensures.moves s hold.0 hold.2 t list (waking second m) stands))
 
-pub returns-in-Ok-clause-moves : goal.returns-in-Ok-clause-moves
-returns-in-Ok-clause-moves c m stands =
+pub returns-in_ok-abort-in-Some-clause-moves : goal.returns-in_ok-abort-in-Some-clause-moves
+returns-in_ok-abort-in-Some-clause-moves c m stands =
     let s = setting_of c.args.checked.now c.args.seal.now in
     let t = ticks_so_far m.trip in
     let second = c.args.second in
@@ -30,4 +30,4 @@ returns-in-Ok-clause-moves c m stands =
     let saved = ap (λ (h : Held). h.saved) hold.2 in
     let outside : is_within_hold s second hold.0 ≡ false = sym (rw saved at c.is_within.ensures) ∙ c.if-is_within.false in
     subst (λ (o : Option store.Trip). Moves s t c.args.found.now.items c.abort.new.found.items c.abort.new.self (hold_taken s second o (powered second m))) (sym hold.1)
-    (rw outside (c.in-Ok.ensures.moves hold.0 hold.2 (waking second m) stands))
+    (rw outside (c.in_ok-abort-in-Some.ensures.moves hold.0 hold.2 (waking second m) stands))
