@@ -20,16 +20,22 @@ use Rattle.totaliser_store.specs.Reading as totals
 use Rattle.totaliser_store.specs.Stored as states
 use Rattle.seal_store.specs.declared.seal.Seal.{Seal}
 use Rattle.seal_store.specs.Decoding as seals
-use Rattle.seal_store.specs.Sealing.{IsAmid, IsSealed, KeepsSealed, KeepsTotals, LeavesSealing, Sealing, ShowsSeal, first_written, old_seal, places_written, totals_after, totals_found}
+use Rattle.seal_store.specs.Sealing.{FoundSeal, IsAmid, IsSealed, KeepsSealed, KeepsTotals, LeavesSealing, ScannedSeal, Sealing, ShowsSeal, first_written, found_number, next_number, old_seal, places_written, seal_found, totals_after, totals_found}
+use Rattle.seal_store.proofs.Laws.{seal_is_found}
 use Rattle.taxi_cli.specs.declared.ending.Ended.{Ended}
 use Rattle.taxi_cli.specs.declared.ending.Ended.TheVariants as ended
+use Rattle.taxi_cli.specs.declared.opening.Opening.{Opening}
+use Rattle.taxi_cli.specs.declared.opening.StoreFault.{StoreFault}
+use Rattle.taxi_cli.specs.declared.opening.StoreFault.TheVariants as stores
 use Rattle.taxi_cli.specs.declared.seal.Base.{Base}
 use Rattle.taxi_cli.specs.Call.{IsEnd}
 use Rattle.taxi_cli.specs.LastLine.{line_of, status_of}
 use Rattle.taxi_cli.specs.Opening.{opened, opening_of}
-use Rattle.taxi_cli.specs.Seal.{HasSealed, IsAmidOf, Seals, over_seal, over_totals, sealing_of, sealing_over, sealing_with}
+use Rattle.taxi_cli.specs.Seal.{HasSealed, IsAmidOf, Seals, over_seal, over_totals, seal_read, sealing_of, sealing_over, sealing_with}
 use Rattle.taxi_cli.specs.SealSteps.{RestsAmid}
+use Rattle.taxi_cli.proofs.Openings.{no_fault}
 use Rattle.taxi_cli.proofs.Rests.{board_or_not}
+use Rattle.taxi_cli.proofs.Sealings.{sealing-made}
 
 -- ---- the opening image is amid the sealing already
 
@@ -105,28 +111,51 @@ module _ {D L : Type 0} (B : Ghosts D L) where
   abbrev Amid : Result Sealing Ended → D → List ℕ → List ℕ → Type 0
   Amid sealing old i x = IsAmidOf sealing (B.image old) i
 
+  -- the sealing of the old board's image with a tariff's text and a parameter text
+  abbrev Made : D → (tariff params : List ℕ) → Result Sealing Ended
+  Made old tariff params = sealing_of (opening_of (B.image old)) tariff params
+
   -- nothing was written
-  pub seals-read : (sealing : Result Sealing Ended) (fails : Type 0) (old new : D) (status : ℕ) → IsAmidOf sealing (B.image old) (B.image old) → status ≢ 0 → (fails → status ≡ 8)
-      → LeavesFromSync B fails old new (IsAsHeld B old) → Seals B sealing old new status
-  seals-read sealing fails old new status already not_0 failed synced = record {
+  pub seals-read : (tariff params : List ℕ) (fails : Type 0) (old new : D) (status : ℕ) → status ≢ 0 → (fails → status ≡ 8) → LeavesFromSync B fails old new (IsAsHeld B old)
+      → Seals B (Made old tariff params) old new status
+  seals-read tariff params fails old new status not_0 failed synced = record {
     sealed = λ z. absurd (not_0 z);
-    leaves = from_sync_as B (IsAsHeld B old) (Amid sealing old) fails (status ≡ 8) old new failed (λ i x held. rw (held.image) already) synced;
+    leaves = from_sync_as B (IsAsHeld B old) (Amid (Made old tariff params) old) fails (status ≡ 8) old new failed
+        (λ i x held. rw (held.image) (amid_already (B.image old) tariff params)) synced;
   }
 
-  pub rests-read : (sealing : Result Sealing Ended) (image : List ℕ) (new : D) → IsAmidOf sealing image image → B.image new ≡ image → NothingFlies B new → RestsAmid B sealing image new
-  rests-read sealing image new already same settled left h =
+  pub rests-read : (tariff params image : List ℕ) (new : D) → B.image new ≡ image → NothingFlies B new → RestsAmid B (sealing_of (opening_of image) tariff params) image new
+  rests-read tariff params image new same settled left h =
       let is : left ≡ image = ext_get_or 0 left (B.image new) h.bytes.size (λ place lt. h.bytes.rest place (settled place)) ∙ same in
-      rw is already
+      rw is (amid_already image tariff params)
+
+  -- the seal that was found, as a sealing is given it
+  pub found-as : (board : D) (seal : Found Seal) (latest : Option (Place × ℕ)) → latest ≡ seal_found seal → ScannedSeal B board seal → FoundSeal B board latest (old_seal seal)
+  found-as board seal latest e is = subst (λ (f : Option (Place × ℕ)). FoundSeal B board f (old_seal seal)) (sym e) (seal_is_found B board seal is)
 
   -- the seal was put in, or the board failed amid it
-  pub seals-placed : (sealing : Result Sealing Ended) (s : Sealing) (fails : Type 0) (old mid new : D) (status : ℕ) → sealing ≡ Ok s → IsAmidOf sealing (B.image old) (B.image old)
-      → ¬ fails → LeavesFromSync B fails old mid (IsAsHeld B old) → LeavesSealing B s mid new → (status ≡ 0 → IsSealed s (B.image new)) → Seals B sealing old new status
-  seals-placed sealing s fails old mid new status e already went synced placed is = record {
-    sealed = λ z. subst (λ (r : Result Sealing Ended). HasSealed r (B.image new)) (sym e) (is z);
-    leaves = goes_on B (IsAsHeld B old) (Amid sealing old) fails (status ≡ 8) old mid new went (λ i x held. rw (held.image) already) synced
-        (leaves_wider B (LeavesBeside (B.image mid) (B.in_flight mid) (B.printed mid) (first_written s.totals) (places_written s.totals) (IsAmid s))
-        (Amid sealing old) mid new (λ i x h. subst (λ (r : Result Sealing Ended). IsAmidOf r (B.image old) i) (sym e) h.stands) placed.leaves);
-  }
+  seals-placed : (tariff params : List ℕ) (s : Sealing) (fails : Type 0) (old mid new : D) (status : ℕ) → Made old tariff params ≡ Ok s → ¬ fails
+      → LeavesFromSync B fails old mid (IsAsHeld B old) → LeavesSealing B s mid new → (status ≡ 0 → IsSealed s (B.image new)) → Seals B (Made old tariff params) old new status
+  seals-placed tariff params s fails old mid new status e went synced placed is =
+      let sealing = Made old tariff params in
+      record {
+        sealed = λ z. subst (λ (r : Result Sealing Ended). HasSealed r (B.image new)) (sym e) (is z);
+        leaves = goes_on B (IsAsHeld B old) (Amid sealing old) fails (status ≡ 8) old mid new went (λ i x held. rw (held.image) (amid_already (B.image old) tariff params)) synced
+            (leaves_wider B (LeavesBeside (B.image mid) (B.in_flight mid) (B.printed mid) (first_written s.totals) (places_written s.totals) (IsAmid s))
+            (Amid sealing old) mid new (λ i x h. subst (λ (r : Result Sealing Ended). IsAmidOf r (B.image old) i) (sym e) h.stands) placed.leaves);
+      }
+
+  -- the same of what was opened, its base and the seal that was read
+  pub seals-over : (tariff params : List ℕ) (r : Result Opening StoreFault) (opening : Opening) (b : Result Base Ended) (base : Base) (number : ℕ) (seal : Seal) (old mid new : D) (status : ℕ)
+      → r ≡ Ok opening → (¬ (r ≡ Err stores.BoardFault) → r ≡ opening_of (B.image old)) → b ≡ Ok base → b ≡ over_totals opening.totals opening.seal → number ≡ next_number (found_number base.found)
+      → seal_read number base.decimals tariff params ≡ Ok seal → base.found ≡ seal_found opening.seal → ScannedSeal B mid opening.seal
+      → LeavesFromSync B (r ≡ Err stores.BoardFault) old mid (IsAsHeld B old)
+      → ((found : Option Seal) → FoundSeal B mid base.found found → LeavesSealing B (record { totals = base.totals; old = found; new = seal }) mid new)
+      → (status ≡ 0 → IsSealed (record { totals = base.totals; old = old_seal opening.seal; new = seal }) (B.image new)) → Seals B (Made old tariff params) old new status
+  seals-over tariff params r opening b base number seal old mid new status is exact based answer counted read latest scanned synced placed sealed =
+      seals-placed tariff params (record { totals = base.totals; old = old_seal opening.seal; new = seal }) (r ≡ Err stores.BoardFault) old mid new status
+      (sealing-made (B.image old) tariff params r opening b base number seal is exact based answer counted read) (no_fault r opening stores.BoardFault is) synced
+      (placed (old_seal opening.seal) (found-as mid opening.seal base.found latest scanned)) sealed
 
   -- the store stands for what the sealing says, also behind a cut
   sealed_left : (s : Sealing) (board : D) → KeepsSealed B s.totals s.new board → (image : List ℕ) → SameBut (B.in_flight board) (B.image board) image → IsSealed s image

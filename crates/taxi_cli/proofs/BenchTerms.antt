@@ -1,37 +1,26 @@
 -- What a verification goes by, and why there is nothing.
-use Rattle.std.proofs.Common.{◌≡◌, ◌≢◌, ℕ, List, Result, Ok, Err, inl, inr, refl, sym, ap, subst, ◌∙◌}
+use Rattle.std.proofs.Common.{◌≡◌, ◌≢◌, ℕ, List, Result, Ok, Err, ap, ◌∙◌}
 use Rattle.totaliser_store.specs.declared.durable.Durable.{Durable}
 use Rattle.seal_store.specs.declared.seal.Seal.{Seal}
 use Rattle.tariff_syntax.specs.Tree.{Tree}
 use Rattle.taxi_cli.specs.declared.ending.Ended.{Ended}
 use Rattle.taxi_cli.specs.declared.ending.Ended.TheVariants as ended
-use Rattle.taxi_cli.specs.declared.opening.StoreFault.{StoreFault}
-use Rattle.taxi_cli.specs.declared.opening.StoreFault.TheVariants as stores
 use Rattle.taxi_cli.specs.Bench.{terms_of, terms_over, terms_with}
 use Rattle.taxi_cli.specs.BenchSteps.{HasNoTerms}
 use Rattle.taxi_cli.specs.Opened.{IsBarred}
-use Rattle.taxi_cli.specs.Opening.{IsSealedIn, opening_of, store_ended, store_of}
+use Rattle.taxi_cli.specs.Opening.{IsSealedIn, opening_of, store_of}
 use Rattle.taxi_cli.specs.Run.{sealed_tariff}
 use Rattle.taxi_cli.specs.RunSteps.{AreNoTables}
+use Rattle.taxi_cli.proofs.Barring.{owed-refused}
 
 module _ (image tariff : List ℕ) where
   module _ (read_failed board_failed : Type 0) where
     -- the store bars the verification
     pub no_terms-barred : (why : Ended) → IsBarred why → (why ≢ ended.BoardFault → store_of (opening_of image) ≡ Err why) → (why ≡ ended.BoardFault → board_failed)
         → HasNoTerms image tariff read_failed board_failed why
-    no_terms-barred why (inl e) store cause = subst (λ (w : Ended). HasNoTerms image tariff read_failed board_failed w) (sym e) (
-      ap (λ (r : Result (Durable × Seal) Ended). terms_over r tariff) (subst (λ (w : Ended). store_of (opening_of image) ≡ Err w) e (store (λ f. absurd cc))),
-      record { not_0 = λ z. absurd cc; not_3 = λ z. absurd cc },
-    )
-    no_terms-barred why (inr (fault, e)) store cause =
-        subst (λ (w : Ended). HasNoTerms image tariff read_failed board_failed w) (sym e)
-        (by fault (λ not_board. subst (λ (w : Ended). store_of (opening_of image) ≡ Err w) e (store (λ f. not_board (sym e ∙ f)))) (λ is. cause (e ∙ is)))
-      where
-        by : (fault : StoreFault) → (store_ended fault ≢ ended.BoardFault → store_of (opening_of image) ≡ Err (store_ended fault)) → (store_ended fault ≡ ended.BoardFault → board_failed)
-            → HasNoTerms image tariff read_failed board_failed (store_ended fault)
-        by (stores.BadSlot slot) store cause = (ap (λ (r : Result (Durable × Seal) Ended). terms_over r tariff) (store (λ f. absurd cc)), record { not_0 = λ z. absurd cc; not_3 = λ z. absurd cc })
-        by (stores.SameNumber first second) store cause = (ap (λ (r : Result (Durable × Seal) Ended). terms_over r tariff) (store (λ f. absurd cc)), record { not_0 = λ z. absurd cc; not_3 = λ z. absurd cc })
-        by stores.BoardFault store cause = cause refl
+    no_terms-barred why barred store cause =
+        owed-refused (λ (w : Ended). terms_of (opening_of image) tariff ≡ Err w) (λ (w : Ended). HasNoTerms image tariff read_failed board_failed w) board_failed
+        (λ h. h) (λ slot h. h) (λ first second h. h) (λ f. f) why barred (λ good. ap (λ (r : Result (Durable × Seal) Ended). terms_over r tariff) (store good)) cause
 
   module _ (store : Durable × Seal) (e : store_of (opening_of image) ≡ Ok store) where
     sealed_in : IsSealedIn image
@@ -43,6 +32,6 @@ module _ (image tariff : List ℕ) where
     pub no_terms-tariff : (read_failed board_failed : Type 0) (why : Ended) → AreNoTables store.1.digest tariff read_failed why → HasNoTerms image tariff read_failed board_failed why
     no_terms-tariff read_failed board_failed ended.ReadFault h = (h, sealed_in)
     no_terms-tariff read_failed board_failed ended.NoMemory h = sealed_in
-    no_terms-tariff read_failed board_failed (ended.BadTariff why) h = (terms_from (Err (ended.BadTariff why)) h, record { not_0 = λ z. absurd cc; not_3 = λ z. absurd cc })
-    no_terms-tariff read_failed board_failed (ended.WrongTariff digest own) h = (terms_from (Err (ended.WrongTariff digest own)) h, record { not_0 = λ z. absurd cc; not_3 = λ z. absurd cc })
+    no_terms-tariff read_failed board_failed (ended.BadTariff why) h = (terms_from (Err (ended.BadTariff why)) h, record { not_0 = λ z. absurd cc; not_3 = λ z. absurd cc; not_11 = λ z. absurd cc })
+    no_terms-tariff read_failed board_failed (ended.WrongTariff digest own) h = (terms_from (Err (ended.WrongTariff digest own)) h, record { not_0 = λ z. absurd cc; not_3 = λ z. absurd cc; not_11 = λ z. absurd cc })
     no_terms-tariff read_failed board_failed why h = absurd h

@@ -74,7 +74,7 @@ module _ (contents left : ℕ → List ℕ) (image : List ℕ) (read_failed : �
     refused : (why : Ended) → (terms_of (opening_of image) (contents 1) ≡ Err why) × IsRefusal why → Here why
     refused why h =
         comes-refusal bench_command contents left image read_failed failed told before now untouched still why
-        (ap (λ (r : Result Terms Ended). bench_answer r (contents 2) (contents 3)) h.0) h.1.not_0 h.1.not_3
+        (ap (λ (r : Result Terms Ended). bench_answer r (contents 2) (contents 3)) h.0) (⊎_elim h.1.not_0 h.1.not_11) h.1.not_3
 
     pub comes-no_terms : (why : Ended) → HasNoTerms image (contents 1) (read_failed 1) failed why → Here why
     comes-no_terms ended.ReadFault h = record {
@@ -103,13 +103,13 @@ module _ (contents left : ℕ → List ℕ) (image : List ℕ) (read_failed : �
     by_readings read whole e = by_end Whole whole ∙ ap (readings_answer terms (contents 2)) e
 
     -- the drive or the readings are refused
-    refuses-with : (end : Ended) → answer ≡ refused_as end → status_of end ≢ 0 → status_of end ≢ 2 → (status_of end ≡ 3 → TellsEnd (contents 2) (left 2)) → now ≡ before → Here end
-    refuses-with end e not_0 not_2 bad still =
+    refuses-with : (end : Ended) → answer ≡ refused_as end → status_of end ≢ 0 → status_of end ≢ 11 → status_of end ≢ 2 → (status_of end ≡ 3 → TellsEnd (contents 2) (left 2)) → now ≡ before → Here end
+    refuses-with end e not_0 not_11 not_2 bad still =
         let status : answer.status ≡ status_of end = ap (λ (a : Answer). a.status) e in
         record {
           course = Answered;
           may = record {
-            whole = λ is. absurd (not_0 (sym status ∙ is));
+            whole = ⊎_elim (λ (is : answer.status ≡ 0). absurd (not_0 (sym status ∙ is))) (λ (is : answer.status ≡ 11). absurd (not_11 (sym status ∙ is)));
             refused = λ is. absurd (not_2 (sym status ∙ is));
             bad = λ is. bad (sym status ∙ is);
           };
@@ -149,13 +149,13 @@ module _ (contents left : ℕ → List ℕ) (image : List ℕ) (read_failed : �
       stands = inl (record { status_is = refl; line_is = refl; shown = nothing still });
     }
     comes-not_judged (ended.BadDrive line) still h =
-        refuses-with (ended.BadDrive line) (by_end (BadAt line) h.0) (λ z. absurd (omega arith)) (λ z. absurd (omega arith)) (λ z. h.1) still
+        refuses-with (ended.BadDrive line) (by_end (BadAt line) h.0) (λ z. absurd (omega arith)) (λ z. absurd (omega arith)) (λ z. absurd (omega arith)) (λ z. h.1) still
     comes-not_judged ended.EndlessDrive still h =
-        refuses-with ended.EndlessDrive (by_end Endless h.0) (λ z. absurd (omega arith)) (λ z. absurd (omega arith)) (λ z. h.1) still
+        refuses-with ended.EndlessDrive (by_end Endless h.0) (λ z. absurd (omega arith)) (λ z. absurd (omega arith)) (λ z. absurd (omega arith)) (λ z. h.1) still
     comes-not_judged (ended.BadReadings row) still h =
-        refuses-with (ended.BadReadings row) (by_readings _ h.0 h.1) (λ z. absurd (omega arith)) (λ z. absurd (omega arith)) (λ z. absurd (omega arith)) still
+        refuses-with (ended.BadReadings row) (by_readings _ h.0 h.1) (λ z. absurd (omega arith)) (λ z. absurd (omega arith)) (λ z. absurd (omega arith)) (λ z. absurd (omega arith)) still
     comes-not_judged ended.LongReadings still h =
-        refuses-with ended.LongReadings (by_readings _ h.0 h.1) (λ z. absurd (omega arith)) (λ z. absurd (omega arith)) (λ z. absurd (omega arith)) still
+        refuses-with ended.LongReadings (by_readings _ h.0 h.1) (λ z. absurd (omega arith)) (λ z. absurd (omega arith)) (λ z. absurd (omega arith)) (λ z. absurd (omega arith)) still
     comes-not_judged why still h = absurd h
 
   -- the readings were judged
@@ -189,10 +189,11 @@ module _ (contents left : ℕ → List ℕ) (image : List ℕ) (read_failed : �
     comes-begun begun cause =
         comes-part bench_command contents left image read_failed failed told before now (passing_status pass) text judged may begun cause
 
--- the bound of steps by the text that was printed is one by the answer
-pub steps-judged : (contents left : ℕ → List ℕ) (image : List ℕ) {terms : Terms} {text : List ℕ} {pass : Bool} (j : HasJudged contents left image terms text pass) (printed : List ℕ) (mid last : ℕ)
-    → printed ≡ text → last ≤ mid + pieces_of (length printed)
-    → last ≤ mid + pieces_of (length (bench_answer (terms_of (opening_of image) (contents 1)) (contents 2) (contents 3)).shown)
-steps-judged contents left image j printed mid last is bound =
-    subst (λ (x : List ℕ). last ≤ mid + pieces_of (length x))
-    (is ∙ sym (ap (λ (a : Answer). a.shown) (judged contents left image (λ word. ⊥) ⊥ ⊥ [] [] j))) bound
+-- the bound of steps by the text that was printed is one by the answer, behind the six of the opening
+pub steps-judged : (contents left : ℕ → List ℕ) (image : List ℕ) {terms : Terms} {text : List ℕ} {pass : Bool} (j : HasJudged contents left image terms text pass) (printed : List ℕ) (before mid last : ℕ)
+    → mid ≤ before + 6 → printed ≡ text → last ≤ mid + pieces_of (length printed)
+    → last ≤ before + 64 + pieces_of (length (bench_answer (terms_of (opening_of image) (contents 1)) (contents 2) (contents 3)).shown)
+steps-judged contents left image j printed before mid last first is bound =
+    let behind : last ≤ mid + pieces_of (length (bench_answer (terms_of (opening_of image) (contents 1)) (contents 2) (contents 3)).shown) =
+    subst (λ (x : List ℕ). last ≤ mid + pieces_of (length x)) (is ∙ sym (ap (λ (a : Answer). a.shown) (judged contents left image (λ word. ⊥) ⊥ ⊥ [] [] j))) bound in
+    omega (arith, first, behind)

@@ -146,7 +146,7 @@ module _ (seed trips : ℕ) (contents left : ℕ → List ℕ) (image : List ℕ
       → ComesUnprinted (gen_command seed trips) contents left image read_failed (ended_for fault)
   comes-gen_refused texts.ReadFault not_read refused = absurd (not_read refl)
   comes-gen_refused (texts.Refused why) not_read refused =
-      comes-bad_tariff (gen_command seed trips) contents left image read_failed refl tt why (refused-gen seed trips (tariff_in city_text) why (refused why refl))
+      comes-bad_tariff (gen_command seed trips) contents left image read_failed refl tt (λ e. absurd cc) why (refused-gen seed trips (tariff_in city_text) why (refused why refl))
   comes-gen_refused texts.NoMemory not_read refused = comes-no_memory (gen_command seed trips) contents left image read_failed refl tt
 
   module _ (failed told : Type 0) (before now text : List ℕ) (t : Tree) (sound : tariff_in city_text ≡ Ok t) (is : (gen_answer seed trips (Ok t)).shown ≡ text) where

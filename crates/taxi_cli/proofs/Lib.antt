@@ -2,6 +2,8 @@
 mod Amid
 -- commands that end by the store, with a refusal or with a fault of the board before their answer
 mod Answering
+-- the ends by which a store bars a command, case by case
+mod Barring
 -- what a verification goes by, and why there is nothing
 mod BenchTerms
 -- how the command `bench` comes to its last line
@@ -34,7 +36,7 @@ mod Judging
 mod Listing
 -- what a cut leaves of calls that only look at the store
 mod Looking
--- the opening of the store, from its two scans
+-- the opening of the store, from its two scans, and what is known of it behind its answer
 mod Openings
 -- the replies to requests over a sealed store, and what is left of the store
 mod Porting
@@ -52,14 +54,14 @@ mod RunEnds
 mod Running
 -- what the command `seal` answers
 mod Sealings
--- words of digits, and the numbers that they make
-mod Seeds
 -- the report of a book beside a sealed store
 mod Shifting
 -- commands that show a text, the whole of it or a beginning
 mod Showing
 -- how the command `run` begins
 mod Starting
+-- commands that show a text of a sealed store, or end because the store bars them
+mod StoreTexts
 -- what is taken in pieces, and the status by which it is bad
 mod Streams
 -- the commands that say something of a tariff alone

@@ -1,5 +1,5 @@
 -- The opening of the store, from its two scans.
-use Rattle.std.proofs.Common.{◌≡◌, ℕ, List, Option, Result, Ok, Err, refl, sym, ap, subst, ◌∙◌}
+use Rattle.std.proofs.Common.{◌≡◌, ◌≢◌, ℕ, List, Option, Result, Ok, Err, refl, sym, ap, subst, ◌∙◌}
 use Rattle.outside.specs.declared.board.Board.{Ghosts}
 use Rattle.outside.specs.Disk.{MayLeave}
 use Rattle.outside.specs.Runs.{IsSettled, LeavesOnly}
@@ -16,6 +16,8 @@ use Rattle.totaliser_store.specs.Reading as totals
 use Rattle.totaliser_store.specs.Stored as states
 use Rattle.seal_store.specs.declared.seal.Seal.{Seal}
 use Rattle.seal_store.specs.Decoding as seals
+use Rattle.taxi_cli.specs.declared.ending.Ended.{Ended}
+use Rattle.taxi_cli.specs.declared.ending.Ended.TheVariants as ended
 use Rattle.taxi_cli.specs.declared.opening.Opening.{Opening}
 use Rattle.taxi_cli.specs.declared.opening.StoreFault.TheVariants.{BoardFault}
 use Rattle.taxi_cli.specs.Opened.{OnlyOpens}
@@ -33,6 +35,13 @@ same_fault r a b e f = cc
 
 pub no_fault : {T E : Type 0} (r : Result T E) (x : T) (e : E) → r ≡ Ok x → ¬ (r ≡ Err e)
 no_fault r x e is = λ bad. absurd cc
+
+-- what an answer says of another that it is equal to, unless it is one fault
+pub as_found : {T E : Type 0} (r s : Result T E) (x : T) (e : E) → r ≡ Ok x → (¬ (r ≡ Err e) → r ≡ s) → s ≡ Ok x
+as_found r s x e is exact = sym (exact (no_fault r x e is)) ∙ is
+
+pub as_refused : {T E : Type 0} (r s : Result T E) (a e : E) → r ≡ Err a → a ≢ e → (¬ (r ≡ Err e) → r ≡ s) → s ≡ Err a
+as_refused r s a e is other exact = sym (exact (λ f. other (same_fault r a e is f))) ∙ is
 
 -- the opening of an image, by what the scans of its pairs answer
 pub opened_bad : (image : List ℕ) (fault : SlotFault) → found_at totals.reads states.number_of 0 image ≡ Err fault → opening_of image ≡ Err (fault_from 0 fault)
@@ -70,6 +79,18 @@ opens-as B fails fails' old new more fewer h =
       count = h.count;
       cause = λ f. h.cause (fewer f);
     }
+
+-- what an opening left, by the answer that is made of its refusal, and by one behind its success
+pub opens-barred : {S T D L : Type 0} (B : Ghosts D L) (r : Result S Ended) (made : Result T Ended) (why : Ended) (old new : D) → r ≡ Err why → made ≡ Err why
+    → OnlyOpens B (r ≡ Err ended.BoardFault) old new → OnlyOpens B (made ≡ Err ended.BoardFault) old new
+opens-barred B r made why old new is made_is h =
+    opens-as B (r ≡ Err ended.BoardFault) (made ≡ Err ended.BoardFault) old new (λ f. made_is ∙ ap Err (same_fault r why ended.BoardFault is f))
+    (λ f. is ∙ ap Err (same_fault made why ended.BoardFault made_is f)) h
+
+pub opens-behind : {S D L : Type 0} (B : Ghosts D L) (r : Result S Ended) (x : S) (fails : Type 0) (old new : D) → r ≡ Ok x → ¬ fails
+    → OnlyOpens B (r ≡ Err ended.BoardFault) old new → OnlyOpens B fails old new
+opens-behind B r x fails old new is good h =
+    opens-as B (r ≡ Err ended.BoardFault) fails old new (λ f. absurd (no_fault r x ended.BoardFault is f)) (λ f. absurd (good f)) h
 
 -- the second scan behind a first one that went well
 module _ {D L : Type 0} (B : Ghosts D L) (old mid new : D) (first : ReadsOnly B old mid) (same : B.image mid ≡ B.image old) where

@@ -1,5 +1,5 @@
 -- A command whose tariff isn't accepted, or that finds no memory.
-use Rattle.std.proofs.Common.{◌≡◌, ◌≢◌, ◌∙◌, ℕ, List, [], refl, sym, ap, inl, arith}
+use Rattle.std.proofs.Common.{◌≡◌, ◌∙◌, ℕ, List, [], refl, sym, ap, subst, inl}
 use Rattle.taxi_cli.specs.declared.ending.Ended.TheVariants as ended
 use Rattle.taxi_cli.specs.declared.tariff.Refusal.{Refusal}
 use Rattle.taxi_cli.specs.declared.tariff.TextFault.{TextFault}
@@ -22,13 +22,13 @@ module _ (c : Command) (contents left : ℕ → List ℕ) (image : List ℕ) (re
   }
 
   -- a tariff was refused
-  pub comes-bad_tariff : (why : Refusal) → c.answer contents image ≡ bad_tariff why → ComesUnprinted c contents left image read_failed (ended.BadTariff why)
-  comes-bad_tariff why e =
+  pub comes-bad_tariff : ¬ c.reads_all 2 → (why : Refusal) → c.answer contents image ≡ bad_tariff why → ComesUnprinted c contents left image read_failed (ended.BadTariff why)
+  comes-bad_tariff not_2 why e =
       let two : (c.answer contents image).status ≡ 2 = ap (λ (a : Answer). a.status) e in
       record {
         course = Answered;
         may = record {
-          whole = λ is. absurd (differ_0 _ two is);
+          whole = λ all. absurd (not_2 (subst (λ (n : ℕ). c.reads_all n) two all));
           refused = λ is. untouched;
           bad = λ is. absurd (not_bad 2 c.drive (λ e. absurd cc) (λ e. absurd cc) (sym two ∙ is));
         };
@@ -38,18 +38,15 @@ module _ (c : Command) (contents left : ℕ → List ℕ) (image : List ℕ) (re
           shown = ap (λ (a : Answer). a.shown) e;
         });
       }
-    where
-      differ_0 : (n : ℕ) → n ≡ 2 → n ≢ 0
-      differ_0 n e f = omega arith
 
   -- the tariff of word 1 wasn't read
-  pub comes-refused : (fault : TextFault) → c.reads 1 → c.comes_to contents image 1 [] → c.shown contents image [] ≡ []
+  pub comes-refused : ¬ c.reads_all 2 → (fault : TextFault) → c.reads 1 → c.comes_to contents image 1 [] → c.shown contents image [] ≡ []
       → (fault ≡ texts.ReadFault → read_failed 1) → ((why : Refusal) → fault ≡ texts.Refused why → c.answer contents image ≡ bad_tariff why)
       → ComesUnprinted c contents left image read_failed (ended_for fault)
-  comes-refused texts.ReadFault reads comes nothing failed refused = record {
+  comes-refused not_2 texts.ReadFault reads comes nothing failed refused = record {
     course = ReadFailed 1 [];
     may = record { reads = reads; comes = comes; failed = failed refl; takes = untouched };
     stands = inl (record { status_is = refl; line_is = refl; shown = nothing });
   }
-  comes-refused (texts.Refused why) reads comes nothing failed refused = comes-bad_tariff why (refused why refl)
-  comes-refused texts.NoMemory reads comes nothing failed refused = comes-no_memory
+  comes-refused not_2 (texts.Refused why) reads comes nothing failed refused = comes-bad_tariff not_2 why (refused why refl)
+  comes-refused not_2 texts.NoMemory reads comes nothing failed refused = comes-no_memory

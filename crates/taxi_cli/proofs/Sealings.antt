@@ -29,6 +29,7 @@ use Rattle.taxi_cli.specs.Seal.{HasDecimals, IsSealable, are_decimals, base_in, 
 use Rattle.taxi_cli.specs.SealSteps.{IsNoSeal, IsNoTariff, IsTariffWith}
 use Rattle.taxi_cli.specs.Tariffs.{tariff_in}
 use Rattle.taxi_cli.proofs.Answering.{comes-refusal, none}
+use Rattle.taxi_cli.proofs.Openings.{as_found}
 
 -- ---- the texts
 
@@ -140,6 +141,14 @@ sealing-over r opening base tariff text s e f g =
     ap (λ (x : Result Opening StoreFault). sealing_of x tariff text) e
     ∙ ap (λ (b : Result Base Ended). sealing_over (old_seal opening.seal) b tariff text) f
     ∙ ap (sealing_with (old_seal opening.seal) base) g
+
+-- what was opened, its base and the seal that was read make a sealing
+pub sealing-made : (image tariff text : List ℕ) (r : Result Opening StoreFault) (opening : Opening) (b : Result Base Ended) (base : Base) (number : ℕ) (seal : Seal) → r ≡ Ok opening
+    → (¬ (r ≡ Err stores.BoardFault) → r ≡ opening_of image) → b ≡ Ok base → b ≡ over_totals opening.totals opening.seal → number ≡ next_number (found_number base.found)
+    → seal_read number base.decimals tariff text ≡ Ok seal → sealing_of (opening_of image) tariff text ≡ Ok (record { totals = base.totals; old = old_seal opening.seal; new = seal })
+sealing-made image tariff text r opening b base number seal is exact based answer counted read =
+    sealing-over (opening_of image) opening base tariff text (Ok seal) (as_found r (opening_of image) opening stores.BoardFault is exact) (sym answer ∙ based)
+    (subst (λ (n : ℕ). seal_read n base.decimals tariff text ≡ Ok seal) counted read)
 
 -- the statuses of refusals
 pub not_0-barred : (end : Ended) → (end ≡ ended.TripHeld) ⊎ (end ≡ ended.SealEnded) → status_of end ≢ 0

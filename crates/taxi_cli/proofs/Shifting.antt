@@ -1,5 +1,5 @@
 -- The report of a book beside a sealed store.
-use Rattle.std.proofs.Common.{◌≡◌, ◌≢◌, ℕ, ◌+◌, ◌≤◌, List, ◌++◌, length, Ok, Err, refl, sym, ap, subst, ◌∙◌, arith}
+use Rattle.std.proofs.Common.{◌≡◌, ◌≢◌, ℕ, ◌+◌, ◌≤◌, List, ◌++◌, length, Result, Ok, Err, refl, sym, ap, subst, ◌∙◌, arith}
 use Rattle.totaliser_store.specs.declared.durable.Durable.{Durable}
 use Rattle.seal_store.specs.declared.seal.Seal.{Seal}
 use Rattle.shift_book.specs.BookReading.{book_read}
@@ -59,9 +59,11 @@ module _ (contents left : ℕ → List ℕ) (image : List ℕ) (read_failed : �
       comes-lacking shifts_command contents left image read_failed failed told before now refl still refl sealed_in
 
 -- a report that is printed whole takes a step for each piece of it, and the opening of the store six
-pub shown-steps : (answer : Answer) (report text : List ℕ) (before mid now : ℕ) → answer ≡ shows report → text ≡ report → mid ≤ before + 6
-    → now ≤ mid + pieces_of (length text) → now ≤ before + 6 + pieces_of (length answer.shown)
-shown-steps answer report text before mid now e f first last =
-    let same : length text ≡ length answer.shown = ap length (f ∙ sym (ap (λ (a : Answer). a.shown) e)) in
-    let pieces : now ≤ mid + pieces_of (length answer.shown) = subst (λ (n : ℕ). now ≤ mid + pieces_of n) same last in
+pub shown-steps : (o : Result (Durable × Seal) Ended) (store : Durable × Seal) (book report text : List ℕ) (before mid now : ℕ) → o ≡ Ok store
+    → reported store.1.decimals store.0 (book_read store.0 book) ≡ shows report → text ≡ report → mid ≤ before + 6
+    → now ≤ mid + pieces_of (length text) → now ≤ before + 6 + pieces_of (length (shifts_answer o book).shown)
+shown-steps o store book report text before mid now is e f first last =
+    let answer : shifts_answer o book ≡ shows report = ap (λ (r : Result (Durable × Seal) Ended). shifts_answer r book) is ∙ e in
+    let same : length text ≡ length (shifts_answer o book).shown = ap length (f ∙ sym (ap (λ (a : Answer). a.shown) answer)) in
+    let pieces : now ≤ mid + pieces_of (length (shifts_answer o book).shown) = subst (λ (n : ℕ). now ≤ mid + pieces_of n) same last in
     omega (arith, pieces, first)

@@ -1,5 +1,5 @@
 -- The command `run`: how it begins.
-use Rattle.std.proofs.Common.{◌≡◌, ◌≢◌, ℕ, ◌<◌, ◌≤◌, Bool, true, false, if◌then◌else◌, List, length, take, drop, Option, Some, Result, Ok, Err, inl, inr, refl, sym, ap, subst, ◌∙◌, arith}
+use Rattle.std.proofs.Common.{◌≡◌, ◌≢◌, ℕ, ◌<◌, ◌≤◌, Bool, true, false, if◌then◌else◌, List, length, take, drop, Option, Some, Result, Ok, Err, refl, sym, ap, subst, ◌∙◌, arith}
 use Rattle.std.specs.Option.{ForSome}
 use Rattle.std.specs.Cmp.Lexicographic.{pointwise}
 use Rattle.std.specs.Prelude.{nat_eq}
@@ -25,17 +25,17 @@ use Rattle.taxi_cli.specs.declared.ending.Ended.{Ended}
 use Rattle.taxi_cli.specs.declared.ending.Ended.TheVariants as ended
 use Rattle.taxi_cli.specs.declared.opening.Opening.{Opening}
 use Rattle.taxi_cli.specs.declared.opening.StoreFault.{StoreFault}
-use Rattle.taxi_cli.specs.declared.opening.StoreFault.TheVariants as stores
 use Rattle.taxi_cli.specs.declared.tariff.Refusal.{Refusal}
 use Rattle.taxi_cli.specs.declared.tariff.Refusal.TheVariants.{TooLong}
 use Rattle.taxi_cli.specs.declared.tariff.TextFault.{TextFault}
 use Rattle.taxi_cli.specs.declared.tariff.TextFault.TheVariants as texts
 use Rattle.taxi_cli.specs.Ending.{ended_for}
-use Rattle.taxi_cli.specs.Opening.{IsSealedIn, opened, opening_of, sealed_store, store_ended, store_of}
+use Rattle.taxi_cli.specs.Opening.{IsSealedIn, opened, opening_of, sealed_store, store_of}
 use Rattle.taxi_cli.specs.Opened.{IsBarred}
 use Rattle.taxi_cli.specs.Run.{IsOfTotals, Start, accepted, does_hold_fit, sealed_tariff, start_of, start_over, start_with, tables_in}
 use Rattle.taxi_cli.specs.RunSteps.{AreNoTables, HasNotBegun, IsNoTables}
 use Rattle.taxi_cli.specs.Tariffs.{tariff_in}
+use Rattle.taxi_cli.proofs.Barring.{owed-refused}
 use Rattle.taxi_cli.proofs.Fitting.{Decides-hold, hold_fits}
 
 -- ---- the sealed tariff
@@ -186,19 +186,9 @@ module _ (image tariff : List ℕ) (read_failed board_failed : Type 0) where
   -- the store bars the run
   pub not_begun-barred : (why : Ended) → IsBarred why → (why ≢ ended.BoardFault → store_of (opening_of image) ≡ Err why) → (why ≡ ended.BoardFault → board_failed)
       → HasNotBegun image tariff read_failed board_failed why
-  not_begun-barred why (inl e) store cause = subst (λ (w : Ended). HasNotBegun image tariff read_failed board_failed w) (sym e) (
-    ap (λ (r : Result (Durable × Seal) Ended). start_over r tariff) (subst (λ (w : Ended). store_of (opening_of image) ≡ Err w) e (store (λ f. absurd cc))),
-    record { not_0 = λ z. absurd cc; not_3 = λ z. absurd cc },
-  )
-  not_begun-barred why (inr (fault, e)) store cause =
-      subst (λ (w : Ended). HasNotBegun image tariff read_failed board_failed w) (sym e)
-      (by fault (λ not_board. subst (λ (w : Ended). store_of (opening_of image) ≡ Err w) e (store (λ f. not_board (sym e ∙ f)))) (λ is. cause (e ∙ is)))
-    where
-      by : (fault : StoreFault) → (store_ended fault ≢ ended.BoardFault → store_of (opening_of image) ≡ Err (store_ended fault)) → (store_ended fault ≡ ended.BoardFault → board_failed)
-          → HasNotBegun image tariff read_failed board_failed (store_ended fault)
-      by (stores.BadSlot slot) store cause = (ap (λ (r : Result (Durable × Seal) Ended). start_over r tariff) (store (λ f. absurd cc)), record { not_0 = λ z. absurd cc; not_3 = λ z. absurd cc })
-      by (stores.SameNumber first second) store cause = (ap (λ (r : Result (Durable × Seal) Ended). start_over r tariff) (store (λ f. absurd cc)), record { not_0 = λ z. absurd cc; not_3 = λ z. absurd cc })
-      by stores.BoardFault store cause = cause refl
+  not_begun-barred why barred store cause =
+      owed-refused (λ (w : Ended). start_of (opening_of image) tariff ≡ Err w) (λ (w : Ended). HasNotBegun image tariff read_failed board_failed w) board_failed
+      (λ h. h) (λ slot h. h) (λ first second h. h) (λ f. f) why barred (λ good. ap (λ (r : Result (Durable × Seal) Ended). start_over r tariff) (store good)) cause
 
   module _ (store : Durable × Seal) (e : store_of (opening_of image) ≡ Ok store) where
     sealed_in : IsSealedIn image
@@ -210,8 +200,8 @@ module _ (image tariff : List ℕ) (read_failed board_failed : Type 0) where
     pub not_begun-tables : (why : Ended) → AreNoTables store.1.digest tariff read_failed why → HasNotBegun image tariff read_failed board_failed why
     not_begun-tables ended.ReadFault h = (h, sealed_in)
     not_begun-tables ended.NoMemory h = sealed_in
-    not_begun-tables (ended.BadTariff why) h = (start_from (Err (ended.BadTariff why)) h, record { not_0 = λ z. absurd cc; not_3 = λ z. absurd cc })
-    not_begun-tables (ended.WrongTariff digest own) h = (start_from (Err (ended.WrongTariff digest own)) h, record { not_0 = λ z. absurd cc; not_3 = λ z. absurd cc })
+    not_begun-tables (ended.BadTariff why) h = (start_from (Err (ended.BadTariff why)) h, record { not_0 = λ z. absurd cc; not_3 = λ z. absurd cc; not_11 = λ z. absurd cc })
+    not_begun-tables (ended.WrongTariff digest own) h = (start_from (Err (ended.WrongTariff digest own)) h, record { not_0 = λ z. absurd cc; not_3 = λ z. absurd cc; not_11 = λ z. absurd cc })
     not_begun-tables why h = absurd h
 
     -- by whether the held trip fits
@@ -221,7 +211,7 @@ module _ (image tariff : List ℕ) (read_failed board_failed : Type 0) where
 
     pub not_begun-trip : (t : Tree) → sealed_tariff store.1.digest tariff ≡ Ok t → does_hold_fit (tables_of t store.1.params.constant) store.0.hold ≡ false
         → HasNotBegun image tariff read_failed board_failed ended.BadTrip
-    not_begun-trip t f none = (start_from (Ok t) f ∙ fitted t false none, record { not_0 = λ z. absurd cc; not_3 = λ z. absurd cc })
+    not_begun-trip t f none = (start_from (Ok t) f ∙ fitted t false none, record { not_0 = λ z. absurd cc; not_3 = λ z. absurd cc; not_11 = λ z. absurd cc })
 
     pub has_begun : (t : Tree) → sealed_tariff store.1.digest tariff ≡ Ok t → does_hold_fit (tables_of t store.1.params.constant) store.0.hold ≡ true
         → start_of (opening_of image) tariff ≡ Ok (record { durable = store.0; seal = store.1; tree = t })

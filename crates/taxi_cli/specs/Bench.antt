@@ -137,13 +137,15 @@ pub record HasTakenDrive (image tariff drive taken : List ℕ) : Type 0 where
   pub all : taken ≡ drive
 
 -- the command `bench` opens the store, reads its tariff, its drive and then its readings into memory, and prints at the
--- end alone, in pieces; it writes nothing, and takes at most 64 steps, one for each piece and one for the last line
+-- end alone, in pieces, so that each file was read to its end also where a row doesn't pass; it writes nothing, and
+-- takes at most 64 steps, one for each piece and one for the last line
 abbrev pub bench_command : Command
 bench_command = record {
   answer = λ contents image. bench_answer (terms_of (opening_of image) (contents 1)) (contents 2) (contents 3);
   drive = Some (Drive 2);
   shown = λ contents image taken. [];
   reads = λ word. (word ≡ 1) ⊎ ((word ≡ 2) ⊎ (word ≡ 3));
+  reads_all = λ status. (status ≡ 0) ⊎ (status ≡ 11);
   comes_to = λ contents image word taken.
       ((word ≡ 1) × ((taken ≡ []) × IsSealedIn image))
       ⊎ (((word ≡ 2) × IsTakingDrive image (contents 1) taken)

@@ -11,10 +11,11 @@ use Rattle.taxi_cli.specs.Stream.{Takes, TellsItsEnd, bad_status}
 -- whose files a read failed, and by whether the board failed.
 module _ (c : Command) (contents left : ℕ → List ℕ) (image : List ℕ) (read_failed : ℕ → Type 0)
     (board_failed : Type 0) where
-  -- a call came to its answer where at status 0 each file that the command reads was read to its end, at 2 nothing of
-  -- the drive was taken, and where the drive or the requests are bad the bytes that were taken have what is bad
+  -- a call came to its answer where at a status at which the command has read all, as 0 is, each file that it reads was
+  -- read to its end, at 2 nothing of the drive was taken, and where the drive or the requests are bad the bytes that
+  -- were taken have what is bad
   pub record IsAnswered : Type 0 where
-    pub whole : (c.answer contents image).status ≡ 0 → (word : ℕ) → c.reads word → left word ≡ []
+    pub whole : c.reads_all (c.answer contents image).status → (word : ℕ) → c.reads word → left word ≡ []
     pub refused : (c.answer contents image).status ≡ 2 → Takes c.drive contents left []
     pub bad : (c.answer contents image).status ≡ bad_status c.drive → TellsItsEnd c.drive contents left
 

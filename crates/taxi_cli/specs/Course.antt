@@ -1,5 +1,5 @@
 -- Rules: what a command is, and the course that a call of it takes.
-use Rattle.std.specs.Prelude.{ℕ, List, [], ◌++◌, Option}
+use Rattle.std.specs.Prelude.{◌≡◌, ℕ, ◌+◌, ◌≤◌, List, [], ◌++◌, Option, None}
 use Rattle.taxi_cli.specs.Answer.{Answer}
 use Rattle.taxi_cli.specs.LastLine.{read_fault_line, no_memory_line}
 use Rattle.taxi_cli.specs.Stream.{Stream}
@@ -14,6 +14,8 @@ pub record Command : Type 1 where
   pub shown : (contents : ℕ → List ℕ) (image taken : List ℕ) → List ℕ
   -- the words whose files it reads
   pub reads : ℕ → Type 0
+  -- it has read each of these files to its end where it answers with this status
+  pub reads_all : (status : ℕ) → Type 0
   -- it comes to a read of this word's file when these bytes of the drive or the requests were taken
   pub comes_to : (contents : ℕ → List ℕ) (image : List ℕ) (word : ℕ) (taken : List ℕ) → Type 0
   -- it comes to a place where memory may run out when these bytes of the drive or the requests were taken
@@ -26,6 +28,23 @@ pub record Command : Type 1 where
   pub writes : (ended : ℕ) → Type 0
   -- its count of steps may rise from one number to another, by what is told and by what is left of the files
   pub steps : (files_tell image_told : Type 0) (contents left : ℕ → List ℕ) (image : List ℕ) (before now : ℕ) → Type 0
+
+-- a command that shows what the store holds opens it, reads no file, takes no memory and writes nothing, in at most 64
+-- steps and one for the last line
+abbrev pub store_command : (answer : (image : List ℕ) → Answer) → Command
+store_command answer = record {
+  answer = λ contents image. answer image;
+  drive = None;
+  shown = λ contents image taken. [];
+  reads = λ word. ⊥;
+  reads_all = λ status. status ≡ 0;
+  comes_to = λ contents image word taken. ⊥;
+  may_lack = λ contents image taken. ⊥;
+  known = λ files_tell image_told. image_told;
+  opens = Unit {0};
+  writes = λ ended. ⊥;
+  steps = λ files_tell image_told contents left image before now. now ≤ before + 64 + 1;
+}
 
 -- a course says how far a call came: to its answer, or to a fault or a want before it
 pub data Course : Type 0 where

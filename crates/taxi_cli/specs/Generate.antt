@@ -1,5 +1,5 @@
 -- Rules: the command `gen SEED N`.
-use Rattle.std.specs.Prelude.{ℕ, ◌+◌, ◌*◌, ◌≤◌, pos, List, [], ◌∷◌, ◌++◌, length, None, Result, Ok, Err, codes, decimal}
+use Rattle.std.specs.Prelude.{◌≡◌, ℕ, ◌+◌, ◌*◌, ◌≤◌, pos, List, [], ◌∷◌, ◌++◌, length, None, Result, Ok, Err, codes, decimal}
 use Rattle.drive_modes.specs.declared.charges.Mode.TheVariants.{Single}
 use Rattle.drive_text.specs.Drive.{events_in}
 use Rattle.meter_run.specs.Deeds.{after_deeds}
@@ -64,6 +64,7 @@ gen_command seed trips = record {
   drive = None;
   shown = λ contents image taken. [];
   reads = λ word. ⊥;
+  reads_all = λ status. status ≡ 0;
   comes_to = λ contents image word taken. ⊥;
   may_lack = λ contents image taken. Unit {0};
   known = λ files_tell image_told. Unit {0};

@@ -1,12 +1,12 @@
 -- Rules: the commands `mark on DRIVER` and `mark off`.
-use Rattle.std.specs.Prelude.{◌+◌, ◌≤◌, true, false, [], Option, None, Some, Result, Ok, Err}
+use Rattle.std.specs.Prelude.{true, false, [], Option, None, Some, Result, Ok, Err}
 use Rattle.totaliser_store.specs.declared.durable.Durable.{Durable}
 use Rattle.seal_store.specs.declared.seal.Seal.{Seal}
 use Rattle.shift_book.specs.Following.{numbers_in}
 use Rattle.shift_book.specs.Marks.{Signing, mark_text}
 use Rattle.shift_book.specs.Shares.{Driver}
 use Rattle.taxi_cli.specs.Answer.{Answer, shows}
-use Rattle.taxi_cli.specs.Course.{Command}
+use Rattle.taxi_cli.specs.Course.{Command, store_command}
 use Rattle.taxi_cli.specs.LastLine.{refused_as}
 use Rattle.taxi_cli.specs.Opening.{opening_of, store_of}
 use Rattle.taxi_cli.specs.declared.ending.Ended.{Ended}
@@ -21,17 +21,6 @@ abbrev pub mark_answer : (driver : Option Driver) → Result (Durable × Seal) E
 mark_answer driver (Err why) = refused_as why
 mark_answer driver (Ok store) = shows (mark_text (mark_of driver store.0))
 
--- the command `mark` opens the store, reads no file and takes no memory, in at most 64 steps and one for the last line
+-- the command `mark` shows the mark of the store
 abbrev pub mark_command : (driver : Option Driver) → Command
-mark_command driver = record {
-  answer = λ contents image. mark_answer driver (store_of (opening_of image));
-  drive = None;
-  shown = λ contents image taken. [];
-  reads = λ word. ⊥;
-  comes_to = λ contents image word taken. ⊥;
-  may_lack = λ contents image taken. ⊥;
-  known = λ files_tell image_told. image_told;
-  opens = Unit {0};
-  writes = λ ended. ⊥;
-  steps = λ files_tell image_told contents left image before now. now ≤ before + 64 + 1;
-}
+mark_command driver = store_command (λ image. mark_answer driver (store_of (opening_of image)))

@@ -1,5 +1,5 @@
 -- Rules: words that are no command.
-use Rattle.std.specs.Prelude.{◌+◌, ◌≤◌, [], None}
+use Rattle.std.specs.Prelude.{◌≡◌, ◌+◌, ◌≤◌, [], None}
 use Rattle.taxi_cli.specs.Answer.{Answer, refuses}
 use Rattle.taxi_cli.specs.Course.{Command}
 use Rattle.taxi_cli.specs.LastLine.{bad_words_line}
@@ -15,6 +15,7 @@ no_command = record {
   drive = None;
   shown = λ contents image taken. [];
   reads = λ word. ⊥;
+  reads_all = λ status. status ≡ 0;
   comes_to = λ contents image word taken. ⊥;
   may_lack = λ contents image taken. ⊥;
   known = λ files_tell image_told. Unit {0};

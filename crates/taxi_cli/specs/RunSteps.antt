@@ -55,10 +55,12 @@ module _ {D L : Type 0} (B : Ghosts D L) where
     pub compiled : IsTablesOf start.tree tables
     pub opens : OpensWith B tables board start.durable
 
--- an end is a refusal where its status is neither of the two with which a run over a drive ends by itself
+-- an end is a refusal where its status is none of those with which a run over a drive, or the judging of readings by
+-- one, ends by itself
 pub record IsRefusal (why : Ended) : Type 0 where
   pub not_0 : status_of why ≢ 0
   pub not_3 : status_of why ≢ 3
+  pub not_11 : status_of why ≢ 11
 
 -- a run hasn't begun where a read failed, memory ran out, the board failed, or it is refused
 abbrev pub HasNotBegun : (image tariff : List ℕ) → (read_failed board_failed : Type 0) → Ended → Type 0

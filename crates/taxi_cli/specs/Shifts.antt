@@ -46,6 +46,7 @@ shifts_command = record {
   drive = None;
   shown = λ contents image taken. [];
   reads = λ word. word ≡ 1;
+  reads_all = λ status. status ≡ 0;
   comes_to = λ contents image word taken. (word ≡ 1) × IsSealedIn image;
   may_lack = λ contents image taken. IsSealedIn image;
   known = λ files_tell image_told. files_tell × image_told;

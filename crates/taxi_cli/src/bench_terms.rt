@@ -1,5 +1,5 @@
 //! What a verification goes by.
-ghost use Rattle.std.specs.Prelude.{◌≡◌, ◌≢◌, ℕ, ◌+◌, ◌≤◌, [], IfOk, OnOk, IsErrOf, Ok, Err};
+ghost use Rattle.std.specs.Prelude.{◌≡◌, ◌≢◌, ℕ, ◌+◌, ◌≤◌, [], IfErr, IfOk, OnOk, IsErrOf, Ok, Err};
 ghost use Rattle.outside.specs.Faults.{Rose};
 ghost use Rattle.taxi_cli.specs.Bench.{terms_of};
 ghost use Rattle.taxi_cli.specs.BenchSteps.{HasNoTerms, terms_in};
@@ -34,9 +34,8 @@ pub fn open_terms<F: Files, B: Board<L>, L: Ledger>(
     ensures found { F.tells → B.tells_image → IfOk result (λ terms.
         terms_of (opening_of (B.image board.old)) (F.rest files.old 1) ≡ Ok (terms_in terms)) }
     ensures ended { F.tells → OnOk result (F.rest files.new 1 ≡ []) }
-    ensures refused { (why : Ended) → F.tells → B.tells_image → result ≡ Err why
-        → HasNoTerms (B.image board.old) (F.rest files.old 1) (Rose (F.faults files.old 1) (F.faults files.new 1))
-        (Rose (B.faults board.old) (B.faults board.new)) why }
+    ensures refused { F.tells → B.tells_image → IfErr result (HasNoTerms (B.image board.old) (F.rest files.old 1)
+        (Rose (F.faults files.old 1) (F.faults files.new 1)) (Rose (B.faults board.old) (B.faults board.new))) }
     ensures opens { OnlyOpens B.Board (IsErrOf result Ended.BoardFault) board.old board.new }
     ensures read_fault { result ≡ Err Ended.ReadFault → Rose (F.faults files.old 1) (F.faults files.new 1) }
     ensures others { (other : ℕ) → other ≢ 1 → F.rest files.new other ≡ F.rest files.old other }

@@ -21,7 +21,7 @@ const SPEED: &str = "CROSSOVER 1 16771 m/h\n";
 
 const HEADER: &str = "hiring,kind,fare,read_fare,distance,read_distance,time,read_time,verdict\n";
 
-const BENCH: [&str; 4] = ["bench", "t", "d", "r"];
+const BENCH: &[&str] = &["bench", "t", "d", "r"];
 
 /// Fails unless `bench` prints these three over a store, ends with this status and leaves the store.
 fn must_judge(
@@ -35,7 +35,7 @@ fn must_judge(
     must_answer(
         alloc,
         texts[2],
-        &BENCH,
+        BENCH,
         texts,
         image,
         output.as_str(),
@@ -44,7 +44,7 @@ fn must_judge(
 }
 
 /// Readings of the realistic trip, the rows of the report, and the status.
-const REPORTS: [(&str, &str, u8); 7] = [
+const REPORTS: &[(&str, &str, u8)] = &[
     (
         "fare,distance,time\n14.60,6012,660.7\n",
         "1,CLOSED,14.40,14.60,6000.000,6012.000,660.1,660.7,PASS\n",
@@ -85,7 +85,7 @@ const REPORTS: [(&str, &str, u8); 7] = [
 #[test]
 fn a_realistic_trip_is_judged(rt: HostRuntime) -> Result<(), Fail> {
     let image = sealed(rt.alloc(), CITY, P)?;
-    for &(readings, rows, status) in &REPORTS {
+    for &(readings, rows, status) in REPORTS {
         let texts = [CITY, REALISTIC, readings];
         must_judge(rt.alloc(), &image, &texts, &[SPEEDS, HEADER, rows], status)?;
     }
@@ -105,7 +105,7 @@ const READ: &str = "fare,distance,time\n3.80,234.800,11.9\n";
 
 const PASSES: &str = "1,CLOSED,3.80,3.80,234.800,234.800,11.9,11.9,PASS\n";
 
-const CALLS: [Call; 9] = [
+const CALLS: &[Call] = &[
     (A, HIRING, READ, [SPEED, HEADER, PASSES], 0),
     (A, "", "fare,distance,time", [SPEED, HEADER, ""], 0),
     (
@@ -154,7 +154,7 @@ const CALLS: [Call; 9] = [
 #[test]
 fn calls_of_bench(rt: HostRuntime) -> Result<(), Fail> {
     let image = sealed(rt.alloc(), A, P)?;
-    for &(tariff, drive, readings, output, status) in &CALLS {
+    for &(tariff, drive, readings, output, status) in CALLS {
         must_judge(
             rt.alloc(),
             &image,
@@ -186,9 +186,9 @@ fn nothing_is_judged_without_a_seal(rt: HostRuntime) -> Result<(), Fail> {
     must_answer(
         rt.alloc(),
         "blank",
-        &BENCH,
+        BENCH,
         &[A, HIRING, READ],
-        &ZEROS,
+        ZEROS,
         "NOT SEALED\n",
         4,
     )
@@ -203,7 +203,7 @@ fn reads_that_fail(rt: HostRuntime) -> Result<(), Fail> {
         must_answer_amid(
             rt.alloc(),
             "a read",
-            &BENCH,
+            BENCH,
             &texts,
             &image,
             &[],
@@ -215,34 +215,36 @@ fn reads_that_fail(rt: HostRuntime) -> Result<(), Fail> {
     Ok(())
 }
 
-/// Each call of the board fails in turn: two scans of three calls each, and one print.
+/// The calls of the board, of which each fails in turn: two scans of three calls each, and one print. There is no
+/// eighth.
+const BOARD_CALLS: &[(u64, [&str; 3], u8)] = &[
+    (1, ["", "", ""], 8),
+    (2, ["", "", ""], 8),
+    (3, ["", "", ""], 8),
+    (4, ["", "", ""], 8),
+    (5, ["", "", ""], 8),
+    (6, ["", "", ""], 8),
+    (7, ["", "", ""], 8),
+    (8, [SPEED, HEADER, PASSES], 0),
+];
+
 #[test]
 fn boards_that_fail(rt: HostRuntime) -> Result<(), Fail> {
     let image = sealed(rt.alloc(), A, P)?;
     let texts = [A, HIRING, READ];
-    for number in 1..=7 {
+    for (number, output, status) in BOARD_CALLS {
+        let output = joined(rt.alloc(), output)?;
         must_answer_amid(
             rt.alloc(),
             "a call",
-            &BENCH,
+            BENCH,
             &texts,
             &image,
-            &[number],
+            &[*number],
             &[],
-            "",
-            8,
+            output.as_str(),
+            *status,
         )?;
     }
-    let output = joined(rt.alloc(), &[SPEED, HEADER, PASSES])?;
-    must_answer_amid(
-        rt.alloc(),
-        "no call",
-        &BENCH,
-        &texts,
-        &image,
-        &[8],
-        &[],
-        output.as_str(),
-        0,
-    )
+    Ok(())
 }

@@ -3,7 +3,7 @@ ghost use Rattle.std.specs.Prelude.{◌≡◌, ◌<◌};
 
 use crate::chain::{chain, may_begin};
 use crate::run_tests::{HELD, HIRING, sealed};
-use crate::store_tests::with_bytes;
+use crate::store_tests::filled_or;
 use crate::tests::{A, P, files_of, must, must_behind, strings};
 use crate::words::{Row, row_in};
 use outside::{Fill, MemoryFiles};
@@ -86,7 +86,7 @@ type Chain = (
     &'static [(u8, u64)],
 );
 
-const CHAINS: [Chain; 9] = [
+const CHAINS: &[Chain] = &[
     ("no run", &[], &[], &[]),
     ("one run", &[(HELD, &[])], &[None], &[(0, 3)]),
     (
@@ -139,7 +139,7 @@ const CHAINS: [Chain; 9] = [
 #[test]
 fn chains(rt: HostRuntime) -> Result<(), Fail> {
     let image = sealed(rt.alloc(), A, P)?;
-    for (name, drives, cuts, answers) in &CHAINS {
+    for (name, drives, cuts, answers) in CHAINS {
         let ended = chained(rt.alloc(), drives, &image, cuts)?;
         must(ended.1.as_slice() == *answers, "other answers", name)?;
         must(ended.0[1024..] == image[1024..], "another seal", name)?;
@@ -149,7 +149,7 @@ fn chains(rt: HostRuntime) -> Result<(), Fail> {
 
 /// Which moment a call's number names, by the number that is found behind the run. Calls 12 to 15 of the run
 /// commit the held trip, 21 to 26 the entry over it; 14 and 25 write a gate, and the next call is its sync.
-const MOMENTS: [(u64, Fill, u64); 16] = [
+const MOMENTS: &[(u64, Fill, u64)] = &[
     (0, Fill::New, 1),
     (1, Fill::New, 1),
     (13, Fill::New, 1),
@@ -171,7 +171,7 @@ const MOMENTS: [(u64, Fill, u64); 16] = [
 #[test]
 fn moments(rt: HostRuntime) -> Result<(), Fail> {
     let image = sealed(rt.alloc(), A, P)?;
-    for &(call, fill, number) in &MOMENTS {
+    for &(call, fill, number) in MOMENTS {
         let ended = chained(rt.alloc(), &[(HELD, &[])], &image, &[Some((call, fill))])?;
         let is_found = ended.1.as_slice() == [(0, number)].as_slice();
         must_behind(is_found, "another number", call, fill)?;
@@ -196,21 +196,21 @@ fn begins(image: &[u8; 2048]) -> bool {
     counted_beginning::<Brand>(Blank::new(1), image)
 }
 
-/// Images that a chain may begin with: those of a sealed store alone.
+/// Images of one byte throughout, or a sealed store with these bytes, and whether a chain may begin with them.
+const BEGINNINGS: &[(&str, Option<u8>, &[(usize, u8)], bool)] = &[
+    ("zeros", Some(0), &[], false),
+    ("open slots", Some(0xA5), &[], false),
+    ("no seal", None, &[(1024, 0)], false),
+    ("no totals", None, &[(0, 0)], false),
+    ("sealed", None, &[], true),
+];
+
 #[test]
 fn beginnings(rt: HostRuntime) -> Result<(), Fail> {
-    let image = sealed(rt.alloc(), A, P)?;
-    must(!begins(&[0; 2048]), "a chain begins", "zeros")?;
-    must(!begins(&[0xA5; 2048]), "a chain begins", "open slots")?;
-    must(
-        !begins(&with_bytes(&image, &[(1024, 0)])),
-        "a chain begins",
-        "no seal",
-    )?;
-    must(
-        !begins(&with_bytes(&image, &[(0, 0)])),
-        "a chain begins",
-        "no totals",
-    )?;
-    must(begins(&image), "no chain begins", "sealed")
+    let sealed = sealed(rt.alloc(), A, P)?;
+    for &(name, byte, bytes, may) in BEGINNINGS {
+        let begins = begins(&filled_or(byte, &sealed, bytes));
+        must(begins == may, "another beginning", name)?;
+    }
+    Ok(())
 }

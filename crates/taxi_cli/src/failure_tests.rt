@@ -1,13 +1,14 @@
 //! Each failure of the outside in turn, at each place of a run, and stores that no run begins with.
 use crate::chain_tests::chained;
 use crate::run_tests::{HELD, HIRING, RUN, has_totals, sealed};
+use crate::store_tests::filled_or;
 use crate::tests::{A, P, called, cut_in, must_answer, must_at, must_behind};
 use outside::{Fill, MemoryBoard};
 use std::alloc::Global;
 use std::test::Fail;
 
 /// What a cut makes of the bytes in flight.
-const FILLS: [Fill; 5] = [
+const FILLS: &[Fill] = &[
     Fill::Old,
     Fill::New,
     Fill::Half,
@@ -24,12 +25,12 @@ fn ran(
     calls: &[u64],
     reads: &[u64],
 ) -> Result<(MemoryBoard, u8), Fail> {
-    called(alloc, &RUN, &[A, drive], image, calls, reads)
+    called(alloc, RUN, &[A, drive], image, calls, reads)
 }
 
 /// Fails unless a run goes on over what a cut leaves of a board, with each fill.
 fn must_go_on(alloc: Global, board: &MemoryBoard, number: u64) -> Result<(), Fail> {
-    for fill in &FILLS {
+    for fill in FILLS {
         let image = cut_in(board, board.calls(), *fill);
         let ended = chained(alloc, &[(HIRING, &[])], &image, &[None])?;
         let status = ended.1.first().map(|answer| answer.0);
@@ -106,7 +107,7 @@ fn drives_cut_short(rt: HostRuntime) -> Result<(), Fail> {
 
 /// The reads of a hiring's files, of the tariff, its bytes and its end, and of the drive likewise, and how the totals
 /// begin where each fails. Before the last read all events of the drive were carried out.
-const READS: [(u64, &str); 4] = [
+const READS: &[(u64, &str)] = &[
     (1, "NUMBER 1\nDISTANCE 0.000 m\n"),
     (2, "NUMBER 1\nDISTANCE 0.000 m\n"),
     (3, "NUMBER 1\nDISTANCE 0.000 m\n"),
@@ -140,7 +141,7 @@ fn must_fail_to_read(
 #[test]
 fn each_read_fails(rt: HostRuntime) -> Result<(), Fail> {
     let image = sealed(rt.alloc(), A, P)?;
-    for &(read, totals) in &READS {
+    for &(read, totals) in READS {
         must_fail_to_read(rt.alloc(), &image, read, totals)?;
     }
     let (_, status) = ran(rt.alloc(), &image, HIRING, &[], &[5])?;
@@ -160,24 +161,37 @@ fn changed(image: &[u8; 2048], place: usize, bytes: &[u8]) -> [u8; 2048] {
 
 /// Fails unless a run with this store prints this line alone, ends with this status and leaves the store.
 fn must_refuse(alloc: Global, image: &[u8; 2048], line: &str, status: u8) -> Result<(), Fail> {
-    must_answer(alloc, line, &RUN, &[A, HIRING], image, line, status)
+    must_answer(alloc, line, RUN, &[A, HIRING], image, line, status)
 }
 
-/// Stores that aren't sealed, or of which a slot isn't read.
+/// Stores that aren't sealed, or of which a slot isn't read: of one byte throughout, or a sealed one with other bytes,
+/// or with its first slot in the place of the second; the line and the status.
+const REFUSED: &[(Option<u8>, &[(usize, u8)], bool, &str, u8)] = &[
+    (Some(0xFF), &[], false, "NOT SEALED\n", 4),
+    (Some(0xA5), &[], false, "BAD STORE 0\n", 5),
+    (None, &[(511, 3)], false, "BAD STORE 0\n", 5),
+    (None, &[], true, "BAD STORE 0 1\n", 5),
+    (None, &[(512, 0xA5)], false, "BAD STORE 1\n", 5),
+    (None, &[(1024, 0)], false, "NOT SEALED\n", 4),
+];
+
+/// An image whose second slot is the first, where it is asked.
+fn doubled(image: &[u8; 2048], is_doubled: bool) -> [u8; 2048] {
+    if is_doubled {
+        changed(image, 512, &image[..512])
+    } else {
+        *image
+    }
+}
+
 #[test]
 fn stores_that_are_refused(rt: HostRuntime) -> Result<(), Fail> {
     let one = sealed(rt.alloc(), A, P)?;
-    must_refuse(rt.alloc(), &[0xFF; 2048], "NOT SEALED\n", 4)?;
-    must_refuse(rt.alloc(), &[0xA5; 2048], "BAD STORE 0\n", 5)?;
-    must_refuse(rt.alloc(), &changed(&one, 511, &[3]), "BAD STORE 0\n", 5)?;
-    must_refuse(
-        rt.alloc(),
-        &changed(&one, 512, &one[..512]),
-        "BAD STORE 0 1\n",
-        5,
-    )?;
-    must_refuse(rt.alloc(), &changed(&one, 512, &[0xA5]), "BAD STORE 1\n", 5)?;
-    must_refuse(rt.alloc(), &changed(&one, 1024, &[0]), "NOT SEALED\n", 4)
+    for &(byte, bytes, is_doubled, line, status) in REFUSED {
+        let image = doubled(&filled_or(byte, &one, bytes), is_doubled);
+        must_refuse(rt.alloc(), &image, line, status)?;
+    }
+    Ok(())
 }
 
 /// A store whose held trip has another rest than a trip may have.

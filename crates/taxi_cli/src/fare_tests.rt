@@ -13,7 +13,7 @@ const B: &str =
      rate 0.10 per 100.0 m, 0.10 per 20.0 s\n";
 
 /// A tariff, a constant, a drive, and what it prints; all of them are read to their end.
-const DRIVES: [(&str, &str, &str, &str); 10] = [
+const DRIVES: &[(&str, &str, &str, &str)] = &[
     (
         A,
         "10000",
@@ -82,14 +82,14 @@ const DRIVES: [(&str, &str, &str, &str); 10] = [
 
 #[test]
 fn drives(rt: HostRuntime) -> Result<(), Fail> {
-    for &(tariff, constant, drive, output) in &DRIVES {
+    for &(tariff, constant, drive, output) in DRIVES {
         let words = ["fare", "t", "d", constant];
         must_answer(
             rt.alloc(),
             drive,
             &words,
             &[tariff, drive],
-            &ZEROS,
+            ZEROS,
             output,
             0,
         )?;

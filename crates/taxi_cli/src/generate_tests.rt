@@ -21,7 +21,7 @@ use totaliser_store::Durable;
 use verify_bench::Generator;
 
 /// A seed and a number of trips, what is printed, and the status.
-const ROWS: [(&str, &str, &str, u8); 12] = [
+const ROWS: &[(&str, &str, &str, u8)] = &[
     (
         "1",
         "40",
@@ -56,7 +56,7 @@ const ROWS: [(&str, &str, &str, u8); 12] = [
 
 #[test]
 fn generated_drives(rt: HostRuntime) -> Result<(), Fail> {
-    for &(seed, trips, output, status) in &ROWS {
+    for &(seed, trips, output, status) in ROWS {
         must_answer(
             rt.alloc(),
             output,
@@ -74,7 +74,7 @@ fn generated_drives(rt: HostRuntime) -> Result<(), Fail> {
 #[test]
 fn the_last_seed(rt: HostRuntime) -> Result<(), Fail> {
     let words = ["gen", "18446744073709551615", "1"];
-    let (board, status) = called(rt.alloc(), &words, &[], &ZEROS, &[], &[])?;
+    let (board, status) = called(rt.alloc(), &words, &[], ZEROS, &[], &[])?;
     let start = b"GEN 18446744073709551615 1\nEVENTS ";
     must(
         status == 0 && board.printed().starts_with(start),
@@ -91,7 +91,7 @@ fn a_failing_board(rt: HostRuntime) -> Result<(), Fail> {
         "a print",
         &["gen", "1", "1"],
         &[],
-        &ZEROS,
+        ZEROS,
         &[1],
         &[],
         "",
@@ -141,7 +141,7 @@ fn new_totals(alloc: Global) -> Option<Line> {
 /// The run of a large drive leaves what is printed of it.
 #[test]
 fn a_large_drive_is_run(rt: HostRuntime) -> Result<(), Fail> {
-    let (board, status) = called(rt.alloc(), &["gen", "7", "1000"], &[], &ZEROS, &[], &[])?;
+    let (board, status) = called(rt.alloc(), &["gen", "7", "1000"], &[], ZEROS, &[], &[])?;
     let totals = new_totals(rt.alloc()).ok_or("no run")?;
     let rest = board
         .printed()

@@ -13,7 +13,7 @@ const DIGEST: [u8; 32] = [
 
 /// A store as sealing leaves it, made without memory: number 1, totals of zero, no held trip.
 fn sealed_image() -> [u8; 2048] {
-    let sealed = image_of(&SECOND_LAYOUT);
+    let sealed = image_of(SECOND_LAYOUT);
     let mut image = [0; 2048];
     image[1024..].copy_from_slice(&sealed[1024..]);
     image[1056..1088].copy_from_slice(&DIGEST);
@@ -41,7 +41,7 @@ fn begins(text: &[u8], pieces: &[&str]) -> bool {
 fn a_hiring(rt: HostRuntime) -> Result<(), Fail> {
     let image = sealed_image();
     let mut board = MemoryBoard::new(rt.alloc(), &image, &[])?;
-    let status = call(rt.alloc(), &RUN, &[A, HIRING], &[], &mut board)?;
+    let status = call(rt.alloc(), RUN, &[A, HIRING], &[], &mut board)?;
     let pieces = ROWS[0].3;
     if status == 0 && is_made_of(board.printed(), pieces) {
         return Ok(());

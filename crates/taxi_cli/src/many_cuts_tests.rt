@@ -33,7 +33,7 @@ impl Dice {
 }
 
 /// A whole hiring, and parts of one: keys, intervals, an extra.
-const PIECES: [&str; 8] = [
+const PIECES: &[&str] = &[
     "K H\nI 0 1\nI 20 300\nK S\nI 8 1\nK C\nI 0 1\n",
     "K H\nI 0 1\nI 20 60\n",
     "K E 1\nI 10 40\n",
@@ -45,7 +45,7 @@ const PIECES: [&str; 8] = [
 ];
 
 /// The gaps in supply in a drive, in seconds: a trip is held for a minute at most.
-const GAPS: [u64; 4] = [10, 40, 70, 500];
+const GAPS: &[u64] = &[10, 40, 70, 500];
 
 /// Adds a power-up after a gap.
 fn put_up(
@@ -156,7 +156,7 @@ fn ran(
     drive: &str,
     fail: &[u64],
 ) -> Result<(MemoryBoard, u8), Fail> {
-    called(alloc, &RUN, &[CITY, drive], image, fail, &[])
+    called(alloc, RUN, &[CITY, drive], image, fail, &[])
 }
 
 /// The same run broken off at a call of the board, and what a cut then leaves of it.

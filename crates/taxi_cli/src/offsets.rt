@@ -1,4 +1,6 @@
 //! The command `offsets`.
+#![tactic(auto, using(crate::proofs::BoardRuns::board_runs))]
+
 ghost use Rattle.std.specs.Prelude.{◌≡◌, ◌≢◌, ℕ, ◌+◌, ◌<◌, ◌≤◌, ◌++◌, [], length, IfOk, OnOk, Err};
 ghost use Rattle.outside.specs.Faults.{HasCause, Rose};
 ghost use Rattle.outside.specs.Printing.{Begins};
@@ -28,7 +30,6 @@ pub enum RulesFault {
 const ROOM: usize = 4097;
 
 /// Reads the rules of word 1, and prints the list of offsets that they give for some years, a line a pair.
-#[tactic(auto, using(crate::proofs::BoardRuns::board_runs))]
 pub fn print_offsets<F: Files, B: Board<L>, L: Ledger>(
     years: Years,
     files: &mut F,
@@ -90,7 +91,6 @@ fn rules_of_word<F: Files>(files: &mut F, word: usize) -> Result<Rules, RulesFau
 }
 
 /// Prints the lines of a list of offsets, one after the other.
-#[tactic(auto, using(crate::proofs::BoardRuns::board_runs))]
 fn print_pairs<B: Board<L>, L: Ledger>(
     pairs: &[(u64, i32)],
     board: &mut B,

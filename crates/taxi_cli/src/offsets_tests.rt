@@ -30,7 +30,7 @@ const NORTH_2026: &str = "offset 946684800 3600\noffset 1774746000 7200\noffset 
 
 /// Rules, the years, a read and a print that fail, the output and the status. The seconds are those of
 /// Python's datetime and calendar.
-const LISTS: [(&str, &str, &str, u64, u64, &str, u8); 22] = [
+const LISTS: &[(&str, &str, &str, u64, u64, &str, u8)] = &[
     (NORTH, "2026", "2026", 0, 0, NORTH_2026, 0),
     (
         SOUTH,
@@ -123,7 +123,7 @@ const LISTS: [(&str, &str, &str, u64, u64, &str, u8); 22] = [
 
 #[test]
 fn lists_of_offsets(rt: HostRuntime) -> Result<(), Fail> {
-    for &(rules, from, to, read, print, output, status) in &LISTS {
+    for &(rules, from, to, read, print, output, status) in LISTS {
         let words = ["offsets", "r", from, to];
         let reads = [read];
         must_answer_amid(
@@ -143,7 +143,7 @@ fn lists_of_offsets(rt: HostRuntime) -> Result<(), Fail> {
 
 /// How many bytes a text of rules has, the last year, how the list begins, and how many lines it has: fifteen years at
 /// once have a line for each change, and one before them; a text of 4,097 bytes is too long.
-const SIZES: [(usize, &str, &str, u64); 4] = [
+const SIZES: &[(usize, &str, &str, u64)] = &[
     (NORTH.len(), "2040", NORTH_2026, 31),
     (4096, "2026", "BAD RULES BadLine 5\n", 1),
     (4097, "2026", "BAD RULES TooLong\n", 1),
@@ -157,10 +157,10 @@ fn lines_in(text: &[u8]) -> usize {
 
 #[test]
 fn the_longest_texts(rt: HostRuntime) -> Result<(), Fail> {
-    for &(size, to, start, lines) in &SIZES {
+    for &(size, to, start, lines) in SIZES {
         let rules = repeated(rt.alloc(), NORTH, "#", size.saturating_sub(NORTH.len()))?;
         let words = ["offsets", "r", "2026", to];
-        let (board, _) = called(rt.alloc(), &words, &[rules.as_str()], &ZEROS, &[], &[])?;
+        let (board, _) = called(rt.alloc(), &words, &[rules.as_str()], ZEROS, &[], &[])?;
         let is_listed = board.printed().starts_with(start.as_bytes())
             && lines_in(board.printed()) as u64 == lines;
         must_at(is_listed, "another list, bytes", size as u64)?;
@@ -188,7 +188,7 @@ fn minute_afresh(params: &[u8], second: u64) -> Option<u16>
 }
 
 /// Seconds, and the local minutes of their days.
-const MINUTES: [(u64, u16); 4] = [
+const MINUTES: &[(u64, u16)] = &[
     (1_774_745_999, 119),
     (1_774_746_000, 180),
     (1_792_889_999, 179),
@@ -209,10 +209,10 @@ fn params_with(alloc: Global, list: &[u8]) -> Result<Vec<u8>, Fail> {
 #[test]
 fn the_printed_lines_are_offsets_of_parameters(rt: HostRuntime) -> Result<(), Fail> {
     let words = ["offsets", "r", "2026", "2026"];
-    let (board, status) = called(rt.alloc(), &words, &[NORTH], &ZEROS, &[], &[])?;
+    let (board, status) = called(rt.alloc(), &words, &[NORTH], ZEROS, &[], &[])?;
     let params = params_with(rt.alloc(), board.printed())?;
     must(status == 0, "another status", "offsets")?;
-    for &(second, minute) in &MINUTES {
+    for &(second, minute) in MINUTES {
         let is_shown = FIRST_SECOND <= second
             && second <= LAST_SECOND
             && minute_afresh(params.as_slice(), second) == Some(minute);

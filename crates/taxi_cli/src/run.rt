@@ -1,5 +1,5 @@
 //! The command `run`.
-ghost use Rattle.std.specs.Prelude.{◌≡◌, ◌≢◌, ◌↔◌, ℕ, ◌+◌, ◌≤◌, [], IfOk, OnOk, IsErrOf, IsTrue, Err};
+ghost use Rattle.std.specs.Prelude.{◌≡◌, ◌≢◌, ◌↔◌, ℕ, ◌+◌, ◌≤◌, [], IfErr, IfOk, OnOk, IsErrOf, IsTrue, Err};
 ghost use Rattle.std.specs.Option.{ForSome};
 ghost use Rattle.outside.specs.Faults.{Rose};
 ghost use Rattle.meter_run.specs.Drives.{IsBoundedBy};
@@ -80,9 +80,8 @@ fn begin<F: Files, B: Board<L>, L: Ledger>(
     ensures seal { IfOk result (λ begun. IsSeal begun.seal) }
     ensures constant { IfOk result (λ begun. begun.tables.constant ≡ begun.seal.params.constant) }
     ensures ended { F.tells → OnOk result (F.rest files.new 1 ≡ []) }
-    ensures refused { (why : Ended) → F.tells → B.tells_image → result ≡ Err why
-        → HasNotBegun (B.image board.old) (F.rest files.old 1) (Rose (F.faults files.old 1) (F.faults files.new 1))
-        (Rose (B.faults board.old) (B.faults board.new)) why }
+    ensures refused { F.tells → B.tells_image → IfErr result (HasNotBegun (B.image board.old) (F.rest files.old 1)
+        (Rose (F.faults files.old 1) (F.faults files.new 1)) (Rose (B.faults board.old) (B.faults board.new))) }
     ensures opens { OnlyOpens B.Board (IsErrOf result Ended.BoardFault) board.old board.new }
     ensures read_fault { result ≡ Err Ended.ReadFault → Rose (F.faults files.old 1) (F.faults files.new 1) }
     ensures others { (other : ℕ) → other ≢ 1 → F.rest files.new other ≡ F.rest files.old other }

@@ -1,5 +1,5 @@
 //! Runs on a sealed store, over boards in memory.
-use crate::store_tests::with_bytes;
+use crate::store_tests::{filled_or, with_bytes};
 use crate::tests::{
     A, FILLS, P, ZEROS, called, cut_in, joined, must, must_answer, must_at, must_behind,
 };
@@ -28,7 +28,7 @@ const SUMMER: &str =
     "taxi LX-4711\nconstant 10000\nmode single\nhold 60\noffset 946684800 3600\noffset 1767225650 7200\n\
      secured 2025-12-01\n";
 
-pub(crate) const RUN: [&str; 3] = ["run", "t", "d"];
+pub(crate) const RUN: &[&str] = &["run", "t", "d"];
 
 /// What receipts say of the seal, with what sha256sum gives of the tariff: A, A rounded down, and the city's.
 const SEALED: &str = "TAXI LX-4711\nCONSTANT 10000\nSECURED 2025-12-01\n\
@@ -53,7 +53,7 @@ pub(crate) fn sealed(alloc: Global, tariff: &str, params: &str) -> Result<[u8; 2
         alloc,
         &["seal", "t", "p"],
         &[tariff, params],
-        &ZEROS,
+        ZEROS,
         &[],
         &[],
     )?;
@@ -68,7 +68,7 @@ pub(crate) fn ran(
     drive: &str,
 ) -> Result<(MemoryBoard, u8), Fail> {
     let image = sealed(alloc, tariff, params)?;
-    called(alloc, &RUN, &[tariff, drive], &image, &[], &[])
+    called(alloc, RUN, &[tariff, drive], &image, &[], &[])
 }
 
 /// Whether what `totals` prints of a store begins with this text.
@@ -117,7 +117,7 @@ pub(crate) type Row = (
     &'static str,
 );
 
-pub(crate) const ROWS: [Row; 15] = [
+pub(crate) const ROWS: &[Row; 15] = &[
     (
         A,
         P,
@@ -301,7 +301,7 @@ fn must_run(alloc: Global, row: &Row) -> Result<(), Fail> {
 
 #[test]
 fn runs(rt: HostRuntime) -> Result<(), Fail> {
-    for row in &ROWS {
+    for row in ROWS {
         must_run(rt.alloc(), row)?;
     }
     Ok(())
@@ -312,7 +312,7 @@ const THROUGH_THE_CITY: &str =
     "U 1772442000\nK H\nI 0 1\nI 0 600\nK E 1\nI 10 5999\nC 1772442660\nK S\nI 10 1\nK C\nI 0 1\n";
 
 /// The receipt of the trip through the city, and what follows it.
-const RECEIPT: [&str; 4] = [
+const RECEIPT: &[&str] = &[
     "RECEIPT 2\nKIND CLOSED\n",
     SEALED_CITY,
     "START 2026-03-02 10:00:00\nFINISH 2026-03-02 10:11:00\nPOSITION 1\nDISTANCE 6000.000 m\n",
@@ -322,7 +322,7 @@ const RECEIPT: [&str; 4] = [
 #[test]
 fn a_trip_through_the_city(rt: HostRuntime) -> Result<(), Fail> {
     let (board, status) = ran(rt.alloc(), CITY, P, THROUGH_THE_CITY)?;
-    let end = joined(rt.alloc(), &RECEIPT)?;
+    let end = joined(rt.alloc(), RECEIPT)?;
     must(status == 0, "another status", "city")?;
     must(
         board.printed().ends_with(end.as_bytes()),
@@ -345,10 +345,10 @@ fn held(alloc: Global) -> Result<[u8; 2048], Fail> {
 }
 
 /// Bytes of a held trip with two intervals left of the longest.
-const NEARLY_EXPIRED: [(usize, u8); 4] = [(625, 0x00), (626, 0x83), (627, 0xd5), (628, 0xfe)];
+const NEARLY_EXPIRED: &[(usize, u8)] = &[(625, 0x00), (626, 0x83), (627, 0xd5), (628, 0xfe)];
 
 /// What is printed of a trip that expires while a key waits.
-const EXPIRES: [&str; 5] = [
+const EXPIRES: &[&str] = &[
     "HIRED T1 Z1 3.80 +0.00\nRECEIPT 3\nKIND EXPIRED\n",
     SEALED,
     "START 2026-01-01 01:00:00\nFINISH 2026-01-01 01:00:10\nPOSITION 1\nDISTANCE 0.000 m\n",
@@ -358,19 +358,19 @@ const EXPIRES: [&str; 5] = [
 
 #[test]
 fn a_trip_that_expires(rt: HostRuntime) -> Result<(), Fail> {
-    let image = with_bytes(&held(rt.alloc())?, &NEARLY_EXPIRED);
+    let image = with_bytes(&held(rt.alloc())?, NEARLY_EXPIRED);
     let texts = [A, "U 1767225610\nI 0 1\nK S\nI 0 1\n"];
-    let (board, status) = called(rt.alloc(), &RUN, &texts, &image, &[], &[])?;
+    let (board, status) = called(rt.alloc(), RUN, &texts, &image, &[], &[])?;
     must(status == 0, "another status", "expired")?;
     must(
-        is_made_of(board.printed(), &EXPIRES),
+        is_made_of(board.printed(), EXPIRES),
         "another text",
         "expired",
     )
 }
 
 /// The last number that a hiring may have, 10^15.
-const LAST_NUMBER: [(usize, u8); 8] = [
+const LAST_NUMBER: &[(usize, u8)] = &[
     (1, 0x00),
     (2, 0x03),
     (3, 0x8d),
@@ -386,33 +386,38 @@ const NO_TEXT: &str =
     "WRONG TARIFF 2645762409b70e5ab72a0a803b7d1a341373264e56971a8f44cb1969489d5f9b \
      e3b0c44298fc1c149afbf4c8996fb92427ae41e4649b934ca495991b7852b855\n";
 
-/// Runs that write nothing: tariffs and stores that are refused before the drive, and a store without a
-/// number for another hiring.
+/// Runs that write nothing: over zeros, or a sealed store with other bytes, with a tariff and a drive; the output and
+/// the status. The last is over a store without a number for another hiring.
+const QUIET: &[(&str, Option<u8>, &[(usize, u8)], &str, &str, &str, u8)] = &[
+    ("blank", Some(0), &[], A, HIRING, "NOT SEALED\n", 4),
+    ("no text", None, &[], "", HIRING, NO_TEXT, 6),
+    (
+        "ended",
+        None,
+        LAST_NUMBER,
+        A,
+        "U 1767225600\nK H\nI 5 1\nI 0 1\n",
+        "FOR HIRE T1 Z1\nREFUSED ENDED\n",
+        0,
+    ),
+];
+
 #[test]
 fn runs_that_write_nothing(rt: HostRuntime) -> Result<(), Fail> {
     let good = sealed(rt.alloc(), A, P)?;
-    let ended = with_bytes(&good, &LAST_NUMBER);
-    let drive = "U 1767225600\nK H\nI 5 1\nI 0 1\n";
-    let output = "FOR HIRE T1 Z1\nREFUSED ENDED\n";
-    must_answer(
-        rt.alloc(),
-        "blank",
-        &RUN,
-        &[A, HIRING],
-        &ZEROS,
-        "NOT SEALED\n",
-        4,
-    )?;
-    must_answer(
-        rt.alloc(),
-        "no text",
-        &RUN,
-        &["", HIRING],
-        &good,
-        NO_TEXT,
-        6,
-    )?;
-    must_answer(rt.alloc(), "ended", &RUN, &[A, drive], &ended, output, 0)
+    for &(name, byte, bytes, tariff, drive, output, status) in QUIET {
+        let image = filled_or(byte, &good, bytes);
+        must_answer(
+            rt.alloc(),
+            name,
+            RUN,
+            &[tariff, drive],
+            &image,
+            output,
+            status,
+        )?;
+    }
+    Ok(())
 }
 
 /// A held trip of a position that its tariff hasn't.
@@ -428,7 +433,7 @@ fn a_trip_that_does_not_fit(rt: HostRuntime) -> Result<(), Fail> {
     must_answer(
         rt.alloc(),
         "position 2",
-        &RUN,
+        RUN,
         &[A, HIRING],
         &image,
         "BAD STORE TRIP\n",
@@ -438,7 +443,7 @@ fn a_trip_that_does_not_fit(rt: HostRuntime) -> Result<(), Fail> {
 
 /// The read that fails, the output, and how the totals begin behind it. Reads 1 and 2 are the tariff's, 3 and 4 the
 /// drive's.
-const READS: [(u64, &str, &str); 4] = [
+const READS: &[(u64, &str, &str)] = &[
     (1, "READ FAULT\n", "NUMBER 1\n"),
     (2, "READ FAULT\n", "NUMBER 1\n"),
     (3, "READ FAULT\n", "NUMBER 1\n"),
@@ -449,19 +454,27 @@ const READS: [(u64, &str, &str); 4] = [
     ),
 ];
 
+/// Fails unless a run in which this read fails prints this text and ends with 7, and the totals behind it begin so.
+fn must_break_at(
+    alloc: Global,
+    image: &[u8; 2048],
+    read: u64,
+    output: &str,
+    number: &str,
+) -> Result<(), Fail> {
+    let texts = [A, "U 1767225600\nK H\nI 0 1\n"];
+    let ended = called(alloc, RUN, &texts, image, &[], &[read])?;
+    let is_printed = ended.1 == 7 && ended.0.printed() == output.as_bytes();
+    must_at(is_printed, "another answer at read", read)?;
+    let has_number = has_totals(alloc, ended.0.image(), number)?;
+    must_at(has_number, "other totals at read", read)
+}
+
 #[test]
 fn failing_reads(rt: HostRuntime) -> Result<(), Fail> {
     let image = sealed(rt.alloc(), A, P)?;
-    let texts = [A, "U 1767225600\nK H\nI 0 1\n"];
-    for &(read, output, number) in &READS {
-        let ended = called(rt.alloc(), &RUN, &texts, &image, &[], &[read])?;
-        let is_printed = ended.1 == 7 && ended.0.printed() == output.as_bytes();
-        must_at(is_printed, "another answer at read", read)?;
-        must_at(
-            has_totals(rt.alloc(), ended.0.image(), number)?,
-            "other totals at read",
-            read,
-        )?;
+    for &(read, output, number) in READS {
+        must_break_at(rt.alloc(), &image, read, output, number)?;
     }
     Ok(())
 }
@@ -474,7 +487,7 @@ fn must_begin(
     image: &[u8; 2048],
     failed: u64,
 ) -> Result<(), Fail> {
-    let (board, status) = called(alloc, &RUN, &[A, HELD], image, &[failed], &[])?;
+    let (board, status) = called(alloc, RUN, &[A, HELD], image, &[failed], &[])?;
     must_at(status == 8, "another status at call", failed)?;
     must_at(
         whole.printed().starts_with(board.printed()),
@@ -489,7 +502,7 @@ fn must_begin(
 #[test]
 fn failing_boards(rt: HostRuntime) -> Result<(), Fail> {
     let image = sealed(rt.alloc(), A, P)?;
-    let (whole, status) = called(rt.alloc(), &RUN, &[A, HELD], &image, &[], &[])?;
+    let (whole, status) = called(rt.alloc(), RUN, &[A, HELD], &image, &[], &[])?;
     assert!(rt; (status, whole.calls()) == (0, 28));
     for failed in 1..=28 {
         must_begin(rt.alloc(), &whole, &image, failed)?;
@@ -517,7 +530,7 @@ fn cuts_through_a_run(rt: HostRuntime) -> Result<(), Fail> {
     assert!(rt; (status, board.calls()) == (0, 28));
     for number in 1..=28 {
         let (least, most) = numbers_at(number);
-        for fill in &FILLS {
+        for fill in FILLS {
             let found = number_of(rt.alloc(), &cut_in(&board, number, *fill))?;
             let is_within = least <= found && found <= most;
             must_behind(is_within, "another number", number, *fill)?;

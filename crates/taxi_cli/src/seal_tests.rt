@@ -7,11 +7,11 @@ use outside::{Fill, MemoryBoard};
 use std::alloc::Global;
 use std::test::Fail;
 
-const WORDS: [&str; 3] = ["seal", "t", "p"];
+const WORDS: &[&str] = &["seal", "t", "p"];
 
 /// The bytes that a sealing of a store of zeros leaves, by their places, but for the digest: totals of
 /// nothing with number 1, and the seal with the parameters.
-const SEALED: [(usize, u8); 26] = [
+const SEALED: &[(usize, u8)] = &[
     (0, 0xa5),
     (8, 1),
     (511, 2),
@@ -48,16 +48,16 @@ const DIGEST: [u8; 32] = [
 
 /// Whether an image is zeros but for the bytes of a first sealing.
 fn is_first_sealing(image: &[u8; 2048]) -> bool {
-    let mut wanted = with_bytes(&ZEROS, &SEALED);
+    let mut wanted = with_bytes(ZEROS, SEALED);
     wanted[1056..1088].copy_from_slice(&DIGEST);
     *image == wanted
 }
 
 #[test]
 fn sealing_a_store_of_zeros(rt: HostRuntime) -> Result<(), Fail> {
-    let mut board = MemoryBoard::new(rt.alloc(), &ZEROS, &[])?;
+    let mut board = MemoryBoard::new(rt.alloc(), ZEROS, &[])?;
     for (name, first) in [("sealing 1", true), ("sealing 2", false)] {
-        let status = call(rt.alloc(), &WORDS, &[A, P], &[], &mut board)?;
+        let status = call(rt.alloc(), WORDS, &[A, P], &[], &mut board)?;
         must(
             status == 0 && is_first_sealing(board.image()) == first,
             "another store",
@@ -78,8 +78,8 @@ fn sealing_a_store_of_zeros(rt: HostRuntime) -> Result<(), Fail> {
 
 #[test]
 fn sealing_over_totals(rt: HostRuntime) -> Result<(), Fail> {
-    let mut board = MemoryBoard::new(rt.alloc(), &image_of(&SECOND_LAYOUT), &[])?;
-    let sealed = call(rt.alloc(), &WORDS, &[A, P], &[], &mut board)?;
+    let mut board = MemoryBoard::new(rt.alloc(), &image_of(SECOND_LAYOUT), &[])?;
+    let sealed = call(rt.alloc(), WORDS, &[A, P], &[], &mut board)?;
     must(sealed == 0, "another status", "a sealing")?;
     let status = call(rt.alloc(), &["totals"], &[], &[], &mut board)?;
     must(status == 0, "another status", "totals")?;
@@ -93,7 +93,7 @@ fn sealing_over_totals(rt: HostRuntime) -> Result<(), Fail> {
 }
 
 /// Texts that are refused over the sealed store, and the answers.
-const REFUSED: [(&str, &str, &str, u8); 5] = [
+const REFUSED: &[(&str, &str, &str, u8)] = &[
     (
         "decimals 3\nstep 0.200\ninitial 3.800\nrate 0.200 per 117.4 m, 0.200 per 25.2 s\n",
         P,
@@ -123,12 +123,12 @@ const REFUSED: [(&str, &str, &str, u8); 5] = [
 
 #[test]
 fn refused_sealings(rt: HostRuntime) -> Result<(), Fail> {
-    let image = image_of(&SECOND_LAYOUT);
-    for &(tariff, params, output, status) in &REFUSED {
+    let image = image_of(SECOND_LAYOUT);
+    for &(tariff, params, output, status) in REFUSED {
         must_answer(
             rt.alloc(),
             output,
-            &WORDS,
+            WORDS,
             &[tariff, params],
             &image,
             output,
@@ -139,7 +139,7 @@ fn refused_sealings(rt: HostRuntime) -> Result<(), Fail> {
 }
 
 /// A trip that is held since 2026-01-01T00:00Z, in position 1 and zone 1.
-const HELD: [(usize, u8); 14] = [
+const HELD: &[(usize, u8)] = &[
     (81, 1),
     (86, 0x69),
     (87, 0x55),
@@ -157,7 +157,7 @@ const HELD: [(usize, u8); 14] = [
 ];
 
 /// The number of the last seal.
-const LAST: [(usize, u8); 10] = [
+const LAST: &[(usize, u8)] = &[
     (196, 1),
     (211, 0x01),
     (212, 0x7c),
@@ -170,28 +170,19 @@ const LAST: [(usize, u8); 10] = [
     (1031, 0x80),
 ];
 
+/// What the sealed store has more, and then over that; the line and the status.
+const NOT_SEALED: &[(&[(usize, u8)], &[(usize, u8)], &str, u8)] = &[
+    (HELD, &[(1535, 1)], "TRIP HELD\n", 13),
+    (LAST, &[(1032, 0), (1535, 1)], "SEAL ENDED\n", 14),
+];
+
 #[test]
 fn stores_that_are_not_sealed(rt: HostRuntime) -> Result<(), Fail> {
-    let last = with_bytes(&image_of(&LAST), &[(1032, 0), (1535, 1)]);
-    let held = with_bytes(&image_of(&HELD), &[(1535, 1)]);
-    must_answer(
-        rt.alloc(),
-        "held",
-        &WORDS,
-        &[A, P],
-        &held,
-        "TRIP HELD\n",
-        13,
-    )?;
-    must_answer(
-        rt.alloc(),
-        "last",
-        &WORDS,
-        &[A, P],
-        &last,
-        "SEAL ENDED\n",
-        14,
-    )
+    for &(more, over, line, status) in NOT_SEALED {
+        let image = with_bytes(&image_of(more), over);
+        must_answer(rt.alloc(), line, WORDS, &[A, P], &image, line, status)?;
+    }
+    Ok(())
 }
 
 /// What a call of these words prints over what a cut in a sealing left, and its status.
@@ -227,10 +218,10 @@ fn must_be_cut(alloc: Global, sealed: &MemoryBoard, number: u64, fill: Fill) -> 
 /// A cut in each call of a first sealing.
 #[test]
 fn cuts_through_a_first_sealing(rt: HostRuntime) -> Result<(), Fail> {
-    let (sealed, status) = called(rt.alloc(), &WORDS, &[A, P], &ZEROS, &[], &[])?;
+    let (sealed, status) = called(rt.alloc(), WORDS, &[A, P], ZEROS, &[], &[])?;
     must(status == 0, "another status", "sealed")?;
     for number in 1..=sealed.calls() {
-        for fill in &FILLS {
+        for fill in FILLS {
             must_be_cut(rt.alloc(), &sealed, number, *fill)?;
         }
     }
@@ -246,7 +237,7 @@ fn must_be_sealed(
     number: u64,
     fill: Fill,
 ) -> Result<(), Fail> {
-    let (board, status) = call_after_cut(alloc, &WORDS, sealed, number, fill)?;
+    let (board, status) = call_after_cut(alloc, WORDS, sealed, number, fill)?;
     let stays = status == 0 && board.image()[..1024] == image[..1024];
     must_behind(stays, "other totals", number, fill)?;
     let old = board.printed() == b"SEALED 2\n".as_slice();
@@ -258,11 +249,11 @@ fn must_be_sealed(
 /// A cut in each call of a sealing over totals and a seal.
 #[test]
 fn cuts_through_a_second_sealing(rt: HostRuntime) -> Result<(), Fail> {
-    let image = image_of(&SECOND_LAYOUT);
-    let (sealed, status) = called(rt.alloc(), &WORDS, &[A, P], &image, &[], &[])?;
+    let image = image_of(SECOND_LAYOUT);
+    let (sealed, status) = called(rt.alloc(), WORDS, &[A, P], &image, &[], &[])?;
     must(status == 0, "another status", "sealed")?;
     for number in 1..=sealed.calls() {
-        for fill in &FILLS {
+        for fill in FILLS {
             must_be_sealed(rt.alloc(), &sealed, &image, number, *fill)?;
         }
     }

@@ -1,7 +1,8 @@
 //! The store of a command that needs a sealed one.
-ghost use Rattle.std.specs.Prelude.{◌≡◌, ◌+◌, ◌≤◌, IfErr, IfOk, IsErrOf};
+ghost use Rattle.std.specs.Prelude.{◌≡◌, ◌≢◌, ◌+◌, ◌≤◌, IfErr, IfOk, IsErrOf};
 ghost use Rattle.seal_store.specs.Ranges.{IsSeal};
 ghost use Rattle.totaliser_store.specs.Ranges.{IsDurable};
+ghost use Rattle.taxi_cli.specs.Ending.{HasCauseOn, OnlyLooksAt};
 ghost use Rattle.taxi_cli.specs.Opened.{IsBarred, IsOpenedWith, OnlyOpens};
 ghost use Rattle.taxi_cli.specs.Opening.{opening_of, store_of};
 
@@ -24,6 +25,9 @@ pub fn open_sealed<B: Board<L>, L: Ledger>(
     ensures durable { IfOk result (λ store. IsDurable store.0) }
     ensures seal { IfOk result (λ store. IsSeal store.1) }
     ensures barred { IfErr result IsBarred }
+    ensures not_read { IfErr result (λ why. why ≢ Ended.ReadFault) }
+    ensures cause { IfErr result (HasCauseOn B.Board board.old board.new) }
+    ensures looks { IfErr result (OnlyLooksAt B.Board board.old board.new) }
     ensures opens { OnlyOpens B.Board (IsErrOf result Ended.BoardFault) board.old board.new }
     ensures steps { steps.new ≤ steps.old + 6 }
 {

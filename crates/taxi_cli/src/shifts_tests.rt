@@ -1,9 +1,8 @@
 //! Marks and reports, over files and boards in memory.
 use crate::run_tests::{HIRING, RUN, ran, sealed};
-use crate::store_tests::{SECOND_LAYOUT, image_of};
+use crate::store_tests::{SECOND_LAYOUT, filled_or, image_of};
 use crate::tests::{
-    A, FILLS, P, ZEROS, called, cut_in, joined, must, must_answer, must_answer_amid, must_behind,
-    repeated,
+    A, FILLS, P, called, cut_in, joined, must, must_answer, must_answer_amid, must_behind, repeated,
 };
 use outside::{Fill, MemoryBoard};
 use std::alloc::Global;
@@ -23,7 +22,7 @@ const SHARED: &str =
     "SHIFT 1 ANNA 1 234.800 234.800 3.80 0.00\nDRIVER ANNA 1 234.800 234.800 3.80 0.00\n\
      UNSIGNED 0 0.000 0.000 0.00 0.00\nGROWTH 1 234.800 234.800 3.80 0.00\n";
 
-const SHIFTS: [&str; 2] = ["shifts", "b"];
+const SHIFTS: &[&str] = &["shifts", "b"];
 
 /// The report of a shift in which nothing grew.
 const NOTHING_SHARED: &str =
@@ -31,7 +30,7 @@ const NOTHING_SHARED: &str =
      UNSIGNED 0 0.000 0.000 0.00 0.00\nGROWTH 0 0.000 0.000 0.00 0.00\n";
 
 /// Words over a store of one hiring, their output and status.
-const MARKS: [(&[&str], &str, u8); 14] = [
+const MARKS: &[(&[&str], &str, u8)] = &[
     (
         &["mark", "on", "ANNA"],
         "ON ANNA 2 234800 234800 1 0 380\n",
@@ -58,52 +57,49 @@ const MARKS: [(&[&str], &str, u8); 14] = [
 
 #[test]
 fn marks(rt: HostRuntime) -> Result<(), Fail> {
-    let image = image_of(&SECOND_LAYOUT);
-    for &(words, output, status) in &MARKS {
+    let image = image_of(SECOND_LAYOUT);
+    for &(words, output, status) in MARKS {
         must_answer(rt.alloc(), output, words, &[""], &image, output, status)?;
     }
     Ok(())
 }
 
 /// A seal whose body isn't read.
-const BAD_SEAL: [(usize, u8); 5] = [(196, 1), (211, 0x01), (212, 0x7c), (511, 2), (1535, 2)];
+const BAD_SEAL: &[(usize, u8)] = &[(196, 1), (211, 0x01), (212, 0x7c), (511, 2), (1535, 2)];
 
 /// Words of the commands that open the store.
-const OPENING: [&[&str]; 2] = [&["mark", "off"], &SHIFTS];
+const OPENING: &[&[&str]] = &[&["mark", "off"], SHIFTS];
 
-/// Stores that are refused, before the book is read.
+/// Stores that are refused before the book is read: of one byte throughout, or the sealed one with these bytes more;
+/// the line and the status.
+const WITHOUT_MARKS: &[(Option<u8>, &[(usize, u8)], &str, u8)] = &[
+    (Some(0), &[], "NOT SEALED\n", 4),
+    (None, BAD_SEAL, "BAD STORE 2\n", 5),
+];
+
 #[test]
 fn stores_without_marks(rt: HostRuntime) -> Result<(), Fail> {
-    let bad = image_of(&BAD_SEAL);
-    for words in &OPENING {
-        must_answer_amid(
-            rt.alloc(),
-            "blank",
-            words,
-            &[SHIFT],
-            &ZEROS,
-            &[],
-            &[1],
-            "NOT SEALED\n",
-            4,
-        )?;
-        must_answer_amid(
-            rt.alloc(),
-            "bad",
-            words,
-            &[SHIFT],
-            &bad,
-            &[],
-            &[1],
-            "BAD STORE 2\n",
-            5,
-        )?;
+    for words in OPENING {
+        for &(byte, more, line, status) in WITHOUT_MARKS {
+            let image = filled_or(byte, &image_of(&[]), more);
+            must_answer_amid(
+                rt.alloc(),
+                line,
+                words,
+                &[SHIFT],
+                &image,
+                &[],
+                &[1],
+                line,
+                status,
+            )?;
+        }
     }
     Ok(())
 }
 
 /// Books beside a store of one hiring, their output and status.
-const BOOKS: [(&str, &str, u8); 14] = [
+const BOOKS: &[(&str, &str, u8)] = &[
     (
         "",
         "UNSIGNED 0 0.000 0.000 0.00 0.00\nGROWTH 0 0.000 0.000 0.00 0.00\n",
@@ -150,9 +146,9 @@ const BOOKS: [(&str, &str, u8); 14] = [
 
 #[test]
 fn reports(rt: HostRuntime) -> Result<(), Fail> {
-    let image = image_of(&SECOND_LAYOUT);
-    for &(book, output, status) in &BOOKS {
-        must_answer(rt.alloc(), book, &SHIFTS, &[book], &image, output, status)?;
+    let image = image_of(SECOND_LAYOUT);
+    for &(book, output, status) in BOOKS {
+        must_answer(rt.alloc(), book, SHIFTS, &[book], &image, output, status)?;
     }
     Ok(())
 }
@@ -160,7 +156,7 @@ fn reports(rt: HostRuntime) -> Result<(), Fail> {
 /// Whatever stands in a book of more than 1,048,576 bytes, it is too long.
 #[test]
 fn the_longest_books(rt: HostRuntime) -> Result<(), Fail> {
-    let image = image_of(&SECOND_LAYOUT);
+    let image = image_of(SECOND_LAYOUT);
     for (size, output) in [
         (1_048_576usize, "BAD BOOK 2\n"),
         (1_048_577, "BAD BOOK TOO LONG\n"),
@@ -174,7 +170,7 @@ fn the_longest_books(rt: HostRuntime) -> Result<(), Fail> {
         must_answer(
             rt.alloc(),
             output,
-            &SHIFTS,
+            SHIFTS,
             &[book.as_str()],
             &image,
             output,
@@ -187,12 +183,12 @@ fn the_longest_books(rt: HostRuntime) -> Result<(), Fail> {
 /// Each read of the book that fails: reads 1 and 2 are those of a short one.
 #[test]
 fn books_that_are_not_read(rt: HostRuntime) -> Result<(), Fail> {
-    let image = image_of(&SECOND_LAYOUT);
+    let image = image_of(SECOND_LAYOUT);
     for read in [1, 2] {
         must_answer_amid(
             rt.alloc(),
             "a read",
-            &SHIFTS,
+            SHIFTS,
             &[SHIFT],
             &image,
             &[],
@@ -208,8 +204,8 @@ fn books_that_are_not_read(rt: HostRuntime) -> Result<(), Fail> {
 /// a report.
 #[test]
 fn boards_that_fail(rt: HostRuntime) -> Result<(), Fail> {
-    let image = image_of(&SECOND_LAYOUT);
-    for words in &OPENING {
+    let image = image_of(SECOND_LAYOUT);
+    for words in OPENING {
         for failed in 1..=7 {
             must_answer_amid(
                 rt.alloc(),
@@ -230,12 +226,12 @@ fn boards_that_fail(rt: HostRuntime) -> Result<(), Fail> {
 /// A report of more than 512 bytes is printed in two pieces, of which the second may fail.
 #[test]
 fn a_report_in_pieces(rt: HostRuntime) -> Result<(), Fail> {
-    let image = image_of(&SECOND_LAYOUT);
+    let image = image_of(SECOND_LAYOUT);
     let book = repeated(rt.alloc(), "", "ON ANNA 1 0 0 0 0 0\nOFF 1 0 0 0 0 0\n", 14)?;
     let texts = [book.as_str()];
-    let (whole, status) = called(rt.alloc(), &SHIFTS, &texts, &image, &[], &[])?;
+    let (whole, status) = called(rt.alloc(), SHIFTS, &texts, &image, &[], &[])?;
     must((status, whole.calls()) == (0, 8), "other pieces", "whole")?;
-    let (board, status) = called(rt.alloc(), &SHIFTS, &texts, &image, &[8], &[])?;
+    let (board, status) = called(rt.alloc(), SHIFTS, &texts, &image, &[8], &[])?;
     must(
         (status, board.printed().len()) == (8, 512),
         "other pieces",
@@ -252,7 +248,7 @@ fn a_report_in_pieces(rt: HostRuntime) -> Result<(), Fail> {
 fn after_roaming(alloc: Global) -> Result<[u8; 2048], Fail> {
     let (board, _) = ran(alloc, A, P, HIRING)?;
     let texts = [A, "U 1767225600\nI 2000 500\n"];
-    let (board, _) = called(alloc, &RUN, &texts, board.image(), &[], &[])?;
+    let (board, _) = called(alloc, RUN, &texts, board.image(), &[], &[])?;
     Ok(*board.image())
 }
 
@@ -263,7 +259,7 @@ fn roaming_behind_a_shift(rt: HostRuntime) -> Result<(), Fail> {
     let output =
         "SHIFT 1 ANNA 1 234.800 234.800 3.80 0.00\nDRIVER ANNA 1 234.800 234.800 3.80 0.00\n\
          UNSIGNED 0 100000.000 0.000 0.00 0.00\nGROWTH 1 100234.800 234.800 3.80 0.00\n";
-    must_answer(rt.alloc(), "roaming", &SHIFTS, &[SHIFT], &image, output, 0)
+    must_answer(rt.alloc(), "roaming", SHIFTS, &[SHIFT], &image, output, 0)
 }
 
 /// Fails unless the store has the hiring or not after a cut in this call of its run, the mark off says which, and the
@@ -280,7 +276,7 @@ fn must_sign_off(alloc: Global, board: &MemoryBoard, call: u64, fill: Fill) -> R
     must_behind(is_mark, "another mark", call, fill)?;
     let book = joined(alloc, &[ON_AT_FIRST, mark])?;
     let texts = [book.as_str()];
-    let (shifts, status) = called(alloc, &SHIFTS, &texts, &image, &[], &[])?;
+    let (shifts, status) = called(alloc, SHIFTS, &texts, &image, &[], &[])?;
     let is_shared = status == 0 && shifts.printed() == report.as_bytes();
     must_behind(is_shared, "another report", call, fill)
 }
@@ -305,7 +301,7 @@ fn cuts_before_a_mark(rt: HostRuntime) -> Result<(), Fail> {
         "a hiring",
     )?;
     for number in 1..=18 {
-        for fill in &FILLS {
+        for fill in FILLS {
             must_sign_off(rt.alloc(), &board, number, *fill)?;
         }
     }

@@ -4,7 +4,7 @@ use std::test::Fail;
 
 /// The bytes of a sealed store, by their places: the totals of one hiring in the first slot, beside a
 /// seal with two decimals.
-const STORE: [(usize, u8); 33] = [
+const STORE: &[(usize, u8)] = &[
     (0, 0xa5),
     (8, 2),
     (22, 0x03),
@@ -41,9 +41,9 @@ const STORE: [(usize, u8); 33] = [
 ];
 
 /// What layout 1 has more, and layout 2 with a share of position 1, and a store that breaks its sums.
-const FIRST_LAYOUT: [(usize, u8); 2] = [(511, 1), (1535, 1)];
+const FIRST_LAYOUT: &[(usize, u8)] = &[(511, 1), (1535, 1)];
 
-pub(crate) const SECOND_LAYOUT: [(usize, u8); 5] = [
+pub(crate) const SECOND_LAYOUT: &[(usize, u8)] = &[
     (196, 1),
     (211, 0x01),
     (212, 0x7c),
@@ -51,7 +51,7 @@ pub(crate) const SECOND_LAYOUT: [(usize, u8); 5] = [
     (1535, 1),
 ];
 
-const TOO_MANY_BEFORE: [(usize, u8); 6] = [
+const TOO_MANY_BEFORE: &[(usize, u8)] = &[
     (196, 1),
     (211, 0x01),
     (212, 0x7c),
@@ -60,10 +60,10 @@ const TOO_MANY_BEFORE: [(usize, u8); 6] = [
     (1535, 1),
 ];
 
-const NO_SEAL: [(usize, u8); 5] = [(196, 1), (211, 0x01), (212, 0x7c), (511, 2), (1024, 0)];
+const NO_SEAL: &[(usize, u8)] = &[(196, 1), (211, 0x01), (212, 0x7c), (511, 2), (1024, 0)];
 
 /// Second slots that are open with the number of the first.
-const SAME_TOTALS: [(usize, u8); 16] = [
+const SAME_TOTALS: &[(usize, u8)] = &[
     (196, 1),
     (211, 0x01),
     (212, 0x7c),
@@ -82,7 +82,7 @@ const SAME_TOTALS: [(usize, u8); 16] = [
     (1023, 2),
 ];
 
-const BAD_SEAL: [(usize, u8); 5] = [(196, 1), (211, 0x01), (212, 0x7c), (511, 2), (1535, 2)];
+const BAD_SEAL: &[(usize, u8)] = &[(196, 1), (211, 0x01), (212, 0x7c), (511, 2), (1535, 2)];
 
 /// An image with other bytes at these places.
 pub(crate) fn with_bytes(image: &[u8; 2048], bytes: &[(usize, u8)]) -> [u8; 2048] {
@@ -95,14 +95,22 @@ pub(crate) fn with_bytes(image: &[u8; 2048], bytes: &[(usize, u8)]) -> [u8; 2048
     changed
 }
 
+/// An image of one byte throughout, or one with other bytes at some places.
+pub(crate) fn filled_or(byte: Option<u8>, image: &[u8; 2048], bytes: &[(usize, u8)]) -> [u8; 2048] {
+    match byte {
+        Some(byte) => [byte; 2048],
+        None => with_bytes(image, bytes),
+    }
+}
+
 /// The sealed store with these bytes more.
 pub(crate) fn image_of(more: &[(usize, u8)]) -> [u8; 2048] {
-    with_bytes(&with_bytes(&ZEROS, &STORE), more)
+    with_bytes(&with_bytes(ZEROS, STORE), more)
 }
 
 /// A sealed store whose second seal is the first again.
 fn same_seals() -> [u8; 2048] {
-    let mut image = image_of(&SECOND_LAYOUT);
+    let mut image = image_of(SECOND_LAYOUT);
     for place in 1024..1536 {
         image[place + 512] = image[place];
     }
@@ -113,17 +121,17 @@ pub(crate) const SUMMARY: &str =
     "NUMBER 2\nDISTANCE 234.800 m\nHIRED 234.800 m\nHIRINGS 1\nSUPPLEMENTS 0.00\nFARE 3.80\nHELD no\n";
 
 /// What the store has more, and what `totals` prints behind the summary.
-const TOTALS: [(&[(usize, u8)], &str); 2] = [
-    (&FIRST_LAYOUT, "LAYOUT 1\nBEFORE 1 3.80\n"),
+const TOTALS: &[(&[(usize, u8)], &str)] = &[
+    (FIRST_LAYOUT, "LAYOUT 1\nBEFORE 1 3.80\n"),
     (
-        &SECOND_LAYOUT,
+        SECOND_LAYOUT,
         "LAYOUT 2\nBEFORE 0 0.00\nPOSITION 1 1 3.80\n",
     ),
 ];
 
 #[test]
 fn totals(rt: HostRuntime) -> Result<(), Fail> {
-    for &(more, rest) in &TOTALS {
+    for &(more, rest) in TOTALS {
         let output = joined(rt.alloc(), &[SUMMARY, rest])?;
         must_answer(
             rt.alloc(),
@@ -138,50 +146,42 @@ fn totals(rt: HostRuntime) -> Result<(), Fail> {
     Ok(())
 }
 
-/// What the store has more that isn't sealed or is bad, the output and the status.
-const WITHOUT_TOTALS: [(&[(usize, u8)], &str, u8); 4] = [
-    (&NO_SEAL, "NOT SEALED\n", 4),
-    (&TOO_MANY_BEFORE, "BAD STORE 0\n", 5),
-    (&BAD_SEAL, "BAD STORE 2\n", 5),
-    (&SAME_TOTALS, "BAD STORE 0 1\n", 5),
+/// Stores that aren't sealed or are bad: zeros, or what the sealed store has more; the output and the status.
+const WITHOUT_TOTALS: &[(Option<u8>, &[(usize, u8)], &str, u8)] = &[
+    (None, NO_SEAL, "NOT SEALED\n", 4),
+    (None, TOO_MANY_BEFORE, "BAD STORE 0\n", 5),
+    (None, BAD_SEAL, "BAD STORE 2\n", 5),
+    (None, SAME_TOTALS, "BAD STORE 0 1\n", 5),
+    (Some(0), &[], "NOT SEALED\n", 4),
 ];
 
 #[test]
 fn stores_without_totals(rt: HostRuntime) -> Result<(), Fail> {
-    for &(more, output, status) in &WITHOUT_TOTALS {
-        must_answer(
-            rt.alloc(),
-            output,
-            &["totals"],
-            &[],
-            &image_of(more),
-            output,
-            status,
-        )?;
+    for &(byte, more, output, status) in WITHOUT_TOTALS {
+        let image = filled_or(byte, &image_of(&[]), more);
+        must_answer(rt.alloc(), output, &["totals"], &[], &image, output, status)?;
     }
+    Ok(())
+}
+
+/// A second seal with the number of the first.
+#[test]
+fn seals_of_one_number(rt: HostRuntime) -> Result<(), Fail> {
+    let output = "BAD STORE 2 3\n";
     must_answer(
         rt.alloc(),
-        "blank",
-        &["totals"],
-        &[],
-        &ZEROS,
-        "NOT SEALED\n",
-        4,
-    )?;
-    must_answer(
-        rt.alloc(),
-        "seals",
+        output,
         &["totals"],
         &[],
         &same_seals(),
-        "BAD STORE 2 3\n",
+        output,
         5,
     )
 }
 
 #[test]
 fn faults_at_the_opening(rt: HostRuntime) -> Result<(), Fail> {
-    let image = image_of(&SECOND_LAYOUT);
+    let image = image_of(SECOND_LAYOUT);
     for failed in 1..=7 {
         must_answer_amid(
             rt.alloc(),

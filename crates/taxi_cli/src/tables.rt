@@ -1,4 +1,6 @@
 //! The command `tables`.
+#![tactic(auto, using(crate::proofs::BoardRuns::board_runs))]
+
 ghost use Rattle.std.specs.Prelude.{◌≡◌, ◌≢◌, ℕ, ◌+◌, ◌<◌, ◌≤◌, ◌++◌, length, OnOk};
 ghost use Rattle.outside.specs.Faults.{HasCause, Rose};
 ghost use Rattle.outside.specs.Printing.{Begins};
@@ -18,7 +20,6 @@ use tariff_compile::{Tables, compile};
 use taxi_units::{Line, Steps};
 
 /// Reads the tariff of word 1, and prints all rows of its tables under a constant.
-#[tactic(auto, using(crate::proofs::BoardRuns::board_runs))]
 pub fn print_tables<F: Files, B: Board<L>, L: Ledger>(
     alloc: Global,
     constant: Constant,
@@ -50,7 +51,6 @@ pub fn print_tables<F: Files, B: Board<L>, L: Ledger>(
 }
 
 /// Prints the rows of tables, one after the other.
-#[tactic(auto, using(crate::proofs::BoardRuns::board_runs))]
 fn print_rows<B: Board<L>, L: Ledger>(
     tables: &Tables,
     board: &mut B,

@@ -18,7 +18,7 @@ pub(crate) const P: &str =
     "taxi LX-4711\nconstant 10000\nmode single\nhold 60\noffset 946684800 3600\nsecured 2025-12-01\n";
 
 /// What a cut may leave of the bytes in flight.
-pub(crate) const FILLS: [Fill; 6] = [
+pub(crate) const FILLS: &[Fill] = &[
     Fill::Old,
     Fill::New,
     Fill::Half,
@@ -28,10 +28,10 @@ pub(crate) const FILLS: [Fill; 6] = [
 ];
 
 /// A store of zeros.
-pub(crate) const ZEROS: [u8; 2048] = [0; 2048];
+pub(crate) const ZEROS: &[u8; 2048] = &[0; 2048];
 
 /// Words of `fare` with a constant of 10,000.
-const FARE: [&str; 4] = ["fare", "t", "d", "10000"];
+const FARE: &[&str] = &["fare", "t", "d", "10000"];
 
 const FIRST: &str = "U 1767225600\nK H\nI 0 1\nI 0 504\nI 0 1\n";
 
@@ -202,19 +202,11 @@ fn must_show(
     output: &str,
     status: u8,
 ) -> Result<(), Fail> {
-    must_answer(
-        alloc,
-        tariff,
-        &FARE,
-        &[tariff, drive],
-        &ZEROS,
-        output,
-        status,
-    )
+    must_answer(alloc, tariff, FARE, &[tariff, drive], ZEROS, output, status)
 }
 
 /// Drives under tariff A and a constant of 10,000, what they print, and their status.
-const DRIVES: [(&str, &str, u8); 9] = [
+const DRIVES: &[(&str, &str, u8)] = &[
     (
         FIRST,
         "FOR HIRE T1 Z1\nHIRED T1 Z1 3.80 +0.00\nHIRED T1 Z1 4.00 +0.00\n",
@@ -252,22 +244,14 @@ const DRIVES: [(&str, &str, u8); 9] = [
 
 #[test]
 fn drives(rt: HostRuntime) -> Result<(), Fail> {
-    for &(drive, output, status) in &DRIVES {
-        must_answer(
-            rt.alloc(),
-            drive,
-            &FARE,
-            &[A, drive],
-            &ZEROS,
-            output,
-            status,
-        )?;
+    for &(drive, output, status) in DRIVES {
+        must_answer(rt.alloc(), drive, FARE, &[A, drive], ZEROS, output, status)?;
     }
     Ok(())
 }
 
 /// Tariffs, what the first drive prints under them and a constant of 10,000, and the status.
-const TARIFFS: [(&str, &str, u8); 12] = [
+const TARIFFS: &[(&str, &str, u8)] = &[
     (
         "rate 0.20 per 117.4 m, 0.2 per 25.2 s\r\n\t# by day and by night\n\ninitial 3.80 covers .40\nstep 0.2 ahead",
         "BAD TARIFF Syntax 4\n",
@@ -328,13 +312,13 @@ const TARIFFS: [(&str, &str, u8); 12] = [
 
 #[test]
 fn tariffs(rt: HostRuntime) -> Result<(), Fail> {
-    for &(tariff, output, status) in &TARIFFS {
+    for &(tariff, output, status) in TARIFFS {
         must_answer(
             rt.alloc(),
             tariff,
-            &FARE,
+            FARE,
             &[tariff, FIRST],
-            &ZEROS,
+            ZEROS,
             output,
             status,
         )?;
@@ -351,7 +335,7 @@ fn the_longest_tariff(rt: HostRuntime) -> Result<(), Fail> {
     ] {
         let long = repeated(rt.alloc(), A, "#", size.saturating_sub(A.len()))?;
         let texts = [long.as_str(), "U 1767225600\n"];
-        must_answer(rt.alloc(), output, &FARE, &texts, &ZEROS, output, status)?;
+        must_answer(rt.alloc(), output, FARE, &texts, ZEROS, output, status)?;
     }
     Ok(())
 }
@@ -369,7 +353,7 @@ const EACH_STEP: &str =
      HIRED T1 Z1 6.00 +0.00\nHIRED T1 Z1 6.20 +0.00\n";
 
 /// What follows tariff A, a drive, what it prints under both, and its status.
-const MINIMUMS: [(&str, &str, &str, u8); 7] = [
+const MINIMUMS: &[(&str, &str, &str, u8)] = &[
     (
         "minimum 6.00\n",
         NOON,
@@ -406,7 +390,7 @@ const MINIMUMS: [(&str, &str, &str, u8); 7] = [
 
 #[test]
 fn minimum_fares(rt: HostRuntime) -> Result<(), Fail> {
-    for &(minimums, drive, output, status) in &MINIMUMS {
+    for &(minimums, drive, output, status) in MINIMUMS {
         let tariff = joined(rt.alloc(), &[A, minimums])?;
         must_show(rt.alloc(), tariff.as_str(), drive, output, status)?;
     }
@@ -414,7 +398,7 @@ fn minimum_fares(rt: HostRuntime) -> Result<(), Fail> {
 }
 
 /// Words that are no command, with their names. Tariff and drive would be taken.
-const CALLS: [(&str, &[&str]); 8] = [
+const CALLS: &[(&str, &[&str])] = &[
     ("too few pulses", &["fare", "t", "d", "499"]),
     ("too many pulses", &["fare", "t", "d", "200001"]),
     ("too many digits", &["fare", "t", "d", "0010000"]),
@@ -427,13 +411,13 @@ const CALLS: [(&str, &[&str]); 8] = [
 
 #[test]
 fn words(rt: HostRuntime) -> Result<(), Fail> {
-    for &(name, words) in &CALLS {
+    for &(name, words) in CALLS {
         must_answer(
             rt.alloc(),
             name,
             words,
             &[A, FIRST],
-            &ZEROS,
+            ZEROS,
             "BAD WORDS\n",
             1,
         )?;
@@ -443,7 +427,7 @@ fn words(rt: HostRuntime) -> Result<(), Fail> {
 
 /// Names of failures, the numbers of the read and of the print that fail, the output and the status. Reads 1 and 2
 /// are the tariff's, 3 and 4 the drive's.
-const FAILURES: [(&str, u64, u64, &str, u8); 7] = [
+const FAILURES: &[(&str, u64, u64, &str, u8)] = &[
     ("read 1", 1, 0, "READ FAULT\n", 7),
     ("read 2", 2, 0, "READ FAULT\n", 7),
     ("read 3", 3, 0, "READ FAULT\n", 7),
@@ -468,13 +452,13 @@ const FAILURES: [(&str, u64, u64, &str, u8); 7] = [
 #[test]
 fn faults_of_the_outside(rt: HostRuntime) -> Result<(), Fail> {
     let texts = [A, FIRST];
-    for &(name, read, print, output, status) in &FAILURES {
+    for &(name, read, print, output, status) in FAILURES {
         must_answer_amid(
             rt.alloc(),
             name,
-            &FARE,
+            FARE,
             &texts,
-            &ZEROS,
+            ZEROS,
             &[print],
             &[read],
             output,
@@ -485,7 +469,7 @@ fn faults_of_the_outside(rt: HostRuntime) -> Result<(), Fail> {
 }
 
 /// Tariffs and what `check` says of them, with its status.
-const CHECKS: [(&str, &str, u8); 7] = [
+const CHECKS: &[(&str, &str, u8)] = &[
     (A, "OK CELLS 7 MEASURE 147924\n", 0),
     ("", "BAD TARIFF NoStep\n", 2),
     (
@@ -517,13 +501,13 @@ const CHECKS: [(&str, &str, u8); 7] = [
 
 #[test]
 fn checks(rt: HostRuntime) -> Result<(), Fail> {
-    for &(tariff, output, status) in &CHECKS {
+    for &(tariff, output, status) in CHECKS {
         must_answer(
             rt.alloc(),
             tariff,
             &["check", "t"],
             &[tariff],
-            &ZEROS,
+            ZEROS,
             output,
             status,
         )?;
@@ -542,7 +526,7 @@ fn too_many_rates(rt: HostRuntime) -> Result<(), Fail> {
         output,
         &["check", "t"],
         &[many.as_str()],
-        &ZEROS,
+        ZEROS,
         output,
         2,
     )
@@ -554,7 +538,7 @@ const ROWS: &str =
      CELL 3 1 1\nCELL 4 1 1\nCELL 5 1 1\nCELL 6 1 1\n";
 
 /// Constants, the number of the print that fails, the output and the status.
-const TABLES: [(&str, u64, &str, u8); 3] = [
+const TABLES: &[(&str, u64, &str, u8)] = &[
     ("10000", 0, ROWS, 0),
     ("499", 0, "BAD WORDS\n", 1),
     ("10000", 2, "MEASURE 1479240000\n", 8),
@@ -562,14 +546,14 @@ const TABLES: [(&str, u64, &str, u8); 3] = [
 
 #[test]
 fn tables(rt: HostRuntime) -> Result<(), Fail> {
-    for &(constant, print, output, status) in &TABLES {
+    for &(constant, print, output, status) in TABLES {
         let words = ["tables", "t", constant];
         must_answer_amid(
             rt.alloc(),
             output,
             &words,
             &[A],
-            &ZEROS,
+            ZEROS,
             &[print],
             &[],
             output,
@@ -587,7 +571,7 @@ fn tables_of_a_minimum_fare(rt: HostRuntime) -> Result<(), Fail> {
         rt.alloc(),
         &["tables", "t", "10000"],
         &[night.as_str()],
-        &ZEROS,
+        ZEROS,
         &[],
         &[],
     )?;

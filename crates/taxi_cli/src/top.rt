@@ -1,4 +1,6 @@
 //! The top call: words in, a status out.
+#![tactic(auto, using(crate::proofs::BoardRuns::board_runs))]
+
 ghost use Rattle.std.specs.Prelude.{◌≡◌, ◌≢◌, ◌⊎◌, ℕ, ◌+◌, ◌≤◌, None, Some, map, string_bytes};
 ghost use Rattle.outside.specs.Faults.{Rose};
 ghost use Rattle.outside.specs.Runs.{IsSettled, KeepsStore, LeavesOnly};
@@ -34,7 +36,6 @@ use std::sync::ledger::Ledger;
 use taxi_units::Steps;
 
 /// Carries out a command, but for its last line.
-#[tactic(auto, using(crate::proofs::BoardRuns::board_runs))]
 fn carry_out<F: Files, B: Board<L>, L: Ledger>(
     alloc: Global,
     row: Row,
@@ -124,7 +125,8 @@ fn carry_out<F: Files, B: Board<L>, L: Ledger>(
 /// - 9, `BAD PARAMS` with the fault: exactly where the parameters have this first fault
 /// - 10, `BAD READINGS n` or `BAD READINGS TOO LONG`: exactly where row n is the first that is no row of readings,
 ///   or the readings have more than 1,048,576 bytes
-/// - 11, no line: exactly where a row of the report of `bench` doesn't pass; the output is whole
+/// - 11, no line: exactly where a row of the report of `bench` doesn't pass; the output is whole, and each file was
+///   read to its end
 /// - 12, `NO MEMORY`: free but for `totals`, `port` and `mark`, before anything is printed or written and, but for
 ///   `bench`, before the first byte of the drive is taken
 /// - 13, `TRIP HELD`: exactly where the totals of the store hold a trip
@@ -140,7 +142,6 @@ fn carry_out<F: Files, B: Board<L>, L: Ledger>(
 ///   the first that is no mark, may not follow those before it, or has a number greater than the store's
 ///
 /// The words, the statuses and the lines are this project's own.
-#[tactic(auto, using(crate::proofs::BoardRuns::board_runs))]
 pub fn taxi<F: Files, B: Board<L>, L: Ledger>(
     alloc: Global,
     words: &[String],

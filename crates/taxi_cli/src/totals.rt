@@ -1,4 +1,6 @@
 //! The command `totals`.
+#![tactic(auto, using(crate::proofs::BoardRuns::board_runs))]
+
 ghost use Rattle.std.specs.Prelude.{◌≡◌, ◌≢◌, ◌+◌, ◌<◌, ◌≤◌, ◌++◌, ℕ, List, OnOk};
 ghost use Rattle.outside.specs.Faults.{HasCause};
 ghost use Rattle.outside.specs.Printing.{Begins};
@@ -35,7 +37,6 @@ pub fn print_store<B: Board<L>, L: Ledger>(board: &mut B, steps: &mut Steps<L>) 
 }
 
 /// Prints totals, the lines of the tariff positions at the end.
-#[tactic(auto, using(crate::proofs::BoardRuns::board_runs))]
 fn print_totals<B: Board<L>, L: Ledger>(
     durable: &Durable,
     decimals: u8,
@@ -60,7 +61,6 @@ fn print_totals<B: Board<L>, L: Ledger>(
 }
 
 /// Prints the line of the tariff position whose share is at a place, where it has hirings.
-#[tactic(auto, using(crate::proofs::BoardRuns::board_runs))]
 fn print_position<B: Board<L>, L: Ledger>(
     shares: &[Share; 9],
     place: usize,

@@ -31,7 +31,7 @@ returns-in-Err-clause-ends g c = λ tells told.
     let mid = c.open_terms.new.files in
     comes-no_terms (rest files) (rest mid) (g.B.Board.image c.args.board.now) (λ word. Rose (faults files word) (faults mid word))
     (Rose (g.B.Board.faults c.args.board.now) (g.B.Board.faults c.open_terms.new.board)) g.B.Board.tells_text (printed c.args.board.now) (printed c.open_terms.new.board)
-    (record { bytes = sym (c.open_terms.ensures.others 2 two-one) }) c.open_terms.ensures.opens.reads.text c.in-Err.why (c.open_terms.ensures.refused c.in-Err.why tells told c.in-Err.is)
+    (record { bytes = sym (c.open_terms.ensures.others 2 two-one) }) c.open_terms.ensures.opens.reads.text c.in-Err.why (c.in-Err.ensures.refused tells told)
 
 pub returns-in-Err-clause-store : goal.returns-in-Err-clause-store
 returns-in-Err-clause-store g c = bytes-read g.B.Board c.args.board.now c.open_terms.new.board c.open_terms.ensures.opens.reads
@@ -94,32 +94,20 @@ returns-in-Err-judge_drive-clause-others g c = λ other one two three. c.judge_d
 pub returns-in-Ok-print_text-clause-ends : goal.returns-in-Ok-print_text-clause-ends
 returns-in-Ok-print_text-clause-ends g c = λ tells told.
     let rest = g.F.Files.rest in
-    let files = c.args.files.now in
-    let mid = c.open_terms.new.files in
-    let new = c.judge_drive.new.files in
-    let j = has_judged (rest files) (rest mid) (rest new) (g.B.Board.image c.args.board.now) (c.in-Ok.ensures.found tells told) (c.in-Ok.ensures.ended tells)
+    let j = has_judged (rest c.args.files.now) (rest c.open_terms.new.files) (rest c.judge_drive.new.files) (g.B.Board.image c.args.board.now) (c.in-Ok.ensures.found tells told) (c.in-Ok.ensures.ended tells)
     c.open_terms.ensures.others c.judge_drive.ensures.others (c.in-Ok-judge_drive.ensures.judged tells) (c.in-Ok-judge_drive.ensures.ended tells) in
-    let printed = g.B.Board.printed in
-    let old = c.args.board.now in
-    let last = c.print_text.new.board in
-    subst (λ (end : Ended). ComesOn g.F.Files g.B.Board bench_command files new old last end) (sym c.ended.ensures)
-    (comes-judged (rest files) (rest new) (g.B.Board.image old) (λ word. Rose (g.F.Files.faults files word) (g.F.Files.faults new word)) (Rose (g.B.Board.faults old) (g.B.Board.faults last))
-    g.B.Board.tells_text (printed old) (printed last) j
-    (λ t. c.in-Ok-print_text.ensures.whole t ∙ ap (λ (x : List ℕ). x ++ c.as_slice.result.now) c.open_terms.ensures.opens.reads.text ∙ ap (λ (x : List ℕ). printed old ++ x) c.as_slice.ensures.value))
+    subst (λ (end : Ended). ComesOn g.F.Files g.B.Board bench_command c.args.files.now c.judge_drive.new.files c.args.board.now c.print_text.new.board end) (sym c.ended.ensures)
+    (comes-judged (rest c.args.files.now) (rest c.judge_drive.new.files) (g.B.Board.image c.args.board.now) _ _ g.B.Board.tells_text (g.B.Board.printed c.args.board.now) (g.B.Board.printed c.print_text.new.board) j
+    (λ t. c.in-Ok-print_text.ensures.whole t ∙ ap (λ (x : List ℕ). x ++ c.as_slice.result.now) c.open_terms.ensures.opens.reads.text
+    ∙ ap (λ (x : List ℕ). g.B.Board.printed c.args.board.now ++ x) c.as_slice.ensures.value))
 
 pub returns-in-Ok-print_text-clause-steps : goal.returns-in-Ok-print_text-clause-steps
 returns-in-Ok-print_text-clause-steps g c = λ tells told.
     let rest = g.F.Files.rest in
-    let files = c.args.files.now in
-    let new = c.judge_drive.new.files in
-    let image = g.B.Board.image c.args.board.now in
-    let j = has_judged (rest files) (rest c.open_terms.new.files) (rest new) image (c.in-Ok.ensures.found tells told) (c.in-Ok.ensures.ended tells)
-    c.open_terms.ensures.others c.judge_drive.ensures.others (c.in-Ok-judge_drive.ensures.judged tells) (c.in-Ok-judge_drive.ensures.ended tells) in
-    omega (
-      arith,
-      c.open_terms.ensures.steps,
-      steps-judged (rest files) (rest new) image j c.as_slice.result.now c.open_terms.new.steps c.print_text.new.steps c.as_slice.ensures.value c.print_text.ensures.steps,
-    )
+    steps-judged (rest c.args.files.now) (rest c.judge_drive.new.files) (g.B.Board.image c.args.board.now)
+    (has_judged (rest c.args.files.now) (rest c.open_terms.new.files) (rest c.judge_drive.new.files) (g.B.Board.image c.args.board.now) (c.in-Ok.ensures.found tells told) (c.in-Ok.ensures.ended tells)
+    c.open_terms.ensures.others c.judge_drive.ensures.others (c.in-Ok-judge_drive.ensures.judged tells) (c.in-Ok-judge_drive.ensures.ended tells))
+    c.as_slice.result.now _ _ _ c.open_terms.ensures.steps c.as_slice.ensures.value c.print_text.ensures.steps
 
 pub returns-in-Ok-print_text-clause-store : goal.returns-in-Ok-print_text-clause-store
 returns-in-Ok-print_text-clause-store g c =
@@ -144,33 +132,22 @@ returns-in-Ok-print_text-clause-others g c = λ other one two three. c.judge_dri
 pub returns-clause-ends : goal.returns-clause-ends
 returns-clause-ends g c = λ tells told.
     let rest = g.F.Files.rest in
-    let files = c.args.files.now in
-    let mid = c.open_terms.new.files in
-    let new = c.judge_drive.new.files in
-    let j = has_judged (rest files) (rest mid) (rest new) (g.B.Board.image c.args.board.now) (c.in-Ok.ensures.found tells told) (c.in-Ok.ensures.ended tells)
+    let j = has_judged (rest c.args.files.now) (rest c.open_terms.new.files) (rest c.judge_drive.new.files) (g.B.Board.image c.args.board.now) (c.in-Ok.ensures.found tells told) (c.in-Ok.ensures.ended tells)
     c.open_terms.ensures.others c.judge_drive.ensures.others (c.in-Ok-judge_drive.ensures.judged tells) (c.in-Ok-judge_drive.ensures.ended tells) in
-    let old = c.args.board.now in
     let last = c.print_text.new.board in
     let printed = g.B.Board.printed in
-    comes-begun (rest files) (rest new) (g.B.Board.image old) (λ word. Rose (g.F.Files.faults files word) (g.F.Files.faults new word)) (Rose (g.B.Board.faults old) (g.B.Board.faults last))
-    g.B.Board.tells_text (printed old) (printed last) j
-    (λ t. subst (λ (x : List ℕ). Begins (printed old) (printed last) x) c.as_slice.ensures.value
+    comes-begun (rest c.args.files.now) (rest c.judge_drive.new.files) (g.B.Board.image c.args.board.now) _ _ g.B.Board.tells_text (printed c.args.board.now) (printed last) j
+    (λ t. subst (λ (x : List ℕ). Begins (printed c.args.board.now) (printed last) x) c.as_slice.ensures.value
     (subst (λ (x : List ℕ). Begins x (printed last) c.as_slice.result.now) c.open_terms.ensures.opens.reads.text (c.print_text.ensures.begun t)))
     (omega (arith, c.print_text.ensures.cause.failed (ap is_err c.in-Err-print_text.is), c.open_terms.ensures.opens.count))
 
 pub returns-clause-steps : goal.returns-clause-steps
 returns-clause-steps g c = λ tells told.
     let rest = g.F.Files.rest in
-    let files = c.args.files.now in
-    let new = c.judge_drive.new.files in
-    let image = g.B.Board.image c.args.board.now in
-    let j = has_judged (rest files) (rest c.open_terms.new.files) (rest new) image (c.in-Ok.ensures.found tells told) (c.in-Ok.ensures.ended tells)
-    c.open_terms.ensures.others c.judge_drive.ensures.others (c.in-Ok-judge_drive.ensures.judged tells) (c.in-Ok-judge_drive.ensures.ended tells) in
-    omega (
-      arith,
-      c.open_terms.ensures.steps,
-      steps-judged (rest files) (rest new) image j c.as_slice.result.now c.open_terms.new.steps c.print_text.new.steps c.as_slice.ensures.value c.print_text.ensures.steps,
-    )
+    steps-judged (rest c.args.files.now) (rest c.judge_drive.new.files) (g.B.Board.image c.args.board.now)
+    (has_judged (rest c.args.files.now) (rest c.open_terms.new.files) (rest c.judge_drive.new.files) (g.B.Board.image c.args.board.now) (c.in-Ok.ensures.found tells told) (c.in-Ok.ensures.ended tells)
+    c.open_terms.ensures.others c.judge_drive.ensures.others (c.in-Ok-judge_drive.ensures.judged tells) (c.in-Ok-judge_drive.ensures.ended tells))
+    c.as_slice.result.now _ _ _ c.open_terms.ensures.steps c.as_slice.ensures.value c.print_text.ensures.steps
 
 pub returns-clause-store : goal.returns-clause-store
 returns-clause-store g c =

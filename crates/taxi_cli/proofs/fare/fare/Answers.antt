@@ -29,7 +29,7 @@ returns-in-Err-clause-ends g c = λ tells.
     rw c.refused_by.ensures
     (comes-unprinted (fare_command k) (rest c.args.files.now) (rest c.read_tariff.new.files) image _ _ _ (g.B.Board.printed c.args.board.now) _
     (comes-refused (fare_command k) (rest c.args.files.now) (rest c.read_tariff.new.files) image _
-    (untouched (rest c.args.files.now 2) (rest c.read_tariff.new.files 2) (c.read_tariff.ensures.others 2 (two-one 2 refl))) refl c.in-Err.fault
+    (untouched (rest c.args.files.now 2) (rest c.read_tariff.new.files 2) (c.read_tariff.ensures.others 2 (two-one 2 refl))) refl (λ e. absurd cc) c.in-Err.fault
     (inl refl) (inl (refl, refl)) (shows_nothing k found)
     (λ e. c.read_tariff.ensures.read_fault (c.in-Err.is ∙ ap Err e))
     (λ why e. refused-fare k found (rest c.args.files.now 2) why (c.read_tariff.ensures.refused why tells (c.in-Err.is ∙ ap Err e)))))

@@ -1,4 +1,4 @@
-use Rattle.std.proofs.Common.{◌∙◌, ℕ, List, [], Result, Err, refl, sym, ap, subst, arith}
+use Rattle.std.proofs.Common.{◌∙◌, ℕ, List, [], Result, refl, sym, subst, arith}
 use Rattle.data_port.specs.Serving.{Serves}
 use Rattle.totaliser_store.specs.declared.durable.Durable.{Durable}
 use Rattle.seal_store.specs.declared.seal.Seal.{Seal}
@@ -6,44 +6,28 @@ use Rattle.taxi_cli.specs.declared.ending.Ended.{Ended}
 use Rattle.taxi_cli.specs.declared.ending.Ended.TheVariants as ended
 use Rattle.taxi_cli.specs.Ending.{ComesOn}
 use Rattle.taxi_cli.specs.Port.{port_answer, port_command}
-use Rattle.taxi_cli.proofs.Answering.{comes-barred, not_read-barred}
-use Rattle.taxi_cli.proofs.Looking.{looks-behind, looks-opened}
-use Rattle.taxi_cli.proofs.Openings.{no_fault, same_fault}
+use Rattle.taxi_cli.proofs.Looking.{looks-behind}
+use Rattle.taxi_cli.proofs.Openings.{as_found, no_fault}
 use Rattle.taxi_cli.proofs.Porting.{board_fault-served, comes-served, not_refused, read_fault-served}
+use Rattle.taxi_cli.proofs.StoreTexts.{ends-barred}
 use Rattle.taxi_cli.proofs.port.serve_requests.Goals as goal
 
 -- ---- there is no sealed store
 
 pub returns-in-Err-clause-ends : goal.returns-in-Err-clause-ends
 returns-in-Err-clause-ends g c = λ tells told.
-    let rest = g.F.Files.rest in
-    let image = g.B.Board.image c.args.board.now in
-    let printed = g.B.Board.printed in
-    let opened = c.open_sealed.ensures in
-    comes-barred port_command (rest c.args.files.now) (rest c.args.files.now) image _ _ g.B.Board.tells_text (printed c.args.board.now) (printed c.open_sealed.new.board)
-    (record { bytes = refl }) opened.opens.reads.text c.in-Err.why c.in-Err.ensures.barred
-    (λ good. ap (λ (r : Result (Durable × Seal) Ended). port_answer r (rest c.args.files.now 1))
-    (sym (opened.exact told (λ f. good (same_fault c.open_sealed.result c.in-Err.why ended.BoardFault c.in-Err.is f))) ∙ c.in-Err.is))
-    (λ e. opened.opens.cause (c.in-Err.is ∙ ap Err e))
+    let rest = g.F.Files.rest c.args.files.now in
+    ends-barred g.B.Board port_command rest rest _ c.args.board.now c.open_sealed.new.board (λ (r : Result (Durable × Seal) Ended). port_answer r (rest 1)) refl (record { bytes = refl })
+    c.open_sealed.result (c.open_sealed.ensures.exact told) c.open_sealed.ensures.opens (λ e. absurd cc) (λ e. absurd cc) c.in-Err.why c.in-Err.is c.in-Err.ensures.barred refl
 
 pub returns-in-Err-clause-read_fault : goal.returns-in-Err-clause-read_fault
-returns-in-Err-clause-read_fault g c = λ e. absurd (not_read-barred c.in-Err.why c.in-Err.ensures.barred e)
-
-pub returns-in-Err-clause-cause : goal.returns-in-Err-clause-cause
-returns-in-Err-clause-cause g c = record {
-  count = c.open_sealed.ensures.opens.count;
-  failed = λ e. c.open_sealed.ensures.opens.cause (c.in-Err.is ∙ ap Err e);
-}
+returns-in-Err-clause-read_fault g c = λ e. absurd (c.in-Err.ensures.not_read e)
 
 pub returns-in-Err-clause-steps : goal.returns-in-Err-clause-steps
 returns-in-Err-clause-steps g c = λ tells. record { taken = []; split = record { bytes = refl }; bound = omega (arith, c.open_sealed.ensures.steps) }
 
 pub returns-in-Err-clause-unread : goal.returns-in-Err-clause-unread
 returns-in-Err-clause-unread g c = λ told why refused. refl
-
-pub returns-in-Err-clause-looks : goal.returns-in-Err-clause-looks
-returns-in-Err-clause-looks g c =
-    looks-opened g.B.Board _ c.in-Err.why c.args.board.now c.open_sealed.new.board (same_fault c.open_sealed.result c.in-Err.why ended.BoardFault c.in-Err.is) c.open_sealed.ensures.opens
 
 -- ---- the requests are served
 
@@ -55,12 +39,11 @@ returns-clause-ends g c = λ tells told.
     let opened = c.open_sealed.ensures in
     let store = c.in-Ok.store in
     let served = c.serve-served in
-    let went = no_fault c.open_sealed.result store ended.BoardFault c.in-Ok.is in
     let serves = subst (λ (p : List ℕ). Serves g.B.Board.tells_text store.0 store.1 (rest c.args.files.now 1) (rest served.new.files 1) p (printed served.new.board) served.result)
     opened.opens.reads.text (served.ensures.serves tells) in
     subst (λ (end : Ended). ComesOn g.F.Files g.B.Board port_command c.args.files.now served.new.files c.args.board.now served.new.board end) (sym c.ended_of_serving.ensures)
     (comes-served (rest c.args.files.now) (rest served.new.files) image _ _ g.B.Board.tells_text (printed c.args.board.now) (printed served.new.board) store.0 store.1
-    (sym (opened.exact told went) ∙ c.in-Ok.is) served.result serves served.ensures.read_fault
+    (as_found c.open_sealed.result _ store ended.BoardFault c.in-Ok.is (opened.exact told)) served.result serves served.ensures.read_fault
     (λ e. omega (arith, served.ensures.board_fault e, opened.opens.count)))
 
 pub returns-clause-steps : goal.returns-clause-steps
@@ -70,8 +53,7 @@ returns-clause-steps g c = λ tells.
 
 pub returns-clause-unread : goal.returns-clause-unread
 returns-clause-unread g c = λ told why refused.
-    let went = no_fault c.open_sealed.result c.in-Ok.store ended.BoardFault c.in-Ok.is in
-    absurd (not_refused _ c.in-Ok.store why (sym (c.open_sealed.ensures.exact told went) ∙ c.in-Ok.is) refused)
+    absurd (not_refused _ c.in-Ok.store why (as_found c.open_sealed.result _ c.in-Ok.store ended.BoardFault c.in-Ok.is (c.open_sealed.ensures.exact told)) refused)
 
 pub returns-clause-read_fault : goal.returns-clause-read_fault
 returns-clause-read_fault g c = λ e. record {

@@ -26,7 +26,7 @@ returns-in-Err-clause-runs g c = λ tells told.
     let why = c.in-Err.why in
     let before = c.begin.ensures in
     comes-not_begun g.F.Files g.B.Board c.args.files.now c.begin.new.files c.args.board.now c.begin.new.board (before.others 2 (two-one 2 refl))
-    (IsErrOf c.begin.result ended.BoardFault) before.opens.reads (before.opens.synced told) why (before.refused why tells told c.in-Err.is)
+    (IsErrOf c.begin.result ended.BoardFault) before.opens.reads (before.opens.synced told) why (c.in-Err.ensures.refused tells told)
     (λ f. same_fault c.begin.result why ended.BoardFault c.in-Err.is f)
     (λ good. before.opens.settled told (λ f. good (same_fault c.begin.result why ended.BoardFault c.in-Err.is f)))
     (λ good. before.opens.same (λ f. good (same_fault c.begin.result why ended.BoardFault c.in-Err.is f)))

@@ -4,9 +4,11 @@ use Rattle.slot_store.specs.Scan.{IsAsFound}
 use Rattle.totaliser_store.specs.declared.durable.Durable.{Durable}
 use Rattle.totaliser_store.specs.Reading as totals
 use Rattle.totaliser_store.specs.Stored as states
+use Rattle.taxi_cli.specs.declared.ending.Ended.TheVariants as ended
 use Rattle.taxi_cli.specs.declared.opening.StoreFault.TheVariants as stores
 use Rattle.taxi_cli.specs.Opening.{store_ended, store_of}
-use Rattle.taxi_cli.proofs.Answering.{board_fault-store}
+use Rattle.taxi_cli.proofs.Barring.{board_fault-store, not_read-store}
+use Rattle.taxi_cli.proofs.Looking.{looks-opened}
 use Rattle.taxi_cli.proofs.Openings.{no_fault, opens-as, same_fault, store_opened}
 use Rattle.taxi_cli.proofs.Starting.{sealed_found}
 use Rattle.taxi_cli.proofs.sealed.open_sealed.Goals as goal
@@ -21,6 +23,22 @@ returns-in-Err-clause-exact g c = λ told good.
 
 pub returns-in-Err-clause-barred : goal.returns-in-Err-clause-barred
 returns-in-Err-clause-barred g c = inr (c.in-Err.fault, c.refused_store.ensures)
+
+pub returns-in-Err-clause-not_read : goal.returns-in-Err-clause-not_read
+returns-in-Err-clause-not_read g c = λ e. not_read-store c.in-Err.fault (sym c.refused_store.ensures ∙ e)
+
+pub returns-in-Err-clause-cause : goal.returns-in-Err-clause-cause
+returns-in-Err-clause-cause g c = record {
+  count = c.open_store.ensures.count;
+  failed = λ e. c.open_store.ensures.cause (c.in-Err.is ∙ ap Err (board_fault-store c.in-Err.fault (sym c.refused_store.ensures ∙ e)));
+}
+
+pub returns-in-Err-clause-looks : goal.returns-in-Err-clause-looks
+returns-in-Err-clause-looks g c =
+    let h = c.open_store.ensures in
+    looks-opened g.B.Board (c.open_store.result ≡ Err stores.BoardFault) c.refused_store.result c.args.board.now c.open_store.new.board
+    (λ f. c.refused_store.ensures ∙ ap store_ended (same_fault c.open_store.result c.in-Err.fault stores.BoardFault c.in-Err.is f))
+    (record { reads = h.reads; synced = h.synced; settled = h.settled; same = h.same; count = h.count; cause = h.cause })
 
 pub returns-in-Err-clause-opens : goal.returns-in-Err-clause-opens
 returns-in-Err-clause-opens g c =
@@ -60,6 +78,16 @@ returns-in-None-clause-exact g c = λ told good.
 
 pub returns-in-None-clause-barred : goal.returns-in-None-clause-barred
 returns-in-None-clause-barred g c = inl refl
+
+pub returns-in-None-clause-cause : goal.returns-in-None-clause-cause
+returns-in-None-clause-cause g c = record { count = c.open_store.ensures.count; failed = λ e. absurd cc }
+
+pub returns-in-None-clause-looks : goal.returns-in-None-clause-looks
+returns-in-None-clause-looks g c =
+    let h = c.open_store.ensures in
+    looks-opened g.B.Board (c.open_store.result ≡ Err stores.BoardFault) ended.NotSealed c.args.board.now c.open_store.new.board
+    (λ f. absurd (no_fault c.open_store.result c.in-Ok.opening stores.BoardFault c.in-Ok.is f))
+    (record { reads = h.reads; synced = h.synced; settled = h.settled; same = h.same; count = h.count; cause = h.cause })
 
 pub returns-in-None-clause-opens : goal.returns-in-None-clause-opens
 returns-in-None-clause-opens g c =

@@ -15,7 +15,7 @@ returns-in-Err-clause-ends g c = λ tells.
     let image = g.B.Board.image c.args.board.now in
     rw c.refused_by.ensures
     (comes-unprinted (tables_command k) (rest c.args.files.now) (rest c.read_tariff.new.files) image _ _ _ (g.B.Board.printed c.args.board.now) _
-    (comes-refused (tables_command k) (rest c.args.files.now) (rest c.read_tariff.new.files) image _ refl tt c.in-Err.fault refl refl refl
+    (comes-refused (tables_command k) (rest c.args.files.now) (rest c.read_tariff.new.files) image _ refl tt (λ e. absurd cc) c.in-Err.fault refl refl refl
     (λ e. c.read_tariff.ensures.read_fault (c.in-Err.is ∙ ap Err e))
     (λ why e. refused-tables k (tariff_in (rest c.args.files.now 1)) why (c.read_tariff.ensures.refused why tells (c.in-Err.is ∙ ap Err e)))))
 
