@@ -1,5 +1,5 @@
 -- How many records a log has whose end is known, and where the first of them is held.
-use Rattle.std.proofs.Common.{◌≡◌, inl, inr, ℕ, ◌+◌, ◌-◌, ◌^◌, ◌<◌, ◌≤◌, Bool, true, false, List, length, Option, Some, None, subst, arith}
+use Rattle.std.proofs.Common.{◌≡◌, inl, inr, ℕ, ◌+◌, ◌-◌, ◌^◌, ◌<◌, ◌≤◌, Bool, true, false, List, length, Option, Some, None, refl, subst, arith}
 use Rattle.std.proofs.lemmas.Bool.{cases_lt}
 use Rattle.hiring_log.specs.Filings.{IsLast, IsTailOf}
 use Rattle.hiring_log.specs.LogList.{AreHeld, EndsWith, StandsFor}
@@ -30,9 +30,16 @@ last_small last (Some newest) is = omega (arith, is.1, is.0.number_is, is.0.is.r
 
 module _ (old new : List ℕ) (in_flight : ℕ → Type 0) (tail : Tail) (records : List Record) (stands : StandsFor records old) (same : new ≡ old) (at : IsTailOf new in_flight tail records) where
   -- the log ends with the list at the tail's place
-  pub found_ends : EndsWith new tail.last records
+  found_ends : EndsWith new tail.last records
   found_ends = subst (EndsWith new tail.last) (last_all records (few_records records old stands)) at.ready.ends
 
   -- its first record is held so many places before the next
-  pub found_held : (count first : ℕ) → length records ≡ count → first ≡ tail.last + 1 - count → AreHeld new first records
+  found_held : (count first : ℕ) → length records ≡ count → first ≡ tail.last + 1 - count → AreHeld new first records
   found_held count first is from = subst (λ (place : ℕ). AreHeld new place records) (let e : tail.last + 1 - length records ≡ first = omega (arith, is, from) in e) found_ends.held
+
+  -- so it is held from that place on where the printing begins, and is as long as is counted
+  pub found_shown : (count : ℕ) → ((image : List ℕ) (records : List Record) → EndsWith image tail.last records → (tail.is_open ≡ true → IsOpen image (slot_of (tail.last + 1)))
+      → (tail.is_open ≡ false → IsClosed image (slot_of (tail.last + 1))) → length records ≡ count) → AreHeld new (tail.last + 1 - count) records × (length records ≡ count)
+  found_shown count counts =
+      let long = counts new records found_ends at.ready.opened at.ready.closed in
+      (found_held count (tail.last + 1 - count) long refl, long)

@@ -9,6 +9,8 @@ use Rattle.hiring_log.specs.LogScan.{IsContent, IsEntry}
 use Rattle.hiring_log.specs.Appends.{IsStill}
 use Rattle.std.specs.declared.result.Result.TheVariants.{Err}
 use Rattle.hiring_log.specs.declared.finding.FindFault.{FindFault}
+use Rattle.hiring_log.specs.declared.scanning.Content.{Content}
+use Rattle.hiring_log.specs.declared.scanning.Content.TheVariants.{Closed, Unread, Held}
 use Rattle.hiring_log.specs.declared.scanning.Entry.{Entry}
 use Rattle.hiring_log.specs.declared.scanning.ScanFault.{ScanFault}
 use Rattle.hiring_log.proofs.Bounds.{held_at}
@@ -56,13 +58,13 @@ module _ (image : List ℕ) (last : ℕ) (records : List Record) (some : 1 ≤ l
   newest_is = newest_last None records (first_of records many) many
 
   -- what the newest record's slot holds
-  pub newest_told : (content : Option (Option (ℕ × Record))) → IsContent image (slot_of last) content → (it : Record) × (content ≡ Some (Some (last, it))) × (newest_of records ≡ Some it)
-  newest_told None shut = absurd (shut held.opened)
-  newest_told (Some None) none = absurd (none.1 last newest held.spells)
-  newest_told (Some (Some found)) is = (
-    found.1,
-    ap (λ (place : ℕ). Some (Some (place, found.1))) (one_place (behind_gate image (slot_of last)) found.0 last found.1 newest is.spells held.spells),
-    newest_is ∙ ap (λ (r : Record). Some r) (one_spelled (behind_gate image (slot_of last)) last found.0 newest found.1 held.spells is.spells),
+  pub newest_told : (content : Content) → IsContent image (slot_of last) content → (it : Record) × (content ≡ Held last it) × (newest_of records ≡ Some it)
+  newest_told Closed shut = absurd (shut held.opened)
+  newest_told Unread none = absurd (none.1 last newest held.spells)
+  newest_told (Held at found) is = (
+    found,
+    ap (λ (place : ℕ). Held place found) (one_place (behind_gate image (slot_of last)) at last found newest is.spells held.spells),
+    newest_is ∙ ap (λ (r : Record). Some r) (one_spelled (behind_gate image (slot_of last)) last at newest found held.spells is.spells),
   )
 
 -- the end of a log that is at rest

@@ -1,5 +1,5 @@
 -- What a slot's content tells of it.
-use Rattle.std.proofs.Common.{◌≡◌, ◌↔◌, inl, inr, ℕ, zero, suc, ◌+◌, ◌<◌, List, [], ◌∷◌, take, drop, length, get_or, refl, ap, sym, ◌∙◌, subst, arith, Option, Some, None, Result, IfOk}
+use Rattle.std.proofs.Common.{◌≡◌, inl, inr, ℕ, zero, suc, ◌+◌, ◌<◌, List, [], ◌∷◌, take, drop, length, get_or, refl, ap, sym, ◌∙◌, subst, arith, Option, Some, None, Result, IfOk}
 use Rattle.std.specs.declared.result.Result.TheVariants.{Ok, Err}
 use Rattle.std.specs.Int.{w64, from_be_bytes}
 use Rattle.std.proofs.lemmas.List.{drop-take, get_or-drop, get_or-take, get_or-set_other, get_or-set_same}
@@ -8,6 +8,8 @@ use Rattle.std.specs.Prelude.{set}
 use Rattle.hiring_log.specs.Record.{Record}
 use Rattle.hiring_log.specs.Slots.{slot_at, slot_of, behind_gate, Spells}
 use Rattle.hiring_log.specs.LogScan.{IsBad, IsLowestBad, IsContent, IsContentOf, IsEntry, IsEntryOf}
+use Rattle.hiring_log.specs.declared.scanning.Content.{Content}
+use Rattle.hiring_log.specs.declared.scanning.Content.TheVariants.{Closed, Unread, Held}
 use Rattle.hiring_log.specs.declared.scanning.Entry.{Entry}
 use Rattle.hiring_log.specs.declared.scanning.ScanFault.{ScanFault}
 use Rattle.hiring_log.specs.declared.scanning.ScanFault.TheVariants.{BadSlot, DeviceFailed}
@@ -27,28 +29,28 @@ pub one_place : (bytes : List ℕ) (p q : ℕ) (a b : Record) → Spells bytes p
 one_place bytes p q a b h k = sym (place_read bytes p a h) ∙ place_read bytes q b k
 
 -- an answer of a slot
-pub entry_told : (image : List ℕ) (slot : ℕ) (content : Option (Option (ℕ × Record))) (result : Result (Option Entry) ScanFault) → IsContent image slot content → IsEntryOf slot content result
+pub entry_told : (image : List ℕ) (slot : ℕ) (content : Content) (result : Result (Option Entry) ScanFault) → IsContent image slot content → IsEntryOf slot content result
     → IfOk result (λ entry. IsEntry image slot entry)
-entry_told image slot None result content is = subst (λ (r : Result (Option Entry) ScanFault). IfOk r (λ entry. IsEntry image slot entry)) (sym is) content
-entry_told image slot (Some None) result content is = subst (λ (r : Result (Option Entry) ScanFault). IfOk r (λ entry. IsEntry image slot entry)) (sym is) tt
-entry_told image slot (Some (Some found)) result content (inl (own, is)) =
-    subst (λ (r : Result (Option Entry) ScanFault). IfOk r (λ entry. IsEntry image slot entry)) (sym is) (found.1, content, refl, own)
-entry_told image slot (Some (Some found)) result content (inr (other, is)) = subst (λ (r : Result (Option Entry) ScanFault). IfOk r (λ entry. IsEntry image slot entry)) (sym is) tt
+entry_told image slot Closed result content is = subst (λ (r : Result (Option Entry) ScanFault). IfOk r (λ entry. IsEntry image slot entry)) (sym is) content
+entry_told image slot Unread result content is = subst (λ (r : Result (Option Entry) ScanFault). IfOk r (λ entry. IsEntry image slot entry)) (sym is) tt
+entry_told image slot (Held at found) result content (inl (own, is)) =
+    subst (λ (r : Result (Option Entry) ScanFault). IfOk r (λ entry. IsEntry image slot entry)) (sym is) (found, content, refl, own)
+entry_told image slot (Held at found) result content (inr (other, is)) = subst (λ (r : Result (Option Entry) ScanFault). IfOk r (λ entry. IsEntry image slot entry)) (sym is) tt
 
 -- a bad slot
-pub bad_told : (image : List ℕ) (slot : ℕ) (content : Option (Option (ℕ × Record))) (result : Result (Option Entry) ScanFault) (fault : ScanFault) → IsContent image slot content → IsEntryOf slot content result
+pub bad_told : (image : List ℕ) (slot : ℕ) (content : Content) (result : Result (Option Entry) ScanFault) (fault : ScanFault) → IsContent image slot content → IsEntryOf slot content result
     → result ≡ Err fault → IsBad image slot × (fault ≡ BadSlot slot)
-bad_told image slot None result fault content is err = let no : ◌≡◌ {A = Result (Option Entry) ScanFault} (Ok None) (Err fault) = sym is ∙ err in absurd cc
-bad_told image slot (Some None) result fault content is err = (record { opened = content.0; none = λ place it holds. absurd (content.1 place it holds.spells) }, same)
+bad_told image slot Closed result fault content is err = let no : ◌≡◌ {A = Result (Option Entry) ScanFault} (Ok None) (Err fault) = sym is ∙ err in absurd cc
+bad_told image slot Unread result fault content is err = (record { opened = content.0; none = λ place it holds. absurd (content.1 place it holds.spells) }, same)
   where
     same : fault ≡ BadSlot slot
     same = let e : ◌≡◌ {A = Result (Option Entry) ScanFault} (Err (BadSlot slot)) (Err fault) = sym is ∙ err in cc
-bad_told image slot (Some (Some found)) result fault content (inl (own, is)) err =
-    let no : ◌≡◌ {A = Result (Option Entry) ScanFault} (Ok (Some (record { place = found.0; number = found.1.number }))) (Err fault) = sym is ∙ err in absurd cc
-bad_told image slot (Some (Some found)) result fault content (inr (other, is)) err = (
+bad_told image slot (Held at found) result fault content (inl (own, is)) err =
+    let no : ◌≡◌ {A = Result (Option Entry) ScanFault} (Ok (Some (record { place = at; number = found.number }))) (Err fault) = sym is ∙ err in absurd cc
+bad_told image slot (Held at found) result fault content (inr (other, is)) err = (
   record {
     opened = content.opened;
-    none = λ place it holds own. other (ap slot_of (one_place (behind_gate image slot) found.0 place found.1 it content.spells holds.spells) ∙ own);
+    none = λ place it holds own. other (ap slot_of (one_place (behind_gate image slot) at place found it content.spells holds.spells) ∙ own);
   },
   same,
 )
@@ -61,28 +63,23 @@ pub not_bad : (image : List ℕ) (slot : ℕ) (entry : Option Entry) → IsEntry
 not_bad image slot None shut bad = shut bad.opened
 not_bad image slot (Some entry) (it, holds, number_is, own) bad = bad.none entry.place it holds own
 
--- an open slot
-pub content_open : (bytes : List ℕ) → get_or bytes 0 0 ≡ 165 → (result : Option (ℕ × Record)) → ((place : ℕ) (it : Record) → (result ≡ Some (place, it)) ↔ Spells (drop 1 bytes) place it) → IsContentOf bytes (Some result)
-content_open bytes gate None exact = (gate, λ place it h. let e : ◌≡◌ {A = Option (ℕ × Record)} None (Some (place, it)) = (exact place it).1 h in absurd cc)
-content_open bytes gate (Some (place, it)) exact = (gate, (exact place it).0 refl)
-
 -- a fault that is told by what a slot holds
-pub fault_is : (slot : ℕ) (content : Option (Option (ℕ × Record))) (result : Result (Option Entry) ScanFault) (fault : ScanFault) → IsEntryOf slot content result → result ≡ Err fault → fault ≡ BadSlot slot
-fault_is slot None result fault is err = let no : ◌≡◌ {A = Result (Option Entry) ScanFault} (Ok None) (Err fault) = sym is ∙ err in absurd cc
-fault_is slot (Some None) result fault is err = let e : ◌≡◌ {A = Result (Option Entry) ScanFault} (Err (BadSlot slot)) (Err fault) = sym is ∙ err in cc
-fault_is slot (Some (Some found)) result fault (inl (own, is)) err =
-    let no : ◌≡◌ {A = Result (Option Entry) ScanFault} (Ok (Some (record { place = found.0; number = found.1.number }))) (Err fault) = sym is ∙ err in absurd cc
-fault_is slot (Some (Some found)) result fault (inr (other, is)) err = let e : ◌≡◌ {A = Result (Option Entry) ScanFault} (Err (BadSlot slot)) (Err fault) = sym is ∙ err in cc
+pub fault_is : (slot : ℕ) (content : Content) (result : Result (Option Entry) ScanFault) (fault : ScanFault) → IsEntryOf slot content result → result ≡ Err fault → fault ≡ BadSlot slot
+fault_is slot Closed result fault is err = let no : ◌≡◌ {A = Result (Option Entry) ScanFault} (Ok None) (Err fault) = sym is ∙ err in absurd cc
+fault_is slot Unread result fault is err = let e : ◌≡◌ {A = Result (Option Entry) ScanFault} (Err (BadSlot slot)) (Err fault) = sym is ∙ err in cc
+fault_is slot (Held at found) result fault (inl (own, is)) err =
+    let no : ◌≡◌ {A = Result (Option Entry) ScanFault} (Ok (Some (record { place = at; number = found.number }))) (Err fault) = sym is ∙ err in absurd cc
+fault_is slot (Held at found) result fault (inr (other, is)) err = let e : ◌≡◌ {A = Result (Option Entry) ScanFault} (Err (BadSlot slot)) (Err fault) = sym is ∙ err in cc
 
 same_slot : (a b : ℕ) → ◌≡◌ {A = ScanFault} (BadSlot a) (BadSlot b) → a ≡ b
 same_slot a b e = cc
 
-pub bad_is : (image : List ℕ) (slot other : ℕ) (told : Type 0) (content : Option (Option (ℕ × Record))) (result : Result (Option Entry) ScanFault) → (told → IsContent image slot content) → IsEntryOf slot content result
+pub bad_is : (image : List ℕ) (slot other : ℕ) (told : Type 0) (content : Content) (result : Result (Option Entry) ScanFault) → (told → IsContent image slot content) → IsEntryOf slot content result
     → result ≡ Err (BadSlot other) → (other ≡ slot) × (told → IsBad image slot)
 bad_is image slot other told content result is_content is err =
     (same_slot other slot (fault_is slot content result (BadSlot other) is err), λ tells. (bad_told image slot content result (BadSlot other) (is_content tells) is err).0)
 
-pub not_failed : (slot : ℕ) (content : Option (Option (ℕ × Record))) (result : Result (Option Entry) ScanFault) → IsEntryOf slot content result → ¬ (result ≡ Err DeviceFailed)
+pub not_failed : (slot : ℕ) (content : Content) (result : Result (Option Entry) ScanFault) → IsEntryOf slot content result → ¬ (result ≡ Err DeviceFailed)
 not_failed slot content result is err = let e : ◌≡◌ {A = ScanFault} DeviceFailed (BadSlot slot) = fault_is slot content result DeviceFailed is err in absurd cc
 
 -- the bytes of a slot that were read
@@ -94,10 +91,10 @@ module _ (image bytes : List ℕ) (slot : ℕ) (read : bytes ≡ take 512 (drop 
   behind_read : drop 1 bytes ≡ behind_gate image slot
   behind_read = ap (drop 1) read ∙ drop-take 1 511 (drop (slot_at slot) image) ∙ ap (take 511) (drop_more (slot_at slot) image ∙ ap (λ (n : ℕ). drop n image) (let e : suc (slot_at slot) ≡ slot_at slot + 1 = omega arith in e))
 
-  pub content_read : (content : Option (Option (ℕ × Record))) → IsContentOf bytes content → IsContent image slot content
-  content_read None shut = λ opened. shut (gate_read ∙ opened)
-  content_read (Some None) is = (sym gate_read ∙ is.0, λ place it spells. is.1 place it (subst (λ (b : List ℕ). Spells b place it) (sym behind_read) spells))
-  content_read (Some (Some found)) is = record { opened = sym gate_read ∙ is.0; spells = subst (λ (b : List ℕ). Spells b found.0 found.1) behind_read is.1 }
+  pub content_read : (content : Content) → IsContentOf bytes content → IsContent image slot content
+  content_read Closed shut = λ opened. shut (gate_read ∙ opened)
+  content_read Unread is = (sym gate_read ∙ is.0, λ place it spells. is.1 place it (subst (λ (b : List ℕ). Spells b place it) (sym behind_read) spells))
+  content_read (Held at found) is = record { opened = sym gate_read ∙ is.0; spells = subst (λ (b : List ℕ). Spells b at found) behind_read is.1 }
 
 -- one slot more is known
 pub entries_more : (image : List ℕ) (entries : List (Option Entry)) (n : ℕ) (entry : Option Entry) → n < length entries → ((slot : ℕ) → slot < n → IsEntry image slot (get_or entries slot None)) → IsEntry image n entry

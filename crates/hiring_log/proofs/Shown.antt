@@ -1,5 +1,5 @@
 -- How records are shown one after another.
-use Rattle.std.proofs.Common.{◌≡◌, inl, inr, ⊎_elim, ℕ, zero, suc, ◌+◌, ◌<◌, ◌≤◌, List, [], ◌∷◌, ◌++◌, length, take, drop, Option, Some, None, refl, ap, sym, ◌∙◌, subst, arith, append_assoc}
+use Rattle.std.proofs.Common.{◌≡◌, inl, inr, ⊎_elim, ℕ, zero, suc, ◌+◌, ◌<◌, ◌≤◌, List, [], ◌∷◌, ◌++◌, length, take, drop, refl, ap, sym, ◌∙◌, subst, arith, append_assoc}
 use Rattle.std.proofs.lemmas.List.{append-nil, take-append-drop, take_all}
 use Rattle.outside.specs.Printing.{Begins}
 use Rattle.outside.specs.Runs.{KeepsStore}
@@ -8,6 +8,8 @@ use Rattle.outside.proofs.Laws.{begins_after, begins_more}
 use Rattle.slot_store.specs.Syncs.{ReadsOnly}
 use Rattle.hiring_log.specs.LogList.{AreHeld}
 use Rattle.hiring_log.specs.LogScan.{IsContent}
+use Rattle.hiring_log.specs.declared.scanning.Content.{Content}
+use Rattle.hiring_log.specs.declared.scanning.Content.TheVariants.{Closed, Unread, Held}
 use Rattle.hiring_log.specs.Record.{Record, IsRecord}
 use Rattle.hiring_log.specs.Showing.{texts_of}
 use Rattle.hiring_log.specs.Slots.{Holds, behind_gate, slot_of}
@@ -15,37 +17,34 @@ use Rattle.hiring_log.proofs.RollLaws.{some_bytes}
 use Rattle.hiring_log.proofs.Spelled.{one_spelled, short_record}
 
 -- what is held is what is read
-pub told_content : (image : List ℕ) (place : ℕ) (it : Record) (content : Option (Option (ℕ × Record))) → Holds image (slot_of place) place it → IsContent image (slot_of place) content
-    → (at : ℕ) × (content ≡ Some (Some (at, it)))
-told_content image place it None h is = absurd (is h.opened)
-told_content image place it (Some None) h is = absurd (is.1 place it h.spells)
-told_content image place it (Some (Some found)) h is = (
-  found.0,
-  ap (λ (r : Record). Some (Some (found.0, r))) (one_spelled (behind_gate image (slot_of place)) found.0 place found.1 it is.spells h.spells),
+told_content : (image : List ℕ) (place : ℕ) (it : Record) (content : Content) → Holds image (slot_of place) place it → IsContent image (slot_of place) content
+    → (at : ℕ) × (content ≡ Held at it)
+told_content image place it Closed h is = absurd (is h.opened)
+told_content image place it Unread h is = absurd (is.1 place it h.spells)
+told_content image place it (Held at found) h is = (
+  at,
+  ap (λ (r : Record). Held at r) (one_spelled (behind_gate image (slot_of place)) at place found it is.spells h.spells),
 )
 
-same_pair : (at : ℕ) (it : Record) (content : Option (Option (ℕ × Record))) (inner : Option (ℕ × Record)) (pair : ℕ × Record) → content ≡ Some (Some (at, it)) → content ≡ Some inner → inner ≡ Some pair → pair.1 ≡ it
-same_pair at it content inner pair told is inner_is =
-    let same : ◌≡◌ {A = ℕ × Record} pair (at, it) = cc in
-    ap (λ (x : ℕ × Record). x.1) same
+same_record : (at other : ℕ) (it found : Record) (content : Content) → content ≡ Held at it → content ≡ Held other found → found ≡ it
+same_record at other it found content told is = cc
 
 -- so it is the record in it
-pub told_record : (image : List ℕ) (place : ℕ) (it : Record) (content : Option (Option (ℕ × Record))) (inner : Option (ℕ × Record)) (pair : ℕ × Record) → Holds image (slot_of place) place it
-    → IsContent image (slot_of place) content → content ≡ Some inner → inner ≡ Some pair → pair.1 ≡ it
-told_record image place it content inner pair h is e f = let there = told_content image place it content h is in same_pair there.0 it content inner pair there.1 e f
+pub told_record : (image : List ℕ) (place : ℕ) (it : Record) (content : Content) (at : ℕ) (found : Record) → Holds image (slot_of place) place it
+    → IsContent image (slot_of place) content → content ≡ Held at found → found ≡ it
+told_record image place it content at found h is e = let there = told_content image place it content h is in same_record there.0 at it found content there.1 e
 
-not_none : (at : ℕ) (it : Record) (content : Option (Option (ℕ × Record))) → content ≡ Some (Some (at, it)) → content ≡ None → ⊥
-not_none at it content told none = absurd cc
+not_closed : (at : ℕ) (it : Record) (content : Content) → content ≡ Held at it → content ≡ Closed → ⊥
+not_closed at it content told closed = absurd cc
 
-not_inner : (at : ℕ) (it : Record) (content : Option (Option (ℕ × Record))) (inner : Option (ℕ × Record)) → content ≡ Some (Some (at, it)) → content ≡ Some inner → inner ≡ None → ⊥
-not_inner at it content inner told is none = absurd cc
+not_unread : (at : ℕ) (it : Record) (content : Content) → content ≡ Held at it → content ≡ Unread → ⊥
+not_unread at it content told unread = absurd cc
 
-pub told_none : (image : List ℕ) (place : ℕ) (it : Record) (content : Option (Option (ℕ × Record))) → Holds image (slot_of place) place it → IsContent image (slot_of place) content → content ≡ None → ⊥
-told_none image place it content h is e = let there = told_content image place it content h is in not_none there.0 it content there.1 e
+pub told_closed : (image : List ℕ) (place : ℕ) (it : Record) (content : Content) → Holds image (slot_of place) place it → IsContent image (slot_of place) content → content ≡ Closed → ⊥
+told_closed image place it content h is e = let there = told_content image place it content h is in not_closed there.0 it content there.1 e
 
-pub told_unread : (image : List ℕ) (place : ℕ) (it : Record) (content : Option (Option (ℕ × Record))) (inner : Option (ℕ × Record)) → Holds image (slot_of place) place it → IsContent image (slot_of place) content
-    → content ≡ Some inner → inner ≡ None → ⊥
-told_unread image place it content inner h is e f = let there = told_content image place it content h is in not_inner there.0 it content inner there.1 e f
+pub told_unread : (image : List ℕ) (place : ℕ) (it : Record) (content : Content) → Holds image (slot_of place) place it → IsContent image (slot_of place) content → content ≡ Unread → ⊥
+told_unread image place it content h is e = let there = told_content image place it content h is in not_unread there.0 it content there.1 e
 
 -- a record has a text that is printed at once
 pub some_text : (it : Record) → IsRecord it → 0 < length it.text

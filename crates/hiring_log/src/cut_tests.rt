@@ -1,5 +1,5 @@
 //! Cuts of the power inside the calls of a filing, over logs in memory.
-use crate::keep_log_tests::{FILE, SHOW, called, receipts, zeros};
+use crate::keep_log_tests::{FILE, called, filing, must_at, receipts, shows};
 use crate::memory_log::MemoryLog;
 use outside::Fill;
 use std::alloc::Global;
@@ -7,7 +7,7 @@ use std::test::Fail;
 
 /// What a cut makes of the bytes in flight; whether it leaves a gate open that 0x00 is written to, and one that 0xA5 is
 /// written to. The first half of a single byte has none, so it leaves what was settled.
-pub(crate) const FILLS: [(Fill, bool, bool); 6] = [
+const FILLS: &[(Fill, bool, bool)] = &[
     (Fill::Old, true, false),
     (Fill::New, false, true),
     (Fill::Half, true, false),
@@ -15,6 +15,20 @@ pub(crate) const FILLS: [(Fill, bool, bool); 6] = [
     (Fill::Byte(0xA5), true, true),
     (Fill::Byte(0xFF), false, false),
 ];
+
+/// The numbers of the first receipt in a log behind a cut, where it leaves a gate open that 0x00 is written to, and
+/// where not; and of the last one, where it leaves a gate open that 0xA5 is written to, and where not.
+pub(crate) type Left = ([u32; 2], [u32; 2]);
+
+/// What a cut leaves in the calls of the append of receipt 258 to a log of the receipts 2 to 257: while a gate is shut,
+/// while the text is written, while a gate is opened, and behind that.
+pub(crate) const SHUT: Left = ([2, 3], [257, 257]);
+
+pub(crate) const WRITTEN: Left = ([3, 3], [257, 257]);
+
+pub(crate) const OPENED: Left = ([3, 3], [258, 257]);
+
+pub(crate) const DONE: Left = ([3, 3], [258, 258]);
 
 /// An image that a cut inside a call of the log leaves.
 pub(crate) fn cut(alloc: Global, log: &MemoryLog, call: u64, fill: Fill) -> Result<Vec<u8>, Fail> {
@@ -24,79 +38,135 @@ pub(crate) fn cut(alloc: Global, log: &MemoryLog, call: u64, fill: Fill) -> Resu
     Ok(log.cut(alloc, call, fill)?)
 }
 
-/// Whether the log of an image is shown with receipts of these numbers, and a roll that is filed in it leaves this
+/// Whether a roll that is filed in the log of an image leaves another image, with status 0.
+fn becomes(alloc: Global, image: &[u8], roll: &[u8], whole: &[u8]) -> Result<bool, Fail> {
+    let ended = called(alloc, image, FILE, roll)?;
+    Ok(ended.1 == 0 && ended.0.image() == whole)
+}
+
+/// Whether the log of an image is shown with receipts of these numbers, and a roll that is filed in it leaves another
 /// image.
 pub(crate) fn goes_on(
     alloc: Global,
     image: &[u8],
-    numbers: (u32, u32),
+    first: u32,
+    last: u32,
     roll: &[u8],
     whole: &[u8],
 ) -> Result<bool, Fail> {
-    let (shown, status) = called(alloc, image, SHOW, b"")?;
-    let want = receipts(alloc, numbers.0, numbers.1)?;
-    if status != 0 || shown.printed() != want.as_slice() {
-        return Ok(false);
+    let is_shown = shows(alloc, image, first, last)?;
+    let is_whole = becomes(alloc, image, roll, whole)?;
+    Ok(is_shown && is_whole)
+}
+
+/// Fails unless something holds behind a cut with this fill in the call with this number.
+fn must_behind(holds: bool, what: &str, call: u64, fill: Fill) -> Result<(), Fail> {
+    if !holds {
+        return Err(Fail::new(format_args!("{what} behind call {call}, {fill:?}")));
     }
-    let (log, status) = called(alloc, image, FILE, roll)?;
-    Ok(status == 0 && log.image() == whole)
+    Ok(())
+}
+
+/// Fails unless the log goes on as `goes_on` says over what a cut with a fill leaves in this call.
+fn must_go_on_over(
+    alloc: Global,
+    log: &MemoryLog,
+    call: u64,
+    fill: &(Fill, bool, bool),
+    left: &Left,
+    roll: &[u8],
+    whole: &[u8],
+) -> Result<(), Fail> {
+    let image = cut(alloc, log, call, fill.0)?;
+    let first = if fill.1 { left.0[0] } else { left.0[1] };
+    let last = if fill.2 { left.1[0] } else { left.1[1] };
+    let goes_on = goes_on(alloc, &image, first, last, roll, whole)?;
+    must_behind(goes_on, "another log", call, fill.0)
+}
+
+/// Fails unless the log goes on as `goes_on` says over what a cut with each fill leaves in this call.
+pub(crate) fn must_go_on(
+    alloc: Global,
+    log: &MemoryLog,
+    call: u64,
+    left: &Left,
+    roll: &[u8],
+    whole: &[u8],
+) -> Result<(), Fail> {
+    for fill in FILLS {
+        must_go_on_over(alloc, log, call, fill, left, roll, whole)?;
+    }
+    Ok(())
+}
+
+/// The log after a filing in a log of zeros. Fails unless it makes so many calls.
+fn log_of_filing(alloc: Global, roll: &[u8], calls: u64) -> Result<MemoryLog, Fail> {
+    let (log, _) = filing(alloc, roll, &[])?;
+    must_at(log.calls() == calls, "another number of calls", calls)?;
+    Ok(log)
+}
+
+/// Fails unless a log goes on over what a cut leaves in each of these calls.
+fn must_go_on_each(
+    alloc: Global,
+    log: &MemoryLog,
+    calls: &[(u64, Left)],
+    roll: &[u8],
+) -> Result<(), Fail> {
+    for (call, left) in calls {
+        must_go_on(alloc, log, *call, left, roll, log.image())?;
+    }
+    Ok(())
+}
+
+/// Fails unless a filing of receipts from number 2 to another in a log of zeros makes so many calls, and the log goes
+/// on over what a cut leaves in each of these.
+fn must_outlast(alloc: Global, last: u32, count: u64, calls: &[(u64, Left)]) -> Result<(), Fail> {
+    let roll = receipts(alloc, 2, last)?;
+    let log = log_of_filing(alloc, &roll, count)?;
+    must_go_on_each(alloc, &log, calls, &roll)
 }
 
 /// The calls of the 257th append, of which the first is 1282: after one sync, 256 reads and 256 appends of four calls
 /// each, for the gates of a log of zeros are closed. The calls are numbered from 1.
+const LAST_CALLS: &[(u64, Left)] = &[
+    (1282, SHUT),
+    (1283, SHUT),
+    (1284, WRITTEN),
+    (1285, WRITTEN),
+    (1286, OPENED),
+    (1287, OPENED),
+    (1288, DONE),
+];
+
 #[test]
 fn cuts_in_the_257th_append(rt: HostRuntime) -> Result<(), Fail> {
-    let roll = receipts(rt.alloc(), 2, 258)?;
-    let (log, _) = called(rt.alloc(), &zeros(rt.alloc())?, FILE, &roll)?;
-    assert_eq!(rt; log.calls(), 1288);
-    for (fill, is_kept, is_new) in FILLS {
-        let shut = if is_kept { (2, 257) } else { (3, 257) };
-        let opened = if is_new { (3, 258) } else { (3, 257) };
-        for (call, numbers) in [
-            (1282, shut),
-            (1283, shut),
-            (1284, (3, 257)),
-            (1285, (3, 257)),
-            (1286, opened),
-            (1287, opened),
-            (1288, (3, 258)),
-        ] {
-            let image = cut(rt.alloc(), &log, call, fill)?;
-            let is_whole = goes_on(rt.alloc(), &image, numbers, &roll, log.image())?;
-            assert!(rt; is_whole, "{call} {fill:?}");
-        }
-    }
-    Ok(())
+    must_outlast(rt.alloc(), 258, 1288, LAST_CALLS)
 }
 
-/// The number of the last receipt in the log after a cut inside a call, of the receipts 2 to 4, or 1: one sync and 256
-/// reads come first, and then four calls for each receipt.
-fn last_at(call: u64, is_open: bool) -> u32 {
-    match call {
-        0..=259 => 1,
-        260 | 261 => if is_open { 2 } else { 1 },
-        262 | 263 => 2,
-        264 | 265 => if is_open { 3 } else { 2 },
-        266 | 267 => 3,
-        268 | 269 => if is_open { 4 } else { 3 },
-        _ => 4,
-    }
-}
+/// Calls of the filing of the receipts 2 to 4 in a log of zeros, and what a cut in them leaves, where the last is 1 for
+/// none: before the first call, in the opening of one sync and 256 reads, in the two writes of each append and their
+/// syncs, and in the print.
+const FIRST_APPENDS: &[(u64, Left)] = &[
+    (0, ([2, 2], [1, 1])),
+    (1, ([2, 2], [1, 1])),
+    (257, ([2, 2], [1, 1])),
+    (258, ([2, 2], [1, 1])),
+    (259, ([2, 2], [1, 1])),
+    (260, ([2, 2], [2, 1])),
+    (261, ([2, 2], [2, 1])),
+    (262, ([2, 2], [2, 2])),
+    (263, ([2, 2], [2, 2])),
+    (264, ([2, 2], [3, 2])),
+    (265, ([2, 2], [3, 2])),
+    (266, ([2, 2], [3, 3])),
+    (267, ([2, 2], [3, 3])),
+    (268, ([2, 2], [4, 3])),
+    (269, ([2, 2], [4, 3])),
+    (270, ([2, 2], [4, 4])),
+];
 
-/// The calls of the filing of three receipts in a log of zeros: before the first, in the opening, and in each of the
-/// appends and of the print.
 #[test]
 fn cuts_in_the_first_appends(rt: HostRuntime) -> Result<(), Fail> {
-    let roll = receipts(rt.alloc(), 2, 4)?;
-    let (log, _) = called(rt.alloc(), &zeros(rt.alloc())?, FILE, &roll)?;
-    assert_eq!(rt; log.calls(), 270);
-    for (fill, _, is_new) in FILLS {
-        for call in [0, 1].into_iter().chain(257..=270) {
-            let image = cut(rt.alloc(), &log, call, fill)?;
-            let numbers = (2, last_at(call, is_new));
-            let is_whole = goes_on(rt.alloc(), &image, numbers, &roll, log.image())?;
-            assert!(rt; is_whole, "{call} {fill:?}");
-        }
-    }
-    Ok(())
+    must_outlast(rt.alloc(), 4, 270, FIRST_APPENDS)
 }

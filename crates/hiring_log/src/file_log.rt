@@ -1,5 +1,5 @@
 //! The board of the log of the system.
-ghost use Rattle.std.specs.Prelude.{◌≡◌, ℕ, []};
+ghost use Rattle.std.specs.Prelude.{◌≡◌, ℕ};
 
 use crate::log_board::LogBoard;
 use outside::{Failed, FileDevice};
@@ -16,10 +16,9 @@ const NAME: &str = "taxi.log";
 /// How many bytes the log has.
 const SIZE: u64 = 131072;
 
-/// The board of the log of the system. It prints on the standard output, and its store is the file `taxi.log` in
-/// the working folder, of which it uses the first 131,072 bytes. Nothing is told of what the file holds or
-/// of what was printed: that both behave as a board's should is trusted. What `FileDevice` says of its
-/// file, its lock, its syncs and its count of faults holds of the board.
+/// The board of the log of the system, which is to the meter's `FileBoard` as the log is to its store: it
+/// prints on the standard output, and its store is the first 131,072 bytes of the file `taxi.log` in the
+/// working folder. It tells nothing of either: that both behave as a board's should is trusted.
 #[derive(Drop)]
 pub struct FileLog<R: HostSystem<File = File> + Print + Drop> {
     device: FileDevice<R>,
@@ -32,8 +31,7 @@ impl<R: HostSystem<File = File> + Print + Drop> Model for FileLog<R> {
 }
 
 impl<R: HostSystem<File = File> + Print + Drop> FileLog<R> {
-    /// The board of this runtime. Nothing is opened yet. The allocator is used only by a sync, to find the
-    /// folder of a file at the end of a symbolic link.
+    /// The board of this runtime, with nothing opened yet. A sync uses the allocator, as `FileDevice` says.
     pub fn new(rt: R, alloc: Global) -> FileLog<R>
         ensures { result ≡ 0 }
     {
@@ -44,20 +42,6 @@ impl<R: HostSystem<File = File> + Print + Drop> FileLog<R> {
 }
 
 impl<R: HostSystem<File = File> + Print + Drop, L: Ledger> LogBoard<L> for FileLog<R> {
-    ghost tells_image = { ⊥ };
-
-    ghost tells_text = { ⊥ };
-
-    ghost image = { λ _. [] };
-
-    ghost in_flight = { λ _ _. ⊥ };
-
-    ghost printed = { λ _. [] };
-
-    ghost moment = { λ _. 0 };
-
-    ghost left_since = { λ _ _ _ _. ⊥ };
-
     ghost faults = { λ b. b };
 
     ghost store = { λ _ told. absurd told };

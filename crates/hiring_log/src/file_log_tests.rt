@@ -3,6 +3,7 @@ ghost use Rattle.std.specs.Prelude.{◌≡◌, ◌<◌};
 
 use crate::file_log::FileLog;
 use crate::keep_log::keep_log;
+use crate::keep_log_tests::{must, must_at};
 use crate::roll_tests::put_receipt;
 use outside::HostFiles;
 use std::io::ErrorKind;
@@ -65,34 +66,98 @@ fn called(rt: HostRuntime, words: &[&str], log: &mut FileLog<HostRuntime>) -> Re
     Ok(counted::<Brand>(rt, Blank::new(1), texts.as_slice(), log))
 }
 
+/// A call of these words over a log: its status, and whether the file is there behind it.
+fn called_and_seen(
+    rt: HostRuntime,
+    words: &[&str],
+    log: &mut FileLog<HostRuntime>,
+) -> Result<(u8, bool), Fail> {
+    let status = called(rt, words, log)?;
+    let is_there = fs::exists(&rt, LOG)?;
+    Ok((status, is_there))
+}
+
+/// Words of calls over one log, their statuses, and whether the file is there behind each.
+const CALLS: &[(&[&str], u8, bool)] = &[
+    (&["show"], 0, false),
+    (&["file", "missing"], 7, false),
+    (&["file", "roll"], 0, true),
+];
+
+/// Fails unless those calls over a log end as they should.
+fn must_make(rt: HostRuntime, log: &mut FileLog<HostRuntime>) -> Result<(), Fail> {
+    for (words, status, is_there) in CALLS {
+        let found = called_and_seen(rt, words, log)?;
+        must_at(
+            found == (*status, *is_there),
+            "another end than",
+            *status as u64,
+        )?;
+    }
+    Ok(())
+}
+
+/// The status of a showing over another log, while a first one has the file, and that over the first.
+fn shown_by_two(rt: HostRuntime, first: &mut FileLog<HostRuntime>) -> Result<(u8, u8), Fail> {
+    let mut second = FileLog::new(rt, rt.alloc());
+    let refused = called(rt, &["show"], &mut second)?;
+    let shown = called(rt, &["show"], first)?;
+    Ok((refused, shown))
+}
+
+/// Makes the file by the calls of one log, which is then let go.
+fn make(rt: HostRuntime) -> Result<(), Fail> {
+    let mut log = FileLog::new(rt, rt.alloc());
+    must_make(rt, &mut log)?;
+    let found = shown_by_two(rt, &mut log)?;
+    must(found == (8, 0), "another end", "a log beside the first")
+}
+
+/// Fails unless the file has the size of a log, and begins with the first record's slot.
+fn must_have_a_record(rt: HostRuntime) -> Result<(), Fail> {
+    let kept = fs::read(&rt, LOG)?;
+    let is_begun = kept.starts_with(&[0xA5, 0, 0, 0, 0, 0, 0, 0, 1]);
+    must(kept.len() == 131_072 && is_begun, "another file", LOG)
+}
+
+/// A file that is no log.
+const NO_LOG: &[u8] = &[0xA5; 600];
+
+/// The status of a filing in a log of its own.
+fn filed(rt: HostRuntime) -> Result<u8, Fail> {
+    let mut log = FileLog::new(rt, rt.alloc());
+    called(rt, &["file", "roll"], &mut log)
+}
+
+/// Fails unless a file that is no log is refused and stays as it is.
+fn must_leave_alone(rt: HostRuntime) -> Result<(), Fail> {
+    fs::write(&rt, LOG, NO_LOG)?;
+    let status = filed(rt)?;
+    let kept = fs::read(&rt, LOG)?;
+    must(
+        status == 2 && kept.as_slice() == NO_LOG,
+        "another end",
+        "no log",
+    )
+}
+
+/// Writes a roll of one receipt.
+fn write_roll(rt: HostRuntime) -> Result<(), Fail> {
+    let mut roll = Vec::new(rt.alloc());
+    put_receipt(&mut roll, b"2", b"LX-4711")?;
+    fs::write(&rt, "roll", roll.as_slice())?;
+    Ok(())
+}
+
 /// There is no file, and `show` makes none; the first filing makes it whole. While one log has the file, the calls of
 /// another fail. A file that is no log is refused and stays as it is.
 #[test]
 fn the_log_of_the_system(rt: HostRuntime) -> Result<(), Fail> {
     let folder = enter(rt)?;
-    let mut roll = Vec::new(rt.alloc());
-    put_receipt(&mut roll, b"2", b"LX-4711")?;
-    fs::write(&rt, "roll", roll.as_slice())?;
-    {
-        let mut log = FileLog::new(rt, rt.alloc());
-        assert_eq!(rt; called(rt, &["show"], &mut log)?, 0);
-        assert_eq!(rt; called(rt, &["file", "missing"], &mut log)?, 7);
-        assert!(rt; !fs::exists(&rt, LOG)?);
-        assert_eq!(rt; called(rt, &["file", "roll"], &mut log)?, 0);
-        assert_eq!(rt; fs::metadata(&rt, LOG)?.len(), 131_072);
-        let mut second = FileLog::new(rt, rt.alloc());
-        assert_eq!(rt; called(rt, &["show"], &mut second)?, 8);
-        assert_eq!(rt; called(rt, &["show"], &mut log)?, 0);
-    }
-    let kept = fs::read(&rt, LOG)?;
-    assert_eq!(rt;
-        kept.get(..9),
-        Some([0xA5, 0, 0, 0, 0, 0, 0, 0, 1].as_slice())
-    );
-    fs::write(&rt, LOG, [0xA5; 600].as_slice())?;
-    let mut log = FileLog::new(rt, rt.alloc());
-    assert_eq!(rt; called(rt, &["file", "roll"], &mut log)?, 2);
-    assert!(rt; fs::read(&rt, LOG)?.as_slice() == [0xA5; 600].as_slice());
+    write_roll(rt)?;
+    make(rt)?;
+    must_have_a_record(rt)?;
+    must_leave_alone(rt)?;
     leave(rt, folder.as_str())?;
     Ok(())
 }

@@ -8,6 +8,7 @@ ghost use Rattle.hiring_log.specs.Filings.{IsLast, IsTailOf, newest_of};
 ghost use Rattle.hiring_log.specs.LogList.{EndsWith, StandsAt, StandsFor};
 ghost use Rattle.hiring_log.specs.LogScan.{IsBroken, IsLowestBad, IsSoundContent};
 ghost use Rattle.hiring_log.specs.Record.{Record, IsRecord};
+ghost use Rattle.hiring_log.specs.declared.scanning.Content.TheVariants.{Held};
 ghost use Rattle.hiring_log.specs.declared.scanning.ScanFault.TheVariants.{BadSlot, DeviceFailed};
 ghost use Rattle.hiring_log.specs.declared.finding.FindFault.{FindFault};
 ghost use Rattle.hiring_log.specs.declared.finding.FindFault.TheVariants.{Broken, LogFault};
@@ -18,21 +19,21 @@ use crate::log_board::LogBoard;
 use crate::log_record::LogRecord;
 use crate::newest::newest_place;
 use crate::row::is_row;
-use crate::scanning::{Entry, ScanFault, read_slot};
+use crate::scanning::{Content, Entry, ScanFault, read_slot};
 use crate::tail::Tail;
 use outside::Failed;
 use std::sync::ledger::Ledger;
 use taxi_units::Steps;
 
 /// The record that a slot holds, where it is at this place in the log.
-fn record_at(last: u64, content: Option<Option<(u64, LogRecord)>>) -> Option<LogRecord>
+fn record_at(last: u64, content: Content) -> Option<LogRecord>
     requires { IsSoundContent content }
-    ensures record { (it : Record) → content ≡ Some (Some (last, it)) → result ≡ Some it }
+    ensures record { (it : Record) → content ≡ Held last it → result ≡ Some it }
     ensures sound { IfSome result (λ it. IsRecord it × (last ≤ it.number)) }
 {
     match content {
-        Some(Some((place, it))) => { if place == last { Some(it) } else { None } }
-        Some(None) | None => None,
+        Content::Held(place, it) => { if place == last { Some(it) } else { None } }
+        Content::Unread | Content::Closed => None,
     }
 }
 

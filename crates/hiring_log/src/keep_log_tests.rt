@@ -4,9 +4,9 @@ ghost use Rattle.std.specs.Prelude.{◌≡◌, ◌<◌};
 
 use crate::keep_log::keep_log;
 use crate::memory_log::MemoryLog;
-use crate::roll_tests::put_receipt;
+use crate::roll_tests::{put, put_receipt};
 use outside::MemoryFiles;
-use std::alloc::Global;
+use std::alloc::{AllocError, Global};
 use std::marker::Brand;
 use std::sync::ledger::{Blank, Ledger};
 use std::test::Fail;
@@ -49,6 +49,9 @@ const TORN: &str = "RECEIPT 2\nKIND CLOSED\nTAXI LX-4711\nCONSTANT 10000\nSECURE
      START 2026-01-01 01:00:00\nFINISH 2026-01-01 01:00:00\nPOSITION 1\nDISTANCE 234.800 m\n\
      CALC 3.80 + 0 x 0.20\nFARE 3.80\n";
 
+/// A log after a call, and the call's status.
+pub(crate) type Ended = (MemoryLog, u8);
+
 /// A call under a new counter.
 fn counted<L: Ledger>(
     blank: Blank,
@@ -64,6 +67,31 @@ fn counted<L: Ledger>(
     keep_log(words, files, log, &mut steps)
 }
 
+/// Words as a program has them.
+fn strings(alloc: Global, words: &[&str]) -> Result<Vec<String>, Fail> {
+    let mut texts = Vec::new(alloc);
+    for word in words {
+        texts.push(String::from_str(alloc, word)?)?;
+    }
+    Ok(texts)
+}
+
+/// The files of a call: that of word 1 has this roll, and the reads with these numbers fail.
+fn files_of(alloc: Global, roll: &[u8], reads: &[u64]) -> Result<MemoryFiles, Fail> {
+    let mut files = MemoryFiles::new(alloc, reads)?;
+    files.add(b"")?;
+    files.add(roll)?;
+    Ok(files)
+}
+
+/// A log that begins with an image, and of which these calls fail.
+pub(crate) fn log_of(alloc: Global, image: &[u8], calls: &[u64]) -> Result<MemoryLog, Fail> {
+    if image.len() != 131_072 {
+        return Err(Fail::new("no image of a log"));
+    }
+    Ok(MemoryLog::new(alloc, image, calls)?)
+}
+
 /// The log after a call of these words over its image and a roll, in which these reads of the roll and these calls of
 /// the log fail, and the status.
 pub(crate) fn failing(
@@ -73,19 +101,11 @@ pub(crate) fn failing(
     roll: &[u8],
     reads: &[u64],
     calls: &[u64],
-) -> Result<(MemoryLog, u8), Fail> {
-    if image.len() != 131_072 {
-        return Err(Fail::new("no image of a log"));
-    }
-    let mut texts = Vec::new(alloc);
-    for word in words {
-        texts.push(String::from_str(alloc, word)?)?;
-    }
-    let mut files = MemoryFiles::new(alloc, reads)?;
-    files.add(b"")?;
-    files.add(roll)?;
-    let mut log = MemoryLog::new(alloc, image, calls)?;
-    let status = counted::<Brand>(Blank::new(1), texts.as_slice(), &mut files, &mut log);
+) -> Result<Ended, Fail> {
+    let words = strings(alloc, words)?;
+    let mut files = files_of(alloc, roll, reads)?;
+    let mut log = log_of(alloc, image, calls)?;
+    let status = counted::<Brand>(Blank::new(1), words.as_slice(), &mut files, &mut log);
     Ok((log, status))
 }
 
@@ -95,8 +115,34 @@ pub(crate) fn called(
     image: &[u8],
     words: &[&str],
     roll: &[u8],
-) -> Result<(MemoryLog, u8), Fail> {
+) -> Result<Ended, Fail> {
     failing(alloc, image, words, roll, &[], &[])
+}
+
+/// Fails unless something holds of the case with this name.
+pub(crate) fn must(holds: bool, what: &str, name: &str) -> Result<(), Fail> {
+    if !holds {
+        return Err(Fail::new(format_args!("{what}: {name}")));
+    }
+    Ok(())
+}
+
+/// Fails unless something holds of the case with this number.
+pub(crate) fn must_at(holds: bool, what: &str, number: u64) -> Result<(), Fail> {
+    if !holds {
+        return Err(Fail::new(format_args!("{what}: {number}")));
+    }
+    Ok(())
+}
+
+/// Whether a call has printed this text and ended with this status.
+pub(crate) fn is_end(ended: &Ended, output: &str, status: u8) -> bool {
+    ended.0.printed() == output.as_bytes() && ended.1 == status
+}
+
+/// The bytes of a log.
+pub(crate) fn image_of(alloc: Global, log: &MemoryLog) -> Result<Vec<u8>, Fail> {
+    Ok(Vec::from_slice(alloc, log.image())?)
 }
 
 /// A log of zeros.
@@ -104,6 +150,97 @@ pub(crate) fn zeros(alloc: Global) -> Result<Vec<u8>, Fail> {
     let mut image = Vec::new(alloc);
     image.resize(131_072, 0)?;
     Ok(image)
+}
+
+/// Appends the receipt with a number.
+fn put_numbered(alloc: Global, roll: &mut Vec<u8>, number: u32) -> Result<(), Fail> {
+    let digits = format!(in alloc; "{number}")?;
+    put_receipt(roll, digits.as_bytes(), b"LX-4711")?;
+    Ok(())
+}
+
+/// Receipts with the numbers from one to another.
+pub(crate) fn receipts(alloc: Global, first: u32, last: u32) -> Result<Vec<u8>, Fail> {
+    let mut roll = Vec::new(alloc);
+    for number in first..=last {
+        put_numbered(alloc, &mut roll, number)?;
+    }
+    Ok(roll)
+}
+
+/// The log after a filing in a log of zeros, in which these reads of the roll fail, and the status.
+pub(crate) fn filing(alloc: Global, roll: &[u8], reads: &[u64]) -> Result<Ended, Fail> {
+    let zeros = zeros(alloc)?;
+    failing(alloc, &zeros, FILE, roll, reads, &[])
+}
+
+/// The image after a call over another one. Fails unless the call prints these pieces and ends with this status.
+fn image_behind(
+    alloc: Global,
+    name: &str,
+    image: &[u8],
+    words: &[&str],
+    roll: &[u8],
+    output: &[&str],
+    status: u8,
+) -> Result<Vec<u8>, Fail> {
+    let ended = called(alloc, image, words, roll)?;
+    let is_end = is_made_of(ended.0.printed(), output) && ended.1 == status;
+    must(is_end, "another end", name)?;
+    image_of(alloc, &ended.0)
+}
+
+/// The log of a call of `file` over an image, which prints this text and ends with 0.
+pub(crate) fn filed_behind(
+    alloc: Global,
+    image: &[u8],
+    roll: &[u8],
+    output: &str,
+) -> Result<Vec<u8>, Fail> {
+    image_behind(alloc, output, image, FILE, roll, &[output], 0)
+}
+
+/// The log of a call of `file` over a log of zeros, which ends with 0.
+pub(crate) fn filed(alloc: Global, roll: &[u8]) -> Result<Vec<u8>, Fail> {
+    let ended = filing(alloc, roll, &[])?;
+    must_at(ended.1 == 0, "a roll was not filed", ended.1 as u64)?;
+    image_of(alloc, &ended.0)
+}
+
+/// The log in which the receipts from number 2 to another are filed.
+pub(crate) fn filed_to(alloc: Global, last: u32) -> Result<Vec<u8>, Fail> {
+    let roll = receipts(alloc, 2, last)?;
+    filed(alloc, &roll)
+}
+
+/// Whether the log of an image is shown with this text and status 0, and stays as it is.
+fn shows_text(alloc: Global, image: &[u8], text: &[u8]) -> Result<bool, Fail> {
+    let ended = called(alloc, image, SHOW, b"")?;
+    Ok(ended.1 == 0 && ended.0.printed() == text && ended.0.image() == image)
+}
+
+/// Whether the log of an image is shown with receipts of these numbers and status 0, and stays as it is.
+pub(crate) fn shows(alloc: Global, image: &[u8], first: u32, last: u32) -> Result<bool, Fail> {
+    let text = receipts(alloc, first, last)?;
+    shows_text(alloc, image, &text)
+}
+
+/// Puts other bytes at a place of an image.
+fn put_bytes(image: &mut [u8], at: usize, bytes: &[u8]) {
+    for (i, byte) in bytes.iter().enumerate() {
+        if let Some(here) = at.checked_add(i).and_then(|place| image.get_mut(place)) {
+            *here = *byte;
+        }
+    }
+}
+
+/// An image with other bytes at some places.
+fn changed(alloc: Global, image: &[u8], changes: &[(usize, &[u8])]) -> Result<Vec<u8>, Fail> {
+    let mut changed = Vec::from_slice(alloc, image)?;
+    for (at, bytes) in changes {
+        put_bytes(changed.as_mut_slice(), *at, bytes);
+    }
+    Ok(changed)
 }
 
 /// Texts, one behind the other.
@@ -115,36 +252,16 @@ fn joined(alloc: Global, pieces: &[&str]) -> Result<Vec<u8>, Fail> {
     Ok(text)
 }
 
-/// Receipts with the numbers from one to another.
-pub(crate) fn receipts(alloc: Global, first: u32, last: u32) -> Result<Vec<u8>, Fail> {
-    let mut roll = Vec::new(alloc);
-    for number in first..=last {
-        let digits = format!(in alloc; "{number}")?;
-        put_receipt(&mut roll, digits.as_bytes(), b"LX-4711")?;
-    }
-    Ok(roll)
-}
-
-/// The log of a call of `file` over a log of zeros.
-pub(crate) fn filed(alloc: Global, roll: &[u8]) -> Result<Vec<u8>, Fail> {
-    let (log, status) = called(alloc, &zeros(alloc)?, FILE, roll)?;
-    if status != 0 {
-        return Err(Fail::new("a roll was not filed"));
-    }
-    Ok(Vec::from_slice(alloc, log.image())?)
-}
-
-/// An image with other bytes at some places.
-fn changed(alloc: Global, image: &[u8], changes: &[(usize, &[u8])]) -> Result<Vec<u8>, Fail> {
-    let mut changed = Vec::from_slice(alloc, image)?;
-    for (at, bytes) in changes {
-        for (i, byte) in bytes.iter().enumerate() {
-            if let Some(here) = at.checked_add(i).and_then(|place| changed.get_mut(place)) {
-                *here = *byte;
-            }
+/// Whether a text is these pieces, one behind the other.
+fn is_made_of(text: &[u8], pieces: &[&str]) -> bool {
+    let mut rest = text;
+    for piece in pieces {
+        match rest.strip_prefix(piece.as_bytes()) {
+            Some(more) => rest = more,
+            None => return false,
         }
     }
-    Ok(changed)
+    rest.is_empty()
 }
 
 /// The words of a call, the pieces of its roll and of what it prints, and its status.
@@ -156,7 +273,7 @@ type Step = (
 );
 
 /// Calls one after the other, over a log of zeros.
-const ROWS: [(&str, &[Step]); 11] = [
+const ROWS: &[(&str, &[Step])] = &[
     (
         "a hiring",
         &[
@@ -245,74 +362,103 @@ const ROWS: [(&str, &[Step]); 11] = [
     ),
 ];
 
-#[test]
-fn rolls_are_filed_and_shown(rt: HostRuntime) -> Result<(), Fail> {
-    for (name, steps) in ROWS {
-        let mut image = zeros(rt.alloc())?;
-        for (words, roll, output, want) in steps {
-            let roll = joined(rt.alloc(), roll)?;
-            let (log, status) = called(rt.alloc(), &image, words, &roll)?;
-            let output = joined(rt.alloc(), output)?;
-            assert_eq!(rt; log.printed(), output.as_slice(), "{name}");
-            assert_eq!(rt; status, *want, "{name}");
-            image = Vec::from_slice(rt.alloc(), log.image())?;
-        }
+/// The image after a step over another one. Fails unless the step prints its text and ends with its status.
+fn step_behind(alloc: Global, name: &str, image: &[u8], step: &Step) -> Result<Vec<u8>, Fail> {
+    let roll = joined(alloc, step.1)?;
+    image_behind(alloc, name, image, step.0, &roll, step.2, step.3)
+}
+
+/// Fails unless each step of a row, over the log that the one before it left, ends as it says.
+fn must_go(alloc: Global, name: &str, steps: &[Step]) -> Result<(), Fail> {
+    let mut image = zeros(alloc)?;
+    for step in steps {
+        image = step_behind(alloc, name, &image, step)?;
     }
     Ok(())
 }
 
-/// The bytes of a slot: gate, place, length of the text, text, zeros and layout.
+#[test]
+fn rolls_are_filed_and_shown(rt: HostRuntime) -> Result<(), Fail> {
+    for row in ROWS {
+        must_go(rt.alloc(), row.0, row.1)?;
+    }
+    Ok(())
+}
+
+/// The places of two receipts, the lengths of their texts, these, and where the last bytes of their slots stand.
+const SLOTS: &[(u8, [u8; 2], &str, usize)] = &[(1, [1, 31], TWO, 511), (2, [1, 44], NINE, 1023)];
+
+/// Appends the bytes of a slot: gate, place, length of the text, text, zeros and layout.
+fn put_slot(
+    image: &mut Vec<u8>,
+    place: u8,
+    length: &[u8],
+    text: &[u8],
+    end: usize,
+) -> Result<(), AllocError> {
+    put(
+        image,
+        &[&[0xA5, 0, 0, 0, 0, 0, 0, 0], &[place], length, text],
+    )?;
+    image.resize(end, 0)?;
+    put(image, &[&[1]])
+}
+
+/// The image of a log of those two.
+fn image_of_two(alloc: Global) -> Result<Vec<u8>, Fail> {
+    let mut image = Vec::new(alloc);
+    for slot in SLOTS {
+        put_slot(&mut image, slot.0, &slot.1, slot.2.as_bytes(), slot.3)?;
+    }
+    image.resize(131_072, 0)?;
+    Ok(image)
+}
+
 #[test]
 fn a_record_in_its_slot(rt: HostRuntime) -> Result<(), Fail> {
-    let image = filed(rt.alloc(), &joined(rt.alloc(), &[TWO, NINE])?)?;
-    for (at, text, place, length) in [(0, TWO, 1, [1, 31]), (512, NINE, 2, [1, 44])] {
-        let mut slot = Vec::from_slice(rt.alloc(), &[0xA5, 0, 0, 0, 0, 0, 0, 0, place])?;
-        slot.extend_from_slice(&length)?;
-        slot.extend_from_slice(text.as_bytes())?;
-        slot.resize(511, 0)?;
-        slot.push(1)?;
-        let is_there = image
-            .get(at..)
-            .is_some_and(|rest| rest.starts_with(slot.as_slice()));
-        assert!(rt; is_there, "{place}");
+    let roll = joined(rt.alloc(), &[TWO, NINE])?;
+    let image = filed(rt.alloc(), &roll)?;
+    let want = image_of_two(rt.alloc())?;
+    must(image == want, "another image", "two records")
+}
+
+/// Fails unless these logs are shown with the receipts 3 to 258, 4 to 258 and 4 to 259, and the last one's second slot
+/// is that of place 258.
+fn must_show(alloc: Global, full: &[u8], shut: &[u8], more: &[u8]) -> Result<(), Fail> {
+    let is_written = more.get(512..521) == Some(&[0xA5, 0, 0, 0, 0, 0, 0, 1, 2]);
+    must(is_written, "another slot", "of 256 again")?;
+    for (image, first, last) in &[(full, 3, 258), (shut, 4, 258), (more, 4, 259)] {
+        let is_shown = shows(alloc, image, *first, *last)?;
+        must_at(is_shown, "others are shown to receipt", *last as u64)?;
     }
-    let rest = image.get(1024..).ok_or("no third slot")?;
-    assert!(rt; rest.iter().all(|byte| *byte == 0));
     Ok(())
+}
+
+/// The log that receipt 259 is filed in, behind 2 to 258.
+fn with_one_more(alloc: Global, image: &[u8]) -> Result<Vec<u8>, Fail> {
+    let roll = receipts(alloc, 2, 259)?;
+    filed_behind(alloc, image, &roll, "FILED 1\n")
+}
+
+/// A log of zeros that the receipts from 2 to 258 are filed in.
+fn full_log(alloc: Global) -> Result<Vec<u8>, Fail> {
+    let roll = receipts(alloc, 2, 258)?;
+    let zeros = zeros(alloc)?;
+    filed_behind(alloc, &zeros, &roll, "FILED 257\n")
 }
 
 /// More receipts than the log has slots, and a log of 255 that goes on: the oldest one's slot was closed when a cut
 /// came.
 #[test]
 fn logs_that_are_full(rt: HostRuntime) -> Result<(), Fail> {
-    let (log, status) = called(
-        rt.alloc(),
-        &zeros(rt.alloc())?,
-        FILE,
-        &receipts(rt.alloc(), 2, 258)?,
-    )?;
-    assert_eq!(rt; (log.printed(), status), (b"FILED 257\n".as_slice(), 0));
-    let cut = changed(rt.alloc(), log.image(), &[(512, &[0])])?;
-    let (after, _) = called(rt.alloc(), &cut, FILE, &receipts(rt.alloc(), 2, 259)?)?;
-    assert_eq!(rt; after.printed(), b"FILED 1\n".as_slice());
-    let slot = after.image().get(512..521);
-    assert_eq!(rt; slot, Some([0xA5, 0, 0, 0, 0, 0, 0, 1, 2].as_slice()));
-    for (name, image, first, last) in [
-        ("256", log.image(), 3, 258),
-        ("255", cut.as_slice(), 4, 258),
-        ("256 again", after.image(), 4, 259),
-    ] {
-        let (shown, status) = called(rt.alloc(), image, SHOW, b"")?;
-        let want = receipts(rt.alloc(), first, last)?;
-        assert!(rt; shown.printed() == want.as_slice(), "{name}");
-        assert_eq!(rt; status, 0, "{name}");
-        assert!(rt; shown.image() == image, "{name}");
-    }
-    Ok(())
+    let full = full_log(rt.alloc())?;
+    let shut = changed(rt.alloc(), &full, &[(512, &[0])])?;
+    let more = with_one_more(rt.alloc(), &shut)?;
+    must_show(rt.alloc(), &full, &shut, &more)
 }
 
 /// Words that are no command.
-const BAD_WORDS: [&[&str]; 8] = [
+const BAD_WORDS: &[&[&str]] = &[
     &[],
     &["file"],
     &["show", "roll"],
@@ -323,14 +469,26 @@ const BAD_WORDS: [&[&str]; 8] = [
     &["", "roll"],
 ];
 
+/// Whether a call over an image, in which the first read of the roll fails, prints this line, ends with this status and
+/// leaves the image; and how many calls it makes of the log.
+fn refused(
+    alloc: Global,
+    image: &[u8],
+    words: &[&str],
+    line: &str,
+    status: u8,
+) -> Result<(bool, u64), Fail> {
+    let ended = failing(alloc, image, words, TWO.as_bytes(), &[1], &[])?;
+    let is_refused = is_end(&ended, line, status) && ended.0.image() == image;
+    Ok((is_refused, ended.0.calls()))
+}
+
 #[test]
 fn words_that_are_no_command(rt: HostRuntime) -> Result<(), Fail> {
-    let image = filed(rt.alloc(), TWO.as_bytes())?;
+    let image = filed_to(rt.alloc(), 2)?;
     for words in BAD_WORDS {
-        let (log, status) = failing(rt.alloc(), &image, words, TWO.as_bytes(), &[1], &[])?;
-        assert_eq!(rt; (log.printed(), status), (b"BAD WORDS\n".as_slice(), 1));
-        assert_eq!(rt; log.calls(), 1);
-        assert!(rt; log.image() == image.as_slice());
+        let found = refused(rt.alloc(), &image, words, "BAD WORDS\n", 1)?;
+        must_at(found == (true, 1), "another end, words", words.len() as u64)?;
     }
     Ok(())
 }
@@ -338,8 +496,12 @@ fn words_that_are_no_command(rt: HostRuntime) -> Result<(), Fail> {
 /// Other bytes at some places of a log.
 type Changes = &'static [(usize, &'static [u8])];
 
-/// Logs with the receipts 2 to 4, or 2 to 258, and other bytes at some places; and what is said of them.
-const REFUSED: [(&str, u32, Changes, &str, u8); 20] = [
+/// A log's name, the last of its receipts, which begin with number 2, other bytes at some places; the line that is said
+/// of it, and the status.
+type Refused = (&'static str, u32, Changes, &'static str, u8);
+
+/// Logs with the receipts 2 to 4, or 2 to 258, that are refused.
+const REFUSED: &[Refused] = &[
     (
         "an open slot without a record",
         4,
@@ -434,18 +596,38 @@ const REFUSED: [(&str, u32, Changes, &str, u8); 20] = [
     ),
 ];
 
+/// The log of receipts from number 2 to another, with other bytes at some places.
+fn changed_log(alloc: Global, last: u32, changes: &[(usize, &[u8])]) -> Result<Vec<u8>, Fail> {
+    let image = filed_to(alloc, last)?;
+    changed(alloc, &image, changes)
+}
+
+/// Fails unless each command over an image prints this line, ends with this status and leaves the image.
+fn must_refuse(
+    alloc: Global,
+    name: &str,
+    image: &[u8],
+    line: &str,
+    status: u8,
+) -> Result<(), Fail> {
+    for words in &[FILE, SHOW] {
+        let (is_refused, _) = refused(alloc, image, words, line, status)?;
+        must(is_refused, "another end", name)?;
+    }
+    Ok(())
+}
+
+/// Fails unless each command is refused as a row says.
+fn must_be_refused(alloc: Global, row: &Refused) -> Result<(), Fail> {
+    let image = changed_log(alloc, row.1, row.2)?;
+    must_refuse(alloc, row.0, &image, row.3, row.4)
+}
+
 /// Each answer comes before the first read of the roll, which fails.
 #[test]
 fn logs_that_are_refused(rt: HostRuntime) -> Result<(), Fail> {
-    for (name, last, changes, line, want) in REFUSED {
-        let image = filed(rt.alloc(), &receipts(rt.alloc(), 2, last)?)?;
-        let image = changed(rt.alloc(), &image, changes)?;
-        for words in [FILE, SHOW] {
-            let (log, status) = failing(rt.alloc(), &image, words, b"", &[1], &[])?;
-            assert_eq!(rt; log.printed(), line.as_bytes(), "{name}");
-            assert_eq!(rt; status, want, "{name}");
-            assert!(rt; log.image() == image.as_slice(), "{name}");
-        }
+    for row in REFUSED {
+        must_be_refused(rt.alloc(), row)?;
     }
     Ok(())
 }

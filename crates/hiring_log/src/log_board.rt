@@ -1,6 +1,6 @@
 //! The board of the log, which has a store and prints.
-ghost use Rattle.std.specs.Prelude.{◌≡◌, ◌⊎◌, ℕ, ◌+◌, ◌<◌, ◌≤◌, ◌++◌, List, length, take, drop, OnOk};
-ghost use Rattle.outside.specs.Disk.{IsImage, IsPiece, IsWithin, SameBut, MayLeave, MayLeaveAmid, Elapses};
+ghost use Rattle.std.specs.Prelude.{◌≡◌, ◌⊎◌, ℕ, ◌+◌, ◌<◌, ◌≤◌, ◌++◌, List, [], length, take, drop, OnOk};
+ghost use Rattle.outside.specs.Disk.{IsImage, IsPiece, IsWithin, SameBut, CallTakes, MayLeave, PieceTakes};
 ghost use Rattle.outside.specs.Faults.{HasCause};
 ghost use Rattle.outside.specs.Printing.{Begins};
 
@@ -8,56 +8,38 @@ use outside::Failed;
 use std::sync::ledger::Ledger;
 use taxi_units::Steps;
 
-/// The log's one device: a store of 131,072 bytes, with places from 0 on, and a printer, on one clock of
-/// moments. Its meanings, its conditions, what a cut may leave and its count of faults are those of the
-/// meter's `Board`; but its store is greater. Bytes that are written are in flight until a sync succeeds:
-/// a cut of the power may leave any bytes in their places. Each call takes one step of the one ledger that
-/// the board is asked under, and a call fails only where the count of faults rose.
-///
-/// What is said of the places in flight and of what a cut might have left is an upper bound: a call
-/// says what may have come to them, and a board may have less in flight, and leave less, than its
-/// calls allow. Only `counts_now` bounds it from below, where image and text are told.
+/// The log's one device: the meter's `Board` with a store of 131,072 bytes. Each member, each call and each
+/// law is the one of that name there, over the greater store. A board of the log that says nothing else
+/// tells nothing of its store and of its text.
 pub trait LogBoard<L: Ledger> {
-    /// Whether the board tells what its store holds. It belongs to the type, so it never changes.
-    ghost tells_image: { Type 0 };
+    ghost tells_image: { Type 0 } = { ⊥ };
 
-    /// Whether the board tells what was printed. It belongs to the type, so it never changes.
-    ghost tells_text: { Type 0 };
+    ghost tells_text: { Type 0 } = { ⊥ };
 
-    /// What a read gives: the bytes of the store.
-    ghost image: { Self → List ℕ };
+    ghost image: { Self → List ℕ } = { λ _. [] };
 
-    /// The places where a cut may leave any byte; no others, and perhaps not all of them.
-    ghost in_flight: { Self → ℕ → Type 0 };
+    ghost in_flight: { Self → ℕ → Type 0 } = { λ _ _. ⊥ };
 
-    /// What was printed, in bytes.
-    ghost printed: { Self → List ℕ };
+    ghost printed: { Self → List ℕ } = { λ _. [] };
 
-    /// The moment, a number that never falls.
-    ghost moment: { Self → ℕ };
+    ghost moment: { Self → ℕ } = { λ _. 0 };
 
-    /// The images and texts that a cut at some moment from that one on might have left, moments
-    /// inside a call among them.
-    ghost left_since: { Self → ℕ → List ℕ → List ℕ → Type 0 };
+    ghost left_since: { Self → ℕ → List ℕ → List ℕ → Type 0 } = { λ _ _ _ _. ⊥ };
 
-    /// How many faults the board had.
     ghost faults: { Self → ℕ };
 
-    /// Reads a piece of 1 to 512 bytes that lies in the store into the whole of `buf`. After a read
-    /// that failed what `buf` holds is open.
+    /// Reads a piece of 1 to 512 bytes that lies in the store.
     fn read(&mut self, at: u32, buf: &mut [u8], steps: &mut Steps<L>) -> Result<(), Failed>
         requires { IsPiece 131072 at (length buf.old) }
         ensures bytes { tells_image → OnOk result (buf.new ≡ take (length buf.old) (drop at (image self.old))) }
         ensures image { image self.new ≡ image self.old }
         ensures flight { (place : ℕ) → in_flight self.new place → in_flight self.old place }
         ensures text { printed self.new ≡ printed self.old }
-        ensures time { Elapses (moment self.old) (moment self.new) (left_since self.old) (left_since self.new)
-            (MayLeave (image self.new) (in_flight self.new) (printed self.new)) }
+        ensures time { CallTakes moment left_since image in_flight printed self.old self.new }
         ensures cause { HasCause (faults self.old) (faults self.new) result }
         ensures step { steps.new ≡ steps.old + 1 };
 
-    /// Writes a piece of 1 to 512 bytes that lies in the store. It is in flight until a sync
-    /// succeeds. After a write that failed the piece's places may hold any bytes.
+    /// Writes a piece of 1 to 512 bytes that lies in the store, which is in flight until a sync succeeds.
     fn write_at(&mut self, at: u32, bytes: &[u8], steps: &mut Steps<L>) -> Result<(), Failed>
         requires { IsPiece 131072 at (length bytes.now) }
         ensures written { tells_image → OnOk result (take (length bytes.now) (drop at (image self.new)) ≡ bytes.now) }
@@ -65,26 +47,22 @@ pub trait LogBoard<L: Ledger> {
         ensures flight { (place : ℕ) → in_flight self.new place → in_flight self.old place
             ⊎ IsWithin at (length bytes.now) place }
         ensures text { printed self.new ≡ printed self.old }
-        ensures time { Elapses (moment self.old) (moment self.new) (left_since self.old) (left_since self.new)
-            (MayLeave (image self.new) (in_flight self.new) (printed self.new)) }
+        ensures time { CallTakes moment left_since image in_flight printed self.old self.new }
         ensures cause { HasCause (faults self.old) (faults self.new) result }
         ensures step { steps.new ≡ steps.old + 1 };
 
-    /// Waits until the medium has every byte that was written. Then nothing is in flight, and a cut
-    /// leaves what a read gives. After a sync that failed the places in flight may hold any bytes.
+    /// Waits until the medium has every byte that was written.
     fn sync(&mut self, steps: &mut Steps<L>) -> Result<(), Failed>
         ensures durable { tells_image → OnOk result ((place : ℕ) → ¬ in_flight self.new place) }
         ensures same { OnOk result (image self.new ≡ image self.old) }
         ensures image { SameBut (in_flight self.old) (image self.old) (image self.new) }
         ensures flight { (place : ℕ) → in_flight self.new place → in_flight self.old place }
         ensures text { printed self.new ≡ printed self.old }
-        ensures time { Elapses (moment self.old) (moment self.new) (left_since self.old) (left_since self.new)
-            (MayLeave (image self.new) (in_flight self.new) (printed self.new)) }
+        ensures time { CallTakes moment left_since image in_flight printed self.old self.new }
         ensures cause { HasCause (faults self.old) (faults self.new) result }
         ensures step { steps.new ≡ steps.old + 1 };
 
-    /// Prints a piece of 1 to 512 bytes. A print that failed has printed a beginning of the piece,
-    /// perhaps none of it and perhaps all, and so has a print that a cut ends.
+    /// Prints a piece of 1 to 512 bytes.
     fn print(&mut self, bytes: &[u8], steps: &mut Steps<L>) -> Result<(), Failed>
         requires some { 0 < length bytes.now }
         requires few { length bytes.now ≤ 512 }
@@ -92,8 +70,7 @@ pub trait LogBoard<L: Ledger> {
         ensures begun { tells_text → Begins (printed self.old) (printed self.new) bytes.now }
         ensures image { image self.new ≡ image self.old }
         ensures flight { (place : ℕ) → in_flight self.new place → in_flight self.old place }
-        ensures time { Elapses (moment self.old) (moment self.new) (left_since self.old) (left_since self.new)
-            (MayLeaveAmid (image self.new) (in_flight self.new) (printed self.old) bytes.now) }
+        ensures time { PieceTakes moment left_since image in_flight printed bytes.now self.old self.new }
         ensures cause { HasCause (faults self.old) (faults self.new) result }
         ensures step { steps.new ≡ steps.old + 1 };
 

@@ -44,55 +44,25 @@ mod words;
 ghost use Rattle.std.specs.Prelude.{◌≡◌, ◌<◌};
 
 use file_log::FileLog;
-use outside::HostFiles;
-use std::env;
-use std::io::ErrorKind;
+use outside::{HostFiles, program_words};
 use std::marker::Brand;
 use std::process::ExitCode;
-use std::rt::Env;
 use std::sync::ledger::{Blank, Ledger};
 use taxi_units::Steps;
 
-/// The status where a word isn't text.
-const BAD_WORDS: u8 = 1;
-
-/// The status where memory runs out.
-const NO_MEMORY: u8 = 12;
-
-/// The words after the program's name, or the status where they can't be had.
-fn program_words<R: Env + AllocGlobal>(rt: &R) -> Result<Vec<String>, u8> {
-    let args = match env::args(rt) {
-        Ok(args) => args,
-        Err(error) => {
-            return match error.kind() {
-                ErrorKind::InvalidData => Err(BAD_WORDS),
-                _ => Err(NO_MEMORY),
-            };
-        }
-    };
-    let mut words = Vec::new(rt.alloc());
-    for word in args.skip(1) {
-        let Ok(()) = words.push(word) else {
-            return Err(NO_MEMORY);
-        };
-    }
-    Ok(words)
-}
-
-/// Carries out the words of the program, under its one counter of steps.
+/// Files a roll or shows the log, as the words of the program say, under its one counter of steps.
 fn status<L: Ledger>(rt: HostRuntime, blank: Blank) -> u8
     requires name { blank.name ≡ L.name }
     requires parts { blank.parts ≡ L.parts }
     requires some { 0 < blank.parts }
 {
-    let alloc = rt.alloc();
+    let mut log = FileLog::new(rt, rt.alloc());
+    let mut steps: Steps<L> = Steps::open(blank);
     let words = match program_words(&rt) {
         Ok(words) => words,
         Err(status) => return status,
     };
-    let mut files = HostFiles::new(rt, alloc, words.as_slice());
-    let mut log = FileLog::new(rt, alloc);
-    let mut steps: Steps<L> = Steps::open(blank);
+    let mut files = HostFiles::new(rt, rt.alloc(), words.as_slice());
     keep_log::keep_log(words.as_slice(), &mut files, &mut log, &mut steps)
 }
 

@@ -1,11 +1,10 @@
 //! The board of the log in memory, of which chosen calls fail.
-ghost use Rattle.std.specs.Prelude.{◌≡◌, ◌⊎◌, ℕ, ◌+◌, ◌<◌, ◌≤◌, ◌++◌, List, [], length, take, drop, IfOk, OnOk, OnErr};
-ghost use Rattle.outside.specs.Calls.{Read, Write, Sync, Print, IsInSome, opened};
-ghost use Rattle.outside.specs.Disk.{IsImage, IsPiece, IsWithin, SameBut, MayLeave, MayLeaveAmid};
-ghost use Rattle.outside.specs.Faults.{HasCause};
-ghost use Rattle.outside.specs.MemoryBoard.{Memory, IsDone, IsNew, IsUndone, TimePasses, new_board, faults_of, held_inside, image_of, in_flight_of, left_since_of, moment_of, text_of};
+ghost use Rattle.std.specs.Prelude.{◌≡◌, ◌+◌, ◌<◌, ◌≤◌, [], length, IfOk};
+ghost use Rattle.outside.specs.Calls.{IsInSome, opened};
+ghost use Rattle.outside.specs.Disk.{IsPiece, SameBut};
+ghost use Rattle.outside.specs.MemoryBoard.{Memory, IsNew, new_board, faults_of, held_inside, image_of, in_flight_of, left_since_of, moment_of, text_of};
+ghost use Rattle.outside.specs.MemoryCalls.{PrintsPiece, ReadsPiece, SyncsStore, WritesPiece};
 ghost use Rattle.outside.specs.MomentLaws.{counts_now, only_now};
-ghost use Rattle.outside.specs.Printing.{Begins};
 
 use crate::log_board::LogBoard;
 use outside::{Failed, Fill, MemoryDevice};
@@ -14,12 +13,8 @@ use std::marker::Model;
 use std::sync::ledger::Ledger;
 use taxi_units::{NoMemory, Steps};
 
-/// The board of the log in memory, which tells its image and what was printed. A call that finds no memory fails
-/// and raises `refused` by one; it isn't kept, takes no number and changes nothing else. The other
-/// calls are kept and numbered from 1, and exactly those with chosen numbers fail. A write among
-/// these leaves the image as it was, and its range in flight; a print among them prints nothing. The
-/// count of faults is `refused`, which stands still at the last value of a `u64`, and the number of
-/// the calls that failed by their numbers, together.
+/// The board of the log in memory, a `MemoryDevice` of the log's size: it tells its image and what was
+/// printed, and calls of it fail as that says.
 #[derive(Drop)]
 pub struct MemoryLog {
     device: MemoryDevice<131072>,
@@ -32,8 +27,8 @@ impl Model for MemoryLog {
 }
 
 impl MemoryLog {
-    /// A board at moment 0, whose store holds these bytes, with nothing in flight, nothing printed and
-    /// no faults. The calls with the numbers in `fail` will fail. `NoMemory` comes only where there is no memory.
+    /// A board at moment 0 with these bytes in its store. The calls with the numbers in `fail` will fail.
+    /// `NoMemory` comes only where there is no memory.
     pub fn new(alloc: Global, image: &[u8], fail: &[u64]) -> Result<MemoryLog, NoMemory>
         requires { length image.now ≡ 131072 }
         ensures state { IfOk result (λ b. b.state ≡ new_board image.now fail.now) }
@@ -71,10 +66,7 @@ impl MemoryLog {
         self.device.refused()
     }
 
-    /// An image that a cut inside the call with this number may leave, 0 being before the first. What
-    /// was in flight before the call is still so, inside a sync too, and so is the range that the call
-    /// itself writes. The bytes in flight become what `fill` says. All others are those that a read
-    /// gave before the call. `NoMemory` comes only where there is no memory.
+    /// The image that the device's `cut` gives. `NoMemory` comes only where there is no memory.
     pub fn cut(&self, alloc: Global, call: u64, fill: Fill) -> Result<Vec<u8>, NoMemory>
         requires { call ≤ length self.now.state.calls }
         ensures size { IfOk result (λ cut. length cut.items ≡ 131072) }
@@ -127,18 +119,8 @@ impl<L: Ledger> LogBoard<L> for MemoryLog {
 
     fn read(&mut self, at: u32, buf: &mut [u8], steps: &mut Steps<L>) -> Result<(), Failed>
         requires { IsPiece 131072 at (length buf.old) }
-        ensures bytes { OnOk result (buf.new ≡ take (length buf.old) (drop at (image_of self.old.state))) }
-        ensures image { image_of self.new.state ≡ image_of self.old.state }
-        ensures flight { (place : ℕ) → in_flight_of self.new.state place → in_flight_of self.old.state place }
-        ensures text { text_of self.new.state ≡ text_of self.old.state }
-        ensures time { TimePasses self.old.state self.new.state
-            (MayLeave (image_of self.new.state) (in_flight_of self.new.state) (text_of self.new.state)) }
-        ensures cause { HasCause (faults_of self.old.state) (faults_of self.new.state) result }
+        ensures reads { ReadsPiece self.old.state at buf.old buf.new self.new.state result }
         ensures step { steps.new ≡ steps.old + 1 }
-
-        // A call that is kept fails exactly by its number. One that isn't kept was refused.
-        ensures kept { OnOk result (IsDone self.old.state Read self.new.state) }
-        ensures failed { OnErr result (IsUndone self.old.state Read self.new.state) }
     {
         steps.spend();
         self.device.read(at, buf)
@@ -146,38 +128,16 @@ impl<L: Ledger> LogBoard<L> for MemoryLog {
 
     fn write_at(&mut self, at: u32, bytes: &[u8], steps: &mut Steps<L>) -> Result<(), Failed>
         requires { IsPiece 131072 at (length bytes.now) }
-        ensures written { OnOk result (take (length bytes.now) (drop at (image_of self.new.state)) ≡ bytes.now) }
-        ensures image { SameBut (IsWithin at (length bytes.now)) (image_of self.old.state) (image_of self.new.state) }
-        ensures flight { (place : ℕ) → in_flight_of self.new.state place → in_flight_of self.old.state place
-            ⊎ IsWithin at (length bytes.now) place }
-        ensures text { text_of self.new.state ≡ text_of self.old.state }
-        ensures time { TimePasses self.old.state self.new.state
-            (MayLeave (image_of self.new.state) (in_flight_of self.new.state) (text_of self.new.state)) }
-        ensures cause { HasCause (faults_of self.old.state) (faults_of self.new.state) result }
+        ensures writes { WritesPiece self.old.state at bytes.now self.new.state result }
         ensures step { steps.new ≡ steps.old + 1 }
-
-        // A call that is kept fails exactly by its number. One that isn't kept was refused.
-        ensures kept { OnOk result (IsDone self.old.state (Write at bytes.now) self.new.state) }
-        ensures failed { OnErr result (IsUndone self.old.state (Write at bytes.now) self.new.state) }
     {
         steps.spend();
         self.device.write_at(at, bytes)
     }
 
     fn sync(&mut self, steps: &mut Steps<L>) -> Result<(), Failed>
-        ensures durable { OnOk result ((place : ℕ) → ¬ in_flight_of self.new.state place) }
-        ensures same { OnOk result (image_of self.new.state ≡ image_of self.old.state) }
-        ensures image { SameBut (in_flight_of self.old.state) (image_of self.old.state) (image_of self.new.state) }
-        ensures flight { (place : ℕ) → in_flight_of self.new.state place → in_flight_of self.old.state place }
-        ensures text { text_of self.new.state ≡ text_of self.old.state }
-        ensures time { TimePasses self.old.state self.new.state
-            (MayLeave (image_of self.new.state) (in_flight_of self.new.state) (text_of self.new.state)) }
-        ensures cause { HasCause (faults_of self.old.state) (faults_of self.new.state) result }
+        ensures syncs { SyncsStore self.old.state self.new.state result }
         ensures step { steps.new ≡ steps.old + 1 }
-
-        // A call that is kept fails exactly by its number. One that isn't kept was refused.
-        ensures kept { OnOk result (IsDone self.old.state Sync self.new.state) }
-        ensures failed { OnErr result (IsUndone self.old.state Sync self.new.state) }
     {
         steps.spend();
         self.device.sync()
@@ -186,18 +146,8 @@ impl<L: Ledger> LogBoard<L> for MemoryLog {
     fn print(&mut self, bytes: &[u8], steps: &mut Steps<L>) -> Result<(), Failed>
         requires some { 0 < length bytes.now }
         requires few { length bytes.now ≤ 512 }
-        ensures whole { OnOk result (text_of self.new.state ≡ text_of self.old.state ++ bytes.now) }
-        ensures begun { Begins (text_of self.old.state) (text_of self.new.state) bytes.now }
-        ensures image { image_of self.new.state ≡ image_of self.old.state }
-        ensures flight { (place : ℕ) → in_flight_of self.new.state place → in_flight_of self.old.state place }
-        ensures time { TimePasses self.old.state self.new.state
-            (MayLeaveAmid (image_of self.new.state) (in_flight_of self.new.state) (text_of self.old.state) bytes.now) }
-        ensures cause { HasCause (faults_of self.old.state) (faults_of self.new.state) result }
+        ensures prints { PrintsPiece self.old.state bytes.now self.new.state result }
         ensures step { steps.new ≡ steps.old + 1 }
-
-        // A call that is kept fails exactly by its number. One that isn't kept was refused.
-        ensures kept { OnOk result (IsDone self.old.state (Print bytes.now) self.new.state) }
-        ensures failed { OnErr result (IsUndone self.old.state (Print bytes.now) self.new.state) }
     {
         steps.spend();
         self.device.print(bytes)

@@ -21,15 +21,30 @@ pub(crate) struct Entry {
     pub(crate) number: u64,
 }
 
-/// What the bytes of a slot hold: nothing where it is closed, and else the place in the log and the
-/// record, where they are one's.
-fn content(bytes: &[u8; 512]) -> Option<Option<(u64, LogRecord)>>
+/// What a slot holds.
+#[derive(Drop)]
+pub(crate) enum Content {
+    /// Nothing: the slot is closed.
+    Closed,
+
+    /// Bytes that are no record's: the slot is open.
+    Unread,
+
+    /// A record, at this place in the log: the slot is open.
+    Held(u64, LogRecord),
+}
+
+/// What the bytes of a slot hold.
+fn content_in(bytes: &[u8; 512]) -> Content
     ensures { IsContentOf bytes.now result }
 {
     if bytes[0] != OPEN {
-        return None;
+        return Content::Closed;
     }
-    Some(record_in(&bytes[1..]))
+    match record_in(&bytes[1..]) {
+        Some((place, record)) => Content::Held(place, record),
+        None => Content::Unread,
+    }
 }
 
 /// Reads a slot, 0 to 255.
@@ -37,7 +52,7 @@ pub(crate) fn read_slot<G: LogBoard<L>, L: Ledger>(
     slot: u32,
     log: &mut G,
     steps: &mut Steps<L>,
-) -> Result<Option<Option<(u64, LogRecord)>>, Failed>
+) -> Result<Content, Failed>
     requires { slot < 256 }
     ensures content { G.tells_image → IfOk result (λ found. IsContent (G.image log.old) slot found) }
     ensures sound { IfOk result IsSoundContent }
@@ -48,7 +63,7 @@ pub(crate) fn read_slot<G: LogBoard<L>, L: Ledger>(
 {
     let mut bytes = [0; 512];
     log.read(512 * slot, &mut bytes, steps)?;
-    Ok(content(&bytes))
+    Ok(content_in(&bytes))
 }
 
 /// Why a scan tells no list.
@@ -70,16 +85,13 @@ impl From<Failed> for ScanFault {
 }
 
 /// What is known of a slot, 0 to 255, by what it holds: nothing where it is closed.
-pub(crate) fn entry_of(
-    slot: u32,
-    content: Option<Option<(u64, LogRecord)>>,
-) -> Result<Option<Entry>, ScanFault>
+pub(crate) fn entry_of(slot: u32, content: Content) -> Result<Option<Entry>, ScanFault>
     requires { IsSoundContent content }
     ensures { IsEntryOf slot content result }
 {
     match content {
-        None => Ok(None),
-        Some(Some((place, it))) => {
+        Content::Closed => Ok(None),
+        Content::Held(place, it) => {
             if (place - 1) % 256 == u64::from(slot) {
                 Ok(Some(Entry {
                     place,
@@ -89,6 +101,6 @@ pub(crate) fn entry_of(
                 Err(ScanFault::BadSlot(slot))
             }
         }
-        Some(None) => Err(ScanFault::BadSlot(slot)),
+        Content::Unread => Err(ScanFault::BadSlot(slot)),
     }
 }

@@ -11,7 +11,7 @@ ghost use Rattle.hiring_log.specs.Slots.{Holds, slot_of};
 
 use crate::log_board::LogBoard;
 use crate::log_record::LogRecord;
-use crate::scanning::read_slot;
+use crate::scanning::{Content, read_slot};
 use outside::Failed;
 use std::sync::ledger::Ledger;
 use taxi_units::Steps;
@@ -33,9 +33,9 @@ fn show_one<G: LogBoard<L>, L: Ledger>(
 {
     let slot = ((place - 1) % 256) as u32;
     match read_slot(slot, log, steps)? {
-        Some(Some((_, it))) => log.print(it.text.as_slice(), steps),
-        Some(None) => Ok(()),
-        None => Ok(()),
+        Content::Held(_, it) => log.print(it.text.as_slice(), steps),
+        Content::Unread => Ok(()),
+        Content::Closed => Ok(()),
     }
 }
 

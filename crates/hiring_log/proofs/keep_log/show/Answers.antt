@@ -1,4 +1,4 @@
-use Rattle.std.proofs.Common.{◌≡◌, ◌∙◌, Some, Err, refl, sym, ap, subst, arith}
+use Rattle.std.proofs.Common.{◌∙◌, Some, Err, refl, sym, ap, subst, arith}
 use Rattle.std.specs.Prelude.{is_err}
 use Rattle.slot_store.specs.Syncs.{IsAsHeld}
 use Rattle.hiring_log.specs.Boards.{board_of}
@@ -8,7 +8,7 @@ use Rattle.hiring_log.specs.declared.ending.Ended.{Ended}
 use Rattle.hiring_log.specs.declared.finding.FindFault.TheVariants.{LogFault}
 use Rattle.hiring_log.specs.declared.words.Call.TheVariants.{Show}
 use Rattle.hiring_log.proofs.Comings.{comes_cut, comes_shown, comes_unread}
-use Rattle.hiring_log.proofs.Counted.{found_ends, found_held}
+use Rattle.hiring_log.proofs.Counted.{found_shown}
 use Rattle.hiring_log.proofs.EndCases.{found_same, unread_board, unread_no_read, unread_sync}
 use Rattle.hiring_log.proofs.Finishing.{looks_keeps, looks_read}
 use Rattle.hiring_log.proofs.NewestFound.{same_fault}
@@ -40,15 +40,10 @@ returns-in-Err-clause-looks g c =
 
 pub returns-in-Ok-show_records-clause-comes : goal.returns-in-Ok-show_records-clause-comes
 returns-in-Ok-show_records-clause-comes g c = λ told.
-    let B = board_of g.G.LogBoard in
-    let old = g.G.LogBoard.image c.args.log.now in
-    let new = g.G.LogBoard.image c.find_tail.new.log in
-    let flying = g.G.LogBoard.in_flight c.find_tail.new.log in
     let found = c.in-Ok.ensures.found told in
-    let same : new ≡ old = found_same B (IsAsHeld B c.args.log.now) c.args.log.now c.find_tail.new.log c.find_tail.result c.in-Ok.tail c.in-Ok.is c.find_tail.ensures.same in
-    let count = c.count_of-count.ensures.count new found.0 (found_ends old new flying c.in-Ok.tail found.0 found.1 same found.2) found.2.ready.opened found.2.ready.closed in
-    comes_shown g.F.Files B c.args.files.now c.args.log.now c.find_tail.new.log c.show_records.new.log c.args.steps.now c.show_records.new.steps found.0 found.1 c.find_tail.ensures.reads.text
-    (λ text. c.in-Ok-show_records.ensures.shown told text found.0 (found_held old new flying c.in-Ok.tail found.0 found.1 same found.2 c.count_of-count.result _ count refl) count)
+    let held = found_shown _ _ _ c.in-Ok.tail found.0 found.1 (found_same (board_of g.G.LogBoard) (IsAsHeld (board_of g.G.LogBoard) c.args.log.now) c.args.log.now c.find_tail.new.log c.find_tail.result c.in-Ok.tail c.in-Ok.is c.find_tail.ensures.same) found.2 _ c.count_of-count.ensures.count in
+    comes_shown g.F.Files (board_of g.G.LogBoard) c.args.files.now c.args.log.now c.find_tail.new.log c.show_records.new.log c.args.steps.now c.show_records.new.steps found.0 found.1 c.find_tail.ensures.reads.text
+    (λ text. c.in-Ok-show_records.ensures.shown told text found.0 held.0 held.1)
 
 pub returns-in-Ok-show_records-clause-looks : goal.returns-in-Ok-show_records-clause-looks
 returns-in-Ok-show_records-clause-looks g c =
@@ -58,15 +53,10 @@ returns-in-Ok-show_records-clause-looks g c =
 
 pub returns-in-Err-show_records-clause-comes : goal.returns-in-Err-show_records-clause-comes
 returns-in-Err-show_records-clause-comes g c = λ told.
-    let B = board_of g.G.LogBoard in
-    let old = g.G.LogBoard.image c.args.log.now in
-    let new = g.G.LogBoard.image c.find_tail.new.log in
-    let flying = g.G.LogBoard.in_flight c.find_tail.new.log in
     let found = c.in-Ok.ensures.found told in
-    let same : new ≡ old = found_same B (IsAsHeld B c.args.log.now) c.args.log.now c.find_tail.new.log c.find_tail.result c.in-Ok.tail c.in-Ok.is c.find_tail.ensures.same in
-    let count = c.count_of-count.ensures.count new found.0 (found_ends old new flying c.in-Ok.tail found.0 found.1 same found.2) found.2.ready.opened found.2.ready.closed in
-    comes_cut g.F.Files B c.args.files.now c.args.log.now c.find_tail.new.log c.show_records.new.log c.args.steps.now c.show_records.new.steps found.0 found.1 c.find_tail.ensures.reads.text
-    (λ text. c.show_records.ensures.begun told text found.0 (found_held old new flying c.in-Ok.tail found.0 found.1 same found.2 c.count_of-count.result _ count refl) count)
+    let held = found_shown _ _ _ c.in-Ok.tail found.0 found.1 (found_same (board_of g.G.LogBoard) (IsAsHeld (board_of g.G.LogBoard) c.args.log.now) c.args.log.now c.find_tail.new.log c.find_tail.result c.in-Ok.tail c.in-Ok.is c.find_tail.ensures.same) found.2 _ c.count_of-count.ensures.count in
+    comes_cut g.F.Files (board_of g.G.LogBoard) c.args.files.now c.args.log.now c.find_tail.new.log c.show_records.new.log c.args.steps.now c.show_records.new.steps found.0 found.1 c.find_tail.ensures.reads.text
+    (λ text. c.show_records.ensures.begun told text found.0 held.0 held.1)
     (omega (arith, c.show_records.ensures.cause.failed (ap is_err c.in-Err-show_records.is), c.find_tail.ensures.later))
 
 pub returns-in-Err-show_records-clause-board_fault : goal.returns-in-Err-show_records-clause-board_fault
