@@ -103,10 +103,6 @@ comment_fits t e = rw e (by (ltb 80 (length (strip_carriage_return t))))
     by true = refl
     by false = refl
 
--- what has at most 80 bytes without a CR at its end isn't too long
-pub short_fits : (t : List ℕ) → length (strip_carriage_return t) ≤ 80 → is_too_long t ≡ false
-short_fits t few = rw (le-ltb 80 (length (strip_carriage_return t)) few) refl
-
 -- and what has more is too long, where it is no comment
 pub long_fails : (t : List ℕ) → 80 < length (strip_carriage_return t) → is_comment t ≡ false → is_too_long t ≡ true
 long_fails t many plain = rw (lt-ltb 80 (length (strip_carriage_return t)) many, plain) refl

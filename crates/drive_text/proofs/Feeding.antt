@@ -90,22 +90,6 @@ pub split_of : {R : Type 0} (now : R → List ℕ) (piece line : List ℕ) (foun
 split_of now piece line (Some r) rest is h = h ∙ ap (λ (x : List ℕ). line ++ 10 ∷ x) (ap now (cc))
 split_of now piece line None rest is h = absurd (cc)
 
--- before a rest
-pub takes_before : (old new : Reading) (part piece rest : List ℕ) (before after : List Run) → piece ≡ part ++ rest → TakesPart old new part [] before after → TakesPart old new piece rest before after
-takes_before old new part piece rest before after is h = record {
-  part = h.part;
-  split = is ∙ ap (λ (x : List ℕ). x ++ rest) (h.split ∙ append-nil h.part);
-  some = h.some;
-  going = h.going;
-  counted = h.counted;
-  reader = h.reader;
-  runs = h.runs;
-  added = h.added;
-  in_range = h.in_range;
-  read = h.read;
-  quiet = h.quiet;
-}
-
 pub fails_before : (old new : Reading) (part piece rest : List ℕ) (line : ℕ) → piece ≡ part ++ rest → FailsIn old new part line → FailsIn old new piece line
 fails_before old new part piece rest line is h = record {
   failed = h.failed;

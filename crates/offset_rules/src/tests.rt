@@ -1,11 +1,17 @@
-ghost use Rattle.std.specs.Prelude.{◌≤◌};
-ghost use Rattle.offset_rules.specs.Pairs.{AreYears};
-
+//! Rules, their dates, seconds and lists, by example.
 use crate::changes::date_of_change;
 use crate::{Change, RuleFault, put_offset, read_rules};
-use arrayvec::ArrayVec;
 use interval_clock::Offsets;
-use taxi_units::{FIRST_SECOND, Line, LineFull};
+use std::test::Fail;
+use taxi_units::{FIRST_SECOND, LAST_SECOND, Line};
+
+/// Fails unless something holds of the case with this text and number.
+fn must(holds: bool, text: &str, number: u64) -> Result<(), Fail> {
+    if holds {
+        return Ok(());
+    }
+    Err(Fail::new(format_args!("{text:?}, {number}")))
+}
 
 /// Summer time of the European Union.
 const NORTH: &str =
@@ -18,14 +24,6 @@ const SOUTH: &str =
 /// Summer time of Paraguay as the time zone database has it for 2013 to 2023, west of Greenwich.
 const WEST: &str =
     "standard -14400\nsummer -10800\nbegin first sun oct 04:00\nend fourth sun mar 03:00\n";
-
-/// The pairs that a text gives for some years.
-fn listed(text: &str, from: u16, to: u16) -> Option<ArrayVec<(u64, i32), 32>>
-    requires { AreYears from to }
-{
-    let rules = read_rules(text.as_bytes()).ok()?;
-    Some(rules.pairs(from, to))
-}
 
 /// A rule whose change is at the first second of years that begin on a Monday.
 const NEW_YEAR: &str =
@@ -87,18 +85,23 @@ const LISTS: [(&str, u16, u16, &[(u64, i32)]); 5] = [
     ),
 ];
 
-#[test]
-fn lists_the_offsets_of_years(rt: HostRuntime) {
-    for (text, from, to, want) in LISTS {
-        assert!(rt; 2000 <= from && from <= to && to <= 2199);
-        assert!(rt; to - from <= 14);
-        let pairs = listed(text, from, to);
-        assert_eq!(rt;
-            pairs.map(|pairs| pairs.as_slice() == want),
-            Some(true),
-            "{text} {from}"
-        );
+/// Whether a text gives these pairs for some years, at most 15 of 2000 to 2199.
+fn lists(text: &str, from: u16, to: u16, want: &[(u64, i32)]) -> bool {
+    if from < 2000 || to < from || 2199 < to || 14 < to - from {
+        return false;
     }
+    match read_rules(text.as_bytes()) {
+        Ok(rules) => rules.pairs(from, to).as_slice() == want,
+        Err(_) => false,
+    }
+}
+
+#[test]
+fn lists_the_offsets_of_years() -> Result<(), Fail> {
+    for (text, from, to, want) in &LISTS {
+        must(lists(text, *from, *to, want), text, u64::from(*from))?;
+    }
+    Ok(())
 }
 
 /// The European Union's changes of 2026 to 2040, as the time zone database has them up to 2037 for Berlin.
@@ -135,51 +138,65 @@ const CHANGES: [u64; 30] = [
     2_234_998_800,
 ];
 
-#[test]
-fn lists_fifteen_years(rt: HostRuntime) {
-    let pairs = listed(NORTH, 2026, 2040);
-    assert_eq!(rt; pairs.as_ref().map(|pairs| pairs.len()), Some(31));
-    let Some(pairs) = pairs else {
-        return;
-    };
-    assert!(rt; Offsets::from_pairs(pairs.as_slice()).is_ok());
-    let mut changes = ArrayVec::<(u64, i32), 32>::new();
-    changes.push((FIRST_SECOND, 3600));
-    let mut summer = true;
-    for second in CHANGES {
-        let offset = if summer { 7200 } else { 3600 };
-        let pushed = changes.try_push((second, offset));
-        assert!(rt; pushed.is_ok());
-        summer = !summer;
+/// Whether pairs are the first second of all with the offset 3600, and behind it the changes, with 7200 and
+/// 3600 in turn.
+fn are_changes(pairs: &[(u64, i32)]) -> bool {
+    if pairs.len() != CHANGES.len() + 1 {
+        return false;
     }
-    assert!(rt; pairs.as_slice() == changes.as_slice());
+    for place in 0..CHANGES.len() {
+        let offset = if place % 2 == 0 { 7200 } else { 3600 };
+        if pairs[place + 1] != (CHANGES[place], offset) {
+            return false;
+        }
+    }
+    pairs[0] == (FIRST_SECOND, 3600)
+}
+
+#[test]
+fn lists_fifteen_years() -> Result<(), Fail> {
+    let Ok(rules) = read_rules(NORTH.as_bytes()) else {
+        return Err(Fail::new("no rules"));
+    };
+    let pairs = rules.pairs(2026, 2040);
+    must(are_changes(pairs.as_slice()), NORTH, 2026)?;
+    must(Offsets::from_pairs(pairs.as_slice()).is_ok(), NORTH, 2040)
 }
 
 /// Rows of a text, a second and its offset: the second before a change and the change, and the ends of
 /// years.
-#[test]
-fn gives_the_offset_at_a_second(rt: HostRuntime) {
-    for (text, second, want) in [
-        (NORTH, 946_684_800, 3600),
-        (NORTH, 1_774_745_999, 3600),
-        (NORTH, 1_774_746_000, 7200),
-        (NORTH, 1_792_889_999, 7200),
-        (NORTH, 1_792_890_000, 3600),
-        (NORTH, 7_258_118_399, 3600),
-        (SOUTH, 1_767_225_599, 39_600),
-        (SOUTH, 1_767_225_600, 39_600),
-        (SOUTH, 1_775_347_199, 39_600),
-        (SOUTH, 1_775_347_200, 36_000),
-        (SOUTH, 1_791_071_999, 36_000),
-        (SOUTH, 1_791_072_000, 39_600),
-    ] {
-        assert!(rt; 946_684_800 <= second && second <= 7_258_118_399);
-        let at = match read_rules(text.as_bytes()) {
-            Ok(rules) => Some(rules.at(second)),
-            Err(_) => None,
-        };
-        assert_eq!(rt; at, Some(want), "{second}");
+const SECONDS: [(&str, u64, i32); 12] = [
+    (NORTH, 946_684_800, 3600),
+    (NORTH, 1_774_745_999, 3600),
+    (NORTH, 1_774_746_000, 7200),
+    (NORTH, 1_792_889_999, 7200),
+    (NORTH, 1_792_890_000, 3600),
+    (NORTH, 7_258_118_399, 3600),
+    (SOUTH, 1_767_225_599, 39_600),
+    (SOUTH, 1_767_225_600, 39_600),
+    (SOUTH, 1_775_347_199, 39_600),
+    (SOUTH, 1_775_347_200, 36_000),
+    (SOUTH, 1_791_071_999, 36_000),
+    (SOUTH, 1_791_072_000, 39_600),
+];
+
+/// Whether a text gives a second this offset.
+fn gives(text: &str, second: u64, offset: i32) -> bool {
+    if second < FIRST_SECOND || LAST_SECOND < second {
+        return false;
     }
+    match read_rules(text.as_bytes()) {
+        Ok(rules) => rules.at(second) == offset,
+        Err(_) => false,
+    }
+}
+
+#[test]
+fn gives_the_offset_at_a_second() -> Result<(), Fail> {
+    for (text, second, want) in &SECONDS {
+        must(gives(text, *second, *want), text, *second)?;
+    }
+    Ok(())
 }
 
 /// Rows of a year, a month, a weekday, and the dates of the first to the fourth and of the last that Python's
@@ -213,27 +230,40 @@ const DATES: [(u16, u8, u8, [u8; 5]); 26] = [
     (2000, 1, 6, [1, 8, 15, 22, 29]),
 ];
 
-#[test]
-fn finds_the_dates_of_changes(rt: HostRuntime) {
-    for (year, month, weekday, dates) in DATES {
-        assert!(rt; 2000 <= year && year <= 2199);
-        assert!(rt; 1 <= month && month <= 12);
-        assert!(rt; 1 <= weekday && weekday <= 7);
-        for number in 1..6 {
-            let change = Change {
-                number,
-                weekday,
-                month,
-                minute: 0,
-            };
-            let want = dates[number as usize - 1];
-            assert_eq!(rt;
-                date_of_change(year, change),
-                want,
-                "{year} {month} {number} {weekday}"
-            );
+/// Whether a change at the first minute of a day of a year from 2000 to 2199 has this date.
+fn falls_on(year: u16, number: u8, weekday: u8, month: u8, date: u8) -> bool {
+    if year < 2000 || 2199 < year || number < 1 || 5 < number {
+        return false;
+    }
+    if weekday < 1 || 7 < weekday || month < 1 || 12 < month {
+        return false;
+    }
+    let change = Change {
+        number,
+        weekday,
+        month,
+        minute: 0,
+    };
+    date_of_change(year, change) == date
+}
+
+/// Fails unless the changes of a weekday, month and year have these dates.
+fn must_fall_on(year: u16, month: u8, weekday: u8, dates: &[u8; 5]) -> Result<(), Fail> {
+    for number in 1..6 {
+        let falls = falls_on(year, number, weekday, month, dates[number as usize - 1]);
+        if !falls {
+            return Err(Fail::new(format_args!("{year} {month} {number} {weekday}")));
         }
     }
+    Ok(())
+}
+
+#[test]
+fn finds_the_dates_of_changes() -> Result<(), Fail> {
+    for (year, month, weekday, dates) in &DATES {
+        must_fall_on(*year, *month, *weekday, dates)?;
+    }
+    Ok(())
 }
 
 /// Texts that have rules.
@@ -245,10 +275,11 @@ const GOOD: [&str; 4] = [
 ];
 
 #[test]
-fn reads_texts(rt: HostRuntime) {
-    for text in GOOD {
-        assert!(rt; read_rules(text.as_bytes()).is_ok(), "{text}");
+fn reads_texts() -> Result<(), Fail> {
+    for text in &GOOD {
+        must(read_rules(text.as_bytes()).is_ok(), text, 0)?;
     }
+    Ok(())
 }
 
 /// Rows of a text and its fault.
@@ -297,32 +328,48 @@ const BAD: [(&str, RuleFault); 18] = [
     ),
 ];
 
-#[test]
-fn refuses_texts(rt: HostRuntime) {
-    for (text, fault) in BAD {
-        assert_eq!(rt; read_rules(text.as_bytes()).err(), Some(fault), "{text}");
+/// Whether a text has this fault.
+fn refuses(text: &[u8], fault: RuleFault) -> bool {
+    match read_rules(text) {
+        Ok(_) => false,
+        Err(found) => found == fault,
     }
-    assert_eq!(rt; read_rules(&[b'x'; 4097]).err(), Some(RuleFault::TooLong));
-    assert_eq!(rt;
-        read_rules(&[b'x'; 4096]).err(),
-        Some(RuleFault::BadLine(1))
-    );
 }
 
 #[test]
-fn writes_the_lines_of_a_list(rt: HostRuntime) {
-    for (pair, want) in [
-        ((946_684_800, 3600), "offset 946684800 3600\n"),
-        ((1_774_746_000, -50_400), "offset 1774746000 -50400\n"),
-        ((7_258_118_399, 0), "offset 7258118399 0\n"),
-    ] {
-        let mut line = Line::new();
-        assert_eq!(rt; put_offset(&mut line, pair), Ok(()));
-        assert_eq!(rt; line.as_slice(), want.as_bytes());
+fn refuses_texts() -> Result<(), Fail> {
+    for (text, fault) in &BAD {
+        must(refuses(text.as_bytes(), *fault), text, 0)?;
     }
+    must(refuses(&[b'x'; 4097], RuleFault::TooLong), "x", 4097)?;
+    must(refuses(&[b'x'; 4096], RuleFault::BadLine(1)), "x", 4096)
+}
+
+/// Pairs, and their lines.
+const LINES: [((u64, i32), &str); 3] = [
+    ((946_684_800, 3600), "offset 946684800 3600\n"),
+    ((1_774_746_000, -50_400), "offset 1774746000 -50400\n"),
+    ((7_258_118_399, 0), "offset 7258118399 0\n"),
+];
+
+/// Whether a pair is written so.
+fn is_written(pair: (u64, i32), want: &str) -> bool {
     let mut line = Line::new();
-    let put = line.try_extend_from_slice(&[b'x'; 500]);
-    assert!(rt; put.is_ok());
-    assert_eq!(rt; put_offset(&mut line, (946_684_800, 3600)), Err(LineFull));
-    assert_eq!(rt; line.len(), 500);
+    put_offset(&mut line, pair).is_ok() && line.as_slice() == want.as_bytes()
+}
+
+/// Whether a line with 500 bytes has no room for a pair, and stays as long as it was.
+fn is_full(pair: (u64, i32)) -> bool {
+    let mut line = Line::new();
+    line.try_extend_from_slice(&[b'x'; 500]).is_ok()
+        && put_offset(&mut line, pair).is_err()
+        && line.len() == 500
+}
+
+#[test]
+fn writes_the_lines_of_a_list() -> Result<(), Fail> {
+    for (pair, want) in &LINES {
+        must(is_written(*pair, want), want, pair.0)?;
+    }
+    must(is_full((946_684_800, 3600)), "a full line", 500)
 }

@@ -16,7 +16,7 @@ use taxi_units::{NoMemory, Steps};
 /// The numbers with which the conditions of a tariff compare, in each dimension in order, and the day
 /// numbers of its holidays in order. Of a condition, a line or a text it keeps nothing. That contexts are
 /// told apart by cuts is this project's own.
-#[derive(Debug, Drop)]
+#[derive(Drop)]
 pub struct Cuts {
     month_days: Vec<u64>,
     minutes: Vec<u64>,

@@ -11,7 +11,7 @@ use tariff_syntax::{Cond, Item};
 use taxi_units::is_date;
 
 /// What is asked of the atoms of a condition.
-#[derive(Clone, Copy, Debug)]
+#[derive(Clone, Copy)]
 pub(crate) enum AtomRule {
     /// It names no position and no zone above the highest.
     Known(u8, u8),

@@ -13,7 +13,7 @@ use std::marker::Model;
 use tariff_syntax::Tariff;
 
 /// A sound tariff, with its numbers.
-#[derive(Debug, Drop)]
+#[derive(Drop)]
 pub struct Checked {
     pub(crate) tariff: Tariff,
     pub(crate) numbers: Numbers,

@@ -15,7 +15,7 @@ fn cells_of(alloc: Global, text: &str) -> Result<u64, CheckFault> {
     }
 }
 
-/// Fails unless a text's tariff has so many cells, or this fault.
+/// Fails unless a text's tariff has this number of cells, or this fault.
 fn must_have(alloc: Global, text: &str, want: Result<u64, CheckFault>) -> Result<(), Fail> {
     let found = cells_of(alloc, text);
     if found == want {
@@ -34,6 +34,13 @@ fn cuts_of(alloc: Global, dimension: Dimension, count: u8) -> Result<String, Fai
     }
 }
 
+/// A range of one date, by its place among 33.
+fn date_part(alloc: Global, place: u8) -> Result<String, Fail> {
+    let month = 10 + place / 11;
+    let date = 10 + 2 * (place % 11);
+    Ok(format!(in alloc; " or date {month}-{date}..{month}-{date}")?)
+}
+
 /// Ranges of dates that cut twice, and one that cuts once where that is left.
 fn dates(alloc: Global, count: u8) -> Result<String, Fail> {
     let mut when = String::new(alloc);
@@ -43,12 +50,17 @@ fn dates(alloc: Global, count: u8) -> Result<String, Fail> {
         "date 01-01..12-31"
     })?;
     for place in 0..count / 2 {
-        let month = 10 + place / 11;
-        let date = 10 + 2 * (place % 11);
-        let range = format!(in alloc; " or date {month}-{date}..{month}-{date}")?;
-        when.push_str(range.as_str())?;
+        when.push_str(date_part(alloc, place)?.as_str())?;
     }
     Ok(when)
+}
+
+/// A range of one minute, by its place among 40.
+fn minute_part(alloc: Global, place: u8) -> Result<String, Fail> {
+    let hour = 10 + place / 20;
+    let from = 10 + 2 * (place % 20);
+    let to = from + 1;
+    Ok(format!(in alloc; " or time {hour}:{from}..{hour}:{to}")?)
 }
 
 /// Ranges of minutes that cut twice, and one that cuts once where that is left.
@@ -60,16 +72,12 @@ fn times(alloc: Global, count: u8) -> Result<String, Fail> {
         "time 00:00..00:00"
     })?;
     for place in 0..count / 2 {
-        let hour = 10 + place / 20;
-        let from = 10 + 2 * (place % 20);
-        let to = from + 1;
-        let range = format!(in alloc; " or time {hour}:{from}..{hour}:{to}")?;
-        when.push_str(range.as_str())?;
+        when.push_str(minute_part(alloc, place)?.as_str())?;
     }
     Ok(when)
 }
 
-/// So many distances or times.
+/// A number of distances or times.
 fn afters(alloc: Global, count: u8, unit: &str) -> Result<String, Fail> {
     let mut when = String::new(alloc);
     when.push_str("holiday")?;
@@ -110,7 +118,7 @@ const CUTS: &[CutRow] = &[
     ),
 ];
 
-/// Fails unless a tariff that is cut so often has so many cells, or this fault.
+/// Fails unless a tariff with this number of cuts has this number of cells, or this fault.
 fn must_count_cuts(alloc: Global, row: &CutRow) -> Result<(), Fail> {
     let when = cuts_of(alloc, row.0, row.1)?;
     let text = format!(in alloc;
@@ -156,7 +164,7 @@ const CELLS: &[CellRow] = &[
     ),
 ];
 
-/// Fails unless a tariff that is cut so often in two dimensions has so many cells, or this fault.
+/// Fails unless a tariff with these numbers of cuts in two dimensions has this number of cells, or this fault.
 fn must_count_cells(alloc: Global, row: &CellRow) -> Result<(), Fail> {
     let one = cuts_of(alloc, row.0.0, row.0.1)?;
     let other = cuts_of(alloc, row.1.0, row.1.1)?;
@@ -200,7 +208,7 @@ const LINES: &[LineRow] = &[
     ),
 ];
 
-/// Fails unless a tariff with so many of these lines before the last has so many cells, or this fault.
+/// Fails unless a tariff with a number of these lines before the last has this number of cells, or this fault.
 fn must_count_lines(
     alloc: Global,
     row: &LineRow,
@@ -222,7 +230,15 @@ fn counts_lines_up_to_their_limits(rt: HostRuntime) -> Result<(), Fail> {
     Ok(())
 }
 
-/// Fails unless a tariff with so many holidays has so many cells, or this fault.
+/// The line of the holiday at a place among the 10th to the 28th of the last three months of each year from 2000 on.
+fn holiday_line(alloc: Global, place: u16) -> Result<String, Fail> {
+    let year = 2000 + place / 57;
+    let month = 10 + place / 19 % 3;
+    let date = 10 + place % 19;
+    Ok(format!(in alloc; "holiday {year}-{month}-{date}\n")?)
+}
+
+/// Fails unless a tariff with a number of holidays has this number of cells, or this fault.
 fn must_count_holidays(
     alloc: Global,
     count: u16,
@@ -231,11 +247,7 @@ fn must_count_holidays(
     let mut text = String::new(alloc);
     text.push_str("step 1\ninitial 1\nrate 1 per 1 m, 1 per 1 s\n")?;
     for place in 0..count {
-        let year = 2000 + place / 57;
-        let month = 10 + place / 19 % 3;
-        let date = 10 + place % 19;
-        let line = format!(in alloc; "holiday {year}-{month}-{date}\n")?;
-        text.push_str(line.as_str())?;
+        text.push_str(holiday_line(alloc, place)?.as_str())?;
     }
     must_have(alloc, text.as_str(), want)
 }

@@ -3,7 +3,7 @@ use drive_modes::Rounding;
 
 /// What is known of a tariff once it was found to be sound: its display step and how the fare is rounded
 /// to it, how many positions and zones it has, its cells and its common measure.
-#[derive(Clone, Copy, Debug)]
+#[derive(Clone, Copy)]
 pub(crate) struct Numbers {
     pub step: u64,
     pub rounding: Rounding,

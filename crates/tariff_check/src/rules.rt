@@ -11,7 +11,7 @@ use tariff_syntax::{Item, TariffLine};
 use taxi_units::is_date;
 
 /// What is asked of a line.
-#[derive(Clone, Copy, Debug)]
+#[derive(Clone, Copy)]
 pub(crate) enum LineRule {
     /// No earlier line excludes it.
     Once,

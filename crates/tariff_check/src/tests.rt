@@ -226,7 +226,7 @@ const CUTS: &[CutRow] = &[
     (RANGES, 5, Dimension::Time, &[10, 20]),
 ];
 
-/// Fails unless a text has so many lines and these cuts.
+/// Fails unless a text has this number of lines and these cuts.
 fn must_be_cut(alloc: Global, row: &CutRow) -> Result<(), Fail> {
     let (lines, cuts) = lines_and_cuts(alloc, row.0, row.2)?;
     if lines == row.1 && cuts.as_slice() == row.3 {

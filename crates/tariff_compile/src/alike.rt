@@ -7,7 +7,7 @@ ghost use Rattle.tariff_syntax.specs.declared.context.Context.{Context};
 use tariff_syntax::{Cond, Context};
 
 /// Which parts are the same in all of some contexts, so that what asks for them alone has one answer.
-#[derive(Clone, Copy, Debug, PartialEq, Eq)]
+#[derive(Clone, Copy)]
 pub(crate) struct Alike {
     position: bool,
     zone: bool,

@@ -115,7 +115,7 @@ fn push_lines(
     Ok(())
 }
 
-/// The same contexts at the hiring, with no pulse and no tick of the trip.
+/// Contexts at the hiring, with no pulse and no tick of the trip.
 fn hirings(alloc: Global, contexts: &[Context]) -> Result<Vec<Context>, NoMemory>
     ensures { IfOk result (λ hirings. hirings.items ≡ map at_hiring contexts.now) }
 {

@@ -3,7 +3,7 @@ ghost use Rattle.std.specs.Prelude.{◌≡◌, ◌≢◌, ◌<◌, ◌&&◌, ◌
 ghost use Rattle.tariff_compile.specs.Marks.{is_marked};
 
 /// Which of the places 0 to 63 are marked.
-#[derive(Clone, Copy, Debug, PartialEq, Eq)]
+#[derive(Clone, Copy)]
 pub(crate) struct Marks {
     bits: u64,
 }

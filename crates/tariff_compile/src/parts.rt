@@ -5,7 +5,7 @@ use drive_modes::Weights;
 /// What a hiring begins with, in units of the last decimal: the initial hire fee, the amount of charges
 /// that it covers, and the minimum fare, which is 0 where no minimum line holds. Each is at most
 /// 99,999,999.
-#[derive(Clone, Copy, Debug, PartialEq, Eq)]
+#[derive(Clone, Copy)]
 pub struct Initial {
     pub amount: u64,
     pub covers: u64,
@@ -13,7 +13,7 @@ pub struct Initial {
 }
 
 /// What a rate weighs, and for how many further pulses and further ticks of a trip it holds at least.
-#[derive(Clone, Copy, Debug, PartialEq, Eq)]
+#[derive(Clone, Copy, Debug)]
 pub struct Lasting {
     pub weights: Weights,
     pub further: u64,
@@ -21,7 +21,7 @@ pub struct Lasting {
 }
 
 /// An initial hire fee of the tables, and the amount of charges that it covers.
-#[derive(Clone, Copy, Debug, PartialEq, Eq)]
+#[derive(Clone, Copy)]
 pub(crate) struct Fee {
     pub(crate) amount: u64,
     pub(crate) covers: u64,
@@ -29,7 +29,7 @@ pub(crate) struct Fee {
 
 /// A supplement, in units of the last decimal, and how often a hiring may have it: at most 1,000,000, and
 /// 1 to 99.
-#[derive(Clone, Copy, Debug, PartialEq, Eq)]
+#[derive(Clone, Copy, PartialEq, Eq)]
 pub struct Supplement {
     pub amount: u64,
     pub max: u8,
@@ -37,7 +37,7 @@ pub struct Supplement {
 
 /// The lines of a cell: by their places from 0 the rate and the initial hire fee, and by its number from
 /// 1 the minimum fare, 0 where it has none.
-#[derive(Clone, Copy, Debug, PartialEq, Eq)]
+#[derive(Clone, Copy)]
 pub(crate) struct CellLines {
     pub(crate) rate: u8,
     pub(crate) initial: u8,
@@ -45,7 +45,7 @@ pub(crate) struct CellLines {
 }
 
 /// The number of a cell in each dimension, from 0; or how many numbers each dimension has.
-#[derive(Clone, Copy, Debug, PartialEq, Eq)]
+#[derive(Clone, Copy)]
 pub(crate) struct Bands {
     pub(crate) position: usize,
     pub(crate) zone: usize,

@@ -21,7 +21,7 @@ use crate::words::{after_sign, after_word, is_over, is_text};
 use std::alloc::Global;
 
 /// Why a line has no item.
-#[derive(Clone, Copy, Debug, PartialEq, Eq)]
+#[derive(Clone, Copy)]
 pub enum LineFault {
     /// It has none of the forms of a line.
     Bad,

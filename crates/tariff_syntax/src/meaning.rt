@@ -62,7 +62,7 @@ pub fn minimum_of(tariff: &Tariff, x: &Context) -> Option<usize>
 }
 
 /// A kind of lines, of which the first that holds is the one that counts.
-#[derive(Clone, Copy, Debug, PartialEq, Eq)]
+#[derive(Clone, Copy)]
 pub enum LineKind {
     Rate,
     Initial,
@@ -98,7 +98,7 @@ pub fn when_of(kind: LineKind, item: &Item) -> Option<&Option<Cond>>
     }
 }
 
-/// The same context at the hiring, with no pulse and no tick of the trip.
+/// A context at the hiring, with no pulse and no tick of the trip.
 fn hiring(x: &Context) -> Context
     ensures { result ≡ at_hiring x.now }
 {

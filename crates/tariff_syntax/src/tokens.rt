@@ -7,7 +7,7 @@ ghost use Rattle.tariff_syntax.specs.Token.{token_of, is_blank, is_letter};
 ghost use Rattle.tariff_syntax.specs.TokenReading.{token_at, token_here, run_end, sign_end, tokens_of};
 
 /// A token. A sign is `..` or any byte that no other token begins with.
-#[derive(Clone, Copy, Debug, PartialEq, Eq)]
+#[derive(Clone, Copy)]
 pub enum Token<'a> {
     Word(&'a [u8]),
     Figure(&'a [u8]),

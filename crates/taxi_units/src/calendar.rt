@@ -41,7 +41,7 @@ pub fn date_of_place(place: u16) -> Option<(u8, u8)>
 {
     let mut month = 1;
     let mut days = place;
-    for length in month_lengths(true) {
+    for &length in &month_lengths(true) {
         if days < length {
             return Some((month, days as u8 + 1));
         }

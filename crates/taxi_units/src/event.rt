@@ -57,7 +57,7 @@ pub enum Why {
     AtMost,
     /// In a trip the clock was given a second before the last one.
     ClockBack { last: u64, given: u64 },
-    /// So many pulses more than an interval can have.
+    /// More pulses came than an interval can have, by this number.
     TooFast(u32),
     /// The meter is powered already.
     Powered,

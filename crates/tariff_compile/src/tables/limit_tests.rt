@@ -35,7 +35,7 @@ fn must_be_row(tables: &Tables, place: u64, want: &str) -> Result<(), Fail> {
     Err(Fail::new(want))
 }
 
-/// Fails unless the tables of a text have so many rows, and these by their places.
+/// Fails unless the tables of a text have this number of rows, and these by their places.
 fn must_have_rows(alloc: Global, text: &str, count: u64, rows: &[(u64, &str)]) -> Result<(), Fail> {
     let tables = tables_of(alloc, text)?;
     if tables.rows() != count {
@@ -47,6 +47,14 @@ fn must_have_rows(alloc: Global, text: &str, count: u64, rows: &[(u64, &str)]) -
     Ok(())
 }
 
+/// A range of one minute, by its place among 40.
+fn minute_part(alloc: Global, place: u8) -> Result<String, Fail> {
+    let hour = 10 + place / 20;
+    let from = 10 + 2 * (place % 20);
+    let to = from + 1;
+    Ok(format!(in alloc; " or time {hour}:{from}..{hour}:{to}")?)
+}
+
 /// Nine positions, 63 cuts of minutes and 15 of distances: as many cells as there may be. A rate by day
 /// and near, and one from 23:59 on.
 fn most_cells(alloc: Global) -> Result<String, Fail> {
@@ -55,11 +63,7 @@ fn most_cells(alloc: Global) -> Result<String, Fail> {
         "positions 9\nstep 1\ninitial 1\nrate 1 per 1 m, 1 per 1 s when time 00:00..23:59",
     )?;
     for place in 0..31u8 {
-        let hour = 10 + place / 20;
-        let from = 10 + 2 * (place % 20);
-        let to = from + 1;
-        let range = format!(in alloc; " or time {hour}:{from}..{hour}:{to}")?;
-        text.push_str(range.as_str())?;
+        text.push_str(minute_part(alloc, place)?.as_str())?;
     }
     for place in 0..15u8 {
         let distance = format!(in alloc; " or after {place}.5 m")?;
@@ -162,7 +166,7 @@ const BANDS: &[(Dimension, u8)] = &[
     (Dimension::Time, 16),
 ];
 
-/// Fails unless tables have so many cells behind four other rows, with these two rates by turns.
+/// Fails unless tables have this number of cells behind four other rows, with these two rates by turns.
 fn must_alternate(alloc: Global, tables: &Tables, cells: u16, rates: (u8, u8)) -> Result<(), Fail> {
     if tables.rows() != 4 + cells as u64 {
         return Err(Fail::new(tables.rows()));
@@ -175,7 +179,7 @@ fn must_alternate(alloc: Global, tables: &Tables, cells: u16, rates: (u8, u8)) -
     Ok(())
 }
 
-/// Fails unless every second of so many bands of a dimension has a rate of its own.
+/// Fails unless every second of a number of bands of a dimension has a rate of its own.
 fn must_have_bands(alloc: Global, dimension: Dimension, bands: u8) -> Result<(), Fail> {
     let text = every_second(alloc, dimension, bands)?;
     let tables = tables_of(alloc, text.as_str())?;
@@ -190,19 +194,22 @@ fn makes_the_most_bands(rt: HostRuntime) -> Result<(), Fail> {
     Ok(())
 }
 
-/// 255 holidays, the 10th to the 28th of the last three months of each year from 2000 on, with a rate of
-/// their own.
+/// The line of the holiday at a place among the 10th to the 28th of the last three months of each year from 2000 on.
+fn holiday_line(alloc: Global, place: u16) -> Result<String, Fail> {
+    let year = 2000 + place / 57;
+    let month = 10 + place / 19 % 3;
+    let date = 10 + place % 19;
+    Ok(format!(in alloc; "holiday {year}-{month}-{date}\n")?)
+}
+
+/// 255 of these holidays, with a rate of their own.
 fn most_holidays(alloc: Global) -> Result<String, Fail> {
     let mut text = String::new(alloc);
     text.push_str(
         "step 1\ninitial 1\nrate 1 per 1 m, 1 per 1 s when holiday\nrate 2 per 1 m, 1 per 1 s\n",
     )?;
     for place in 0..255u16 {
-        let year = 2000 + place / 57;
-        let month = 10 + place / 19 % 3;
-        let date = 10 + place % 19;
-        let line = format!(in alloc; "holiday {year}-{month}-{date}\n")?;
-        text.push_str(line.as_str())?;
+        text.push_str(holiday_line(alloc, place)?.as_str())?;
     }
     Ok(text)
 }

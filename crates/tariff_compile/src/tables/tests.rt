@@ -258,18 +258,23 @@ const FOUND: &[Row] = &[
     (LEAST, 20_514, 1, 61, 1320, (25_200_000, 380, 600)),
 ];
 
+/// What holds first then, where there are such a day and such a minute.
+fn found_at(tables: &Tables, row: &Row) -> Option<(u128, u64, u64)> {
+    let (day, weekday, month_day, minute) = (row.1, row.2, row.3, row.4);
+    if weekday < 1 || weekday > 7 || month_day > 365 || minute > 1439 {
+        return None;
+    }
+    Some(found::<Brand>(Blank::new(1), tables, day, weekday, month_day, minute))
+}
+
 /// Fails unless these hold first.
 fn must_be_found(alloc: Global, row: &Row) -> Result<(), Fail> {
     let tables = compiled(alloc, row.0, 10_000)?;
-    let (day, weekday, month_day, minute) = (row.1, row.2, row.3, row.4);
-    if weekday < 1 || weekday > 7 || month_day > 365 || minute > 1439 {
-        return Err(Fail::new("no such day"));
-    }
-    let lines = found::<Brand>(Blank::new(1), &tables, day, weekday, month_day, minute);
-    if lines == row.5 {
+    let lines = found_at(&tables, row);
+    if lines == Some(row.5) {
         return Ok(());
     }
-    Err(Fail::new(format_args!("{lines:?}: day {day} minute {minute}")))
+    Err(Fail::new(format_args!("{lines:?}: day {} minute {}", row.1, row.4)))
 }
 
 #[test]
@@ -332,10 +337,9 @@ fn finds_supplements(rt: HostRuntime) -> Result<(), Fail> {
 
 /// Whether the tables' numbers are those of the city tariff.
 fn has_city_numbers(tables: &Tables) -> bool {
-    tables.rows() == 343
-        && tables.measure() == 1_800_000_000
-        && (tables.step(), tables.rounding()) == (20, Rounding::Ahead)
-        && (tables.decimals(), tables.positions(), tables.zones()) == (2, 2, 2)
+    let sizes = (tables.rows(), tables.measure(), tables.step());
+    let numbers = (tables.decimals(), tables.positions(), tables.zones());
+    (sizes, numbers, tables.rounding()) == ((343, 1_800_000_000, 20), (2, 2, 2), Rounding::Ahead)
 }
 
 #[test]
@@ -347,7 +351,7 @@ fn gives_its_numbers(rt: HostRuntime) -> Result<(), Fail> {
 
 /// Whether tables are those of the plain tariff. The parts are all that there is: numbers, and no condition, line
 /// or text.
-fn is_plain(tables: Tables) -> bool {
+fn is_plain(tables: &Tables) -> bool {
     let Tables {
         cuts,
         weights,
@@ -363,25 +367,25 @@ fn is_plain(tables: Tables) -> bool {
         positions,
         zones,
     } = tables;
-    let cuts: Cuts = cuts;
-    let weights: Vec<Weights> = weights;
-    let initials: Vec<Fee> = initials;
-    let minimums: Vec<u64> = minimums;
-    let cells: Vec<CellLines> = cells;
-    let supplements: Vec<Option<Supplement>> = supplements;
+    let cuts: &Cuts = cuts;
+    let weights: &Vec<Weights> = weights;
+    let initials: &Vec<Fee> = initials;
+    let minimums: &Vec<u64> = minimums;
+    let cells: &Vec<CellLines> = cells;
+    let supplements: &Vec<Option<Supplement>> = supplements;
     let numbers: (Constant, u128, u64, Rounding, u8, u8, u8) = (
-        constant, measure, step, rounding, decimals, positions, zones,
+        *constant, *measure, *step, *rounding, *decimals, *positions, *zones,
     );
-    cuts.list(Dimension::Minute).is_empty()
-        && (weights.len(), initials.len(), minimums.len()) == (1, 1, 0)
-        && (cells.len(), supplements.len()) == (7, 16)
-        && numbers.1 == 1_479_240_000
+    let minutes = cuts.list(Dimension::Minute).len();
+    let lines = (weights.len(), initials.len(), minimums.len());
+    (minutes, lines, cells.len(), supplements.len(), numbers.1)
+        == (0, (1, 1, 0), 7, 16, 1_479_240_000)
 }
 
 #[test]
 fn keeps_numbers_alone(rt: HostRuntime) -> Result<(), Fail> {
     let tables = compiled(rt.alloc(), PLAIN, 10_000)?;
-    assert!(rt; is_plain(tables));
+    assert!(rt; is_plain(&tables));
     Ok(())
 }
 
@@ -403,11 +407,31 @@ fn is_plain_cell(lines: &CellLines) -> bool {
     places == (0, 0, 0)
 }
 
-/// The same of each fee and each cell.
+/// Whether each of some fees is the plain tariff's.
+fn are_plain_fees(fees: &[Fee]) -> bool {
+    for fee in fees {
+        if !is_plain_fee(fee) {
+            return false;
+        }
+    }
+    true
+}
+
+/// Whether each of some cells is the plain tariff's.
+fn are_plain_cells(cells: &[CellLines]) -> bool {
+    for lines in cells {
+        if !is_plain_cell(lines) {
+            return false;
+        }
+    }
+    true
+}
+
+/// The plain tariff's fees and cells are numbers alone.
 #[test]
 fn keeps_numbers_alone_in_fees_and_cells(rt: HostRuntime) -> Result<(), Fail> {
     let tables = compiled(rt.alloc(), PLAIN, 10_000)?;
-    let fees_are_plain = tables.initials.iter().all(|fee| is_plain_fee(fee));
-    assert!(rt; fees_are_plain && tables.cells.iter().all(|lines| is_plain_cell(lines)));
+    let fees_are_plain = are_plain_fees(tables.initials.as_slice());
+    assert!(rt; fees_are_plain && are_plain_cells(tables.cells.as_slice()));
     Ok(())
 }

@@ -11,7 +11,7 @@ fn outcome(alloc: Global, text: &[u8]) -> Result<usize, u32> {
     }
 }
 
-/// Fails unless a text has so many lines, or this line of it is bad.
+/// Fails unless a text has this number of lines, or this line of it is bad.
 fn must_be_read(alloc: Global, text: &str, want: Result<usize, u32>) -> Result<(), Fail> {
     let found = outcome(alloc, text.as_bytes());
     if found == want {
@@ -242,7 +242,7 @@ fn reads_what_each_line_says(rt: HostRuntime) -> Result<(), Fail> {
     Ok(())
 }
 
-/// Fails unless a text of so many blanks gives no fault, or this one.
+/// Fails unless a text of this number of blanks gives no fault, or this one.
 fn must_be_bounded(alloc: Global, blanks: usize, want: Option<ParseFault>) -> Result<(), Fail> {
     let text = " ".repeat(alloc, blanks)?;
     if parse(alloc, text.as_bytes()).err() == want {
@@ -257,10 +257,10 @@ fn bounds_a_text(rt: HostRuntime) -> Result<(), Fail> {
     must_be_bounded(rt.alloc(), 65_537, Some(ParseFault::TooLong))
 }
 
-/// What stands before an atom so many times, and what stands behind it as often.
+/// What stands before an atom a number of times, and what stands behind it as often.
 const DEEP: &[(&str, &str)] = &[("holiday or ", ""), ("not ", ""), ("(", ")")];
 
-/// Fails unless a condition with so many parts around its last atom is read, or is bad.
+/// Fails unless a condition with this number of parts around its last atom is read, or is bad.
 fn must_be_this_deep(
     alloc: Global,
     parts: &(&str, &str),

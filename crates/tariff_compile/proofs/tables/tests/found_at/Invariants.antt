@@ -1,4 +1,4 @@
-use Rattle.tariff_compile.proofs.tables.tests.must_be_found.Given as goal
+use Rattle.tariff_compile.proofs.tables.tests.found_at.Given as goal
 
 abbrev pub ghosts-found : goal.ghosts-found
 ghosts-found a = record { name = a.blank.name; parts = a.blank.parts }
