@@ -137,24 +137,10 @@ pub record PieceSoFar (told : Type 0) (durable : Durable) (seal : Seal) (first n
   pub shown : told → printed ≡ before ++ replies durable seal (ended_in first done)
   pub bounded : steps ≤ opening + length (ended_in first done)
 
-pub piece_none : (told : Type 0) (durable : Durable) (seal : Seal) (first : Standing) (piece before : List ℕ) (opening : ℕ) → first.failed ≡ false → PieceSoFar told durable seal first first piece piece before before opening opening
-piece_none told durable seal first piece before opening going = record {
-  done = [];
-  split = refl;
-  now_is = refl;
-  going = going;
-  counted = omega arith;
-  shown = λ t. sym (append-nil before);
-  bounded = omega arith;
-}
-
 module _ (told : Type 0) (durable : Durable) (seal : Seal) (first now : Standing) (piece rest before printed : List ℕ) (opening steps : ℕ)
     (f : PieceSoFar told durable seal first now piece rest before printed opening steps) where
   pub piece_sense : HasSense first → HasSense now
   piece_sense sense = (sense.0 ++ f.done, f.now_is ∙ (ap (λ (s : Standing). after_bytes s f.done) sense.1 ∙ sym (after-append (between 0) sense.0 f.done)))
-
-  pub piece_few : first.taken + length piece < 2 ^ 64 → now.taken + length rest < 2 ^ 64
-  piece_few few = omega (arith, few, f.counted, ap length f.split, length-append f.done rest)
 
   whole_ended : ended_in first piece ≡ ended_in first f.done ++ ended_in now rest
   whole_ended = ap (ended_in first) f.split ∙ (ended-append first f.done rest ∙ ap (λ (s : Standing). ended_in first f.done ++ ended_in s rest) (sym f.now_is))
@@ -184,20 +170,6 @@ module _ (told : Type 0) (durable : Durable) (seal : Seal) (first now : Standing
   piece_bad_shown items printed' place sense breaks shown t =
       printed_more durable seal before printed printed' (ended_in first f.done) items (ended_in first piece) (f.shown t) (shown t)
       (whole_ended ∙ ap (λ (rs : List Request). ended_in first f.done ++ rs) (sym (broke_requests now rest items place (piece_sense sense) (breaks f.going))))
-
-  -- the whole piece was taken
-  pub piece_whole : length rest ≡ 0 → now ≡ after_bytes first piece
-  piece_whole none =
-      let all : piece ≡ f.done = f.split ∙ (ap (λ (l : List ℕ). f.done ++ l) (nil_from_length rest none) ∙ append-nil f.done) in
-      f.now_is ∙ ap (after_bytes first) (sym all)
-
-  pub piece_whole_shown : length rest ≡ 0 → told → printed ≡ before ++ replies durable seal (ended_in first piece)
-  piece_whole_shown none t =
-      let all : piece ≡ f.done = f.split ∙ (ap (λ (l : List ℕ). f.done ++ l) (nil_from_length rest none) ∙ append-nil f.done) in
-      f.shown t ∙ ap (λ (l : List ℕ). before ++ replies durable seal (ended_in first l)) (sym all)
-
-  pub piece_whole_steps : length rest ≡ 0 → steps ≤ opening + length (ended_in first piece)
-  piece_whole_steps none = omega (arith, f.bounded, ap length whole_ended, length-append (ended_in first f.done) (ended_in now rest))
 
   -- more of it was taken
   pub piece_more : (new : Standing) (rest' printed' : List ℕ) (items : List Request) (steps' n : ℕ) → HasSense first → n ≤ length rest → rest' ≡ drop n rest
@@ -231,25 +203,8 @@ pub record ServedSoFar (known told : Type 0) (durable : Durable) (seal : Seal) (
   pub shown : told → printed ≡ before ++ replies durable seal (requests_in taken)
   pub bounded : steps ≤ opening + length (requests_in taken)
 
-pub served_none : (known told : Type 0) (durable : Durable) (seal : Seal) (port : Standing) (stream before : List ℕ) (opening : ℕ) → port ≡ between 0 → ServedSoFar known told durable seal port stream stream before before stream_limit opening opening
-served_none known told durable seal port stream before opening new = record {
-  taken = [];
-  stands = new;
-  going = ap (λ (s : Standing). s.failed) new;
-  count = ap (λ (s : Standing). s.taken) new;
-  room = omega arith;
-  split = λ k. refl;
-  shown = λ t. sym (append-nil before);
-  bounded = omega arith;
-}
-
 module _ (known told : Type 0) (durable : Durable) (seal : Seal) (port : Standing) (stream rest before printed : List ℕ) (left opening steps : ℕ)
     (f : ServedSoFar known told durable seal port stream rest before printed left opening steps) where
-  pub served_sense : HasSense port
-  served_sense = (f.taken, f.stands)
-
-  pub served_few : (count : ℕ) → count ≤ left → port.taken + count < 2 ^ 64
-  served_few count within = omega (arith, f.count, f.room, within)
 
   good : first_bad f.taken ≡ None
   good = going_port port f.taken f.stands f.going
@@ -278,10 +233,6 @@ module _ (known told : Type 0) (durable : Durable) (seal : Seal) (port : Standin
     bounded = omega (arith, f.bounded, more, ap length (more_requests piece), length-append (requests_in f.taken) (ended_in port piece));
   }
 
-  -- the steps of the bytes so far, and of a piece more
-  pub served_steps : (rest' : List ℕ) → (known → rest' ≡ rest) → known → IsBoundedBy stream rest' opening steps
-  served_steps rest' kept k = record { taken = f.taken; split = record { bytes = f.split k ∙ ap (λ (l : List ℕ). f.taken ++ l) (sym (kept k)) }; bound = f.bounded }
-
   pub more_steps : (piece rest' : List ℕ) (steps' : ℕ) → (known → rest ≡ piece ++ rest') → steps' ≤ steps + length (ended_in port piece) → known → IsBoundedBy stream rest' opening steps'
   more_steps piece rest' steps' passes more k = record {
     taken = f.taken ++ piece;
@@ -300,14 +251,6 @@ module _ (known told : Type 0) (durable : Durable) (seal : Seal) (port : Standin
 
   pub served_long : left ≡ 0 → known → ServesTo told durable seal stream rest before printed Endless
   served_long none k = serves f.taken rest printed Endless (endless_ends stream f.taken rest (f.split k) (omega (arith, f.room, none)) good) f.shown
-
-  pub served_fault : (rest' : List ℕ) → 0 < left → (known → rest' ≡ rest) → known → StopsAfter stream rest' IsGoing (λ taken. told → printed ≡ before ++ replies durable seal (requests_in taken))
-  served_fault rest' some kept k = record {
-    taken = f.taken;
-    split = record { bytes = f.split k ∙ ap (λ (l : List ℕ). f.taken ++ l) (sym (kept k)) };
-    stands = record { good = good; few = omega (arith, f.room, some) };
-    printed = f.shown;
-  }
 
   at_end : (rest' : List ℕ) → rest ≡ [] → rest' ≡ [] → known → stream ≡ f.taken ++ rest'
   at_end rest' none none' k = f.split k ∙ ap (λ (l : List ℕ). f.taken ++ l) (none ∙ sym none')

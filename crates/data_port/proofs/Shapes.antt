@@ -31,7 +31,7 @@ rise_push : (above code : ℕ) (codes : List ℕ) → Rise above codes → last_
 rise_push above code [] rise low high = (low, (high, tt))
 rise_push above code (other ∷ codes) rise low high = (rise.0, (rise.1.0, rise_push other code codes rise.1.1 low high))
 
--- so many codes directly above a number
+-- a number of codes directly above another
 abbrev up : ℕ → ℕ → List ℕ
 up above zero = []
 up above (suc count) = suc above ∷ up (suc above) count

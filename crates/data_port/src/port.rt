@@ -18,7 +18,7 @@ pub struct BadFrame {
 /// Takes a stream of requests that comes in pieces. It keeps the bytes of one unfinished request, at most
 /// 15, and takes no memory.
 ///
-/// A request is the byte 0x02, a count of 1 to 13, so many codes of items that rise, each 1 to 13, and
+/// A request is the byte 0x02, a count of 1 to 13, as many codes of items, which rise, each 1 to 13, and
 /// 0x03. Contracts see a port as a `Standing`, and say by `HasTaken` which bytes it has taken; of each
 /// port there are such bytes. Once a bad place came every call answers it again. The form is this
 /// project's own.

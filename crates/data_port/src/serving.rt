@@ -22,7 +22,7 @@ use std::sync::ledger::Ledger;
 use taxi_units::{Line, Steps};
 use totaliser_store::Durable;
 
-/// At most so many bytes of a stream are taken: 2^40.
+/// How many bytes of a stream are taken at most: 2^40.
 const LIMIT: u64 = 1 << 40;
 
 /// Why a stream of requests wasn't served to its end.
@@ -87,7 +87,7 @@ pub fn serve<F: Files, B: Board<L>, L: Ledger>(
     Err(PortFault::TooLong)
 }
 
-/// Reads at most so many bytes into the front of a piece.
+/// Reads at most a number of bytes into the front of a piece.
 fn read_piece<F: Files>(
     files: &mut F,
     word: usize,

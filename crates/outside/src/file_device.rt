@@ -43,7 +43,7 @@ impl<R: HostSystem<File = File> + Print + Drop> Model for FileDevice<R> {
 }
 
 impl<R: HostSystem<File = File> + Print + Drop> FileDevice<R> {
-    /// The device of this runtime, with a store of so many bytes in the file of this name. Nothing is
+    /// The device of this runtime, with a store of this number of bytes in the file of this name. Nothing is
     /// opened yet. The allocator is used only by a sync, to find the folder of a file at the end of a
     /// symbolic link.
     pub fn new(rt: R, alloc: Global, name: &'static str, size: u64) -> FileDevice<R>

@@ -5,6 +5,7 @@ ghost use Rattle.outside.specs.Disk.{IsImage};
 use crate::board::Board;
 use crate::fault::Failed;
 use crate::image::known;
+use crate::replay::put;
 use std::marker::Model;
 use std::sync::ledger::Ledger;
 use taxi_units::Steps;
@@ -67,11 +68,10 @@ impl<L: Ledger> Board<L> for QuietBoard {
         Ok(())
     }
 
+    #[tactic(auto, using(crate::proofs::Overwriting::overwrite_written))]
     fn write_at(&mut self, at: u16, bytes: &[u8], steps: &mut Steps<L>) -> Result<(), Failed> {
         steps.spend();
-        let from = at as usize;
-        let to = from + bytes.len();
-        self.image[from..to].copy_from_slice(bytes);
+        put(&mut self.image, at as usize, bytes);
         Ok(())
     }
 

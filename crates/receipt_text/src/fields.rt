@@ -23,7 +23,7 @@ pub(crate) fn put_figure(line: &mut Line, word: &[u8], number: u128) -> Result<(
     put_number(line, number)
 }
 
-/// Appends a word and an amount of so many decimals.
+/// Appends a word and an amount of these decimals.
 pub(crate) fn put_amount(
     line: &mut Line,
     word: &[u8],

@@ -1,5 +1,6 @@
 //! The texts that docs/FORMATS.md gives, and the limits of receipts.
-ghost use Rattle.std.specs.Prelude.{◌≡◌, ◌≤◌};
+ghost use Rattle.std.specs.Prelude.{◌≡◌, ◌≤◌, IfSome};
+ghost use Rattle.seal_store.specs.Ranges.{IsSeal};
 
 use crate::parts::SealPart;
 use crate::reading::read_receipt;
@@ -61,6 +62,11 @@ fn must(holds: bool, what: &str, name: &str) -> Result<(), Fail> {
     Err(Fail::new(format_args!("{what}: {name}")))
 }
 
+/// Whether this is what the receipt says of the hiring.
+fn is_said_of_hiring(receipt: &Receipt) -> bool {
+    *receipt == SAID
+}
+
 /// Whether this is what the receipt says of the seal.
 fn is_said_of_seal(part: &SealPart) -> bool {
     part.taxi.as_slice() == b"LX-4711".as_slice()
@@ -91,22 +97,24 @@ fn with_body(text: &mut Line, heading: &str, body: &str) -> bool {
         && put_bytes(text, body.as_bytes()).is_ok()
 }
 
+/// Whether a text is read as the receipt above, and whether what is read is written as it; where it is read.
+fn reads(text: &[u8]) -> Option<(bool, bool)> {
+    let (receipt, part) = read_receipt(text)?;
+    let is_said = is_said_of_hiring(&receipt) && is_said_of_seal(&part);
+    Some((is_said, writes(&receipt, &part, text)))
+}
+
 #[test]
 fn reads_a_receipt(rt: HostRuntime) -> Result<(), Fail> {
-    let Some((receipt, part)) = read_receipt(RECEIPT.as_bytes()) else {
+    let Some((is_said, is_written)) = reads(RECEIPT.as_bytes()) else {
         return Err(Fail::new("it isn't read"));
     };
-    must(receipt == SAID, "another hiring", RECEIPT)?;
-    must(is_said_of_seal(&part), "another seal", RECEIPT)?;
-    must(
-        writes(&receipt, &part, RECEIPT.as_bytes()),
-        "another text",
-        RECEIPT,
-    )
+    must(is_said, "another hiring or another seal", RECEIPT)?;
+    must(is_written, "another text", RECEIPT)
 }
 
 /// What stands behind a receipt, how many of its bytes are cut off, and whether it then stands in front.
-const BEHIND: [(&str, usize, Option<bool>); 4] = [
+const BEHIND: &[(&str, usize, Option<bool>)] = &[
     ("", 0, Some(true)),
     ("FOR HIRE T1 Z1\n", 0, Some(true)),
     (RECEIPT, 0, Some(true)),
@@ -116,39 +124,41 @@ const BEHIND: [(&str, usize, Option<bool>); 4] = [
 /// Whether a receipt that stands in front of a text is the one above, where one does.
 fn is_above(text: &[u8]) -> Option<bool> {
     let (receipt, part, count) = receipt_in_front(text)?;
-    Some(receipt == SAID && is_said_of_seal(&part) && count == RECEIPT.len())
+    Some(is_said_of_hiring(&receipt) && is_said_of_seal(&part) && count == RECEIPT.len())
 }
 
-/// Fails unless the receipt, with this behind it and less so many bytes, has it in front, and without its first byte
-/// none.
-fn must_have_in_front(behind: &str, less: usize, want: Option<bool>) -> Result<(), Fail> {
-    let mut text: ArrayVec<u8, 1024> = ArrayVec::new();
-    must(
-        text.try_extend_from_slice(RECEIPT.as_bytes()).is_ok(),
-        "no room",
-        behind,
-    )?;
-    must(
-        text.try_extend_from_slice(behind.as_bytes()).is_ok(),
-        "no room",
-        behind,
-    )?;
+/// The receipt with this behind it, less a number of the last bytes.
+fn with_behind(behind: &str, less: usize) -> Option<ArrayVec<u8, 1024>> {
+    let mut text = ArrayVec::new();
+    text.try_extend_from_slice(RECEIPT.as_bytes()).ok()?;
+    text.try_extend_from_slice(behind.as_bytes()).ok()?;
     text.truncate(text.len().saturating_sub(less));
-    must(is_above(text.as_slice()) == want, "another front", behind)?;
-    let Some((_, rest)) = text.as_slice().split_first() else {
-        return Err(Fail::new("no text"));
+    Some(text)
+}
+
+/// Whether no receipt stands in front of a text without its first byte.
+fn has_none_behind_first(text: &[u8]) -> bool {
+    match text.split_first() {
+        Some((_, rest)) => receipt_in_front(rest).is_none(),
+        None => false,
+    }
+}
+
+/// Fails unless the receipt, with this behind it and less a number of bytes, has it in front, and without its first
+/// byte none.
+fn must_have_in_front(behind: &str, less: usize, want: &Option<bool>) -> Result<(), Fail> {
+    let Some(text) = with_behind(behind, less) else {
+        return Err(Fail::new("no room"));
     };
-    must(
-        receipt_in_front(rest).is_none(),
-        "a front without its first byte",
-        behind,
-    )
+    must(is_above(text.as_slice()) == *want, "another front", behind)?;
+    let is_none = has_none_behind_first(text.as_slice());
+    must(is_none, "a front without its first byte", behind)
 }
 
 #[test]
 fn reads_a_receipt_in_front(rt: HostRuntime) -> Result<(), Fail> {
-    for &(behind, less, want) in &BEHIND {
-        must_have_in_front(behind, less, want)?;
+    for (behind, less, want) in BEHIND {
+        must_have_in_front(behind, *less, want)?;
     }
     Ok(())
 }
@@ -157,28 +167,34 @@ fn reads_a_receipt_in_front(rt: HostRuntime) -> Result<(), Fail> {
 const PARAMS: &str =
     "taxi LX-4711\nconstant 10000\nmode single\nhold 60\noffset 946684800 3600\nsecured 2025-12-01\n";
 
-/// A receipt says of the seal what its parameters and its digest are.
-#[test]
-fn writes_the_receipt_of_a_seal(rt: HostRuntime) -> Result<(), Fail> {
-    let Some((receipt, part)) = read_receipt(RECEIPT.as_bytes()) else {
-        return Err(Fail::new("it isn't read"));
-    };
-    let Ok(params) = read_params(PARAMS.as_bytes()) else {
-        return Err(Fail::new("no parameters"));
-    };
-    let digest = part.digest;
-    let seal = Seal {
+/// A seal with the receipt's parameters and this digest.
+fn seal_with(digest: [u8; 32]) -> Option<Seal>
+    ensures { IfSome result IsSeal }
+{
+    let params = read_params(PARAMS.as_bytes()).ok()?;
+    Some(Seal {
         seal_number: 1,
         params,
         digest,
         decimals: 2,
-    };
+    })
+}
+
+/// The receipt as it is written of the seal with its parameters and its digest, where there is one.
+fn written_of_seal() -> Option<Line> {
+    let (receipt, part) = read_receipt(RECEIPT.as_bytes())?;
+    let seal = seal_with(part.digest)?;
     let mut line = Line::new();
-    must(
-        put_receipt(&mut line, &receipt, &seal).is_ok(),
-        "no room",
-        RECEIPT,
-    )?;
+    put_receipt(&mut line, &receipt, &seal).ok()?;
+    Some(line)
+}
+
+/// A receipt says of the seal what its parameters and its digest are.
+#[test]
+fn writes_the_receipt_of_a_seal(rt: HostRuntime) -> Result<(), Fail> {
+    let Some(line) = written_of_seal() else {
+        return Err(Fail::new("no receipt, no parameters or no room"));
+    };
     must(
         line.as_slice() == RECEIPT.as_bytes(),
         "another text",
@@ -187,7 +203,7 @@ fn writes_the_receipt_of_a_seal(rt: HostRuntime) -> Result<(), Fail> {
 }
 
 /// Receipts of the grammar, by heading and body.
-const RECEIPTS: [(&str, &str); 4] = [
+const RECEIPTS: &[(&str, &str)] = &[
     (
         "RECEIPT 3\nKIND ABORTED\n",
         "START 2026-02-28 23:59:59\nFINISH 2028-02-29 00:00:00\nPOSITION 9\n\
@@ -230,14 +246,14 @@ fn must_read_back(heading: &str, body: &str) -> Result<(), Fail> {
 
 #[test]
 fn reads_what_it_wrote(rt: HostRuntime) -> Result<(), Fail> {
-    for &(heading, body) in &RECEIPTS {
+    for (heading, body) in RECEIPTS {
         must_read_back(heading, body)?;
     }
     Ok(())
 }
 
 /// Texts that are no receipts: a piece of the receipt above, and what stands there instead.
-const NONE: [(&str, &str); 28] = [
+const NONE: &[(&str, &str)] = &[
     ("FARE 3.80", "FARE 3.90"),
     ("END\n", "END"),
     ("END\n", "END\n\n"),
@@ -283,37 +299,44 @@ fn must_be_none(old: &str, new: &str) -> Result<(), Fail> {
 
 #[test]
 fn refuses_what_is_none(rt: HostRuntime) -> Result<(), Fail> {
-    for &(old, new) in &NONE {
+    for (old, new) in NONE {
         must_be_none(old, new)?;
     }
     must(read_receipt(b"").is_none(), "it is read", "no text")
 }
 
+/// A line with 500 bytes in it.
+fn full_line() -> Option<Line> {
+    let mut line = Line::new();
+    put_bytes(&mut line, &[b'x'; 500]).ok()?;
+    Some(line)
+}
+
+/// Whether a line has no room for the receipt.
+fn is_full_for_receipt(line: &mut Line) -> Option<bool> {
+    let (receipt, part) = read_receipt(RECEIPT.as_bytes())?;
+    Some(put(line, &receipt, &part) == Some(Err(LineFull)))
+}
+
+/// Whether a line has no room for a display.
+fn is_full_for_display(line: &mut Line) -> bool {
+    put_display(line, &display(Operating::ForHire)).is_err()
+}
+
+/// Whether a line takes no receipt, no display and no refusal.
+fn takes_none(line: &mut Line) -> bool {
+    is_full_for_receipt(line) == Some(true)
+        && is_full_for_display(line)
+        && put_refusal(line, Why::NotNow).is_err()
+}
+
 /// A line with 500 bytes in it takes no receipt and no long text, and is then as it was.
 #[test]
 fn refuses_a_full_line(rt: HostRuntime) -> Result<(), Fail> {
-    let mut line = Line::new();
-    must(
-        put_bytes(&mut line, &[b'x'; 500]).is_ok(),
-        "no room",
-        "500 bytes",
-    )?;
-    let Some((receipt, part)) = read_receipt(RECEIPT.as_bytes()) else {
-        return Err(Fail::new("it isn't read"));
+    let Some(mut line) = full_line() else {
+        return Err(Fail::new("no room for 500 bytes"));
     };
-    let full = Err(LineFull);
-    must(
-        put(&mut line, &receipt, &part) == Some(full),
-        "it is taken",
-        "a receipt",
-    )?;
-    let shown = put_display(&mut line, &display(Operating::ForHire));
-    must(shown == full, "it is taken", "a display")?;
-    must(
-        put_refusal(&mut line, Why::NotNow) == full,
-        "it is taken",
-        "a refusal",
-    )?;
+    must(takes_none(&mut line), "it takes", "a text")?;
     must(
         line.as_slice() == [b'x'; 500].as_slice(),
         "another line",
@@ -336,7 +359,7 @@ fn display(operating: Operating) -> Display
     }
 }
 
-const DISPLAYS: [(Operating, &str); 3] = [
+const DISPLAYS: &[(Operating, &str)] = &[
     (Operating::ForHire, "FOR HIRE T1 Z2\n"),
     (Operating::Hired, "HIRED T1 Z2 3.80 +0.50\n"),
     (Operating::Stopped, "STOPPED T1 Z2 3.80 +0.50\n"),
@@ -358,13 +381,13 @@ fn must_display(operating: Operating, want: &str) -> Result<(), Fail> {
 
 #[test]
 fn writes_displays(rt: HostRuntime) -> Result<(), Fail> {
-    for &(operating, want) in &DISPLAYS {
-        must_display(operating, want)?;
+    for (operating, want) in DISPLAYS {
+        must_display(*operating, want)?;
     }
     Ok(())
 }
 
-const REFUSALS: [(Why, &str); 9] = [
+const REFUSALS: &[(Why, &str)] = &[
     (Why::NotNow, "REFUSED NOT NOW\n"),
     (Why::KeyWaiting, "REFUSED KEY WAITING\n"),
     (Why::NoSuch, "REFUSED NO SUCH\n"),
@@ -391,8 +414,8 @@ fn must_refuse(why: Why, want: &str) -> Result<(), Fail> {
 
 #[test]
 fn writes_refusals(rt: HostRuntime) -> Result<(), Fail> {
-    for &(why, want) in &REFUSALS {
-        must_refuse(why, want)?;
+    for (why, want) in REFUSALS {
+        must_refuse(*why, want)?;
     }
     Ok(())
 }

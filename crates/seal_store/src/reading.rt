@@ -41,7 +41,7 @@ pub fn read_params(text: &[u8]) -> Result<Params, ParamFault>
     read_text(text)
 }
 
-/// The same, as the answer alone.
+/// What a text of parameters is read as.
 #[tactic(auto, unfolding(crate::specs::Reading::params_read))]
 fn read_text(text: &[u8]) -> Result<Params, ParamFault>
     ensures { result ≡ params_read text.now }

@@ -83,23 +83,6 @@ rises now before [] all = tt
 rises now before (m ∷ []) all = (all.0.within, tt)
 rises now before (m ∷ x ∷ xs) all = (all.1.0.grown, rises now (Some m) (x ∷ xs) all.1)
 
-itself : (n : Numbers) → IsNowhereLess n n
-itself n =
-    record {
-      number = omega arith;
-      distance = omega arith;
-      hired = omega arith;
-      hirings = omega arith;
-      supplements = omega arith;
-      fare = omega arith;
-    }
-
--- and none is above the store
-pub first_below : (now : Durable) (before : Option Signing) (marks : List Signing) → FollowOn now before marks
-    → IsNowhereLess (next_point (numbers_in now) marks) (numbers_in now)
-first_below now before [] all = itself (numbers_in now)
-first_below now before (m ∷ ms) all = all.0.within
-
 begun_at : (b : Bool) (driver : List ℕ) (n next : Numbers) (c : Column) → at c n ≤ at c next
     → sum_by (λ (s : Shift). at c s.growth) (if b then record { driver = record { items = driver }; growth = grown n next } ∷ [] else [])
     + at c (if b then nothing else grown n next) + at c n ≡ at c next

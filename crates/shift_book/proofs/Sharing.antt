@@ -124,8 +124,3 @@ one_more sums next s rest all ordered h e found =
           ap (λ (l : List (Driver × Numbers)). sum_by (λ (n : Numbers). at c n) (values_of l)) e in
           omega (arith, inserted, here, grew c, h.total c, sum_by-cons (λ (x : Shift). at c x.growth) s rest);
     }
-
--- where no shift is left, the sums are those of all
-pub all_summed : (sums : List (Driver × Numbers)) (left all : List Shift) → length left ≡ 0 → SoFar sums left all → AreSums sums all
-all_summed sums [] all e h = none_left sums all h
-all_summed sums (s ∷ ss) all e h = absurd (omega arith)

@@ -21,7 +21,7 @@ fn after_one_hiring() -> Durable {
     }
 }
 
-/// The same store after 100 km of roaming.
+/// The store of one hiring after 100 km of roaming.
 fn after_roaming() -> Durable {
     let hired = after_one_hiring();
     Durable {

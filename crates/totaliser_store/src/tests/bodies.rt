@@ -214,7 +214,7 @@ const FIRST_STATE: Durable = Durable {
     layout: 1,
 };
 
-/// The same state in layout 2, with the hiring at position 1.
+/// The state of one hiring in layout 2, with the hiring at position 1.
 const SHARED_STATE: Durable = Durable {
     number: 2,
     totals: Totals {
