@@ -1,5 +1,5 @@
 -- How a dry run ends, by what its drive came to.
-use Rattle.std.proofs.Common.{◌≡◌, ℕ, ◌≤◌, List, ◌++◌, length, Err, refl, sym, ap, subst}
+use Rattle.std.proofs.Common.{◌≡◌, ℕ, ◌≤◌, List, ◌++◌, length, Err, sym, ap, subst}
 use Rattle.std.proofs.lemmas.List.{take_all}
 use Rattle.outside.specs.Printing.{Begins}
 use Rattle.taxi_units.specs.declared.event.Event.{Event}
@@ -43,16 +43,3 @@ module _ (told : Type 0) (tables : TableParts) (seal : Seal) (drive left before 
   -- the board failed
   pub breaks : (taken : List ℕ) → length taken ≤ drive_limit → IsSplit drive taken left → ShownSome (events_in taken) → RunsDrive told tables seal drive left before now {T = Unit {0}} (Err faults.BoardFault)
   breaks taken few split shown = record { taken = taken; split = split; stands = tt; printed = subst ShownSome (sym (events_taken taken few)) shown }
-
--- an answer that is a fault of reading comes of a read that failed, and none is a fault of the board
-pub read_fault_of : (stop : Stop) → answer_of stop ≡ Err faults.ReadFault → stop ≡ stops.ReadFault
-read_fault_of stops.Whole is = absurd cc
-read_fault_of (stops.BadLine line) is = absurd cc
-read_fault_of stops.TooLong is = absurd cc
-read_fault_of stops.ReadFault is = refl
-
-pub no_board_fault : (stop : Stop) → answer_of stop ≡ Err faults.BoardFault → ⊥
-no_board_fault stops.Whole is = absurd cc
-no_board_fault (stops.BadLine line) is = absurd cc
-no_board_fault stops.TooLong is = absurd cc
-no_board_fault stops.ReadFault is = absurd cc

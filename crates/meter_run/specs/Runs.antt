@@ -20,8 +20,8 @@ use Rattle.meter_run.specs.Points.{IsCut}
 use Rattle.meter_run.specs.declared.fault.RunFault.{RunFault}
 use Rattle.meter_run.specs.declared.fault.RunFault.TheVariants.{ReadFault, BoardFault, BadDrive, TooLong}
 
--- a run over bytes of a drive does these deeds, where the store opens with a durable state: the acts of the events, and
--- those of the supply drop at their end
+-- the deeds of a run over bytes of a drive, where the store opens with a durable state: the acts of the events, and the
+-- acts of the supply drop at their end
 abbrev pub run_deeds : Setting → Durable → (drive : List ℕ) → List Deed
 run_deeds s durable drive = deeds_of (actions_of s durable (events_of drive))
 

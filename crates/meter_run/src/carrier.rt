@@ -47,7 +47,7 @@ pub(crate) trait Carrier<B: Board<L>, L: Ledger> {
         ensures steps { steps.new ≤ steps.old + 64 };
 
     /// Carries out as many of `count` equal intervals as the core can at once, and answers how many. No board
-    /// is touched, so it is so on each board on which the next event may come, and no step is taken.
+    /// is touched, so this holds on each board on which the next event may come, and no step is taken.
     fn carry_equal(&mut self, tables: &Tables, seal: &Seal, pulses: u32, count: u32) -> u32
         requires { (board : B) × ready tables.now seal.now self.old board }
         ensures most { result ≤ count }

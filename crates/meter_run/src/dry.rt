@@ -18,7 +18,7 @@ use taxi_units::{Event, Steps};
 use totaliser_store::{Change, Durable};
 
 /// Carries out an act: it prints displays and refusals, and commits into the durable state.
-#[tactic(auto, using(outside::proofs::Laws::keeps_none, outside::proofs::Laws::keeps_then))]
+#[tactic(auto, using(crate::proofs::StoreKept::store_kept))]
 fn perform<B: Board<L>, L: Ledger>(
     durable: &mut Durable,
     act: &Act,
@@ -49,7 +49,7 @@ fn perform<B: Board<L>, L: Ledger>(
 }
 
 /// Carries out acts, one after the other.
-#[tactic(auto, using(outside::proofs::Laws::keeps_none, outside::proofs::Laws::keeps_then))]
+#[tactic(auto, using(crate::proofs::StoreKept::store_kept))]
 fn perform_all<B: Board<L>, L: Ledger>(
     durable: &mut Durable,
     acts: &[Act],

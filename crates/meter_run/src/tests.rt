@@ -136,100 +136,98 @@ pub(crate) fn joined(alloc: Global, pieces: &[&str]) -> Result<String, Fail> {
     Ok(text)
 }
 
-/// Fails unless a run without a store prints this text, ends so and leaves the store, where these calls of the
-/// board and these reads fail.
-fn must_show(
-    alloc: Global,
-    drive: &str,
-    calls: &[u64],
-    reads: &[u64],
-    output: &str,
-    ended: &Result<(), RunFault>,
-) -> Result<(), Fail> {
-    let (board, ran) = ran(alloc, Way::Dry, drive, ZEROS, calls, reads)?;
-    must(ran == *ended, "another end", drive)?;
-    must(board.printed() == output.as_bytes(), "another text", drive)?;
-    must(*board.image() == *ZEROS, "another image", drive)
-}
-
 const HIRED: &str = "U 1767225600\nK H\nI 0 1\nI 0 300\nD\n";
 
 /// What is printed of it.
 const SHOWN: &str = "FOR HIRE T1 Z1\nHIRED T1 Z1 3.80 +0.00\n";
 
-/// What follows a hiring that was dropped, what is printed from there on, and how the run ends.
-struct Dropped {
-    rest: &'static str,
-    output: &'static str,
+/// A drive in pieces, which calls of the board and which reads fail, what is printed, in pieces, and how the run ends.
+struct Case {
+    drive: &'static [&'static str],
+    calls: &'static [u64],
+    reads: &'static [u64],
+    output: &'static [&'static str],
     ended: Result<(), RunFault>,
 }
 
-const DROPS: &[Dropped] = &[
-    Dropped {
-        rest: "U 1767225660\nI 0 204\nI 0 1\n",
-        output: "HIRED T1 Z1 3.80 +0.00\nHIRED T1 Z1 4.00 +0.00\n",
+/// What follows a hiring that was dropped, and the hiring with a read and with a call of the board that fails.
+const CASES: &[Case] = &[
+    Case {
+        drive: &[HIRED, "U 1767225660\nI 0 204\nI 0 1\n"],
+        calls: &[],
+        reads: &[],
+        output: &[SHOWN, "HIRED T1 Z1 3.80 +0.00\nHIRED T1 Z1 4.00 +0.00\n"],
         ended: Ok(()),
     },
-    Dropped {
-        rest: "U 1767225661\nI 0 204\nI 0 1\n",
-        output: "FOR HIRE T1 Z1\n",
+    Case {
+        drive: &[HIRED, "U 1767225661\nI 0 204\nI 0 1\n"],
+        calls: &[],
+        reads: &[],
+        output: &[SHOWN, "FOR HIRE T1 Z1\n"],
         ended: Ok(()),
     },
-    Dropped {
-        rest: "U 1767225599\n",
-        output: "FOR HIRE T1 Z1\n",
+    Case {
+        drive: &[HIRED, "U 1767225599\n"],
+        calls: &[],
+        reads: &[],
+        output: &[SHOWN, "FOR HIRE T1 Z1\n"],
         ended: Ok(()),
     },
-    Dropped {
-        rest: "D\n",
-        output: "REFUSED NOT NOW\n",
+    Case {
+        drive: &[HIRED, "D\n"],
+        calls: &[],
+        reads: &[],
+        output: &[SHOWN, "REFUSED NOT NOW\n"],
         ended: Ok(()),
     },
-    Dropped {
-        rest: "U 1767225660\nI 20\n",
-        output: "HIRED T1 Z1 3.80 +0.00\n",
+    Case {
+        drive: &[HIRED, "U 1767225660\nI 20\n"],
+        calls: &[],
+        reads: &[],
+        output: &[SHOWN, "HIRED T1 Z1 3.80 +0.00\n"],
         ended: Err(RunFault::BadDrive(7)),
+    },
+    Case {
+        drive: &[HIRED],
+        calls: &[],
+        reads: &[2],
+        output: &[SHOWN],
+        ended: Err(RunFault::ReadFault),
+    },
+    Case {
+        drive: &[HIRED],
+        calls: &[2],
+        reads: &[],
+        output: &["FOR HIRE T1 Z1\n"],
+        ended: Err(RunFault::BoardFault),
     },
 ];
 
-/// Fails unless what follows the hiring does and ends so.
-fn must_follow(alloc: Global, case: &Dropped) -> Result<(), Fail> {
-    let drive = joined(alloc, &[HIRED, case.rest])?;
-    let output = joined(alloc, &[SHOWN, case.output])?;
-    must_show(
+/// Fails unless a run without a store prints what a case says, ends so and leaves the store.
+fn must_show(alloc: Global, case: &Case) -> Result<(), Fail> {
+    let drive = joined(alloc, case.drive)?;
+    let output = joined(alloc, case.output)?;
+    let (board, ended) = ran(
         alloc,
+        Way::Dry,
         drive.as_str(),
-        &[],
-        &[],
-        output.as_str(),
-        &case.ended,
-    )
+        ZEROS,
+        case.calls,
+        case.reads,
+    )?;
+    must(ended == case.ended, "another end", drive.as_str())?;
+    must(
+        board.printed() == output.as_bytes(),
+        "another text",
+        drive.as_str(),
+    )?;
+    must(*board.image() == *ZEROS, "another image", drive.as_str())
 }
 
 #[test]
-fn drops(rt: HostRuntime) -> Result<(), Fail> {
-    for case in DROPS {
-        must_follow(rt.alloc(), case)?;
+fn runs_without_a_store(rt: HostRuntime) -> Result<(), Fail> {
+    for case in CASES {
+        must_show(rt.alloc(), case)?;
     }
     Ok(())
-}
-
-#[test]
-fn faults(rt: HostRuntime) -> Result<(), Fail> {
-    must_show(
-        rt.alloc(),
-        HIRED,
-        &[],
-        &[2],
-        SHOWN,
-        &Err(RunFault::ReadFault),
-    )?;
-    must_show(
-        rt.alloc(),
-        HIRED,
-        &[2],
-        &[],
-        "FOR HIRE T1 Z1\n",
-        &Err(RunFault::BoardFault),
-    )
 }

@@ -11,7 +11,7 @@ use std::marker::Model;
 use taxi_units::Operating;
 
 /// The core: the meter's state, and what was looked up for it and still serves. It takes no memory.
-#[derive(Debug, Drop)]
+#[derive(Drop)]
 pub struct Core {
     pub(crate) state: State,
     pub(crate) facts: Facts,

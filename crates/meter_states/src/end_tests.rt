@@ -4,16 +4,16 @@ ghost use Rattle.std.specs.Option.{ForSome};
 ghost use Rattle.totaliser_store.specs.Ranges.{IsDurable};
 ghost use Rattle.meter_states.specs.Fits.{Fits};
 
-use crate::drives::{after_act, compiled, numbered, sealed};
-use crate::expected::{FIRST, PLAIN, entered, hired, printed};
+use crate::drives::{SINGLE, after_act, numbered, setting};
+use crate::expected::{FIRST, PLAIN, entered, printed, shown};
 use crate::{Act, Core, fits};
-use drive_modes::{Meterage, Mode};
+use drive_modes::Meterage;
 use seal_store::Seal;
 use std::marker::Brand;
 use std::process::Abort;
 use std::sync::ledger::{Blank, Ledger};
 use tariff_compile::Tables;
-use taxi_units::{Event, Kind, Steps};
+use taxi_units::{Event, Steps};
 use totaliser_store::{Durable, Trip};
 
 /// A durable state with a trip that is held within its first interval, with the last number at which the
@@ -47,6 +47,13 @@ fn last_held<L: Ledger>(rt: &impl Abort, tables: &Tables, steps: &mut Steps<L>) 
     after_act(tables, numbered(1_999_999_999_999_999), &Act::Hold(trip))
 }
 
+const GOES_ON: &[Act] = &[shown!(Hired, 380)];
+
+const ABORTED: &[Act] = &[
+    entered!(Aborted, 0, 100_000, 380),
+    printed!(2_000_000_000_000_001, Aborted, 3601, 100_000, 0, 380),
+];
+
 /// The store takes no held trip there, so a drop closes it.
 fn drop_at_the_end<L: Ledger>(blank: Blank, rt: &impl Abort, tables: &Tables, seal: &Seal)
     requires name { blank.name ≡ L.name }
@@ -56,21 +63,14 @@ fn drop_at_the_end<L: Ledger>(blank: Blank, rt: &impl Abort, tables: &Tables, se
     let mut steps: Steps<L> = Steps::open(blank);
     let opening = last_held(rt, tables, &mut steps);
     let (mut core, acts) = Core::resume(tables, seal, &opening, FIRST + 1, &mut steps);
-    assert_eq!(rt; acts.as_slice(), [hired(380)].as_slice());
+    assert_eq!(rt; acts.as_slice(), GOES_ON);
     let acts = core.step(tables, seal, Event::Down, &mut steps);
-    let want = [
-        entered(Kind::Aborted, 100_000, 380),
-        printed(2_000_000_000_000_001, Kind::Aborted, 3601, 100_000, 0, 380),
-    ];
-    assert_eq!(rt; acts.as_slice(), want.as_slice());
+    assert_eq!(rt; acts.as_slice(), ABORTED);
 }
 
 #[test]
 fn aborts_at_the_last_number(rt: HostRuntime) {
-    let (Some(tables), Some(seal)) = (
-        compiled(rt.alloc(), PLAIN, 10_000),
-        sealed(10_000, 3600, Mode::Single),
-    ) else {
+    let Some((tables, seal)) = setting(rt.alloc(), PLAIN, &SINGLE) else {
         panic!(rt; "no setting");
     };
     drop_at_the_end::<Brand>(Blank::new(1), &rt, &tables, &seal);

@@ -3,9 +3,8 @@ ghost use Rattle.std.specs.Prelude.{◌≡◌, ◌<◌, ◌≤◌, ◌+◌};
 ghost use Rattle.meter_states.specs.Lawful.{IsLawful, IsTimely};
 
 use crate::Core;
-use crate::drives::{acts_of, compiled, is_timely, numbered, sealed};
+use crate::drives::{DOUBLE, SINGLE, Secured, acts_at_first, is_timely, setting};
 use crate::equal_rows::{AHEAD, BEHIND, ROWS, is_same};
-use drive_modes::Mode;
 use seal_store::Seal;
 use std::alloc::Global;
 use std::marker::Brand;
@@ -31,9 +30,8 @@ fn take_both<L: Ledger>(
     ensures few { result ≤ 4 }
 {
     assert!(rt; is_timely(event));
-    let opening = numbered(1);
-    let (_, acts) = acts_of(tables, seal, fast, &opening, event, steps);
-    let (_, others) = acts_of(tables, seal, slow, &opening, event, steps);
+    let acts = acts_at_first(tables, seal, fast, event, steps);
+    let others = acts_at_first(tables, seal, slow, event, steps);
     assert_eq!(rt; acts.as_slice(), others.as_slice());
     assert!(rt; is_same(&fast.state, &slow.state));
     acts.len()
@@ -62,7 +60,7 @@ fn take_interval<L: Ledger>(
     done + take_both(rt, tables, seal, fast, slow, Event::Tick, steps)
 }
 
-/// So many intervals, at which nothing is done, on the core that takes them one by one.
+/// A number of intervals, at which nothing is done, on the core that takes them one by one.
 fn take_quiet<L: Ledger>(
     rt: &impl Abort,
     tables: &Tables,
@@ -75,19 +73,17 @@ fn take_quiet<L: Ledger>(
     requires slow { IsLawful tables.now seal.now slow.old }
     ensures slow { IsLawful tables.now seal.now slow.new }
 {
-    let opening = numbered(1);
     for _ in 0..count {
         if pulses > 0 {
-            let event = Event::Pulses(pulses);
-            let (_, acts) = acts_of(tables, seal, slow, &opening, event, steps);
+            let acts = acts_at_first(tables, seal, slow, Event::Pulses(pulses), steps);
             assert!(rt; acts.is_empty());
         }
-        let (_, acts) = acts_of(tables, seal, slow, &opening, Event::Tick, steps);
+        let acts = acts_at_first(tables, seal, slow, Event::Tick, steps);
         assert!(rt; acts.is_empty());
     }
 }
 
-/// So many intervals on both cores: on the one as many as go at once and then one, again and again. That is
+/// A number of intervals on both cores: on one core as many as go at once and then one, again and again. That is
 /// at most once for each act, and six times more.
 fn take_row<L: Ledger>(
     rt: &impl Abort,
@@ -149,19 +145,24 @@ fn take_rows<L: Ledger>(blank: Blank, rt: &impl Abort, tables: &Tables, seal: &S
     );
 }
 
-/// All rows under a tariff and in a mode.
-fn take_rows_under(alloc: Global, rt: &impl Abort, text: &str, mode: Mode) {
-    let (Some(tables), Some(seal)) = (compiled(alloc, text, 10_000), sealed(10_000, 3600, mode))
-    else {
+/// All rows under a tariff and a seal.
+fn take_rows_under(alloc: Global, rt: &impl Abort, text: &str, secured: &Secured) {
+    let Some((tables, seal)) = setting(alloc, text, secured) else {
         panic!(rt; "no setting");
     };
     take_rows::<Brand>(Blank::new(1), rt, &tables, &seal);
 }
 
+const SETTINGS: &[(&str, Secured)] = &[
+    (AHEAD, SINGLE),
+    (AHEAD, DOUBLE),
+    (BEHIND, SINGLE),
+    (BEHIND, DOUBLE),
+];
+
 #[test]
 fn carries_out_many_intervals_at_once(rt: HostRuntime) {
-    for text in [AHEAD, BEHIND] {
-        take_rows_under(rt.alloc(), &rt, text, Mode::Single);
-        take_rows_under(rt.alloc(), &rt, text, Mode::Double);
+    for (text, secured) in SETTINGS {
+        take_rows_under(rt.alloc(), &rt, text, secured);
     }
 }

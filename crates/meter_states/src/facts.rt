@@ -19,7 +19,7 @@ use tariff_syntax::Context;
 use taxi_units::Steps;
 
 /// What a condition may ask of the local time at a second.
-#[derive(Clone, Copy, Debug, PartialEq, Eq)]
+#[derive(Clone, Copy)]
 pub(crate) struct LocalFacts {
     pub(crate) second: u64,
     pub(crate) weekday: u8,
@@ -29,7 +29,7 @@ pub(crate) struct LocalFacts {
 }
 
 /// The weights of a context, and of those that follow it shortly.
-#[derive(Clone, Copy, Debug)]
+#[derive(Clone, Copy)]
 pub(crate) struct RateFacts {
     pub(crate) first: Context,
     pub(crate) lasting: Lasting,
@@ -37,7 +37,7 @@ pub(crate) struct RateFacts {
 
 /// What was looked up last: it stays true whatever the meter does, and serves at the second and in the
 /// contexts that it names.
-#[derive(Debug, Drop)]
+#[derive(Drop)]
 pub(crate) struct Facts {
     pub(crate) local: Option<LocalFacts>,
     pub(crate) rate: Option<RateFacts>,

@@ -42,8 +42,6 @@ pub use pairs::{receipts_follow_their_entries, runs_add_up, the_store_has_what_t
 pub use refusals::{keys_act_after_their_interval, refused_events_change_nothing};
 
 #[cfg(test)]
-mod city_tests;
-#[cfg(test)]
 mod drives;
 #[cfg(test)]
 mod end_tests;
@@ -57,6 +55,8 @@ mod expected;
 mod fare_tests;
 #[cfg(test)]
 mod limit_tests;
+#[cfg(test)]
+mod long_tests;
 #[cfg(test)]
 mod row_tests;
 #[cfg(test)]

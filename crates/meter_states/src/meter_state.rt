@@ -17,7 +17,7 @@ use totaliser_store::Trip;
 /// The meter's state: counts in place of pulses, and the saved form of the trip in place of its
 /// intervals, which it forgets, so it takes no memory. What of that form has a meaning in the store
 /// alone stays as it is at the hiring.
-#[derive(Debug, Drop)]
+#[derive(Drop)]
 pub(crate) struct State {
     pub(crate) operating: Operating,
     pub(crate) clock: u64,

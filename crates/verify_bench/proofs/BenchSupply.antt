@@ -29,10 +29,6 @@ pub hold_beside : (hold : Option store.Trip) (held : Held) → Some held ≡ opt
 hold_beside None held are = absurd cc
 hold_beside (Some trip) held are = (trip, refl, cc)
 
-pub no_hold_beside : (hold : Option store.Trip) → None ≡ option_map held_of hold → hold ≡ None
-no_hold_beside None are = refl
-no_hold_beside (Some trip) are = absurd cc
-
 -- no roaming is entered where there is none, and else it is
 pub keeps_none : (s : Setting) (meter : PlainMeter) (m : Meter) → Stands s meter m → meter.hiring ≡ None → meter.roam ≡ 0 → kept s m.trip m ≡ quiet m
 keeps_none s meter m stands none short =
@@ -49,26 +45,3 @@ keeps_roaming s meter m stands none long =
 -- the store takes a held trip, or no more
 pub holds_yet : (s : Setting) (meter : PlainMeter) (m : Meter) → Stands s meter m → meter.number < 2000000000000000 → nat_lt m.durable.number 2000000000000000 ≡ true
 holds_yet s meter m stands few = lt-ltb m.durable.number 2000000000000000 (omega (arith, stands.number))
-
-pub holds_no_more : (s : Setting) (meter : PlainMeter) (m : Meter) → Stands s meter m → 2000000000000000 ≤ meter.number → nat_lt m.durable.number 2000000000000000 ≡ false
-holds_no_more s meter m stands many = le-ltb m.durable.number 2000000000000000 (omega (arith, stands.number))
-
-rest_ticks : (p : ℕ) (parts : List Part) → sum (map ticks_in (parts ++ Rest p ∷ [])) ≡ sum (map ticks_in parts)
-rest_ticks p parts =
-    let more : map ticks_in (parts ++ Rest p ∷ []) ≡ map ticks_in parts ++ 0 ∷ [] = map-append ticks_in parts (Rest p ∷ []) in
-    let zero : sum (map ticks_in parts) + 0 ≡ sum (map ticks_in parts) = omega arith in
-    ap sum more ∙ (fold-append ◌+◌ 0 (map ticks_in parts) (0 ∷ []) ∙ zero)
-
-left_ticks : (p : ℕ) (trip : Option Trip) → ticks_so_far (option_map (with_part (Rest p)) trip) ≡ ticks_so_far trip
-left_ticks p None = refl
-left_ticks p (Some t) = ap (λ (n : ℕ). t.opening.ticks + n) (rest_ticks p t.parts)
-
-ticks_left_in : (operating : Operating) (p : ℕ) (m : Meter) → ticks_so_far (left_in operating p m).trip ≡ ticks_so_far m.trip
-ticks_left_in Off p m = refl
-ticks_left_in ForHire p m = refl
-ticks_left_in Hired p m = left_ticks p m.trip
-ticks_left_in Stopped p m = left_ticks p m.trip
-
--- an unfinished interval counts no tick
-pub ticks_left : (m : Meter) → ticks_so_far (interval_left m).next.trip ≡ ticks_so_far m.trip
-ticks_left m = ticks_left_in m.operating (sum m.taken) m

@@ -178,21 +178,6 @@ moves_shown s ticks found meter m stands = record {
 pub hires_yet : (s : Setting) (meter : PlainMeter) (m : Meter) → Stands s meter m → meter.number < 1000000000000000 → nat_le 1000000000000000 m.durable.number ≡ false
 hires_yet s meter m stands few = not_at_most 1000000000000000 m.durable.number (omega (arith, stands.number))
 
--- a key that waits as the trip expires leaves the latch
-no_latch : (s : Setting) (ticks : ℕ) (found : List Expected) (meter : PlainMeter) (m : Meter) (latch : Option Key) → m.latch ≡ latch → Stands s meter m
-    → Moves s ticks found found (record meter { latch = None }) (latch_refused latch m)
-no_latch s ticks found meter m None none stands = record {
-  state = stands_anew s meter m meter.began m.began None m.latch m.shown stands.began (sym none) stands;
-  found = sym (append-nil found);
-}
-no_latch s ticks found meter m (Some key) some stands = record {
-  state = stands_anew s meter m meter.began m.began None None m.shown stands.began refl stands;
-  found = sym (append-nil found);
-}
-
-pub moves_unlatched : (s : Setting) (ticks : ℕ) (found : List Expected) (meter : PlainMeter) (m : Meter) → Stands s meter m → Moves s ticks found found (record meter { latch = None }) (latch_refused m.latch m)
-moves_unlatched s ticks found meter m stands = no_latch s ticks found meter m m.latch refl stands
-
 -- the next interval begins
 pub moves_begun : (s : Setting) (ticks : ℕ) (found : List Expected) (meter : PlainMeter) (m : Meter) → Stands s meter m → Moves s ticks found found (record meter { began = meter.clock }) (interval_begun m)
 moves_begun s ticks found meter m stands = record {

@@ -84,7 +84,7 @@ const CITY_TRIP: &str =
     "U 1772442000\nK H\nI 0 1\nI 0 600\nK E 1\nI 10 5999\nC 1772442660\nK S\nI 10 1\nK C\nI 0 1\n";
 
 /// Tariffs, modes, drives, and what they should come to.
-const DRIVES: [(&str, Mode, &str, &[Expected]); 7] = [
+const DRIVES: &[(&str, Mode, &str, &[Expected])] = &[
     (
         PLAIN,
         Mode::Single,
@@ -173,7 +173,7 @@ fn must_come_to(
 
 #[test]
 fn drives_come_to_their_receipts(rt: HostRuntime) -> Result<(), Fail> {
-    for &(tariff, mode, drive, want) in &DRIVES {
+    for &(tariff, mode, drive, want) in DRIVES {
         must_come_to(rt.alloc(), tariff, mode, drive, want)?;
     }
     Ok(())

@@ -38,7 +38,7 @@ pub fn expect(
     expect_counted::<Brand>(Blank::new(1), alloc, checked, seal, runs)
 }
 
-/// The same, with a counter of the steps that local times take.
+/// What a drive should come to, with a counter of the steps that local times take.
 fn expect_counted<L: Ledger>(
     blank: Blank,
     alloc: Global,

@@ -97,18 +97,18 @@ pub(crate) fn supplement_at(lines: &[TariffLine], wanted: u8) -> Option<Suppleme
     ensures { result ≡ option_map supplement_in (supplement_of (map line_of lines.now) wanted) }
 {
     for line in lines {
-        if let Item::Supplement {
-            number,
-            amount,
-            max,
-        } = &line.item
-        {
-            if *number == wanted {
+        match &line.item {
+            Item::Supplement {
+                number,
+                amount,
+                max,
+            } if *number == wanted => {
                 return Some(Supplement {
                     amount: *amount,
                     max: *max,
                 });
             }
+            _ => {}
         }
     }
     None

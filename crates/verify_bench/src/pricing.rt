@@ -75,7 +75,7 @@ pub(crate) fn hire_fee(checked: &Checked, x: &Context) -> Initial
     fee_in(tariff, x)
 }
 
-/// The same, of a tariff that may be unsound.
+/// The hire fee in a context, of a tariff that may be unsound.
 fn fee_in(tariff: &Tariff, x: &Context) -> Initial
     ensures { result ≡ initial_by (tree_of tariff.now) x.now }
 {

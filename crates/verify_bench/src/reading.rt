@@ -2,7 +2,7 @@
 
 /// The readings of a hiring: its fare in the tariff's smallest units, its distance in millimetres, and
 /// its duration in tenths of a second.
-#[derive(Clone, Copy, Debug, PartialEq, Eq)]
+#[derive(Clone, Copy, PartialEq, Eq)]
 pub struct Reading {
     pub fare: u64,
     pub distance_mm: u64,

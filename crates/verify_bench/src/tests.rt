@@ -53,7 +53,7 @@ const fn due(fare: u64, hired_mm: u128, ticks: u32) -> Expected {
 }
 
 /// The fare, distance and time of hirings, those that were read, display steps, and the verdicts.
-const JUDGED: [((u64, u128, u32), (u64, u64, u64), u64, Verdict); 17] = [
+const JUDGED: &[((u64, u128, u32), (u64, u64, u64), u64, Verdict)] = &[
     (
         (1440, 6_000_000, 6601),
         (1460, 6_012_000, 6607),
@@ -142,7 +142,7 @@ fn must_judge(
 
 #[test]
 fn readings_are_judged(rt: HostRuntime) -> Result<(), Fail> {
-    for &(wanted, found, step, want) in &JUDGED {
+    for &(wanted, found, step, want) in JUDGED {
         must_judge(wanted, found, step, want)?;
     }
     Ok(())
@@ -161,7 +161,7 @@ const TWO: Reading = Reading {
 };
 
 /// Texts, and the readings that they say, or why they aren't read.
-const TEXTS: [(&str, Result<&[Reading], ReadingsFault>); 18] = [
+const TEXTS: &[(&str, Result<&[Reading], ReadingsFault>)] = &[
     ("fare,distance,time\n14.60,6012,660.7\n", Ok(&[ONE])),
     ("fare,distance,time", Ok(&[])),
     (
@@ -225,18 +225,18 @@ fn must_say(
 
 #[test]
 fn readings_are_read(rt: HostRuntime) -> Result<(), Fail> {
-    for &(text, want) in &TEXTS {
+    for &(text, want) in TEXTS {
         must_say(rt.alloc(), text, want)?;
     }
     Ok(())
 }
 
-const LONG_TEXTS: [(usize, ReadingsFault); 2] = [
+const LONG_TEXTS: &[(usize, ReadingsFault)] = &[
     (1_048_576, ReadingsFault::BadRow(1)),
     (1_048_577, ReadingsFault::TooLong),
 ];
 
-/// Fails unless a text of so many empty rows isn't read for this reason.
+/// Fails unless a text of this number of empty rows isn't read for this reason.
 fn must_not_read(alloc: Global, size: usize, want: ReadingsFault) -> Result<(), Fail> {
     let text = vec![in alloc; b'\n'; size]?;
     match read_readings(alloc, text.as_slice(), 2) {
@@ -247,7 +247,7 @@ fn must_not_read(alloc: Global, size: usize, want: ReadingsFault) -> Result<(), 
 
 #[test]
 fn long_texts_are_not_read(rt: HostRuntime) -> Result<(), Fail> {
-    for &(size, want) in &LONG_TEXTS {
+    for &(size, want) in LONG_TEXTS {
         must_not_read(rt.alloc(), size, want)?;
     }
     Ok(())
@@ -283,7 +283,7 @@ const SMALL: Reading = Reading {
 };
 
 /// What is expected, what was read, and the rows of the report.
-const REPORTS: [(&[Expected], &[Reading], &str); 5] = [
+const REPORTS: &[(&[Expected], &[Reading], &str)] = &[
     (&[], &[], ""),
     (
         &[TRIP],
@@ -304,7 +304,7 @@ const REPORTS: [(&[Expected], &[Reading], &str); 5] = [
 
 #[test]
 fn reports_have_a_row_for_each_place(rt: HostRuntime) -> Result<(), Fail> {
-    for &(expected, readings, want) in &REPORTS {
+    for &(expected, readings, want) in REPORTS {
         let same = reports(rt.alloc(), expected, readings, want) == Some(true);
         must(same, "another report", want)?;
     }
@@ -318,7 +318,7 @@ const LATE: Reading = Reading {
 };
 
 /// What is expected, what was read, and whether all pass.
-const PASSES: [(&[Expected], &[Reading], bool); 5] = [
+const PASSES: &[(&[Expected], &[Reading], bool)] = &[
     (&[], &[], true),
     (&[TRIP], &[ONE], true),
     (&[TRIP], &[], false),
@@ -328,7 +328,7 @@ const PASSES: [(&[Expected], &[Reading], bool); 5] = [
 
 #[test]
 fn readings_pass_where_all_do(rt: HostRuntime) -> Result<(), Fail> {
-    for &(expected, readings, want) in &PASSES {
+    for &(expected, readings, want) in PASSES {
         let counts = [expected.len() as u64, readings.len() as u64];
         must_of(
             do_all_pass(expected, readings, 20) == want,
@@ -412,7 +412,7 @@ I 0 1
 ";
 
 /// Seeds, words, the size of a piece, and what that word of a drive of one trip says.
-const GENERATED: [(u64, usize, usize, &str); 4] = [
+const GENERATED: &[(u64, usize, usize, &str)] = &[
     (7, 0, 512, WITH_EXTRA),
     (7, 0, 1, WITH_EXTRA),
     (8, 0, 7, WITH_DROP),
@@ -440,14 +440,14 @@ fn must_generate(
 
 #[test]
 fn drives_are_generated(rt: HostRuntime) -> Result<(), Fail> {
-    for &(seed, word, piece, want) in &GENERATED {
+    for &(seed, word, piece, want) in GENERATED {
         must_generate(rt.alloc(), seed, word, piece, want)?;
     }
     Ok(())
 }
 
 /// Seeds, trips, and the number of events.
-const EVENTS: [(u64, u32, u64); 5] = [
+const EVENTS: &[(u64, u32, u64)] = &[
     (7, 1, 4662),
     (8, 1, 3819),
     (7, 20, 97_915),
@@ -455,7 +455,7 @@ const EVENTS: [(u64, u32, u64); 5] = [
     (7, 1000, 4_263_699),
 ];
 
-/// Fails unless a generated drive of so many trips, 1 to 1000, has so many events.
+/// Fails unless a generated drive of a number of trips, 1 to 1000, has this number of events.
 fn must_have_events(seed: u64, trips: u32, want: u64) -> Result<(), Fail> {
     if trips < 1 || 1000 < trips {
         return Err(Fail::new("another number of trips"));
@@ -470,7 +470,7 @@ fn must_have_events(seed: u64, trips: u32, want: u64) -> Result<(), Fail> {
 
 #[test]
 fn events_are_counted(rt: HostRuntime) -> Result<(), Fail> {
-    for &(seed, trips, want) in &EVENTS {
+    for &(seed, trips, want) in EVENTS {
         must_have_events(seed, trips, want)?;
     }
     Ok(())

@@ -10,5 +10,5 @@ invariant-loop-event g l = IsLawful l.tables l.seal l.core × IsDurable l.durabl
 abbrev pub invariant-loop : goal.invariant-loop
 invariant-loop g l = IsLawful l.tables l.seal l.core × IsDurable l.durable × ForSome l.durable.hold (Fits l.tables)
 
-abbrev pub invariant-loop-place : goal.invariant-loop-place
-invariant-loop-place g l = IsLawful l.tables l.seal l.core × IsDurable l.durable × ForSome l.durable.hold (Fits l.tables)
+abbrev pub invariant-loop-row : goal.invariant-loop-row
+invariant-loop-row g l = IsLawful l.tables l.seal l.core × IsDurable l.durable × ForSome l.durable.hold (Fits l.tables)

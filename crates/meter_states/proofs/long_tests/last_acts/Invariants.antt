@@ -1,5 +1,5 @@
 use Rattle.meter_states.specs.Lawful.{IsLawful}
-use Rattle.meter_states.proofs.city_tests.last_acts.Given as goal
+use Rattle.meter_states.proofs.long_tests.last_acts.Given as goal
 
 abbrev pub invariant-loop-event : goal.invariant-loop-event
 invariant-loop-event g l = IsLawful l.tables l.seal l.core
