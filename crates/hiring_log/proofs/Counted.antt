@@ -33,7 +33,7 @@ module _ (old new : List ℕ) (in_flight : ℕ → Type 0) (tail : Tail) (record
   found_ends : EndsWith new tail.last records
   found_ends = subst (EndsWith new tail.last) (last_all records (few_records records old stands)) at.ready.ends
 
-  -- its first record is held so many places before the next
+  -- its first record is held as many places before the next
   found_held : (count first : ℕ) → length records ≡ count → first ≡ tail.last + 1 - count → AreHeld new first records
   found_held count first is from = subst (λ (place : ℕ). AreHeld new place records) (let e : tail.last + 1 - length records ≡ first = omega (arith, is, from) in e) found_ends.held
 

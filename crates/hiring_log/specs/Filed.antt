@@ -5,7 +5,7 @@ use Rattle.hiring_log.specs.Roll.{Reads, roll_limit}
 use Rattle.hiring_log.specs.declared.filing.Filing.{Filing}
 use Rattle.hiring_log.specs.declared.filing.Filing.TheVariants.{OtherTaxi, Passed, Appended}
 
--- a receipt is another taxi's where its taxi isn't the newest record's; none is so beside an empty log
+-- a receipt is another taxi's where its taxi isn't the newest record's; beside an empty log none is
 abbrev pub IsOther : (newest : Option Record) → Record → Type 0
 IsOther None receipt = ⊥
 IsOther (Some newest) receipt = receipt.taxi ≢ newest.taxi

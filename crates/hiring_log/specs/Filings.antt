@@ -64,7 +64,7 @@ module _ {D L : Type 0} (B : Ghosts D L) (told_log told_files : Type 0) where
     pub of : told_files → IsFiledOf first.newest roll rest filed
     pub few : steps' ≤ steps + 6 * length filed
 
-  -- a run is filing a roll where it has filed receipts of it so far, and has seen so many
+  -- a run is filing a roll where it has filed receipts of it so far, and has seen `seen` of them
   pub record IsFiling (old new : D) (first last : Tail) (roll : List ℕ) (place : Place) (rest : List ℕ)
       (seen steps steps' : ℕ) : Type 0 where
     pub receipts : List Record

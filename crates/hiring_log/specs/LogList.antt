@@ -13,7 +13,7 @@ abbrev pub RiseFrom : ℕ → List Record → Type 0
 RiseFrom number [] = Unit {0}
 RiseFrom number (it ∷ more) = (number < it.number) × RiseFrom it.number more
 
--- a log whose newest record is at the place `last` has so many records: one at each place where `last` is below 256,
+-- how many records a log has whose newest is at the place `last`: one at each place where `last` is below 256,
 -- and else 256 or 255
 abbrev pub IsCount : (last count : ℕ) → Type 0
 IsCount last count = ((last < 256) × (count ≡ last)) ⊎ ((256 ≤ last) × ((count ≡ 256) ⊎ (count ≡ 255)))

@@ -11,18 +11,19 @@ use Rattle.hiring_log.specs.declared.scanning.Entry.{Entry}
 abbrev pub AreEntries : List ℕ → List (Option Entry) → Type 0
 AreEntries image entries = (slot : ℕ) → slot < 256 → IsEntry image slot (get_or entries slot None)
 
--- the place so many before the place `last` has this slot
+-- the slot of the place that lies `back` places before the place `last`
 abbrev pub slot_back : (last back : ℕ) → ℕ
 slot_back last back = (last % 256 + 255 - back) % 256
 
--- so many slots back from the newest record have so many records: one each down to place 1, or the 256th has none
+-- `back` slots, from that of the newest record downwards, have `count` records: one each down to place 1, or all but
+-- the 256th has one
 abbrev pub IsCountBack : (last back count : ℕ) → Type 0
 IsCountBack last back count =
     ((back ≤ last) × (count ≡ back))
     ⊎ (((last < back) × (count ≡ last)) ⊎ ((back ≡ 256) × (256 ≤ last) × (count ≡ 255)))
 
--- so many slots back from the newest record are a row where they hold records whose places follow each other and whose
--- numbers rise to below `newer`, and the other slots among them are closed
+-- `back` slots, from that of the newest record downwards, are a row where they hold records whose places follow each
+-- other and whose numbers rise to below `newer`, and the other slots among them are closed
 pub record IsRow (image : List ℕ) (last back newer : ℕ) : Type 0 where
   pub records : List Record
   pub count : IsCountBack last back (length records)
@@ -31,7 +32,8 @@ pub record IsRow (image : List ℕ) (last back newer : ℕ) : Type 0 where
   pub some : 0 < newer
   pub others : (other : ℕ) → other < back → length records ≤ other → IsClosed image (slot_back last other)
 
--- a number bounds the records of a list that are so far back or further where each of theirs is below it
+-- the number `newer` bounds a list's records that lie `back` places or more before its end where each has a lower
+-- number
 abbrev pub IsBound : List Record → (back newer : ℕ) → Type 0
 IsBound records back newer = (place : ℕ) (other : Record) → place + back < length records
     → (get_or records place other).number < newer

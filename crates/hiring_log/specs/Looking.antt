@@ -9,7 +9,7 @@ abbrev pub MayFollow : (ended : Bool) → List ℕ → Type 0
 MayFollow false more = Unit {0}
 MayFollow true more = more ≡ []
 
--- a look passes so many bytes of a text and finds these receipts in them, whatever may follow the text
+-- a look passes a number of bytes of a text and finds these receipts in them, whatever may follow the text
 pub record LooksTo (ended : Bool) (text : List ℕ) (count : ℕ) (receipts : List Record) : Type 0 where
   pub within : count ≤ length text
   pub reads : (more : List ℕ) → MayFollow ended more → Reads (text ++ more) receipts (drop count text ++ more)

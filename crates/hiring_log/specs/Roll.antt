@@ -19,6 +19,6 @@ pub data Reads : (text : List ℕ) → (receipts : List Record) → (rest : List
 abbrev pub AreOnRoll : (receipts : List Record) → (roll : List ℕ) → Type 0
 AreOnRoll receipts roll = Reads roll receipts []
 
--- of a roll at most so many bytes are taken: 2^40
+-- how many bytes of a roll are taken at most: 2^40
 abbrev pub roll_limit : ℕ
 roll_limit = 2 ^ 40

@@ -99,7 +99,7 @@ pub(crate) fn must_go_on(
     Ok(())
 }
 
-/// The log after a filing in a log of zeros. Fails unless it makes so many calls.
+/// The log after a filing in a log of zeros. Fails unless it makes this number of calls.
 fn log_of_filing(alloc: Global, roll: &[u8], calls: u64) -> Result<MemoryLog, Fail> {
     let (log, _) = filing(alloc, roll, &[])?;
     must_at(log.calls() == calls, "another number of calls", calls)?;
@@ -119,8 +119,8 @@ fn must_go_on_each(
     Ok(())
 }
 
-/// Fails unless a filing of receipts from number 2 to another in a log of zeros makes so many calls, and the log goes
-/// on over what a cut leaves in each of these.
+/// Fails unless a filing of receipts from number 2 to another in a log of zeros makes this number of calls, and the log
+/// goes on over what a cut leaves in each of these.
 fn must_outlast(alloc: Global, last: u32, count: u64, calls: &[(u64, Left)]) -> Result<(), Fail> {
     let roll = receipts(alloc, 2, last)?;
     let log = log_of_filing(alloc, &roll, count)?;

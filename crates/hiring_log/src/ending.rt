@@ -5,9 +5,9 @@ ghost use Rattle.hiring_log.specs.Endings.{line_of, status_of};
 use taxi_units::{Line, push_bytes, push_number};
 
 /// How a call of the program ends.
-#[derive(Clone, Copy, Debug, PartialEq, Eq)]
+#[derive(Clone, Copy)]
 pub(crate) enum Ended {
-    /// The roll was read to its end, and so many receipts were filed.
+    /// The roll was read to its end, and this number of receipts was filed.
     Filed(u64),
     /// The log was shown whole.
     Shown,

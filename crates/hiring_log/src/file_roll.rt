@@ -13,9 +13,9 @@ use std::sync::ledger::Ledger;
 use taxi_units::Steps;
 
 /// How the filing of a roll ends.
-#[derive(Clone, Copy, Debug, PartialEq, Eq)]
+#[derive(Clone, Copy)]
 pub(crate) enum FileEnd {
-    /// The roll was read to its end, and so many receipts were filed.
+    /// The roll was read to its end, and this number of receipts was filed.
     Filed(u64),
     /// The roll's receipt with this number, from 1 on, is of another taxi.
     OtherTaxi(u64),

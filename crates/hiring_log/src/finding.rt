@@ -65,12 +65,12 @@ fn read_newest<G: LogBoard<L>, L: Ledger>(
 }
 
 /// Why no end of the log is found.
-#[derive(Clone, Copy, Debug, PartialEq, Eq)]
+#[derive(Clone, Copy)]
 pub(crate) enum FindFault {
     /// This slot, the lowest such, is open, and holds no record at a place whose slot it is.
     BadSlot(u32),
 
-    /// No slot is so, and the log stands for no list.
+    /// No slot is bad, and the log stands for no list.
     Broken,
 
     /// The board failed.

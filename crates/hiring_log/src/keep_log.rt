@@ -159,7 +159,7 @@ fn finish<G: LogBoard<L>, L: Ledger>(ended: Ended, log: &mut G, steps: &mut Step
 ///
 /// | Words | Output |
 /// |---|---|
-/// | `file ROLL` | `FILED n`: so many of the roll's receipts were appended to the log |
+/// | `file ROLL` | `FILED n`: n of the roll's receipts were appended to the log |
 /// | `show` | the texts of the log's receipts, the oldest first |
 ///
 /// | Status | Last line | Where |
@@ -167,7 +167,7 @@ fn finish<G: LogBoard<L>, L: Ledger>(ended: Ended, log: &mut G, steps: &mut Step
 /// | 0 | as above | the roll was read to its end, or the log was shown whole |
 /// | 1 | `BAD WORDS` | exactly: the words are no command |
 /// | 2 | `BAD LOG s` | exactly: slot s is the lowest that is open and holds no record of its own |
-/// | 3 | `BROKEN LOG` | exactly: no slot is so, and the log stands for no list of receipts |
+/// | 3 | `BROKEN LOG` | exactly: no slot is bad, and the log stands for no list of receipts |
 /// | 4 | `OTHER TAXI j` | exactly: the roll's receipt j is the first of another taxi; those before it are filed |
 /// | 5 | `ROLL TOO LONG` | exactly: 2^40 bytes of the roll were taken, and its end wasn't told |
 /// | 7 | `READ FAULT` | only where the roll's count of faults rose; what was taken is filed |

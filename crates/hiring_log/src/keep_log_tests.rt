@@ -174,22 +174,6 @@ pub(crate) fn filing(alloc: Global, roll: &[u8], reads: &[u64]) -> Result<Ended,
     failing(alloc, &zeros, FILE, roll, reads, &[])
 }
 
-/// The image after a call over another one. Fails unless the call prints these pieces and ends with this status.
-fn image_behind(
-    alloc: Global,
-    name: &str,
-    image: &[u8],
-    words: &[&str],
-    roll: &[u8],
-    output: &[&str],
-    status: u8,
-) -> Result<Vec<u8>, Fail> {
-    let ended = called(alloc, image, words, roll)?;
-    let is_end = is_made_of(ended.0.printed(), output) && ended.1 == status;
-    must(is_end, "another end", name)?;
-    image_of(alloc, &ended.0)
-}
-
 /// The log of a call of `file` over an image, which prints this text and ends with 0.
 pub(crate) fn filed_behind(
     alloc: Global,
@@ -197,7 +181,9 @@ pub(crate) fn filed_behind(
     roll: &[u8],
     output: &str,
 ) -> Result<Vec<u8>, Fail> {
-    image_behind(alloc, output, image, FILE, roll, &[output], 0)
+    let ended = called(alloc, image, FILE, roll)?;
+    must(is_end(&ended, output, 0), "another end", output)?;
+    image_of(alloc, &ended.0)
 }
 
 /// The log of a call of `file` over a log of zeros, which ends with 0.
@@ -225,50 +211,56 @@ pub(crate) fn shows(alloc: Global, image: &[u8], first: u32, last: u32) -> Resul
     shows_text(alloc, image, &text)
 }
 
-/// Puts other bytes at a place of an image.
-fn put_bytes(image: &mut [u8], at: usize, bytes: &[u8]) {
-    for (i, byte) in bytes.iter().enumerate() {
-        if let Some(here) = at.checked_add(i).and_then(|place| image.get_mut(place)) {
+/// An image with another byte at some places.
+fn changed(alloc: Global, image: &[u8], changes: &[(usize, u8)]) -> Result<Vec<u8>, Fail> {
+    let mut changed = Vec::from_slice(alloc, image)?;
+    for (at, byte) in changes {
+        if let Some(here) = changed.as_mut_slice().get_mut(*at) {
             *here = *byte;
         }
-    }
-}
-
-/// An image with other bytes at some places.
-fn changed(alloc: Global, image: &[u8], changes: &[(usize, &[u8])]) -> Result<Vec<u8>, Fail> {
-    let mut changed = Vec::from_slice(alloc, image)?;
-    for (at, bytes) in changes {
-        put_bytes(changed.as_mut_slice(), *at, bytes);
     }
     Ok(changed)
 }
 
-/// Texts, one behind the other.
-fn joined(alloc: Global, pieces: &[&str]) -> Result<Vec<u8>, Fail> {
+/// The text that a letter of a row stands for: a receipt by its number, what a run prints before one and behind it, a
+/// receipt up to its fare, and a display that broke off.
+fn piece(letter: u8) -> &'static str {
+    match letter {
+        b'2' => TWO,
+        b'3' => THREE,
+        b'4' => OTHER,
+        b'9' => NINE,
+        b'(' => BEFORE,
+        b')' => BEHIND,
+        b't' => TORN,
+        _ => "HIRED T1 Z1 3.",
+    }
+}
+
+/// The texts that letters stand for, one behind the other.
+fn joined(alloc: Global, letters: &str) -> Result<Vec<u8>, Fail> {
     let mut text = Vec::new(alloc);
-    for piece in pieces {
-        text.extend_from_slice(piece.as_bytes())?;
+    for letter in letters.as_bytes() {
+        text.extend_from_slice(piece(*letter).as_bytes())?;
     }
     Ok(text)
 }
 
-/// Whether a text is these pieces, one behind the other.
-fn is_made_of(text: &[u8], pieces: &[&str]) -> bool {
+/// What stands in a text behind the texts that letters stand for, where it begins with these.
+fn behind<'a>(text: &'a [u8], letters: &str) -> Option<&'a [u8]> {
     let mut rest = text;
-    for piece in pieces {
-        match rest.strip_prefix(piece.as_bytes()) {
-            Some(more) => rest = more,
-            None => return false,
-        }
+    for letter in letters.as_bytes() {
+        rest = rest.strip_prefix(piece(*letter).as_bytes())?;
     }
-    rest.is_empty()
+    Some(rest)
 }
 
-/// The words of a call, the pieces of its roll and of what it prints, and its status.
+/// The words of a call, the letters of its roll and of the receipts that it prints, its last line, and its status.
 type Step = (
     &'static [&'static str],
-    &'static [&'static str],
-    &'static [&'static str],
+    &'static str,
+    &'static str,
+    &'static str,
     u8,
 );
 
@@ -277,87 +269,68 @@ const ROWS: &[(&str, &[Step])] = &[
     (
         "a hiring",
         &[
-            (FILE, &[BEFORE, TWO, BEHIND], &["FILED 1\n"], 0),
-            (FILE, &[BEFORE, TWO, BEHIND], &["FILED 0\n"], 0),
-            (SHOW, &[], &[TWO], 0),
+            (FILE, "(2)", "", "FILED 1\n", 0),
+            (FILE, "(2)", "", "FILED 0\n", 0),
+            (SHOW, "", "2", "", 0),
         ],
     ),
-    ("an empty log", &[(SHOW, &[], &[], 0)]),
+    ("an empty log", &[(SHOW, "", "", "", 0)]),
     (
         "an empty roll",
-        &[(FILE, &[], &["FILED 0\n"], 0), (SHOW, &[], &[], 0)],
+        &[(FILE, "", "", "FILED 0\n", 0), (SHOW, "", "", "", 0)],
     ),
     (
         "a receipt up to its fare",
-        &[
-            (FILE, &[BEFORE, TORN], &["FILED 0\n"], 0),
-            (SHOW, &[], &[], 0),
-        ],
+        &[(FILE, "(t", "", "FILED 0\n", 0), (SHOW, "", "", "", 0)],
     ),
     (
         "a receipt behind a torn text",
-        &[
-            (FILE, &["HIRED T1 Z1 3.", TWO], &["FILED 1\n"], 0),
-            (SHOW, &[], &[TWO], 0),
-        ],
+        &[(FILE, "d2", "", "FILED 1\n", 0), (SHOW, "", "2", "", 0)],
     ),
     (
         "a next run, and another taxi",
         &[
-            (FILE, &[BEFORE, TWO, BEHIND], &["FILED 1\n"], 0),
-            (FILE, &[BEFORE, THREE, BEHIND], &["FILED 1\n"], 0),
-            (FILE, &[OTHER], &["OTHER TAXI 1\n"], 4),
-            (SHOW, &[], &[TWO, THREE], 0),
+            (FILE, "(2)", "", "FILED 1\n", 0),
+            (FILE, "(3)", "", "FILED 1\n", 0),
+            (FILE, "4", "", "OTHER TAXI 1\n", 4),
+            (SHOW, "", "23", "", 0),
         ],
     ),
     (
         "two taxis in one roll",
         &[
-            (
-                FILE,
-                &[TWO, BEHIND, THREE, OTHER, NINE],
-                &["OTHER TAXI 3\n"],
-                4,
-            ),
-            (SHOW, &[], &[TWO, THREE], 0),
-            (
-                FILE,
-                &[TWO, BEHIND, THREE, OTHER, NINE],
-                &["OTHER TAXI 3\n"],
-                4,
-            ),
-            (FILE, &[OTHER, TWO], &["OTHER TAXI 1\n"], 4),
-            (SHOW, &[], &[TWO, THREE], 0),
+            (FILE, "2)349", "", "OTHER TAXI 3\n", 4),
+            (SHOW, "", "23", "", 0),
+            (FILE, "2)349", "", "OTHER TAXI 3\n", 4),
+            (FILE, "42", "", "OTHER TAXI 1\n", 4),
+            (SHOW, "", "23", "", 0),
         ],
     ),
     (
         "another taxi with an old number",
         &[
-            (FILE, &[NINE, OTHER], &["OTHER TAXI 2\n"], 4),
-            (SHOW, &[], &[NINE], 0),
+            (FILE, "94", "", "OTHER TAXI 2\n", 4),
+            (SHOW, "", "9", "", 0),
         ],
     ),
     (
         "a receipt that was torn and is printed again",
         &[
-            (FILE, &[BEFORE, TORN, TWO, BEHIND], &["FILED 1\n"], 0),
-            (FILE, &[BEFORE, TORN, BEFORE, TWO, THREE], &["FILED 1\n"], 0),
-            (SHOW, &[], &[TWO, THREE], 0),
+            (FILE, "(t2)", "", "FILED 1\n", 0),
+            (FILE, "(t(23", "", "FILED 1\n", 0),
+            (SHOW, "", "23", "", 0),
         ],
     ),
     (
         "a receipt twice, and older ones behind newer ones",
-        &[
-            (FILE, &[TWO, TWO, NINE, THREE, TWO], &["FILED 2\n"], 0),
-            (SHOW, &[], &[TWO, NINE], 0),
-        ],
+        &[(FILE, "22932", "", "FILED 2\n", 0), (SHOW, "", "29", "", 0)],
     ),
     (
         "numbers with gaps",
         &[
-            (FILE, &[TWO, NINE], &["FILED 2\n"], 0),
-            (FILE, &[THREE], &["FILED 0\n"], 0),
-            (SHOW, &[], &[TWO, NINE], 0),
+            (FILE, "29", "", "FILED 2\n", 0),
+            (FILE, "3", "", "FILED 0\n", 0),
+            (SHOW, "", "29", "", 0),
         ],
     ),
 ];
@@ -365,7 +338,10 @@ const ROWS: &[(&str, &[Step])] = &[
 /// The image after a step over another one. Fails unless the step prints its text and ends with its status.
 fn step_behind(alloc: Global, name: &str, image: &[u8], step: &Step) -> Result<Vec<u8>, Fail> {
     let roll = joined(alloc, step.1)?;
-    image_behind(alloc, name, image, step.0, &roll, step.2, step.3)
+    let ended = called(alloc, image, step.0, &roll)?;
+    let is_end = behind(ended.0.printed(), step.2) == Some(step.3.as_bytes()) && ended.1 == step.4;
+    must(is_end, "another end", name)?;
+    image_of(alloc, &ended.0)
 }
 
 /// Fails unless each step of a row, over the log that the one before it left, ends as it says.
@@ -416,7 +392,7 @@ fn image_of_two(alloc: Global) -> Result<Vec<u8>, Fail> {
 
 #[test]
 fn a_record_in_its_slot(rt: HostRuntime) -> Result<(), Fail> {
-    let roll = joined(rt.alloc(), &[TWO, NINE])?;
+    let roll = joined(rt.alloc(), "29")?;
     let image = filed(rt.alloc(), &roll)?;
     let want = image_of_two(rt.alloc())?;
     must(image == want, "another image", "two records")
@@ -452,7 +428,7 @@ fn full_log(alloc: Global) -> Result<Vec<u8>, Fail> {
 #[test]
 fn logs_that_are_full(rt: HostRuntime) -> Result<(), Fail> {
     let full = full_log(rt.alloc())?;
-    let shut = changed(rt.alloc(), &full, &[(512, &[0])])?;
+    let shut = changed(rt.alloc(), &full, &[(512, 0)])?;
     let more = with_one_more(rt.alloc(), &shut)?;
     must_show(rt.alloc(), &full, &shut, &more)
 }
@@ -493,11 +469,11 @@ fn words_that_are_no_command(rt: HostRuntime) -> Result<(), Fail> {
     Ok(())
 }
 
-/// Other bytes at some places of a log.
-type Changes = &'static [(usize, &'static [u8])];
+/// Another byte at some places of a log.
+type Changes = &'static [(usize, u8)];
 
-/// A log's name, the last of its receipts, which begin with number 2, other bytes at some places; the line that is said
-/// of it, and the status.
+/// A log's name, the last of its receipts, which begin with number 2, another byte at some places; the line that is
+/// said of it, and the status.
 type Refused = (&'static str, u32, Changes, &'static str, u8);
 
 /// Logs with the receipts 2 to 4, or 2 to 258, that are refused.
@@ -505,99 +481,81 @@ const REFUSED: &[Refused] = &[
     (
         "an open slot without a record",
         4,
-        &[(3584, &[0xA5])],
+        &[(3584, 0xA5)],
         "BAD LOG 7\n",
         2,
     ),
     (
         "two of them",
         4,
-        &[(130_560, &[0xA5]), (1536, &[0xA5])],
+        &[(130_560, 0xA5), (1536, 0xA5)],
         "BAD LOG 3\n",
         2,
     ),
     (
         "a bad slot behind a gap",
         4,
-        &[(0, &[0]), (1024, &[0xA5, 1])],
+        &[(0, 0), (1024, 0xA5), (1025, 1)],
         "BAD LOG 2\n",
         2,
     ),
-    ("another first letter", 4, &[(11, b"r")], "BAD LOG 0\n", 2),
+    ("another first letter", 4, &[(11, b'r')], "BAD LOG 0\n", 2),
     (
         "a fare that is no sum",
         4,
-        &[(1285, b"9")],
+        &[(1285, b'9')],
         "BAD LOG 2\n",
         2,
     ),
-    ("place 0", 4, &[(8, &[0])], "BAD LOG 0\n", 2),
+    ("place 0", 4, &[(8, 0)], "BAD LOG 0\n", 2),
     (
         "a place above its number",
         4,
-        &[(519, &[1, 2])],
+        &[(519, 1), (520, 2)],
         "BAD LOG 1\n",
         2,
     ),
-    ("another's slot", 4, &[(520, &[3])], "BAD LOG 1\n", 2),
+    ("another's slot", 4, &[(520, 3)], "BAD LOG 1\n", 2),
     (
         "another's slot, of a full log",
         258,
-        &[(7, &[1, 2])],
+        &[(7, 1), (8, 2)],
         "BAD LOG 0\n",
         2,
     ),
-    (
-        "a text that is longer",
-        4,
-        &[(10, &[200])],
-        "BAD LOG 0\n",
-        2,
-    ),
+    ("a text that is longer", 4, &[(10, 200)], "BAD LOG 0\n", 2),
     (
         "a text that is too long",
         4,
-        &[(9, &[1, 225])],
+        &[(9, 1), (10, 225)],
         "BAD LOG 0\n",
         2,
     ),
-    (
-        "no zero behind the text",
-        4,
-        &[(510, &[1])],
-        "BAD LOG 0\n",
-        2,
-    ),
-    ("layout 2", 4, &[(511, &[2])], "BAD LOG 0\n", 2),
-    ("places from 2 on", 4, &[(0, &[0])], "BROKEN LOG\n", 3),
-    ("a gap in the places", 4, &[(512, &[1])], "BROKEN LOG\n", 3),
-    ("equal numbers", 4, &[(1043, b"3")], "BROKEN LOG\n", 3),
-    ("numbers that fall", 4, &[(531, b"5")], "BROKEN LOG\n", 3),
-    (
-        "a gap in a full log",
-        258,
-        &[(2048, &[0])],
-        "BROKEN LOG\n",
-        3,
-    ),
+    ("no zero behind the text", 4, &[(510, 1)], "BAD LOG 0\n", 2),
+    ("layout 2", 4, &[(511, 2)], "BAD LOG 0\n", 2),
+    ("places from 2 on", 4, &[(0, 0)], "BROKEN LOG\n", 3),
+    ("a gap in the places", 4, &[(512, 1)], "BROKEN LOG\n", 3),
+    ("equal numbers", 4, &[(1043, b'3')], "BROKEN LOG\n", 3),
+    ("numbers that fall", 4, &[(531, b'5')], "BROKEN LOG\n", 3),
+    ("a gap in a full log", 258, &[(2048, 0)], "BROKEN LOG\n", 3),
     (
         "254 of a full log",
         258,
-        &[(512, &[0]), (1024, &[0])],
+        &[(512, 0), (1024, 0)],
         "BROKEN LOG\n",
         3,
     ),
     (
         "the newest of a full log",
         258,
-        &[(0, &[0]), (512, &[0])],
+        &[(0, 0), (512, 0)],
         "BROKEN LOG\n",
         3,
     ),
 ];
 
-/// The log of receipts from number 2 to another, with other bytes at some places.
-fn changed_log(alloc: Global, last: u32, changes: &[(usize, &[u8])]) -> Result<Vec<u8>, Fail> {
+/// The log of receipts from number 2 to another, with another byte at some places.
+fn changed_log(alloc: Global, last: u32, changes: &[(usize, u8)]) -> Result<Vec<u8>, Fail> {
     let image = filed_to(alloc, last)?;
     changed(alloc, &image, changes)
 }

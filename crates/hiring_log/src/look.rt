@@ -6,7 +6,7 @@ ghost use Rattle.hiring_log.specs.Record.{IsRecord};
 use crate::front::{before_letter, record_in_front};
 use crate::log_record::LogRecord;
 
-/// A receipt has at most so many bytes.
+/// How many bytes a receipt has at most.
 const LONGEST: usize = 480;
 
 /// Looks for the first receipt of a text that is a part of a roll. Answers how many bytes are passed: with

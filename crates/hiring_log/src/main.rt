@@ -27,6 +27,7 @@ mod log_board;
 mod log_laws;
 mod log_record;
 mod look;
+#[cfg(test)]
 mod memory_log;
 #[cfg(test)]
 mod memory_log_tests;

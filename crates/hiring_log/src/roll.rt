@@ -12,11 +12,11 @@ use std::marker::Model;
 #[cfg(test)]
 mod tests;
 
-/// At most so many bytes of a roll are taken: 2^40.
+/// How many bytes of a roll are taken at most: 2^40.
 const LIMIT: u64 = 1 << 40;
 
 /// Why no more of a roll is read.
-#[derive(Clone, Copy, Debug, PartialEq, Eq)]
+#[derive(Clone, Copy, PartialEq, Eq)]
 pub enum RollEnd {
     /// The roll was read to its end.
     Whole,
@@ -156,7 +156,7 @@ fn close_up(window: &mut [u8], from: usize, to: usize) -> usize
     to - from
 }
 
-/// Reads the next bytes of a word's file, at most so many, behind the bytes that are kept at the front.
+/// Reads the next bytes of a word's file, at most this number, behind the bytes that are kept at the front.
 fn read_behind<F: Files>(
     files: &mut F,
     word: usize,

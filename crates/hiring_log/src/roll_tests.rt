@@ -99,7 +99,7 @@ fn reads_pieces(alloc: Global, pieces: &[&[u8]], numbers: &[u64]) -> Result<bool
 const GROWING: &[(usize, &[u64])] = &[(2, &[2]), (3, &[2, 40]), (4, &[2, 40, 3])];
 
 /// Fails unless the receipts are read of a roll that grows by these pieces, of which the second is a receipt that is
-/// torn behind so many bytes.
+/// torn behind a number of bytes.
 fn must_grow(alloc: Global, pieces: &[&[u8]], length: usize) -> Result<(), Fail> {
     for (count, numbers) in GROWING {
         let beginning = pieces.get(..*count).ok_or("no beginning")?;
@@ -157,7 +157,7 @@ fn reads_behind_other_texts(rt: HostRuntime) -> Result<(), Fail> {
     Ok(())
 }
 
-/// Whether two receipts are read behind so many bytes.
+/// Whether two receipts are read behind a number of bytes.
 fn reads_from(alloc: Global, length: usize) -> Result<bool, Fail> {
     let mut roll = Vec::new(alloc);
     roll.resize(length, b'R')?;
@@ -193,7 +193,11 @@ fn reads_up_to_a_fault(rt: HostRuntime) -> Result<(), Fail> {
     let roll = torn_between(rt.alloc())?;
     for (fail, numbers) in FAULTS {
         let is_read = reads(rt.alloc(), &roll, fail, numbers, RollEnd::ReadFault)?;
-        must_at(is_read, "other receipts, so many", numbers.len() as u64)?;
+        must_at(
+            is_read,
+            "other receipts, their number",
+            numbers.len() as u64,
+        )?;
     }
     Ok(())
 }

@@ -7,7 +7,7 @@ ghost use Rattle.hiring_log.specs.Record.{Record};
 
 use crate::scanning::Entry;
 
-/// The slot of so many places before a place in the log.
+/// The slot that lies a number of places before a place in the log.
 fn slot_back(last: u64, back: u64) -> usize
     requires { back < 256 }
     ensures is { result ≡ slot_back last back }
@@ -16,7 +16,7 @@ fn slot_back(last: u64, back: u64) -> usize
     ((last % 256 + 255 - back) % 256) as usize
 }
 
-/// The number of the record so many places before the newest, where the slot has it, and the number of the
+/// The number of the record that lies some places before the newest, where the slot has it, and the number of the
 /// one after it where the slot is rightly closed. `None` where the slot breaks the row.
 #[tactic(auto, using(crate::proofs::Rows::row_record, crate::proofs::Rows::row_over, crate::proofs::Rows::row_spare))]
 fn number_back(entry: Option<Entry>, last: u64, back: u64, newer: u64) -> Option<u64>

@@ -67,7 +67,7 @@ pub(crate) fn read_slot<G: LogBoard<L>, L: Ledger>(
 }
 
 /// Why a scan tells no list.
-#[derive(Clone, Copy, Debug, PartialEq, Eq)]
+#[derive(Clone, Copy)]
 pub(crate) enum ScanFault {
     /// This slot, the lowest such, is open, and holds no record at a place whose slot it is.
     BadSlot(u32),

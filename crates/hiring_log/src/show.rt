@@ -39,7 +39,7 @@ fn show_one<G: LogBoard<L>, L: Ledger>(
     }
 }
 
-/// Prints the texts of so many records of the log, which stand one after another from a place on. Nothing
+/// Prints the texts of a number of records of the log, which stand one after another from a place on. Nothing
 /// is written, and `Failed` comes only where the count of faults rose: a beginning of the texts is printed
 /// then.
 pub(crate) fn show_records<G: LogBoard<L>, L: Ledger>(

@@ -1,6 +1,6 @@
 //! A record's bytes in its slot, behind the gate.
 ghost use Rattle.std.specs.Prelude.{◌≡◌, ℕ, ◌+◌, ◌≤◌, ◌++◌, ◌↔◌, List, length, replicate, take, drop, Some, IsTrue};
-ghost use Rattle.std.specs.Int.{w16, w64, from_be_bytes};
+ghost use Rattle.std.specs.Int.{w16, from_be_bytes};
 ghost use Rattle.arrayvec.specs.ArrayVec.{array_vec_len};
 ghost use Rattle.hiring_log.specs.Record.{Record, IsRecord};
 ghost use Rattle.hiring_log.specs.Slots.{Spells, IsRecordOf, spelling};
@@ -8,18 +8,7 @@ ghost use Rattle.hiring_log.specs.Slots.{Spells, IsRecordOf, spelling};
 use crate::log_record::LogRecord;
 use arrayvec::ArrayVec;
 use receipt_text::{read_receipt, receipts_are_short};
-
-/// The bytes behind a slot's gate, being written.
-pub(crate) type Spelled = ArrayVec<u8, 511>;
-
-/// Appends bytes, for which there is room.
-fn put(out: &mut Spelled, bytes: &[u8])
-    requires { array_vec_len out.old + length bytes.now ≤ 511 }
-    ensures items { out.new.items ≡ out.old.items ++ bytes.now }
-    ensures len { array_vec_len out.new ≡ array_vec_len out.old + length bytes.now }
-{
-    let _ = out.try_extend_from_slice(bytes);
-}
+use slot_store::{Spelled, eight_at, put_bytes};
 
 /// Appends zeros, for which there is room.
 fn put_zeros(out: &mut Spelled, count: usize)
@@ -28,7 +17,7 @@ fn put_zeros(out: &mut Spelled, count: usize)
     ensures len { array_vec_len out.new ≡ array_vec_len out.old + count }
 {
     for _i in 0..count {
-        put(out, &[0]);
+        put_bytes(out, &[0]);
     }
 }
 
@@ -39,11 +28,11 @@ pub(crate) fn spelled(place: u64, text: &[u8]) -> Spelled
     ensures len { array_vec_len result ≡ 511 }
 {
     let mut out = Spelled::new();
-    put(&mut out, &place.to_be_bytes());
-    put(&mut out, &(text.len() as u16).to_be_bytes());
-    put(&mut out, text);
+    put_bytes(&mut out, &place.to_be_bytes());
+    put_bytes(&mut out, &(text.len() as u16).to_be_bytes());
+    put_bytes(&mut out, text);
     put_zeros(&mut out, 500 - text.len());
-    put(&mut out, &[1]);
+    put_bytes(&mut out, &[1]);
     out
 }
 
@@ -55,16 +44,6 @@ fn two_at(bytes: &[u8], at: usize) -> u16
     let mut part = [0; 2];
     part.copy_from_slice(&bytes[at..at + 2]);
     u16::from_be_bytes(part)
-}
-
-/// The number in the eight bytes at the front.
-fn eight_in_front(bytes: &[u8]) -> u64
-    requires { 8 ≤ length bytes.now }
-    ensures { result ≡ from_be_bytes w64 (take 8 bytes.now) }
-{
-    let mut part = [0; 8];
-    part.copy_from_slice(&bytes[..8]);
-    u64::from_be_bytes(part)
 }
 
 /// The record whose text this is.
@@ -99,7 +78,7 @@ pub(crate) fn record_in(bytes: &[u8]) -> Option<(u64, LogRecord)>
     requires { length bytes.now ≡ 511 }
     ensures { (place : ℕ) (it : Record) → (result ≡ Some (place, it)) ↔ Spells bytes.now place it }
 {
-    let place = eight_in_front(bytes);
+    let place = eight_at(bytes, 0);
     let count = two_at(bytes, 8) as usize;
     if count > 480 {
         return None;

@@ -4,7 +4,7 @@ ghost use Rattle.hiring_log.specs.Words.{call_of};
 ghost use Rattle.hiring_log.specs.Words as spec;
 
 /// A command that the program knows.
-#[derive(Clone, Copy, Debug, PartialEq, Eq)]
+#[derive(Clone, Copy)]
 pub(crate) enum Call {
     /// `file ROLL`
     File,

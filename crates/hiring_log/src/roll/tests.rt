@@ -16,8 +16,8 @@ const LIMITS: &[(u64, &[u64], RollEnd)] = &[
     (575, &[2, 3], RollEnd::Whole),
 ];
 
-/// Whether a reader that may take so many bytes of a roll reads receipts of these numbers and no others, and no more
-/// for this reason.
+/// Whether a reader that may take a number of bytes of a roll reads receipts of these numbers and no others, and no
+/// more for this reason.
 fn reads(
     alloc: Global,
     roll: &[u8],

@@ -1,15 +1,27 @@
-use Rattle.std.proofs.Common.{◌≡◌, ℕ, List, ◌++◌, ap, ◌∙◌, subst}
+use Rattle.std.proofs.Common.{◌≡◌, ℕ, List, ◌++◌, length, ap, ◌∙◌, subst, arith}
 use Rattle.std.proofs.lemmas.Result.{on_ok_weaker}
 use Rattle.outside.specs.Printing.{Begins}
 use Rattle.outside.proofs.Laws.{begins_not}
+use Rattle.hiring_log.specs.LogScan.{IsSoundContent}
 use Rattle.hiring_log.specs.Record.{Record}
 use Rattle.hiring_log.specs.Slots.{Holds, slot_of}
-use Rattle.hiring_log.proofs.Shown.{told_closed, told_record, told_unread}
+use Rattle.hiring_log.proofs.Shown.{few_text, some_text, told_closed, told_record, told_unread}
 use Rattle.hiring_log.proofs.show.show_one.Given as given
 use Rattle.hiring_log.proofs.show.show_one.Goals as goal
 
 pub returns-in_err-it-clause-begun : goal.returns-in_err-it-clause-begun
 returns-in_err-it-clause-begun g c = λ image text it holds. begins_not _ _ it.text c.read_slot.ensures.reads.text
+
+-- a record's text is printed at once
+pub print-requires-clause-some : goal.print-requires-clause-some
+print-requires-clause-some g c =
+    let is = subst IsSoundContent c.in-Held.is c.in_ok-it.ensures.sound in
+    omega (arith, ap length c.as_slice.ensures.value, ap (λ (r : Record). length r.text) c.it.view_is, some_text _ is.0)
+
+pub print-requires-clause-few : goal.print-requires-clause-few
+print-requires-clause-few g c =
+    let is = subst IsSoundContent c.in-Held.is c.in_ok-it.ensures.sound in
+    omega (arith, ap length c.as_slice.ensures.value, ap (λ (r : Record). length r.text) c.it.view_is, few_text _ is.0)
 
 -- what is printed is the record's text
 printed_is : (g : given.Over) (c : goal.After-print g) → g.G.LogBoard.tells_image → (it : Record) → Holds (g.G.LogBoard.image c.args.log.now) (slot_of c.args.place) c.args.place it → c.as_slice.result.now ≡ it.text
