@@ -73,7 +73,7 @@ pub record IsLink (durable : Durable) (image : List ℕ) (link : Link) : Type 0 
   -- the next number is no smaller than the one before, and no greater than with all commits of the run
   pub least : durable.number ≤ link.number
   pub most : link.number ≤ durable.number + length (commits_done image link)
-  -- the next image stands for the state after so many commits of the run
+  -- the next image stands for the state after as many commits of the run
   pub stands : HasState link.image link.found
   pub number : link.number ≡ link.found.number
   pub follows : Follows durable link.found (prefix_of durable image link)

@@ -136,15 +136,19 @@ const CHAINS: &[Chain] = &[
     ),
 ];
 
-#[test]
-fn chains(rt: HostRuntime) -> Result<(), Fail> {
-    let image = sealed(rt.alloc(), A, P)?;
-    for (name, drives, cuts, answers) in CHAINS {
-        let ended = chained(rt.alloc(), drives, &image, cuts)?;
+/// Fails unless each of these chains over an image has its answers, and leaves the seal.
+fn must_chain_all(alloc: Global, image: &[u8; 2048], chains: &[Chain]) -> Result<(), Fail> {
+    for (name, drives, cuts, answers) in chains {
+        let ended = chained(alloc, drives, image, cuts)?;
         must(ended.1.as_slice() == *answers, "other answers", name)?;
         must(ended.0[1024..] == image[1024..], "another seal", name)?;
     }
     Ok(())
+}
+
+#[test]
+fn chains(rt: HostRuntime) -> Result<(), Fail> {
+    must_chain_all(rt.alloc(), &sealed(rt.alloc(), A, P)?, CHAINS)
 }
 
 /// Which moment a call's number names, by the number that is found behind the run. Calls 12 to 15 of the run
@@ -168,17 +172,25 @@ const MOMENTS: &[(u64, Fill, u64)] = &[
     (29, Fill::Old, 3),
 ];
 
-#[test]
-fn moments(rt: HostRuntime) -> Result<(), Fail> {
-    let image = sealed(rt.alloc(), A, P)?;
-    for &(call, fill, number) in MOMENTS {
-        let ended = chained(rt.alloc(), &[(HELD, &[])], &image, &[Some((call, fill))])?;
+/// Fails unless each of these cuts leaves the number beside it, and one before the first call the image.
+fn must_name_all(
+    alloc: Global,
+    image: &[u8; 2048],
+    moments: &[(u64, Fill, u64)],
+) -> Result<(), Fail> {
+    for &(call, fill, number) in moments {
+        let ended = chained(alloc, &[(HELD, &[])], image, &[Some((call, fill))])?;
         let is_found = ended.1.as_slice() == [(0, number)].as_slice();
         must_behind(is_found, "another number", call, fill)?;
-        let stays = call != 0 || ended.0 == image;
+        let stays = call != 0 || ended.0 == *image;
         must_behind(stays, "another image", call, fill)?;
     }
     Ok(())
+}
+
+#[test]
+fn moments(rt: HostRuntime) -> Result<(), Fail> {
+    must_name_all(rt.alloc(), &sealed(rt.alloc(), A, P)?, MOMENTS)
 }
 
 /// Whether a chain may begin with an image, under a new counter.
@@ -196,8 +208,10 @@ fn begins(image: &[u8; 2048]) -> bool {
     counted_beginning::<Brand>(Blank::new(1), image)
 }
 
-/// Images of one byte throughout, or a sealed store with these bytes, and whether a chain may begin with them.
-const BEGINNINGS: &[(&str, Option<u8>, &[(usize, u8)], bool)] = &[
+/// An image of one byte throughout, or a sealed store with these bytes, and whether a chain may begin with it.
+type Beginning = (&'static str, Option<u8>, &'static [(usize, u8)], bool);
+
+const BEGINNINGS: &[Beginning] = &[
     ("zeros", Some(0), &[], false),
     ("open slots", Some(0xA5), &[], false),
     ("no seal", None, &[(1024, 0)], false),
@@ -205,12 +219,16 @@ const BEGINNINGS: &[(&str, Option<u8>, &[(usize, u8)], bool)] = &[
     ("sealed", None, &[], true),
 ];
 
-#[test]
-fn beginnings(rt: HostRuntime) -> Result<(), Fail> {
-    let sealed = sealed(rt.alloc(), A, P)?;
-    for &(name, byte, bytes, may) in BEGINNINGS {
-        let begins = begins(&filled_or(byte, &sealed, bytes));
-        must(begins == may, "another beginning", name)?;
+/// Fails unless a chain may begin with each of these images or not, as it says.
+fn must_begin_all(image: &[u8; 2048], beginnings: &[Beginning]) -> Result<(), Fail> {
+    for (name, byte, bytes, may) in beginnings {
+        let begins = begins(&filled_or(*byte, image, bytes));
+        must(begins == *may, "another beginning", name)?;
     }
     Ok(())
+}
+
+#[test]
+fn beginnings(rt: HostRuntime) -> Result<(), Fail> {
+    must_begin_all(&sealed(rt.alloc(), A, P)?, BEGINNINGS)
 }

@@ -21,11 +21,11 @@ use std::sync::ledger::Ledger;
 use taxi_units::Steps;
 
 /// How a command ended.
-#[derive(Clone, Copy, Debug, PartialEq, Eq)]
+#[derive(Clone, Copy)]
 pub enum Ended {
     /// The output was printed.
     Done,
-    /// The tariff is sound, with so many cells and this common measure.
+    /// The tariff is sound, with this number of cells and this common measure.
     Sound(u64, u64),
     /// The words are no command.
     BadWords,

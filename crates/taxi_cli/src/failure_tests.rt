@@ -1,8 +1,9 @@
 //! Each failure of the outside in turn, at each place of a run, and stores that no run begins with.
 use crate::chain_tests::chained;
 use crate::run_tests::{HELD, HIRING, RUN, has_totals, sealed};
-use crate::store_tests::filled_or;
-use crate::tests::{A, P, called, cut_in, must_answer, must_at, must_behind};
+use crate::tests::{
+    A, CALM, P, Stored, called, cut_in, must, must_answer, must_answer_over, must_at, must_behind,
+};
 use outside::{Fill, MemoryBoard};
 use std::alloc::Global;
 use std::test::Fail;
@@ -28,13 +29,16 @@ fn ran(
     called(alloc, RUN, &[A, drive], image, calls, reads)
 }
 
-/// Fails unless a run goes on over what a cut leaves of a board, with each fill.
-fn must_go_on(alloc: Global, board: &MemoryBoard, number: u64) -> Result<(), Fail> {
-    for fill in FILLS {
+/// Fails unless a run goes on over what a cut leaves of a board, with each of these fills.
+fn must_go_on(alloc: Global, board: &MemoryBoard, number: u64, fills: &[Fill]) -> Result<(), Fail> {
+    for fill in fills {
         let image = cut_in(board, board.calls(), *fill);
         let ended = chained(alloc, &[(HIRING, &[])], &image, &[None])?;
-        let status = ended.1.first().map(|answer| answer.0);
-        must_behind(status == Some(0), "no run", number, *fill)?;
+        let goes_on = match ended.1.first() {
+            Some(answer) => answer.0 == 0,
+            None => false,
+        };
+        must_behind(goes_on, "no run", number, *fill)?;
     }
     Ok(())
 }
@@ -53,7 +57,20 @@ fn must_break_off(
         "another text at call",
         number,
     )?;
-    must_go_on(alloc, &board, number)
+    must_go_on(alloc, &board, number, FILLS)
+}
+
+/// Fails unless a run breaks off as it should at each call of the board.
+fn must_break_off_all(
+    alloc: Global,
+    whole: &MemoryBoard,
+    image: &[u8; 2048],
+    calls: u64,
+) -> Result<(), Fail> {
+    for number in 1..=calls {
+        must_break_off(alloc, whole, image, number)?;
+    }
+    Ok(())
 }
 
 /// Each of the 28 calls of the board fails in a run with a loss of supply. What it leaves is cut with each fill, and
@@ -62,11 +79,8 @@ fn must_break_off(
 fn runs_go_on_after_each_failed_call(rt: HostRuntime) -> Result<(), Fail> {
     let image = sealed(rt.alloc(), A, P)?;
     let (whole, _) = ran(rt.alloc(), &image, HELD, &[], &[])?;
-    assert!(rt; whole.calls() == 28);
-    for number in 1..=28 {
-        must_break_off(rt.alloc(), &whole, &image, number)?;
-    }
-    Ok(())
+    must(whole.calls() == 28, "another run", "held")?;
+    must_break_off_all(rt.alloc(), &whole, &image, 28)
 }
 
 /// Fails unless a drive that ends at this place is carried out where a line ended there, and is else bad in this line.
@@ -88,21 +102,24 @@ fn must_be_cut_short(
     )
 }
 
-/// A drive ends at each of its places.
-#[test]
-fn drives_cut_short(rt: HostRuntime) -> Result<(), Fail> {
-    let image = sealed(rt.alloc(), A, P)?;
+/// Fails unless a drive that is cut short at any place ends as it should.
+fn must_be_cut_short_all(alloc: Global, image: &[u8; 2048], drive: &[u8]) -> Result<(), Fail> {
     let mut lines = 1;
     let mut ended = true;
-    for (place, byte) in HIRING.as_bytes().iter().enumerate() {
-        must_be_cut_short(rt.alloc(), &image, place, lines, ended)?;
-        ended = *byte == b'\n';
+    for place in 0..drive.len() {
+        must_be_cut_short(alloc, image, place, lines, ended)?;
+        ended = drive[place] == b'\n';
         if ended && lines < 100 {
             lines += 1;
         }
     }
-    assert!(rt; ended && lines == 9);
-    Ok(())
+    must(ended && lines == 9, "other lines", "a hiring")
+}
+
+/// A drive ends at each of its places.
+#[test]
+fn drives_cut_short(rt: HostRuntime) -> Result<(), Fail> {
+    must_be_cut_short_all(rt.alloc(), &sealed(rt.alloc(), A, P)?, HIRING.as_bytes())
 }
 
 /// The reads of a hiring's files, of the tariff, its bytes and its end, and of the drive likewise, and how the totals
@@ -138,12 +155,22 @@ fn must_fail_to_read(
     )
 }
 
+/// Fails unless each of these reads that fails ends the call as it should.
+fn must_fail_to_read_all(
+    alloc: Global,
+    image: &[u8; 2048],
+    reads: &[(u64, &str)],
+) -> Result<(), Fail> {
+    for (read, totals) in reads {
+        must_fail_to_read(alloc, image, *read, totals)?;
+    }
+    Ok(())
+}
+
 #[test]
 fn each_read_fails(rt: HostRuntime) -> Result<(), Fail> {
     let image = sealed(rt.alloc(), A, P)?;
-    for &(read, totals) in READS {
-        must_fail_to_read(rt.alloc(), &image, read, totals)?;
-    }
+    must_fail_to_read_all(rt.alloc(), &image, READS)?;
     let (_, status) = ran(rt.alloc(), &image, HIRING, &[], &[5])?;
     must_at(status == 0, "another status at read", 5)
 }
@@ -151,47 +178,57 @@ fn each_read_fails(rt: HostRuntime) -> Result<(), Fail> {
 /// An image with other bytes from a place on.
 fn changed(image: &[u8; 2048], place: usize, bytes: &[u8]) -> [u8; 2048] {
     let mut changed = *image;
-    for (i, byte) in bytes.iter().enumerate() {
-        if let Some(here) = place.checked_add(i).and_then(|at| changed.get_mut(at)) {
-            *here = *byte;
+    let mut at = place;
+    for byte in bytes {
+        if at < 2048 {
+            changed[at] = *byte;
+            at += 1;
         }
     }
     changed
 }
 
-/// Fails unless a run with this store prints this line alone, ends with this status and leaves the store.
-fn must_refuse(alloc: Global, image: &[u8; 2048], line: &str, status: u8) -> Result<(), Fail> {
-    must_answer(alloc, line, RUN, &[A, HIRING], image, line, status)
-}
-
-/// Stores that aren't sealed, or of which a slot isn't read: of one byte throughout, or a sealed one with other bytes,
-/// or with its first slot in the place of the second; the line and the status.
-const REFUSED: &[(Option<u8>, &[(usize, u8)], bool, &str, u8)] = &[
-    (Some(0xFF), &[], false, "NOT SEALED\n", 4),
-    (Some(0xA5), &[], false, "BAD STORE 0\n", 5),
-    (None, &[(511, 3)], false, "BAD STORE 0\n", 5),
-    (None, &[], true, "BAD STORE 0 1\n", 5),
-    (None, &[(512, 0xA5)], false, "BAD STORE 1\n", 5),
-    (None, &[(1024, 0)], false, "NOT SEALED\n", 4),
+/// Stores that aren't sealed, or of which a slot isn't read: of one byte throughout, or a sealed one with other bytes.
+const REFUSED: &[Stored] = &[
+    (
+        Some(0xFF),
+        &[],
+        (RUN, &[A, HIRING], CALM, &["NOT SEALED\n"], 4),
+    ),
+    (
+        Some(0xA5),
+        &[],
+        (RUN, &[A, HIRING], CALM, &["BAD STORE 0\n"], 5),
+    ),
+    (
+        None,
+        &[(511, 3)],
+        (RUN, &[A, HIRING], CALM, &["BAD STORE 0\n"], 5),
+    ),
+    (
+        None,
+        &[(512, 0xA5)],
+        (RUN, &[A, HIRING], CALM, &["BAD STORE 1\n"], 5),
+    ),
+    (
+        None,
+        &[(1024, 0)],
+        (RUN, &[A, HIRING], CALM, &["NOT SEALED\n"], 4),
+    ),
 ];
 
-/// An image whose second slot is the first, where it is asked.
-fn doubled(image: &[u8; 2048], is_doubled: bool) -> [u8; 2048] {
-    if is_doubled {
-        changed(image, 512, &image[..512])
-    } else {
-        *image
-    }
+/// Fails unless a run over a store has this line for its answer, with 5.
+fn must_refuse(alloc: Global, image: &[u8; 2048], line: &str) -> Result<(), Fail> {
+    must_answer(alloc, image, RUN, &[A, HIRING], CALM, &[line], 5)
 }
 
+/// And a store with its first slot in the place of the second.
 #[test]
 fn stores_that_are_refused(rt: HostRuntime) -> Result<(), Fail> {
-    let one = sealed(rt.alloc(), A, P)?;
-    for &(byte, bytes, is_doubled, line, status) in REFUSED {
-        let image = doubled(&filled_or(byte, &one, bytes), is_doubled);
-        must_refuse(rt.alloc(), &image, line, status)?;
-    }
-    Ok(())
+    let image = sealed(rt.alloc(), A, P)?;
+    must_answer_over(rt.alloc(), &image, REFUSED)?;
+    let doubled = changed(&image, 512, &image[..512]);
+    must_refuse(rt.alloc(), &doubled, "BAD STORE 0 1\n")
 }
 
 /// A store whose held trip has another rest than a trip may have.
@@ -200,10 +237,6 @@ fn a_trip_that_is_refused(rt: HostRuntime) -> Result<(), Fail> {
     let image = sealed(rt.alloc(), A, P)?;
     let (held, _) = ran(rt.alloc(), &image, "U 1767225600\nK H\nI 0 1\n", &[], &[])?;
     let rest = 29_584_800_000_u128.to_be_bytes();
-    must_refuse(
-        rt.alloc(),
-        &changed(held.image(), 657, &rest),
-        "BAD STORE TRIP\n",
-        5,
-    )
+    let image = changed(held.image(), 657, &rest);
+    must_refuse(rt.alloc(), &image, "BAD STORE TRIP\n")
 }

@@ -12,7 +12,7 @@ use seal_store::{Params, Seal};
 use taxi_units::FIRST_SECOND;
 
 /// The seal of a meter without a store: in mode S, with a hold of a minute, and local time that is UTC.
-/// It is the first of the taxi `DRY`, secured on the first day of 2000, for a tariff of so many decimals
+/// It is the first of the taxi `DRY`, secured on the first day of 2000, for a tariff of these decimals
 /// whose digest is zeros. This project's own.
 pub fn fare_seal(constant: Constant, decimals: u8) -> Seal
     ensures constant { result.params.constant ≡ constant }

@@ -72,7 +72,7 @@ pub fn ten_thousand() -> Constant
 }
 
 /// The seal of that meter: in mode S, with a hold of a minute, and local time an hour ahead of UTC. It is
-/// the first of the taxi `GEN`, secured on 2025-12-01, for a tariff of so many decimals whose digest is
+/// the first of the taxi `GEN`, secured on 2025-12-01, for a tariff of these decimals whose digest is
 /// zeros. This project's own.
 pub fn gen_seal(decimals: u8) -> Seal
     requires { decimals ≤ 3 }

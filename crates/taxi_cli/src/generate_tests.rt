@@ -5,7 +5,7 @@ ghost use Rattle.seal_store.specs.Ranges.{IsSeal};
 
 use crate::generate::{city_tariff, gen_seal, ten_thousand};
 use crate::tariff::tariff_of_text;
-use crate::tests::{A, ZEROS, called, must, must_answer, must_answer_amid};
+use crate::tests::{A, CALM, Call, SEVENS, ZEROS, called, must, must_answer, must_answer_all};
 use crate::totals_text::push_summary;
 use meter_run::run_events;
 use outside::QuietBoard;
@@ -20,54 +20,64 @@ use taxi_units::{Line, Steps};
 use totaliser_store::Durable;
 use verify_bench::Generator;
 
-/// A seed and a number of trips, what is printed, and the status.
-const ROWS: &[(&str, &str, &str, u8)] = &[
+/// Seeds and numbers of trips, over a store that no call looks at.
+const ROWS: &[Call] = &[
     (
-        "1",
-        "40",
-        "GEN 1 40\nEVENTS 171077\nNUMBER 51\nDISTANCE 75136.100 m\nHIRED 54872.100 m\nHIRINGS 40\n\
+        &["gen", "1", "40"],
+        &[A],
+        CALM,
+        &[
+            "GEN 1 40\nEVENTS 171077\nNUMBER 51\nDISTANCE 75136.100 m\nHIRED 54872.100 m\nHIRINGS 40\n\
          SUPPLEMENTS 23.00\nFARE 327.80\n",
+        ],
         0,
     ),
     (
-        "7",
-        "20",
-        "GEN 7 20\nEVENTS 97915\nNUMBER 26\nDISTANCE 42401.400 m\nHIRED 28866.400 m\nHIRINGS 20\n\
+        &["gen", "7", "20"],
+        &[A],
+        CALM,
+        &[
+            "GEN 7 20\nEVENTS 97915\nNUMBER 26\nDISTANCE 42401.400 m\nHIRED 28866.400 m\nHIRINGS 20\n\
          SUPPLEMENTS 17.50\nFARE 170.20\n",
+        ],
         0,
     ),
     (
-        "007",
-        "0001",
-        "GEN 7 1\nEVENTS 4662\nNUMBER 2\nDISTANCE 2129.500 m\nHIRED 1751.500 m\nHIRINGS 1\n\
+        &["gen", "007", "0001"],
+        &[A],
+        CALM,
+        &[
+            "GEN 7 1\nEVENTS 4662\nNUMBER 2\nDISTANCE 2129.500 m\nHIRED 1751.500 m\nHIRINGS 1\n\
          SUPPLEMENTS 5.00\nFARE 9.00\n",
+        ],
         0,
     ),
-    ("1", "0", "BAD WORDS\n", 1),
-    ("1", "1001", "BAD WORDS\n", 1),
-    ("1", "00040", "BAD WORDS\n", 1),
-    ("1", "+40", "BAD WORDS\n", 1),
-    ("", "40", "BAD WORDS\n", 1),
-    ("+1", "40", "BAD WORDS\n", 1),
-    ("1 ", "40", "BAD WORDS\n", 1),
-    ("18446744073709551616", "40", "BAD WORDS\n", 1),
-    ("000000000000000000001", "40", "BAD WORDS\n", 1),
+    (&["gen", "1", "0"], &[A], CALM, &["BAD WORDS\n"], 1),
+    (&["gen", "1", "1001"], &[A], CALM, &["BAD WORDS\n"], 1),
+    (&["gen", "1", "00040"], &[A], CALM, &["BAD WORDS\n"], 1),
+    (&["gen", "1", "+40"], &[A], CALM, &["BAD WORDS\n"], 1),
+    (&["gen", "", "40"], &[A], CALM, &["BAD WORDS\n"], 1),
+    (&["gen", "+1", "40"], &[A], CALM, &["BAD WORDS\n"], 1),
+    (&["gen", "1 ", "40"], &[A], CALM, &["BAD WORDS\n"], 1),
+    (
+        &["gen", "18446744073709551616", "40"],
+        &[A],
+        CALM,
+        &["BAD WORDS\n"],
+        1,
+    ),
+    (
+        &["gen", "000000000000000000001", "40"],
+        &[A],
+        CALM,
+        &["BAD WORDS\n"],
+        1,
+    ),
 ];
 
 #[test]
 fn generated_drives(rt: HostRuntime) -> Result<(), Fail> {
-    for &(seed, trips, output, status) in ROWS {
-        must_answer(
-            rt.alloc(),
-            output,
-            &["gen", seed, trips],
-            &[A],
-            &[7; 2048],
-            output,
-            status,
-        )?;
-    }
-    Ok(())
+    must_answer_all(rt.alloc(), SEVENS, ROWS)
 }
 
 /// The greatest seed.
@@ -86,17 +96,7 @@ fn the_last_seed(rt: HostRuntime) -> Result<(), Fail> {
 /// A board that fails at the one print.
 #[test]
 fn a_failing_board(rt: HostRuntime) -> Result<(), Fail> {
-    must_answer_amid(
-        rt.alloc(),
-        "a print",
-        &["gen", "1", "1"],
-        &[],
-        ZEROS,
-        &[1],
-        &[],
-        "",
-        8,
-    )
+    must_answer(rt.alloc(), ZEROS, &["gen", "1", "1"], &[], (1, 0), &[], 8)
 }
 
 /// The totals after the drive of the seed 7 with 1,000 trips, as the run leaves them on a new store.
@@ -120,7 +120,7 @@ fn totals_of_the_run<L: Ledger>(tables: &Tables, seal: &Seal, steps: &mut Steps<
     }
 }
 
-/// The same, from the text of the city tariff on.
+/// The totals of a generated drive, from the text of the city tariff on.
 fn city_totals<L: Ledger>(alloc: Global, blank: Blank) -> Option<Line>
     requires name { blank.name ≡ L.name }
     requires parts { blank.parts ≡ L.parts }

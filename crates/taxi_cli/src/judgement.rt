@@ -19,7 +19,7 @@ use verify_bench::{
     Reading, ReadingsFault, cross_overs, do_all_pass, expect, read_readings, report,
 };
 
-/// A text of readings has at most so many bytes.
+/// How many bytes a text of readings has at most.
 const MOST: usize = 1_048_576;
 
 /// What is printed of a verification, and whether every row of its report passes.

@@ -96,22 +96,43 @@ fn stored(image: &[u8; 2048]) -> Option<Durable> {
     counted::<Brand>(Blank::new(1), image)
 }
 
-/// The receipts in a printed text, each of which is whole.
+/// What was read of a printed text: its whole receipts, the lines of one that has begun, and the line that has.
+#[derive(Drop)]
+struct Read {
+    receipts: Vec<Receipt>,
+    lines: Vec<u8>,
+    line: Vec<u8>,
+}
+
+/// Takes the line that was read.
+fn take_line(read: &mut Read) -> Result<(), Fail> {
+    if read.line.starts_with(b"RECEIPT ") || !read.lines.is_empty() {
+        read.lines.extend_from_slice(read.line.as_slice())?;
+    }
+    if read.line.as_slice() == b"END\n".as_slice() {
+        let (receipt, _) = read_receipt(read.lines.as_slice()).ok_or("no receipt")?;
+        read.receipts.push(receipt)?;
+        read.lines.clear();
+    }
+    read.line.clear();
+    Ok(())
+}
+
+/// The receipts in a printed text of whole lines, each of which is whole.
 fn receipts_in(alloc: Global, text: &[u8]) -> Result<Vec<Receipt>, Fail> {
-    let mut receipts = Vec::new(alloc);
-    let mut lines = Vec::new(alloc);
-    for line in text.split_inclusive(|byte| *byte == b'\n') {
-        if line.starts_with(b"RECEIPT ") || !lines.is_empty() {
-            lines.extend_from_slice(line)?;
-        }
-        if line == b"END\n".as_slice() {
-            let (receipt, _) = read_receipt(lines.as_slice()).ok_or("no receipt")?;
-            receipts.push(receipt)?;
-            lines.clear();
+    let mut read = Read {
+        receipts: Vec::new(alloc),
+        lines: Vec::new(alloc),
+        line: Vec::new(alloc),
+    };
+    for byte in text {
+        read.line.push(*byte)?;
+        if *byte == b'\n' {
+            take_line(&mut read)?;
         }
     }
-    if lines.is_empty() {
-        return Ok(receipts);
+    if read.lines.is_empty() && read.line.is_empty() {
+        return Ok(read.receipts);
     }
     Err(Fail::new("a receipt is broken off"))
 }
@@ -159,7 +180,7 @@ fn ran(
     called(alloc, RUN, &[CITY, drive], image, fail, &[])
 }
 
-/// The same run broken off at a call of the board, and what a cut then leaves of it.
+/// A run that is broken off at a call of the board, and what a cut then leaves of it.
 fn cut_off(
     alloc: Global,
     image: &[u8; 2048],
@@ -192,19 +213,23 @@ fn cut_off(
 /// Fails unless each receipt that a board has printed has at most this number.
 fn must_have_entries(alloc: Global, board: &MemoryBoard, number: u64) -> Result<(), Fail> {
     let printed = receipts_in(alloc, board.printed())?;
-    let have_entries = printed.iter().all(|receipt| receipt.number <= number);
-    must(have_entries, "an entry is lost", "a receipt")
+    for receipt in printed.as_slice() {
+        must(receipt.number <= number, "an entry is lost", "a receipt")?;
+    }
+    Ok(())
 }
 
-/// How many of these trips were aborted.
-fn aborted(receipts: &[Receipt]) -> usize {
-    receipts
-        .iter()
-        .filter(|receipt| receipt.kind == Kind::Aborted)
-        .count()
+/// Whether one of these trips was aborted.
+fn has_aborted(receipts: &[Receipt]) -> bool {
+    for receipt in receipts {
+        if receipt.kind == Kind::Aborted {
+            return true;
+        }
+    }
+    false
 }
 
-/// What a cut leaves of a run that breaks off at a call of the board, and how many trips the whole run aborts. Fails
+/// What a cut leaves of a run that breaks off at a call of the board, and whether the whole run aborts a trip. Fails
 /// unless each receipt that was printed has an entry by its number, and the sums are those that are found.
 fn broken_off(
     alloc: Global,
@@ -212,7 +237,7 @@ fn broken_off(
     drive: &str,
     dice: &mut Dice,
     sums: &mut Sums,
-) -> Result<([u8; 2048], usize), Fail> {
+) -> Result<([u8; 2048], bool), Fail> {
     let (whole, status) = ran(alloc, image, drive, &[])?;
     must(status == 0, "a run fails", drive)?;
     let (left, board) = cut_off(alloc, image, drive, &whole, dice)?;
@@ -221,7 +246,7 @@ fn broken_off(
     let receipts = receipts_in(alloc, whole.printed())?;
     *sums = added(*sums, receipts.as_slice(), found.number);
     must(sums_of(&found) == *sums, "the totals are others", drive)?;
-    Ok((left, aborted(receipts.as_slice())))
+    Ok((left, has_aborted(receipts.as_slice())))
 }
 
 /// Each receipt that was printed has its entry among those that are found after a cut, and the totals are those of
@@ -242,7 +267,7 @@ fn a_hundred_cuts(rt: HostRuntime) -> Result<(), Fail> {
         let drive = drive_of(rt.alloc(), &mut second, &mut dice)?;
         let (left, aborted) = broken_off(rt.alloc(), &image, drive.as_str(), &mut dice, &mut sums)?;
         image = left;
-        runs_that_aborted = runs_that_aborted.saturating_add((aborted > 0) as u64);
+        runs_that_aborted = runs_that_aborted.saturating_add(aborted as u64);
     }
     must(
         sums.hirings > 50 && runs_that_aborted > 10,

@@ -18,7 +18,7 @@ use std::sync::ledger::Ledger;
 use taxi_units::{Line, Steps};
 
 /// Why rules weren't read.
-#[derive(Clone, Copy, Debug, PartialEq, Eq)]
+#[derive(Clone, Copy)]
 pub enum RulesFault {
     /// A read failed.
     ReadFault,

@@ -2,7 +2,7 @@
 ghost use Rattle.std.specs.Prelude.{◌≡◌, ◌<◌};
 ghost use Rattle.interval_clock.specs.Offsets.{IsSecond};
 
-use crate::tests::{ZEROS, called, must, must_answer_amid, must_at, repeated};
+use crate::tests::{CALM, Call, SEVENS, ZEROS, called, must, must_answer_all, must_at, repeated};
 use interval_clock::civil;
 use seal_store::read_params;
 use std::alloc::Global;
@@ -28,117 +28,163 @@ const NEW_YEAR: &str =
 
 const NORTH_2026: &str = "offset 946684800 3600\noffset 1774746000 7200\noffset 1792890000 3600\n";
 
-/// Rules, the years, a read and a print that fail, the output and the status. The seconds are those of
-/// Python's datetime and calendar.
-const LISTS: &[(&str, &str, &str, u64, u64, &str, u8)] = &[
-    (NORTH, "2026", "2026", 0, 0, NORTH_2026, 0),
+/// Rules and years, and reads and prints that fail. The seconds are those of Python's datetime and calendar.
+const LISTS: &[Call] = &[
     (
-        SOUTH,
-        "2026",
-        "2026",
-        0,
-        0,
-        "offset 946684800 39600\noffset 1775347200 36000\noffset 1791072000 39600\n",
+        &["offsets", "r", "2026", "2026"],
+        &[NORTH],
+        (0, 0),
+        &[NORTH_2026],
         0,
     ),
     (
-        WEST,
-        "2014",
-        "2014",
-        0,
-        0,
-        "offset 946684800 -10800\noffset 1395543600 -14400\noffset 1412481600 -10800\n",
+        &["offsets", "r", "2026", "2026"],
+        &[SOUTH],
+        (0, 0),
+        &["offset 946684800 39600\noffset 1775347200 36000\noffset 1791072000 39600\n"],
         0,
     ),
     (
-        NORTH,
-        "2199",
-        "2199",
-        0,
-        0,
-        "offset 946684800 3600\noffset 7234275600 7200\noffset 7252419600 3600\n",
+        &["offsets", "r", "2014", "2014"],
+        &[WEST],
+        (0, 0),
+        &["offset 946684800 -10800\noffset 1395543600 -14400\noffset 1412481600 -10800\n"],
         0,
     ),
     (
-        NEW_YEAR,
-        "2000",
-        "2000",
-        0,
-        0,
-        "offset 946684800 7200\noffset 972781200 3600\n",
+        &["offsets", "r", "2199", "2199"],
+        &[NORTH],
+        (0, 0),
+        &["offset 946684800 3600\noffset 7234275600 7200\noffset 7252419600 3600\n"],
         0,
     ),
     (
-        "standard 3600\nsummer 7200\nbegin last sun mar 01:00\nend first sun mar 01:00\n",
-        "2026",
-        "2026",
+        &["offsets", "r", "2000", "2000"],
+        &[NEW_YEAR],
+        (0, 0),
+        &["offset 946684800 7200\noffset 972781200 3600\n"],
         0,
-        0,
-        "BAD RULES SameMonth\n",
-        17,
     ),
-    ("", "2026", "2026", 0, 0, "BAD RULES BadLine 1\n", 17),
     (
-        "standard 3600\nsummer 7200\nbegin last sun mar 01:00\nend last sun oct 01:00",
-        "2026",
-        "2026",
-        0,
-        0,
-        "BAD RULES BadLine 4\n",
+        &["offsets", "r", "2026", "2026"],
+        &["standard 3600\nsummer 7200\nbegin last sun mar 01:00\nend first sun mar 01:00\n"],
+        (0, 0),
+        &["BAD RULES SameMonth\n"],
         17,
     ),
     (
-        "standard 3600\nsummer 7200\nbegin last sun mar 01:00\nend last sun oct 01:00\n\n",
-        "2026",
-        "2026",
-        0,
-        0,
-        "BAD RULES BadLine 5\n",
+        &["offsets", "r", "2026", "2026"],
+        &[""],
+        (0, 0),
+        &["BAD RULES BadLine 1\n"],
         17,
     ),
-    (NORTH, "2026", "2041", 0, 0, "BAD WORDS\n", 1),
-    (NORTH, "2026", "2025", 0, 0, "BAD WORDS\n", 1),
-    (NORTH, "1999", "2000", 0, 0, "BAD WORDS\n", 1),
-    (NORTH, "2199", "2200", 0, 0, "BAD WORDS\n", 1),
-    (NORTH, "02026", "2026", 0, 0, "BAD WORDS\n", 1),
-    (NORTH, "2026", "+2026", 0, 0, "BAD WORDS\n", 1),
-    (NORTH, "2026", "", 0, 0, "BAD WORDS\n", 1),
+    (
+        &["offsets", "r", "2026", "2026"],
+        &["standard 3600\nsummer 7200\nbegin last sun mar 01:00\nend last sun oct 01:00"],
+        (0, 0),
+        &["BAD RULES BadLine 4\n"],
+        17,
+    ),
+    (
+        &["offsets", "r", "2026", "2026"],
+        &["standard 3600\nsummer 7200\nbegin last sun mar 01:00\nend last sun oct 01:00\n\n"],
+        (0, 0),
+        &["BAD RULES BadLine 5\n"],
+        17,
+    ),
+    (
+        &["offsets", "r", "2026", "2041"],
+        &[NORTH],
+        (0, 0),
+        &["BAD WORDS\n"],
+        1,
+    ),
+    (
+        &["offsets", "r", "2026", "2025"],
+        &[NORTH],
+        (0, 0),
+        &["BAD WORDS\n"],
+        1,
+    ),
+    (
+        &["offsets", "r", "1999", "2000"],
+        &[NORTH],
+        (0, 0),
+        &["BAD WORDS\n"],
+        1,
+    ),
+    (
+        &["offsets", "r", "2199", "2200"],
+        &[NORTH],
+        (0, 0),
+        &["BAD WORDS\n"],
+        1,
+    ),
+    (
+        &["offsets", "r", "02026", "2026"],
+        &[NORTH],
+        (0, 0),
+        &["BAD WORDS\n"],
+        1,
+    ),
+    (
+        &["offsets", "r", "2026", "+2026"],
+        &[NORTH],
+        (0, 0),
+        &["BAD WORDS\n"],
+        1,
+    ),
+    (
+        &["offsets", "r", "2026", ""],
+        &[NORTH],
+        (0, 0),
+        &["BAD WORDS\n"],
+        1,
+    ),
     // The words are asked before the rules.
-    ("", "2026", "2041", 0, 0, "BAD WORDS\n", 1),
-    // Reads 1 and 2 are those of the rules.
-    (NORTH, "2026", "2026", 1, 0, "READ FAULT\n", 7),
-    (NORTH, "2026", "2026", 2, 0, "READ FAULT\n", 7),
-    (NORTH, "2026", "2026", 0, 1, "", 8),
     (
-        NORTH,
-        "2026",
-        "2026",
-        0,
-        3,
-        "offset 946684800 3600\noffset 1774746000 7200\n",
+        &["offsets", "r", "2026", "2041"],
+        &[""],
+        (0, 0),
+        &["BAD WORDS\n"],
+        1,
+    ),
+    // Reads 1 and 2 are those of the rules.
+    (
+        &["offsets", "r", "2026", "2026"],
+        &[NORTH],
+        (0, 1),
+        &["READ FAULT\n"],
+        7,
+    ),
+    (
+        &["offsets", "r", "2026", "2026"],
+        &[NORTH],
+        (0, 2),
+        &["READ FAULT\n"],
+        7,
+    ),
+    (
+        &["offsets", "r", "2026", "2026"],
+        &[NORTH],
+        (1, 0),
+        &[""],
         8,
     ),
-    ("", "2026", "2026", 0, 1, "", 8),
+    (
+        &["offsets", "r", "2026", "2026"],
+        &[NORTH],
+        (3, 0),
+        &["offset 946684800 3600\noffset 1774746000 7200\n"],
+        8,
+    ),
+    (&["offsets", "r", "2026", "2026"], &[""], (1, 0), &[""], 8),
 ];
 
 #[test]
 fn lists_of_offsets(rt: HostRuntime) -> Result<(), Fail> {
-    for &(rules, from, to, read, print, output, status) in LISTS {
-        let words = ["offsets", "r", from, to];
-        let reads = [read];
-        must_answer_amid(
-            rt.alloc(),
-            rules,
-            &words,
-            &[rules],
-            &[7; 2048],
-            &[print],
-            &reads,
-            output,
-            status,
-        )?;
-    }
-    Ok(())
+    must_answer_all(rt.alloc(), SEVENS, LISTS)
 }
 
 /// How many bytes a text of rules has, the last year, how the list begins, and how many lines it has: fifteen years at
@@ -151,21 +197,37 @@ const SIZES: &[(usize, &str, &str, u64)] = &[
 ];
 
 /// How many lines a text has.
-fn lines_in(text: &[u8]) -> usize {
-    text.iter().filter(|byte| **byte == b'\n').count()
+fn lines_in(text: &[u8]) -> u64 {
+    let mut lines = 0u64;
+    for byte in text {
+        if *byte == b'\n' {
+            lines = lines.saturating_add(1);
+        }
+    }
+    lines
+}
+
+/// Fails unless the list of rules with a number of bytes, to a last year, begins so, and has a number of lines.
+fn must_list(alloc: Global, size: usize, to: &str, start: &str, lines: u64) -> Result<(), Fail> {
+    let rules = repeated(alloc, NORTH, "#", size.saturating_sub(NORTH.len()))?;
+    let words = ["offsets", "r", "2026", to];
+    let (board, _) = called(alloc, &words, &[rules.as_str()], ZEROS, &[], &[])?;
+    let is_listed = board.printed().starts_with(start.as_bytes())
+        && lines_in(board.printed()) == lines;
+    must_at(is_listed, "another list, bytes", size as u64)
+}
+
+/// Fails unless the list of rules of each of these sizes is as it should be.
+fn must_list_all(alloc: Global, sizes: &[(usize, &str, &str, u64)]) -> Result<(), Fail> {
+    for (size, to, start, lines) in sizes {
+        must_list(alloc, *size, to, start, *lines)?;
+    }
+    Ok(())
 }
 
 #[test]
 fn the_longest_texts(rt: HostRuntime) -> Result<(), Fail> {
-    for &(size, to, start, lines) in SIZES {
-        let rules = repeated(rt.alloc(), NORTH, "#", size.saturating_sub(NORTH.len()))?;
-        let words = ["offsets", "r", "2026", to];
-        let (board, _) = called(rt.alloc(), &words, &[rules.as_str()], ZEROS, &[], &[])?;
-        let is_listed = board.printed().starts_with(start.as_bytes())
-            && lines_in(board.printed()) as u64 == lines;
-        must_at(is_listed, "another list, bytes", size as u64)?;
-    }
-    Ok(())
+    must_list_all(rt.alloc(), SIZES)
 }
 
 /// The local minute of the day at a second, by the offsets of a text of parameters.
@@ -180,7 +242,7 @@ fn minute_at<L: Ledger>(blank: Blank, params: &[u8], second: u64) -> Option<u16>
     Some(civil(&params.offsets, second, &mut steps).minute)
 }
 
-/// The same, under a ledger of its own.
+/// The minute of the day at a second under some parameters, with a ledger of its own.
 fn minute_afresh(params: &[u8], second: u64) -> Option<u16>
     requires { IsSecond second }
 {
@@ -204,19 +266,24 @@ fn params_with(alloc: Global, list: &[u8]) -> Result<Vec<u8>, Fail> {
     Ok(params)
 }
 
+/// Fails unless a local minute is shown at each of these seconds, by the offsets of a text of parameters.
+fn must_show(params: &[u8], minutes: &[(u64, u16)]) -> Result<(), Fail> {
+    for &(second, minute) in minutes {
+        let is_shown = FIRST_SECOND <= second
+            && second <= LAST_SECOND
+            && minute_afresh(params, second) == Some(minute);
+        must_at(is_shown, "another minute at second", second)?;
+    }
+    Ok(())
+}
+
 /// The printed lines stand in parameters in the place of their offsets, and the clock goes from 2 to 3 in
 /// March and from 3 back to 2 in October.
 #[test]
 fn the_printed_lines_are_offsets_of_parameters(rt: HostRuntime) -> Result<(), Fail> {
     let words = ["offsets", "r", "2026", "2026"];
     let (board, status) = called(rt.alloc(), &words, &[NORTH], ZEROS, &[], &[])?;
-    let params = params_with(rt.alloc(), board.printed())?;
     must(status == 0, "another status", "offsets")?;
-    for &(second, minute) in MINUTES {
-        let is_shown = FIRST_SECOND <= second
-            && second <= LAST_SECOND
-            && minute_afresh(params.as_slice(), second) == Some(minute);
-        must_at(is_shown, "another minute at second", second)?;
-    }
-    Ok(())
+    let params = params_with(rt.alloc(), board.printed())?;
+    must_show(params.as_slice(), MINUTES)
 }

@@ -24,7 +24,7 @@ pub struct Opening {
 }
 
 /// Why it can't be told what the store stands for. Slots 0 and 1 are the totals', 2 and 3 the seal's.
-#[derive(Clone, Copy, Debug, PartialEq, Eq)]
+#[derive(Clone, Copy)]
 pub enum StoreFault {
     /// This slot is open, and its body isn't read.
     BadSlot(u8),

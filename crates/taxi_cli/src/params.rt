@@ -9,7 +9,7 @@ use seal_store::{ParamFault, Params, read_params};
 use std::alloc::Global;
 
 /// Why parameters weren't read.
-#[derive(Clone, Copy, Debug, PartialEq, Eq)]
+#[derive(Clone, Copy)]
 pub enum ParamsFault {
     /// A read failed.
     ReadFault,
@@ -19,7 +19,7 @@ pub enum ParamsFault {
     NoMemory,
 }
 
-/// A parameter text has at most so many bytes.
+/// How many bytes a parameter text has at most.
 const MOST: usize = 65_536;
 
 /// Reads the parameters of a word, to the end of its file where they are accepted.

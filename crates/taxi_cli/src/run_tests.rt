@@ -1,13 +1,14 @@
 //! Runs on a sealed store, over boards in memory.
-use crate::store_tests::{filled_or, with_bytes};
+use crate::store_tests::with_bytes;
 use crate::tests::{
-    A, FILLS, P, ZEROS, called, cut_in, joined, must, must_answer, must_at, must_behind,
+    A, CALM, P, Stored, ZEROS, called, cut_in, cuts_of, joined, must, must_answer,
+    must_answer_over, must_at, must_behind,
 };
 use outside::{Fill, MemoryBoard};
 use std::alloc::Global;
 use std::test::Fail;
 
-/// The same, rounded down.
+/// Tariff A, but that its fares are rounded down.
 const BEHIND: &str =
     "decimals 2\nstep 0.20 behind\ninitial 3.80 covers 0.40\nrate 0.20 per 117.4 m, 0.20 per 25.2 s\n";
 
@@ -43,7 +44,7 @@ const SEALED_CITY: &str = "TAXI LX-4711\nCONSTANT 10000\nSECURED 2025-12-01\n\
 /// A hiring of 234.8 m, which the cover takes exactly.
 pub(crate) const HIRING: &str = "U 1767225600\nK H\nI 0 1\nI 20 117\nK S\nI 8 1\nK C\nI 0 1\n";
 
-/// The same over a loss of supply for a minute.
+/// A hiring of 234.8 m over a loss of supply for a minute.
 pub(crate) const HELD: &str =
     "U 1767225600\nK H\nI 0 1\nI 20 10\nD\nU 1767225660\nI 20 107\nK S\nI 8 1\nK C\nI 0 1\n";
 
@@ -299,12 +300,17 @@ fn must_run(alloc: Global, row: &Row) -> Result<(), Fail> {
     )
 }
 
-#[test]
-fn runs(rt: HostRuntime) -> Result<(), Fail> {
-    for row in ROWS {
-        must_run(rt.alloc(), row)?;
+/// Fails unless the run of each of these rows comes to what the row says.
+fn must_run_all(alloc: Global, rows: &[Row]) -> Result<(), Fail> {
+    for row in rows {
+        must_run(alloc, row)?;
     }
     Ok(())
+}
+
+#[test]
+fn runs(rt: HostRuntime) -> Result<(), Fail> {
+    must_run_all(rt.alloc(), ROWS)
 }
 
 /// A trip through the city of 6 km with a minute of waiting and a piece of luggage: 51 display steps.
@@ -386,59 +392,42 @@ const NO_TEXT: &str =
     "WRONG TARIFF 2645762409b70e5ab72a0a803b7d1a341373264e56971a8f44cb1969489d5f9b \
      e3b0c44298fc1c149afbf4c8996fb92427ae41e4649b934ca495991b7852b855\n";
 
-/// Runs that write nothing: over zeros, or a sealed store with other bytes, with a tariff and a drive; the output and
-/// the status. The last is over a store without a number for another hiring.
-const QUIET: &[(&str, Option<u8>, &[(usize, u8)], &str, &str, &str, u8)] = &[
-    ("blank", Some(0), &[], A, HIRING, "NOT SEALED\n", 4),
-    ("no text", None, &[], "", HIRING, NO_TEXT, 6),
+/// Runs that write nothing: over zeros, or a sealed store with other bytes. The last is over a store without a number
+/// for another hiring.
+const QUIET: &[Stored] = &[
     (
-        "ended",
+        Some(0),
+        &[],
+        (RUN, &[A, HIRING], CALM, &["NOT SEALED\n"], 4),
+    ),
+    (None, &[], (RUN, &["", HIRING], CALM, &[NO_TEXT], 6)),
+    (
         None,
         LAST_NUMBER,
-        A,
-        "U 1767225600\nK H\nI 5 1\nI 0 1\n",
-        "FOR HIRE T1 Z1\nREFUSED ENDED\n",
-        0,
+        (
+            RUN,
+            &[A, "U 1767225600\nK H\nI 5 1\nI 0 1\n"],
+            CALM,
+            &["FOR HIRE T1 Z1\nREFUSED ENDED\n"],
+            0,
+        ),
     ),
 ];
 
 #[test]
 fn runs_that_write_nothing(rt: HostRuntime) -> Result<(), Fail> {
-    let good = sealed(rt.alloc(), A, P)?;
-    for &(name, byte, bytes, tariff, drive, output, status) in QUIET {
-        let image = filled_or(byte, &good, bytes);
-        must_answer(
-            rt.alloc(),
-            name,
-            RUN,
-            &[tariff, drive],
-            &image,
-            output,
-            status,
-        )?;
-    }
-    Ok(())
+    must_answer_over(rt.alloc(), &sealed(rt.alloc(), A, P)?, QUIET)
 }
 
 /// A held trip of a position that its tariff hasn't.
 #[test]
 fn a_trip_that_does_not_fit(rt: HostRuntime) -> Result<(), Fail> {
     let held = held(rt.alloc())?;
+    let is_held = (held[512], held[593], held[611]) == (0xa5, 1, 1);
+    must(is_held, "another store", "held")?;
     let image = with_bytes(&held, &[(611, 2)]);
-    must(
-        (held[512], held[593], held[611]) == (0xa5, 1, 1),
-        "another store",
-        "held",
-    )?;
-    must_answer(
-        rt.alloc(),
-        "position 2",
-        RUN,
-        &[A, HIRING],
-        &image,
-        "BAD STORE TRIP\n",
-        5,
-    )
+    let output = ["BAD STORE TRIP\n"];
+    must_answer(rt.alloc(), &image, RUN, &[A, HIRING], CALM, &output, 5)
 }
 
 /// The read that fails, the output, and how the totals begin behind it. Reads 1 and 2 are the tariff's, 3 and 4 the
@@ -470,13 +459,21 @@ fn must_break_at(
     must_at(has_number, "other totals at read", read)
 }
 
-#[test]
-fn failing_reads(rt: HostRuntime) -> Result<(), Fail> {
-    let image = sealed(rt.alloc(), A, P)?;
-    for &(read, output, number) in READS {
-        must_break_at(rt.alloc(), &image, read, output, number)?;
+/// Fails unless a run breaks as it should at each of these reads.
+fn must_break_at_all(
+    alloc: Global,
+    image: &[u8; 2048],
+    reads: &[(u64, &str, &str)],
+) -> Result<(), Fail> {
+    for (read, output, number) in reads {
+        must_break_at(alloc, image, *read, output, number)?;
     }
     Ok(())
+}
+
+#[test]
+fn failing_reads(rt: HostRuntime) -> Result<(), Fail> {
+    must_break_at_all(rt.alloc(), &sealed(rt.alloc(), A, P)?, READS)
 }
 
 /// Fails unless a run in which this call of the board fails has printed a beginning of what the whole run prints, and
@@ -498,16 +495,26 @@ fn must_begin(
     must_at(1 <= number && number <= 3, "another number at call", failed)
 }
 
+/// Fails unless a run goes on as it should after each call of the board that fails.
+fn must_begin_all(
+    alloc: Global,
+    whole: &MemoryBoard,
+    image: &[u8; 2048],
+    calls: u64,
+) -> Result<(), Fail> {
+    for failed in 1..=calls {
+        must_begin(alloc, whole, image, failed)?;
+    }
+    Ok(())
+}
+
 /// Each call of the board that fails in a run with a loss of supply.
 #[test]
 fn failing_boards(rt: HostRuntime) -> Result<(), Fail> {
     let image = sealed(rt.alloc(), A, P)?;
     let (whole, status) = called(rt.alloc(), RUN, &[A, HELD], &image, &[], &[])?;
-    assert!(rt; (status, whole.calls()) == (0, 28));
-    for failed in 1..=28 {
-        must_begin(rt.alloc(), &whole, &image, failed)?;
-    }
-    Ok(())
+    must((status, whole.calls()) == (0, 28), "another run", "held")?;
+    must_begin_all(rt.alloc(), &whole, &image, 28)
 }
 
 /// The least number, and the greatest, that a cut in a call of the run may leave. Calls 12 to 15 commit the held
@@ -523,18 +530,26 @@ fn numbers_at(call: u64) -> (u8, u8) {
     }
 }
 
+/// Fails unless each of these cuts of a run leaves a number that it may leave.
+fn must_leave_numbers(
+    alloc: Global,
+    board: &MemoryBoard,
+    cuts: &[(u64, Fill)],
+) -> Result<(), Fail> {
+    for &(number, fill) in cuts {
+        let (least, most) = numbers_at(number);
+        let found = number_of(alloc, &cut_in(board, number, fill))?;
+        let is_within = least <= found && found <= most;
+        must_behind(is_within, "another number", number, fill)?;
+    }
+    Ok(())
+}
+
 /// A cut in each call of a run with a loss of supply.
 #[test]
 fn cuts_through_a_run(rt: HostRuntime) -> Result<(), Fail> {
     let (board, status) = ran(rt.alloc(), A, P, HELD)?;
-    assert!(rt; (status, board.calls()) == (0, 28));
-    for number in 1..=28 {
-        let (least, most) = numbers_at(number);
-        for fill in FILLS {
-            let found = number_of(rt.alloc(), &cut_in(&board, number, *fill))?;
-            let is_within = least <= found && found <= most;
-            must_behind(is_within, "another number", number, *fill)?;
-        }
-    }
-    Ok(())
+    must((status, board.calls()) == (0, 28), "another run", "held")?;
+    let cuts = cuts_of(rt.alloc(), 28)?;
+    must_leave_numbers(rt.alloc(), &board, cuts.as_slice())
 }

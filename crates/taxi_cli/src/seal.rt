@@ -61,7 +61,7 @@ fn base_of(opening: Opening) -> Result<Base, Ended>
     }
 }
 
-/// The same, where the totals hold no trip.
+/// What a sealing starts from, where the totals hold no trip.
 fn over_seal(totals: Option<Durable>, seal: Found<Seal>) -> Result<Base, Ended>
     requires { IsSound IsSeal seal }
     ensures answer { result ≡ spec.over_seal totals seal }

@@ -1,7 +1,8 @@
 //! Sealings, over boards in memory.
 use crate::store_tests::{SECOND_LAYOUT, SUMMARY, image_of, with_bytes};
 use crate::tests::{
-    A, FILLS, P, ZEROS, call, called, cut_in, joined, must, must_answer, must_behind,
+    A, CALM, Call, P, Stored, ZEROS, call, called, cut_in, cuts_of, joined, must, must_answer_all,
+    must_answer_over, must_behind,
 };
 use outside::{Fill, MemoryBoard};
 use std::alloc::Global;
@@ -53,27 +54,22 @@ fn is_first_sealing(image: &[u8; 2048]) -> bool {
     *image == wanted
 }
 
+/// Fails unless a sealing of a board succeeds, and leaves the store of a first sealing or another one, with its totals.
+fn must_seal(alloc: Global, board: &mut MemoryBoard, first: bool) -> Result<(), Fail> {
+    let status = call(alloc, WORDS, &[A, P], &[], board)?;
+    let is_sealed = status == 0 && is_first_sealing(board.image()) == first;
+    must(is_sealed, "another store", "sealed")?;
+    let has_totals = board.image().starts_with(&[0xa5, 0, 0, 0, 0, 0, 0, 0, 1]);
+    must(has_totals, "other totals", "sealed")
+}
+
 #[test]
 fn sealing_a_store_of_zeros(rt: HostRuntime) -> Result<(), Fail> {
     let mut board = MemoryBoard::new(rt.alloc(), ZEROS, &[])?;
-    for (name, first) in [("sealing 1", true), ("sealing 2", false)] {
-        let status = call(rt.alloc(), WORDS, &[A, P], &[], &mut board)?;
-        must(
-            status == 0 && is_first_sealing(board.image()) == first,
-            "another store",
-            name,
-        )?;
-        must(
-            board.image().starts_with(&[0xa5, 0, 0, 0, 0, 0, 0, 0, 1]),
-            "other totals",
-            name,
-        )?;
-    }
-    must(
-        board.printed() == b"SEALED 1\nSEALED 2\n".as_slice(),
-        "another text",
-        "sealed",
-    )
+    must_seal(rt.alloc(), &mut board, true)?;
+    must_seal(rt.alloc(), &mut board, false)?;
+    let is_printed = board.printed() == b"SEALED 1\nSEALED 2\n".as_slice();
+    must(is_printed, "another text", "sealed")
 }
 
 #[test]
@@ -92,53 +88,54 @@ fn sealing_over_totals(rt: HostRuntime) -> Result<(), Fail> {
     )
 }
 
-/// Texts that are refused over the sealed store, and the answers.
-const REFUSED: &[(&str, &str, &str, u8)] = &[
+/// Texts that are refused over the sealed store.
+const REFUSED: &[Call] = &[
     (
-        "decimals 3\nstep 0.200\ninitial 3.800\nrate 0.200 per 117.4 m, 0.200 per 25.2 s\n",
-        P,
-        "OTHER DECIMALS 2 3\n",
+        WORDS,
+        &[
+            "decimals 3\nstep 0.200\ninitial 3.800\nrate 0.200 per 117.4 m, 0.200 per 25.2 s\n",
+            P,
+        ],
+        CALM,
+        &["OTHER DECIMALS 2 3\n"],
         15,
     ),
     (
-        A,
-        "taxi LX-4711\nconstant 10000\nmode single\noffset 946684800 3600\nsecured 2025-12-01\n",
-        "BAD PARAMS Missing Hold\n",
+        WORDS,
+        &[
+            A,
+            "taxi LX-4711\nconstant 10000\nmode single\noffset 946684800 3600\nsecured 2025-12-01\n",
+        ],
+        CALM,
+        &["BAD PARAMS Missing Hold\n"],
         9,
     ),
     (
-        A,
-        "taxi LX-4711\nconstant 10000\nmode triple\nhold 60\noffset 946684800 3600\nsecured 2025-12-01\n",
-        "BAD PARAMS BadValue 3\n",
+        WORDS,
+        &[
+            A,
+            "taxi LX-4711\nconstant 10000\nmode triple\nhold 60\noffset 946684800 3600\nsecured 2025-12-01\n",
+        ],
+        CALM,
+        &["BAD PARAMS BadValue 3\n"],
         9,
     ),
     (
-        A,
-        "taxi LX-4711\ntaxi LX-4711\n",
-        "BAD PARAMS Twice Taxi\n",
+        WORDS,
+        &[A, "taxi LX-4711\ntaxi LX-4711\n"],
+        CALM,
+        &["BAD PARAMS Twice Taxi\n"],
         9,
     ),
-    ("", P, "BAD TARIFF NoStep\n", 2),
+    (WORDS, &["", P], CALM, &["BAD TARIFF NoStep\n"], 2),
 ];
 
 #[test]
 fn refused_sealings(rt: HostRuntime) -> Result<(), Fail> {
-    let image = image_of(SECOND_LAYOUT);
-    for &(tariff, params, output, status) in REFUSED {
-        must_answer(
-            rt.alloc(),
-            output,
-            WORDS,
-            &[tariff, params],
-            &image,
-            output,
-            status,
-        )?;
-    }
-    Ok(())
+    must_answer_all(rt.alloc(), &image_of(SECOND_LAYOUT), REFUSED)
 }
 
-/// A trip that is held since 2026-01-01T00:00Z, in position 1 and zone 1.
+/// A sealed store with a trip that is held since 2026-01-01T00:00Z, in position 1 and zone 1.
 const HELD: &[(usize, u8)] = &[
     (81, 1),
     (86, 0x69),
@@ -154,9 +151,10 @@ const HELD: &[(usize, u8)] = &[
     (211, 0x01),
     (212, 0x7c),
     (511, 2),
+    (1535, 1),
 ];
 
-/// The number of the last seal.
+/// A sealed store whose seal has the last number.
 const LAST: &[(usize, u8)] = &[
     (196, 1),
     (211, 0x01),
@@ -168,21 +166,19 @@ const LAST: &[(usize, u8)] = &[
     (1029, 0xa4),
     (1030, 0xc6),
     (1031, 0x80),
+    (1032, 0),
+    (1535, 1),
 ];
 
-/// What the sealed store has more, and then over that; the line and the status.
-const NOT_SEALED: &[(&[(usize, u8)], &[(usize, u8)], &str, u8)] = &[
-    (HELD, &[(1535, 1)], "TRIP HELD\n", 13),
-    (LAST, &[(1032, 0), (1535, 1)], "SEAL ENDED\n", 14),
+/// What the sealed store has other.
+const NOT_SEALED: &[Stored] = &[
+    (None, HELD, (WORDS, &[A, P], CALM, &["TRIP HELD\n"], 13)),
+    (None, LAST, (WORDS, &[A, P], CALM, &["SEAL ENDED\n"], 14)),
 ];
 
 #[test]
 fn stores_that_are_not_sealed(rt: HostRuntime) -> Result<(), Fail> {
-    for &(more, over, line, status) in NOT_SEALED {
-        let image = with_bytes(&image_of(more), over);
-        must_answer(rt.alloc(), line, WORDS, &[A, P], &image, line, status)?;
-    }
-    Ok(())
+    must_answer_over(rt.alloc(), &image_of(&[]), NOT_SEALED)
 }
 
 /// What a call of these words prints over what a cut in a sealing left, and its status.
@@ -215,17 +211,21 @@ fn must_be_cut(alloc: Global, sealed: &MemoryBoard, number: u64, fill: Fill) -> 
     must_behind(has_totals, "other totals", number, fill)
 }
 
+/// Fails unless `totals` finds what it may over each of these cuts of a first sealing.
+fn must_be_cut_all(alloc: Global, sealed: &MemoryBoard, cuts: &[(u64, Fill)]) -> Result<(), Fail> {
+    for (number, fill) in cuts {
+        must_be_cut(alloc, sealed, *number, *fill)?;
+    }
+    Ok(())
+}
+
 /// A cut in each call of a first sealing.
 #[test]
 fn cuts_through_a_first_sealing(rt: HostRuntime) -> Result<(), Fail> {
     let (sealed, status) = called(rt.alloc(), WORDS, &[A, P], ZEROS, &[], &[])?;
     must(status == 0, "another status", "sealed")?;
-    for number in 1..=sealed.calls() {
-        for fill in FILLS {
-            must_be_cut(rt.alloc(), &sealed, number, *fill)?;
-        }
-    }
-    Ok(())
+    let cuts = cuts_of(rt.alloc(), sealed.calls())?;
+    must_be_cut_all(rt.alloc(), &sealed, cuts.as_slice())
 }
 
 /// Fails unless another sealing over a cut in this call of a sealing leaves the totals, and gives the next seal the
@@ -246,16 +246,25 @@ fn must_be_sealed(
     must_behind(is_found, "another number", number, fill)
 }
 
+/// Fails unless another sealing does as it should over each of these cuts of a sealing.
+fn must_be_sealed_all(
+    alloc: Global,
+    sealed: &MemoryBoard,
+    image: &[u8; 2048],
+    cuts: &[(u64, Fill)],
+) -> Result<(), Fail> {
+    for (number, fill) in cuts {
+        must_be_sealed(alloc, sealed, image, *number, *fill)?;
+    }
+    Ok(())
+}
+
 /// A cut in each call of a sealing over totals and a seal.
 #[test]
 fn cuts_through_a_second_sealing(rt: HostRuntime) -> Result<(), Fail> {
     let image = image_of(SECOND_LAYOUT);
     let (sealed, status) = called(rt.alloc(), WORDS, &[A, P], &image, &[], &[])?;
     must(status == 0, "another status", "sealed")?;
-    for number in 1..=sealed.calls() {
-        for fill in FILLS {
-            must_be_sealed(rt.alloc(), &sealed, &image, number, *fill)?;
-        }
-    }
-    Ok(())
+    let cuts = cuts_of(rt.alloc(), sealed.calls())?;
+    must_be_sealed_all(rt.alloc(), &sealed, &image, cuts.as_slice())
 }

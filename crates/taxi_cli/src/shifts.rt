@@ -19,7 +19,7 @@ use taxi_units::Steps;
 use totaliser_store::Durable;
 
 /// Why there is no report.
-#[derive(Clone, Copy, Debug, PartialEq, Eq)]
+#[derive(Clone, Copy)]
 pub enum ReportFault {
     /// A read failed.
     ReadFault,
@@ -29,7 +29,7 @@ pub enum ReportFault {
     NoMemory,
 }
 
-/// A book has at most so many bytes.
+/// How many bytes a book has at most.
 const MOST: usize = 1_048_576;
 
 /// Scans the store, reads the book of word 1, and prints its report, which is made in memory before its

@@ -1,6 +1,8 @@
 //! Calls that open the store, over boards in memory.
-use crate::tests::{ZEROS, joined, must_answer, must_answer_amid};
+use crate::tests::{CALM, Call, Stored, ZEROS, must_answer, must_answer_all, must_answer_over};
 use std::test::Fail;
+
+const WORDS: &[&str] = &["totals"];
 
 /// The bytes of a sealed store, by their places: the totals of one hiring in the first slot, beside a
 /// seal with two decimals.
@@ -88,8 +90,8 @@ const BAD_SEAL: &[(usize, u8)] = &[(196, 1), (211, 0x01), (212, 0x7c), (511, 2),
 pub(crate) fn with_bytes(image: &[u8; 2048], bytes: &[(usize, u8)]) -> [u8; 2048] {
     let mut changed = *image;
     for (place, byte) in bytes {
-        if let Some(here) = changed.get_mut(*place) {
-            *here = *byte;
+        if *place < 2048 {
+            changed[*place] = *byte;
         }
     }
     changed
@@ -121,79 +123,78 @@ pub(crate) const SUMMARY: &str =
     "NUMBER 2\nDISTANCE 234.800 m\nHIRED 234.800 m\nHIRINGS 1\nSUPPLEMENTS 0.00\nFARE 3.80\nHELD no\n";
 
 /// What the store has more, and what `totals` prints behind the summary.
-const TOTALS: &[(&[(usize, u8)], &str)] = &[
-    (FIRST_LAYOUT, "LAYOUT 1\nBEFORE 1 3.80\n"),
+const TOTALS: &[Stored] = &[
     (
+        None,
+        FIRST_LAYOUT,
+        (WORDS, &[], CALM, &[SUMMARY, "LAYOUT 1\nBEFORE 1 3.80\n"], 0),
+    ),
+    (
+        None,
         SECOND_LAYOUT,
-        "LAYOUT 2\nBEFORE 0 0.00\nPOSITION 1 1 3.80\n",
+        (
+            WORDS,
+            &[],
+            CALM,
+            &[SUMMARY, "LAYOUT 2\nBEFORE 0 0.00\nPOSITION 1 1 3.80\n"],
+            0,
+        ),
     ),
 ];
 
 #[test]
 fn totals(rt: HostRuntime) -> Result<(), Fail> {
-    for &(more, rest) in TOTALS {
-        let output = joined(rt.alloc(), &[SUMMARY, rest])?;
-        must_answer(
-            rt.alloc(),
-            rest,
-            &["totals"],
-            &[],
-            &image_of(more),
-            output.as_str(),
-            0,
-        )?;
-    }
-    Ok(())
+    must_answer_over(rt.alloc(), &image_of(&[]), TOTALS)
 }
 
 /// Stores that aren't sealed or are bad: zeros, or what the sealed store has more; the output and the status.
-const WITHOUT_TOTALS: &[(Option<u8>, &[(usize, u8)], &str, u8)] = &[
-    (None, NO_SEAL, "NOT SEALED\n", 4),
-    (None, TOO_MANY_BEFORE, "BAD STORE 0\n", 5),
-    (None, BAD_SEAL, "BAD STORE 2\n", 5),
-    (None, SAME_TOTALS, "BAD STORE 0 1\n", 5),
-    (Some(0), &[], "NOT SEALED\n", 4),
+const WITHOUT_TOTALS: &[Stored] = &[
+    (None, NO_SEAL, (WORDS, &[], CALM, &["NOT SEALED\n"], 4)),
+    (
+        None,
+        TOO_MANY_BEFORE,
+        (WORDS, &[], CALM, &["BAD STORE 0\n"], 5),
+    ),
+    (None, BAD_SEAL, (WORDS, &[], CALM, &["BAD STORE 2\n"], 5)),
+    (
+        None,
+        SAME_TOTALS,
+        (WORDS, &[], CALM, &["BAD STORE 0 1\n"], 5),
+    ),
+    (Some(0), &[], (WORDS, &[], CALM, &["NOT SEALED\n"], 4)),
 ];
 
 #[test]
 fn stores_without_totals(rt: HostRuntime) -> Result<(), Fail> {
-    for &(byte, more, output, status) in WITHOUT_TOTALS {
-        let image = filled_or(byte, &image_of(&[]), more);
-        must_answer(rt.alloc(), output, &["totals"], &[], &image, output, status)?;
-    }
-    Ok(())
+    must_answer_over(rt.alloc(), &image_of(&[]), WITHOUT_TOTALS)
 }
 
 /// A second seal with the number of the first.
 #[test]
 fn seals_of_one_number(rt: HostRuntime) -> Result<(), Fail> {
-    let output = "BAD STORE 2 3\n";
     must_answer(
         rt.alloc(),
-        output,
-        &["totals"],
-        &[],
         &same_seals(),
-        output,
+        WORDS,
+        &[],
+        CALM,
+        &["BAD STORE 2 3\n"],
         5,
     )
 }
 
+/// Each call of the board fails in turn.
+const FAULTS: &[Call] = &[
+    (WORDS, &[], (1, 0), &[], 8),
+    (WORDS, &[], (2, 0), &[], 8),
+    (WORDS, &[], (3, 0), &[], 8),
+    (WORDS, &[], (4, 0), &[], 8),
+    (WORDS, &[], (5, 0), &[], 8),
+    (WORDS, &[], (6, 0), &[], 8),
+    (WORDS, &[], (7, 0), &[], 8),
+];
+
 #[test]
 fn faults_at_the_opening(rt: HostRuntime) -> Result<(), Fail> {
-    let image = image_of(SECOND_LAYOUT);
-    for failed in 1..=7 {
-        must_answer_amid(
-            rt.alloc(),
-            "a call",
-            &["totals"],
-            &[],
-            &image,
-            &[failed],
-            &[],
-            "",
-            8,
-        )?;
-    }
-    Ok(())
+    must_answer_all(rt.alloc(), &image_of(SECOND_LAYOUT), FAULTS)
 }

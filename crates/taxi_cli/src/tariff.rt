@@ -11,7 +11,7 @@ use tariff_check::{CheckFault, Checked, check};
 use tariff_syntax::{ParseFault, parse};
 
 /// Why a tariff isn't accepted.
-#[derive(Clone, Copy, Debug, PartialEq, Eq)]
+#[derive(Clone, Copy)]
 pub enum Refusal {
     /// It has more than 65,536 bytes.
     TooLong,
@@ -22,7 +22,7 @@ pub enum Refusal {
 }
 
 /// Why a text wasn't read.
-#[derive(Clone, Copy, Debug, PartialEq, Eq)]
+#[derive(Clone, Copy)]
 pub enum TextFault {
     /// A read failed.
     ReadFault,
@@ -32,7 +32,7 @@ pub enum TextFault {
     NoMemory,
 }
 
-/// A tariff has at most so many bytes.
+/// How many bytes a tariff has at most.
 const MOST: usize = 65_536;
 
 /// Reads what is left of a word's file, where it has at most 65,536 bytes. `Refused` where it has more.

@@ -1,6 +1,8 @@
 //! Calls of the program, over files and a board in memory.
 ghost use Rattle.std.specs.Prelude.{◌≡◌, ◌<◌};
 
+use crate::run_tests::is_made_of;
+use crate::store_tests::filled_or;
 use crate::top::taxi;
 use outside::{Fill, MemoryBoard, MemoryFiles};
 use std::alloc::Global;
@@ -30,8 +32,13 @@ pub(crate) const FILLS: &[Fill] = &[
 /// A store of zeros.
 pub(crate) const ZEROS: &[u8; 2048] = &[0; 2048];
 
+/// A store that a call which doesn't look at it may find.
+pub(crate) const SEVENS: &[u8; 2048] = &[7; 2048];
+
 /// Words of `fare` with a constant of 10,000.
 const FARE: &[&str] = &["fare", "t", "d", "10000"];
+
+const CHECK: &[&str] = &["check", "t"];
 
 const FIRST: &str = "U 1767225600\nK H\nI 0 1\nI 0 504\nI 0 1\n";
 
@@ -122,48 +129,102 @@ pub(crate) fn must_behind(holds: bool, what: &str, call: u64, fill: Fill) -> Res
     Err(Fail::new(format_args!("{what} behind call {call}, {fill:?}")))
 }
 
-/// Fails unless a call ended with this status, and its board has printed this text.
-pub(crate) fn must_end(
-    name: &str,
+/// A call of the program: its words, the texts of the files of words 1, 2 and on, the call of the board and the read
+/// that fail, or 0, the pieces of what it prints, and its status.
+pub(crate) type Call = (
+    &'static [&'static str],
+    &'static [&'static str],
+    (u64, u64),
+    &'static [&'static str],
+    u8,
+);
+
+/// Neither a call of the board nor a read fails.
+pub(crate) const CALM: (u64, u64) = (0, 0);
+
+/// In what a call that ended so over an image differs from its answer, if in anything.
+fn difference(
     ended: &(MemoryBoard, u8),
-    output: &str,
-    status: u8,
-) -> Result<(), Fail> {
-    must(ended.1 == status, "another status", name)?;
-    must(ended.0.printed() == output.as_bytes(), "another text", name)
-}
-
-/// Fails unless a call prints this text, ends with this status and leaves the image, where these calls of the board
-/// and these reads fail.
-pub(crate) fn must_answer_amid(
-    alloc: Global,
-    name: &str,
-    words: &[&str],
-    texts: &[&str],
     image: &[u8; 2048],
-    calls: &[u64],
-    reads: &[u64],
-    output: &str,
+    output: &[&str],
     status: u8,
-) -> Result<(), Fail> {
-    let ended = called(alloc, words, texts, image, calls, reads)?;
-    let failing = format!(in alloc; "failing calls {calls:?} and reads {reads:?}")?;
-    let case = format!(in alloc; "{name:?} by {words:?}, {failing}, for {output:?}")?;
-    must_end(case.as_str(), &ended, output, status)?;
-    must(*ended.0.image() == *image, "another image", case.as_str())
+) -> Option<&'static str> {
+    if ended.1 != status {
+        return Some("another status");
+    }
+    if !is_made_of(ended.0.printed(), output) {
+        return Some("another text");
+    }
+    if *ended.0.image() != *image {
+        return Some("another image");
+    }
+    None
 }
 
-/// Fails unless a call prints this text, ends with this status and leaves the image.
+/// Fails unless a call prints these pieces, ends with this status and leaves the image, where this call of the board
+/// and this read fail.
 pub(crate) fn must_answer(
     alloc: Global,
-    name: &str,
+    image: &[u8; 2048],
     words: &[&str],
     texts: &[&str],
-    image: &[u8; 2048],
-    output: &str,
+    failing: (u64, u64),
+    output: &[&str],
     status: u8,
 ) -> Result<(), Fail> {
-    must_answer_amid(alloc, name, words, texts, image, &[], &[], output, status)
+    let (call, read) = failing;
+    let ended = called(alloc, words, texts, image, &[call], &[read])?;
+    match difference(&ended, image, output, status) {
+        None => Ok(()),
+        Some(what) => Err(Fail::new(format_args!(
+            "{what}: {words:?}, failing call {call} and read {read}, over {texts:?}, for {output:?}"
+        ))),
+    }
+}
+
+/// Fails unless each of these calls over an image has its answer, and leaves the image.
+pub(crate) fn must_answer_all(
+    alloc: Global,
+    image: &[u8; 2048],
+    calls: &[Call],
+) -> Result<(), Fail> {
+    for (words, texts, failing, output, status) in calls {
+        must_answer(alloc, image, words, texts, *failing, output, *status)?;
+    }
+    Ok(())
+}
+
+/// A store, which is of one byte throughout or has other bytes at some places than another one, and a call over it.
+pub(crate) type Stored = (Option<u8>, &'static [(usize, u8)], Call);
+
+/// Fails unless each of these calls has its answer over its store, and leaves it.
+pub(crate) fn must_answer_over(
+    alloc: Global,
+    image: &[u8; 2048],
+    rows: &[Stored],
+) -> Result<(), Fail> {
+    for (byte, bytes, call) in rows {
+        let image = filled_or(*byte, image, bytes);
+        must_answer(alloc, &image, call.0, call.1, call.2, call.3, call.4)?;
+    }
+    Ok(())
+}
+
+/// Adds a call of a board with each of these fills.
+fn push_cuts(cuts: &mut Vec<(u64, Fill)>, number: u64, fills: &[Fill]) -> Result<(), Fail> {
+    for fill in fills {
+        cuts.push((number, *fill))?;
+    }
+    Ok(())
+}
+
+/// Each call of a board up to a number, with each of the fills.
+pub(crate) fn cuts_of(alloc: Global, calls: u64) -> Result<Vec<(u64, Fill)>, Fail> {
+    let mut cuts = Vec::new(alloc);
+    for number in 1..=calls {
+        push_cuts(&mut cuts, number, FILLS)?;
+    }
+    Ok(cuts)
 }
 
 /// What a cut in a call of a board leaves, or in its last one where it has no such call.
@@ -194,150 +255,211 @@ pub(crate) fn repeated(
     Ok(text)
 }
 
-/// Fails unless `fare` prints this of a tariff and a drive with a constant of 10,000, and ends with this status.
-fn must_show(
-    alloc: Global,
-    tariff: &str,
-    drive: &str,
-    output: &str,
-    status: u8,
-) -> Result<(), Fail> {
-    must_answer(alloc, tariff, FARE, &[tariff, drive], ZEROS, output, status)
-}
-
-/// Drives under tariff A and a constant of 10,000, what they print, and their status.
-const DRIVES: &[(&str, &str, u8)] = &[
+/// Drives under tariff A and a constant of 10,000.
+const DRIVES: &[Call] = &[
     (
-        FIRST,
-        "FOR HIRE T1 Z1\nHIRED T1 Z1 3.80 +0.00\nHIRED T1 Z1 4.00 +0.00\n",
+        FARE,
+        &[A, FIRST],
+        CALM,
+        &["FOR HIRE T1 Z1\nHIRED T1 Z1 3.80 +0.00\nHIRED T1 Z1 4.00 +0.00\n"],
         0,
     ),
     (
-        "U 1767225600\nK H\nI 0 1\nK H\nI 0 1\n",
-        "FOR HIRE T1 Z1\nHIRED T1 Z1 3.80 +0.00\nREFUSED NOT NOW\n",
+        FARE,
+        &[A, "U 1767225600\nK H\nI 0 1\nK H\nI 0 1\n"],
+        CALM,
+        &["FOR HIRE T1 Z1\nHIRED T1 Z1 3.80 +0.00\nREFUSED NOT NOW\n"],
         0,
     ),
     (
-        "U 1767225600\nK H\nI 0 1\nI 20 117\nK S\nI 8 1\nK C\nI 0 1\n",
-        "FOR HIRE T1 Z1\nHIRED T1 Z1 3.80 +0.00\nSTOPPED T1 Z1 3.80 +0.00\nFOR HIRE T1 Z1\n",
+        FARE,
+        &[
+            A,
+            "U 1767225600\nK H\nI 0 1\nI 20 117\nK S\nI 8 1\nK C\nI 0 1\n",
+        ],
+        CALM,
+        &["FOR HIRE T1 Z1\nHIRED T1 Z1 3.80 +0.00\nSTOPPED T1 Z1 3.80 +0.00\nFOR HIRE T1 Z1\n"],
         0,
     ),
     (
-        "I 5 1\nU 1767225600\nU 1767225600\nI 2001 1\nP 1500\nP 600\n",
-        "REFUSED NOT NOW\nREFUSED NOT NOW\nFOR HIRE T1 Z1\nREFUSED POWERED\nREFUSED TOO FAST 1\nREFUSED TOO FAST 100\n",
+        FARE,
+        &[
+            A,
+            "I 5 1\nU 1767225600\nU 1767225600\nI 2001 1\nP 1500\nP 600\n",
+        ],
+        CALM,
+        &[
+            "REFUSED NOT NOW\nREFUSED NOT NOW\nFOR HIRE T1 Z1\nREFUSED POWERED\nREFUSED TOO FAST 1\n\
+             REFUSED TOO FAST 100\n",
+        ],
         0,
     ),
     (
-        "U 1767225600\nK H\nK S\nI 0 1\n",
-        "FOR HIRE T1 Z1\nREFUSED KEY WAITING\nHIRED T1 Z1 3.80 +0.00\n",
+        FARE,
+        &[A, "U 1767225600\nK H\nK S\nI 0 1\n"],
+        CALM,
+        &["FOR HIRE T1 Z1\nREFUSED KEY WAITING\nHIRED T1 Z1 3.80 +0.00\n"],
         0,
     ),
     (
-        "U 1767225600\nK S\nI 0 1\n",
-        "FOR HIRE T1 Z1\nREFUSED NOT NOW\n",
+        FARE,
+        &[A, "U 1767225600\nK S\nI 0 1\n"],
+        CALM,
+        &["FOR HIRE T1 Z1\nREFUSED NOT NOW\n"],
         0,
     ),
-    ("U 1767225600\nI 20\n", "FOR HIRE T1 Z1\nBAD DRIVE 2\n", 3),
-    ("U 1767225600\nI 20 1", "FOR HIRE T1 Z1\nBAD DRIVE 2\n", 3),
-    ("", "", 0),
+    (
+        FARE,
+        &[A, "U 1767225600\nI 20\n"],
+        CALM,
+        &["FOR HIRE T1 Z1\nBAD DRIVE 2\n"],
+        3,
+    ),
+    (
+        FARE,
+        &[A, "U 1767225600\nI 20 1"],
+        CALM,
+        &["FOR HIRE T1 Z1\nBAD DRIVE 2\n"],
+        3,
+    ),
+    (FARE, &[A, ""], CALM, &[""], 0),
 ];
 
 #[test]
 fn drives(rt: HostRuntime) -> Result<(), Fail> {
-    for &(drive, output, status) in DRIVES {
-        must_answer(rt.alloc(), drive, FARE, &[A, drive], ZEROS, output, status)?;
-    }
-    Ok(())
+    must_answer_all(rt.alloc(), ZEROS, DRIVES)
 }
 
-/// Tariffs, what the first drive prints under them and a constant of 10,000, and the status.
-const TARIFFS: &[(&str, &str, u8)] = &[
+/// The first drive under tariffs and a constant of 10,000.
+const TARIFFS: &[Call] = &[
     (
-        "rate 0.20 per 117.4 m, 0.2 per 25.2 s\r\n\t# by day and by night\n\ninitial 3.80 covers .40\nstep 0.2 ahead",
-        "BAD TARIFF Syntax 4\n",
+        FARE,
+        &[
+            "rate 0.20 per 117.4 m, 0.2 per 25.2 s\r\n\t# by day and by night\n\n\
+             initial 3.80 covers .40\nstep 0.2 ahead",
+            FIRST,
+        ],
+        CALM,
+        &["BAD TARIFF Syntax 4\n"],
         2,
     ),
     (
-        "rate 0.20 per 117.4 m, 0.2 per 25.2 s\r\n\t# by day and by night\n\ninitial 3.80 covers 0.4\nstep 0.2 ahead",
-        "FOR HIRE T1 Z1\nHIRED T1 Z1 3.80 +0.00\nHIRED T1 Z1 4.00 +0.00\n",
+        FARE,
+        &[
+            "rate 0.20 per 117.4 m, 0.2 per 25.2 s\r\n\t# by day and by night\n\n\
+             initial 3.80 covers 0.4\nstep 0.2 ahead",
+            FIRST,
+        ],
+        CALM,
+        &["FOR HIRE T1 Z1\nHIRED T1 Z1 3.80 +0.00\nHIRED T1 Z1 4.00 +0.00\n"],
         0,
     ),
     (
-        "step 0.20\ninitial 3.80 covers 0.20\nrate 0.20 per 117.4 m, 0.20 per 25.2 s\n",
-        "FOR HIRE T1 Z1\nHIRED T1 Z1 3.80 +0.00\nHIRED T1 Z1 4.00 +0.00\n",
+        FARE,
+        &[
+            "step 0.20\ninitial 3.80 covers 0.20\nrate 0.20 per 117.4 m, 0.20 per 25.2 s\n",
+            FIRST,
+        ],
+        CALM,
+        &["FOR HIRE T1 Z1\nHIRED T1 Z1 3.80 +0.00\nHIRED T1 Z1 4.00 +0.00\n"],
         0,
     ),
     (
-        "decimals 2\nstep 0.205 ahead\ninitial 3.80 covers 0.40\nrate 0.20 per 117.4 m, 0.20 per 25.2 s\n",
-        "BAD TARIFF Syntax 2\n",
+        FARE,
+        &[
+            "decimals 2\nstep 0.205 ahead\ninitial 3.80 covers 0.40\nrate 0.20 per 117.4 m, 0.20 per 25.2 s\n",
+            FIRST,
+        ],
+        CALM,
+        &["BAD TARIFF Syntax 2\n"],
         2,
     ),
     (
-        "decimals 2\nstep 0.20\ndecimals 2\n",
-        "BAD TARIFF Syntax 3\n",
+        FARE,
+        &["decimals 2\nstep 0.20\ndecimals 2\n", FIRST],
+        CALM,
+        &["BAD TARIFF Syntax 3\n"],
         2,
     ),
-    ("", "BAD TARIFF NoStep\n", 2),
+    (FARE, &["", FIRST], CALM, &["BAD TARIFF NoStep\n"], 2),
     (
-        "decimals 2\nstep 0.20 ahead\n",
-        "BAD TARIFF NoDefaultRate\n",
-        2,
-    ),
-    (
-        "step 0.00\ninitial 3.80\nrate 0.20 per 117.4 m, 0.20 per 25.2 s\n",
-        "BAD TARIFF StepZero\n",
-        2,
-    ),
-    (
-        "step 0.20\ninitial 3.80\nrate 0.20 per 0.0 m, 0.20 per 25.2 s\n",
-        "BAD TARIFF MeasureZero 3\n",
+        FARE,
+        &["decimals 2\nstep 0.20 ahead\n", FIRST],
+        CALM,
+        &["BAD TARIFF NoDefaultRate\n"],
         2,
     ),
     (
-        "step 0.20\ninitial 3.80\nrate 0.20 per 117.4 m, 0.20 per 25.2 s when day sun\n",
-        "BAD TARIFF NoDefaultRate\n",
+        FARE,
+        &[
+            "step 0.00\ninitial 3.80\nrate 0.20 per 117.4 m, 0.20 per 25.2 s\n",
+            FIRST,
+        ],
+        CALM,
+        &["BAD TARIFF StepZero\n"],
         2,
     ),
     (
-        "step 0.20\nstep 0.20\nrate 0.20 per 117.4 m, 0.20 per 25.2 s\n",
-        "BAD TARIFF Duplicate 2\n",
+        FARE,
+        &[
+            "step 0.20\ninitial 3.80\nrate 0.20 per 0.0 m, 0.20 per 25.2 s\n",
+            FIRST,
+        ],
+        CALM,
+        &["BAD TARIFF MeasureZero 3\n"],
         2,
     ),
     (
-        "step 0.20\ninitial 3.80\nrate 0.20 per 117.4 m, 0.20 per 25.2 s\npositions 1\n",
-        "FOR HIRE T1 Z1\nHIRED T1 Z1 3.80 +0.00\nHIRED T1 Z1 4.00 +0.00\nHIRED T1 Z1 4.20 +0.00\n",
+        FARE,
+        &[
+            "step 0.20\ninitial 3.80\nrate 0.20 per 117.4 m, 0.20 per 25.2 s when day sun\n",
+            FIRST,
+        ],
+        CALM,
+        &["BAD TARIFF NoDefaultRate\n"],
+        2,
+    ),
+    (
+        FARE,
+        &[
+            "step 0.20\nstep 0.20\nrate 0.20 per 117.4 m, 0.20 per 25.2 s\n",
+            FIRST,
+        ],
+        CALM,
+        &["BAD TARIFF Duplicate 2\n"],
+        2,
+    ),
+    (
+        FARE,
+        &[
+            "step 0.20\ninitial 3.80\nrate 0.20 per 117.4 m, 0.20 per 25.2 s\npositions 1\n",
+            FIRST,
+        ],
+        CALM,
+        &[
+            "FOR HIRE T1 Z1\nHIRED T1 Z1 3.80 +0.00\nHIRED T1 Z1 4.00 +0.00\nHIRED T1 Z1 4.20 +0.00\n",
+        ],
         0,
     ),
 ];
 
 #[test]
 fn tariffs(rt: HostRuntime) -> Result<(), Fail> {
-    for &(tariff, output, status) in TARIFFS {
-        must_answer(
-            rt.alloc(),
-            tariff,
-            FARE,
-            &[tariff, FIRST],
-            ZEROS,
-            output,
-            status,
-        )?;
-    }
-    Ok(())
+    must_answer_all(rt.alloc(), ZEROS, TARIFFS)
 }
 
-/// A tariff and a comment behind it, of 65,536 bytes in all, and one byte more.
+/// Fails unless tariff A with a comment behind it, of this number of bytes in all, has this answer.
+fn must_take(alloc: Global, size: usize, output: &str, status: u8) -> Result<(), Fail> {
+    let long = repeated(alloc, A, "#", size.saturating_sub(A.len()))?;
+    let texts = [long.as_str(), "U 1767225600\n"];
+    must_answer(alloc, ZEROS, FARE, &texts, CALM, &[output], status)
+}
+
+/// A tariff of 65,536 bytes, and of one byte more.
 #[test]
 fn the_longest_tariff(rt: HostRuntime) -> Result<(), Fail> {
-    for (size, output, status) in [
-        (65_536usize, "FOR HIRE T1 Z1\n", 0),
-        (65_537, "BAD TARIFF TooLong\n", 2),
-    ] {
-        let long = repeated(rt.alloc(), A, "#", size.saturating_sub(A.len()))?;
-        let texts = [long.as_str(), "U 1767225600\n"];
-        must_answer(rt.alloc(), output, FARE, &texts, ZEROS, output, status)?;
-    }
-    Ok(())
+    must_take(rt.alloc(), 65_536, "FOR HIRE T1 Z1\n", 0)?;
+    must_take(rt.alloc(), 65_537, "BAD TARIFF TooLong\n", 2)
 }
 
 /// Midnight and noon of a day: the cover and eleven display steps by time, and one interval more.
@@ -352,167 +474,237 @@ const EACH_STEP: &str =
      HIRED T1 Z1 5.20 +0.00\nHIRED T1 Z1 5.40 +0.00\nHIRED T1 Z1 5.60 +0.00\nHIRED T1 Z1 5.80 +0.00\n\
      HIRED T1 Z1 6.00 +0.00\nHIRED T1 Z1 6.20 +0.00\n";
 
-/// What follows tariff A, a drive, what it prints under both, and its status.
-const MINIMUMS: &[(&str, &str, &str, u8)] = &[
+/// Drives under tariff A and lines that follow it.
+const MINIMUMS: &[Call] = &[
     (
-        "minimum 6.00\n",
-        NOON,
-        "FOR HIRE T1 Z1\nHIRED T1 Z1 6.00 +0.00\nHIRED T1 Z1 6.20 +0.00\n",
+        FARE,
+        &[
+            "decimals 2\nstep 0.20 ahead\ninitial 3.80 covers 0.40\nrate 0.20 per 117.4 m, 0.20 per 25.2 s\n\
+             minimum 6.00\n",
+            NOON,
+        ],
+        CALM,
+        &["FOR HIRE T1 Z1\nHIRED T1 Z1 6.00 +0.00\nHIRED T1 Z1 6.20 +0.00\n"],
         0,
     ),
     (
-        "minimum 6.00 when time 22:00..06:00\n",
-        MIDNIGHT,
-        "FOR HIRE T1 Z1\nHIRED T1 Z1 6.00 +0.00\nHIRED T1 Z1 6.20 +0.00\n",
-        0,
-    ),
-    ("minimum 6.00 when time 22:00..06:00\n", NOON, EACH_STEP, 0),
-    ("minimum 0.00\n", NOON, EACH_STEP, 0),
-    (
-        "minimum 999999.99\n",
-        NOON,
-        "FOR HIRE T1 Z1\nHIRED T1 Z1 999999.99 +0.00\n",
+        FARE,
+        &[
+            "decimals 2\nstep 0.20 ahead\ninitial 3.80 covers 0.40\nrate 0.20 per 117.4 m, 0.20 per 25.2 s\n\
+             minimum 6.00 when time 22:00..06:00\n",
+            MIDNIGHT,
+        ],
+        CALM,
+        &["FOR HIRE T1 Z1\nHIRED T1 Z1 6.00 +0.00\nHIRED T1 Z1 6.20 +0.00\n"],
         0,
     ),
     (
-        "minimum 1000000.00\n",
-        NOON,
-        "BAD TARIFF AmountTooBig 5\n",
+        FARE,
+        &[
+            "decimals 2\nstep 0.20 ahead\ninitial 3.80 covers 0.40\nrate 0.20 per 117.4 m, 0.20 per 25.2 s\n\
+             minimum 6.00 when time 22:00..06:00\n",
+            NOON,
+        ],
+        CALM,
+        &[EACH_STEP],
+        0,
+    ),
+    (
+        FARE,
+        &[
+            "decimals 2\nstep 0.20 ahead\ninitial 3.80 covers 0.40\nrate 0.20 per 117.4 m, 0.20 per 25.2 s\n\
+             minimum 0.00\n",
+            NOON,
+        ],
+        CALM,
+        &[EACH_STEP],
+        0,
+    ),
+    (
+        FARE,
+        &[
+            "decimals 2\nstep 0.20 ahead\ninitial 3.80 covers 0.40\nrate 0.20 per 117.4 m, 0.20 per 25.2 s\n\
+             minimum 999999.99\n",
+            NOON,
+        ],
+        CALM,
+        &["FOR HIRE T1 Z1\nHIRED T1 Z1 999999.99 +0.00\n"],
+        0,
+    ),
+    (
+        FARE,
+        &[
+            "decimals 2\nstep 0.20 ahead\ninitial 3.80 covers 0.40\nrate 0.20 per 117.4 m, 0.20 per 25.2 s\n\
+             minimum 1000000.00\n",
+            NOON,
+        ],
+        CALM,
+        &["BAD TARIFF AmountTooBig 5\n"],
         2,
     ),
     (
-        "minimum 6.00\nminimum 7.00\n",
-        NOON,
-        "BAD TARIFF LineAfterDefault 6\n",
+        FARE,
+        &[
+            "decimals 2\nstep 0.20 ahead\ninitial 3.80 covers 0.40\nrate 0.20 per 117.4 m, 0.20 per 25.2 s\n\
+             minimum 6.00\nminimum 7.00\n",
+            NOON,
+        ],
+        CALM,
+        &["BAD TARIFF LineAfterDefault 6\n"],
         2,
     ),
 ];
 
 #[test]
 fn minimum_fares(rt: HostRuntime) -> Result<(), Fail> {
-    for &(minimums, drive, output, status) in MINIMUMS {
-        let tariff = joined(rt.alloc(), &[A, minimums])?;
-        must_show(rt.alloc(), tariff.as_str(), drive, output, status)?;
-    }
-    Ok(())
+    must_answer_all(rt.alloc(), ZEROS, MINIMUMS)
 }
 
-/// Words that are no command, with their names. Tariff and drive would be taken.
-const CALLS: &[(&str, &[&str])] = &[
-    ("too few pulses", &["fare", "t", "d", "499"]),
-    ("too many pulses", &["fare", "t", "d", "200001"]),
-    ("too many digits", &["fare", "t", "d", "0010000"]),
-    ("no digits", &["fare", "t", "d", ""]),
-    ("an exponent", &["fare", "t", "d", "1e4"]),
-    ("a capital", &["Fare", "t", "d", "10000"]),
-    ("no words", &[]),
-    ("a word more", &["fare", "t", "d", "10000", "x"]),
+/// Words that are no command. Tariff and drive would be taken.
+const WORDS: &[Call] = &[
+    // Too few pulses.
+    (
+        &["fare", "t", "d", "499"],
+        &[A, FIRST],
+        CALM,
+        &["BAD WORDS\n"],
+        1,
+    ),
+    // Too many pulses.
+    (
+        &["fare", "t", "d", "200001"],
+        &[A, FIRST],
+        CALM,
+        &["BAD WORDS\n"],
+        1,
+    ),
+    // Too many digits.
+    (
+        &["fare", "t", "d", "0010000"],
+        &[A, FIRST],
+        CALM,
+        &["BAD WORDS\n"],
+        1,
+    ),
+    // No digits.
+    (
+        &["fare", "t", "d", ""],
+        &[A, FIRST],
+        CALM,
+        &["BAD WORDS\n"],
+        1,
+    ),
+    // An exponent.
+    (
+        &["fare", "t", "d", "1e4"],
+        &[A, FIRST],
+        CALM,
+        &["BAD WORDS\n"],
+        1,
+    ),
+    // A capital.
+    (
+        &["Fare", "t", "d", "10000"],
+        &[A, FIRST],
+        CALM,
+        &["BAD WORDS\n"],
+        1,
+    ),
+    // No words.
+    (&[], &[A, FIRST], CALM, &["BAD WORDS\n"], 1),
+    // A word more.
+    (
+        &["fare", "t", "d", "10000", "x"],
+        &[A, FIRST],
+        CALM,
+        &["BAD WORDS\n"],
+        1,
+    ),
 ];
 
 #[test]
 fn words(rt: HostRuntime) -> Result<(), Fail> {
-    for &(name, words) in CALLS {
-        must_answer(
-            rt.alloc(),
-            name,
-            words,
-            &[A, FIRST],
-            ZEROS,
-            "BAD WORDS\n",
-            1,
-        )?;
-    }
-    Ok(())
+    must_answer_all(rt.alloc(), ZEROS, WORDS)
 }
 
-/// Names of failures, the numbers of the read and of the print that fail, the output and the status. Reads 1 and 2
-/// are the tariff's, 3 and 4 the drive's.
-const FAILURES: &[(&str, u64, u64, &str, u8)] = &[
-    ("read 1", 1, 0, "READ FAULT\n", 7),
-    ("read 2", 2, 0, "READ FAULT\n", 7),
-    ("read 3", 3, 0, "READ FAULT\n", 7),
+/// A read fails, or a print, or both. Reads 1 and 2 are the tariff's, 3 and 4 the drive's.
+const FAILURES: &[Call] = &[
+    (FARE, &[A, FIRST], (0, 1), &["READ FAULT\n"], 7),
+    (FARE, &[A, FIRST], (0, 2), &["READ FAULT\n"], 7),
+    (FARE, &[A, FIRST], (0, 3), &["READ FAULT\n"], 7),
     (
-        "read 4",
-        4,
-        0,
-        "FOR HIRE T1 Z1\nHIRED T1 Z1 3.80 +0.00\nHIRED T1 Z1 4.00 +0.00\nREAD FAULT\n",
+        FARE,
+        &[A, FIRST],
+        (0, 4),
+        &["FOR HIRE T1 Z1\nHIRED T1 Z1 3.80 +0.00\nHIRED T1 Z1 4.00 +0.00\nREAD FAULT\n"],
         7,
     ),
-    ("print 1", 0, 1, "", 8),
+    (FARE, &[A, FIRST], (1, 0), &[""], 8),
     (
-        "print 3",
-        0,
-        3,
-        "FOR HIRE T1 Z1\nHIRED T1 Z1 3.80 +0.00\n",
+        FARE,
+        &[A, FIRST],
+        (3, 0),
+        &["FOR HIRE T1 Z1\nHIRED T1 Z1 3.80 +0.00\n"],
         8,
     ),
-    ("read 1 and print 1", 1, 1, "", 8),
+    (FARE, &[A, FIRST], (1, 1), &[""], 8),
 ];
 
 #[test]
 fn faults_of_the_outside(rt: HostRuntime) -> Result<(), Fail> {
-    let texts = [A, FIRST];
-    for &(name, read, print, output, status) in FAILURES {
-        must_answer_amid(
-            rt.alloc(),
-            name,
-            FARE,
-            &texts,
-            ZEROS,
-            &[print],
-            &[read],
-            output,
-            status,
-        )?;
-    }
-    Ok(())
+    must_answer_all(rt.alloc(), ZEROS, FAILURES)
 }
 
-/// Tariffs and what `check` says of them, with its status.
-const CHECKS: &[(&str, &str, u8)] = &[
-    (A, "OK CELLS 7 MEASURE 147924\n", 0),
-    ("", "BAD TARIFF NoStep\n", 2),
+/// What `check` says of tariffs.
+const CHECKS: &[Call] = &[
+    (CHECK, &[A], CALM, &["OK CELLS 7 MEASURE 147924\n"], 0),
+    (CHECK, &[""], CALM, &["BAD TARIFF NoStep\n"], 2),
     (
-        "decimals 2\nstep 0.20 ahead\ninitial 3.80 covers 0.40\nrate 0.20 per 117.4 m, 0.20 per 25.2 s when zone 1\n",
-        "BAD TARIFF NoDefaultRate\n",
+        CHECK,
+        &[
+            "decimals 2\nstep 0.20 ahead\ninitial 3.80 covers 0.40\nrate 0.20 per 117.4 m, 0.20 per 25.2 s \
+             when zone 1\n",
+        ],
+        CALM,
+        &["BAD TARIFF NoDefaultRate\n"],
         2,
     ),
     (
-        "step 0.20\ninitial 3.80\nrate 0.20 per 117.4 m, 0.20 per 25.2 s\nrate 0.20 per 117.4 m, 0.20 per 25.2 s\n",
-        "BAD TARIFF LineAfterDefault 4\n",
+        CHECK,
+        &[
+            "step 0.20\ninitial 3.80\nrate 0.20 per 117.4 m, 0.20 per 25.2 s\n\
+             rate 0.20 per 117.4 m, 0.20 per 25.2 s\n",
+        ],
+        CALM,
+        &["BAD TARIFF LineAfterDefault 4\n"],
         2,
     ),
     (
-        "step 0.20\nholiday 2027-02-29\ninitial 3.80\nrate 0.20 per 117.4 m, 0.20 per 25.2 s\n",
-        "BAD TARIFF BadDate 2\n",
+        CHECK,
+        &["step 0.20\nholiday 2027-02-29\ninitial 3.80\nrate 0.20 per 117.4 m, 0.20 per 25.2 s\n"],
+        CALM,
+        &["BAD TARIFF BadDate 2\n"],
         2,
     ),
     (
-        "step 0.20\ninitial 3.80\nrate 0.10 per 100000000.0 m, 0.10 per 99999999.9 s\n",
-        "OK CELLS 7 MEASURE 999999999000000000\n",
+        CHECK,
+        &["step 0.20\ninitial 3.80\nrate 0.10 per 100000000.0 m, 0.10 per 99999999.9 s\n"],
+        CALM,
+        &["OK CELLS 7 MEASURE 999999999000000000\n"],
         0,
     ),
     (
-        "step 0.20\ninitial 3.80\nrate 0.10 per 100000000.0 m, 0.10 per 100000000.1 s\n",
-        "BAD TARIFF NoCommonMeasure\n",
+        CHECK,
+        &["step 0.20\ninitial 3.80\nrate 0.10 per 100000000.0 m, 0.10 per 100000000.1 s\n"],
+        CALM,
+        &["BAD TARIFF NoCommonMeasure\n"],
         2,
     ),
 ];
 
 #[test]
 fn checks(rt: HostRuntime) -> Result<(), Fail> {
-    for &(tariff, output, status) in CHECKS {
-        must_answer(
-            rt.alloc(),
-            tariff,
-            &["check", "t"],
-            &[tariff],
-            ZEROS,
-            output,
-            status,
-        )?;
-    }
-    Ok(())
+    must_answer_all(rt.alloc(), ZEROS, CHECKS)
 }
 
 /// 65 rates, of which the last stands in line 67.
@@ -523,11 +715,11 @@ fn too_many_rates(rt: HostRuntime) -> Result<(), Fail> {
     let output = "BAD TARIFF TooManyLines 67\n";
     must_answer(
         rt.alloc(),
-        output,
-        &["check", "t"],
-        &[many.as_str()],
         ZEROS,
-        output,
+        CHECK,
+        &[many.as_str()],
+        CALM,
+        &[output],
         2,
     )
 }
@@ -537,30 +729,22 @@ const ROWS: &str =
     "MEASURE 1479240000\nRATE 1 25200000 117400000\nINITIAL 1 3.80 0.40\nCELL 0 1 1\nCELL 1 1 1\nCELL 2 1 1\n\
      CELL 3 1 1\nCELL 4 1 1\nCELL 5 1 1\nCELL 6 1 1\n";
 
-/// Constants, the number of the print that fails, the output and the status.
-const TABLES: &[(&str, u64, &str, u8)] = &[
-    ("10000", 0, ROWS, 0),
-    ("499", 0, "BAD WORDS\n", 1),
-    ("10000", 2, "MEASURE 1479240000\n", 8),
+/// Rows under a constant, no constant, and a print that fails.
+const TABLES: &[Call] = &[
+    (&["tables", "t", "10000"], &[A], (0, 0), &[ROWS], 0),
+    (&["tables", "t", "499"], &[A], (0, 0), &["BAD WORDS\n"], 1),
+    (
+        &["tables", "t", "10000"],
+        &[A],
+        (2, 0),
+        &["MEASURE 1479240000\n"],
+        8,
+    ),
 ];
 
 #[test]
 fn tables(rt: HostRuntime) -> Result<(), Fail> {
-    for &(constant, print, output, status) in TABLES {
-        let words = ["tables", "t", constant];
-        must_answer_amid(
-            rt.alloc(),
-            output,
-            &words,
-            &[A],
-            ZEROS,
-            &[print],
-            &[],
-            output,
-            status,
-        )?;
-    }
-    Ok(())
+    must_answer_all(rt.alloc(), ZEROS, TABLES)
 }
 
 /// A minimum fare by night, as rows.

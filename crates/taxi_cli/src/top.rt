@@ -88,7 +88,7 @@ fn carry_out<F: Files, B: Board<L>, L: Ledger>(
 /// The words, and what is printed where the status is 0 (for `bench`, 0 or 11):
 ///
 /// - `check TARIFF`: `OK CELLS n MEASURE m`, for a sound tariff
-/// - `tables TARIFF CONSTANT`: the rows of its tables, with so many pulses to a kilometre
+/// - `tables TARIFF CONSTANT`: the rows of its tables, with CONSTANT pulses to a kilometre
 /// - `fare TARIFF DRIVE CONSTANT`: the displays and refusals of the drive under the tariff
 /// - `totals`: the totals of the store
 /// - `seal TARIFF PARAMS`: `SEALED n`, with the number of the seal that is put in

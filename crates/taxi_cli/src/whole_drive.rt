@@ -11,7 +11,7 @@ use outside::Files;
 use std::alloc::Global;
 
 /// Why the runs of a drive aren't had.
-#[derive(Clone, Copy, Debug, PartialEq, Eq)]
+#[derive(Clone, Copy)]
 pub enum DriveFault {
     /// A read failed.
     ReadFault,

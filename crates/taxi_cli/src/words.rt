@@ -16,7 +16,7 @@ use std::marker::Model;
 use taxi_units::number_at;
 
 /// How many trips a generated drive has: 1 to 1,000.
-#[derive(Clone, Copy, Debug)]
+#[derive(Clone, Copy)]
 pub struct Trips {
     count: u32,
 }
@@ -44,7 +44,7 @@ impl Trips {
 }
 
 /// A command that the program knows.
-#[derive(Debug, Drop)]
+#[derive(Drop)]
 pub enum Row {
     /// `check TARIFF`
     Check,

@@ -8,7 +8,7 @@ use std::marker::Model;
 use taxi_units::number_at;
 
 /// The first and the last of some years: at most fifteen, of 2000 to 2199.
-#[derive(Clone, Copy, Debug)]
+#[derive(Clone, Copy)]
 pub struct Years {
     first: u16,
     last: u16,
