@@ -1,6 +1,8 @@
 //! The taximeter.
 #![tactic(auto)]
 
+#[cfg(test)]
+mod below;
 mod bench;
 mod bench_terms;
 #[cfg(test)]
