@@ -1,5 +1,5 @@
 -- The laws that the public empty functions state.
-use Rattle.std.proofs.Common.{◌≡◌, inl, inr, ◌↔◌, ℕ, ◌+◌, ◌≤◌, List, Option, Some, None, Result, Ok, length, take, drop, arith, length-take, length-drop}
+use Rattle.std.proofs.Common.{◌≡◌, inl, inr, ◌↔◌, ℕ, ◌+◌, ◌*◌, ◌≤◌, List, Option, Some, None, Result, Ok, length, take, drop, zero, suc, refl, arith, get_or, replicate, length-take, length-drop}
 use Rattle.outside.specs.declared.board.Board.{Ghosts}
 use Rattle.outside.specs.Disk.{AreBytes, SameBut}
 use Rattle.outside.proofs.Laws.{slice_bytes}
@@ -60,6 +60,15 @@ module _ {T : Type 0} (reads : List ℕ → Option T) (number_of : T → ℕ) wh
   pub ready_left : (pair : Pair) (latest : Option T) (image : List ℕ) (in_flight : ℕ → Type 0) (left : List ℕ) → IsReady reads number_of pair image in_flight latest
       → SameBut in_flight image left → Shows reads number_of pair.at left latest
   ready_left pair latest image in_flight left ready same = ordered.quiet_leaves reads number_of pair.at pair.latest latest image left in_flight ready same
+
+zeros : (n i : ℕ) → get_or {A = ℕ} (replicate n 0) i 0 ≡ 0
+zeros zero i = refl
+zeros (suc n) zero = refl
+zeros (suc n) (suc i) = zeros n i
+
+-- a store of zeros has no open slot
+pub zeros_are_blank : (n at : ℕ) → IsBlank at (replicate n 0)
+zeros_are_blank n at slot low e = omega (arith, e, zeros n (at + 512 * slot))
 
 pub same_blank : (at : ℕ) (image left : List ℕ) → IsBlank at image → IsSamePair at image left → IsBlank at left
 same_blank = untouched.same_blank

@@ -170,6 +170,3 @@ fn is_by(first: (u8, u8), second: (u8, u8)) -> bool
 {
     first.0 < second.0 || (first.0 == second.0 && first.1 <= second.1)
 }
-
-#[cfg(test)]
-mod tests;

@@ -240,6 +240,3 @@ fn count_line(text: &[u8]) -> usize
     }
     count
 }
-
-#[cfg(test)]
-mod tests;

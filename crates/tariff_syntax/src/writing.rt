@@ -208,6 +208,3 @@ fn push_condition_line(text: &mut Vec<u8>, cond: &Cond) -> Result<(), AllocError
     text.push(b'\n')?;
     Ok(())
 }
-
-#[cfg(test)]
-mod tests;

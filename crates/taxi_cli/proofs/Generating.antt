@@ -1,5 +1,5 @@
 -- The command `gen`.
-use Rattle.std.proofs.Common.{◌≡◌, ◌≢◌, ℕ, ◌+◌, ◌*◌, ◌<◌, ◌≤◌, List, [], ◌∷◌, ◌++◌, length, Option, None, Some, Result, Ok, Err, refl, sym, ap, subst, ◌∙◌, inl, inr, arith, get_or, replicate}
+use Rattle.std.proofs.Common.{◌≡◌, ◌≢◌, ℕ, ◌+◌, ◌*◌, ◌<◌, ◌≤◌, List, [], ◌∷◌, ◌++◌, length, Option, None, Some, Result, Ok, Err, refl, sym, ap, subst, ◌∙◌, inl, inr, arith}
 use Rattle.std.specs.Prelude.{pos, zero, suc, is_ok, is_err, true, false, nat_lt}
 use Rattle.std.proofs.lemmas.Bool.{lt-ltb}
 use Rattle.std.proofs.lemmas.List.{append-nil}
@@ -13,7 +13,6 @@ use Rattle.outside.specs.Printing.{Begins}
 use Rattle.slot_store.specs.declared.found.Found.{Found}
 use Rattle.slot_store.specs.declared.found.SlotFault.{SlotFault}
 use Rattle.slot_store.specs.Scan.{found_at}
-use Rattle.slot_store.specs.Slots.{IsBlank}
 use Rattle.slot_store.proofs.Laws.{body_found}
 use Rattle.seal_store.specs.Sealing.{totals_found}
 use Rattle.seal_store.specs.declared.seal.Seal.{Seal}
@@ -49,17 +48,6 @@ is_an_hour = record { some = omega arith; few = omega arith; start = refl; in_ra
     rising : EachPlace ((first_second, pos 3600) ∷ []) (RisesAt ((first_second, pos 3600) ∷ []))
     rising zero below some = absurd (omega arith)
     rising (suc place) below some = absurd (omega arith)
-
--- ---- a new store
-
-zeros : (n i : ℕ) → get_or {A = ℕ} (replicate n 0) i 0 ≡ 0
-zeros zero i = refl
-zeros (suc n) zero = refl
-zeros (suc n) (suc i) = zeros n i
-
--- a store of zeros has no open slot
-pub blank_zeros : (n at : ℕ) → IsBlank at (replicate n 0)
-blank_zeros n at slot low e = omega (arith, e, zeros n (at + 512 * slot))
 
 -- ---- the state that the store has
 

@@ -5,14 +5,15 @@ use Rattle.drive_text.specs.Ending.{Whole, drive_end}
 use Rattle.slot_store.specs.Slots.{IsBlank}
 use Rattle.verify_bench.specs.Generated.{generated}
 use Rattle.taxi_cli.specs.Generate.{state_after}
-use Rattle.taxi_cli.proofs.Generating.{blank_zeros, never_rose, same_some, whole_drive}
+use Rattle.slot_store.proofs.Laws.{zeros_are_blank}
+use Rattle.taxi_cli.proofs.Generating.{never_rose, same_some, whole_drive}
 use Rattle.taxi_cli.proofs.generate.state_of_drive.Goals as goal
 
 pub run_afresh-requires-clause-blank : goal.run_afresh-requires-clause-blank
-run_afresh-requires-clause-blank g c = λ told. (subst (IsBlank 0) (sym c.new-board.ensures) (blank_zeros 2048 0), λ place within flies. flies)
+run_afresh-requires-clause-blank g c = λ told. (subst (IsBlank 0) (sym c.new-board.ensures) (zeros_are_blank 2048 0), λ place within flies. flies)
 
 pub run_afresh-requires-clause-unsealed : goal.run_afresh-requires-clause-unsealed
-run_afresh-requires-clause-unsealed g c = λ told. (subst (IsBlank 1024) (sym c.new-board.ensures) (blank_zeros 2048 1024), λ place within flies. flies)
+run_afresh-requires-clause-unsealed g c = λ told. (subst (IsBlank 1024) (sym c.new-board.ensures) (zeros_are_blank 2048 1024), λ place within flies. flies)
 
 pub unwrap-requires : goal.unwrap-requires
 unwrap-requires g c =
