@@ -1,0 +1,218 @@
+-- The command `seal`: what it leaves of the store.
+use Rattle.std.proofs.Common.{◌≡◌, ◌≢◌, ◌⊎◌, ⊎_elim, inl, inr, ℕ, List, [], Option, None, Some, Result, Ok, Err, refl, sym, ap, subst, ◌∙◌, arith}
+use Rattle.std.specs.Prelude.{◌==◌, if◌then◌else◌, is_some, Bool, true, false}
+use Rattle.std.proofs.lemmas.List.{ext_get_or}
+use Rattle.outside.specs.declared.board.Board.{Ghosts}
+use Rattle.outside.specs.Disk.{SameBut}
+use Rattle.outside.specs.Runs.{IsSettled as NothingFlies, KeepsStore, LeavesOnly}
+use Rattle.outside.proofs.Laws.{leaves_wider}
+use Rattle.slot_store.specs.declared.found.Found.{Found}
+use Rattle.slot_store.specs.declared.found.Found.TheVariants.{Blank, Latest}
+use Rattle.slot_store.specs.declared.found.SlotFault.{SlotFault}
+use Rattle.slot_store.specs.declared.pair.Place.{Place}
+use Rattle.slot_store.specs.Scan.{IsAnswer, found_at}
+use Rattle.slot_store.specs.Slots.{IsSettled, StandsFor}
+use Rattle.slot_store.specs.Syncs.{IsAsHeld, LeavesFromSync}
+use Rattle.slot_store.specs.Writes.{LeavesBeside}
+use Rattle.slot_store.proofs.Laws.{answer_is, at_stands, from_sync_as, goes_on, same_at, settled_already}
+use Rattle.totaliser_store.specs.declared.durable.Durable.{Durable}
+use Rattle.totaliser_store.specs.Reading as totals
+use Rattle.totaliser_store.specs.Stored as states
+use Rattle.seal_store.specs.declared.seal.Seal.{Seal}
+use Rattle.seal_store.specs.Decoding as seals
+use Rattle.seal_store.specs.Sealing.{FoundSeal, IsAmid, IsSealed, KeepsSealed, KeepsTotals, LeavesSealing, ScannedSeal, Sealing, ShowsSeal, first_written, found_number, next_number, old_seal, places_written, seal_found, totals_after, totals_found}
+use Rattle.seal_store.proofs.Laws.{seal_is_found}
+use Rattle.commands.specs.declared.ending.Ended.{Ended}
+use Rattle.commands.specs.declared.ending.Ended.TheVariants as ended
+use Rattle.commands.specs.declared.opening.Opening.{Opening}
+use Rattle.commands.specs.declared.opening.StoreFault.{StoreFault}
+use Rattle.commands.specs.declared.opening.StoreFault.TheVariants as stores
+use Rattle.commands.specs.declared.seal.Base.{Base}
+use Rattle.commands.specs.Call.{IsEnd}
+use Rattle.commands.specs.LastLine.{line_of, status_of}
+use Rattle.commands.specs.Opening.{opened, opening_of}
+use Rattle.commands.specs.Seal.{HasSealed, IsAmidOf, Seals, over_seal, over_totals, seal_read, sealing_of, sealing_over, sealing_with}
+use Rattle.commands.specs.SealSteps.{RestsAmid}
+use Rattle.commands.proofs.Openings.{no_fault}
+use Rattle.commands.proofs.Rests.{board_or_not}
+use Rattle.commands.proofs.Sealings.{sealing-made}
+
+-- ---- the opening image is amid the sealing already
+
+-- what a sealing begins with is what was found
+with_found : (old : Option Seal) (base : Base) (r : Result Seal Ended) (s : Sealing) → sealing_with old base r ≡ Ok s → (base.totals ≡ s.totals) × (old ≡ s.old)
+with_found old base (Err end) s e = absurd cc
+with_found old base (Ok seal) s e = let same : sealing_with old base (Ok seal) ≡ Ok s = e in (cc, cc)
+
+base_seal : (t : Option Durable) (seal : Found Seal) (base : Base) → over_seal t seal ≡ Ok base → t ≡ base.totals
+base_seal t Blank base e = cc
+base_seal t (Latest place seal) base e = by (seal.seal_number == 1000000000000000) e
+  where
+    by : (last : Bool) → (if last then Err ended.SealEnded else Ok (record { totals = t; found = Some (place, seal.seal_number); decimals = Some seal.decimals })) ≡ Ok base → t ≡ base.totals
+    by true f = absurd cc
+    by false f = cc
+
+base_found : (found : Found Durable) (seal : Found Seal) (base : Base) → over_totals found seal ≡ Ok base → totals_found found ≡ base.totals
+base_found Blank seal base e = base_seal None seal base e
+base_found (Latest place durable) seal base e = by (is_some durable.hold) e
+  where
+    by : (held : Bool) → (if held then Err ended.TripHeld else over_seal (Some durable) seal) ≡ Ok base → Some durable ≡ base.totals
+    by true f = absurd cc
+    by false f = base_seal (Some durable) seal base f
+
+over_found : (old : Option Seal) (b : Result Base Ended) (tariff params : List ℕ) (s : Sealing) → sealing_over old b tariff params ≡ Ok s
+    → (base : Base) × (b ≡ Ok base) × (base.totals ≡ s.totals) × (old ≡ s.old)
+over_found old (Err end) tariff params s e = absurd cc
+over_found old (Ok base) tariff params s e = let both = with_found old base _ s e in (base, refl, both.0, both.1)
+
+-- what an image shows is what was found in it
+shows_totals : (image : List ℕ) (found : Found Durable) → IsAnswer totals.reads states.number_of 0 image (Ok found) → KeepsTotals (totals_found found) image
+shows_totals image Blank is = inl is
+shows_totals image (Latest place durable) is = at_stands totals.reads states.number_of 0 place image durable is
+
+shows_seal : (image : List ℕ) (found : Found Seal) → IsAnswer seals.reads seals.number_of 1024 image (Ok found) → ShowsSeal image (old_seal found)
+shows_seal image Blank is = is
+shows_seal image (Latest place seal) is = at_stands seals.reads seals.number_of 1024 place image seal is
+
+amid_found : (image tariff params : List ℕ) (t : Result (Found Durable) SlotFault) (l : Result (Found Seal) SlotFault) (s : Sealing)
+    → IsAnswer totals.reads states.number_of 0 image t → IsAnswer seals.reads seals.number_of 1024 image l
+    → sealing_of (opened t l) tariff params ≡ Ok s → IsAmid s image
+amid_found image tariff params (Err fault) l s one two e = absurd cc
+amid_found image tariff params (Ok found) (Err fault) s one two e = absurd cc
+amid_found image tariff params (Ok found) (Ok seal) s one two e =
+    let over = over_found (old_seal seal) (over_totals found seal) tariff params s e in
+    let totals_are : totals_found found ≡ s.totals = base_found found seal over.0 over.1 ∙ over.2 in
+    record {
+      totals = subst (λ (t : Option Durable). KeepsTotals t image) totals_are (shows_totals image found one);
+      seal = inl (subst (λ (o : Option Seal). ShowsSeal image o) over.3 (shows_seal image seal two));
+    }
+
+pub amid_already : (image tariff params : List ℕ) → IsAmidOf (sealing_of (opening_of image) tariff params) image image
+amid_already image tariff params = by (sealing_of (opening_of image) tariff params) refl
+  where
+    by : (r : Result Sealing Ended) → sealing_of (opening_of image) tariff params ≡ r → IsAmidOf r image image
+    by (Err end) is = refl
+    by (Ok s) is =
+        amid_found image tariff params (found_at totals.reads states.number_of 0 image) (found_at seals.reads seals.number_of 1024 image) s
+        ((answer_is totals.reads states.number_of 0 image (found_at totals.reads states.number_of 0 image)).0 refl)
+        ((answer_is seals.reads seals.number_of 1024 image (found_at seals.reads seals.number_of 1024 image)).0 refl) is
+
+-- ---- the store
+
+-- a pair of which nothing is in flight stands in what a cut leaves
+stays_settled : {T : Type 0} (reads : List ℕ → Option T) (number_of : T → ℕ) (at : ℕ) (place : Place) (image left : List ℕ) (flying : ℕ → Type 0) (body : T)
+    → IsSettled reads number_of at place image flying body → SameBut flying image left → StandsFor reads number_of at left body
+stays_settled reads number_of at place image left flying body h same =
+    at_stands reads number_of at place left body
+    (same_at reads number_of at place image left body h.is_at (record { size = same.size; bytes = λ byte within. same.rest byte (h.quiet byte within) }))
+
+module _ {D L : Type 0} (B : Ghosts D L) where
+  -- what is amid the sealing with the image of the old board
+  abbrev Amid : Result Sealing Ended → D → List ℕ → List ℕ → Type 0
+  Amid sealing old i x = IsAmidOf sealing (B.image old) i
+
+  -- the sealing of the old board's image with a tariff's text and a parameter text
+  abbrev Made : D → (tariff params : List ℕ) → Result Sealing Ended
+  Made old tariff params = sealing_of (opening_of (B.image old)) tariff params
+
+  -- nothing was written
+  pub seals-read : (tariff params : List ℕ) (fails : Type 0) (old new : D) (status : ℕ) → status ≢ 0 → (fails → status ≡ 8) → LeavesFromSync B fails old new (IsAsHeld B old)
+      → Seals B (Made old tariff params) old new status
+  seals-read tariff params fails old new status not_0 failed synced = record {
+    sealed = λ z. absurd (not_0 z);
+    leaves = from_sync_as B (IsAsHeld B old) (Amid (Made old tariff params) old) fails (status ≡ 8) old new failed
+        (λ i x held. rw (held.image) (amid_already (B.image old) tariff params)) synced;
+  }
+
+  pub rests-read : (tariff params image : List ℕ) (new : D) → B.image new ≡ image → NothingFlies B new → RestsAmid B (sealing_of (opening_of image) tariff params) image new
+  rests-read tariff params image new same settled left h =
+      let is : left ≡ image = ext_get_or 0 left (B.image new) h.bytes.size (λ place lt. h.bytes.rest place (settled place)) ∙ same in
+      rw is (amid_already image tariff params)
+
+  -- the seal that was found, as a sealing is given it
+  pub found-as : (board : D) (seal : Found Seal) (latest : Option (Place × ℕ)) → latest ≡ seal_found seal → ScannedSeal B board seal → FoundSeal B board latest (old_seal seal)
+  found-as board seal latest e is = subst (λ (f : Option (Place × ℕ)). FoundSeal B board f (old_seal seal)) (sym e) (seal_is_found B board seal is)
+
+  -- the seal was put in, or the board failed amid it
+  seals-placed : (tariff params : List ℕ) (s : Sealing) (fails : Type 0) (old mid new : D) (status : ℕ) → Made old tariff params ≡ Ok s → ¬ fails
+      → LeavesFromSync B fails old mid (IsAsHeld B old) → LeavesSealing B s mid new → (status ≡ 0 → IsSealed s (B.image new)) → Seals B (Made old tariff params) old new status
+  seals-placed tariff params s fails old mid new status e went synced placed is =
+      let sealing = Made old tariff params in
+      record {
+        sealed = λ z. subst (λ (r : Result Sealing Ended). HasSealed r (B.image new)) (sym e) (is z);
+        leaves = goes_on B (IsAsHeld B old) (Amid sealing old) fails (status ≡ 8) old mid new went (λ i x held. rw (held.image) (amid_already (B.image old) tariff params)) synced
+            (leaves_wider B (LeavesBeside (B.image mid) (B.in_flight mid) (B.printed mid) (first_written s.totals) (places_written s.totals) (IsAmid s))
+            (Amid sealing old) mid new (λ i x h. subst (λ (r : Result Sealing Ended). IsAmidOf r (B.image old) i) (sym e) h.stands) placed.leaves);
+      }
+
+  -- the same of what was opened, its base and the seal that was read
+  pub seals-over : (tariff params : List ℕ) (r : Result Opening StoreFault) (opening : Opening) (b : Result Base Ended) (base : Base) (number : ℕ) (seal : Seal) (old mid new : D) (status : ℕ)
+      → r ≡ Ok opening → (¬ (r ≡ Err stores.BoardFault) → r ≡ opening_of (B.image old)) → b ≡ Ok base → b ≡ over_totals opening.totals opening.seal → number ≡ next_number (found_number base.found)
+      → seal_read number base.decimals tariff params ≡ Ok seal → base.found ≡ seal_found opening.seal → ScannedSeal B mid opening.seal
+      → LeavesFromSync B (r ≡ Err stores.BoardFault) old mid (IsAsHeld B old)
+      → ((found : Option Seal) → FoundSeal B mid base.found found → LeavesSealing B (record { totals = base.totals; old = found; new = seal }) mid new)
+      → (status ≡ 0 → IsSealed (record { totals = base.totals; old = old_seal opening.seal; new = seal }) (B.image new)) → Seals B (Made old tariff params) old new status
+  seals-over tariff params r opening b base number seal old mid new status is exact based answer counted read latest scanned synced placed sealed =
+      seals-placed tariff params (record { totals = base.totals; old = old_seal opening.seal; new = seal }) (r ≡ Err stores.BoardFault) old mid new status
+      (sealing-made (B.image old) tariff params r opening b base number seal is exact based answer counted read) (no_fault r opening stores.BoardFault is) synced
+      (placed (old_seal opening.seal) (found-as mid opening.seal base.found latest scanned)) sealed
+
+  -- the store stands for what the sealing says, also behind a cut
+  sealed_left : (s : Sealing) (board : D) → KeepsSealed B s.totals s.new board → (image : List ℕ) → SameBut (B.in_flight board) (B.image board) image → IsSealed s image
+  sealed_left s board h image same = record {
+    totals = stays_settled totals.reads states.number_of 0 h.totals.0 (B.image board) image (B.in_flight board) (totals_after s.totals) h.totals.1 same;
+    seal = stays_settled seals.reads seals.number_of 1024 h.seal_is.0 (B.image board) image (B.in_flight board) s.new h.seal_is.1 same;
+  }
+
+  pub is_sealed : (s : Sealing) (board : D) → KeepsSealed B s.totals s.new board → IsSealed s (B.image board)
+  is_sealed s board h = sealed_left s board h (B.image board) (record { size = refl; rest = λ place none. refl })
+
+  kept_totals : (found : Option Durable) (image : List ℕ) → states.HasState image (totals_after found) → KeepsTotals found image
+  kept_totals None image h = inr h
+  kept_totals (Some durable) image h = h
+
+  pub rests-placed : (sealing : Result Sealing Ended) (s : Sealing) (image : List ℕ) (new : D) → sealing ≡ Ok s → KeepsSealed B s.totals s.new new → RestsAmid B sealing image new
+  rests-placed sealing s image new e h left held =
+      let is = sealed_left s new h left held.bytes in
+      subst (λ (r : Result Sealing Ended). IsAmidOf r image left) (sym e) (record { totals = kept_totals s.totals left is.totals; seal = inr is })
+
+  -- the last line keeps what was sealed, and is none where the board had failed
+  still_rests : (sealing : Result Sealing Ended) (old synced mid new : D) → LeavesOnly B synced mid (Amid sealing old) → RestsAmid B sealing (B.image old) mid → KeepsStore B mid new
+      → LeavesOnly B synced new (Amid sealing old)
+  still_rests sealing old synced mid new run rests kept = record {
+    later = omega (arith, run.later, kept.later);
+    each = λ i x left. ⊎_elim (run.each i x) (rests i) (kept.before (B.moment synced) i x run.later left);
+    before = λ start i x le left. ⊎_elim (run.before start i x le) (λ held. inr (rests i held)) (kept.before start i x (omega (arith, le, run.later)) left);
+  }
+
+  finished : (sealing : Result Sealing Ended) (old mid new : D) (end : Ended) (status : ℕ) → (status_of end ≡ 8 → status ≡ 8)
+      → LeavesFromSync B (status_of end ≡ 8) old mid (Amid sealing old) → (end ≢ ended.BoardFault → RestsAmid B sealing (B.image old) mid) → KeepsStore B mid new → (line_of end ≡ [] → new ≡ mid)
+      → (end ≡ ended.BoardFault) ⊎ ((end ≢ ended.BoardFault) × (status_of end ≢ 8)) → LeavesFromSync B (status ≡ 8) old new (Amid sealing old)
+  finished sealing old mid new end status eight leaves rests kept silent (inl is) =
+      subst (λ (board : D). LeavesFromSync B (status ≡ 8) old board (Amid sealing old)) (sym (silent (ap line_of is)))
+      (from_sync_as B (Amid sealing old) (Amid sealing old) (status_of end ≡ 8) (status ≡ 8) old mid eight (λ i x h. h) leaves)
+  finished sealing old mid new end status eight (inl failed) rests kept silent (inr (good, not_8)) = absurd (not_8 failed.0)
+  finished sealing old mid new end status eight (inr (synced, at, run)) rests kept silent (inr (good, not_8)) =
+      inr (synced, at, still_rests sealing old synced mid new run (rests good) kept)
+
+  pub seals-finished : (sealing : Result Sealing Ended) (old mid new : D) (end : Ended) (status : ℕ) (told failed : Type 0) (before now : List ℕ)
+      → Seals B sealing old mid (status_of end) → (end ≢ ended.BoardFault → RestsAmid B sealing (B.image old) mid) → KeepsStore B mid new → (line_of end ≡ [] → new ≡ mid)
+      → IsEnd told failed (status_of end) (line_of end) status before now → Seals B sealing old new status
+  seals-finished sealing old mid new end status told failed before now h rests kept silent ends = record {
+    sealed = λ z. subst (λ (image : List ℕ). HasSealed sealing image) (sym kept.same) (h.sealed (zero z ends));
+    leaves = finished sealing old mid new end status (eight ends) h.leaves rests kept silent (board_or_not end);
+  }
+    where
+      zero : status ≡ 0 → IsEnd told failed (status_of end) (line_of end) status before now → status_of end ≡ 0
+      zero z (inl whole) = sym whole.status_is ∙ z
+      zero z (inr cut) = let eight = cut.status_is in absurd cc
+
+      eight : IsEnd told failed (status_of end) (line_of end) status before now → status_of end ≡ 8 → status ≡ 8
+      eight (inl whole) z = whole.status_is ∙ z
+      eight (inr cut) z = cut.status_is
+
+  -- where nothing was in flight before the call
+  pub seals-settled : (tariff params : List ℕ) (old new : D) (status : ℕ) → NothingFlies B old → Seals B (sealing_of (opening_of (B.image old)) tariff params) old new status
+      → LeavesOnly B old new (Amid (sealing_of (opening_of (B.image old)) tariff params) old)
+  seals-settled tariff params old new status settled h =
+      settled_already B (Amid (sealing_of (opening_of (B.image old)) tariff params) old) (status ≡ 8) old new settled (amid_already (B.image old) tariff params) h.leaves

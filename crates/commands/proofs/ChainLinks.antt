@@ -1,0 +1,248 @@
+-- One run of a chain, from what holds of a call with the words of a run.
+use Rattle.std.proofs.Common.{◌≡◌, ◌≢◌, ◌⊎◌, inl, inr, ℕ, ◌+◌, ◌-◌, List, [], ◌∷◌, ◌++◌, length, take, Option, Some, None, Result, Ok, Err, refl, sym, ap, subst, ◌∙◌, arith, append_assoc, length-append}
+use Rattle.std.proofs.lemmas.List.{append-nil}
+use Rattle.std.proofs.Math.Seq.{take-append_seam}
+use Rattle.outside.specs.declared.board.Board.{Ghosts}
+use Rattle.outside.specs.declared.files.Files.{Ghosts as FileGhosts}
+use Rattle.outside.specs.declared.replay.Fill.{Fill}
+use Rattle.outside.specs.Disk.{SameBut}
+use Rattle.outside.specs.Faults.{Rose}
+use Rattle.outside.specs.MemoryFiles.{FilesState, rest_of}
+use Rattle.outside.specs.Printing.{Begins}
+use Rattle.outside.specs.Runs.{IsSettled as NothingFlies}
+use Rattle.slot_store.proofs.Laws.{one_body}
+use Rattle.totaliser_store.specs.Reading.{reads}
+use Rattle.totaliser_store.specs.Stored.{HasState, number_of}
+use Rattle.totaliser_store.specs.Sums.{Follows}
+use Rattle.totaliser_store.specs.States.{after}
+use Rattle.totaliser_store.specs.declared.change.Change.{Change}
+use Rattle.totaliser_store.specs.declared.change.Change.TheVariants as changes
+use Rattle.totaliser_store.specs.declared.durable.Durable.{Durable}
+use Rattle.totaliser_store.proofs.Laws.{changes_add_up}
+use Rattle.meter_states.specs.declared.act.Act.TheVariants.{Show, Refuse, Enter, Hold, Receipt}
+use Rattle.meter_run.specs.Deeds.{Deed, Does, Prints, after_deeds, changes_in, changes_of, texts}
+use Rattle.meter_run.proofs.Laws.{the_number_tells_the_commits-beginning}
+use Rattle.commands.specs.Call.{IsEnd, MayTake}
+use Rattle.commands.specs.Command.{command_of}
+use Rattle.commands.specs.Course.{Course, Answered, ReadFailed, NoMemory, BoardFailed, line_in, status_in}
+use Rattle.commands.specs.Link.{deeds_from}
+use Rattle.commands.specs.ChainSteps.{HasLink}
+use Rattle.commands.specs.Opening.{opening_of}
+use Rattle.commands.specs.Run.{IsOfTotals, IsRun, MayFind, Stands, Start, bytes_in, deeds_in, run_command, start_of}
+use Rattle.commands.specs.declared.ending.Ended.{Ended}
+use Rattle.commands.specs.declared.words.Row.{Row}
+use Rattle.commands.specs.declared.words.Row.TheVariants as rows
+use Rattle.commands.proofs.Running.{found-held, same_outside}
+use Rattle.commands.proofs.Starting.{start_stands}
+
+-- ---- what deeds commit
+
+pub commits_joined : (xs ys : List Deed) → changes_of (xs ++ ys) ≡ changes_of xs ++ changes_of ys
+commits_joined [] ys = refl
+commits_joined (x ∷ xs) ys = ap (λ (l : List Change). changes_in x ++ l) (commits_joined xs ys) ∙ sym (append_assoc (changes_in x) (changes_of xs) (changes_of ys))
+
+-- a line commits nothing
+pub line_commits : (deeds : List Deed) (line : List ℕ) → changes_of (deeds ++ Prints line ∷ []) ≡ changes_of deeds
+line_commits deeds line = commits_joined deeds (Prints line ∷ []) ∙ append-nil (changes_of deeds)
+
+-- each commit raises the number by one
+after_number : (d : Durable) (deeds : List Deed) → (after_deeds d deeds).number ≡ d.number + length (changes_of deeds)
+after_number d [] = omega arith
+after_number d (Prints line ∷ deeds) = after_number d deeds
+after_number d (Does (Show display) ∷ deeds) = after_number d deeds
+after_number d (Does (Refuse why) ∷ deeds) = after_number d deeds
+after_number d (Does (Enter entry) ∷ deeds) = omega (arith, after_number (after d (changes.Enter entry)) deeds)
+after_number d (Does (Hold trip) ∷ deeds) = omega (arith, after_number (after d (changes.Hold trip)) deeds)
+after_number d (Does (Receipt receipt) ∷ deeds) = after_number d deeds
+
+-- an image stands for one state
+pub one_state : (image : List ℕ) (d e : Durable) → HasState image d → HasState image e → d ≡ e
+one_state image d e = one_body reads number_of 0 image d e
+
+-- ---- what a cut leaves of a run
+
+-- an image has these commits of a list, from the first on
+pub record Keeps (d : Durable) (commits : List Change) (image : List ℕ) : Type 0 where
+  pub found : Durable
+  pub stands : HasState image found
+  pub kept : List Change
+  pub more : List Change
+  pub split : commits ≡ kept ++ more
+  pub follows : Follows d found kept
+
+module _ (image tariff : List ℕ) (d : Durable) (has : HasState image d) where
+  -- the state that a run begins with is the image's
+  pub begins_with : (s : Start) → start_of (opening_of image) tariff ≡ Ok s → s.durable ≡ d
+  begins_with s e = one_state image s.durable d (start_stands image tariff s e).0 has
+
+  pub keeps : (r : Result Start Ended) → start_of (opening_of image) tariff ≡ r → (bytes line i x : List ℕ) → MayFind (Unit {0}) image [] r bytes line i x
+      → Keeps d (changes_of (deeds_from r bytes)) i
+  keeps (Err why) e bytes line i x m = record {
+    found = d;
+    stands = subst (λ (l : List ℕ). HasState l d) (sym m.0) has;
+    kept = [];
+    more = [];
+    split = refl;
+    follows = changes_add_up d [];
+  }
+  keeps (Ok s) e bytes line i x m =
+      let cut = m.cut in
+      let beginning = the_number_tells_the_commits-beginning _ s.seal (Unit {0}) s.durable [] (deeds_in s bytes ++ Prints line ∷ []) i x cut in
+      record {
+        found = cut.found;
+        stands = cut.stands;
+        kept = changes_of cut.kept;
+        more = changes_of beginning.0;
+        split = sym (line_commits (deeds_in s bytes) line) ∙ ap changes_of beginning.1 ∙ commits_joined cut.kept beginning.0;
+        follows = subst (λ (b : Durable). Follows b cut.found (changes_of cut.kept)) (begins_with s e) cut.follows;
+      }
+
+  -- the bytes of the seal
+  pub seal_same : (r : Result Start Ended) → (bytes line i x : List ℕ) → MayFind (Unit {0}) image [] r bytes line i x → SameBut IsOfTotals image i
+  seal_same (Err why) bytes line i x m = same_outside image i m.0
+  seal_same (Ok s) bytes line i x m = m.seal_stays
+
+  -- where the run was carried out the number is that after all its commits
+  pub all_kept : (told : Type 0) (printed : List ℕ) (r : Result Start Ended) → start_of (opening_of image) tariff ≡ r → (bytes now : List ℕ) → Stands told image printed r bytes now
+      → (e : Durable) → HasState now e → e.number ≡ d.number + length (changes_of (deeds_from r bytes))
+  all_kept told printed (Err why) f bytes now stands e found =
+      let same : e ≡ d = one_state image e d (subst (λ (l : List ℕ). HasState l e) stands found) has in
+      ap (λ (x : Durable). x.number) same ∙ omega arith
+  all_kept told printed (Ok s) f bytes now stands e found =
+      let same : e ≡ after_deeds s.durable (deeds_in s bytes) = one_state now e (after_deeds s.durable (deeds_in s bytes)) found stands.state in
+      ap (λ (x : Durable). x.number) same ∙ after_number s.durable (deeds_in s bytes) ∙ ap (λ (x : Durable). x.number + length (changes_of (deeds_in s bytes))) (begins_with s f)
+
+-- where the text is told, and nothing was printed before
+pub told_pair : (told : Type 0) → told → (image printed : List ℕ) → printed ≡ [] → (r : Result Start Ended) (bytes line i x : List ℕ)
+    → MayFind told image printed r bytes line i x → MayFind (Unit {0}) image [] r bytes line i x
+told_pair told t image printed e (Err why) bytes line i x m = (m.0, λ u. subst (λ (p : List ℕ). Begins p x line) e (m.1 t))
+told_pair told t image printed e (Ok s) bytes line i x m = record {
+  cut = record {
+    done = m.cut.done;
+    next = m.cut.next;
+    left = m.cut.left;
+    split = m.cut.split;
+    one = m.cut.one;
+    begun = λ u. subst (λ (p : List ℕ). Begins (p ++ texts s.seal m.cut.done) x (texts s.seal m.cut.next)) e (m.cut.begun t);
+    kept = m.cut.kept;
+    kept_is = m.cut.kept_is;
+    found = m.cut.found;
+    stands = m.cut.stands;
+    scanned = m.cut.scanned;
+    fits = m.cut.fits;
+    follows = m.cut.follows;
+    receipts = m.cut.receipts;
+  };
+  seal_stays = m.seal_stays;
+}
+
+-- what was left since moment 0 was left since a board's first moment
+pub since_first : (since : ℕ → List ℕ → List ℕ → Type 0) (moment : ℕ) → moment ≡ 0 → (i image opening : List ℕ) → opening ≡ image
+    → ((text : List ℕ) × since 0 i text) ⊎ (i ≡ image) → ((text : List ℕ) × since moment i text) ⊎ (i ≡ opening)
+since_first since moment e i image opening is (inl h) = inl (h.0, subst (λ (n : ℕ). since n i h.0) (sym e) h.1)
+since_first since moment e i image opening is (inr same) = inr (same ∙ sym is)
+
+-- ---- how far a run came
+
+module _ (contents left : ℕ → List ℕ) (image : List ℕ) (read_failed : ℕ → Type 0) (board_failed told : Type 0) (text : List ℕ) (ended : ℕ) (before now : List ℕ) where
+  abbrev Came : Course → Type 0
+  Came course = MayTake run_command contents left image read_failed ⊥ course × (ended ≡ status_in run_command contents image course)
+
+  pub came : (course : Course) → MayTake run_command contents left image read_failed board_failed course
+      → IsEnd told board_failed (status_in run_command contents image course) text ended before now → ended ≢ 8 → ended ≢ 12 → Came course
+  came Answered may (inl whole) not_8 not_12 = (record { whole = may.whole; refused = may.refused; bad = may.bad }, whole.status_is)
+  came Answered may (inr cut) not_8 not_12 = absurd (not_8 cut.status_is)
+  came (ReadFailed word taken) may (inl whole) not_8 not_12 = (record { reads = may.reads; comes = may.comes; failed = may.failed; takes = may.takes }, whole.status_is)
+  came (ReadFailed word taken) may (inr cut) not_8 not_12 = absurd (not_8 cut.status_is)
+  came NoMemory may (inl whole) not_8 not_12 = absurd (not_12 whole.status_is)
+  came NoMemory may (inr cut) not_8 not_12 = absurd (not_8 cut.status_is)
+  came (BoardFailed taken) may (inl whole) not_8 not_12 = absurd (not_8 whole.status_is)
+  came (BoardFailed taken) may (inr cut) not_8 not_12 = absurd (not_8 cut.status_is)
+
+-- the words that a run doesn't read
+pub not_read : (row : Option Row) → row ≡ Some rows.Run → (word : ℕ) → word ≢ 1 → word ≢ 2 → ¬ ((command_of row).reads word)
+not_read row is word not_1 not_2 reads = by (subst (λ (r : Option Row). (command_of r).reads word) is reads)
+  where
+    by : (word ≡ 1) ⊎ (word ≡ 2) → ⊥
+    by (inl e) = not_1 e
+    by (inr e) = not_2 e
+
+-- ---- the run of a chain
+
+-- what files in memory tell
+abbrev files_told : FileGhosts FilesState
+files_told = record { tells = Unit {0}; rest = rest_of; faults = λ files word. files.failed }
+
+module _ {D L : Type 0} (B : Ghosts D L) (files left : FilesState) (old new : D) (ended : ℕ) (run : IsRun files_told B files left old new ended)
+    (told : B.tells_text) (silent : B.printed old ≡ []) (still : NothingFlies B old) (not_8 : ended ≢ 8) (not_12 : ended ≢ 12)
+    (unread : (word : ℕ) → word ≢ 1 → word ≢ 2 → rest_of left word ≡ rest_of files word) where
+  abbrev image : List ℕ
+  image = B.image old
+
+  abbrev begun : Result Start Ended
+  begun = start_of (opening_of image) (rest_of files 1)
+
+  abbrev bytes : List ℕ
+  bytes = bytes_in run.call.course (rest_of files 2)
+
+  abbrev line : List ℕ
+  line = line_in run_command (rest_of files) image run.call.course
+
+  abbrev IsLeft : List ℕ → List ℕ → Type 0
+  IsLeft i x = MayFind (Unit {0}) image [] begun bytes line i x
+
+  -- a pair that a cut might have left since the call's start
+  left_pair : (i x : List ℕ) → B.left_since new (B.moment old) i x → IsLeft i x
+  left_pair i x h = told_pair B.tells_text told image (B.printed old) silent begun bytes line i x ((run.settled still).each i x h)
+
+  -- or the one with which it began
+  first_pair : (i : List ℕ) → i ≡ image → IsLeft i []
+  first_pair i same = found-held (Unit {0}) image [] (rest_of files 1) begun refl bytes line i [] same refl
+
+  pub pair_of : (i : List ℕ) → ((text : List ℕ) × B.left_since new (B.moment old) i text) ⊎ (i ≡ image) → (text : List ℕ) × IsLeft i text
+  pair_of i (inl h) = (h.0, left_pair i h.0 h.1)
+  pair_of i (inr same) = ([], first_pair i same)
+
+  pub linked : (d : Durable) → HasState image d → (cut : Option (ℕ × Fill)) (i : List ℕ) → ((text : List ℕ) × B.left_since new (B.moment old) i text) ⊎ (i ≡ image)
+      → (cut ≡ None → i ≡ B.image new) → ((fill : Fill) → cut ≡ Some (0, fill) → i ≡ image) → (number : ℕ) → ((e : Durable) → HasState i e → number ≡ e.number)
+      → HasLink d image files left cut ended i number
+  linked d has cut i left_so whole none number number_is =
+      let pair = pair_of i left_so in
+      let k = keeps image (rest_of files 1) d has begun refl bytes line i pair.0 pair.1 in
+      let commits : List Change = changes_of (deeds_from begun bytes) in
+      let is_number : number ≡ k.found.number = number_is k.found k.stands in
+      let more : k.found.number ≡ d.number + length k.kept = k.follows.number in
+      let few : length commits ≡ length k.kept + length k.more = ap length k.split ∙ length-append k.kept k.more in
+      let counted : number - d.number ≡ length k.kept = omega arith in
+      let prefix : take (number - d.number) commits ≡ k.kept = ap (λ (n : ℕ). take n commits) counted ∙ ap (take (length k.kept)) k.split ∙ take-append_seam k.kept k.more in
+      let how = came (rest_of files) (rest_of left) image (λ word. Rose files.failed left.failed) (Rose (B.faults old) (B.faults new)) B.tells_text _ ended (B.printed old) (B.printed new)
+      run.call.course run.call.may run.call.ends not_8 not_12 in
+      record {
+        link = record { files = files; files_left = left; cut = cut; course = run.call.course; status = ended; image = i; found = k.found; number = number; text = pair.0 };
+        is = record {
+          may = how.0;
+          status = how.1;
+          memory = not_12;
+          others = unread;
+          least = omega arith;
+          most = omega arith;
+          stands = k.stands;
+          number = is_number;
+          follows = subst (λ (l : List Change). Follows d k.found l) (sym prefix) k.follows;
+          whole = λ uncut.
+              is_number ∙ all_kept image (rest_of files 1) d has B.tells_text (B.printed old) begun refl bytes (B.image new) (run.stands not_8) k.found
+              (subst (λ (l : List ℕ). HasState l k.found) (whole uncut) k.stands);
+          none = λ fill first. (
+            none fill first,
+            is_number ∙ ap (λ (x : Durable). x.number) (one_state image k.found d (subst (λ (l : List ℕ). HasState l k.found) (none fill first) k.stands) has),
+          );
+          seal_stays = seal_same image (rest_of files 1) d has begun bytes line i pair.0 pair.1;
+          pair = pair.1;
+        };
+        files_are = refl;
+        left_are = refl;
+        cut_is = refl;
+        status_is = refl;
+        image_is = refl;
+        number_is = refl;
+      }

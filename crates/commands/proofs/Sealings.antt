@@ -1,0 +1,287 @@
+-- The command `seal`: what it answers.
+use Rattle.std.proofs.Common.{◌≡◌, ◌≢◌, ◌⊎◌, ⊎_elim, inl, inr, ℕ, List, [], ◌++◌, Option, None, Some, Result, Ok, Err, refl, sym, ap, subst, ◌∙◌}
+use Rattle.std.specs.Prelude.{◌==◌, if◌then◌else◌, Bool, true, false}
+use Rattle.sha2.specs.Sha256.{sha256}
+use Rattle.outside.specs.Printing.{Begins}
+use Rattle.tariff_syntax.specs.Tree.{Tree}
+use Rattle.seal_store.specs.declared.params.Params.{Params}
+use Rattle.seal_store.specs.declared.params.ParamFault.{ParamFault}
+use Rattle.seal_store.specs.declared.seal.Seal.{Seal}
+use Rattle.seal_store.specs.Reading.{params_read}
+use Rattle.seal_store.specs.Sealing.{Sealing, found_number, next_number, old_seal}
+use Rattle.commands.specs.declared.ending.Ended.{Ended}
+use Rattle.commands.specs.declared.ending.Ended.TheVariants as ended
+use Rattle.commands.specs.declared.opening.Opening.{Opening}
+use Rattle.commands.specs.declared.opening.StoreFault.{StoreFault}
+use Rattle.commands.specs.declared.opening.StoreFault.TheVariants as stores
+use Rattle.commands.specs.declared.params.ParamsFault.{ParamsFault}
+use Rattle.commands.specs.declared.params.ParamsFault.TheVariants as params
+use Rattle.commands.specs.declared.seal.Base.{Base}
+use Rattle.commands.specs.declared.tariff.Refusal.{Refusal}
+use Rattle.commands.specs.declared.tariff.TextFault.{TextFault}
+use Rattle.commands.specs.declared.tariff.TextFault.TheVariants as texts
+use Rattle.commands.specs.Answer.{Answer}
+use Rattle.commands.specs.Course.{Answered, NoMemory, ReadFailed}
+use Rattle.commands.specs.Ending.{Comes, ended_for, ended_for_params}
+use Rattle.commands.specs.LastLine.{sealed_line, status_of}
+use Rattle.commands.specs.Opening.{opening_of, store_ended}
+use Rattle.commands.specs.Seal.{HasDecimals, IsSealable, are_decimals, base_in, over_totals, seal_answer, seal_command, seal_read, sealing_of, sealing_over, sealing_with, where_decimals, with_params, with_tariff}
+use Rattle.commands.specs.SealSteps.{IsNoSeal, IsNoTariff, IsTariffWith}
+use Rattle.commands.specs.Tariffs.{tariff_in}
+use Rattle.commands.proofs.Answering.{comes-refusal, none}
+use Rattle.commands.proofs.Openings.{as_found}
+
+-- ---- the texts
+
+-- why a tariff wasn't read
+pub no_tariff : (found : Option ℕ) (tariff : List ℕ) (fault : TextFault) → fault ≢ texts.ReadFault
+    → ((why : Refusal) → fault ≡ texts.Refused why → tariff_in tariff ≡ Err why) → IsNoTariff found tariff (ended_for fault)
+no_tariff found tariff texts.ReadFault read why = absurd (read refl)
+no_tariff found tariff (texts.Refused why) read refused = refused why refl
+no_tariff found tariff texts.NoMemory read why = tt
+
+-- the decimals of a sound tariff are others
+pub other_decimals : (found : Option ℕ) (tariff : List ℕ) (t : Tree) (end : Ended) → tariff_in tariff ≡ Ok t → are_decimals found t.decimals ≡ Err end
+    → IsNoTariff found tariff end
+other_decimals None tariff t end sound e = absurd cc
+other_decimals (Some one) tariff t end sound e = by (one == t.decimals) refl e
+  where
+    others : Ended
+    others = ended.OtherDecimals one t.decimals
+
+    by : (same : Bool) → (one == t.decimals) ≡ same → (if same then Ok (tt {0}) else Err others) ≡ Err end → IsNoTariff (Some one) tariff end
+    by true is e = absurd cc
+    by false is e =
+        let end_is : end ≡ others = cc in
+        rw end_is (t, sound, ap (λ (same : Bool). if same then Ok (tt {0}) else Err others) is)
+
+-- a tariff that is refused makes no seal
+pub no_seal-tariff : (number : ℕ) (found : Option ℕ) (tariff params : List ℕ) (read_failed : ℕ → Type 0) (end : Ended) → IsNoTariff found tariff end
+    → IsNoSeal number found tariff params read_failed end
+no_seal-tariff number found tariff params read_failed ended.NoMemory h = tt
+no_seal-tariff number found tariff params read_failed (ended.BadTariff why) h =
+    ap (λ (r : Result Tree Refusal). with_tariff number found (sha256 tariff) r (params_read params)) h
+no_seal-tariff number found tariff params read_failed (ended.OtherDecimals one own) (t, sound, others) =
+    ap (λ (r : Result Tree Refusal). with_tariff number found (sha256 tariff) r (params_read params)) sound
+    ∙ ap (λ (r : Result (Unit {0}) Ended). where_decimals r (with_params number (sha256 tariff) t.decimals (params_read params))) others
+no_seal-tariff number found tariff params read_failed ended.Done h = absurd h
+no_seal-tariff number found tariff params read_failed (ended.Sound cells measure) h = absurd h
+no_seal-tariff number found tariff params read_failed ended.BadWords h = absurd h
+no_seal-tariff number found tariff params read_failed ended.NotSealed h = absurd h
+no_seal-tariff number found tariff params read_failed (ended.BadSlot slot) h = absurd h
+no_seal-tariff number found tariff params read_failed (ended.SameNumber first second) h = absurd h
+no_seal-tariff number found tariff params read_failed ended.TripHeld h = absurd h
+no_seal-tariff number found tariff params read_failed ended.BadTrip h = absurd h
+no_seal-tariff number found tariff params read_failed (ended.WrongTariff digest own) h = absurd h
+no_seal-tariff number found tariff params read_failed ended.SealEnded h = absurd h
+no_seal-tariff number found tariff params read_failed (ended.BadFrame place) h = absurd h
+no_seal-tariff number found tariff params read_failed ended.EndlessRequests h = absurd h
+no_seal-tariff number found tariff params read_failed (ended.BadRules fault) h = absurd h
+no_seal-tariff number found tariff params read_failed ended.LongBook h = absurd h
+no_seal-tariff number found tariff params read_failed (ended.BadBook line) h = absurd h
+no_seal-tariff number found tariff params read_failed (ended.BadParams fault) h = absurd h
+no_seal-tariff number found tariff params read_failed (ended.Sealed n) h = absurd h
+no_seal-tariff number found tariff params read_failed (ended.BadReadings row) h = absurd h
+no_seal-tariff number found tariff params read_failed ended.LongReadings h = absurd h
+no_seal-tariff number found tariff params read_failed ended.NotPassed h = absurd h
+no_seal-tariff number found tariff params read_failed (ended.BadDrive line) h = absurd h
+no_seal-tariff number found tariff params read_failed ended.EndlessDrive h = absurd h
+no_seal-tariff number found tariff params read_failed ended.ReadFault h = absurd h
+no_seal-tariff number found tariff params read_failed ended.BoardFault h = absurd h
+
+-- a refused tariff is no fault of a read or of the board
+pub no_tariff-fault : (found : Option ℕ) (tariff : List ℕ) (end : Ended) → IsNoTariff found tariff end → (end ≢ ended.ReadFault) × (end ≢ ended.BoardFault)
+no_tariff-fault found tariff end h = (λ e. subst (λ (x : Ended). IsNoTariff found tariff x) e h, λ e. subst (λ (x : Ended). IsNoTariff found tariff x) e h)
+
+-- neither does a tariff that wasn't read
+pub no_seal-text : (number : ℕ) (found : Option ℕ) (tariff params : List ℕ) (read_failed : ℕ → Type 0) (fault : TextFault) → (fault ≡ texts.ReadFault → read_failed 1)
+    → ((why : Refusal) → fault ≡ texts.Refused why → tariff_in tariff ≡ Err why) → IsNoSeal number found tariff params read_failed (ended_for fault)
+no_seal-text number found tariff params read_failed texts.ReadFault failed refused = inl (failed refl)
+no_seal-text number found tariff params read_failed (texts.Refused why) failed refused =
+    ap (λ (r : Result Tree Refusal). with_tariff number found (sha256 tariff) r (params_read params)) (refused why refl)
+no_seal-text number found tariff params read_failed texts.NoMemory failed refused = tt
+
+-- what a tariff that fits makes with the parameters
+seal_with : (number : ℕ) (found : Option ℕ) (tariff params : List ℕ) (h : HasDecimals found tariff)
+    → seal_read number found tariff params ≡ with_params number (sha256 tariff) h.tree.decimals (params_read params)
+seal_with number found tariff params h =
+    ap (λ (r : Result Tree Refusal). with_tariff number found (sha256 tariff) r (params_read params)) h.sound
+    ∙ ap (λ (r : Result (Unit {0}) Ended). where_decimals r (with_params number (sha256 tariff) h.tree.decimals (params_read params))) h.decimals
+
+-- parameters that weren't read make none
+pub no_seal-params : (number : ℕ) (found : Option ℕ) (tariff text : List ℕ) (read_failed : ℕ → Type 0) (h : HasDecimals found tariff) (fault : ParamsFault)
+    → (fault ≡ params.ReadFault → read_failed 2) → ((why : ParamFault) → fault ≡ params.Refused why → params_read text ≡ Err why)
+    → IsNoSeal number found tariff text read_failed (ended_for_params fault)
+no_seal-params number found tariff text read_failed h params.ReadFault failed refused = inr (h, failed refl)
+no_seal-params number found tariff text read_failed h (params.Refused why) failed refused =
+    seal_with number found tariff text h ∙ ap (with_params number (sha256 tariff) h.tree.decimals) (refused why refl)
+no_seal-params number found tariff text read_failed h params.NoMemory failed refused = tt
+
+-- the seal of both texts
+pub seal-made : (number decimals : ℕ) (found : Option ℕ) (tariff text : List ℕ) (is : IsTariffWith found decimals tariff) (p : Params) → params_read text ≡ Ok p
+    → seal_read number found tariff text ≡ Ok (record { seal_number = number; params = p; digest = sha256 tariff; decimals = decimals })
+seal-made number decimals found tariff text is p read =
+    seal_with number found tariff text is.has ∙ ap (with_params number (sha256 tariff) is.has.tree.decimals) read
+    ∙ ap (λ (d : ℕ). Ok (record { seal_number = number; params = p; digest = sha256 tariff; decimals = d })) is.decimals_are
+
+-- ---- the answer
+
+-- the store speaks against a sealing
+pub sealing-barred : (r : Result Opening StoreFault) (opening : Opening) (end : Ended) (tariff text : List ℕ) → r ≡ Ok opening
+    → over_totals opening.totals opening.seal ≡ Err end → sealing_of r tariff text ≡ Err end
+sealing-barred r opening end tariff text e f =
+    ap (λ (x : Result Opening StoreFault). sealing_of x tariff text) e
+    ∙ ap (λ (b : Result Base Ended). sealing_over (old_seal opening.seal) b tariff text) f
+
+-- or it goes over what was found, with what the texts say
+pub sealing-over : (r : Result Opening StoreFault) (opening : Opening) (base : Base) (tariff text : List ℕ) (s : Result Seal Ended) → r ≡ Ok opening
+    → over_totals opening.totals opening.seal ≡ Ok base → seal_read (next_number (found_number base.found)) base.decimals tariff text ≡ s
+    → sealing_of r tariff text ≡ sealing_with (old_seal opening.seal) base s
+sealing-over r opening base tariff text s e f g =
+    ap (λ (x : Result Opening StoreFault). sealing_of x tariff text) e
+    ∙ ap (λ (b : Result Base Ended). sealing_over (old_seal opening.seal) b tariff text) f
+    ∙ ap (sealing_with (old_seal opening.seal) base) g
+
+-- what was opened, its base and the seal that was read make a sealing
+pub sealing-made : (image tariff text : List ℕ) (r : Result Opening StoreFault) (opening : Opening) (b : Result Base Ended) (base : Base) (number : ℕ) (seal : Seal) → r ≡ Ok opening
+    → (¬ (r ≡ Err stores.BoardFault) → r ≡ opening_of image) → b ≡ Ok base → b ≡ over_totals opening.totals opening.seal → number ≡ next_number (found_number base.found)
+    → seal_read number base.decimals tariff text ≡ Ok seal → sealing_of (opening_of image) tariff text ≡ Ok (record { totals = base.totals; old = old_seal opening.seal; new = seal })
+sealing-made image tariff text r opening b base number seal is exact based answer counted read =
+    sealing-over (opening_of image) opening base tariff text (Ok seal) (as_found r (opening_of image) opening stores.BoardFault is exact) (sym answer ∙ based)
+    (subst (λ (n : ℕ). seal_read n base.decimals tariff text ≡ Ok seal) counted read)
+
+-- the statuses of refusals
+pub not_0-barred : (end : Ended) → (end ≡ ended.TripHeld) ⊎ (end ≡ ended.SealEnded) → status_of end ≢ 0
+not_0-barred end (inl is) = rw is (λ z. absurd cc)
+not_0-barred end (inr is) = rw is (λ z. absurd cc)
+
+pub barred-fault : (end : Ended) → (end ≡ ended.TripHeld) ⊎ (end ≡ ended.SealEnded) → (end ≢ ended.ReadFault) × (end ≢ ended.BoardFault)
+barred-fault end (inl is) = rw is (λ e. absurd cc, λ e. absurd cc)
+barred-fault end (inr is) = rw is (λ e. absurd cc, λ e. absurd cc)
+
+pub not_0-no_seal : (number : ℕ) (found : Option ℕ) (tariff text : List ℕ) (read_failed : ℕ → Type 0) (end : Ended) → IsNoSeal number found tariff text read_failed end → status_of end ≢ 0
+not_0-no_seal number found tariff text read_failed ended.Done h = absurd h
+not_0-no_seal number found tariff text read_failed (ended.Sound cells measure) h = absurd h
+not_0-no_seal number found tariff text read_failed (ended.Sealed n) h = absurd h
+not_0-no_seal number found tariff text read_failed (ended.BadReadings row) h = absurd h
+not_0-no_seal number found tariff text read_failed ended.LongReadings h = absurd h
+not_0-no_seal number found tariff text read_failed ended.NotPassed h = absurd h
+not_0-no_seal number found tariff text read_failed ended.ReadFault h = λ z. absurd cc
+not_0-no_seal number found tariff text read_failed ended.NoMemory h = λ z. absurd cc
+not_0-no_seal number found tariff text read_failed (ended.BadTariff why) h = λ z. absurd cc
+not_0-no_seal number found tariff text read_failed (ended.OtherDecimals one own) h = λ z. absurd cc
+not_0-no_seal number found tariff text read_failed (ended.BadParams fault) h = λ z. absurd cc
+not_0-no_seal number found tariff text read_failed ended.BadWords h = absurd h
+not_0-no_seal number found tariff text read_failed ended.NotSealed h = absurd h
+not_0-no_seal number found tariff text read_failed (ended.BadSlot slot) h = absurd h
+not_0-no_seal number found tariff text read_failed (ended.SameNumber first second) h = absurd h
+not_0-no_seal number found tariff text read_failed ended.TripHeld h = absurd h
+not_0-no_seal number found tariff text read_failed ended.BadTrip h = absurd h
+not_0-no_seal number found tariff text read_failed (ended.WrongTariff digest own) h = absurd h
+not_0-no_seal number found tariff text read_failed ended.SealEnded h = absurd h
+not_0-no_seal number found tariff text read_failed (ended.BadFrame place) h = absurd h
+not_0-no_seal number found tariff text read_failed ended.EndlessRequests h = absurd h
+not_0-no_seal number found tariff text read_failed (ended.BadRules fault) h = absurd h
+not_0-no_seal number found tariff text read_failed ended.LongBook h = absurd h
+not_0-no_seal number found tariff text read_failed (ended.BadBook line) h = absurd h
+not_0-no_seal number found tariff text read_failed (ended.BadDrive line) h = absurd h
+not_0-no_seal number found tariff text read_failed ended.EndlessDrive h = absurd h
+not_0-no_seal number found tariff text read_failed ended.BoardFault h = absurd h
+
+pub not_0-store : (fault : StoreFault) → status_of (store_ended fault) ≢ 0
+not_0-store (stores.BadSlot slot) = λ z. absurd cc
+not_0-store (stores.SameNumber first second) = λ z. absurd cc
+not_0-store stores.BoardFault = λ z. absurd cc
+
+module _ (contents left : ℕ → List ℕ) (image : List ℕ) (read_failed : ℕ → Type 0) (failed told : Type 0) (before now : List ℕ) (still : now ≡ before) where
+  abbrev Ends : Ended → Type 0
+  Ends end = Comes seal_command contents left image read_failed failed (λ text. told → now ≡ before ++ text) (λ text. told → Begins before now text) end
+
+  refuses-with : (end : Ended) → sealing_of (opening_of image) (contents 1) (contents 2) ≡ Err end → status_of end ≢ 0 → status_of end ≢ 3 → Ends end
+  refuses-with end e not_0 not_3 =
+      comes-refusal seal_command contents left image read_failed failed told before now refl still end (ap seal_answer e) not_0 not_3
+
+  -- the store speaks against it
+  pub comes-barred : (end : Ended) → sealing_of (opening_of image) (contents 1) (contents 2) ≡ Err end → (end ≡ ended.TripHeld) ⊎ (end ≡ ended.SealEnded) → Ends end
+  comes-barred end e (inl is) = rw is (refuses-with ended.TripHeld (e ∙ ap Err is) (λ z. absurd cc) (λ z. absurd cc))
+  comes-barred end e (inr is) = rw is (refuses-with ended.SealEnded (e ∙ ap Err is) (λ z. absurd cc) (λ z. absurd cc))
+
+  -- no seal was made of the texts
+  pub comes-no_seal : (opening : Opening) (base : Base) (end : Ended) → opening_of image ≡ Ok opening → over_totals opening.totals opening.seal ≡ Ok base
+      → IsNoSeal (next_number (found_number base.found)) base.decimals (contents 1) (contents 2) read_failed end → Ends end
+  comes-no_seal opening base end e f = by end
+    where
+      based : base_in (opening_of image) ≡ Ok base
+      based = ap base_in e ∙ f
+
+      may : IsSealable image
+      may = record { base = base; is = based }
+
+      refusal : (end : Ended) → seal_read (next_number (found_number base.found)) base.decimals (contents 1) (contents 2) ≡ Err end
+          → sealing_of (opening_of image) (contents 1) (contents 2) ≡ Err end
+      refusal end g = sealing-over (opening_of image) opening base (contents 1) (contents 2) (Err end) e f g
+
+      by : (end : Ended) → IsNoSeal (next_number (found_number base.found)) base.decimals (contents 1) (contents 2) read_failed end → Ends end
+      by ended.ReadFault (inl h) = record {
+        course = ReadFailed 1 [];
+        may = record { reads = inl refl; comes = inl (refl, may); failed = h; takes = refl };
+        stands = inl (record { status_is = refl; line_is = refl; shown = λ t. none seal_command contents left image read_failed failed told before now refl still [] refl });
+      }
+      by ended.ReadFault (inr (fits, h)) = record {
+        course = ReadFailed 2 [];
+        may = record { reads = inr refl; comes = inr (refl, record { base = base; is = based; fits = fits }); failed = h; takes = refl };
+        stands = inl (record { status_is = refl; line_is = refl; shown = λ t. none seal_command contents left image read_failed failed told before now refl still [] refl });
+      }
+      by ended.NoMemory h = record {
+        course = NoMemory;
+        may = record { taken = []; may = may; takes = refl };
+        stands = inl (record { status_is = refl; line_is = refl; shown = λ t. none seal_command contents left image read_failed failed told before now refl still [] refl });
+      }
+      by (ended.BadTariff why) h = refuses-with (ended.BadTariff why) (refusal (ended.BadTariff why) h) (λ z. absurd cc) (λ z. absurd cc)
+      by (ended.OtherDecimals one own) h = refuses-with (ended.OtherDecimals one own) (refusal (ended.OtherDecimals one own) h) (λ z. absurd cc) (λ z. absurd cc)
+      by (ended.BadParams fault) h = refuses-with (ended.BadParams fault) (refusal (ended.BadParams fault) h) (λ z. absurd cc) (λ z. absurd cc)
+      by ended.Done h = absurd h
+      by (ended.Sound cells measure) h = absurd h
+      by ended.BadWords h = absurd h
+      by ended.NotSealed h = absurd h
+      by (ended.BadSlot slot) h = absurd h
+      by (ended.SameNumber first second) h = absurd h
+      by ended.TripHeld h = absurd h
+      by ended.BadTrip h = absurd h
+      by (ended.WrongTariff digest own) h = absurd h
+      by ended.SealEnded h = absurd h
+      by (ended.Sealed n) h = absurd h
+      by (ended.BadFrame place) h = absurd h
+      by ended.EndlessRequests h = absurd h
+      by (ended.BadReadings row) h = absurd h
+      by ended.LongReadings h = absurd h
+      by ended.NotPassed h = absurd h
+      by (ended.BadRules fault) h = absurd h
+      by ended.LongBook h = absurd h
+      by (ended.BadBook line) h = absurd h
+      by (ended.BadDrive line) h = absurd h
+      by ended.EndlessDrive h = absurd h
+      by ended.BoardFault h = absurd h
+
+  -- the store was sealed
+  pub comes-sealed : (s : Sealing) (number : ℕ) → sealing_of (opening_of image) (contents 1) (contents 2) ≡ Ok s → s.new.seal_number ≡ number
+      → left 1 ≡ [] → left 2 ≡ [] → Ends (ended.Sealed number)
+  comes-sealed s number e is one two =
+      let a : seal_command.answer contents image ≡ seal_answer (Ok s) = ap seal_answer e in
+      let status : (seal_command.answer contents image).status ≡ 0 = ap (λ (a : Answer). a.status) a in
+      record {
+        course = Answered;
+        may = record {
+          whole = λ zero word. ⊎_elim (λ (w : word ≡ 1). ap left w ∙ one) (λ (w : word ≡ 2). ap left w ∙ two);
+          refused = λ z. refl;
+          bad = λ z. absurd (three _ status z);
+        };
+        stands = inl (record {
+          status_is = sym status;
+          line_is = sym (ap (λ (a : Answer). a.line) a ∙ ap sealed_line is);
+          shown = λ t. none seal_command contents left image read_failed failed told before now refl still _ (ap (λ (a : Answer). a.shown) a);
+        });
+      }
+    where
+      three : (n : ℕ) → n ≡ 0 → n ≢ 3
+      three n e f = absurd cc

@@ -1,0 +1,91 @@
+-- The commands that say something of a tariff alone.
+use Rattle.std.proofs.Common.{◌≡◌, ◌≢◌, ℕ, List, [], ◌++◌, Result, Ok, Err, refl, sym, ap, subst, ◌∙◌, inl, inr}
+use Rattle.std.proofs.lemmas.List.{append-nil}
+use Rattle.outside.specs.Printing.{Begins}
+use Rattle.tariff_syntax.specs.Tree.{Tree}
+use Rattle.tariff_check.specs.Cells.{cells_of}
+use Rattle.tariff_check.specs.Measure.{measure_of}
+use Rattle.tariff_compile.specs.Rows.{rows_text}
+use Rattle.tariff_compile.specs.Tables.{TableParts, tables_of}
+use Rattle.commands.specs.declared.ending.Ended.{Ended}
+use Rattle.commands.specs.declared.ending.Ended.TheVariants as ended
+use Rattle.commands.specs.declared.tariff.Refusal.{Refusal}
+use Rattle.commands.specs.Answer.{Answer}
+use Rattle.commands.specs.Check.{check_answer, check_command}
+use Rattle.commands.specs.Course.{Answered}
+use Rattle.commands.specs.Ending.{Comes, ComesUnprinted}
+use Rattle.commands.specs.LastLine.{sound_line}
+use Rattle.commands.specs.Tables.{tables_answer, tables_command}
+use Rattle.commands.specs.Tariffs.{bad_tariff, tariff_in}
+
+pub refused-check : (o : Result Tree Refusal) (why : Refusal) → o ≡ Err why → check_answer o ≡ bad_tariff why
+refused-check o why e = ap check_answer e
+
+pub refused-tables : (k : ℕ) (o : Result Tree Refusal) (why : Refusal) → o ≡ Err why → tables_answer k o ≡ bad_tariff why
+refused-tables k o why e = ap (tables_answer k) e
+
+-- a status that is 0
+zero-two : (n : ℕ) → n ≡ 0 → n ≢ 2
+zero-two n e f = absurd cc
+
+zero-three : (n : ℕ) → n ≡ 0 → n ≢ 3
+zero-three n e f = absurd cc
+
+-- the line of a sound tariff
+pub comes-sound : (contents left : ℕ → List ℕ) (image : List ℕ) (read_failed : ℕ → Type 0) (t : Tree) (cells measure : ℕ) → tariff_in (contents 1) ≡ Ok t → left 1 ≡ []
+    → cells ≡ cells_of t.lines → measure ≡ measure_of t.lines → ComesUnprinted check_command contents left image read_failed (ended.Sound cells measure)
+comes-sound contents left image read_failed t cells measure sound read are is_measure =
+    let e = ap check_answer sound in
+    let line : sound_line cells measure ≡ sound_line (cells_of t.lines) (measure_of t.lines) = ap (λ (n : ℕ). sound_line n measure) are ∙ ap (λ (n : ℕ). sound_line (cells_of t.lines) n) is_measure in
+    let zero : (check_answer (tariff_in (contents 1))).status ≡ 0 = ap (λ (a : Answer). a.status) e in
+    record {
+      course = Answered;
+      may = record {
+        whole = λ is word reads. ap left reads ∙ read;
+        refused = λ is. absurd (zero-two _ zero is);
+        bad = λ is. absurd (zero-three _ zero is);
+      };
+      stands = inl (record { status_is = sym zero; line_is = line ∙ sym (ap (λ (a : Answer). a.line) e); shown = ap (λ (a : Answer). a.shown) e });
+    }
+
+-- the rows of the tables of a tariff, and a beginning of them
+module _ (k : ℕ) (contents left : ℕ → List ℕ) (image : List ℕ) (read_failed : ℕ → Type 0) (failed told : Type 0) (before now : List ℕ)
+    (tables : TableParts) (t : Tree) (sound : tariff_in (contents 1) ≡ Ok t) (is : tables ≡ tables_of t k) (read : left 1 ≡ []) where
+  abbrev Here : Ended → Type 0
+  Here end = Comes (tables_command k) contents left image read_failed failed (λ text. told → now ≡ before ++ text) (λ text. told → Begins before now text) end
+
+  rows_are : (tables_answer k (tariff_in (contents 1))).shown ≡ rows_text tables
+  rows_are = ap (λ (a : Answer). a.shown) (ap (tables_answer k) sound) ∙ sym (ap (λ (p : TableParts). rows_text p) is)
+
+  no_line : (tables_answer k (tariff_in (contents 1))).line ≡ []
+  no_line = ap (λ (a : Answer). a.line) (ap (tables_answer k) sound)
+
+  zero : (tables_answer k (tariff_in (contents 1))).status ≡ 0
+  zero = ap (λ (a : Answer). a.status) (ap (tables_answer k) sound)
+
+  pub comes-rows : (told → now ≡ before ++ rows_text tables) → Here ended.Done
+  comes-rows printed = record {
+    course = Answered;
+    may = record {
+      whole = λ is word reads. ap left reads ∙ read;
+      refused = λ is. absurd (zero-two _ zero is);
+      bad = λ is. absurd (zero-three _ zero is);
+    };
+    stands = inl (record { status_is = sym zero; line_is = sym no_line; shown = λ tells. printed tells ∙ ap (λ (x : List ℕ). before ++ x) (sym rows_are) });
+  }
+
+  pub comes-rows_begun : (told → Begins before now (rows_text tables)) → failed → Here ended.BoardFault
+  comes-rows_begun begun cause = record {
+    course = Answered;
+    may = record {
+      whole = λ is word reads. ap left reads ∙ read;
+      refused = λ is. absurd (zero-two _ zero is);
+      bad = λ is. absurd (zero-three _ zero is);
+    };
+    stands = inr (record {
+      ended_is = refl;
+      failed = cause;
+      started = λ tells. subst (λ (x : List ℕ). Begins before now x) (sym (ap (λ (x : List ℕ). x ++ (tables_answer k (tariff_in (contents 1))).line) rows_are
+          ∙ ap (λ (x : List ℕ). rows_text tables ++ x) no_line ∙ append-nil (rows_text tables))) (begun tells);
+    });
+  }

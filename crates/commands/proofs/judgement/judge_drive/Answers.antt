@@ -1,0 +1,70 @@
+use Rattle.std.proofs.Common.{◌≡◌, ◌≢◌, ◌∙◌, ℕ, List, Err, refl, sym, ap, subst, arith, inl}
+use Rattle.outside.specs.Faults.{Rose}
+use Rattle.tariff_syntax.specs.declared.tariff.Tariff.{Tariff}
+use Rattle.commands.specs.BenchSteps.{IsNoReadings, IsNotJudged, IsWholeDrive, terms_in}
+use Rattle.commands.specs.declared.ending.Ended.{Ended}
+use Rattle.commands.proofs.Judging.{no_readings-as, not_board-drive, not_judged-drive, not_judged-memory, not_judged-readings, read_fault-drive}
+use Rattle.commands.proofs.Openings.{same_fault}
+use Rattle.commands.proofs.judgement.judge_drive.Goals as goal
+
+two-three : (n : ℕ) → n ≡ 2 → n ≢ 3
+two-three n e = λ f. omega arith
+
+three-two : (n : ℕ) → n ≡ 3 → n ≢ 2
+three-two n e = λ f. omega arith
+
+pub returns-in-Err-clause-refused : goal.returns-in-Err-clause-refused
+returns-in-Err-clause-refused g c = λ why tells e.
+    let rest = g.F.Files.rest in
+    let faults = g.F.Files.faults in
+    let files = c.args.files.now in
+    let new = c.read_drive.new.files in
+    let failed = Rose (faults files 2) (faults new 2) in
+    let text_failed = Rose (faults files 3) (faults new 3) in
+    subst (λ (w : Ended). IsNotJudged (terms_in c.args.terms.now) (rest files 2) (rest new 2) (rest files 3) failed text_failed w) (sym c.refused_drive.ensures ∙ same_fault _ _ _ refl e)
+    (not_judged-drive (terms_in c.args.terms.now) (rest files 2) (rest new 2) (rest files 3) failed text_failed c.in-Err.fault (c.in-Err.ensures.refused tells)
+    (λ f. c.read_drive.ensures.read_fault (c.in-Err.is ∙ ap Err f)))
+
+pub returns-in-Err-clause-read_fault : goal.returns-in-Err-clause-read_fault
+returns-in-Err-clause-read_fault g c = λ e.
+    inl (c.read_drive.ensures.read_fault (c.in-Err.is ∙ ap Err (read_fault-drive c.in-Err.fault (sym c.refused_drive.ensures ∙ same_fault _ _ _ refl e))))
+
+pub returns-in-Err-clause-not_board : goal.returns-in-Err-clause-not_board
+returns-in-Err-clause-not_board g c = λ e. not_board-drive c.in-Err.fault (sym c.refused_drive.ensures ∙ same_fault _ _ _ refl e)
+
+pub returns-in-Err-readings_of_word-clause-refused : goal.returns-in-Err-readings_of_word-clause-refused
+returns-in-Err-readings_of_word-clause-refused g c = λ why tells e.
+    let rest = g.F.Files.rest in
+    let faults = g.F.Files.faults in
+    let files = c.args.files.now in
+    let mid = c.read_drive.new.files in
+    let new = c.readings_of_word.new.files in
+    let terms = terms_in c.args.terms.now in
+    let failed = Rose (faults files 2) (faults new 2) in
+    let text_failed = Rose (faults files 3) (faults new 3) in
+    let first_failed = Rose (faults mid 3) (faults new 3) in
+    let end = c.in-Err-readings_of_word.why in
+    let first : IsNoReadings c.tariff.result.now.decimals (rest mid 3) first_failed end = c.readings_of_word.ensures.refused end tells c.in-Err-readings_of_word.is in
+    let of_text : IsNoReadings c.tariff.result.now.decimals (rest files 3) first_failed end =
+    subst (λ (x : List ℕ). IsNoReadings c.tariff.result.now.decimals x first_failed end) (c.read_drive.ensures.others 3 (three-two 3 refl)) first in
+    let of_tariff : IsNoReadings terms.tree.decimals (rest files 3) first_failed end =
+    subst (λ (t : Tariff). IsNoReadings t.decimals (rest files 3) first_failed end) c.tariff.ensures.value of_text in
+    let later = no_readings-as terms.tree.decimals (rest files 3) first_failed text_failed end (λ rose. omega (arith, rose, c.read_drive.ensures.counts 3)) of_tariff in
+    let whole : IsWholeDrive (rest files 2) (rest new 2) c.in-Ok.runs.items =
+    subst (λ (x : List ℕ). IsWholeDrive (rest files 2) x c.in-Ok.runs.items) (sym (c.readings_of_word.ensures.others 2 (two-three 2 refl))) (c.in-Ok.ensures.whole tells) in
+    subst (λ (w : Ended). IsNotJudged terms (rest files 2) (rest new 2) (rest files 3) failed text_failed w) (same_fault _ _ _ refl e)
+    (not_judged-readings terms (rest files 2) (rest new 2) (rest files 3) failed text_failed c.in-Ok.runs.items whole end later)
+
+pub returns-clause-refused : goal.returns-clause-refused
+returns-clause-refused g c = λ why tells e.
+    let rest = g.F.Files.rest in
+    let faults = g.F.Files.faults in
+    let files = c.args.files.now in
+    let new = c.readings_of_word.new.files in
+    let terms = terms_in c.args.terms.now in
+    let failed = Rose (faults files 2) (faults new 2) in
+    let text_failed = Rose (faults files 3) (faults new 3) in
+    let whole : IsWholeDrive (rest files 2) (rest new 2) c.in-Ok.runs.items =
+    subst (λ (x : List ℕ). IsWholeDrive (rest files 2) x c.in-Ok.runs.items) (sym (c.readings_of_word.ensures.others 2 (two-three 2 refl))) (c.in-Ok.ensures.whole tells) in
+    subst (λ (w : Ended). IsNotJudged terms (rest files 2) (rest new 2) (rest files 3) failed text_failed w) (same_fault _ _ _ refl e)
+    (not_judged-memory terms (rest files 2) (rest new 2) (rest files 3) failed text_failed c.in-Ok.runs.items whole)

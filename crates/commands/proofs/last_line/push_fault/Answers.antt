@@ -1,0 +1,16 @@
+use Rattle.std.proofs.Common.{◌≡◌, ◌∙◌, ◌++◌, ℕ, List, append_assoc, sym, ap, codes}
+use Rattle.tariff_check.specs.declared.fault.CheckFault.{CheckFault}
+use Rattle.commands.specs.LastLine.{fault_text, numbered}
+use Rattle.commands.proofs.last_line.push_fault.Goals as goal
+
+pub returns-in-TooManyCuts-clause-text : goal.returns-in-TooManyCuts-clause-text
+returns-in-TooManyCuts-clause-text c =
+    let old = c.args.line.now.items in
+    let name = codes "TooManyCuts " in
+    let count = c.in-TooManyCuts.count in
+    let first : c.push_bytes-in-TooManyCuts.new.line.items ≡ old ++ name = c.push_bytes-in-TooManyCuts.ensures.text in
+    c.push_numbered-in-TooManyCuts.ensures.text
+    ∙ ap (λ (t : List ℕ). t ++ numbered c.dimension_name.result.now count) first
+    ∙ append_assoc old name (numbered c.dimension_name.result.now count)
+    ∙ ap (λ (t : List ℕ). old ++ (name ++ numbered t count)) c.dimension_name.ensures.text
+    ∙ ap (λ (f : CheckFault). old ++ fault_text f) (sym c.in-TooManyCuts.is)

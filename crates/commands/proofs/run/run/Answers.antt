@@ -1,0 +1,88 @@
+use Rattle.std.proofs.Common.{◌≡◌, ◌≢◌, ◌∙◌, ℕ, List, [], Err, refl, sym, ap, subst, arith, inr}
+use Rattle.std.specs.Prelude.{IsErrOf}
+use Rattle.meter_run.specs.Runs.{EndsRun, OpensWith}
+use Rattle.meter_states.specs.Setting.{IsSettingOf}
+use Rattle.seal_store.specs.declared.seal.Seal.{Seal}
+use Rattle.tariff_compile.specs.Tables.{IsTablesOf, TableParts}
+use Rattle.commands.specs.declared.ending.Ended.{Ended}
+use Rattle.commands.specs.declared.ending.Ended.TheVariants as ended
+use Rattle.commands.specs.LastLine.{status_of}
+use Rattle.commands.specs.Run.{run_command, setting_in, tables_in}
+use Rattle.commands.specs.RunSteps.{RunComes}
+use Rattle.commands.proofs.Faring.{read_fault-ran}
+use Rattle.commands.proofs.Openings.{no_fault, same_fault}
+use Rattle.commands.proofs.RunEnds.{ran-comes, ran-writes}
+use Rattle.commands.proofs.Running.{comes-not_begun}
+use Rattle.commands.proofs.run.run.Goals as goal
+
+two-one : (n : ℕ) → n ≡ 2 → n ≢ 1
+two-one n e = λ f. omega arith
+
+one-two : (n : ℕ) → n ≡ 1 → n ≢ 2
+one-two n e = λ f. omega arith
+
+pub returns-in-Err-clause-runs : goal.returns-in-Err-clause-runs
+returns-in-Err-clause-runs g c = λ tells told.
+    let why = c.in-Err.why in
+    let before = c.begin.ensures in
+    comes-not_begun g.F.Files g.B.Board c.args.files.now c.begin.new.files c.args.board.now c.begin.new.board (before.others 2 (two-one 2 refl))
+    (IsErrOf c.begin.result ended.BoardFault) before.opens.reads (before.opens.synced told) why (c.in-Err.ensures.refused tells told)
+    (λ f. same_fault c.begin.result why ended.BoardFault c.in-Err.is f)
+    (λ good. before.opens.settled told (λ f. good (same_fault c.begin.result why ended.BoardFault c.in-Err.is f)))
+    (λ good. before.opens.same (λ f. good (same_fault c.begin.result why ended.BoardFault c.in-Err.is f)))
+
+pub returns-in-Err-clause-board_fault : goal.returns-in-Err-clause-board_fault
+returns-in-Err-clause-board_fault g c = λ e. c.begin.ensures.opens.cause (c.in-Err.is ∙ ap Err e)
+
+pub returns-clause-runs : goal.returns-clause-runs
+returns-clause-runs g c = λ tells told.
+    let rest = g.F.Files.rest in
+    let files = c.args.files.now in
+    let old = c.args.board.now in
+    let mid = c.begin.new.board in
+    let new = c.run_events-ran.new.board in
+    let before = c.begin.ensures in
+    let begun = c.in-Ok.ensures.begun tells told in
+    let s = begun.start in
+    let went : ¬ (IsErrOf c.begin.result ended.BoardFault) = no_fault c.begin.result c.in-Ok.begun ended.BoardFault c.in-Ok.is in
+    let compiled : IsTablesOf s.tree (tables_in s) = subst (IsTablesOf s.tree) begun.tables_are begun.compiled in
+    let is : IsSettingOf (setting_in s) (tables_in s) s.seal = record {
+      tariff = record { compiled = compiled; constant = refl };
+      secured = record { constant = refl; mode = refl; hold = refl; offsets = refl };
+    } in
+    let opens : OpensWith g.B.Board (tables_in s) mid s.durable = subst (λ (p : TableParts). OpensWith g.B.Board p mid s.durable) begun.tables_are begun.opens in
+    let of_seal : EndsRun g.B.Board c.in-Ok.begun.tables s.seal mid new (rest c.begin.new.files 2) (rest c.run_events-ran.new.files 2) c.run_events-ran.result =
+    subst (λ (l : Seal). EndsRun g.B.Board c.in-Ok.begun.tables l mid new (rest c.begin.new.files 2) (rest c.run_events-ran.new.files 2) c.run_events-ran.result) begun.seal_is (c.run_events-ran.ensures.ends tells) in
+    let of_tables : EndsRun g.B.Board (tables_in s) s.seal mid new (rest c.begin.new.files 2) (rest c.run_events-ran.new.files 2) c.run_events-ran.result =
+    subst (λ (p : TableParts). EndsRun g.B.Board p s.seal mid new (rest c.begin.new.files 2) (rest c.run_events-ran.new.files 2) c.run_events-ran.result) begun.tables_are of_seal in
+    let ends : EndsRun g.B.Board (tables_in s) s.seal mid new (rest files 2) (rest c.run_events-ran.new.files 2) c.run_events-ran.result =
+    subst (λ (drive : List ℕ). EndsRun g.B.Board (tables_in s) s.seal mid new drive (rest c.run_events-ran.new.files 2) c.run_events-ran.result) (before.others 2 (two-one 2 refl)) of_tables in
+    let read : rest c.run_events-ran.new.files 1 ≡ [] = c.run_events-ran.ensures.others 1 (one-two 1 refl) ∙ c.in-Ok.ensures.ended tells in
+    subst (λ (end : Ended). RunComes g.F.Files g.B.Board files c.run_events-ran.new.files old new end) (sym c.ended_of.ensures)
+    (ran-comes g.F.Files g.B.Board files c.run_events-ran.new.files old mid new s begun.is told is opens (IsErrOf c.begin.result ended.BoardFault) went
+    (before.opens.synced told) (before.opens.settled told went) (before.opens.same went) before.opens.reads.text (c.run_events-ran.ensures.beside told) read c.run_events-ran.result ends
+    (λ e. omega (arith, c.run_events-ran.ensures.read_fault e, before.counts 2))
+    (λ e. omega (arith, c.run_events-ran.ensures.board_fault e, before.opens.count)))
+
+pub returns-clause-unwritten : goal.returns-clause-unwritten
+returns-clause-unwritten g c = λ not. absurd (not (subst (λ (end : Ended). run_command.writes (status_of end)) (sym c.ended_of.ensures) (ran-writes c.run_events-ran.result)))
+
+pub returns-clause-same : goal.returns-clause-same
+returns-clause-same g c = λ not. absurd (not (subst (λ (end : Ended). run_command.writes (status_of end)) (sym c.ended_of.ensures) (ran-writes c.run_events-ran.result)))
+
+pub returns-clause-read_fault : goal.returns-clause-read_fault
+returns-clause-read_fault g c = λ e.
+    let failed = c.run_events-ran.ensures.read_fault (read_fault-ran c.run_events-ran.result (sym c.ended_of.ensures ∙ e)) in
+    record { word = 2; reads = inr refl; rose = omega (arith, failed, c.begin.ensures.counts 2) }
+
+pub returns-clause-others : goal.returns-clause-others
+returns-clause-others g c = λ other one two. c.run_events-ran.ensures.others other two ∙ c.begin.ensures.others other one
+
+pub returns-clause-steps : goal.returns-clause-steps
+returns-clause-steps g c = λ tells.
+    let h = c.run_events-ran.ensures.steps tells in
+    record {
+      taken = h.taken;
+      split = record { bytes = sym (c.begin.ensures.others 2 (two-one 2 refl)) ∙ h.split.bytes };
+      bound = omega (arith, h.bound, c.begin.ensures.steps);
+    }

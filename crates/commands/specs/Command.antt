@@ -1,0 +1,54 @@
+-- Rules: the commands of the program. What each of them is stands in a file of its own.
+use Rattle.std.specs.Prelude.{ℕ, List, Option, Some, None}
+use Rattle.commands.specs.Answer.{Answer}
+use Rattle.commands.specs.Bench.{bench_command}
+use Rattle.commands.specs.Check.{check_command}
+use Rattle.commands.specs.Course.{Command}
+use Rattle.commands.specs.Fare.{fare_command}
+use Rattle.commands.specs.Generate.{gen_command}
+use Rattle.commands.specs.Mark.{mark_command}
+use Rattle.commands.specs.NoCommand.{no_command}
+use Rattle.commands.specs.Offsets.{offsets_command}
+use Rattle.commands.specs.Port.{port_command}
+use Rattle.commands.specs.Run.{run_command}
+use Rattle.commands.specs.Seal.{seal_command}
+use Rattle.commands.specs.Shifts.{shifts_command}
+use Rattle.commands.specs.Tables.{tables_command}
+use Rattle.commands.specs.Totals.{totals_command}
+use Rattle.commands.specs.Words.{row_of}
+use Rattle.commands.specs.declared.words.Row.{Row}
+use Rattle.commands.specs.declared.words.Row.TheVariants.{Check, Tables, Fare, Totals, Seal, Run, Bench, Gen}
+use Rattle.commands.specs.declared.words.Row.TheVariants.{Port, Offsets, Mark, Shifts}
+
+-- each row of words is a command, and words that are no row are refused
+abbrev pub command_of : Option Row → Command
+command_of None = no_command
+command_of (Some Check) = check_command
+command_of (Some (Tables k)) = tables_command k
+command_of (Some (Fare k)) = fare_command k
+command_of (Some Totals) = totals_command
+command_of (Some Seal) = seal_command
+command_of (Some Run) = run_command
+command_of (Some Bench) = bench_command
+command_of (Some (Gen seed trips)) = gen_command seed trips
+command_of (Some Port) = port_command
+command_of (Some (Offsets years)) = offsets_command years
+command_of (Some (Mark driver)) = mark_command driver
+command_of (Some Shifts) = shifts_command
+
+-- a command only looks at the store where it opens the store and writes nothing
+abbrev pub OnlyLooks : Option Row → Type 0
+OnlyLooks (Some Totals) = Unit {0}
+OnlyLooks (Some Bench) = Unit {0}
+OnlyLooks (Some Port) = Unit {0}
+OnlyLooks (Some (Mark driver)) = Unit {0}
+OnlyLooks (Some Shifts) = Unit {0}
+OnlyLooks row = ⊥
+
+-- words call the command of the row that they are
+abbrev pub called : List (List ℕ) → Command
+called words = command_of (row_of words)
+
+-- the answer to words, where the file of word n has the contents n and the store holds an image
+abbrev pub command : List (List ℕ) → (ℕ → List ℕ) → List ℕ → Answer
+command words contents image = (called words).answer contents image

@@ -1,0 +1,84 @@
+-- Rules: what a command is, and the course that a call of it takes.
+use Rattle.std.specs.Prelude.{◌≡◌, ℕ, ◌+◌, ◌≤◌, List, [], ◌++◌, Option, None}
+use Rattle.commands.specs.Answer.{Answer}
+use Rattle.commands.specs.LastLine.{read_fault_line, no_memory_line}
+use Rattle.commands.specs.Stream.{Stream}
+
+-- A command is told by functions of the contents of the files of its words and of the opening image of the store.
+pub record Command : Type 1 where
+  -- what it answers
+  pub answer : (contents : ℕ → List ℕ) (image : List ℕ) → Answer
+  -- the drive, or the requests, that it takes piece by piece, where it has such a file
+  pub drive : Option Stream
+  -- what it shows when these bytes of the drive or the requests were taken
+  pub shown : (contents : ℕ → List ℕ) (image taken : List ℕ) → List ℕ
+  -- the words whose files it reads
+  pub reads : ℕ → Type 0
+  -- it has read each of these files to its end where it answers with this status
+  pub reads_all : (status : ℕ) → Type 0
+  -- it comes to a read of this word's file when these bytes of the drive or the requests were taken
+  pub comes_to : (contents : ℕ → List ℕ) (image : List ℕ) (word : ℕ) (taken : List ℕ) → Type 0
+  -- it comes to a place where memory may run out when these bytes of the drive or the requests were taken
+  pub may_lack : (contents : ℕ → List ℕ) (image taken : List ℕ) → Type 0
+  -- what has to be told for its answer to be known, of the files' contents and the image
+  pub known : (files_tell image_told : Type 0) → Type 0
+  -- it opens the store
+  pub opens : Type 0
+  -- it may have written the store where it ends with this status
+  pub writes : (ended : ℕ) → Type 0
+  -- its count of steps may rise from one number to another, by what is told and by what is left of the files
+  pub steps : (files_tell image_told : Type 0) (contents left : ℕ → List ℕ) (image : List ℕ) (before now : ℕ) → Type 0
+
+-- a command that shows what the store holds opens it, reads no file, takes no memory and writes nothing, in at most 64
+-- steps and one for the last line
+abbrev pub store_command : (answer : (image : List ℕ) → Answer) → Command
+store_command answer = record {
+  answer = λ contents image. answer image;
+  drive = None;
+  shown = λ contents image taken. [];
+  reads = λ word. ⊥;
+  reads_all = λ status. status ≡ 0;
+  comes_to = λ contents image word taken. ⊥;
+  may_lack = λ contents image taken. ⊥;
+  known = λ files_tell image_told. image_told;
+  opens = Unit {0};
+  writes = λ ended. ⊥;
+  steps = λ files_tell image_told contents left image before now. now ≤ before + 64 + 1;
+}
+
+-- a course says how far a call came: to its answer, or to a fault or a want before it
+pub data Course : Type 0 where
+  -- to its answer
+  Answered : Course
+  -- to a read of this word's file that failed, when these bytes of the drive or the requests were taken
+  ReadFailed : (word : ℕ) (taken : List ℕ) → Course
+  -- to a place where memory ran out
+  NoMemory : Course
+  -- to a fault of the board before its answer, when these bytes of the drive or the requests were taken
+  BoardFailed : (taken : List ℕ) → Course
+
+module _ (c : Command) (contents : ℕ → List ℕ) (image : List ℕ) where
+  -- the status of a course whose text is printed whole: that of the answer, 7, 12 or 8
+  abbrev pub status_in : Course → ℕ
+  status_in Answered = (c.answer contents image).status
+  status_in (ReadFailed word taken) = 7
+  status_in NoMemory = 12
+  status_in (BoardFailed taken) = 8
+
+  -- the text that is shown in a course: the whole answer, or what the bytes show that were taken
+  abbrev pub shown_in : Course → List ℕ
+  shown_in Answered = (c.answer contents image).shown
+  shown_in (ReadFailed word taken) = c.shown contents image taken
+  shown_in NoMemory = []
+  shown_in (BoardFailed taken) = c.shown contents image taken
+
+  -- the last line of a course, which is empty where the board failed
+  abbrev pub line_in : Course → List ℕ
+  line_in Answered = (c.answer contents image).line
+  line_in (ReadFailed word taken) = read_fault_line
+  line_in NoMemory = no_memory_line
+  line_in (BoardFailed taken) = []
+
+  -- the text of a course is what is shown in it, and then its last line
+  abbrev pub text_in : Course → List ℕ
+  text_in course = shown_in course ++ line_in course

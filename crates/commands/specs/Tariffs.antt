@@ -1,0 +1,28 @@
+-- Rules: the tariff of a text, and what is answered where there is none.
+use Rattle.std.specs.Prelude.{ℕ, List, length, Option, Some, None, Result, Ok, Err, if◌then◌else◌, nat_lt}
+use Rattle.tariff_syntax.specs.Parsed.{tree_parsed}
+use Rattle.tariff_syntax.specs.Tree.{Tree}
+use Rattle.tariff_check.specs.Faults.{fault_of}
+use Rattle.tariff_check.specs.declared.fault.CheckFault.{CheckFault}
+use Rattle.commands.specs.Answer.{Answer, refuses}
+use Rattle.commands.specs.LastLine.{bad_tariff_line}
+use Rattle.commands.specs.declared.tariff.Refusal.{Refusal}
+use Rattle.commands.specs.declared.tariff.Refusal.TheVariants.{TooLong, Syntax, Unsound}
+
+-- a tariff is sound where it has no fault, and else refused for its fault
+abbrev pub sound_in : Tree → Option CheckFault → Result Tree Refusal
+sound_in t None = Ok t
+sound_in t (Some fault) = Err (Unsound fault)
+
+-- a tariff that was read is sound or refused, and a text that wasn't read is refused for its first bad line
+abbrev pub checked_in : Result Tree ℕ → Result Tree Refusal
+checked_in (Ok t) = sound_in t (fault_of t)
+checked_in (Err line) = Err (Syntax line)
+
+-- the sound tariff of a text, or why there is none: more than 65,536 bytes, a bad line, or a fault
+abbrev pub tariff_in : List ℕ → Result Tree Refusal
+tariff_in text = if nat_lt 65536 (length text) then Err TooLong else checked_in (tree_parsed text)
+
+-- the answer to a text that has no sound tariff is a refusal with the status 2
+abbrev pub bad_tariff : Refusal → Answer
+bad_tariff why = refuses 2 (bad_tariff_line why)

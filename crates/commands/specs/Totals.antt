@@ -1,0 +1,19 @@
+-- Rules: the command `totals`.
+use Rattle.std.specs.Prelude.{Result, Ok, Err}
+use Rattle.totaliser_store.specs.declared.durable.Durable.{Durable}
+use Rattle.seal_store.specs.declared.seal.Seal.{Seal}
+use Rattle.commands.specs.Answer.{Answer, shows}
+use Rattle.commands.specs.Course.{Command, store_command}
+use Rattle.commands.specs.LastLine.{refused_as}
+use Rattle.commands.specs.Opening.{opening_of, store_of}
+use Rattle.commands.specs.TotalsText.{totals_text}
+use Rattle.commands.specs.declared.ending.Ended.{Ended}
+
+-- the answer to a sealed store shows its totals, with the decimals of the seal, and else it is the refusal of the store
+abbrev pub totals_answer : Result (Durable × Seal) Ended → Answer
+totals_answer (Err why) = refused_as why
+totals_answer (Ok store) = shows (totals_text store.1.decimals store.0)
+
+-- the command `totals` shows the totals of the store
+abbrev pub totals_command : Command
+totals_command = store_command (λ image. totals_answer (store_of (opening_of image)))

@@ -1,0 +1,92 @@
+-- Rules: the words of a command.
+use Rattle.std.specs.Prelude.{ℕ, ◌^◌, Bool, List, [], ◌∷◌, length, Option, Some, None, if◌then◌else◌, nat_le, nat_lt, nat_eq, ◌&&◌, ◌==◌, codes}
+use Rattle.std.specs.Cmp.Lexicographic.{pointwise}
+use Rattle.std.specs.Option.{option_map}
+use Rattle.std.specs.Str.Parse.{digits_value}
+use Rattle.taxi_units.specs.Number.{digits_at_front, number_at}
+use Rattle.shift_book.specs.Reading.{driver_of}
+use Rattle.commands.specs.Years.{years_of}
+use Rattle.commands.specs.declared.words.Row.{Row}
+use Rattle.commands.specs.declared.words.Row.TheVariants.{Check, Tables, Fare, Totals, Seal, Run, Bench, Gen}
+use Rattle.commands.specs.declared.words.Row.TheVariants.{Port, Offsets, Mark, Shifts}
+
+-- a word is a constant where a number was read of it with nothing left, of at most 6 digits and from 500 to 200,000
+abbrev pub constant_in : List ℕ → Option (ℕ × List ℕ) → Option ℕ
+constant_in word None = None
+constant_in word (Some (k, rest)) =
+    if (length rest == 0 && (nat_le (length word) 6 && (nat_le 500 k && nat_le k 200000))) then Some k else None
+
+-- the constant that a word is, if it is one
+unfoldable pub constant_of : List ℕ → Option ℕ
+constant_of word = constant_in word (number_at word)
+
+-- a number, if 64 bits hold it
+abbrev pub fitting : ℕ → Option ℕ
+fitting number = if nat_lt number (2 ^ 64) then Some number else None
+
+-- the seed that a word is, if it has 1 to 20 digits and 64 bits hold its number
+unfoldable pub seed_of : List ℕ → Option ℕ
+seed_of word =
+    if (nat_le 1 (length word) && (nat_le (length word) 20 && digits_at_front word == length word))
+    then fitting (digits_value 10 word) else None
+
+-- a word is a number of trips where a number was read of it with nothing left, of at most 4 digits and from 1 to 1,000
+abbrev pub trips_in : List ℕ → Option (ℕ × List ℕ) → Option ℕ
+trips_in word None = None
+trips_in word (Some (count, rest)) =
+    if (length rest == 0 && (nat_le (length word) 4 && (nat_le 1 count && nat_le count 1000))) then Some count else None
+
+-- the number of trips that a word is, if it is one
+unfoldable pub trips_of : List ℕ → Option ℕ
+trips_of word = trips_in word (number_at word)
+
+-- a seed and a number of trips are the row `gen`
+abbrev pub gen_of : Option ℕ → Option ℕ → Option Row
+gen_of None trips = None
+gen_of (Some seed) trips = option_map (Gen seed) trips
+
+-- the row by which a driver signs on
+abbrev pub signs_on : List ℕ → Row
+signs_on driver = Mark (Some (record { items = driver }))
+
+-- a test whether a word is a name
+abbrev pub is_word : List ℕ → List ℕ → Bool
+is_word word name = pointwise nat_eq word name
+
+-- the row of one word is `totals`
+abbrev pub one_word : (command : List ℕ) → Option Row
+one_word command = if is_word command (codes "totals") then Some Totals else None
+
+-- the row of two words is `check TARIFF`, `port REQUESTS`, `mark off` or `shifts BOOK`
+abbrev pub two_words : (command last : List ℕ) → Option Row
+two_words command last =
+    if is_word command (codes "check") then Some Check
+    else (if is_word command (codes "port") then Some Port
+    else (if (is_word command (codes "mark") && is_word last (codes "off")) then Some (Mark None)
+    else (if is_word command (codes "shifts") then Some Shifts else None)))
+
+-- the row of three words is `tables TARIFF CONSTANT`, `seal TARIFF PARAMS`, `run TARIFF DRIVE`, `gen SEED N` or
+-- `mark on DRIVER`
+abbrev pub three_words : (command middle last : List ℕ) → Option Row
+three_words command middle last =
+    if is_word command (codes "tables") then option_map Tables (constant_of last)
+    else (if is_word command (codes "seal") then Some Seal
+    else (if is_word command (codes "run") then Some Run
+    else (if is_word command (codes "gen") then gen_of (seed_of middle) (trips_of last)
+    else (if (is_word command (codes "mark") && is_word middle (codes "on"))
+    then option_map signs_on (driver_of last) else None))))
+
+-- the row of four words is `fare TARIFF DRIVE CONSTANT`, `bench TARIFF DRIVE READINGS` or `offsets RULES FROM TO`
+abbrev pub four_words : (command third last : List ℕ) → Option Row
+four_words command third last =
+    if is_word command (codes "fare") then option_map Fare (constant_of last)
+    else (if is_word command (codes "bench") then Some Bench
+    else (if is_word command (codes "offsets") then option_map Offsets (years_of third last) else None))
+
+-- the row that words are, if they are a command
+abbrev pub row_of : List (List ℕ) → Option Row
+row_of (command ∷ []) = one_word command
+row_of (command ∷ last ∷ []) = two_words command last
+row_of (command ∷ middle ∷ last ∷ []) = three_words command middle last
+row_of (command ∷ file ∷ third ∷ last ∷ []) = four_words command third last
+row_of words = None

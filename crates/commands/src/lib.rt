@@ -1,0 +1,42 @@
+//! The calls of the taximeter: words in, a status out, over any files and any board.
+//!
+//! `taxi` carries out one command, and `chain` any number of runs with cuts of the power between them or inside.
+#![tactic(auto)]
+
+mod bench;
+mod bench_terms;
+mod chain_laws;
+mod chains;
+mod check;
+mod ending;
+mod fare;
+mod fare_seal;
+mod generate;
+mod judgement;
+mod last_line;
+mod mark;
+mod number_line;
+mod offsets;
+mod opening;
+mod params;
+mod pieces;
+mod port;
+mod run;
+mod seal;
+mod sealed;
+mod sealed_tariff;
+mod shifts;
+mod tables;
+mod tariff;
+mod top;
+mod totals;
+mod totals_text;
+mod whole_drive;
+mod words;
+mod years;
+
+pub use chain_laws::{chains_add_up, receipts_are_in_their_prefix};
+pub use chains::{chain, may_begin};
+pub use top::taxi;
+pub use words::{Row, Trips, row_in};
+pub use years::Years;

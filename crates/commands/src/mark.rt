@@ -1,0 +1,78 @@
+//! The commands `mark on DRIVER` and `mark off`.
+ghost use Rattle.std.specs.Prelude.{◌≡◌, ◌≢◌, ◌+◌, ◌<◌, ◌≤◌, ℕ, List, length};
+ghost use Rattle.shift_book.specs.Following.{numbers_in};
+ghost use Rattle.shift_book.specs.Marks.{mark_text};
+ghost use Rattle.commands.specs.Ending.{ComesFrom, HasCauseOn, OnlyLooksAt};
+ghost use Rattle.commands.specs.Mark.{mark_command};
+ghost use Rattle.commands.specs.Mark as spec;
+
+use crate::ending::Ended;
+use crate::sealed::open_sealed;
+use arrayvec::ArrayVec;
+use outside::Board;
+use shift_book::{Mark, put_mark};
+use std::sync::ledger::Ledger;
+use taxi_units::{Line, Steps};
+use totaliser_store::Durable;
+
+/// Scans the store, and prints the mark of it by which a driver signs on, or with no driver whoever is on
+/// signs off. No memory is taken.
+pub fn print_mark<B: Board<L>, L: Ledger>(
+    driver: Option<ArrayVec<u8, 16>>,
+    board: &mut B,
+    steps: &mut Steps<L>,
+) -> Ended
+    ensures ends { (contents left : ℕ → List ℕ) → B.tells_image
+        → ComesFrom B.Board (mark_command driver) contents left (λ word. ⊥) board.old board.new result }
+    ensures cause { HasCauseOn B.Board board.old board.new result }
+    ensures not_read { result ≢ Ended.ReadFault }
+    ensures steps { steps.new ≤ steps.old + 64 }
+    ensures looks { OnlyLooksAt B.Board board.old board.new result }
+{
+    let store = match open_sealed(board, steps) {
+        Ok(store) => store,
+        Err(why) => return why,
+    };
+    let line = mark_line(driver, &store.0);
+    match board.print(line.as_slice(), steps) {
+        Ok(()) => Ended::Done,
+        Err(_) => Ended::BoardFault,
+    }
+}
+
+/// The line of a mark.
+fn mark_line(driver: Option<ArrayVec<u8, 16>>, now: &Durable) -> Line
+    ensures text { result.items ≡ mark_text (spec.mark_of driver now.now) }
+    ensures some { 0 < length result.items }
+    ensures few { length result.items ≤ 512 }
+{
+    let mut line = Line::new();
+    put_mark(&mut line, &mark_of(driver, now)).unwrap();
+    line
+}
+
+/// The mark of a state of the store.
+fn mark_of(driver: Option<ArrayVec<u8, 16>>, now: &Durable) -> Mark
+    ensures { result ≡ spec.mark_of driver now.now }
+{
+    match driver {
+        Some(driver) => mark_with(driver, true, now),
+        None => mark_with(ArrayVec::new(), false, now),
+    }
+}
+
+/// A mark with the numbers of a state of the store.
+fn mark_with(driver: ArrayVec<u8, 16>, on: bool, now: &Durable) -> Mark
+    ensures { result ≡ record { driver = driver.items; on = on; numbers = numbers_in now.now } }
+{
+    Mark {
+        driver,
+        on,
+        number: now.number,
+        distance_mm: now.totals.distance_mm,
+        hired_mm: now.totals.hired_mm,
+        hirings: now.totals.hirings,
+        supplements: now.totals.supplements,
+        fare: now.totals.fare,
+    }
+}

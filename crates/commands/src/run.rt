@@ -1,0 +1,131 @@
+//! The command `run`.
+ghost use Rattle.std.specs.Prelude.{◌≡◌, ◌≢◌, ◌↔◌, ℕ, ◌+◌, ◌≤◌, [], IfErr, IfOk, OnOk, IsErrOf, IsTrue, Err};
+ghost use Rattle.std.specs.Option.{ForSome};
+ghost use Rattle.outside.specs.Faults.{Rose};
+ghost use Rattle.meter_run.specs.Drives.{IsBoundedBy};
+ghost use Rattle.meter_states.specs.Fits.{Fits};
+ghost use Rattle.seal_store.specs.Ranges.{IsSeal};
+ghost use Rattle.commands.specs.Call.{HasReadFault};
+ghost use Rattle.commands.specs.LastLine.{status_of};
+ghost use Rattle.commands.specs.Opened.{OnlyOpens};
+ghost use Rattle.commands.specs.Run.{does_hold_fit, run_command};
+ghost use Rattle.commands.specs.RunSteps.{AreNoTables, AreSealedTables, HasBegun, HasNotBegun, RunComes};
+ghost use Rattle.commands.specs.Unwritten.{KeepsBytes};
+
+use crate::ending::{Ended, ended_of};
+use crate::sealed::open_sealed;
+use crate::sealed_tariff::read_sealed;
+use meter_run::run_events;
+use meter_states::fits;
+use outside::{Board, Files};
+use seal_store::Seal;
+use std::alloc::Global;
+use std::sync::ledger::Ledger;
+use tariff_compile::{Tables, compile};
+use taxi_units::Steps;
+use totaliser_store::Trip;
+
+/// What a run goes by: the seal of its store, and the tables of its tariff.
+#[derive(Drop)]
+pub struct Begun {
+    pub seal: Seal,
+    pub tables: Tables,
+}
+
+/// Reads the tariff of word 1, and makes its tables, where it is the one that was sealed: its length is
+/// asked before its digest.
+fn read_tables<F: Files>(alloc: Global, files: &mut F, seal: &Seal) -> Result<Tables, Ended>
+    ensures found { F.tells → IfOk result (AreSealedTables seal.now (F.rest files.old 1)) }
+    ensures constant { IfOk result (λ tables. tables.constant ≡ seal.now.params.constant) }
+    ensures ended { F.tells → OnOk result (F.rest files.new 1 ≡ []) }
+    ensures refused { (why : Ended) → F.tells → result ≡ Err why
+        → AreNoTables seal.now.digest (F.rest files.old 1) (Rose (F.faults files.old 1) (F.faults files.new 1)) why }
+    ensures read_fault { result ≡ Err Ended.ReadFault → Rose (F.faults files.old 1) (F.faults files.new 1) }
+    ensures not_board { result ≢ Err Ended.BoardFault }
+    ensures others { (other : ℕ) → other ≢ 1 → F.rest files.new other ≡ F.rest files.old other }
+    ensures counts { (other : ℕ) → F.faults files.old other ≤ F.faults files.new other }
+{
+    let checked = match read_sealed(alloc, files, &seal.digest) {
+        Ok(checked) => checked,
+        Err(why) => return Err(why),
+    };
+    match compile(alloc, &checked, seal.params.constant) {
+        Ok(tables) => Ok(tables),
+        Err(_) => Err(Ended::NoMemory),
+    }
+}
+
+/// Whether a held trip fits the tables, where there is one. At most 16 steps.
+fn hold_fits<L: Ledger>(hold: &Option<Trip>, tables: &Tables, steps: &mut Steps<L>) -> bool
+    ensures value { result ≡ does_hold_fit tables.now hold.now }
+    ensures decides { IsTrue result ↔ ForSome hold.now (Fits tables.now) }
+    ensures steps { steps.new ≤ steps.old + 16 }
+{
+    match hold {
+        None => true,
+        Some(trip) => fits(trip, tables, steps),
+    }
+}
+
+/// Scans the store, reads the tariff of word 1, and asks whether the held trip fits it. Nothing is written
+/// or printed.
+fn begin<F: Files, B: Board<L>, L: Ledger>(
+    alloc: Global,
+    files: &mut F,
+    board: &mut B,
+    steps: &mut Steps<L>,
+) -> Result<Begun, Ended>
+    ensures begun { F.tells → B.tells_image → IfOk result (λ begun.
+        HasBegun B.Board (B.image board.old) (F.rest files.old 1) board.new begun.seal begun.tables) }
+    ensures seal { IfOk result (λ begun. IsSeal begun.seal) }
+    ensures constant { IfOk result (λ begun. begun.tables.constant ≡ begun.seal.params.constant) }
+    ensures ended { F.tells → OnOk result (F.rest files.new 1 ≡ []) }
+    ensures refused { F.tells → B.tells_image → IfErr result (HasNotBegun (B.image board.old) (F.rest files.old 1)
+        (Rose (F.faults files.old 1) (F.faults files.new 1)) (Rose (B.faults board.old) (B.faults board.new))) }
+    ensures opens { OnlyOpens B.Board (IsErrOf result Ended.BoardFault) board.old board.new }
+    ensures read_fault { result ≡ Err Ended.ReadFault → Rose (F.faults files.old 1) (F.faults files.new 1) }
+    ensures others { (other : ℕ) → other ≢ 1 → F.rest files.new other ≡ F.rest files.old other }
+    ensures counts { (other : ℕ) → F.faults files.old other ≤ F.faults files.new other }
+    ensures steps { steps.new ≤ steps.old + 22 }
+{
+    let (durable, seal) = match open_sealed(board, steps) {
+        Ok(store) => store,
+        Err(why) => return Err(why),
+    };
+    let tables = match read_tables(alloc, files, &seal) {
+        Ok(tables) => tables,
+        Err(why) => return Err(why),
+    };
+    if !hold_fits(&durable.hold, &tables, steps) {
+        return Err(Ended::BadTrip);
+    }
+    Ok(Begun { seal, tables })
+}
+
+/// Scans the store, reads the tariff of word 1, which has to be the sealed one, and carries out the drive of
+/// word 2 on the store.
+pub fn run<F: Files, B: Board<L>, L: Ledger>(
+    alloc: Global,
+    files: &mut F,
+    board: &mut B,
+    steps: &mut Steps<L>,
+) -> Ended
+    ensures runs { F.tells → B.tells_image
+        → RunComes F.Files B.Board files.old files.new board.old board.new result }
+    ensures unwritten { ¬ run_command.writes (status_of result) → KeepsBytes B.Board board.old board.new }
+    ensures same { ¬ run_command.writes (status_of result) → result ≢ Ended.BoardFault
+        → B.image board.new ≡ B.image board.old }
+    ensures read_fault { result ≡ Ended.ReadFault → HasReadFault F.Files run_command files.old files.new }
+    ensures board_fault { result ≡ Ended.BoardFault → Rose (B.faults board.old) (B.faults board.new) }
+    ensures others { (other : ℕ) → other ≢ 1 → other ≢ 2 → F.rest files.new other ≡ F.rest files.old other }
+    ensures count { B.faults board.old ≤ B.faults board.new }
+    ensures counts { (other : ℕ) → F.faults files.old other ≤ F.faults files.new other }
+    ensures steps { F.tells → IsBoundedBy 86 (F.rest files.old 2) (F.rest files.new 2) steps.old steps.new }
+{
+    let begun = match begin(alloc, files, board, steps) {
+        Ok(begun) => begun,
+        Err(why) => return why,
+    };
+    let ran = run_events(&begun.tables, &begun.seal, files, 2, board, steps);
+    ended_of(ran)
+}

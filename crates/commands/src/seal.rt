@@ -1,0 +1,222 @@
+//! The command `seal`.
+ghost use Rattle.std.specs.Prelude.{◌≡◌, ◌≢◌, ◌⊎◌, ◌+◌, ◌<◌, ◌≤◌, ◌^◌, ℕ, [], IfOk, OnOk, Ok, Err};
+ghost use Rattle.std.specs.Option.{ForSome};
+ghost use Rattle.outside.specs.Faults.{Rose};
+ghost use Rattle.slot_store.specs.Scan.{IsSound};
+ghost use Rattle.seal_store.specs.Ranges.{IsSeal};
+ghost use Rattle.seal_store.specs.Sealing.{found_number, next_number, seal_found, totals_found};
+ghost use Rattle.commands.specs.Call.{HasReadFault};
+ghost use Rattle.commands.specs.Ending.{ComesOn};
+ghost use Rattle.commands.specs.LastLine.{status_of};
+ghost use Rattle.commands.specs.Opening.{opening_of};
+ghost use Rattle.commands.specs.Opened.{IsSoundOpening};
+ghost use Rattle.commands.specs.Seal.{Seals};
+ghost use Rattle.commands.specs.SealSteps.{IsNoSeal, IsNoTariff, IsTariffWith, RestsAmid};
+ghost use Rattle.commands.specs.Seal.{seal_command, seal_read, sealing_of};
+ghost use Rattle.commands.specs.Seal as spec;
+ghost use Rattle.commands.specs.Unwritten.{KeepsBytes};
+
+use crate::ending::{Ended, refused_by, refused_params, refused_store};
+use crate::opening::{Opening, open_store};
+use crate::params::read_parameters;
+use crate::tariff::{tariff_of_text, text_of_word};
+use outside::{Board, Files};
+use seal_store::{Seal, place_seal};
+use sha2::{Digest, Sha256};
+use slot_store::{Found, Place};
+use std::alloc::Global;
+use std::sync::ledger::Ledger;
+use taxi_units::Steps;
+use totaliser_store::Durable;
+
+/// The number of the last seal.
+const LAST: u64 = 1_000_000_000_000_000;
+
+/// What a sealing goes over: the totals and the seal that were found, and the decimals of that seal.
+#[derive(Drop)]
+pub struct Base {
+    pub totals: Option<Durable>,
+    pub found: Option<(Place, u64)>,
+    pub decimals: Option<u8>,
+}
+
+/// What a sealing goes over, where no trip is held and there is a number for the seal.
+fn base_of(opening: Opening) -> Result<Base, Ended>
+    requires { IsSoundOpening opening }
+    ensures answer { result ≡ spec.over_totals opening.totals opening.seal }
+    ensures totals { IfOk result (λ base. base.totals ≡ totals_found opening.totals) }
+    ensures found { IfOk result (λ base. base.found ≡ seal_found opening.seal) }
+    ensures slot { IfOk result (λ base. ForSome base.found (λ latest. latest.0.slot ≤ 1)) }
+    ensures number { IfOk result (λ base. ForSome base.found (λ latest. latest.1 < 10 ^ 15)) }
+    ensures refused { (ended : Ended) → result ≡ Err ended → (ended ≡ Ended.TripHeld) ⊎ (ended ≡ Ended.SealEnded) }
+{
+    match opening.totals {
+        Found::Blank => over_seal(None, opening.seal),
+        Found::Latest { body: durable, .. } => {
+            if durable.hold.is_some() {
+                return Err(Ended::TripHeld);
+            }
+            over_seal(Some(durable), opening.seal)
+        }
+    }
+}
+
+/// What a sealing starts from, where the totals hold no trip.
+fn over_seal(totals: Option<Durable>, seal: Found<Seal>) -> Result<Base, Ended>
+    requires { IsSound IsSeal seal }
+    ensures answer { result ≡ spec.over_seal totals seal }
+    ensures totals { IfOk result (λ base. base.totals ≡ totals) }
+    ensures found { IfOk result (λ base. base.found ≡ seal_found seal) }
+    ensures slot { IfOk result (λ base. ForSome base.found (λ latest. latest.0.slot ≤ 1)) }
+    ensures number { IfOk result (λ base. ForSome base.found (λ latest. latest.1 < 10 ^ 15)) }
+    ensures refused { (ended : Ended) → result ≡ Err ended → ended ≡ Ended.SealEnded }
+{
+    match seal {
+        Found::Blank => Ok(Base {
+            totals,
+            found: None,
+            decimals: None,
+        }),
+        Found::Latest { place, body: seal } => {
+            if seal.seal_number == LAST {
+                return Err(Ended::SealEnded);
+            }
+            Ok(Base {
+                totals,
+                found: Some((place, seal.seal_number)),
+                decimals: Some(seal.decimals),
+            })
+        }
+    }
+}
+
+/// Whether a tariff has the decimals of the found seal, where there is one.
+fn are_decimals(found: Option<u8>, own: u8) -> Result<(), Ended>
+    ensures { result ≡ spec.are_decimals found own }
+{
+    match found {
+        None => Ok(()),
+        Some(found) => {
+            if found == own {
+                Ok(())
+            } else {
+                Err(Ended::OtherDecimals(found, own))
+            }
+        }
+    }
+}
+
+/// The decimals of the tariff of a text, where they are those that were found.
+fn decimals_of(alloc: Global, text: &[u8], found: Option<u8>) -> Result<u8, Ended>
+    ensures range { IfOk result (λ decimals. decimals ≤ 3) }
+    ensures sound { IfOk result (λ decimals. IsTariffWith found decimals text.now) }
+    ensures refused { (ended : Ended) → result ≡ Err ended → IsNoTariff found text.now ended }
+{
+    let decimals = match tariff_of_text(alloc, text) {
+        Ok(checked) => checked.tariff().decimals,
+        Err(fault) => return Err(refused_by(fault)),
+    };
+    match are_decimals(found, decimals) {
+        Ok(()) => Ok(decimals),
+        Err(ended) => Err(ended),
+    }
+}
+
+/// Reads the tariff of word 1 and the parameters of word 2, and makes a seal of them.
+fn read_seal<F: Files>(
+    alloc: Global,
+    files: &mut F,
+    number: u64,
+    found: Option<u8>,
+) -> Result<Seal, Ended>
+    requires { 1 ≤ number × number ≤ 10 ^ 15 }
+    ensures valid { IfOk result IsSeal }
+    ensures number { IfOk result (λ seal. seal.seal_number ≡ number) }
+    ensures read { F.tells
+        → IfOk result (λ seal. seal_read number found (F.rest files.old 1) (F.rest files.old 2) ≡ Ok seal) }
+    ensures tariff_ended { F.tells → OnOk result (F.rest files.new 1 ≡ []) }
+    ensures params_ended { F.tells → OnOk result (F.rest files.new 2 ≡ []) }
+    ensures refused { (ended : Ended) → F.tells → result ≡ Err ended
+        → IsNoSeal number found (F.rest files.old 1) (F.rest files.old 2)
+        (λ word. Rose (F.faults files.old word) (F.faults files.new word)) ended }
+    ensures read_fault { result ≡ Err Ended.ReadFault → Rose (F.faults files.old 1) (F.faults files.new 1)
+        ⊎ Rose (F.faults files.old 2) (F.faults files.new 2) }
+    ensures not_board { result ≢ Err Ended.BoardFault }
+    ensures others { (other : ℕ) → other ≢ 1 → other ≢ 2 → F.rest files.new other ≡ F.rest files.old other }
+    ensures counts { (other : ℕ) → F.faults files.old other ≤ F.faults files.new other }
+{
+    let text = match text_of_word(alloc, files, 1) {
+        Ok(text) => text,
+        Err(fault) => return Err(refused_by(fault)),
+    };
+    let decimals = match decimals_of(alloc, text.as_slice(), found) {
+        Ok(decimals) => decimals,
+        Err(ended) => return Err(ended),
+    };
+    let params = match read_parameters(alloc, files, 2) {
+        Ok(params) => params,
+        Err(fault) => return Err(refused_params(fault)),
+    };
+    Ok(Seal {
+        seal_number: number,
+        params,
+        digest: Sha256::digest(text.as_slice()),
+        decimals,
+    })
+}
+
+/// The number of the seal that is put in.
+fn number_after(found: Option<(Place, u64)>) -> u64
+    requires { ForSome found (λ latest. latest.1 < 10 ^ 15) }
+    ensures value { result ≡ next_number (found_number found) }
+    ensures range { 1 ≤ result × result ≤ 10 ^ 15 }
+{
+    match found {
+        None => 1,
+        Some((_, number)) => number + 1,
+    }
+}
+
+/// Scans the store, reads the tariff of word 1 and the parameters of word 2, and seals the store with
+/// them, beside the totals that were found or totals of zero.
+pub fn seal_store<F: Files, B: Board<L>, L: Ledger>(
+    alloc: Global,
+    files: &mut F,
+    board: &mut B,
+    steps: &mut Steps<L>,
+) -> Ended
+    ensures ends { F.tells → B.tells_image
+        → ComesOn F.Files B.Board seal_command files.old files.new board.old board.new result }
+    ensures seals { F.tells → B.tells_image
+        → Seals B.Board (sealing_of (opening_of (B.image board.old)) (F.rest files.old 1) (F.rest files.old 2))
+        board.old board.new (status_of result) }
+    ensures rests { F.tells → B.tells_image → result ≢ Ended.BoardFault
+        → RestsAmid B.Board (sealing_of (opening_of (B.image board.old)) (F.rest files.old 1) (F.rest files.old 2))
+        (B.image board.old) board.new }
+    ensures unwritten { result ≢ Ended.BoardFault → status_of result ≢ 0 → KeepsBytes B.Board board.old board.new }
+    ensures same { result ≢ Ended.BoardFault → status_of result ≢ 0 → B.image board.new ≡ B.image board.old }
+    ensures read_fault { result ≡ Ended.ReadFault → HasReadFault F.Files seal_command files.old files.new }
+    ensures board_fault { result ≡ Ended.BoardFault → Rose (B.faults board.old) (B.faults board.new) }
+    ensures others { (other : ℕ) → other ≢ 1 → other ≢ 2 → F.rest files.new other ≡ F.rest files.old other }
+    ensures count { B.faults board.old ≤ B.faults board.new }
+    ensures counts { (other : ℕ) → F.faults files.old other ≤ F.faults files.new other }
+    ensures steps { steps.new ≤ steps.old + 16 }
+{
+    let opening = match open_store(board, steps) {
+        Ok(opening) => opening,
+        Err(fault) => return refused_store(fault),
+    };
+    let base = match base_of(opening) {
+        Ok(base) => base,
+        Err(ended) => return ended,
+    };
+    let number = number_after(base.found);
+    let seal = match read_seal(alloc, files, number, base.decimals) {
+        Ok(seal) => seal,
+        Err(ended) => return ended,
+    };
+    match place_seal(board, base.totals, base.found, &seal, steps) {
+        Ok(()) => Ended::Sealed(number),
+        Err(_) => Ended::BoardFault,
+    }
+}

@@ -1,0 +1,213 @@
+//! The top call: words in, a status out.
+#![tactic(auto, using(crate::proofs::BoardRuns::board_runs))]
+
+ghost use Rattle.std.specs.Prelude.{◌≡◌, ◌≢◌, ◌⊎◌, ℕ, ◌+◌, ◌≤◌, None, Some, map, string_bytes};
+ghost use Rattle.outside.specs.Faults.{Rose};
+ghost use Rattle.outside.specs.Runs.{IsSettled, KeepsStore, LeavesOnly};
+ghost use Rattle.commands.specs.Call.{HasReadFault, IsCall, MayLack};
+ghost use Rattle.commands.specs.Command.{OnlyLooks, called, command, command_of};
+ghost use Rattle.commands.specs.Ending.{ComesOn, LooksAt};
+ghost use Rattle.commands.specs.LastLine.{status_of};
+ghost use Rattle.commands.specs.Opening.{opening_of};
+ghost use Rattle.commands.specs.Run.{IsRun};
+ghost use Rattle.commands.specs.RunSteps.{RunComes};
+ghost use Rattle.commands.specs.Seal.{IsAmidOf, Seals, sealing_of};
+ghost use Rattle.commands.specs.SealSteps.{RestsAmid};
+ghost use Rattle.commands.specs.Unwritten.{KeepsBytes, LeavesImage, WritesNothing};
+ghost use Rattle.commands.specs.Words.{row_of};
+
+use crate::bench::bench;
+use crate::check::check_tariff;
+use crate::ending::{Ended, finish};
+use crate::fare::fare;
+use crate::generate::generate;
+use crate::mark::print_mark;
+use crate::offsets::print_offsets;
+use crate::port::serve_requests;
+use crate::run::run;
+use crate::seal::seal_store;
+use crate::shifts::print_shifts;
+use crate::tables::print_tables;
+use crate::totals::print_store;
+use crate::words::{Row, row_in};
+use outside::{Board, Files};
+use std::alloc::Global;
+use std::sync::ledger::Ledger;
+use taxi_units::Steps;
+
+/// Carries out a command, but for its last line.
+fn carry_out<F: Files, B: Board<L>, L: Ledger>(
+    alloc: Global,
+    row: Row,
+    files: &mut F,
+    board: &mut B,
+    steps: &mut Steps<L>,
+) -> Ended
+    ensures ends { (command_of (Some row)).known F.tells B.tells_image
+        → ComesOn F.Files B.Board (command_of (Some row)) files.old files.new board.old board.new result }
+    ensures steps { (command_of (Some row)).steps F.tells B.tells_image (F.rest files.old) (F.rest files.new)
+        (B.image board.old) steps.old (steps.new + 1) }
+    ensures read_fault { result ≡ Ended.ReadFault → HasReadFault F.Files (command_of (Some row)) files.old files.new }
+    ensures board_fault { result ≡ Ended.BoardFault → Rose (B.faults board.old) (B.faults board.new) }
+    ensures others { (word : ℕ) → ¬ (command_of (Some row)).reads word → F.rest files.new word ≡ F.rest files.old word }
+    ensures count { B.faults board.old ≤ B.faults board.new }
+    ensures counts { (other : ℕ) → F.faults files.old other ≤ F.faults files.new other }
+    ensures kept { ¬ (command_of (Some row)).opens → KeepsStore B.Board board.old board.new }
+    ensures unwritten { ¬ (command_of (Some row)).writes (status_of result) → KeepsBytes B.Board board.old board.new }
+    ensures same { ¬ (command_of (Some row)).writes (status_of result) → result ≢ Ended.BoardFault
+        → B.image board.new ≡ B.image board.old }
+    ensures looks { OnlyLooks (Some row) → B.tells_image → LooksAt B.Board board.old board.new result }
+    ensures seals { row ≡ Row.Seal → F.tells → B.tells_image
+        → Seals B.Board (sealing_of (opening_of (B.image board.old)) (F.rest files.old 1) (F.rest files.old 2))
+        board.old board.new (status_of result) }
+    ensures rests { row ≡ Row.Seal → F.tells → B.tells_image → result ≢ Ended.BoardFault
+        → RestsAmid B.Board (sealing_of (opening_of (B.image board.old)) (F.rest files.old 1) (F.rest files.old 2))
+        (B.image board.old) board.new }
+    ensures runs { row ≡ Row.Run → F.tells → B.tells_image
+        → RunComes F.Files B.Board files.old files.new board.old board.new result }
+{
+    match row {
+        Row::Check => check_tariff(alloc, files),
+        Row::Tables(k) => print_tables(alloc, k, files, board, steps),
+        Row::Fare(k) => fare(alloc, k, files, board, steps),
+        Row::Totals => print_store(board, steps),
+        Row::Seal => seal_store(alloc, files, board, steps),
+        Row::Run => run(alloc, files, board, steps),
+        Row::Bench => bench(alloc, files, board, steps),
+        Row::Gen(seed, trips) => generate(alloc, seed, trips.get(), board, steps),
+        Row::Port => serve_requests(files, board, steps),
+        Row::Offsets(years) => print_offsets(years, files, board, steps),
+        Row::Mark(driver) => print_mark(driver, board, steps),
+        Row::Shifts => print_shifts(alloc, files, board, steps),
+    }
+}
+
+/// Carries out the words of a call of the program, and gives its status. Word 0 is the command; word
+/// n's file is that of place n.
+///
+/// The words, and what is printed where the status is 0 (for `bench`, 0 or 11):
+///
+/// - `check TARIFF`: `OK CELLS n MEASURE m`, for a sound tariff
+/// - `tables TARIFF CONSTANT`: the rows of its tables, with CONSTANT pulses to a kilometre
+/// - `fare TARIFF DRIVE CONSTANT`: the displays and refusals of the drive under the tariff
+/// - `totals`: the totals of the store
+/// - `seal TARIFF PARAMS`: `SEALED n`, with the number of the seal that is put in
+/// - `run TARIFF DRIVE`: the displays, refusals and receipts of the drive on the sealed store
+/// - `bench TARIFF DRIVE READINGS`: the cross-over speeds of the tariff, and the report of the readings on the
+///   hirings that the drive should come to on the sealed store
+/// - `gen SEED N`: the totals that the generated drive of a seed and N trips comes to on a new store
+/// - `port REQUESTS`: the replies to the requests, from the store
+/// - `offsets RULES FROM TO`: the `offset` lines of the rules for the years from FROM to TO, at most fifteen of
+///   2000 to 2199
+/// - `mark on DRIVER`, `mark off`: the mark of the store as it is, by which a driver signs on, or whoever is on
+///   signs off
+/// - `shifts BOOK`: what the totals grew by in the shifts of a book of marks, for each driver, and while nobody
+///   was on
+///
+/// The statuses, their last lines, and when they come:
+///
+/// - 0, no line: the output is whole, and the drive was read to its end; for `bench`, every row of the report
+///   passes
+/// - 1, `BAD WORDS`: exactly where the words are no command
+/// - 2, `BAD TARIFF` with `TooLong`, `Syntax n` or the fault: exactly where the tariff has more than 65,536
+///   bytes, its line n is the first that is no line of a tariff, or this is its first fault
+/// - 3, `BAD DRIVE n` or `BAD DRIVE TOO LONG`: exactly where line n is the first that is no line of a drive, or
+///   where 2^40 bytes were taken and the end wasn't told
+/// - 4, `NOT SEALED`, for `totals`, `run`, `bench`, `port`, `mark` and `shifts`: exactly where the store's pair of
+///   totals or of seals is blank
+/// - 5, `BAD STORE s`, `BAD STORE s t` or `BAD STORE TRIP`, for a command that opens the store: exactly where slot
+///   s is open and its body isn't read, where slots s and t are open with bodies of one number, or, for `run`, where
+///   the held trip doesn't fit the tariff
+/// - 6, `WRONG TARIFF x y`, for `run` and `bench`: exactly where the sealed digest x and that of the tariff's text,
+///   y, differ
+/// - 7, `READ FAULT`: only where the count of faults of a file that the command reads rose
+/// - 8, no line: only where the board's count of faults rose
+/// - 9, `BAD PARAMS` with the fault: exactly where the parameters have this first fault
+/// - 10, `BAD READINGS n` or `BAD READINGS TOO LONG`: exactly where row n is the first that is no row of readings,
+///   or the readings have more than 1,048,576 bytes
+/// - 11, no line: exactly where a row of the report of `bench` doesn't pass; the output is whole, and each file was
+///   read to its end
+/// - 12, `NO MEMORY`: free but for `totals`, `port` and `mark`, before anything is printed or written and, but for
+///   `bench`, before the first byte of the drive is taken
+/// - 13, `TRIP HELD`: exactly where the totals of the store hold a trip
+/// - 14, `SEAL ENDED`: exactly where the found seal has the last number, 10^15
+/// - 15, `OTHER DECIMALS x y`: exactly where the found seal has x decimals, and the tariff y
+/// - 16, `BAD FRAME p` or `BAD FRAME TOO LONG`: exactly where byte p, from 0 on, is the first that no stream of
+///   requests has there, or the end is and a request is unfinished, or 2^40 bytes were taken, none of their places
+///   is bad, and the end wasn't told
+/// - 17, `BAD RULES` with `TooLong`, `BadLine n` or `SameMonth`: exactly where the rules have more than 4,096 bytes,
+///   their line n is the first that isn't as it should be or is absent, or 5 where bytes follow the four, or both
+///   changes are in one month
+/// - 18, `BAD BOOK TOO LONG` or `BAD BOOK n`: exactly where the book has more than 1,048,576 bytes, or its line n is
+///   the first that is no mark, may not follow those before it, or has a number greater than the store's
+///
+/// The words, the statuses and the lines are this project's own.
+pub fn taxi<F: Files, B: Board<L>, L: Ledger>(
+    alloc: Global,
+    words: &[String],
+    files: &mut F,
+    board: &mut B,
+    steps: &mut Steps<L>,
+) -> u8
+    // A call takes a course that its words, their files' contents and the opening image allow, and ends as it says.
+    ensures call { (called (map string_bytes words.now)).known F.tells B.tells_image
+        → IsCall F.Files B.Board (called (map string_bytes words.now)) files.old files.new board.old board.new result }
+
+    // Refused words read nothing, and no command reads a word that it doesn't name, whatever the files tell.
+    ensures refused { row_of (map string_bytes words.now) ≡ None → files.new ≡ files.old }
+    ensures others { (word : ℕ) → ¬ (called (map string_bytes words.now)).reads word
+        → F.rest files.new word ≡ F.rest files.old word }
+
+    // Each of the faults of the outside has its cause, whatever is told.
+    ensures read_fault { result ≡ 7 → HasReadFault F.Files (called (map string_bytes words.now)) files.old files.new }
+    ensures board_fault { result ≡ 8 → Rose (B.faults board.old) (B.faults board.new) }
+
+    // Where no count rose, the status is that of the answer, unless memory ran out.
+    ensures complete { (called (map string_bytes words.now)).known F.tells B.tells_image
+        → ¬ HasReadFault F.Files (called (map string_bytes words.now)) files.old files.new
+        → ¬ Rose (B.faults board.old) (B.faults board.new)
+        → (result ≡ (command (map string_bytes words.now) (F.rest files.old) (B.image board.old)).status)
+        ⊎ ((result ≡ 12) × MayLack (called (map string_bytes words.now)) (F.rest files.old) (B.image board.old)) }
+
+    // One step for the last line, one for each row of tables, at most 31 for offsets, 64 for an opening of the store,
+    // 64 for each event of a drive that is run, one for each 512 bytes that are printed of a bench, one for each reply,
+    // and two for each byte of a shift book.
+    ensures steps { (called (map string_bytes words.now)).steps F.tells B.tells_image
+        (F.rest files.old) (F.rest files.new) (B.image board.old) steps.old steps.new }
+
+    // The store is left alone where it isn't opened, and nothing is written but where a command may write.
+    ensures kept { ¬ (called (map string_bytes words.now)).opens → KeepsStore B.Board board.old board.new }
+    ensures unwritten { ¬ (called (map string_bytes words.now)).writes result
+        → WritesNothing B.Board board.old board.new result }
+
+    // Where a command only looks at the store, a cut of the power from its opening sync on leaves the image as it was.
+    ensures looks { OnlyLooks (row_of (map string_bytes words.now)) → B.tells_image
+        → LeavesImage B.Board (result ≡ 8) board.old board.new }
+
+    // Sealing leaves what it says at 0. A cut of the power from its opening sync on leaves the store that was found, or
+    // one amid the sealing; a cut before that sync has succeeded leaves what it might have left before the call. So
+    // where nothing was in flight before, a cut at any moment of the call leaves an image amid the sealing.
+    ensures seals { row_of (map string_bytes words.now) ≡ Some Row.Seal → F.tells → B.tells_image
+        → Seals B.Board (sealing_of (opening_of (B.image board.old)) (F.rest files.old 1) (F.rest files.old 2))
+        board.old board.new result }
+    ensures settled { row_of (map string_bytes words.now) ≡ Some Row.Seal → F.tells → B.tells_image
+        → IsSettled B.Board board.old → LeavesOnly B.Board board.old board.new (λ left_image left_text. IsAmidOf
+        (sealing_of (opening_of (B.image board.old)) (F.rest files.old 1) (F.rest files.old 2))
+        (B.image board.old) left_image) }
+
+    // The headline. A run prints the displays, refusals and receipts that the tariff's text means for its drive, and no
+    // others; in the end the store has the state after all its commits. A cut of the power from the run's opening sync
+    // on leaves a place in the list of what the run does: the totals found are the opening ones plus the sums over the
+    // entries before that place, as many commits as the stored number says, and every hiring of whose receipt a byte
+    // was printed has its entry among them. `IsRun` says it clause by clause.
+    ensures runs { row_of (map string_bytes words.now) ≡ Some Row.Run → F.tells → B.tells_image
+        → IsRun F.Files B.Board files.old files.new board.old board.new result }
+{
+    match row_in(words) {
+        None => finish(Ended::BadWords, board, steps),
+        Some(row) => {
+            let ended = carry_out(alloc, row, files, board, steps);
+            finish(ended, board, steps)
+        }
+    }
+}

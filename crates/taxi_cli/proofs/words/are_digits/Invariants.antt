@@ -1,8 +1,0 @@
-use Rattle.std.proofs.Common.{◌≡◌, ◌+◌, drop}
-use Rattle.taxi_units.specs.Number.{digits_at_front}
-use Rattle.taxi_cli.proofs.words.are_digits.Given as goal
-
-abbrev pub invariant-loop-byte : goal.invariant-loop-byte
-invariant-loop-byte l = record {
-  digits : digits_at_front l.word ≡ l.byte-index + digits_at_front (drop l.byte-index l.word);
-}

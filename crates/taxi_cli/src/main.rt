@@ -1,0 +1,63 @@
+//! The taximeter: the program, and the tests that go through several crates.
+#![tactic(auto)]
+
+#[cfg(test)]
+mod below;
+#[cfg(test)]
+mod bench_tests;
+#[cfg(test)]
+mod chain_tests;
+#[cfg(test)]
+mod failure_tests;
+#[cfg(test)]
+mod fare_tests;
+#[cfg(test)]
+mod generate_tests;
+#[cfg(test)]
+mod growth_tests;
+#[cfg(test)]
+mod many_cuts_tests;
+#[cfg(test)]
+mod offsets_tests;
+#[cfg(test)]
+mod port_tests;
+#[cfg(test)]
+mod run_tests;
+#[cfg(test)]
+mod seal_tests;
+#[cfg(test)]
+mod shifts_tests;
+#[cfg(test)]
+mod store_tests;
+#[cfg(test)]
+mod tests;
+
+ghost use Rattle.std.specs.Prelude.{◌≡◌, ◌<◌};
+
+use commands::taxi;
+use outside::{FileBoard, HostFiles, program_words};
+use std::marker::Brand;
+use std::process::ExitCode;
+use std::sync::ledger::{Blank, Ledger};
+use taxi_units::Steps;
+
+/// Carries out the words of the program, under its one counter of steps.
+fn status<L: Ledger>(rt: HostRuntime, blank: Blank) -> u8
+    requires name { blank.name ≡ L.name }
+    requires parts { blank.parts ≡ L.parts }
+    requires some { 0 < blank.parts }
+{
+    let alloc = rt.alloc();
+    let words = match program_words(&rt) {
+        Ok(words) => words,
+        Err(status) => return status,
+    };
+    let mut files = HostFiles::new(rt, alloc, words.as_slice());
+    let mut board = FileBoard::new(rt, alloc);
+    let mut steps: Steps<L> = Steps::open(blank);
+    taxi(alloc, words.as_slice(), &mut files, &mut board, &mut steps)
+}
+
+fn main(rt: HostRuntime) -> ExitCode {
+    ExitCode::from(status::<Brand>(rt, Blank::new(1)))
+}
