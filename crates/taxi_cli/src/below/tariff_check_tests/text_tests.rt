@@ -1,19 +1,14 @@
-//! Which texts are sound tariffs, and their cuts.
-use super::*;
+//! Which texts are sound tariffs, by `check`, and their cuts, by `cut_values`.
+use crate::below::tariff_texts::checked;
+use crate::run_tests::CITY;
 use std::alloc::Global;
 use std::test::Fail;
-use tariff_syntax::{parse, texts_have_their_numbers};
+use tariff_check::{CheckFault, Dimension, cut_values};
 
 /// The cells and the measure of a text's tariff, or its fault; `NoMemory` where it is none.
 fn outcome(alloc: Global, text: &str) -> Result<(u64, u64), CheckFault> {
-    match parse(alloc, text.as_bytes()) {
-        Ok(tariff) => {
-            texts_have_their_numbers();
-            let checked = check(alloc, tariff)?;
-            Ok((checked.cells(), checked.measure()))
-        }
-        Err(_) => Err(CheckFault::NoMemory),
-    }
+    let checked = checked(alloc, text)?;
+    Ok((checked.cells(), checked.measure()))
 }
 
 /// Fails unless a text's tariff has these cells and this measure, or this fault.
@@ -24,24 +19,6 @@ fn must_give(alloc: Global, text: &str, want: Result<(u64, u64), CheckFault>) ->
     }
     Err(Fail::new(format_args!("{found:?}: {text}")))
 }
-
-/// A tariff of a city.
-const CITY: &str = "decimals 2
-step 0.20 ahead
-positions 2
-zones 2
-holiday 2026-01-01
-holiday 2026-12-25
-supplement 1 2.00 max 4
-supplement 2 0.50 max 9
-supplement 3 5.00 max 1
-initial 5.00 covers 0.40 when time 22:00..06:00 or day sun or holiday
-initial 4.20 covers 0.40
-rate 0.20 per 80.0 m, 0.20 per 20.0 s when position 2 or zone 2
-rate 0.20 per 90.0 m, 0.20 per 20.0 s when time 22:00..06:00 or day sun or holiday
-rate 0.20 per 100.0 m, 0.20 per 20.0 s when after 5000.0 m
-rate 0.20 per 125.0 m, 0.20 per 25.0 s
-";
 
 /// A text, and its tariff's cells and measure, or its fault.
 type TextRow = (&'static str, Result<(u64, u64), CheckFault>);
@@ -191,16 +168,10 @@ fn lines_and_cuts(
     text: &str,
     dimension: Dimension,
 ) -> Result<(usize, Vec<u64>), CheckFault> {
-    match parse(alloc, text.as_bytes()) {
-        Ok(tariff) => {
-            texts_have_their_numbers();
-            let checked = check(alloc, tariff)?;
-            let lines = checked.tariff().lines.as_slice().len();
-            match cut_values(alloc, &checked, dimension) {
-                Ok(cuts) => Ok((lines, cuts)),
-                Err(_) => Err(CheckFault::NoMemory),
-            }
-        }
+    let checked = checked(alloc, text)?;
+    let lines = checked.tariff().lines.as_slice().len();
+    match cut_values(alloc, &checked, dimension) {
+        Ok(cuts) => Ok((lines, cuts)),
         Err(_) => Err(CheckFault::NoMemory),
     }
 }

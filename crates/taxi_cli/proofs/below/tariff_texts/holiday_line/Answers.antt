@@ -1,5 +1,5 @@
 use Rattle.std.proofs.Common.{arith}
-use Rattle.tariff_check.proofs.limit_tests.holiday_line.Goals as goal
+use Rattle.taxi_cli.proofs.below.tariff_texts.holiday_line.Goals as goal
 
 pub overflow_add-year : goal.overflow_add-year
 overflow_add-year c = omega arith

@@ -1,18 +1,12 @@
-//! Tariffs at each limit and one above it.
-use super::*;
+//! Tariffs at each limit and one above it, by `check`.
+use crate::below::tariff_texts::{checked, minute_part, with_holidays};
 use std::alloc::Global;
 use std::test::Fail;
-use tariff_syntax::{parse, texts_have_their_numbers};
+use tariff_check::{CheckFault, Dimension};
 
 /// The cells of a text's tariff, or its fault; `NoMemory` where it is none.
 fn cells_of(alloc: Global, text: &str) -> Result<u64, CheckFault> {
-    match parse(alloc, text.as_bytes()) {
-        Ok(tariff) => {
-            texts_have_their_numbers();
-            Ok(check(alloc, tariff)?.cells())
-        }
-        Err(_) => Err(CheckFault::NoMemory),
-    }
+    Ok(checked(alloc, text)?.cells())
 }
 
 /// Fails unless a text's tariff has this number of cells, or this fault.
@@ -53,14 +47,6 @@ fn dates(alloc: Global, count: u8) -> Result<String, Fail> {
         when.push_str(date_part(alloc, place)?.as_str())?;
     }
     Ok(when)
-}
-
-/// A range of one minute, by its place among 40.
-fn minute_part(alloc: Global, place: u8) -> Result<String, Fail> {
-    let hour = 10 + place / 20;
-    let from = 10 + 2 * (place % 20);
-    let to = from + 1;
-    Ok(format!(in alloc; " or time {hour}:{from}..{hour}:{to}")?)
 }
 
 /// Ranges of minutes that cut twice, and one that cuts once where that is left.
@@ -230,13 +216,8 @@ fn counts_lines_up_to_their_limits(rt: HostRuntime) -> Result<(), Fail> {
     Ok(())
 }
 
-/// The line of the holiday at a place among the 10th to the 28th of the last three months of each year from 2000 on.
-fn holiday_line(alloc: Global, place: u16) -> Result<String, Fail> {
-    let year = 2000 + place / 57;
-    let month = 10 + place / 19 % 3;
-    let date = 10 + place % 19;
-    Ok(format!(in alloc; "holiday {year}-{month}-{date}\n")?)
-}
+/// A tariff without holidays.
+const WITHOUT_HOLIDAYS: &str = "step 1\ninitial 1\nrate 1 per 1 m, 1 per 1 s\n";
 
 /// Fails unless a tariff with a number of holidays has this number of cells, or this fault.
 fn must_count_holidays(
@@ -244,11 +225,7 @@ fn must_count_holidays(
     count: u16,
     want: Result<u64, CheckFault>,
 ) -> Result<(), Fail> {
-    let mut text = String::new(alloc);
-    text.push_str("step 1\ninitial 1\nrate 1 per 1 m, 1 per 1 s\n")?;
-    for place in 0..count {
-        text.push_str(holiday_line(alloc, place)?.as_str())?;
-    }
+    let text = with_holidays(alloc, WITHOUT_HOLIDAYS, count)?;
     must_have(alloc, text.as_str(), want)
 }
 

@@ -1,5 +1,5 @@
 use Rattle.std.proofs.Common.{arith}
-use Rattle.tariff_check.proofs.limit_tests.minute_part.Goals as goal
+use Rattle.taxi_cli.proofs.below.tariff_texts.minute_part.Goals as goal
 
 pub overflow_add-hour : goal.overflow_add-hour
 overflow_add-hour c = omega arith

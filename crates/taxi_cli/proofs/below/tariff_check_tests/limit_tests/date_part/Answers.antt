@@ -1,5 +1,5 @@
 use Rattle.std.proofs.Common.{arith}
-use Rattle.tariff_check.proofs.limit_tests.date_part.Goals as goal
+use Rattle.taxi_cli.proofs.below.tariff_check_tests.limit_tests.date_part.Goals as goal
 
 pub overflow_add-month : goal.overflow_add-month
 overflow_add-month c = omega arith
