@@ -1,5 +1,6 @@
 //! Tests of the crates below that go through several of them: each makes what it needs by the public calls of its
 //! neighbours. Tests of one crate alone stand beside its code.
 
+mod tariff_calendar_tests;
 mod tariff_check_tests;
 mod tariff_texts;

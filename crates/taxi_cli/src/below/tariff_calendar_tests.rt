@@ -1,18 +1,20 @@
-//! The lists of tariffs, and look-ups in them.
+//! Tests of tariff_calendar: the lists of tariffs, by `Cuts::collect` and `Cuts::list`, and look-ups in them, by
+//! `Cuts::find` and `Cuts::holiday`.
 ghost use Rattle.std.specs.Prelude.{◌≡◌, ◌<◌};
 
-use super::*;
+use crate::below::tariff_texts::{checked, with_holidays};
+use pulse_input::Constant;
+use std::alloc::Global;
 use std::marker::Brand;
-use std::sync::ledger::Blank;
+use std::sync::ledger::{Blank, Ledger};
 use std::test::Fail;
-use tariff_check::check;
-use tariff_syntax::{parse, texts_have_their_numbers};
+use tariff_calendar::Cuts;
+use tariff_check::Dimension;
+use taxi_units::Steps;
 
 /// The lists of a text's tariff under `k` pulses a kilometre.
 fn collected(alloc: Global, text: &str, k: u32) -> Result<Cuts, Fail> {
-    let tariff = parse(alloc, text.as_bytes())?;
-    texts_have_their_numbers();
-    let checked = check(alloc, tariff)?;
+    let checked = checked(alloc, text)?;
     Ok(Cuts::collect(alloc, &checked, Constant::new(k)?)?)
 }
 
@@ -99,11 +101,7 @@ rate 0.10 per 100.0 m, 0.10 per 20.0 s
 "
     )?;
     let cuts = collected(alloc, text.as_str(), row.1)?;
-    let found = cuts.list(row.2);
-    if found == row.3 {
-        return Ok(());
-    }
-    Err(Fail::new(format_args!("{found:?}: {when}")))
+    must_have_list(&cuts, row.2, row.3)
 }
 
 #[test]
@@ -114,7 +112,7 @@ fn collects_cuts(rt: HostRuntime) -> Result<(), Fail> {
     Ok(())
 }
 
-/// A city tariff.
+/// A city tariff, whose later holiday stands first.
 const CITY: &str = "decimals 2
 step 0.20 ahead
 positions 2
@@ -132,37 +130,45 @@ rate 0.20 per 100.0 m, 0.20 per 20.0 s when after 5000.0 m
 rate 0.20 per 125.0 m, 0.20 per 25.0 s
 ";
 
-/// Its cuts under constant 10,000 in the order of dimensions, and its holidays.
-const CITY_LISTS: &[&[u64]] = &[&[], &[360, 1320], &[50_000], &[], &[20_454, 20_812]];
+/// Its cuts under constant 10,000 in each dimension.
+const CITY_LISTS: &[(Dimension, &[u64])] = &[
+    (Dimension::MonthDay, &[]),
+    (Dimension::Minute, &[360, 1320]),
+    (Dimension::Distance, &[50_000]),
+    (Dimension::Time, &[]),
+];
 
-/// The numbers of a list.
-fn numbers(list: &Vec<u64>) -> &[u64] {
-    list.as_slice()
+/// Its holidays.
+const CITY_HOLIDAYS: &[i32] = &[20_454, 20_812];
+
+/// Fails unless these are the cuts of a dimension.
+fn must_have_list(cuts: &Cuts, dimension: Dimension, want: &[u64]) -> Result<(), Fail> {
+    let found = cuts.list(dimension);
+    if found == want {
+        return Ok(());
+    }
+    Err(Fail::new(format_args!("{found:?}: {dimension:?}")))
 }
 
-/// Whether the lists of cuts are these. They are all that there is: numbers, and no condition, line or text.
-fn has_lists(cuts: &Cuts, want: &[&[u64]]) -> bool {
-    let Cuts {
-        month_days,
-        minutes,
-        distances,
-        times,
-        holidays,
-    } = cuts;
-    let lists = [
-        numbers(month_days),
-        numbers(minutes),
-        numbers(distances),
-        numbers(times),
-        numbers(holidays),
-    ];
-    lists.as_slice() == want
+/// The holidays among the days from 1970 to 2199.
+fn holidays_of(alloc: Global, cuts: &Cuts) -> Result<Vec<i32>, Fail> {
+    let mut days = Vec::new(alloc);
+    for day in 0..84_006 {
+        if is_holiday::<Brand>(Blank::new(1), cuts, day) {
+            days.push(day)?;
+        }
+    }
+    Ok(days)
 }
 
+/// The lists of the city tariff have these numbers and no others.
 #[test]
-fn keeps_numbers_alone(rt: HostRuntime) -> Result<(), Fail> {
+fn lists_the_city(rt: HostRuntime) -> Result<(), Fail> {
     let cuts = collected(rt.alloc(), CITY, 10_000)?;
-    assert!(rt; has_lists(&cuts, CITY_LISTS));
+    for (dimension, want) in CITY_LISTS {
+        must_have_list(&cuts, *dimension, want)?;
+    }
+    assert_eq!(rt; holidays_of(rt.alloc(), &cuts)?.as_slice(), CITY_HOLIDAYS);
     Ok(())
 }
 
@@ -196,23 +202,8 @@ fn looks_up(rt: HostRuntime) -> Result<(), Fail> {
     must_have_holidays(&cuts, CITY_DAYS)
 }
 
-/// The line of the holiday at a place among the dates 10 to 28 of October, November and December from 2000 on.
-fn holiday_line(alloc: Global, place: u16) -> Result<String, Fail> {
-    let year = 2000 + place / 57;
-    let month = 10 + place / 19 % 3;
-    let date = 10 + place % 19;
-    Ok(format!(in alloc; "holiday {year}-{month}-{date}\n")?)
-}
-
-/// As many holidays as there may be.
-fn most_holidays(alloc: Global) -> Result<String, Fail> {
-    let mut text = String::new(alloc);
-    text.push_str("step 1\ninitial 1\nrate 1 per 1 m, 1 per 1 s\n")?;
-    for place in 0..255u16 {
-        text.push_str(holiday_line(alloc, place)?.as_str())?;
-    }
-    Ok(text)
-}
+/// A tariff without holidays.
+const WITHOUT_HOLIDAYS: &str = "step 1\ninitial 1\nrate 1 per 1 m, 1 per 1 s\n";
 
 /// Days, and whether they are among the most holidays.
 const MOST_DAYS: &[(i32, bool)] = &[
@@ -227,7 +218,7 @@ const MOST_DAYS: &[(i32, bool)] = &[
 
 #[test]
 fn looks_up_among_the_most_holidays(rt: HostRuntime) -> Result<(), Fail> {
-    let text = most_holidays(rt.alloc())?;
+    let text = with_holidays(rt.alloc(), WITHOUT_HOLIDAYS, 255)?;
     let cuts = collected(rt.alloc(), text.as_str(), 10_000)?;
     assert!(rt; cuts.has_holidays());
     must_have_holidays(&cuts, MOST_DAYS)
