@@ -35,6 +35,7 @@ pub mod Link
 pub mod BenchSteps
 pub mod ChainSteps
 pub mod Ending
+pub mod Numbers
 pub mod Opened
 pub mod RunSteps
 pub mod SealSteps

@@ -3,4 +3,5 @@
 
 mod tariff_calendar_tests;
 mod tariff_check_tests;
+mod tariff_compile_tests;
 mod tariff_texts;

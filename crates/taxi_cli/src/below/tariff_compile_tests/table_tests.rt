@@ -1,23 +1,19 @@
-//! Tables of tariffs, as rows and by look-ups.
+//! Tables of tariffs, as rows, by `put_row`, and by look-ups.
 ghost use Rattle.std.specs.Prelude.{◌≡◌, ◌<◌, ◌≤◌};
 ghost use Rattle.tariff_syntax.specs.Writable.{IsFromTo};
 
-use super::*;
-use crate::compile;
+use crate::below::tariff_texts::compiled;
+use crate::fare_tests::B as NIGHT;
+use crate::run_tests::CITY;
+use crate::tests::A as PLAIN;
+use drive_modes::Rounding;
 use std::alloc::Global;
 use std::marker::Brand;
-use std::sync::ledger::Blank;
+use std::sync::ledger::{Blank, Ledger};
 use std::test::Fail;
-use tariff_check::{Dimension, check};
-use tariff_syntax::{parse, texts_have_their_numbers};
-
-/// The tables of a text's tariff under `k` pulses a kilometre.
-fn compiled(alloc: Global, text: &str, k: u32) -> Result<Tables, Fail> {
-    let tariff = parse(alloc, text.as_bytes())?;
-    texts_have_their_numbers();
-    let checked = check(alloc, tariff)?;
-    Ok(compile(alloc, &checked, Constant::new(k)?)?)
-}
+use tariff_compile::{Supplement, Tables};
+use tariff_syntax::Context;
+use taxi_units::{Line, Steps};
 
 /// The rows of the tables of a text's tariff.
 fn rows_of(alloc: Global, text: &str, k: u32) -> Result<Vec<u8>, Fail> {
@@ -31,13 +27,7 @@ fn rows_of(alloc: Global, text: &str, k: u32) -> Result<Vec<u8>, Fail> {
     Ok(rows)
 }
 
-/// A tariff of one rate.
-const PLAIN: &str = "decimals 2
-step 0.20 ahead
-initial 3.80 covers 0.40
-rate 0.20 per 117.4 m, 0.20 per 25.2 s
-";
-
+/// The rows of a tariff of one rate: a measure, a rate, an initial hire fee, and a cell for each weekday.
 const PLAIN_ROWS: &str = "MEASURE 1479240000
 RATE 1 25200000 117400000
 INITIAL 1 3.80 0.40
@@ -50,13 +40,7 @@ CELL 5 1 1
 CELL 6 1 1
 ";
 
-/// A rate of the night, and one of the day. The night has the first and the last minutes of a day.
-const NIGHT: &str = "step 0.10 behind
-initial 4.00
-rate 0.10 per 50.0 m, 0.10 per 10.0 s when time 22:00..06:00
-rate 0.10 per 100.0 m, 0.10 per 20.0 s
-";
-
+/// The rows of a rate of the night, and one of the day. The night has the first and the last minutes of a day.
 const NIGHT_ROWS: &str = "MEASURE 1000000
 RATE 1 200000 100000
 RATE 2 100000 50000
@@ -221,24 +205,6 @@ rate 0.20 per 100.0 m, 0.10 per 20.0 s when date 02-28..03-01
 rate 0.10 per 100.0 m, 0.10 per 20.0 s
 ";
 
-/// A city tariff.
-const CITY: &str = "decimals 2
-step 0.20 ahead
-positions 2
-zones 2
-holiday 2026-01-01
-holiday 2026-12-25
-supplement 1 2.00 max 4
-supplement 2 0.50 max 9
-supplement 3 5.00 max 1
-initial 5.00 covers 0.40 when time 22:00..06:00 or day sun or holiday
-initial 4.20 covers 0.40
-rate 0.20 per 80.0 m, 0.20 per 20.0 s when position 2 or zone 2
-rate 0.20 per 90.0 m, 0.20 per 20.0 s when time 22:00..06:00 or day sun or holiday
-rate 0.20 per 100.0 m, 0.20 per 20.0 s when after 5000.0 m
-rate 0.20 per 125.0 m, 0.20 per 25.0 s
-";
-
 /// A text, a day, its weekday and its place in a leap year, a minute, and the weight of a pulse, the
 /// initial hire fee and the minimum fare.
 type Row = (&'static str, i32, u8, u16, u16, (u128, u64, u64));
@@ -346,92 +312,5 @@ fn has_city_numbers(tables: &Tables) -> bool {
 fn gives_its_numbers(rt: HostRuntime) -> Result<(), Fail> {
     let tables = compiled(rt.alloc(), CITY, 10_000)?;
     assert!(rt; has_city_numbers(&tables));
-    Ok(())
-}
-
-/// Whether tables are those of the plain tariff. The parts are all that there is: numbers, and no condition, line
-/// or text.
-fn is_plain(tables: &Tables) -> bool {
-    let Tables {
-        cuts,
-        weights,
-        initials,
-        minimums,
-        cells,
-        supplements,
-        constant,
-        measure,
-        step,
-        rounding,
-        decimals,
-        positions,
-        zones,
-    } = tables;
-    let cuts: &Cuts = cuts;
-    let weights: &Vec<Weights> = weights;
-    let initials: &Vec<Fee> = initials;
-    let minimums: &Vec<u64> = minimums;
-    let cells: &Vec<CellLines> = cells;
-    let supplements: &Vec<Option<Supplement>> = supplements;
-    let numbers: (Constant, u128, u64, Rounding, u8, u8, u8) = (
-        *constant, *measure, *step, *rounding, *decimals, *positions, *zones,
-    );
-    let minutes = cuts.list(Dimension::Minute).len();
-    let lines = (weights.len(), initials.len(), minimums.len());
-    (minutes, lines, cells.len(), supplements.len(), numbers.1)
-        == (0, (1, 1, 0), 7, 16, 1_479_240_000)
-}
-
-#[test]
-fn keeps_numbers_alone(rt: HostRuntime) -> Result<(), Fail> {
-    let tables = compiled(rt.alloc(), PLAIN, 10_000)?;
-    assert!(rt; is_plain(&tables));
-    Ok(())
-}
-
-/// Whether a fee is the plain tariff's, and is two amounts alone.
-fn is_plain_fee(fee: &Fee) -> bool {
-    let Fee { amount, covers } = *fee;
-    let amounts: (u64, u64) = (amount, covers);
-    amounts == (380, 40)
-}
-
-/// Whether a cell is the plain tariff's, and is three places alone.
-fn is_plain_cell(lines: &CellLines) -> bool {
-    let CellLines {
-        rate,
-        initial,
-        minimum,
-    } = *lines;
-    let places: (u8, u8, u8) = (rate, initial, minimum);
-    places == (0, 0, 0)
-}
-
-/// Whether each of some fees is the plain tariff's.
-fn are_plain_fees(fees: &[Fee]) -> bool {
-    for fee in fees {
-        if !is_plain_fee(fee) {
-            return false;
-        }
-    }
-    true
-}
-
-/// Whether each of some cells is the plain tariff's.
-fn are_plain_cells(cells: &[CellLines]) -> bool {
-    for lines in cells {
-        if !is_plain_cell(lines) {
-            return false;
-        }
-    }
-    true
-}
-
-/// The plain tariff's fees and cells are numbers alone.
-#[test]
-fn keeps_numbers_alone_in_fees_and_cells(rt: HostRuntime) -> Result<(), Fail> {
-    let tables = compiled(rt.alloc(), PLAIN, 10_000)?;
-    let fees_are_plain = are_plain_fees(tables.initials.as_slice());
-    assert!(rt; fees_are_plain && are_plain_cells(tables.cells.as_slice()));
     Ok(())
 }

@@ -1,5 +1,5 @@
 use Rattle.std.proofs.Common.{arith}
-use Rattle.tariff_compile.proofs.tables.tests.found.Goals as goal
+use Rattle.taxi_cli.proofs.below.tariff_compile_tests.table_tests.found.Goals as goal
 
 pub rate_at-weights-requires : goal.rate_at-weights-requires
 rate_at-weights-requires g c = record {

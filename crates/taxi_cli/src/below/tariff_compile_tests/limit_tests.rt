@@ -1,22 +1,14 @@
 //! Tables at the limits of tariffs.
 ghost use Rattle.std.specs.Prelude.{◌≡◌, ◌<◌};
 
-use super::*;
-use crate::compile;
+use crate::below::tariff_texts::{compiled, minute_part, with_holidays};
 use std::alloc::Global;
 use std::marker::Brand;
-use std::sync::ledger::Blank;
+use std::sync::ledger::{Blank, Ledger};
 use std::test::Fail;
-use tariff_check::{Dimension, check};
-use tariff_syntax::{parse, texts_have_their_numbers};
-
-/// The tables of a text's tariff.
-fn tables_of(alloc: Global, text: &str) -> Result<Tables, Fail> {
-    let tariff = parse(alloc, text.as_bytes())?;
-    texts_have_their_numbers();
-    let checked = check(alloc, tariff)?;
-    Ok(compile(alloc, &checked, Constant::new(1000)?)?)
-}
+use tariff_check::Dimension;
+use tariff_compile::Tables;
+use taxi_units::{Line, Steps};
 
 /// Whether this is a row of the tables.
 fn is_row(tables: &Tables, place: u64, want: &str) -> bool {
@@ -37,7 +29,7 @@ fn must_be_row(tables: &Tables, place: u64, want: &str) -> Result<(), Fail> {
 
 /// Fails unless the tables of a text have this number of rows, and these by their places.
 fn must_have_rows(alloc: Global, text: &str, count: u64, rows: &[(u64, &str)]) -> Result<(), Fail> {
-    let tables = tables_of(alloc, text)?;
+    let tables = compiled(alloc, text, 1000)?;
     if tables.rows() != count {
         return Err(Fail::new(tables.rows()));
     }
@@ -45,14 +37,6 @@ fn must_have_rows(alloc: Global, text: &str, count: u64, rows: &[(u64, &str)]) -
         must_be_row(&tables, *place, want)?;
     }
     Ok(())
-}
-
-/// A range of one minute, by its place among 40.
-fn minute_part(alloc: Global, place: u8) -> Result<String, Fail> {
-    let hour = 10 + place / 20;
-    let from = 10 + 2 * (place % 20);
-    let to = from + 1;
-    Ok(format!(in alloc; " or time {hour}:{from}..{hour}:{to}")?)
 }
 
 /// Nine positions, 63 cuts of minutes and 15 of distances: as many cells as there may be. A rate by day
@@ -182,7 +166,7 @@ fn must_alternate(alloc: Global, tables: &Tables, cells: u16, rates: (u8, u8)) -
 /// Fails unless every second of a number of bands of a dimension has a rate of its own.
 fn must_have_bands(alloc: Global, dimension: Dimension, bands: u8) -> Result<(), Fail> {
     let text = every_second(alloc, dimension, bands)?;
-    let tables = tables_of(alloc, text.as_str())?;
+    let tables = compiled(alloc, text.as_str(), 1000)?;
     must_alternate(alloc, &tables, 7 * bands as u16, (1, 2))
 }
 
@@ -194,25 +178,9 @@ fn makes_the_most_bands(rt: HostRuntime) -> Result<(), Fail> {
     Ok(())
 }
 
-/// The line of the holiday at a place among the 10th to the 28th of the last three months of each year from 2000 on.
-fn holiday_line(alloc: Global, place: u16) -> Result<String, Fail> {
-    let year = 2000 + place / 57;
-    let month = 10 + place / 19 % 3;
-    let date = 10 + place % 19;
-    Ok(format!(in alloc; "holiday {year}-{month}-{date}\n")?)
-}
-
-/// 255 of these holidays, with a rate of their own.
-fn most_holidays(alloc: Global) -> Result<String, Fail> {
-    let mut text = String::new(alloc);
-    text.push_str(
-        "step 1\ninitial 1\nrate 1 per 1 m, 1 per 1 s when holiday\nrate 2 per 1 m, 1 per 1 s\n",
-    )?;
-    for place in 0..255u16 {
-        text.push_str(holiday_line(alloc, place)?.as_str())?;
-    }
-    Ok(text)
-}
+/// A rate of holidays.
+const BY_HOLIDAY: &str =
+    "step 1\ninitial 1\nrate 1 per 1 m, 1 per 1 s when holiday\nrate 2 per 1 m, 1 per 1 s\n";
 
 /// Days around the first and the last of these holidays, by their numbers, and whether they are holidays:
 /// 9, 10, 28 and 29 October 2000, 17 and 18 November 2004.
@@ -245,8 +213,8 @@ fn must_be_holiday(tables: &Tables, day: i32, want: bool) -> Result<(), Fail> {
 
 #[test]
 fn keeps_the_most_holidays(rt: HostRuntime) -> Result<(), Fail> {
-    let text = most_holidays(rt.alloc())?;
-    let tables = tables_of(rt.alloc(), text.as_str())?;
+    let text = with_holidays(rt.alloc(), BY_HOLIDAY, 255)?;
+    let tables = compiled(rt.alloc(), text.as_str(), 1000)?;
     must_alternate(rt.alloc(), &tables, 14, (2, 1))?;
     for (day, want) in DAYS {
         must_be_holiday(&tables, *day, *want)?;
