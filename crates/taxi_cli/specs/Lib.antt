@@ -34,6 +34,7 @@ pub mod Link
 -- For proofs
 pub mod BenchSteps
 pub mod ChainSteps
+pub mod Drives
 pub mod Ending
 pub mod Numbers
 pub mod Opened

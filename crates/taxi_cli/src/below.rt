@@ -1,6 +1,7 @@
 //! Tests of the crates below that go through several of them: each makes what it needs by the public calls of its
 //! neighbours. Tests of one crate alone stand beside its code.
 
+mod meter_states_tests;
 mod tariff_calendar_tests;
 mod tariff_check_tests;
 mod tariff_compile_tests;
