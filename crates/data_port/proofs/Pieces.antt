@@ -205,7 +205,6 @@ pub record ServedSoFar (known told : Type 0) (durable : Durable) (seal : Seal) (
 
 module _ (known told : Type 0) (durable : Durable) (seal : Seal) (port : Standing) (stream rest before printed : List ℕ) (left opening steps : ℕ)
     (f : ServedSoFar known told durable seal port stream rest before printed left opening steps) where
-
   good : first_bad f.taken ≡ None
   good = going_port port f.taken f.stands f.going
 

@@ -40,24 +40,3 @@ pub use keeping::{
 };
 pub use pairs::{receipts_follow_their_entries, runs_add_up, the_store_has_what_the_acts_commit};
 pub use refusals::{keys_act_after_their_interval, refused_events_change_nothing};
-
-#[cfg(test)]
-mod drives;
-#[cfg(test)]
-mod end_tests;
-#[cfg(test)]
-mod equal_rows;
-#[cfg(test)]
-mod equal_tests;
-#[cfg(test)]
-mod expected;
-#[cfg(test)]
-mod fare_tests;
-#[cfg(test)]
-mod limit_tests;
-#[cfg(test)]
-mod long_tests;
-#[cfg(test)]
-mod row_tests;
-#[cfg(test)]
-mod tests;

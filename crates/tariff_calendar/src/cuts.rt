@@ -135,6 +135,3 @@ impl Cuts {
         }
     }
 }
-
-#[cfg(test)]
-mod tests;

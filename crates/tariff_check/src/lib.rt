@@ -26,8 +26,3 @@ pub use theorems::{
     cuts_are_in_order, faults_name_the_first_line, lines_that_hold_are_there, measures_are_least,
     sound_tariffs_have_sound_parts, supplements_are_numbered_to_16,
 };
-
-#[cfg(test)]
-mod limit_tests;
-#[cfg(test)]
-mod tests;

@@ -293,8 +293,3 @@ impl Tables {
         )
     }
 }
-
-#[cfg(test)]
-mod limit_tests;
-#[cfg(test)]
-mod tests;

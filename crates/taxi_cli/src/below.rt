@@ -1,4 +1,9 @@
 //! Tests of the crates below that go through several of them: each makes what it needs by the public calls of its
 //! neighbours. Tests of one crate alone stand beside its code.
 
+mod meter_states_tests;
+mod tariff_calendar_tests;
+mod tariff_check_tests;
+mod tariff_compile_tests;
 mod tariff_syntax_tests;
+mod tariff_texts;

@@ -8,7 +8,7 @@ const EXTRAS: &str =
      positions 2\nsupplement 1 1.50 max 2\n";
 
 /// Another rate by night.
-const B: &str =
+pub(crate) const B: &str =
     "step 0.10 behind\ninitial 4.00\nrate 0.10 per 50.0 m, 0.10 per 10.0 s when time 22:00..06:00\n\
      rate 0.10 per 100.0 m, 0.10 per 20.0 s\n";
 

@@ -9,7 +9,7 @@ use std::alloc::Global;
 use std::test::Fail;
 
 /// Tariff A, but that its fares are rounded down.
-const BEHIND: &str =
+pub(crate) const BEHIND: &str =
     "decimals 2\nstep 0.20 behind\ninitial 3.80 covers 0.40\nrate 0.20 per 117.4 m, 0.20 per 25.2 s\n";
 
 /// A city tariff.
