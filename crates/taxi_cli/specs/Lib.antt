@@ -36,6 +36,7 @@ pub mod BenchSteps
 pub mod ChainSteps
 pub mod Drives
 pub mod Ending
+pub mod Numbered
 pub mod Numbers
 pub mod Opened
 pub mod RunSteps

@@ -1,5 +1,5 @@
 use Rattle.std.proofs.Common.{None, arith}
-use Rattle.slot_store.proofs.tests.cuts.store_ten.Goals as goal
+use Rattle.taxi_cli.proofs.below.slot_store_tests.cuts.store_ten.Goals as goal
 
 pub store_all-requires-clause-ready : goal.store_all-requires-clause-ready
 store_all-requires-clause-ready g c told = (

@@ -1,5 +1,5 @@
 use Rattle.std.proofs.Common.{Some, arith}
-use Rattle.slot_store.proofs.tests.staged.store_two.Goals as goal
+use Rattle.taxi_cli.proofs.below.slot_store_tests.staged.store_two.Goals as goal
 
 pub shut-requires : goal.shut-requires
 shut-requires g c = record { ready = λ told. (Some c.in-Latest.body, rw c.new.ensures (rw c.in-Latest.is at (c.in_ok-place.ensures.settled told))) }

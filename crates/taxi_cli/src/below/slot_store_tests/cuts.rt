@@ -1,34 +1,25 @@
-//! Cuts of the power in each call of a list of stores.
+//! Cuts of the power and failures in each call of a list of stores, by `Ready::store_all`.
 ghost use Rattle.std.specs.Prelude.{◌≡◌, ◌<◌, [], ◌∷◌};
 
 use super::numbered::Numbered;
-use super::{Answer, answer_in, must, scanned};
-use crate::{Found, Ready, scan};
-use outside::{Fill, MemoryBoard};
+use super::{Answer, answer_in, scanned};
+use crate::tests::{FILLS, ZEROS, cut_in, must};
+use outside::MemoryBoard;
+use slot_store::{Found, Ready, scan};
 use std::alloc::Global;
 use std::marker::Brand;
 use std::sync::ledger::{Blank, Ledger};
 use std::test::Fail;
 use taxi_units::Steps;
 
-/// What a cut may leave of the bytes in flight.
-const FILLS: [Fill; 6] = [
-    Fill::Old,
-    Fill::New,
-    Fill::Half,
-    Fill::Byte(0),
-    Fill::Byte(0xA5),
-    Fill::Byte(0xFF),
-];
-
 /// After which call of the board each body of the list is the latest. A scan is three calls. The
 /// first two bodies go into closed slots, by four calls each, and the others into open ones, by six.
-const STORED_AFTER: [u64; 10] = [7, 11, 17, 23, 29, 35, 41, 47, 53, 59];
+const STORED_AFTER: &[u64] = &[7, 11, 17, 23, 29, 35, 41, 47, 53, 59];
 
 /// How many bodies were stored before a call.
 fn stored_before(call: u64) -> u64 {
     let mut count: u64 = 0;
-    for last in &STORED_AFTER {
+    for last in STORED_AFTER {
         if *last < call {
             count = count.saturating_add(1);
         }
@@ -90,8 +81,8 @@ fn must_find(answer: Option<Answer>, call: u64) -> Result<(), Fail> {
 
 /// Fails unless each cut in this call leaves what it may.
 fn must_leave(alloc: Global, board: &MemoryBoard, call: u64) -> Result<(), Fail> {
-    for fill in &FILLS {
-        let image = board.cut(call.min(board.calls()), *fill);
+    for fill in FILLS {
+        let image = cut_in(board, call, *fill);
         must_find(answer_in(alloc, &image, 0), call)?;
     }
     Ok(())
@@ -108,14 +99,14 @@ fn must_leave_each(alloc: Global, board: &MemoryBoard, stored: bool) -> Result<(
 
 #[test]
 fn cuts_leave_the_latest_or_the_next(rt: HostRuntime) -> Result<(), Fail> {
-    let mut board = MemoryBoard::new(rt.alloc(), &[0; 2048], &[])?;
+    let mut board = MemoryBoard::new(rt.alloc(), ZEROS, &[])?;
     let stored = store_ten::<Brand>(&mut board, Blank::new(1));
     must_leave_each(rt.alloc(), &board, stored)
 }
 
 /// Whether stores of which this call fails ended with it, and what a scan of the board answers then.
 fn broken_off(alloc: Global, call: u64) -> (bool, Option<Answer>) {
-    let Ok(mut board) = MemoryBoard::new(alloc, &[0; 2048], &[call]) else {
+    let Ok(mut board) = MemoryBoard::new(alloc, ZEROS, &[call]) else {
         return (false, None);
     };
     let stored = store_ten::<Brand>(&mut board, Blank::new(1));

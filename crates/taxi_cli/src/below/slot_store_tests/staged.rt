@@ -1,10 +1,11 @@
-//! One body by its three stages, with a cut in each.
+//! One body by its three stages, `shut`, `write` and `finish`, with a cut in each.
 ghost use Rattle.std.specs.Prelude.{◌≡◌, ◌<◌};
 
 use super::numbered::Numbered;
-use super::{answer_in, must, store_of};
-use crate::{Body, Found, Ready, SlotFault, scan};
+use super::{answer_in, store_of};
+use crate::tests::{cut_in, must};
 use outside::{Fill, MemoryBoard};
+use slot_store::{Body, Found, Ready, SlotFault, scan};
 use std::alloc::Global;
 use std::marker::Brand;
 use std::sync::ledger::{Blank, Ledger};
@@ -15,7 +16,7 @@ use taxi_units::Steps;
 type Cut = (u64, Fill, (u8, bool, u64));
 
 /// Calls 4 and 5 write the body, and 6 and 7 its gate.
-const CUTS: [Cut; 8] = [
+const CUTS: &[Cut] = &[
     (4, Fill::Byte(0xA5), (0, false, 1)),
     (5, Fill::Byte(0xA5), (0, false, 1)),
     (5, Fill::New, (0, false, 1)),
@@ -63,7 +64,7 @@ fn store_two<L: Ledger>(board: &mut MemoryBoard, blank: Blank) -> Result<Option<
 
 /// Fails unless a cut leaves what the table says.
 fn must_leave(alloc: Global, board: &MemoryBoard, cut: &Cut) -> Result<(), Fail> {
-    let image = board.cut(cut.0.min(board.calls()), cut.1);
+    let image = cut_in(board, cut.0, cut.1);
     if answer_in(alloc, &image, 0) == Some(Ok(Some(cut.2))) {
         return Ok(());
     }
@@ -78,7 +79,7 @@ fn must_leave_each(
 ) -> Result<(), Fail> {
     let is_stored = *stored == Ok(Some((1, true, [3, 5, 7])));
     must(is_stored, "another place or call", "stored")?;
-    for cut in &CUTS {
+    for cut in CUTS {
         must_leave(alloc, board, cut)?;
     }
     Ok(())

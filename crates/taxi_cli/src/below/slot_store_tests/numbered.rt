@@ -1,8 +1,8 @@
 //! The plainest body: a number of eight bytes, big endian, and zeros behind it.
 ghost use Rattle.std.specs.Prelude.{◌≡◌, ℕ, ◌<◌, ◌^◌};
-ghost use Rattle.slot_store.specs.Numbered.{spelling, reads};
+ghost use Rattle.taxi_cli.specs.Numbered.{spelling, reads};
 
-use crate::{BODY_SIZE, Body};
+use slot_store::{BODY_SIZE, Body};
 use std::marker::Model;
 
 #[derive(Drop)]
@@ -25,7 +25,7 @@ impl Numbered {
 }
 
 impl Body for Numbered {
-    ghost use Rattle.slot_store.specs.Numbered.{numbers};
+    ghost use Rattle.taxi_cli.specs.Numbered.{numbers};
 
     ghost valid = { λ number. number < 2 ^ 64 };
 

@@ -1,13 +1,15 @@
-//! The tests' body is a number; the board is one in memory.
+//! Scans, stores and their stages over boards in memory, by the public calls of the two slots, `scan` and `Ready`, with
+//! a body that is a number.
 mod cuts;
 mod numbered;
 mod staged;
 
 ghost use Rattle.std.specs.Prelude.{◌≡◌, ◌<◌, ◌≤◌};
 
-use crate::{Body, Found, SlotFault, scan};
+use crate::tests::must;
 use numbered::{Numbered, spell};
 use outside::MemoryBoard;
+use slot_store::{Body, Found, SlotFault, scan};
 use std::alloc::Global;
 use std::marker::Brand;
 use std::sync::ledger::{Blank, Ledger};
@@ -26,7 +28,7 @@ const SHUT: Slot = (0, 0, 0);
 /// A pair of slots: a name, the two slots, and what a scan answers.
 type Case = (&'static str, Slot, Slot, Answer);
 
-const PAIRS: [Case; 10] = [
+const PAIRS: &[Case] = &[
     ("both closed", SHUT, SHUT, Ok(None)),
     ("slot 0 open", (0xA5, 1, 0), SHUT, Ok(Some((0, false, 1)))),
     ("slot 1 open", SHUT, (0xA5, 1, 0), Ok(Some((1, false, 1)))),
@@ -115,14 +117,6 @@ fn scanned(board: &mut MemoryBoard, at: u16) -> Answer
     answer::<Brand>(board, at, Blank::new(1))
 }
 
-/// Fails unless something holds of the case with this name.
-fn must(holds: bool, what: &str, name: &str) -> Result<(), Fail> {
-    if holds {
-        return Ok(());
-    }
-    Err(Fail::new(format_args!("{what}: {name}")))
-}
-
 /// What a scan of a store with this image answers, where there is memory for it.
 fn answer_in(alloc: Global, image: &[u8; 2048], at: u16) -> Option<Answer>
     requires { at ≤ 1024 }
@@ -147,7 +141,7 @@ fn must_answer(alloc: Global, at: u16, case: &Case) -> Result<(), Fail>
 
 #[test]
 fn scans_pairs(rt: HostRuntime) -> Result<(), Fail> {
-    for case in &PAIRS {
+    for case in PAIRS {
         must_answer(rt.alloc(), 0, case)?;
         must_answer(rt.alloc(), 1024, case)?;
     }
