@@ -7,3 +7,4 @@ mod tariff_calendar_tests;
 mod tariff_check_tests;
 mod tariff_compile_tests;
 mod tariff_texts;
+mod totaliser_store_tests;

@@ -1,4 +1,4 @@
-use Rattle.totaliser_store.proofs.tests.commits.broken_off.Given as goal
+use Rattle.taxi_cli.proofs.below.totaliser_store_tests.commits.cuts_leave_the_state_before_or_after.Given as goal
 
 abbrev pub ghosts-commit_again : goal.ghosts-commit_again
 ghosts-commit_again a = record { name = a.blank.name; parts = a.blank.parts }

@@ -1,35 +1,29 @@
 //! A commit over a store of layout 1, with a cut in each of its calls, and with each call failing.
 ghost use Rattle.std.specs.Prelude.{◌≡◌, ◌<◌};
 
-use super::bodies::{FIRST, body_of};
-use super::must;
+use super::bodies::{FIRST, Field, body_of};
 use super::states::PLAIN;
-use crate::{Change, Durable, Share, commit};
-use outside::{Fill, MemoryBoard};
+use crate::many_cuts_tests::stored;
+use crate::tests::{FILLS, cut_in, must};
+use outside::MemoryBoard;
 use slot_store::{Body, Found, Place, scan};
 use std::alloc::Global;
 use std::marker::Brand;
 use std::sync::ledger::{Blank, Ledger};
 use std::test::Fail;
 use taxi_units::Steps;
+use totaliser_store::{Change, Durable, Share, commit};
 
-/// What a cut may leave of the bytes in flight.
-const FILLS: [Fill; 6] = [
-    Fill::Old,
-    Fill::New,
-    Fill::Half,
-    Fill::Byte(0),
-    Fill::Byte(0xA5),
-    Fill::Byte(0xFF),
-];
+/// The fields of the state with number 1, in layout 1.
+const BEFORE: &[Field] = &[(1, 8, 1), (511, 1, 1)];
 
 /// The store of the first hiring as layout 1 has it: number 1 in slot 0, and number 2 in slot 1.
 fn opening() -> Result<[u8; 2048], Fail> {
     let mut image = [0; 2048];
     image[0] = 0xA5;
-    image[1..512].copy_from_slice(&body_of(&[(1, 8, 1), (511, 1, 1)], &[])?);
+    image[1..512].copy_from_slice(&body_of(BEFORE, &[])?);
     image[512] = 0xA5;
-    image[513..1024].copy_from_slice(&body_of(&FIRST, &[])?);
+    image[513..1024].copy_from_slice(&body_of(FIRST, &[])?);
     Ok(image)
 }
 
@@ -46,12 +40,9 @@ fn found<L: Ledger>(board: &mut MemoryBoard, blank: Blank) -> Option<(u64, u8)>
     }
 }
 
-/// What a scan finds of a store with this image, where there is memory for it.
-fn found_in(alloc: Global, image: &[u8; 2048]) -> Option<(u64, u8)> {
-    let Ok(mut board) = MemoryBoard::new(alloc, image, &[]) else {
-        return None;
-    };
-    found::<Brand>(&mut board, Blank::new(1))
+/// The number and the layout of the state that an image stands for.
+fn found_in(image: &[u8; 2048]) -> Option<(u64, u8)> {
+    stored(image).map(|state| (state.number, state.layout))
 }
 
 /// Fails unless a scan behind a cut or a failure in this call found what it may: from call 8 on the gate of the new
@@ -103,20 +94,19 @@ fn is_committed(board: &MemoryBoard, answer: &Option<(Durable, Place)>) -> bool 
 }
 
 /// Fails unless each cut in this call leaves the state before or after.
-fn must_leave(alloc: Global, board: &MemoryBoard, call: u64) -> Result<(), Fail> {
-    for fill in &FILLS {
-        let image = board.cut(call.min(board.calls()), *fill);
-        must_find(found_in(alloc, &image), call)?;
+fn must_leave(board: &MemoryBoard, call: u64) -> Result<(), Fail> {
+    for fill in FILLS {
+        must_find(found_in(&cut_in(board, call, *fill)), call)?;
     }
     Ok(())
 }
 
 /// Fails unless the state was committed, and each cut leaves the state before or after. The scan is calls 1 to 3, and
 /// the commit's are 4 to 9.
-fn must_leave_each(alloc: Global, board: &MemoryBoard, committed: bool) -> Result<(), Fail> {
+fn must_leave_each(board: &MemoryBoard, committed: bool) -> Result<(), Fail> {
     must(committed, "not committed", "no failure")?;
     for call in 0..=9 {
-        must_leave(alloc, board, call)?;
+        must_leave(board, call)?;
     }
     Ok(())
 }
@@ -127,7 +117,7 @@ fn cuts_leave_the_state_before_or_after(rt: HostRuntime) -> Result<(), Fail> {
     let answer = commit_again::<Brand>(&mut board, Blank::new(1));
     let is_answered = is_committed(&board, &answer);
     let is_found = found::<Brand>(&mut board, Blank::new(1)) == Some((3, 2));
-    must_leave_each(rt.alloc(), &board, is_answered && is_found)
+    must_leave_each(&board, is_answered && is_found)
 }
 
 /// Whether a commit of which this call fails ended with it, and what a scan of the board finds then.

@@ -1,13 +1,13 @@
-//! Bodies byte by byte, with values from the table. Places are those of the slot, whose byte 0 is the
-//! gate.
-use super::must;
-use crate::{Durable, Share, Totals, Trip};
+//! Bodies byte by byte, with values from the table, read by `Durable::get`. Places are those of the slot, whose byte 0
+//! is the gate.
+use crate::tests::must;
 use drive_modes::Meterage;
 use slot_store::{BODY_SIZE, Body};
 use std::test::Fail;
+use totaliser_store::{Durable, Share, Totals, Trip};
 
 /// The place of a field, how many bytes it has, and its number, whose greatest byte comes first.
-type Field = (u16, u8, u128);
+pub(crate) type Field = (u16, u8, u128);
 
 /// What is written over a body, and whether it is read then.
 type Limit = (Field, Field, bool);
@@ -16,7 +16,7 @@ type Limit = (Field, Field, bool);
 const SAME: Field = (511, 0, 0);
 
 /// The store of the first hiring, of 234,800 mm and 3.80, as layout 1 has it.
-pub const FIRST: [Field; 6] = [
+pub(crate) const FIRST: &[Field] = &[
     (1, 8, 2),
     (9, 16, 234_800),
     (25, 16, 234_800),
@@ -26,7 +26,7 @@ pub const FIRST: [Field; 6] = [
 ];
 
 /// Each field at its greatest value, with a held trip.
-const GREATEST: [Field; 27] = [
+const GREATEST: &[Field] = &[
     (1, 8, 2_000_000_000_000_000),
     (9, 16, 20_000_000_000_000_000_000_000_000_000_000_000_000),
     (25, 16, 20_000_000_000_000_000_000_000_000_000_000_000_000),
@@ -57,7 +57,7 @@ const GREATEST: [Field; 27] = [
 ];
 
 /// What is written over the greatest values.
-const LIMITS: [Limit; 46] = [
+const LIMITS: &[Limit] = &[
     (SAME, SAME, true),
     ((1, 8, 2_000_000_000_000_001), SAME, false),
     (
@@ -139,7 +139,7 @@ const LIMITS: [Limit; 46] = [
 ];
 
 /// What is written over the first store of layout 1.
-const FIRST_LIMITS: [Limit; 10] = [
+const FIRST_LIMITS: &[Limit] = &[
     (SAME, SAME, true),
     ((1, 8, 2_000_000_000_000_001), SAME, true),
     ((1, 8, 2_000_000_000_000_002), SAME, false),
@@ -164,7 +164,7 @@ fn write(body: &mut [u8; BODY_SIZE], field: &Field) -> Result<(), Fail> {
 }
 
 /// The body with these fields and these others, which go over the first ones, and zeros elsewhere.
-pub fn body_of(fields: &[Field], others: &[Field]) -> Result<[u8; BODY_SIZE], Fail> {
+pub(crate) fn body_of(fields: &[Field], others: &[Field]) -> Result<[u8; BODY_SIZE], Fail> {
     let mut body = [0; BODY_SIZE];
     for field in fields {
         write(&mut body, field)?;
@@ -175,22 +175,36 @@ pub fn body_of(fields: &[Field], others: &[Field]) -> Result<[u8; BODY_SIZE], Fa
     Ok(body)
 }
 
+/// Fails unless the body with the fields of a limit over these is read, or not, as the limit says.
+fn must_keep_one(fields: &[Field], limit: &Limit) -> Result<(), Fail> {
+    let mut body = body_of(fields, &[])?;
+    write(&mut body, &limit.0)?;
+    write(&mut body, &limit.1)?;
+    if Durable::get(&body).is_some() == limit.2 {
+        return Ok(());
+    }
+    Err(Fail::new(format_args!("{limit:?}")))
+}
+
 /// Fails unless each body with the fields of a limit over these is read, or not, as the limit says.
 fn must_keep(fields: &[Field], limits: &[Limit]) -> Result<(), Fail> {
     for limit in limits {
-        let body = body_of(fields, &[limit.0, limit.1])?;
-        if Durable::get(&body).is_some() != limit.2 {
-            return Err(Fail::new(format_args!("{limit:?}")));
-        }
+        must_keep_one(fields, limit)?;
     }
     Ok(())
 }
 
 #[test]
 fn reads_up_to_each_limit() -> Result<(), Fail> {
-    must_keep(&GREATEST, &LIMITS)?;
-    must_keep(&FIRST, &FIRST_LIMITS)
+    must_keep(GREATEST, LIMITS)?;
+    must_keep(FIRST, FIRST_LIMITS)
 }
+
+/// No hirings.
+pub(crate) const NOTHING: Share = Share {
+    hirings: 0,
+    fare: 0,
+};
 
 /// The hiring of the first store.
 const HIRING: Share = Share {
@@ -207,7 +221,7 @@ const FIRST_STATE: Durable = Durable {
         hirings: 1,
         supplements: 0,
         fare: 380,
-        shares: [Share::NONE; 9],
+        shares: [NOTHING; 9],
         before: HIRING,
     },
     hold: None,
@@ -224,24 +238,16 @@ const SHARED_STATE: Durable = Durable {
         supplements: 0,
         fare: 380,
         shares: [
-            HIRING,
-            Share::NONE,
-            Share::NONE,
-            Share::NONE,
-            Share::NONE,
-            Share::NONE,
-            Share::NONE,
-            Share::NONE,
-            Share::NONE,
+            HIRING, NOTHING, NOTHING, NOTHING, NOTHING, NOTHING, NOTHING, NOTHING, NOTHING,
         ],
-        before: Share::NONE,
+        before: NOTHING,
     },
     hold: None,
     layout: 2,
 };
 
 /// A trip of which each field has a value of its own.
-const TRIP: [Field; 18] = [
+const TRIP: &[Field] = &[
     (1, 8, 7),
     (81, 1, 1),
     (82, 8, 946_684_801),
@@ -271,8 +277,8 @@ const TRIP_STATE: Durable = Durable {
         hirings: 0,
         supplements: 0,
         fare: 0,
-        shares: [Share::NONE; 9],
-        before: Share::NONE,
+        shares: [NOTHING; 9],
+        before: NOTHING,
     },
     hold: Some(Trip {
         started: 946_684_801,
@@ -305,20 +311,20 @@ type State = (
 );
 
 const STATES: [State; 4] = [
-    ("layout 1 without shares", &FIRST, &[], Some(FIRST_STATE)),
+    ("layout 1 without shares", FIRST, &[], Some(FIRST_STATE)),
     (
         "layout 2 with shares",
-        &FIRST,
+        FIRST,
         &[(189, 8, 1), (197, 16, 380), (511, 1, 2)],
         Some(SHARED_STATE),
     ),
     (
         "layout 2 with more shares than hirings",
-        &FIRST,
+        FIRST,
         &[(189, 8, 1), (197, 16, 380), (511, 1, 2), (405, 8, 1)],
         None,
     ),
-    ("a held trip", &TRIP, &[], Some(TRIP_STATE)),
+    ("a held trip", TRIP, &[], Some(TRIP_STATE)),
 ];
 
 /// Fails unless a body is read as its state.

@@ -3,7 +3,7 @@ use Rattle.totaliser_store.specs.declared.entry.Entry.{Entry}
 use Rattle.taxi_units.specs.declared.receipt.Kind.TheVariants.{Closed}
 use Rattle.totaliser_store.specs.Ranges.{IsEntry}
 use Rattle.totaliser_store.proofs.Laws.{entries_keep_the_ranges}
-use Rattle.totaliser_store.proofs.tests.commits.commit_again.Goals as goal
+use Rattle.taxi_cli.proofs.below.totaliser_store_tests.commits.commit_again.Goals as goal
 
 abbrev plain : Entry
 plain = record { kind = Closed; roam_mm = 0; hired_mm = 234800; fare = 380; supplements = 0; position = 1 }

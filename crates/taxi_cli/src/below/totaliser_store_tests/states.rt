@@ -1,11 +1,12 @@
-//! States after the entries of worked drives.
+//! States after the entries of worked drives, by `Durable::after`.
 ghost use Rattle.std.specs.Prelude.{◌≤◌, IfSome, IsTrue};
 ghost use Rattle.totaliser_store.specs.Ranges.{IsDurable, IsEntry};
 
-use super::must;
-use crate::{Change, Durable, Entry, Share, Totals};
+use super::bodies::NOTHING;
+use crate::tests::must;
 use std::test::Fail;
 use taxi_units::Kind;
+use totaliser_store::{Change, Durable, Entry, Share, Totals};
 
 /// A name, an entry, the totals after it (distance, distance when hired, hirings, supplements and fare),
 /// and the position that has the hiring.
@@ -22,7 +23,7 @@ pub const PLAIN: Entry = Entry {
 };
 
 /// Entries of worked drives, and the totals after each over totals of zero.
-const ROWS: [Row; 6] = [
+const ROWS: &[Row] = &[
     ("a closed hiring", PLAIN, (234_800, 234_800, 1, 0, 380), 1),
     (
         "roaming before a hiring",
@@ -116,7 +117,7 @@ fn first_entry(entry: &Entry) -> Option<Durable> {
 /// The state with the totals of a row.
 fn state_of(row: &Row) -> Durable {
     let (distance_mm, hired_mm, hirings, supplements, fare) = row.2;
-    let mut shares = [Share::NONE; 9];
+    let mut shares = [NOTHING; 9];
     if 1 <= row.3 && row.3 <= 9 {
         shares[row.3 - 1] = Share { hirings, fare };
     }
@@ -129,7 +130,7 @@ fn state_of(row: &Row) -> Durable {
             supplements,
             fare,
             shares,
-            before: Share::NONE,
+            before: NOTHING,
         },
         hold: None,
         layout: 2,
@@ -144,7 +145,7 @@ fn must_add(row: &Row) -> Result<(), Fail> {
 
 #[test]
 fn entries_add_to_the_totals() -> Result<(), Fail> {
-    for row in &ROWS {
+    for row in ROWS {
         must_add(row)?;
     }
     Ok(())
