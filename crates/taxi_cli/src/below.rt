@@ -2,6 +2,7 @@
 //! neighbours. Tests of one crate alone stand beside its code.
 
 mod meter_states_tests;
+mod seal_store_tests;
 mod slot_store_tests;
 mod tariff_calendar_tests;
 mod tariff_check_tests;

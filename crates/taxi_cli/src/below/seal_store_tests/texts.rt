@@ -1,34 +1,35 @@
 //! Whole texts of parameters.
-use super::{P, must, must_have};
-use crate::{Name, ParamFault, Params, read_params};
+use super::must_have;
+use crate::tests::{P, must};
 use drive_modes::Mode;
+use seal_store::{Name, ParamFault, Params, read_params};
 use std::alloc::{AllocError, Global};
 use std::test::Fail;
 
 /// The parameters P; and with other ends of lines, with comments, and with zeros in front of numbers.
-const TEXTS: [(&str, &[u8]); 5] = [
+const TEXTS: &[(&str, &str)] = &[
     ("P", P),
     (
         "no LF at the end",
-        b"taxi LX-4711\nconstant 10000\nmode single\nhold 60\noffset 946684800 3600\nsecured 2025-12-01",
+        "taxi LX-4711\nconstant 10000\nmode single\nhold 60\noffset 946684800 3600\nsecured 2025-12-01",
     ),
     (
         "CR before LF",
-        b"taxi LX-4711\r\nconstant 10000\r\nmode single\r\nhold 60\r\noffset 946684800 3600\r\nsecured 2025-12-01\r\n",
+        "taxi LX-4711\r\nconstant 10000\r\nmode single\r\nhold 60\r\noffset 946684800 3600\r\nsecured 2025-12-01\r\n",
     ),
     (
         "comments",
-        b"# P\n\n#\r\n\r\nsecured 2025-12-01\nhold 60\ntaxi LX-4711\noffset 946684800 3600\n\
+        "# P\n\n#\r\n\r\nsecured 2025-12-01\nhold 60\ntaxi LX-4711\noffset 946684800 3600\n\
           mode single\nconstant 10000\n",
     ),
     (
         "zeros in front",
-        b"taxi LX-4711\nconstant 000000010000\nmode single\nhold 060\noffset 000946684800 03600\nsecured 2025-12-01\n",
+        "taxi LX-4711\nconstant 000000010000\nmode single\nhold 060\noffset 000946684800 03600\nsecured 2025-12-01\n",
     ),
 ];
 
 /// Texts and their faults: the first bad line's, and else the first parameter that is missing.
-const FAULTS: [(&str, ParamFault); 26] = [
+const FAULTS: &[(&str, ParamFault)] = &[
     ("", ParamFault::Missing(Name::Taxi)),
     ("taxi A", ParamFault::Missing(Name::Constant)),
     ("taxi A\nconstant 500", ParamFault::Missing(Name::Mode)),
@@ -155,7 +156,7 @@ const FAULTS: [(&str, ParamFault); 26] = [
 ];
 
 /// Whether these are the parameters P.
-pub fn is_p(params: &Params) -> bool {
+pub(crate) fn is_p(params: &Params) -> bool {
     params.taxi.as_slice() == b"LX-4711".as_slice()
         && params.constant.get() == 10_000
         && params.mode == Mode::Single
@@ -174,15 +175,15 @@ fn gives_p(text: &[u8]) -> bool {
 
 #[test]
 fn reads_parameters() -> Result<(), Fail> {
-    for &(name, text) in &TEXTS {
-        must(gives_p(text), "other parameters", name)?;
+    for &(name, text) in TEXTS {
+        must(gives_p(text.as_bytes()), "other parameters", name)?;
     }
     Ok(())
 }
 
 #[test]
 fn names_the_first_fault() -> Result<(), Fail> {
-    for &(text, fault) in &FAULTS {
+    for &(text, fault) in FAULTS {
         must_have(text.as_bytes(), Some(fault), text)?;
     }
     Ok(())

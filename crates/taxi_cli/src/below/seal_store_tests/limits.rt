@@ -1,11 +1,12 @@
 //! The limits of each value.
-use super::{must, must_have};
-use crate::{ParamFault, read_params};
+use super::must_have;
+use crate::tests::must;
+use seal_store::{ParamFault, read_params};
 use std::alloc::{AllocError, Global};
 use std::test::Fail;
 
 /// The lines of the parameters P.
-const LINES: [&str; 6] = [
+const LINES: &[&str] = &[
     "taxi LX-4711",
     "constant 10000",
     "mode single",
@@ -17,7 +18,7 @@ const LINES: [&str; 6] = [
 /// A place of a line, from 0, a line that stands there in P, and whether its value is good.
 type Value = (u8, &'static str, bool);
 
-const VALUES: [Value; 59] = [
+const VALUES: &[Value] = &[
     (0, "taxi Z", true),
     (0, "taxi -09AZ", true),
     (0, "taxi ABCDEFGHIJ-01234", true),
@@ -106,14 +107,14 @@ fn must_read(alloc: Global, value: &Value) -> Result<(), Fail> {
 
 #[test]
 fn reads_values_in_their_ranges(rt: HostRuntime) -> Result<(), Fail> {
-    for value in &VALUES {
+    for value in VALUES {
         must_read(rt.alloc(), value)?;
     }
     Ok(())
 }
 
 /// The last line of P with other dates, and their day numbers.
-const DAYS: [(&str, i32); 3] = [
+const DAYS: &[(&str, i32)] = &[
     ("secured 2000-01-01", 10_957),
     ("secured 2025-12-01", 20_423),
     ("secured 2199-12-31", 84_005),
@@ -131,7 +132,7 @@ fn must_be_secured(alloc: Global, line: &str, day: i32) -> Result<(), Fail> {
 
 #[test]
 fn counts_days(rt: HostRuntime) -> Result<(), Fail> {
-    for &(line, day) in &DAYS {
+    for &(line, day) in DAYS {
         must_be_secured(rt.alloc(), line, day)?;
     }
     Ok(())

@@ -1,11 +1,9 @@
-use Rattle.std.proofs.Common.{ℕ, ◌≤◌, Option, subst, sym}
-use Rattle.std.specs.Option.{ForSome}
+use Rattle.std.proofs.Common.{ℕ, Option, subst, sym}
 use Rattle.slot_store.specs.declared.pair.Place.{Place}
 use Rattle.totaliser_store.specs.declared.durable.Durable.{Durable}
 use Rattle.seal_store.specs.Sealing.{FoundSeal, FoundTotals, old_seal}
 use Rattle.seal_store.proofs.Laws.{seal_is_found, totals_are_found, totals_stay_found}
-use Rattle.seal_store.proofs.Scans.{slot_is_sound}
-use Rattle.seal_store.proofs.tests.sealings.seal_with_p.Goals as goal
+use Rattle.taxi_cli.proofs.below.seal_store_tests.sealings.seal_with_p.Goals as goal
 
 pub place_seal-requires-clause-totals : goal.place_seal-requires-clause-totals
 place_seal-requires-clause-totals g c told =
@@ -16,10 +14,6 @@ place_seal-requires-clause-totals g c told =
 pub place_seal-requires-clause-found : goal.place_seal-requires-clause-found
 place_seal-requires-clause-found g c told = (
   old_seal c.in-Ok-scan-2.found,
-  subst (λ (f : Option (Place × ℕ)). FoundSeal g.B.Board c.scan-2.new.board f (old_seal c.in-Ok-scan-2.found)) (sym c.seal_of-found.ensures)
+  subst (λ (f : Option (Place × ℕ)). FoundSeal g.B.Board c.scan-2.new.board f (old_seal c.in-Ok-scan-2.found)) (sym c.seal_of-found.ensures.value)
       (seal_is_found g.B.Board c.scan-2.new.board c.in-Ok-scan-2.found (c.in-Ok-scan-2.ensures.settled told)),
 )
-
-pub place_seal-requires-clause-slot : goal.place_seal-requires-clause-slot
-place_seal-requires-clause-slot g c =
-    subst (λ (f : Option (Place × ℕ)). ForSome f (λ latest. latest.0.slot ≤ 1)) (sym c.seal_of-found.ensures) (slot_is_sound _ c.in-Ok-scan-2.found c.in-Ok-scan-2.ensures.sound)

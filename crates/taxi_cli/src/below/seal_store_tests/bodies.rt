@@ -1,7 +1,7 @@
 //! The bytes of seals.
 use super::texts::is_p;
-use super::{P, must};
-use crate::{Seal, read_params};
+use crate::tests::{P, must};
+use seal_store::{Seal, read_params};
 use slot_store::{BODY_SIZE, Body};
 use std::test::Fail;
 
@@ -9,7 +9,7 @@ use std::test::Fail;
 type Piece = (usize, &'static [u8]);
 
 /// The bytes of P sealed for the first time, with a digest of 0xD1 alone and 2 decimals. All others are zeros.
-const SEALED_P: [Piece; 11] = [
+const SEALED_P: &[Piece] = &[
     (8, &[1]),
     (9, b"LX-4711"),
     (25, &[0x00, 0x00, 0x27, 0x10]),
@@ -34,9 +34,9 @@ fn write(body: &mut [u8; BODY_SIZE], piece: &Piece) -> Result<(), Fail> {
 }
 
 /// The bytes of P sealed for the first time.
-pub fn sealed_p() -> Result<[u8; BODY_SIZE], Fail> {
+pub(crate) fn sealed_p() -> Result<[u8; BODY_SIZE], Fail> {
     let mut body = [0; BODY_SIZE];
-    for piece in &SEALED_P {
+    for piece in SEALED_P {
         write(&mut body, piece)?;
     }
     Ok(body)
@@ -45,7 +45,7 @@ pub fn sealed_p() -> Result<[u8; BODY_SIZE], Fail> {
 /// Bytes at places of the slot, and whether the seal of P with them is read.
 type Row = (usize, &'static [u8], bool);
 
-const ROWS: [Row; 33] = [
+const ROWS: &[Row] = &[
     (1, &[0, 0, 0, 0, 0, 0, 0, 0], false),
     (1, &[0x00, 0x03, 0x8d, 0x7e, 0xa4, 0xc6, 0x80, 0x00], true),
     (1, &[0x00, 0x03, 0x8d, 0x7e, 0xa4, 0xc6, 0x80, 0x01], false),
@@ -93,7 +93,7 @@ fn must_read(row: &Row) -> Result<(), Fail> {
 
 #[test]
 fn reads_bodies_in_their_ranges() -> Result<(), Fail> {
-    for row in &ROWS {
+    for row in ROWS {
         must_read(row)?;
     }
     Ok(())
@@ -114,7 +114,7 @@ fn reads_p(body: &[u8; BODY_SIZE]) -> bool {
 
 /// The bytes that P sealed is spelled by, where P is read.
 fn spelled_p() -> Option<[u8; BODY_SIZE]> {
-    let params = read_params(P).ok()?;
+    let params = read_params(P.as_bytes()).ok()?;
     let mut bytes = [0xFF; BODY_SIZE];
     let seal = Seal {
         seal_number: 1,

@@ -1,12 +1,14 @@
 //! Sealings of a store, with a cut or a failure in each call.
 ghost use Rattle.std.specs.Prelude.{◌≡◌, ◌<◌, ◌≤◌, ◌^◌, IfSome};
+ghost use Rattle.std.specs.Option.{ForSome};
+ghost use Rattle.slot_store.specs.Scan.{IsSound};
 ghost use Rattle.seal_store.specs.Ranges.{IsParams, IsSeal};
 ghost use Rattle.seal_store.specs.Sealing.{found_number, next_number, seal_found, totals_found};
 
 use super::bodies::sealed_p;
-use super::{P, must};
-use crate::{Params, Seal, place_seal, read_params};
-use outside::{Board, Fill, MemoryBoard};
+use crate::tests::{FILLS, P, ZEROS, cut_in, must};
+use outside::{Board, MemoryBoard};
+use seal_store::{Params, Seal, place_seal, read_params};
 use slot_store::{BODY_SIZE, Found, Place, scan};
 use std::alloc::Global;
 use std::marker::Brand;
@@ -14,16 +16,6 @@ use std::sync::ledger::{Blank, Ledger};
 use std::test::Fail;
 use taxi_units::Steps;
 use totaliser_store::Durable;
-
-/// What a cut may leave of the bytes in flight.
-const FILLS: [Fill; 6] = [
-    Fill::Old,
-    Fill::New,
-    Fill::Half,
-    Fill::Byte(0),
-    Fill::Byte(0xA5),
-    Fill::Byte(0xFF),
-];
 
 /// The number of the totals and that of the seal, where there are any.
 type Numbers = (Option<u64>, Option<u64>);
@@ -40,7 +32,9 @@ fn totals_of(found: Found<Durable>) -> Option<Durable>
 
 /// The place and the number of the seal of a scan.
 fn seal_of(found: Found<Seal>) -> Option<(Place, u64)>
-    ensures { result ≡ seal_found found }
+    requires { IsSound IsSeal found }
+    ensures value { result ≡ seal_found found }
+    ensures slot { ForSome result (λ latest. latest.0.slot ≤ 1) }
 {
     match found {
         Found::Blank => None,
@@ -84,7 +78,7 @@ fn sealed(params: Params, seal_number: u64) -> Seal
 
 /// Scans a board, and seals it with P. Answers whether it was sealed.
 fn seal_with_p<B: Board<L>, L: Ledger>(board: &mut B, steps: &mut Steps<L>) -> bool {
-    let Ok(params) = read_params(P) else {
+    let Ok(params) = read_params(P.as_bytes()) else {
         return false;
     };
     let Ok(totals) = scan::<Durable, B, L>(board, 0, steps) else {
@@ -198,7 +192,7 @@ fn is_sealed_twice(board: &mut MemoryBoard, body: &[u8; BODY_SIZE]) -> bool {
 #[test]
 fn seals_and_seals_again(rt: HostRuntime) -> Result<(), Fail> {
     let body = sealed_p()?;
-    let mut board = MemoryBoard::new(rt.alloc(), &[0; 2048], &[])?;
+    let mut board = MemoryBoard::new(rt.alloc(), ZEROS, &[])?;
     let is_sealed = is_sealed_twice(&mut board, &body);
     let numbers = numbers_of::<Brand>(&mut board, Blank::new(1));
     let is_found = numbers == Some((Some(1), Some(2)));
@@ -207,8 +201,8 @@ fn seals_and_seals_again(rt: HostRuntime) -> Result<(), Fail> {
 
 /// Fails unless each cut in this call leaves what it may of a sealing that found these numbers.
 fn must_leave(alloc: Global, board: &MemoryBoard, before: Numbers, call: u64) -> Result<(), Fail> {
-    for fill in &FILLS {
-        let image = board.cut(call.min(board.calls()), *fill);
+    for fill in FILLS {
+        let image = cut_in(board, call, *fill);
         must_find(numbers_in(alloc, &image), before, call)?;
     }
     Ok(())
@@ -240,14 +234,14 @@ fn cut_sealing(alloc: Global, image: &[u8; 2048], before: Numbers) -> Result<[u8
 /// A sealing of zeros, and one more.
 #[test]
 fn cuts_leave_old_or_new(rt: HostRuntime) -> Result<(), Fail> {
-    let first = cut_sealing(rt.alloc(), &[0; 2048], (None, None))?;
+    let first = cut_sealing(rt.alloc(), ZEROS, (None, None))?;
     cut_sealing(rt.alloc(), &first, (Some(1), Some(1)))?;
     Ok(())
 }
 
 /// Whether a sealing of zeros of which this call fails ended with it, and what scans of the board find then.
 fn broken_off(alloc: Global, call: u64) -> (bool, Option<Numbers>) {
-    let Ok(mut board) = MemoryBoard::new(alloc, &[0; 2048], &[call]) else {
+    let Ok(mut board) = MemoryBoard::new(alloc, ZEROS, &[call]) else {
         return (false, None);
     };
     let sealed = seal_anew(&mut board);
