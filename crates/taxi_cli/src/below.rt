@@ -1,6 +1,7 @@
 //! Tests of the crates below that go through several of them: each makes what it needs by the public calls of its
 //! neighbours. Tests of one crate alone stand beside its code.
 
+mod data_port_tests;
 mod meter_states_tests;
 mod seal_store_tests;
 mod slot_store_tests;

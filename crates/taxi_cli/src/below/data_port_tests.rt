@@ -1,8 +1,11 @@
-//! Streams of requests over stores in memory. All bytes are written by hand from the tables of formats.
-ghost use Rattle.std.specs.Prelude.{◌≡◌, ◌+◌, ◌<◌, length};
+//! Streams of requests over stores in memory, by `Port` and `serve`. All bytes are written by hand from the tables of
+//! formats.
+ghost use Rattle.std.specs.Prelude.{◌≡◌, ◌+◌, ◌<◌, ◌≤◌, ◌^◌, length};
 
-use crate::{BadFrame, Port, PortFault, Request, serve};
+use crate::store_tests::{FIRST_LAYOUT, SECOND_LAYOUT, image_of};
+use crate::tests::must;
 use arrayvec::ArrayVec;
+use data_port::{BadFrame, Port, PortFault, Request, serve};
 use outside::{MemoryBoard, MemoryFiles};
 use seal_store::Seal;
 use slot_store::{Found, scan};
@@ -13,50 +16,8 @@ use std::test::Fail;
 use taxi_units::Steps;
 use totaliser_store::Durable;
 
-/// The bytes of a sealed store, by their places: the totals of one hiring in the first slot, beside a
-/// seal of taxi LX-4711 with 10,000 pulses a kilometre.
-const STORE: [(usize, u8); 33] = [
-    (0, 0xa5),
-    (8, 2),
-    (22, 0x03),
-    (23, 0x95),
-    (24, 0x30),
-    (38, 0x03),
-    (39, 0x95),
-    (40, 0x30),
-    (48, 1),
-    (79, 0x01),
-    (80, 0x7c),
-    (1024, 0xa5),
-    (1032, 1),
-    (1033, b'L'),
-    (1034, b'X'),
-    (1035, b'-'),
-    (1036, b'4'),
-    (1037, b'7'),
-    (1038, b'1'),
-    (1039, b'1'),
-    (1051, 0x27),
-    (1052, 0x10),
-    (1055, 60),
-    (1090, 0x4f),
-    (1091, 0xc7),
-    (1092, 1),
-    (1097, 0x38),
-    (1098, 0x6d),
-    (1099, 0x43),
-    (1100, 0x80),
-    (1103, 0x0e),
-    (1104, 0x10),
-    (1477, 2),
-];
-
-/// What each layout has more, and layout 2 with a held trip.
-const FIRST_LAYOUT: [(usize, u8); 2] = [(511, 1), (1535, 1)];
-
-const SECOND_LAYOUT: [(usize, u8); 5] = [(196, 1), (211, 0x01), (212, 0x7c), (511, 2), (1535, 1)];
-
-const WITH_TRIP: [(usize, u8); 25] = [
+/// What a store in layout 2 with a held trip has more than the sealed store.
+const WITH_TRIP: &[(usize, u8)] = &[
     (81, 1),
     (86, 0x69),
     (87, 0x55),
@@ -84,14 +45,9 @@ const WITH_TRIP: [(usize, u8); 25] = [
     (1535, 1),
 ];
 
-/// An image with these bytes, and a digest of 1, 2, 3 and so on.
-fn image_of(more: &[(usize, u8)]) -> [u8; 2048] {
-    let mut image = [0; 2048];
-    for (place, byte) in STORE.iter().chain(more) {
-        if let Some(here) = image.get_mut(*place) {
-            *here = *byte;
-        }
-    }
+/// The sealed store with these bytes more, and a digest of 1, 2, 3 and so on.
+fn with_digest(more: &[(usize, u8)]) -> [u8; 2048] {
+    let mut image = image_of(more);
     for byte in 1..33 {
         image[1055 + byte] = byte as u8;
     }
@@ -248,81 +204,75 @@ const NONE: &[&[u8]] = &[];
 const BROKEN: &[u8] = b"\x02\x01\x06\x03\x02\x02\x0d\x03";
 
 /// A case, what its store has more, a stream, the parts of the replies, and how serving ends.
-const ROWS: [(
-    &str,
-    &[(usize, u8)],
-    &[u8],
-    &[&[&[u8]]],
+type Row = (
+    &'static str,
+    &'static [(usize, u8)],
+    &'static [u8],
+    &'static [&'static [&'static [u8]]],
     Result<(), PortFault>,
-); 11] = [
-    ("one item", &SECOND_LAYOUT, FIRST, &[OF_FIRST], Ok(())),
-    ("two items", &SECOND_LAYOUT, SECOND, &[OF_SECOND], Ok(())),
+);
+
+const ROWS: &[Row] = &[
+    ("one item", SECOND_LAYOUT, FIRST, &[OF_FIRST], Ok(())),
+    ("two items", SECOND_LAYOUT, SECOND, &[OF_SECOND], Ok(())),
     (
         "two requests",
-        &SECOND_LAYOUT,
+        SECOND_LAYOUT,
         BOTH,
         &[OF_FIRST, OF_SECOND],
         Ok(()),
     ),
     (
         "shares of layout 1",
-        &FIRST_LAYOUT,
+        FIRST_LAYOUT,
         b"\x02\x01\x0d\x03",
         &[&[LENGTH_OF_SHARES], COUNTED_BEFORE],
         Ok(()),
     ),
     (
         "shares of layout 2",
-        &SECOND_LAYOUT,
+        SECOND_LAYOUT,
         b"\x02\x01\x0d\x03",
         &[&[LENGTH_OF_SHARES], SHARED],
         Ok(()),
     ),
     (
         "all items, none held",
-        &SECOND_LAYOUT,
+        SECOND_LAYOUT,
         ALL,
         &[UP_TO_ELEVEN, &[NONE_HELD], SHARED],
         Ok(()),
     ),
     (
         "all items, one held",
-        &WITH_TRIP,
+        WITH_TRIP,
         ALL,
         &[UP_TO_ELEVEN, &[HELD], SHARED],
         Ok(()),
     ),
-    ("no request", &SECOND_LAYOUT, b"", &[], Ok(())),
+    ("no request", SECOND_LAYOUT, b"", &[], Ok(())),
     (
         "no such item",
-        &SECOND_LAYOUT,
+        SECOND_LAYOUT,
         b"\x02\x01\x0e\x03",
         &[],
         Err(PortFault::Frame(2)),
     ),
     (
         "an unfinished request",
-        &SECOND_LAYOUT,
+        SECOND_LAYOUT,
         b"\x02\x01",
         &[],
         Err(PortFault::Frame(2)),
     ),
     (
         "a bad request behind a good one",
-        &SECOND_LAYOUT,
+        SECOND_LAYOUT,
         BROKEN,
         &[OF_FIRST],
         Err(PortFault::Frame(6)),
     ),
 ];
-
-/// Fails unless something holds of the case with this name.
-fn must(holds: bool, what: &str, name: &str) -> Result<(), Fail> {
-    if holds {
-        return Ok(());
-    }
-    Err(Fail::new(format_args!("{what}: {name}")))
-}
 
 /// Fails unless serving a stream ends like this, prints these parts and leaves the image, where these reads and
 /// these calls of the board fail.
@@ -343,18 +293,23 @@ fn must_serve(
     must(*board.image() == *image, "another image", case)
 }
 
+/// Fails unless a stream has the replies of its row.
+fn must_reply(alloc: Global, row: &Row) -> Result<(), Fail> {
+    let image = with_digest(row.1);
+    must_serve(alloc, row.0, &image, row.2, &[], &[], row.3, row.4)
+}
+
 #[test]
 fn replies(rt: HostRuntime) -> Result<(), Fail> {
-    for &(case, more, stream, parts, answer) in &ROWS {
-        let image = image_of(more);
-        must_serve(rt.alloc(), case, &image, stream, &[], &[], parts, answer)?;
+    for row in ROWS {
+        must_reply(rt.alloc(), row)?;
     }
     Ok(())
 }
 
 /// A case, the numbers of the reads and of the calls of the board that fail, what is printed, and how
 /// serving ends: the store is scanned by six calls.
-const FAILURES: [(&str, &[u64], &[u64], &[&[&[u8]]], Result<(), PortFault>); 5] = [
+const FAILURES: &[(&str, &[u64], &[u64], &[&[&[u8]]], Result<(), PortFault>)] = &[
     ("the first read", &[1], &[], &[], Err(PortFault::ReadFault)),
     (
         "the second read",
@@ -388,8 +343,8 @@ const FAILURES: [(&str, &[u64], &[u64], &[&[&[u8]]], Result<(), PortFault>); 5] 
 
 #[test]
 fn failures(rt: HostRuntime) -> Result<(), Fail> {
-    let image = image_of(&SECOND_LAYOUT);
-    for &(case, reads, calls, parts, answer) in &FAILURES {
+    let image = with_digest(SECOND_LAYOUT);
+    for &(case, reads, calls, parts, answer) in FAILURES {
         must_serve(rt.alloc(), case, &image, BOTH, reads, calls, parts, answer)?;
     }
     Ok(())
@@ -419,7 +374,7 @@ fn ask_for(requests: &[Request], codes: &[&[u8]]) -> bool {
 const CODES_OF_ALL: &[u8] = b"\x01\x02\x03\x04\x05\x06\x07\x08\x09\x0a\x0b\x0c\x0d";
 
 /// A case, its stream, the places at which it may end, its first bad place, and the codes of its requests.
-const STREAMS: [(&str, &[u8], &[u64], Option<u64>, &[&[u8]]); 11] = [
+const STREAMS: &[(&str, &[u8], &[u64], Option<u64>, &[&[u8]])] = &[
     (
         "two requests",
         BOTH,
@@ -474,7 +429,7 @@ fn count_cuts(stream: &[u8]) -> usize
 }
 
 /// Fails unless something holds of the case with this name where its stream is cut or ended here.
-fn must_at(holds: bool, what: &str, name: &str, place: usize) -> Result<(), Fail> {
+fn must_at_place(holds: bool, what: &str, name: &str, place: usize) -> Result<(), Fail> {
     if holds {
         return Ok(());
     }
@@ -491,13 +446,13 @@ fn must_take(
 ) -> Result<(), Fail> {
     let mut out = ArrayVec::new();
     let cut = one.len();
-    must_at(
+    must_at_place(
         fed(one, other, &mut out) == answer,
         "another end, cut",
         case,
         cut,
     )?;
-    must_at(
+    must_at_place(
         ask_for(out.as_slice(), codes),
         "other requests, cut",
         case,
@@ -510,7 +465,7 @@ fn must_end(case: &str, front: &[u8], wholes: &[u64], bad: Option<u64>) -> Resul
     let mut out = ArrayVec::new();
     let end = front.len();
     let answer = ending(wholes, bad, end as u64);
-    must_at(
+    must_at_place(
         fed(front, b"", &mut out) == answer,
         "another end, ended",
         case,
@@ -538,7 +493,7 @@ fn must_come_in_pieces(
 /// Each stream is cut at each place, and ended there.
 #[test]
 fn pieces(rt: HostRuntime) -> Result<(), Fail> {
-    for &(case, stream, wholes, bad, codes) in &STREAMS {
+    for &(case, stream, wholes, bad, codes) in STREAMS {
         must_come_in_pieces(case, stream, wholes, bad, codes)?;
     }
     Ok(())
@@ -556,24 +511,40 @@ fn long_stream() -> [u8; 261] {
     stream
 }
 
+/// Fails unless a port that takes bytes answers like this, and the list then has as many requests.
+fn must_feed(
+    port: &mut Port,
+    bytes: &[u8],
+    out: &mut ArrayVec<Request, 64>,
+    answer: Result<usize, BadFrame>,
+    count: usize,
+) -> Result<(), Fail>
+    requires { port.old.taken + length bytes.now < 2 ^ 64 }
+    ensures { port.new.taken ≤ port.old.taken + length bytes.now }
+{
+    let is_answered = port.feed(bytes, out) == answer;
+    must(is_answered, "another answer", "sixty-five requests")?;
+    must(out.len() == count, "another count", "sixty-five requests")
+}
+
+/// The place of the bad byte.
+const BAD: BadFrame = BadFrame { place: 260 };
+
 /// Sixty-five requests and a bad byte: the list is full before the last request.
 #[test]
-fn full_lists(rt: HostRuntime) {
+fn full_lists(rt: HostRuntime) -> Result<(), Fail> {
     let stream = long_stream();
+    let last = &stream[256..];
     let mut port = Port::new();
     let mut out = ArrayVec::new();
-    assert_eq!(rt; port.feed(&stream, &mut out), Ok(256));
-    assert_eq!(rt; out.len(), 64);
-    assert_eq!(rt; port.feed(&stream[256..], &mut out), Ok(0));
+    must_feed(&mut port, &stream, &mut out, Ok(256), 64)?;
+    must_feed(&mut port, last, &mut out, Ok(0), 64)?;
     out.clear();
-    assert_eq!(rt;
-        port.feed(&stream[256..], &mut out),
-        Err(BadFrame { place: 260 })
-    );
-    assert_eq!(rt; out.len(), 1);
-    assert_eq!(rt;
-        port.feed(&stream[256..], &mut out),
-        Err(BadFrame { place: 260 })
-    );
-    assert_eq!(rt; port.finish(), Err(BadFrame { place: 260 }));
+    must_feed(&mut port, last, &mut out, Err(BAD), 1)?;
+    must_feed(&mut port, last, &mut out, Err(BAD), 1)?;
+    must(
+        port.finish() == Err(BAD),
+        "another end",
+        "sixty-five requests",
+    )
 }
