@@ -4,6 +4,7 @@
 mod data_port_tests;
 mod meter_states_tests;
 mod seal_store_tests;
+mod shift_book_tests;
 mod slot_store_tests;
 mod tariff_calendar_tests;
 mod tariff_check_tests;

@@ -1,5 +1,6 @@
-//! Which texts are books, and what their reports say.
-use super::{BookFault, put_mark, read_book, read_driver, shifts};
+//! Which texts are books, and what their reports say, by `read_book`, `read_driver`, `put_mark` and `shifts`.
+use crate::tests::{must, must_at};
+use shift_book::{BookFault, Mark, put_mark, read_book, read_driver, shifts};
 use std::alloc::Global;
 use std::test::Fail;
 use taxi_units::Line;
@@ -42,14 +43,6 @@ fn store_of(roams: bool) -> Durable {
     after_one_hiring()
 }
 
-/// Fails unless something holds of the case with this name.
-fn must(holds: bool, what: &str, name: &str) -> Result<(), Fail> {
-    if holds {
-        return Ok(());
-    }
-    Err(Fail::new(format_args!("{what}: {name:?}")))
-}
-
 /// How many marks a text has beside the store after one hiring, or what is wrong with it.
 fn outcome(alloc: Global, text: &[u8]) -> Result<usize, BookFault> {
     let marks = read_book(alloc, text, &after_one_hiring())?;
@@ -66,7 +59,7 @@ fn must_come_to(alloc: Global, text: &str, want: Result<usize, BookFault>) -> Re
 }
 
 /// Books, and how many marks they have.
-const BOOKS: [(&str, usize); 4] = [
+const BOOKS: &[(&str, usize)] = &[
     ("", 0),
     ("ON ANNA 1 0 0 0 0 0\n", 1),
     ("ON ANNA 1 0 0 0 0 0\nOFF 2 234800 234800 1 0 380\n", 2),
@@ -78,14 +71,14 @@ const BOOKS: [(&str, usize); 4] = [
 
 #[test]
 fn reads_books(rt: HostRuntime) -> Result<(), Fail> {
-    for &(text, count) in &BOOKS {
+    for &(text, count) in BOOKS {
         must_come_to(rt.alloc(), text, Ok(count))?;
     }
     Ok(())
 }
 
 /// Texts with a mark that may not follow, and its line.
-const MARKS_OUT_OF_PLACE: [(&str, u64); 5] = [
+const MARKS_OUT_OF_PLACE: &[(&str, u64)] = &[
     ("ON ANNA 1 0 0 0 0 0\nON BEA 1 0 0 0 0 0\n", 2),
     ("OFF 1 0 0 0 0 0\n", 1),
     ("ON ANNA 2 0 0 0 0 0\nOFF 1 0 0 0 0 0\n", 2),
@@ -95,14 +88,14 @@ const MARKS_OUT_OF_PLACE: [(&str, u64); 5] = [
 
 #[test]
 fn names_the_mark_that_may_not_follow(rt: HostRuntime) -> Result<(), Fail> {
-    for &(text, line) in &MARKS_OUT_OF_PLACE {
+    for &(text, line) in MARKS_OUT_OF_PLACE {
         must_come_to(rt.alloc(), text, Err(BookFault::BadLine(line)))?;
     }
     Ok(())
 }
 
 /// Texts with a line that is no mark, and its number.
-const NO_MARKS: [(&str, u64); 11] = [
+const NO_MARKS: &[(&str, u64)] = &[
     (
         "ON ANNA 1 340282366920938463463374607431768211455 0 0 0 0\n",
         1,
@@ -124,19 +117,23 @@ const NO_MARKS: [(&str, u64); 11] = [
 
 #[test]
 fn names_the_line_that_is_no_mark(rt: HostRuntime) -> Result<(), Fail> {
-    for &(text, line) in &NO_MARKS {
+    for &(text, line) in NO_MARKS {
         must_come_to(rt.alloc(), text, Err(BookFault::BadLine(line)))?;
     }
     Ok(())
 }
 
+/// Fails unless a text of this number of empty lines has this fault.
+fn must_refuse(alloc: Global, size: usize, fault: BookFault) -> Result<(), Fail> {
+    let text = vec![in alloc; b'\n'; size]?;
+    let is_refused = outcome(alloc, &text) == Err(fault);
+    must_at(is_refused, "another outcome", size as u64)
+}
+
 #[test]
 fn refuses_books_that_are_too_long(rt: HostRuntime) -> Result<(), Fail> {
-    let long = vec![in rt.alloc(); b'\n'; 1_048_576]?;
-    assert_eq!(rt; outcome(rt.alloc(), &long), Err(BookFault::BadLine(1)));
-    let longer = vec![in rt.alloc(); b'\n'; 1_048_577]?;
-    assert_eq!(rt; outcome(rt.alloc(), &longer), Err(BookFault::TooLong));
-    Ok(())
+    must_refuse(rt.alloc(), 1_048_576, BookFault::BadLine(1))?;
+    must_refuse(rt.alloc(), 1_048_577, BookFault::TooLong)
 }
 
 /// Whether a word is read as the driver that it is.
@@ -147,26 +144,52 @@ fn is_driver(word: &str) -> bool {
     }
 }
 
+/// Words that are drivers, and words that aren't.
+const DRIVERS: &[&str] = &["A", "ANNA", "A-1", "-", "ABCDEFGHIJKLMNOP"];
+
+const NO_DRIVERS: &[&str] = &["", "anna", "A B", "ANNA\n", "ABCDEFGHIJKLMNOPQ", "Ä"];
+
 #[test]
 fn reads_drivers(rt: HostRuntime) -> Result<(), Fail> {
-    for word in &["A", "ANNA", "A-1", "-", "ABCDEFGHIJKLMNOP"] {
-        must(is_driver(*word), "no driver", *word)?;
-    }
-    for word in &["", "anna", "A B", "ANNA\n", "ABCDEFGHIJKLMNOPQ", "Ä"] {
-        must(read_driver(word.as_bytes()).is_none(), "a driver", *word)?;
+    for word in DRIVERS {
+        must(is_driver(word), "no driver", word)?;
     }
     Ok(())
 }
 
 #[test]
-fn writes_what_was_read(rt: HostRuntime) {
-    let text = "ON ANNA 1 0 0 0 0 0\nOFF 2 234800 234800 1 0 380\nON BEA 2 234800 234800 1 0 380\n";
-    let marks = read_book(rt.alloc(), text.as_bytes(), &after_one_hiring()).expect(&rt, "a book");
-    let mut line = Line::new();
-    for mark in &marks {
-        assert_eq!(rt; put_mark(&mut line, mark), Ok(()));
+fn reads_no_other_drivers(rt: HostRuntime) -> Result<(), Fail> {
+    for word in NO_DRIVERS {
+        must(read_driver(word.as_bytes()).is_none(), "a driver", word)?;
     }
-    assert_eq!(rt; line.as_slice(), text.as_bytes());
+    Ok(())
+}
+
+/// A book of three marks.
+const MARKS: &str =
+    "ON ANNA 1 0 0 0 0 0\nOFF 2 234800 234800 1 0 380\nON BEA 2 234800 234800 1 0 380\n";
+
+/// The lines of marks, where there is room for them.
+fn written(marks: &[Mark]) -> Option<Line> {
+    let mut line = Line::new();
+    for mark in marks {
+        put_mark(&mut line, mark).ok()?;
+    }
+    Some(line)
+}
+
+/// What is written of the marks that are read of a book.
+fn written_again(alloc: Global, text: &[u8]) -> Option<Line> {
+    let marks = read_book(alloc, text, &after_one_hiring()).ok()?;
+    written(marks.as_slice())
+}
+
+#[test]
+fn writes_what_was_read(rt: HostRuntime) -> Result<(), Fail> {
+    let Some(line) = written_again(rt.alloc(), MARKS.as_bytes()) else {
+        return Err(Fail::new("no book or no room"));
+    };
+    must(line.as_slice() == MARKS.as_bytes(), "another book", MARKS)
 }
 
 /// The report of a book beside a store, or what is wrong with the book.
@@ -182,7 +205,7 @@ fn report_of(alloc: Global, text: &[u8], now: &Durable) -> Result<Vec<u8>, BookF
 const HIRING: &str = "ON ANNA 1 0 0 0 0 0\nOFF 2 234800 234800 1 0 380\n";
 
 /// Books, whether the store has roamed since the hiring, and the reports.
-const REPORTS: [(&str, bool, &str); 4] = [
+const REPORTS: &[(&str, bool, &str)] = &[
     (
         HIRING,
         false,
@@ -221,7 +244,7 @@ fn must_report(alloc: Global, text: &str, now: &Durable, want: &str) -> Result<(
 
 #[test]
 fn reports(rt: HostRuntime) -> Result<(), Fail> {
-    for &(text, roams, want) in &REPORTS {
+    for &(text, roams, want) in REPORTS {
         must_report(rt.alloc(), text, &store_of(roams), want)?;
     }
     Ok(())
