@@ -3,6 +3,7 @@
 
 mod data_port_tests;
 mod meter_states_tests;
+mod receipt_text_tests;
 mod seal_store_tests;
 mod shift_book_tests;
 mod slot_store_tests;

@@ -1,12 +1,13 @@
-//! The texts that docs/FORMATS.md gives, and the limits of receipts.
+//! The texts that docs/FORMATS.md gives, and the limits of receipts, by `put_receipt`, `read_receipt`,
+//! `receipt_in_front`, `put_display` and `put_refusal`.
 ghost use Rattle.std.specs.Prelude.{◌≡◌, ◌≤◌, IfSome};
 ghost use Rattle.seal_store.specs.Ranges.{IsSeal};
 
-use crate::parts::SealPart;
-use crate::reading::read_receipt;
-use crate::receipts::put_part_receipt;
-use crate::{put_display, put_receipt, put_refusal, receipt_in_front};
+use crate::tests::{P, must};
 use arrayvec::ArrayVec;
+use receipt_text::{
+    SealPart, put_display, put_receipt, put_refusal, read_receipt, receipt_in_front,
+};
 use seal_store::{Seal, read_params};
 use std::test::Fail;
 use taxi_units::{Display, Kind, Line, LineFull, Operating, Receipt, Stamp, Why, put_bytes};
@@ -54,14 +55,6 @@ const ONE_O_CLOCK: Stamp = Stamp {
     second: 3600,
 };
 
-/// Fails unless something holds of the case with this name.
-fn must(holds: bool, what: &str, name: &str) -> Result<(), Fail> {
-    if holds {
-        return Ok(());
-    }
-    Err(Fail::new(format_args!("{what}: {name}")))
-}
-
 /// Whether this is what the receipt says of the hiring.
 fn is_said_of_hiring(receipt: &Receipt) -> bool {
     *receipt == SAID
@@ -74,18 +67,30 @@ fn is_said_of_seal(part: &SealPart) -> bool {
         && (part.digest[0], part.digest[1], part.digest[31]) == (0x26, 0x45, 0x9b)
 }
 
-/// Appends a receipt and a part; `None` where the amounts or the date are beyond what can be written.
-fn put(line: &mut Line, receipt: &Receipt, part: &SealPart) -> Option<Result<(), LineFull>> {
-    if receipt.decimals > 3 || part.secured < 10_957 || part.secured > 84_005 {
-        return None;
-    }
-    Some(put_part_receipt(line, receipt, part))
+/// A seal with the parameters P, which are those of the receipt, and this digest.
+fn seal_with(digest: [u8; 32]) -> Option<Seal>
+    ensures { IfSome result IsSeal }
+{
+    let params = read_params(P.as_bytes()).ok()?;
+    Some(Seal {
+        seal_number: 1,
+        params,
+        digest,
+        decimals: 2,
+    })
 }
 
-/// Whether a receipt and a part are written as this text.
-fn writes(receipt: &Receipt, part: &SealPart, text: &[u8]) -> bool {
+/// Appends the receipt that is read of a text, with the parameters P and its digest; `None` where no receipt is read.
+fn put_again(line: &mut Line, text: &[u8]) -> Option<Result<(), LineFull>> {
+    let (receipt, part) = read_receipt(text)?;
+    let seal = seal_with(part.digest)?;
+    Some(put_receipt(line, &receipt, &seal))
+}
+
+/// Whether a receipt is read of a text, and written again as the text.
+fn is_written_again(text: &[u8]) -> bool {
     let mut line = Line::new();
-    put(&mut line, receipt, part) == Some(Ok(())) && line.as_slice() == text
+    put_again(&mut line, text) == Some(Ok(())) && line.as_slice() == text
 }
 
 /// The lines of a receipt's trip and fare, after those of its seal.
@@ -97,20 +102,31 @@ fn with_body(text: &mut Line, heading: &str, body: &str) -> bool {
         && put_bytes(text, body.as_bytes()).is_ok()
 }
 
-/// Whether a text is read as the receipt above, and whether what is read is written as it; where it is read.
-fn reads(text: &[u8]) -> Option<(bool, bool)> {
-    let (receipt, part) = read_receipt(text)?;
-    let is_said = is_said_of_hiring(&receipt) && is_said_of_seal(&part);
-    Some((is_said, writes(&receipt, &part, text)))
+/// Whether a text is read as the receipt above.
+fn is_said(text: &[u8]) -> bool {
+    match read_receipt(text) {
+        Some((receipt, part)) => is_said_of_hiring(&receipt) && is_said_of_seal(&part),
+        None => false,
+    }
 }
 
 #[test]
 fn reads_a_receipt(rt: HostRuntime) -> Result<(), Fail> {
-    let Some((is_said, is_written)) = reads(RECEIPT.as_bytes()) else {
-        return Err(Fail::new("it isn't read"));
-    };
-    must(is_said, "another hiring or another seal", RECEIPT)?;
-    must(is_written, "another text", RECEIPT)
+    must(
+        is_said(RECEIPT.as_bytes()),
+        "another hiring or another seal",
+        RECEIPT,
+    )
+}
+
+/// A receipt says of the seal what its parameters and its digest are.
+#[test]
+fn writes_the_receipt_of_a_seal(rt: HostRuntime) -> Result<(), Fail> {
+    must(
+        is_written_again(RECEIPT.as_bytes()),
+        "another text",
+        RECEIPT,
+    )
 }
 
 /// What stands behind a receipt, how many of its bytes are cut off, and whether it then stands in front.
@@ -163,45 +179,6 @@ fn reads_a_receipt_in_front(rt: HostRuntime) -> Result<(), Fail> {
     Ok(())
 }
 
-/// The parameters of the receipt's meter, as a text.
-const PARAMS: &str =
-    "taxi LX-4711\nconstant 10000\nmode single\nhold 60\noffset 946684800 3600\nsecured 2025-12-01\n";
-
-/// A seal with the receipt's parameters and this digest.
-fn seal_with(digest: [u8; 32]) -> Option<Seal>
-    ensures { IfSome result IsSeal }
-{
-    let params = read_params(PARAMS.as_bytes()).ok()?;
-    Some(Seal {
-        seal_number: 1,
-        params,
-        digest,
-        decimals: 2,
-    })
-}
-
-/// The receipt as it is written of the seal with its parameters and its digest, where there is one.
-fn written_of_seal() -> Option<Line> {
-    let (receipt, part) = read_receipt(RECEIPT.as_bytes())?;
-    let seal = seal_with(part.digest)?;
-    let mut line = Line::new();
-    put_receipt(&mut line, &receipt, &seal).ok()?;
-    Some(line)
-}
-
-/// A receipt says of the seal what its parameters and its digest are.
-#[test]
-fn writes_the_receipt_of_a_seal(rt: HostRuntime) -> Result<(), Fail> {
-    let Some(line) = written_of_seal() else {
-        return Err(Fail::new("no receipt, no parameters or no room"));
-    };
-    must(
-        line.as_slice() == RECEIPT.as_bytes(),
-        "another text",
-        RECEIPT,
-    )
-}
-
 /// Receipts of the grammar, by heading and body.
 const RECEIPTS: &[(&str, &str)] = &[
     (
@@ -230,18 +207,20 @@ const RECEIPTS: &[(&str, &str)] = &[
     ),
 ];
 
+/// Whether a receipt that is read of a text says of the seal what the one above does.
+fn has_seal(text: &[u8]) -> bool {
+    match read_receipt(text) {
+        Some((_, part)) => is_said_of_seal(&part),
+        None => false,
+    }
+}
+
 /// Fails unless the receipt of this heading and body is read, and written as it was.
 fn must_read_back(heading: &str, body: &str) -> Result<(), Fail> {
     let mut text = Line::new();
     must(with_body(&mut text, heading, body), "no room", body)?;
-    let Some((receipt, part)) = read_receipt(text.as_slice()) else {
-        return Err(Fail::new(format_args!("it isn't read: {heading}{body}")));
-    };
-    must(
-        writes(&receipt, &part, text.as_slice()),
-        "another text",
-        body,
-    )
+    must(has_seal(text.as_slice()), "another seal", body)?;
+    must(is_written_again(text.as_slice()), "another text", body)
 }
 
 #[test]
@@ -305,17 +284,18 @@ fn refuses_what_is_none(rt: HostRuntime) -> Result<(), Fail> {
     must(read_receipt(b"").is_none(), "it is read", "no text")
 }
 
+const LONG: &[u8] = &[b'x'; 500];
+
 /// A line with 500 bytes in it.
 fn full_line() -> Option<Line> {
     let mut line = Line::new();
-    put_bytes(&mut line, &[b'x'; 500]).ok()?;
+    put_bytes(&mut line, LONG).ok()?;
     Some(line)
 }
 
 /// Whether a line has no room for the receipt.
-fn is_full_for_receipt(line: &mut Line) -> Option<bool> {
-    let (receipt, part) = read_receipt(RECEIPT.as_bytes())?;
-    Some(put(line, &receipt, &part) == Some(Err(LineFull)))
+fn is_full_for_receipt(line: &mut Line) -> bool {
+    put_again(line, RECEIPT.as_bytes()) == Some(Err(LineFull))
 }
 
 /// Whether a line has no room for a display.
@@ -325,7 +305,7 @@ fn is_full_for_display(line: &mut Line) -> bool {
 
 /// Whether a line takes no receipt, no display and no refusal.
 fn takes_none(line: &mut Line) -> bool {
-    is_full_for_receipt(line) == Some(true)
+    is_full_for_receipt(line)
         && is_full_for_display(line)
         && put_refusal(line, Why::NotNow).is_err()
 }
@@ -337,11 +317,7 @@ fn refuses_a_full_line(rt: HostRuntime) -> Result<(), Fail> {
         return Err(Fail::new("no room for 500 bytes"));
     };
     must(takes_none(&mut line), "it takes", "a text")?;
-    must(
-        line.as_slice() == [b'x'; 500].as_slice(),
-        "another line",
-        "500 bytes",
-    )
+    must(line.as_slice() == LONG, "another line", "500 bytes")
 }
 
 /// A display of the tariff of two decimals.
