@@ -2,6 +2,7 @@
 //! neighbours. Tests of one crate alone stand beside its code.
 
 mod data_port_tests;
+mod meter_run_tests;
 mod meter_states_tests;
 mod receipt_text_tests;
 mod seal_store_tests;

@@ -1,8 +1,11 @@
-//! Drives that are carried out without a store, and how tests carry out a drive.
+//! Drives that are carried out without a store, by `dry_run`, and how tests carry out a drive.
+mod on_store;
+
 ghost use Rattle.std.specs.Prelude.{◌≡◌, ◌<◌, IfOk};
 ghost use Rattle.seal_store.specs.Ranges.{IsSeal};
 
-use crate::{RunFault, dry_run, run_events};
+use crate::tests::{A, P, ZEROS, joined, must};
+use meter_run::{RunFault, dry_run, run_events};
 use outside::{MemoryBoard, MemoryFiles};
 use pulse_input::Constant;
 use seal_store::{Seal, read_params};
@@ -15,21 +18,11 @@ use tariff_compile::{Tables, compile};
 use tariff_syntax::{parse, texts_have_their_numbers};
 use taxi_units::Steps;
 
-const TARIFF: &str =
-    "decimals 2\nstep 0.20 ahead\ninitial 3.80 covers 0.40\nrate 0.20 per 117.4 m, 0.20 per 25.2 s\n";
-
-/// Parameters as docs/FORMATS.md gives them.
-const PARAMS: &str =
-    "taxi LX-4711\nconstant 10000\nmode single\nhold 60\noffset 946684800 3600\nsecured 2025-12-01\n";
-
-/// A store of zeros.
-pub(crate) const ZEROS: &[u8; 2048] = &[0; 2048];
-
-/// The tables of the tariff under a constant.
+/// The tables of tariff A under a constant.
 fn tables(alloc: Global, constant: Constant) -> Result<Tables, Fail>
     ensures { IfOk result (λ tables. tables.constant ≡ constant) }
 {
-    let Ok(tariff) = parse(alloc, TARIFF.as_bytes()) else {
+    let Ok(tariff) = parse(alloc, A.as_bytes()) else {
         return Err(Fail::new("the tariff isn't read"));
     };
     texts_have_their_numbers();
@@ -42,11 +35,11 @@ fn tables(alloc: Global, constant: Constant) -> Result<Tables, Fail>
     }
 }
 
-/// A seal with these parameters, of a tariff with two decimals.
+/// A seal with the parameters P, of a tariff with two decimals.
 fn sealed() -> Result<Seal, Fail>
     ensures { IfOk result IsSeal }
 {
-    let Ok(params) = read_params(PARAMS.as_bytes()) else {
+    let Ok(params) = read_params(P.as_bytes()) else {
         return Err(Fail::new("the parameters are refused"));
     };
     Ok(Seal {
@@ -59,7 +52,7 @@ fn sealed() -> Result<Seal, Fail>
 
 /// How a drive is carried out: on the store or without it.
 #[derive(Clone, Copy)]
-pub(crate) enum Way {
+enum Way {
     Stored,
     Dry,
 }
@@ -105,7 +98,7 @@ fn run_under(
 
 /// The board after a run of a drive over an image, and how the run ended, where these calls of the board and
 /// these reads fail.
-pub(crate) fn ran(
+fn ran(
     alloc: Global,
     way: Way,
     drive: &str,
@@ -117,23 +110,6 @@ pub(crate) fn ran(
     let mut board = MemoryBoard::new(alloc, image, calls)?;
     let ended = run_under(alloc, &seal, way, drive, reads, &mut board)?;
     Ok((board, ended))
-}
-
-/// Fails unless something holds of the case with this name.
-pub(crate) fn must(holds: bool, what: &str, name: &str) -> Result<(), Fail> {
-    if holds {
-        return Ok(());
-    }
-    Err(Fail::new(format_args!("{what}: {name}")))
-}
-
-/// These texts, one after the other.
-pub(crate) fn joined(alloc: Global, pieces: &[&str]) -> Result<String, Fail> {
-    let mut text = String::new(alloc);
-    for piece in pieces {
-        text.push_str(piece)?;
-    }
-    Ok(text)
 }
 
 const HIRED: &str = "U 1767225600\nK H\nI 0 1\nI 0 300\nD\n";

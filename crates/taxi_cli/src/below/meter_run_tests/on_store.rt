@@ -1,16 +1,13 @@
-//! Drives that are carried out on a store, with each call of the board failing, and with cuts of the power.
-ghost use Rattle.std.specs.Prelude.{◌≡◌, ◌<◌};
-
-use crate::RunFault;
-use crate::tests::{Way, ZEROS, joined, must, ran};
+//! Drives that are carried out on a store, by `run_events`, with each call of the board failing, and with cuts of the
+//! power.
+use super::{Way, ran};
+use crate::many_cuts_tests::stored;
+use crate::run_tests::{HELD, HIRING};
+use crate::tests::{FILLS, ZEROS, cut_in, joined, must, must_at};
+use meter_run::RunFault;
 use outside::{Fill, MemoryBoard};
-use slot_store::{Found, scan};
 use std::alloc::Global;
-use std::marker::Brand;
-use std::sync::ledger::{Blank, Ledger};
 use std::test::Fail;
-use taxi_units::Steps;
-use totaliser_store::Durable;
 
 /// The lines of the seal on a receipt.
 const SEALED: &str = "TAXI LX-4711\nCONSTANT 10000\nSECURED 2025-12-01\n\
@@ -25,42 +22,13 @@ fn opening() -> [u8; 2048] {
     image
 }
 
-/// What a scan of an image finds, under a new counter.
-fn scanned<L: Ledger>(
-    blank: Blank,
-    alloc: Global,
-    image: &[u8; 2048],
-) -> Result<Option<Durable>, Fail>
-    requires name { blank.name ≡ L.name }
-    requires parts { blank.parts ≡ L.parts }
-    requires some { 0 < blank.parts }
-{
-    let mut steps: Steps<L> = Steps::open(blank);
-    let mut board = MemoryBoard::new(alloc, image, &[])?;
-    match scan::<Durable, MemoryBoard, L>(&mut board, 0, &mut steps) {
-        Ok(Found::Latest { body, .. }) => Ok(Some(body)),
-        _ => Ok(None),
-    }
-}
-
 /// The number of a durable state, its hirings, and whether a trip is held.
 type State = (u64, u64, bool);
 
 /// The state that an image stands for.
-fn found(alloc: Global, image: &[u8; 2048]) -> Result<Option<State>, Fail> {
-    let state = scanned::<Brand>(Blank::new(1), alloc, image)?;
-    Ok(match state {
-        Some(state) => Some((state.number, state.totals.hirings, state.hold.is_some())),
-        None => None,
-    })
-}
-
-/// Fails unless something holds of the call with this number.
-fn must_at(holds: bool, what: &str, call: u64) -> Result<(), Fail> {
-    if holds {
-        return Ok(());
-    }
-    Err(Fail::new(format_args!("{what} in call {call}")))
+fn found(image: &[u8; 2048]) -> Option<State> {
+    let state = stored(image)?;
+    Some((state.number, state.totals.hirings, state.hold.is_some()))
 }
 
 /// A drive, how the run ends, how many calls of the board it makes, the state of the store then, and what is
@@ -73,10 +41,7 @@ struct Row {
     printed: &'static [&'static str],
 }
 
-/// A trip over a drop of a minute, and what it prints.
-const RESUMED: &str = "U 1767225600\nK H\nI 0 1\nI 20 10\nD\n\
-     U 1767225660\nI 20 107\nK S\nI 8 1\nK C\nI 0 1\n";
-
+/// What the trip over a loss of supply prints.
 const SHOWN: &[&str] = &[
     "FOR HIRE T1 Z1\nHIRED T1 Z1 3.80 +0.00\nHIRED T1 Z1 3.80 +0.00\nSTOPPED T1 Z1 3.80 +0.00\n",
     "RECEIPT 3\nKIND CLOSED\n",
@@ -90,7 +55,7 @@ const SHOWN: &[&str] = &[
 /// store that has no durable state, so the meter stays off.
 const ROWS: &[Row] = &[
     Row {
-        drive: "U 1767225600\nK H\nI 0 1\nI 20 117\nK S\nI 8 1\nK C\nI 0 1\n",
+        drive: HIRING,
         ended: Ok(()),
         calls: 12,
         state: Some((2, 1, false)),
@@ -102,7 +67,7 @@ const ROWS: &[Row] = &[
         ],
     },
     Row {
-        drive: RESUMED,
+        drive: HELD,
         ended: Ok(()),
         calls: 22,
         state: Some((3, 1, false)),
@@ -171,10 +136,10 @@ fn must_print(alloc: Global, board: &MemoryBoard, row: &Row) -> Result<(), Fail>
 }
 
 /// Fails unless a board had as many calls as a row says, and has its state.
-fn must_leave(alloc: Global, board: &MemoryBoard, row: &Row) -> Result<(), Fail> {
+fn must_leave(board: &MemoryBoard, row: &Row) -> Result<(), Fail> {
     must(board.calls() == row.calls, "other calls", row.drive)?;
     must(
-        found(alloc, board.image())? == row.state,
+        found(board.image()) == row.state,
         "another state",
         row.drive,
     )
@@ -185,7 +150,7 @@ fn must_run(alloc: Global, row: &Row) -> Result<(), Fail> {
     let (board, ended) = ran(alloc, Way::Stored, row.drive, &image_of(row), &[], &[])?;
     must(ended == row.ended, "another end", row.drive)?;
     must_print(alloc, &board, row)?;
-    must_leave(alloc, &board, row)
+    must_leave(&board, row)
 }
 
 #[test]
@@ -196,29 +161,26 @@ fn runs(rt: HostRuntime) -> Result<(), Fail> {
     Ok(())
 }
 
-/// What a cut may leave of the bytes in flight.
-const FILLS: &[Fill] = &[
-    Fill::Old,
-    Fill::New,
-    Fill::Half,
-    Fill::Byte(0),
-    Fill::Byte(0xA5),
-    Fill::Byte(0xFF),
-];
-
 /// Fails unless a cut in a call leaves the held trip, or the closing entry where its gate may be open.
-fn must_have(alloc: Global, board: &MemoryBoard, call: u64, fill: Fill) -> Result<(), Fail> {
-    let image = board.cut(call.min(board.calls()), fill);
-    let state = found(alloc, &image)?;
+fn must_have(board: &MemoryBoard, call: u64, fill: Fill) -> Result<(), Fail> {
+    let state = found(&cut_in(board, call, fill));
     let held = state == Some((2, 0, true)) && call < 21;
     let entered = state == Some((3, 1, false)) && call > 18;
     must_at(held || entered, "another state", call)
 }
 
+/// Fails unless each cut in a call leaves the held trip, or the closing entry where its gate may be open.
+fn must_have_one(board: &MemoryBoard, call: u64) -> Result<(), Fail> {
+    for fill in FILLS {
+        must_have(board, call, *fill)?;
+    }
+    Ok(())
+}
+
 /// The board after the trip over a drop, which has to end well.
 fn resumed(alloc: Global) -> Result<MemoryBoard, Fail> {
-    let (board, ended) = ran(alloc, Way::Stored, RESUMED, &opening(), &[], &[])?;
-    must(ended == Ok(()), "another end", RESUMED)?;
+    let (board, ended) = ran(alloc, Way::Stored, HELD, &opening(), &[], &[])?;
+    must(ended == Ok(()), "another end", HELD)?;
     Ok(board)
 }
 
@@ -228,9 +190,7 @@ fn resumed(alloc: Global) -> Result<MemoryBoard, Fail> {
 fn cuts(rt: HostRuntime) -> Result<(), Fail> {
     let board = resumed(rt.alloc())?;
     for call in 15..23 {
-        for fill in FILLS {
-            must_have(rt.alloc(), &board, call, *fill)?;
-        }
+        must_have_one(&board, call)?;
     }
     Ok(())
 }
@@ -238,7 +198,7 @@ fn cuts(rt: HostRuntime) -> Result<(), Fail> {
 /// Fails unless the board fails in this call, nothing is done after it, and what was printed is a beginning of
 /// this text.
 fn must_stop(alloc: Global, call: u64, whole: &str) -> Result<(), Fail> {
-    let (board, ended) = ran(alloc, Way::Stored, RESUMED, &opening(), &[call], &[])?;
+    let (board, ended) = ran(alloc, Way::Stored, HELD, &opening(), &[call], &[])?;
     must_at(ended == Err(RunFault::BoardFault), "another end", call)?;
     must_at(board.calls() == call, "other calls", call)?;
     must_at(
