@@ -13,3 +13,4 @@ mod tariff_check_tests;
 mod tariff_compile_tests;
 mod tariff_texts;
 mod totaliser_store_tests;
+mod verify_bench_tests;

@@ -1,8 +1,9 @@
-//! What drives should come to, by example: the rates, fares and distances are worked out by hand from the
-//! rules of a meter.
+//! What drives should come to, by example, with `expect`: the rates, fares and distances are worked out by hand from
+//! the rules of a meter.
 ghost use Rattle.std.specs.Prelude.{◌+◌, ◌<◌, ◌^◌, length};
 
-use crate::{Expected, expect};
+use crate::run_tests::{CITY, HELD, HIRING};
+use crate::tests::A;
 use arrayvec::ArrayVec;
 use drive_modes::Mode;
 use drive_text::{Reader, Run};
@@ -14,29 +15,7 @@ use std::test::Fail;
 use tariff_check::check;
 use tariff_syntax::{parse, texts_have_their_numbers};
 use taxi_units::Kind;
-
-const PLAIN: &str = "decimals 2
-step 0.20 ahead
-initial 3.80 covers 0.40
-rate 0.20 per 117.4 m, 0.20 per 25.2 s
-";
-
-const CITY: &str = "decimals 2
-step 0.20 ahead
-positions 2
-zones 2
-holiday 2026-01-01
-holiday 2026-12-25
-supplement 1 2.00 max 4
-supplement 2 0.50 max 9
-supplement 3 5.00 max 1
-initial 5.00 covers 0.40 when time 22:00..06:00 or day sun or holiday
-initial 4.20 covers 0.40
-rate 0.20 per 80.0 m, 0.20 per 20.0 s when position 2 or zone 2
-rate 0.20 per 90.0 m, 0.20 per 20.0 s when time 22:00..06:00 or day sun or holiday
-rate 0.20 per 100.0 m, 0.20 per 20.0 s when after 5000.0 m
-rate 0.20 per 125.0 m, 0.20 per 25.0 s
-";
+use verify_bench::{Expected, expect};
 
 /// A seal with a constant of 10,000, an hour before UTC, and a hold of a minute.
 fn sealed(mode: Mode) -> Option<Seal> {
@@ -68,17 +47,12 @@ fn expected(alloc: Global, tariff: &str, mode: Mode, drive: &str) -> Option<Vec<
     expect(alloc, &checked, &seal, runs.as_slice()).ok()
 }
 
-const FIRST: &str = "U 1767225600\nK H\nI 0 1\nI 20 117\nK S\nI 8 1\nK C\nI 0 1\n";
-
 const FURTHER: &str = "U 1767225600\nK H\nI 0 1\nI 20 117\nI 8 1\nK S\nI 1 1\nK C\nI 0 1\n";
-
-const RESUMED: &str =
-    "U 1767225600\nK H\nI 0 1\nI 20 10\nD\nU 1767225660\nI 20 107\nK S\nI 8 1\nK C\nI 0 1\n";
 
 const ABORTED: &str =
     "U 1767225600\nK H\nI 0 1\nI 20 10\nD\nU 1767225661\nI 20 107\nK S\nI 8 1\nK C\nI 0 1\n";
 
-const HELD: &str = "U 1767225600\nK H\nI 0 1\nI 20 10\n";
+const UNFINISHED: &str = "U 1767225600\nK H\nI 0 1\nI 20 10\n";
 
 const CITY_TRIP: &str =
     "U 1772442000\nK H\nI 0 1\nI 0 600\nK E 1\nI 10 5999\nC 1772442660\nK S\nI 10 1\nK C\nI 0 1\n";
@@ -86,9 +60,9 @@ const CITY_TRIP: &str =
 /// Tariffs, modes, drives, and what they should come to.
 const DRIVES: &[(&str, Mode, &str, &[Expected])] = &[
     (
-        PLAIN,
+        A,
         Mode::Single,
-        FIRST,
+        HIRING,
         &[Expected {
             kind: Kind::Closed,
             fare: 380,
@@ -97,9 +71,9 @@ const DRIVES: &[(&str, Mode, &str, &[Expected])] = &[
         }],
     ),
     (
-        PLAIN,
+        A,
         Mode::Double,
-        FIRST,
+        HIRING,
         &[Expected {
             kind: Kind::Closed,
             fare: 400,
@@ -108,7 +82,7 @@ const DRIVES: &[(&str, Mode, &str, &[Expected])] = &[
         }],
     ),
     (
-        PLAIN,
+        A,
         Mode::Single,
         FURTHER,
         &[Expected {
@@ -119,9 +93,9 @@ const DRIVES: &[(&str, Mode, &str, &[Expected])] = &[
         }],
     ),
     (
-        PLAIN,
+        A,
         Mode::Single,
-        RESUMED,
+        HELD,
         &[Expected {
             kind: Kind::Closed,
             fare: 380,
@@ -130,7 +104,7 @@ const DRIVES: &[(&str, Mode, &str, &[Expected])] = &[
         }],
     ),
     (
-        PLAIN,
+        A,
         Mode::Single,
         ABORTED,
         &[Expected {
@@ -140,7 +114,7 @@ const DRIVES: &[(&str, Mode, &str, &[Expected])] = &[
             ticks: 10,
         }],
     ),
-    (PLAIN, Mode::Single, HELD, &[]),
+    (A, Mode::Single, UNFINISHED, &[]),
     (
         CITY,
         Mode::Single,

@@ -1,30 +1,26 @@
-//! Readings, verdicts, reports and generated drives, by example. The texts of drives are those that a
-//! program of its own in another language writes by the same rules.
+//! Readings, verdicts, reports and generated drives, by example, with `read_readings`, `judge`, `report`,
+//! `do_all_pass`, `Generator` and `generated_events`. The texts of drives are those that a program of its own in
+//! another language writes by the same rules.
+mod expecting;
+
 ghost use Rattle.std.specs.Prelude.{◌≤◌};
 
-use crate::{
-    Expected, Generator, Reading, ReadingsFault, Verdict, do_all_pass, generated_events, judge,
-    read_readings, report,
-};
+use crate::tests::{must, must_at};
 use outside::Files;
 use std::alloc::Global;
 use std::test::Fail;
 use taxi_units::Kind;
-
-/// Fails unless something holds of the case with this name.
-fn must(holds: bool, what: &str, name: &str) -> Result<(), Fail> {
-    if holds {
-        return Ok(());
-    }
-    Err(Fail::new(format_args!("{what}: {name}")))
-}
+use verify_bench::{
+    Expected, Generator, Reading, ReadingsFault, Verdict, do_all_pass, generated_events, judge,
+    read_readings, report,
+};
 
 /// Fails unless something holds of the case with these numbers.
-fn must_of(holds: bool, what: &str, numbers: &[u64]) -> Result<(), Fail> {
+fn must_of(holds: bool, what: &str, first: u64, second: u64, third: u64) -> Result<(), Fail> {
     if holds {
         return Ok(());
     }
-    Err(Fail::new(format_args!("{what}: {numbers:?}")))
+    Err(Fail::new(format_args!("{what}: {first}, {second}, {third}")))
 }
 
 /// A hiring of 14.40, 6 km and 660.1 s.
@@ -132,11 +128,12 @@ fn must_judge(
 ) -> Result<(), Fail> {
     let expected = due(wanted.0, wanted.1, wanted.2);
     let reading = read(found.0, found.1, found.2);
-    let numbers = [found.0, found.1, found.2];
     must_of(
         judge(&expected, &reading, step) == want,
         "another verdict",
-        &numbers,
+        found.0,
+        found.1,
+        found.2,
     )
 }
 
@@ -240,8 +237,8 @@ const LONG_TEXTS: &[(usize, ReadingsFault)] = &[
 fn must_not_read(alloc: Global, size: usize, want: ReadingsFault) -> Result<(), Fail> {
     let text = vec![in alloc; b'\n'; size]?;
     match read_readings(alloc, text.as_slice(), 2) {
-        Ok(_) => must_of(false, "it is read", &[size as u64]),
-        Err(fault) => must_of(fault == want, "another reason", &[size as u64]),
+        Ok(_) => must_at(false, "it is read", size as u64),
+        Err(fault) => must_at(fault == want, "another reason", size as u64),
     }
 }
 
@@ -259,6 +256,17 @@ fn reports(alloc: Global, expected: &[Expected], readings: &[Reading], want: &st
     let header = b"hiring,kind,fare,read_fare,distance,read_distance,time,read_time,verdict\n";
     let rows = text.as_slice().strip_prefix(header.as_slice())?;
     Some(rows == want.as_bytes())
+}
+
+/// Fails unless the report, with a display step of 0.20, is the header and this.
+fn must_report(
+    alloc: Global,
+    expected: &[Expected],
+    readings: &[Reading],
+    want: &str,
+) -> Result<(), Fail> {
+    let same = reports(alloc, expected, readings, want) == Some(true);
+    must(same, "another report", want)
 }
 
 /// A hiring of 10.00, 1.234 m and 1.0 s, and one of nothing.
@@ -305,8 +313,7 @@ const REPORTS: &[(&[Expected], &[Reading], &str)] = &[
 #[test]
 fn reports_have_a_row_for_each_place(rt: HostRuntime) -> Result<(), Fail> {
     for &(expected, readings, want) in REPORTS {
-        let same = reports(rt.alloc(), expected, readings, want) == Some(true);
-        must(same, "another report", want)?;
+        must_report(rt.alloc(), expected, readings, want)?;
     }
     Ok(())
 }
@@ -326,15 +333,21 @@ const PASSES: &[(&[Expected], &[Reading], bool)] = &[
     (&[TRIP, SHORT], &[ONE, LATE], false),
 ];
 
+/// Fails unless all pass, or not, with a display step of 0.20.
+fn must_pass(expected: &[Expected], readings: &[Reading], want: bool) -> Result<(), Fail> {
+    must_of(
+        do_all_pass(expected, readings, 20) == want,
+        "another end",
+        expected.len() as u64,
+        readings.len() as u64,
+        20,
+    )
+}
+
 #[test]
 fn readings_pass_where_all_do(rt: HostRuntime) -> Result<(), Fail> {
     for &(expected, readings, want) in PASSES {
-        let counts = [expected.len() as u64, readings.len() as u64];
-        must_of(
-            do_all_pass(expected, readings, 20) == want,
-            "another end",
-            &counts,
-        )?;
+        must_pass(expected, readings, want)?;
     }
     Ok(())
 }
@@ -430,11 +443,12 @@ fn must_generate(
     let Some(bytes) = bytes_of(alloc, seed, 1, word, piece) else {
         return Err(Fail::new("no bytes"));
     };
-    let numbers = [seed, word as u64, piece as u64];
     must_of(
         bytes.as_slice() == want.as_bytes(),
         "another drive",
-        &numbers,
+        seed,
+        word as u64,
+        piece as u64,
     )
 }
 
@@ -460,11 +474,12 @@ fn must_have_events(seed: u64, trips: u32, want: u64) -> Result<(), Fail> {
     if trips < 1 || 1000 < trips {
         return Err(Fail::new("another number of trips"));
     }
-    let numbers = [seed, trips as u64];
     must_of(
         generated_events(seed, trips) == want,
         "another number of events",
-        &numbers,
+        seed,
+        trips as u64,
+        want,
     )
 }
 
