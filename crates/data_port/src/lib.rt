@@ -10,8 +10,6 @@ mod request;
 mod serving;
 mod state;
 mod stream_laws;
-#[cfg(test)]
-mod tests;
 
 pub use port::{BadFrame, Port};
 pub use reply::put_reply;

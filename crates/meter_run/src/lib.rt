@@ -15,12 +15,8 @@ mod reading;
 mod runs;
 mod source;
 mod store_drive;
-#[cfg(test)]
-mod store_tests;
 mod stored;
 mod storing;
-#[cfg(test)]
-mod tests;
 
 pub use cut_laws::{
     cuts_open_the_next_run, lines_follow_a_run, receipts_have_their_entries, runs_leave_the_seals,

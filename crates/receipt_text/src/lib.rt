@@ -31,6 +31,3 @@ pub use parts::SealPart;
 pub use reading::read_receipt;
 pub use receipts::put_receipt;
 pub use refusals::put_refusal;
-
-#[cfg(test)]
-mod tests;

@@ -33,6 +33,3 @@ pub use sealing::place_seal;
 pub use sealing_laws::scans_find_what_a_sealing_asks_for;
 pub use text_laws::{parameters_are_in_their_ranges, texts_say_parameters_line_by_line};
 pub use whole_laws::{texts_are_too_long_or_lack_a_parameter, texts_say_their_parameters};
-
-#[cfg(test)]
-mod tests;

@@ -23,6 +23,3 @@ pub use mark_laws::marks_are_their_lines;
 pub use reading::read_driver;
 pub use report::shifts;
 pub use share_laws::{growth_goes_by_the_first_mark, reports_share_the_growth};
-
-#[cfg(test)]
-mod tests;

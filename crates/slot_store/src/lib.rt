@@ -35,6 +35,3 @@ pub use sync_laws::{
     a_synced_board_is_left_as_held,
 };
 pub use written::Written;
-
-#[cfg(test)]
-mod tests;

@@ -92,7 +92,7 @@ fn counted<L: Ledger>(blank: Blank, image: &[u8; 2048]) -> Option<Durable>
 }
 
 /// The durable state that an image stands for.
-fn stored(image: &[u8; 2048]) -> Option<Durable> {
+pub(crate) fn stored(image: &[u8; 2048]) -> Option<Durable> {
     counted::<Brand>(Blank::new(1), image)
 }
 

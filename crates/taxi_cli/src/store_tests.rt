@@ -43,7 +43,7 @@ const STORE: &[(usize, u8)] = &[
 ];
 
 /// What layout 1 has more, and layout 2 with a share of position 1, and a store that breaks its sums.
-const FIRST_LAYOUT: &[(usize, u8)] = &[(511, 1), (1535, 1)];
+pub(crate) const FIRST_LAYOUT: &[(usize, u8)] = &[(511, 1), (1535, 1)];
 
 pub(crate) const SECOND_LAYOUT: &[(usize, u8)] = &[
     (196, 1),

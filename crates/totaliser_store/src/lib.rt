@@ -30,6 +30,3 @@ pub use state_laws::changes_add_up;
 pub use sum_laws::entries_add_up;
 pub use totals::{Share, Totals};
 pub use trip::Trip;
-
-#[cfg(test)]
-mod tests;

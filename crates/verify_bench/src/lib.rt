@@ -3,8 +3,6 @@
 #![tactic(auto)]
 
 mod events;
-#[cfg(test)]
-mod expect_tests;
 mod expected;
 mod expecting;
 mod generated;
@@ -24,8 +22,6 @@ mod reporting;
 mod row;
 mod speeds;
 mod supply;
-#[cfg(test)]
-mod tests;
 mod ticking;
 mod trip;
 mod writing;

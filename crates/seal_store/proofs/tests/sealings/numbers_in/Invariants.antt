@@ -1,4 +1,0 @@
-use Rattle.seal_store.proofs.tests.sealings.numbers_in.Given as goal
-
-abbrev pub ghosts-numbers_of : goal.ghosts-numbers_of
-ghosts-numbers_of a = record { name = a.blank.name; parts = a.blank.parts }

@@ -1,4 +1,0 @@
-use Rattle.totaliser_store.proofs.tests.commits.found_in.Given as goal
-
-abbrev pub ghosts-found : goal.ghosts-found
-ghosts-found a = record { name = a.blank.name; parts = a.blank.parts }
