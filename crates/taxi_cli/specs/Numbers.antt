@@ -31,9 +31,10 @@ lines_of_numbers rate initial minimum = record { rate = rate; initial = initial;
 -- tables are made of lists of cuts, of vectors of weights, fees, amounts, lines of cells and supplements, of a rounding
 -- and of six numbers
 abbrev pub tables_of_numbers : (cuts : CutLists) → (weights : Vec Weights) → (initials : Vec Fee) → (minimums : Vec ℕ)
-    → (cells : Vec CellLines) → (supplements : Vec (Option Supplement)) → (constant measure step : ℕ) → (rounding : Rounding)
-    → (decimals positions zones : ℕ) → tables.Inside
-tables_of_numbers cuts weights initials minimums cells supplements constant measure step rounding decimals positions zones =
+    → (cells : Vec CellLines) → (supplements : Vec (Option Supplement)) → (constant measure step : ℕ)
+    → (rounding : Rounding) → (decimals positions zones : ℕ) → tables.Inside
+tables_of_numbers cuts weights initials minimums cells supplements constant measure step rounding decimals positions
+    zones =
     record {
       cuts = cuts;
       weights = weights;

@@ -1,7 +1,7 @@
 //! Events and acts as the tables of drives name them. A constant can't call a function, so macros write the acts. The
 //! trips are those of tariff A, which has a rate of 0.20 for 117.4 m and 0.20 for 25.2 s, rounded ahead, and an initial
-//! hire fee of 3.80 that covers 0.40, under a constant of 10,000. The charges of 117 intervals of 20 pulses and one of 8
-//! are the cover exactly, and so is the time of 504 intervals.
+//! hire fee of 3.80 that covers 0.40, under a constant of 10,000. The charges of 117 intervals of 20 pulses and one of
+//! 8 are the cover exactly, and so is the time of 504 intervals.
 use meter_states::Act;
 use taxi_units::{Event, Key, Why};
 
