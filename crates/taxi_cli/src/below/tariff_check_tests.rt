@@ -1,3 +1,3 @@
 //! Tests of tariff_check: texts that are sound tariffs or have a fault, and tariffs at each limit.
-mod limit_tests;
-mod text_tests;
+mod limits;
+mod texts;

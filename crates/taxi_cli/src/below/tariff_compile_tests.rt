@@ -1,5 +1,5 @@
 //! Tests of tariff_compile: the rows of tables, look-ups in them, tables at the limits of tariffs, and what tables are
 //! made of.
-mod limit_tests;
-mod number_tests;
-mod table_tests;
+mod limits;
+mod numbers;
+mod tables;
