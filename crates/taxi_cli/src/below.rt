@@ -1,5 +1,6 @@
 //! Tests of the crates below that go through several of them: each makes what it needs by the public calls of its
-//! neighbours. Tests of one crate alone stand beside its code.
+//! neighbours. Tests of one crate alone stand beside its code, but for those of tariff_syntax, whose proof is long: a
+//! crate without tests is proved once less.
 
 mod data_port_tests;
 mod meter_run_tests;
