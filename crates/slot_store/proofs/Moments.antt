@@ -1,8 +1,8 @@
 -- What calls leave at each moment.
 use Rattle.std.proofs.Common.{◌≡◌, ℕ, ◌+◌, ◌≤◌, List, inl, inr, ⊎_elim, ◌∙◌, refl, subst, arith}
 use Rattle.outside.specs.declared.board.Board.{Ghosts}
-use Rattle.outside.specs.Disk.{SameBut, MayLeave}
-use Rattle.outside.specs.Runs.{LeavesOnly}
+use Rattle.outside.specs.Disk.{Elapses, IsWithin, SameBut, MayLeave}
+use Rattle.outside.specs.Runs.{LeavesNow, LeavesOnly}
 use Rattle.outside.proofs.Laws.{leaves_none, leaves_then, leaves_wider}
 use Rattle.slot_store.specs.Writes.{OrWithin, LeavesThroughout, WritesIn}
 
@@ -12,6 +12,66 @@ in_whole in_flight part count start size old new low high same = record {
   size = same.size;
   rest = λ place none. same.rest place (⊎_elim (λ flying. none (inl flying)) (λ within. none (inr (record { low = omega (arith, within.low); high = omega (arith, within.high) }))));
 }
+
+module _ {D L : Type 0} (B : Ghosts D L) (start count : ℕ) where
+  -- a write of a part lies in it
+  pub write_beside : (old new : D) → SameBut (IsWithin start count) (B.image old) (B.image new)
+      → ((place : ℕ) → B.in_flight new place → OrWithin (B.in_flight old) start count place) → B.printed new ≡ B.printed old → WritesIn B start count old new
+  write_beside old new image flight text = record {
+    rest = record { size = image.size; rest = λ place none. image.rest place (λ within. none (inr within)) };
+    flight = flight;
+    text = text;
+  }
+
+  -- a sync lies in any part
+  pub sync_beside : (old new : D) → SameBut (B.in_flight old) (B.image old) (B.image new)
+      → ((place : ℕ) → B.in_flight new place → B.in_flight old place) → B.printed new ≡ B.printed old → WritesIn B start count old new
+  sync_beside old new image flight text = record {
+    rest = record { size = image.size; rest = λ place none. image.rest place (λ flies. none (inl flies)) };
+    flight = λ place flies. inl (flight place flies);
+    text = text;
+  }
+
+  -- no call writes nothing
+  pub writes_none : (board : D) → WritesIn B start count board board
+  writes_none board = record { rest = record { size = refl; rest = λ place none. refl }; flight = λ place flies. inl flies; text = refl }
+
+  -- writes of the same part
+  pub writes_at : (part size : ℕ) (old new : D) → part ≡ start → size ≡ count → WritesIn B part size old new → WritesIn B start count old new
+  writes_at part size old new place long writes = subst (λ (p : ℕ). WritesIn B p count old new) place (subst (λ (n : ℕ). WritesIn B part n old new) long writes)
+
+  -- what a board may leave behind writes, seen from their start
+  left_beside : (old new : D) → WritesIn B start count old new → (left text : List ℕ) → MayLeave (B.image new) (B.in_flight new) (B.printed new) left text
+      → MayLeave (B.image old) (OrWithin (B.in_flight old) start count) (B.printed old) left text
+  left_beside old new writes left text now = record {
+    bytes = record { size = now.bytes.size ∙ writes.rest.size; rest = λ place none. now.bytes.rest place (λ flies. none (writes.flight place flies)) ∙ writes.rest.rest place none };
+    small = now.small;
+    text = now.text ∙ writes.text;
+  }
+
+  -- a call that writes in a part
+  pub call_leaves : (old new : D) → LeavesNow B old → WritesIn B start count old new
+      → Elapses (B.moment old) (B.moment new) (B.left_since old) (B.left_since new) (MayLeave (B.image new) (B.in_flight new) (B.printed new))
+      → LeavesOnly B old new (MayLeave (B.image old) (OrWithin (B.in_flight old) start count) (B.printed old))
+  call_leaves old new only_now writes time = record {
+    later = time.later;
+    each = λ left text was. ⊎_elim
+        (λ before. let now = only_now left text before in record { bytes = record { size = now.bytes.size; rest = λ place none. now.bytes.rest place (λ flies. none (inl flies)) }; small = now.small; text = now.text })
+        (left_beside old new writes left text) (time.nothing_else (B.moment old) left text (omega arith) was);
+    before = λ start left text le was. ⊎_elim (λ before. inl before) (λ now. inr (left_beside old new writes left text now)) (time.nothing_else start left text le was);
+  }
+
+  -- and one more call
+  pub next_call_leaves : (old between new : D) → WritesIn B start count old new
+      → Elapses (B.moment between) (B.moment new) (B.left_since between) (B.left_since new) (MayLeave (B.image new) (B.in_flight new) (B.printed new))
+      → LeavesOnly B old between (MayLeave (B.image old) (OrWithin (B.in_flight old) start count) (B.printed old))
+      → LeavesOnly B old new (MayLeave (B.image old) (OrWithin (B.in_flight old) start count) (B.printed old))
+  next_call_leaves old between new writes time first = record {
+    later = omega (arith, first.later, time.later);
+    each = λ left text was. ⊎_elim (first.each left text) (left_beside old new writes left text) (time.nothing_else (B.moment old) left text first.later was);
+    before = λ start left text le was. ⊎_elim (first.before start left text le) (λ now. inr (left_beside old new writes left text now))
+        (time.nothing_else start left text (omega (arith, le, first.later)) was);
+  }
 
 module _ {D L : Type 0} (B : Ghosts D L) where
   -- a stage that writes a part of a slot
