@@ -14,12 +14,18 @@ mod Fares
 mod HeldFits
 -- each stage of an event keeps the trip of the store
 mod KeptTrips
+-- what a key does in its row, as a stage of an event
+mod KeyStages
 -- the laws that the crates above may cite
 pub mod Laws
 -- a charge more
 mod Meterages
 -- how stages that follow one another join, and a powered core that follows an outcome meets it
 mod Outcomes
+-- what a powered core has in its operating position, and cores in wider ranges
+mod Powered
+-- acts with one act more
+mod Pushes
 -- intervals at which nothing is done
 mod Quiet
 -- what a refusal leaves, and when a key acts
@@ -34,6 +40,8 @@ mod Runs
 mod Settings
 -- each stage of an event commits what its acts say, and puts a receipt directly behind its entry
 mod Stages
+-- what a drop of the supply and its coming do in each case
+mod SupplyStages
 -- the supplements of tables are those of the tariff
 mod TableSupplements
 -- what the core keeps of a trip is its saved form

@@ -1,0 +1,153 @@
+-- What a key does in its row of operating position and key, as a stage of an event.
+use Rattle.std.proofs.Common.{◌≡◌, ℕ, ◌+◌, ◌≤◌, List, [], ◌∷◌, ◌++◌, length, refl, ap, sym, subst, ◌∙◌, inl, inr, arith}
+use Rattle.seal_store.specs.declared.seal.Seal.{Seal}
+use Rattle.tariff_compile.specs.Tables.{TableParts}
+use Rattle.taxi_units.specs.declared.event.Key.{Key}
+use Rattle.taxi_units.specs.declared.event.Key.TheVariants as keys
+use Rattle.taxi_units.specs.declared.event.Operating.{Operating}
+use Rattle.taxi_units.specs.declared.event.Operating.TheVariants.{Off, ForHire, Hired, Stopped}
+use Rattle.taxi_units.specs.declared.event.Why.TheVariants.{NotNow}
+use Rattle.meter_states.specs.Core.{Plain, Follows, plain_of}
+use Rattle.meter_states.specs.Keys.{key_in}
+use Rattle.meter_states.specs.Lawful.{HasTrip, IsAmidEvent, pressing_steps}
+use Rattle.meter_states.specs.Meter.{Meter, Outcome, quiet, refused}
+use Rattle.meter_states.specs.Setting.{Setting}
+use Rattle.meter_states.specs.Stages.{ClosesTrip, CommitsNothing, IsReadyForKey, MayClose}
+use Rattle.meter_states.specs.declared.act.Act.{Act}
+use Rattle.meter_states.specs.declared.act.Act.TheVariants.{Refuse}
+use Rattle.meter_states.proofs.Outcomes.{quiet-follows}
+use Rattle.meter_states.proofs.Powered.{between-amid}
+use Rattle.meter_states.proofs.Pushes.{few-more, few-none, lawful-more}
+
+-- a key acts as its row says
+key-row : (s : Setting) (m : Meter) (old : Plain) (key k : Key) (on : Operating) → key ≡ k → old.operating ≡ on → old ≡ plain_of s m → key_in s key m.operating m ≡ key_in s k on m
+key-row s m old key k on is at e =
+    ap (λ (x : Key). key_in s x m.operating m) is ∙ ap (λ (o : Operating). key_in s k o m) (sym (ap (λ (p : Plain). p.operating) e) ∙ at)
+
+follows-row : (s : Setting) (m : Meter) (old new : Plain) (before acts : List Act) (key k : Key) (on : Operating) → key ≡ k → old.operating ≡ on → old ≡ plain_of s m
+    → Follows s new before acts (key_in s k on m) → Follows s new before acts (key_in s key m.operating m)
+follows-row s m old new before acts key k on is at e row = subst (λ (o : Outcome). Follows s new before acts o) (sym (key-row s m old key k on is at e)) row
+
+-- a row that commits nothing
+pub commits-row : {p : TableParts} {seal : Seal} {inside old new : Plain} {before acts : List Act} {key : Key} (k : Key) (on : Operating) → inside ≡ old → key ≡ k → inside.operating ≡ on
+    → CommitsNothing p seal old new before acts (λ s m. key_in s k on m) → MayClose p seal 2 old new before acts (λ s m. key_in s key m.operating m)
+commits-row {p} {seal} {inside} {old} {new} {before} {acts} {key} k on view is at row =
+    let here : old.operating ≡ on = sym (ap (λ (c : Plain). c.operating) view) ∙ at in
+    record {
+      lawful = row.lawful;
+      few = omega (arith, row.few);
+      roam = inl (row.few, row.number);
+      ranges = row.ranges;
+      follows = λ s m setting e. follows-row s m old new before acts key k on is here e (row.follows s m setting e);
+    }
+
+-- a row that closes the trip
+pub closes-row : {p : TableParts} {seal : Seal} {inside old new : Plain} {before acts : List Act} {key : Key} (k : Key) (on : Operating) → inside ≡ old → key ≡ k → inside.operating ≡ on
+    → ClosesTrip p seal 2 old new before acts (λ s m. key_in s k on m) → MayClose p seal 2 old new before acts (λ s m. key_in s key m.operating m)
+closes-row {p} {seal} {inside} {old} {new} {before} {acts} {key} k on view is at row =
+    let here : old.operating ≡ on = sym (ap (λ (c : Plain). c.operating) view) ∙ at in
+    record {
+      lawful = between-amid row.lawful;
+      few = row.few;
+      roam = inr row.roam;
+      ranges = row.ranges;
+      follows = λ s m setting e. follows-row s m old new before acts key k on is here e (row.follows s m setting e);
+    }
+
+-- a row that moves a trip to another operating position
+pub moves-row : {p : TableParts} {seal : Seal} {inside old : Plain} {acts : List Act} {key : Key} (k : Key) (on to : Operating) → inside ≡ old → key ≡ k → inside.operating ≡ on → IsReadyForKey p old acts
+    → (HasTrip on inside.trip → HasTrip to inside.trip) → ((s : Setting) (m : Meter) → key_in s k on m ≡ quiet (record m { operating = to }))
+    → MayClose p seal 2 old (record inside { operating = to }) acts acts (λ s m. key_in s key m.operating m)
+moves-row {p} {seal} {inside} {old} {acts} {key} k on to view is at ready has row =
+    let here : old.operating ≡ on = sym (ap (λ (c : Plain). c.operating) view) ∙ at in
+    let amid : IsAmidEvent p inside = subst (IsAmidEvent p) (sym view) ready.lawful in
+    let none = few-none 0 acts ready.room in
+    record {
+      lawful = record {
+        on = has (subst (λ (o : Operating). HasTrip o inside.trip) at amid.on);
+        position = amid.position;
+        zone = amid.zone;
+        clock = amid.clock;
+        began = amid.began;
+        gate = amid.gate;
+        roam = amid.roam;
+        none = amid.none;
+        ended = amid.ended;
+        number = amid.number;
+        held = amid.held;
+        begun = amid.begun;
+        trip = amid.trip;
+      };
+      few = omega (arith, none);
+      roam = inl (omega (arith, none), ap (λ (c : Plain). c.number) view);
+      ranges = λ before. before;
+      follows = λ s m setting e. follows-row s m old (record inside { operating = to }) acts acts key k on is here e
+          (subst (λ (o : Outcome). Follows s (record inside { operating = to }) acts acts o) (sym (row s m))
+          (quiet-follows s (record inside { operating = to }) acts (record m { operating = to }) (ap (λ (c : Plain). record c { operating = to }) (view ∙ e))));
+    }
+
+-- the steps of a row
+pub steps-row : {inside old : Plain} (n k : ℕ) (on : Operating) → inside ≡ old → inside.operating ≡ on → n ≤ k + pressing_steps on → n ≤ k + pressing_steps old.operating
+steps-row {inside} {old} n k on view at few = subst (λ (o : Operating). n ≤ k + pressing_steps o) (sym at ∙ ap (λ (c : Plain). c.operating) view) few
+
+pub steps-none : (k : ℕ) (on : Operating) → k ≤ k + pressing_steps on
+steps-none k on = omega arith
+
+some-steps : (on : Operating) → 1 ≤ pressing_steps on
+some-steps Off = omega arith
+some-steps ForHire = omega arith
+some-steps Hired = omega arith
+some-steps Stopped = omega arith
+
+pub steps-one : (n k : ℕ) (on : Operating) → n ≤ k + 1 → n ≤ k + pressing_steps on
+steps-one n k on one = omega (arith, some-steps on)
+
+-- a key that has no row in the operating position is refused
+pub refuses-row : {p : TableParts} {seal : Seal} {inside old : Plain} {before acts : List Act} {key : Key} (k : Key) → inside ≡ old → key ≡ k → IsReadyForKey p old before → acts ≡ before ++ Refuse NotNow ∷ []
+    → ((s : Setting) (m : Meter) → key_in s k inside.operating m ≡ refused NotNow m) → MayClose p seal 2 old old before acts (λ s m. key_in s key m.operating m)
+refuses-row {p} {seal} {inside} {old} {before} {acts} {key} k view is ready done none =
+    let one : length acts ≤ 1 = rw ready.room at (few-more before acts (Refuse NotNow) done) in
+    record {
+      lawful = ready.lawful;
+      few = omega (arith, one);
+      roam = inl (one, refl);
+      ranges = lawful-more p old.number before acts (Refuse NotNow) done tt;
+      follows = λ s m setting e. follows-row s m old old before acts key k inside.operating is (sym (ap (λ (c : Plain). c.operating) view)) e
+          (subst (λ (o : Outcome). Follows s old before acts o) (sym (none s m)) (record { state = e; done = done }));
+    }
+
+pub no-hire : (on : Operating) → (on ≡ ForHire → ⊥) → (on ≡ Stopped → ⊥) → (s : Setting) (m : Meter) → key_in s keys.Hire on m ≡ refused NotNow m
+no-hire Off hire stopped s m = refl
+no-hire ForHire hire stopped s m = absurd (hire refl)
+no-hire Hired hire stopped s m = refl
+no-hire Stopped hire stopped s m = absurd (stopped refl)
+
+pub no-stop : (on : Operating) → (on ≡ Hired → ⊥) → (s : Setting) (m : Meter) → key_in s keys.Stop on m ≡ refused NotNow m
+no-stop Off hired s m = refl
+no-stop ForHire hired s m = refl
+no-stop Hired hired s m = absurd (hired refl)
+no-stop Stopped hired s m = refl
+
+pub no-clear : (on : Operating) → (on ≡ Stopped → ⊥) → (s : Setting) (m : Meter) → key_in s keys.Clear on m ≡ refused NotNow m
+no-clear Off stopped s m = refl
+no-clear ForHire stopped s m = refl
+no-clear Hired stopped s m = refl
+no-clear Stopped stopped s m = absurd (stopped refl)
+
+pub no-position : (n : ℕ) (on : Operating) → (on ≡ ForHire → ⊥) → (on ≡ Hired → ⊥) → (s : Setting) (m : Meter) → key_in s (keys.Position n) on m ≡ refused NotNow m
+no-position n Off hire hired s m = refl
+no-position n ForHire hire hired s m = absurd (hire refl)
+no-position n Hired hire hired s m = absurd (hired refl)
+no-position n Stopped hire hired s m = refl
+
+pub no-zone : (n : ℕ) (on : Operating) → (on ≡ ForHire → ⊥) → (on ≡ Hired → ⊥) → (s : Setting) (m : Meter) → key_in s (keys.Zone n) on m ≡ refused NotNow m
+no-zone n Off hire hired s m = refl
+no-zone n ForHire hire hired s m = absurd (hire refl)
+no-zone n Hired hire hired s m = absurd (hired refl)
+no-zone n Stopped hire hired s m = refl
+
+pub no-extra : (n : ℕ) (on : Operating) → (on ≡ Hired → ⊥) → (on ≡ Stopped → ⊥) → (s : Setting) (m : Meter) → key_in s (keys.Extra n) on m ≡ refused NotNow m
+no-extra n Off hired stopped s m = refl
+no-extra n ForHire hired stopped s m = refl
+no-extra n Hired hired stopped s m = absurd (hired refl)
+no-extra n Stopped hired stopped s m = absurd (stopped refl)

@@ -1,0 +1,44 @@
+use Rattle.std.proofs.Common.{ℕ, ◌+◌, ◌≤◌, [], ◌∷◌, ◌++◌, ap, sym, subst, ◌∙◌}
+use Rattle.totaliser_store.specs.Ranges.{last_number}
+use Rattle.totaliser_store.specs.declared.entry.Entry as store
+use Rattle.meter_states.specs.Closing.{entry_of}
+use Rattle.meter_states.specs.Core.{Plain}
+use Rattle.meter_states.specs.Lawful.{IsTripBeside}
+use Rattle.meter_states.specs.declared.act.Act.TheVariants.{Enter}
+use Rattle.meter_states.proofs.Pushes.{closing-room, few-more, lawful-more}
+use Rattle.meter_states.proofs.meter_state.State.enter_trip.Goals as goal
+
+pub entry-requires-clause-range : goal.entry-requires-clause-range
+entry-requires-clause-range c = subst (λ (p : Plain). IsTripBeside c.args.tables.now (p.number + 1) 8640000 c.args.trip.now) (sym c.self.view_is) c.requires.range
+
+pub entry-requires-clause-position : goal.entry-requires-clause-position
+entry-requires-clause-position c = subst (λ (p : Plain). (1 ≤ p.position) × (p.position ≤ 9)) (sym c.self.view_is) c.requires.position
+
+pub entry-requires-clause-number : goal.entry-requires-clause-number
+entry-requires-clause-number c = subst (λ (p : Plain). p.number ≤ 2000000000000000) (sym c.self.view_is) c.requires.number
+
+pub entry-requires-clause-kind : goal.entry-requires-clause-kind
+entry-requires-clause-kind c = c.requires.kind
+
+pub returns-clause-number : goal.returns-clause-number
+returns-clause-number c = ap (λ (p : Plain). record p { number = p.number + 1 }) c.self.view_is
+
+pub returns-clause-few : goal.returns-clause-few
+returns-clause-few c = few-more c.args.acts.now.items c.push.new.self.items (Enter c.entry.result) c.push.ensures.items
+
+pub returns-clause-ranges : goal.returns-clause-ranges
+returns-clause-ranges c =
+    lawful-more c.args.tables.now c.args.self.now.number c.args.acts.now.items c.push.new.self.items (Enter c.entry.result) c.push.ensures.items
+    (record {
+      room = c.requires.number;
+      range = c.entry.ensures.range;
+      roaming = closing-room (c.args.self.now.number + 1 ≤ last_number) c.entry.result c.args.kind c.entry.ensures.kind c.requires.kind;
+    })
+
+pub returns-clause-follows : goal.returns-clause-follows
+returns-clause-follows c = λ s m t is saved e. record {
+  state = ap (λ (p : Plain). record p { number = p.number + 1 }) (c.self.view_is ∙ e);
+  done = c.push.ensures.items
+      ∙ ap (λ (x : store.Entry). c.args.acts.now.items ++ Enter x ∷ [])
+      (c.entry.ensures.value s t is.tariff saved ∙ ap (λ (p : Plain). entry_of s c.args.kind p.position t) (c.self.view_is ∙ e));
+}
