@@ -209,3 +209,129 @@ returns-in-Bench-clause-runs g c = λ e. let is = c.in-Bench.is in absurd cc
 
 pub returns-in-Bench-clause-looks : goal.returns-in-Bench-clause-looks
 returns-in-Bench-clause-looks g c = λ looks told. c.bench.ensures.looks told
+
+pub returns-in-Check-clause-counts : goal.returns-in-Check-clause-counts
+returns-in-Check-clause-counts g c = c.check_tariff.ensures.counts
+
+pub returns-in-Tables-clause-counts : goal.returns-in-Tables-clause-counts
+returns-in-Tables-clause-counts g c = c.print_tables.ensures.counts
+
+pub returns-in-Fare-clause-counts : goal.returns-in-Fare-clause-counts
+returns-in-Fare-clause-counts g c = c.fare.ensures.counts
+
+pub returns-in-Totals-clause-counts : goal.returns-in-Totals-clause-counts
+returns-in-Totals-clause-counts g c = λ other. omega arith
+
+pub returns-in-Seal-clause-counts : goal.returns-in-Seal-clause-counts
+returns-in-Seal-clause-counts g c = c.seal_store.ensures.counts
+
+pub returns-in-Run-clause-counts : goal.returns-in-Run-clause-counts
+returns-in-Run-clause-counts g c = c.run.ensures.counts
+
+pub returns-in-Bench-clause-counts : goal.returns-in-Bench-clause-counts
+returns-in-Bench-clause-counts g c = c.bench.ensures.counts
+
+pub returns-in-Gen-clause-counts : goal.returns-in-Gen-clause-counts
+returns-in-Gen-clause-counts g c = λ other. omega arith
+
+pub returns-in-Port-clause-counts : goal.returns-in-Port-clause-counts
+returns-in-Port-clause-counts g c = c.serve_requests.ensures.counts
+
+pub returns-in-Offsets-clause-counts : goal.returns-in-Offsets-clause-counts
+returns-in-Offsets-clause-counts g c = c.print_offsets.ensures.counts
+
+pub returns-in-Mark-clause-counts : goal.returns-in-Mark-clause-counts
+returns-in-Mark-clause-counts g c = λ other. omega arith
+
+pub returns-in-Shifts-clause-counts : goal.returns-in-Shifts-clause-counts
+returns-in-Shifts-clause-counts g c = c.print_shifts.ensures.counts
+
+pub returns-in-Tables-clause-count : goal.returns-in-Tables-clause-count
+returns-in-Tables-clause-count g c = c.print_tables.ensures.count
+
+pub returns-in-Tables-clause-board_fault : goal.returns-in-Tables-clause-board_fault
+returns-in-Tables-clause-board_fault g c = c.print_tables.ensures.board_fault
+
+pub returns-in-Fare-clause-count : goal.returns-in-Fare-clause-count
+returns-in-Fare-clause-count g c = c.fare.ensures.count
+
+pub returns-in-Fare-clause-board_fault : goal.returns-in-Fare-clause-board_fault
+returns-in-Fare-clause-board_fault g c = c.fare.ensures.board_fault
+
+pub returns-in-Seal-clause-count : goal.returns-in-Seal-clause-count
+returns-in-Seal-clause-count g c = c.seal_store.ensures.count
+
+pub returns-in-Seal-clause-board_fault : goal.returns-in-Seal-clause-board_fault
+returns-in-Seal-clause-board_fault g c = c.seal_store.ensures.board_fault
+
+pub returns-in-Run-clause-count : goal.returns-in-Run-clause-count
+returns-in-Run-clause-count g c = c.run.ensures.count
+
+pub returns-in-Run-clause-board_fault : goal.returns-in-Run-clause-board_fault
+returns-in-Run-clause-board_fault g c = c.run.ensures.board_fault
+
+pub returns-in-Bench-clause-count : goal.returns-in-Bench-clause-count
+returns-in-Bench-clause-count g c = c.bench.ensures.count
+
+pub returns-in-Bench-clause-board_fault : goal.returns-in-Bench-clause-board_fault
+returns-in-Bench-clause-board_fault g c = c.bench.ensures.board_fault
+
+pub returns-in-Gen-clause-count : goal.returns-in-Gen-clause-count
+returns-in-Gen-clause-count g c = c.generate.ensures.count
+
+pub returns-in-Gen-clause-board_fault : goal.returns-in-Gen-clause-board_fault
+returns-in-Gen-clause-board_fault g c = c.generate.ensures.board_fault
+
+pub returns-in-Offsets-clause-count : goal.returns-in-Offsets-clause-count
+returns-in-Offsets-clause-count g c = c.print_offsets.ensures.count
+
+pub returns-in-Offsets-clause-board_fault : goal.returns-in-Offsets-clause-board_fault
+returns-in-Offsets-clause-board_fault g c = c.print_offsets.ensures.board_fault
+
+pub returns-in-Check-clause-count : goal.returns-in-Check-clause-count
+returns-in-Check-clause-count g c = omega arith
+
+pub returns-in-Fare-clause-read_fault : goal.returns-in-Fare-clause-read_fault
+returns-in-Fare-clause-read_fault g c = rw c.in-Fare.is c.fare.ensures.read_fault
+
+pub returns-in-Seal-clause-read_fault : goal.returns-in-Seal-clause-read_fault
+returns-in-Seal-clause-read_fault g c = rw c.in-Seal.is c.seal_store.ensures.read_fault
+
+pub returns-in-Run-clause-read_fault : goal.returns-in-Run-clause-read_fault
+returns-in-Run-clause-read_fault g c = rw c.in-Run.is c.run.ensures.read_fault
+
+pub returns-in-Bench-clause-read_fault : goal.returns-in-Bench-clause-read_fault
+returns-in-Bench-clause-read_fault g c = rw c.in-Bench.is c.bench.ensures.read_fault
+
+pub returns-in-Port-clause-read_fault : goal.returns-in-Port-clause-read_fault
+returns-in-Port-clause-read_fault g c = rw c.in-Port.is c.serve_requests.ensures.read_fault
+
+pub returns-in-Tables-clause-ends : goal.returns-in-Tables-clause-ends
+returns-in-Tables-clause-ends g c = rw c.in-Tables.is c.print_tables.ensures.ends
+
+pub returns-in-Fare-clause-ends : goal.returns-in-Fare-clause-ends
+returns-in-Fare-clause-ends g c = rw c.in-Fare.is c.fare.ensures.ends
+
+pub returns-in-Offsets-clause-ends : goal.returns-in-Offsets-clause-ends
+returns-in-Offsets-clause-ends g c = rw c.in-Offsets.is c.print_offsets.ensures.ends
+
+pub returns-in-Tables-clause-kept : goal.returns-in-Tables-clause-kept
+returns-in-Tables-clause-kept g c = λ shut. c.print_tables.ensures.store
+
+pub returns-in-Fare-clause-kept : goal.returns-in-Fare-clause-kept
+returns-in-Fare-clause-kept g c = λ shut. c.fare.ensures.store
+
+pub returns-in-Gen-clause-kept : goal.returns-in-Gen-clause-kept
+returns-in-Gen-clause-kept g c = λ shut. c.generate.ensures.store
+
+pub returns-in-Offsets-clause-kept : goal.returns-in-Offsets-clause-kept
+returns-in-Offsets-clause-kept g c = λ shut. c.print_offsets.ensures.store
+
+pub returns-in-Seal-clause-seals : goal.returns-in-Seal-clause-seals
+returns-in-Seal-clause-seals g c = λ e. c.seal_store.ensures.seals
+
+pub returns-in-Seal-clause-rests : goal.returns-in-Seal-clause-rests
+returns-in-Seal-clause-rests g c = λ e. c.seal_store.ensures.rests
+
+pub returns-in-Run-clause-runs : goal.returns-in-Run-clause-runs
+returns-in-Run-clause-runs g c = λ e. c.run.ensures.runs
