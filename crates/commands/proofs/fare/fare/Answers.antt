@@ -67,3 +67,33 @@ pub returns-clause-read_fault : goal.returns-clause-read_fault
 returns-clause-read_fault g c = λ e.
     let failed = c.dry_run-ran.ensures.read_fault (read_fault-ran c.dry_run-ran.result (sym c.ended_of.ensures ∙ e)) in
     record { word = 2; reads = inr refl; rose = omega (arith, failed, c.read_tariff.ensures.counts 2) }
+
+pub returns-in-Err-clause-count : goal.returns-in-Err-clause-count
+returns-in-Err-clause-count g c = omega arith
+
+pub returns-in_default-clause-count : goal.returns-in_default-clause-count
+returns-in_default-clause-count g c = omega arith
+
+pub returns-in-Err-clause-counts : goal.returns-in-Err-clause-counts
+returns-in-Err-clause-counts g c = c.read_tariff.ensures.counts
+
+pub returns-in_default-clause-counts : goal.returns-in_default-clause-counts
+returns-in_default-clause-counts g c = c.read_tariff.ensures.counts
+
+pub returns-in-Err-clause-others : goal.returns-in-Err-clause-others
+returns-in-Err-clause-others g c = λ other first second. c.read_tariff.ensures.others other first
+
+pub returns-in_default-clause-others : goal.returns-in_default-clause-others
+returns-in_default-clause-others g c = λ other first second. c.read_tariff.ensures.others other first
+
+pub returns-clause-count : goal.returns-clause-count
+returns-clause-count g c = c.dry_run-ran.ensures.count
+
+pub returns-clause-counts : goal.returns-clause-counts
+returns-clause-counts g c = λ other. omega (arith, c.read_tariff.ensures.counts other, c.dry_run-ran.ensures.counts other)
+
+pub returns-clause-others : goal.returns-clause-others
+returns-clause-others g c = λ other first second. c.dry_run-ran.ensures.others other second ∙ c.read_tariff.ensures.others other first
+
+pub returns-clause-store : goal.returns-clause-store
+returns-clause-store g c = c.dry_run-ran.ensures.store
