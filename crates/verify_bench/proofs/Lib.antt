@@ -8,6 +8,8 @@ mod Benches
 mod Capped
 -- events that the bench carries out, one behind the other
 mod Carried
+-- how large the charge of an interval is, and which of its parts it is
+mod ChargeRange
 -- the cross-over lines of a list of lines of a tariff, line by line
 mod CrossOverLines
 -- the rows of a text by the relation of csv are those by its function
