@@ -23,11 +23,10 @@ use Rattle.meter_states.specs.Equals.{IsStill, charged, display_by, intervals_of
 use Rattle.meter_states.specs.Interval.{context_of, context_on, counted_in, pulses_so_far, roaming_with, ticks_so_far}
 use Rattle.meter_states.specs.Meter.{Meter}
 use Rattle.meter_states.specs.Run.{run}
-use Rattle.meter_states.specs.Setting.{Setting, IsSettingOf, IsTariffOf, local_at, modulus_of, step_of}
+use Rattle.meter_states.specs.Setting.{Setting, IsSettingOf, IsTariffOf, local_at, modulus_of}
 use Rattle.meter_states.specs.Trip.{Trip, InHired, InStopped, charges_of, opening_of, saved_of, with_part}
 use Rattle.taxi_units.specs.Time.{longest_trip}
 use Rattle.meter_states.proofs.Charges.{charge-at}
-use Rattle.meter_states.proofs.Settings.{step-is, unit-is}
 use Rattle.meter_states.proofs.Meterages.{added-less, sum-added}
 use Rattle.meter_states.proofs.Quiet.{interval-follows, intervals-follow, ticks_by}
 use Rattle.meter_states.proofs.Trips.{hired-saved}
@@ -235,10 +234,6 @@ hired-equal s tables p q k m c t is some most e hired has still roam short rest 
     (start ∙ e)
 
 -- ---- the charge of each
-
--- what a display step takes, by the tables
-pub modulus-is : (s : Setting) (p : TableParts) → IsTariffOf s p → p.step * p.measure ≡ modulus_of s
-modulus-is s p is = ap (λ (n : ℕ). n * p.measure) (step-is s p is) ∙ ap (λ (n : ℕ). step_of s * n) (unit-is s p is)
 
 -- the weights of a context give its charge
 pub charge-by-weights : (s : Setting) (tables : TableParts) (seal : Seal) (y : Context) (p : ℕ) (w : Weights) → IsSettingOf s tables seal → w ≡ rate_by s.tariff tables.constant y → charge_of seal.params.mode w p ≡ charge_at s y p

@@ -93,11 +93,14 @@ steps-row {inside} {old} n k on view at few = subst (λ (o : Operating). n ≤ k
 pub steps-none : (k : ℕ) (on : Operating) → k ≤ k + pressing_steps on
 steps-none k on = omega arith
 
-some-steps : (on : Operating) → 1 ≤ pressing_steps on
+some-steps : (on : Operating) → 12 ≤ pressing_steps on
 some-steps Off = omega arith
 some-steps ForHire = omega arith
 some-steps Hired = omega arith
 some-steps Stopped = omega arith
+
+pub steps-twelve : (n k : ℕ) (on : Operating) → n ≤ k + 12 → n ≤ k + pressing_steps on
+steps-twelve n k on few = omega (arith, some-steps on)
 
 pub steps-one : (n k : ℕ) (on : Operating) → n ≤ k + 1 → n ≤ k + pressing_steps on
 steps-one n k on one = omega (arith, some-steps on)

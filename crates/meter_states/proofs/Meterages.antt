@@ -1,9 +1,10 @@
 -- A charge more.
-use Rattle.std.proofs.Common.{◌≡◌, ℕ, ◌+◌, ◌-◌, ◌/◌, ◌%◌, ◌<◌, [], ◌∷◌, sum, ap, sym, ◌∙◌, arith}
+use Rattle.std.proofs.Common.{◌≡◌, ℕ, ◌+◌, ◌-◌, ◌*◌, ◌^◌, ◌/◌, ◌%◌, ◌<◌, ◌≤◌, [], ◌∷◌, sum, ap, sym, ◌∙◌, arith}
 use Rattle.std.proofs.lemmas.Grind.{common_steps}
 use Rattle.drive_modes.specs.Fare as fares
-use Rattle.drive_modes.specs.Fare.{added, saved}
+use Rattle.drive_modes.specs.Fare.{added, saved, steps_of}
 use Rattle.drive_modes.specs.declared.meterage.Meterage.{Meterage}
+use Rattle.drive_modes.specs.declared.meterage.Rounding.{Rounding}
 use Rattle.drive_modes.proofs.Laws.{saved-sum}
 
 small-div : (x y : ℕ) → x < y → x / y ≡ 0
@@ -31,3 +32,10 @@ sum-added o charged q some =
     ∙ ap (λ (m : Meterage). added o.modulus m q) (sym first)
     ∙ both
     ∙ ap (saved o) two
+
+-- the display steps that a trip in range has filled
+pub steps-few : {ticks full : ℕ} → ticks ≤ 8640000 → full ≤ 41000000000 * ticks → full ≤ 4 * 10 ^ 17
+steps-few few steps = omega (arith, few, steps)
+
+pub steps-below : (n : ℕ) (r : Rounding) (m : Meterage) → n ≡ steps_of r m → m.steps_full ≤ 4 * 10 ^ 17 → n < 10 ^ 18
+steps-below n r m is few = grind (arith, common_steps)

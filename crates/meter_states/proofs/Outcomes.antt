@@ -1,20 +1,23 @@
 -- How stages that follow one another join, and a powered core that follows an outcome meets it.
 use Rattle.std.proofs.Common.{◌≡◌, ◌≢◌, ℕ, List, [], refl, ap, sym, append-nil, ◌∙◌, ◌⊎◌, inl, inr, subst, Option, Some, None, option_map, append_assoc}
 use Rattle.tariff_compile.specs.Tables.{TableParts}
+use Rattle.taxi_units.specs.declared.event.Event.{Event}
+use Rattle.taxi_units.specs.declared.event.Event.TheVariants.{Down}
 use Rattle.taxi_units.specs.declared.event.Operating.{Operating}
 use Rattle.taxi_units.specs.declared.event.Operating.TheVariants.{Off}
 use Rattle.totaliser_store.specs.declared.trip.Trip.{Trip}
 use Rattle.totaliser_store.specs.declared.trip.Trip as store
 use Rattle.meter_states.specs.Core.{Plain, Follows, Meets, plain_of, forgotten}
-use Rattle.meter_states.specs.Lawful.{IsPowered, HasTrip}
+use Rattle.meter_states.specs.Lawful.{IsBetweenEvents, IsPowered, HasTrip}
 use Rattle.meter_states.specs.Meter.{Meter, Outcome, ◌>>=◌, quiet}
 use Rattle.meter_states.specs.Setting.{Setting}
-use Rattle.meter_states.specs.Supply.{running}
+use Rattle.meter_states.specs.Step.{powered_step}
+use Rattle.meter_states.specs.Supply.{running, supply_dropped}
 use Rattle.meter_states.specs.Trip as model
 use Rattle.meter_states.specs.Trip.{saved_of}
 use Rattle.meter_states.specs.declared.act.Act.{Act}
 
-not_off : (operating : Operating) (trip : Option Trip) → HasTrip operating trip → operating ≢ Off
+pub not_off : (operating : Operating) (trip : Option Trip) → HasTrip operating trip → operating ≢ Off
 not_off operating trip has = λ is. subst (λ (o : Operating). HasTrip o trip) is has
 
 pub follows-meets : (s : Setting) (p : TableParts) (ticks most spare : ℕ) (core : Plain) (acts : List Act) (o : Outcome)
@@ -22,6 +25,19 @@ pub follows-meets : (s : Setting) (p : TableParts) (ticks most spare : ℕ) (cor
 follows-meets s p ticks most spare core acts o on f =
     let same : core.operating ≡ o.next.operating = ap (λ (c : Plain). c.operating) f.state in
     record { state = inr ((λ is. not_off core.operating core.trip on.on (same ∙ is)), f.state); done = f.done }
+
+-- an event of a powered meter, whose acts begin the list
+pub follows-event : (s : Setting) (p : TableParts) (core : Plain) (before acts : List Act) (event e : Event) (m : Meter) → event ≡ e → before ≡ [] → IsBetweenEvents p core → Follows s core before acts (powered_step s e m)
+    → Meets s core acts (powered_step s event m)
+follows-event s p core before acts event e m is none on f =
+    let first = subst (λ (l : List Act). Follows s core l acts (powered_step s e m)) none f in
+    subst (λ (x : Event). Meets s core acts (powered_step s x m)) (sym is) (follows-meets s p 8639999 999999 0 core acts (powered_step s e m) on first)
+
+-- a drop of the supply turns the meter off
+pub dropped-meets : (s : Setting) (core : Plain) (acts : List Act) (event : Event) (m : Meter) → event ≡ Down → core.operating ≡ Off → acts ≡ (supply_dropped s m).acts → Meets s core acts (powered_step s event m)
+dropped-meets s core acts event m is off done =
+    let here : Meets s core acts (powered_step s Down m) = record { state = inl (off, refl); done = done } in
+    subst (λ (x : Event). Meets s core acts (powered_step s x m)) (sym is) here
 
 -- one after the other
 pub follows-then : (s : Setting) (first second : Plain) (before between acts : List Act) (o : Outcome) (f : Meter → Outcome)

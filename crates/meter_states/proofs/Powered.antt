@@ -17,24 +17,6 @@ none-hires Stopped trip has e = absurd (has e)
 pub some-trip : {trip : Option Trip} (t : Trip) → trip ≡ Some t → trip ≢ None
 some-trip t is none = cc
 
--- what is between two events is amid one
-pub between-amid : {p : TableParts} {core : Plain} → IsBetweenEvents p core → IsAmidEvent p core
-between-amid on = record {
-  on = on.on;
-  position = on.position;
-  zone = on.zone;
-  clock = on.clock;
-  began = on.began;
-  gate = on.gate;
-  roam = omega (arith, on.roam);
-  none = on.none;
-  ended = on.ended;
-  number = on.number;
-  held = on.held;
-  begun = on.begun;
-  trip = on.trip;
-}
-
 -- a trip may have more ticks
 trip-longer : (p : TableParts) (number : ℕ) (trip : Option Trip) → IsTripInRange p number 8639999 trip → IsTripInRange p number 8640000 trip
 trip-longer p number None range = tt
@@ -71,3 +53,25 @@ powered-longer {p} {most} {spare} {core} on = record {
   begun = on.begun;
   trip = trip-longer p _ core.trip on.trip;
 }
+
+-- a core with few roaming pulses may have more
+pub powered-wider : {p : TableParts} {ticks spare : ℕ} {core : Plain} → IsPowered p ticks 999999 spare core → IsPowered p ticks 1001999 spare core
+powered-wider on = record {
+  on = on.on;
+  position = on.position;
+  zone = on.zone;
+  clock = on.clock;
+  began = on.began;
+  gate = on.gate;
+  roam = omega (arith, on.roam);
+  none = on.none;
+  ended = on.ended;
+  number = on.number;
+  held = on.held;
+  begun = on.begun;
+  trip = on.trip;
+}
+
+-- what is between two events is amid one
+pub between-amid : {p : TableParts} {core : Plain} → IsBetweenEvents p core → IsAmidEvent p core
+between-amid on = powered-wider on

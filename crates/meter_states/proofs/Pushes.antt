@@ -1,5 +1,5 @@
 -- Acts with one act more: how many they are, and that they stay lawful.
-use Rattle.std.proofs.Common.{◌≡◌, ℕ, ◌+◌, ◌<◌, ◌≤◌, Bool, false, List, [], ◌∷◌, ◌++◌, length, length-append, arith}
+use Rattle.std.proofs.Common.{◌≡◌, ℕ, ◌+◌, ◌<◌, ◌≤◌, false, List, [], ◌∷◌, ◌++◌, length, length-append, arith}
 use Rattle.std.proofs.lemmas.List.Elements.{All-push}
 use Rattle.tariff_compile.specs.Tables.{TableParts}
 use Rattle.taxi_units.specs.declared.receipt.Kind.{Kind}
@@ -15,6 +15,9 @@ few-more before acts act e = rw e (rw length-append (omega arith))
 
 pub few-none : (n : ℕ) (acts : List Act) → acts ≡ [] → length acts ≤ n
 few-none n acts e = rw e (omega arith)
+
+pub few-longer : (acts : List Act) → length acts ≤ 2 → length acts ≤ 3
+few-longer acts few = omega arith
 
 pub room-none : (acts : List Act) → acts ≡ [] → length acts < 4
 room-none acts e = rw e (omega arith)

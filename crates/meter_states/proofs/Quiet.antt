@@ -30,7 +30,7 @@ use Rattle.meter_states.specs.declared.act.Act.TheVariants.{Show}
 use Rattle.meter_states.proofs.Fares.{above-more}
 use Rattle.meter_states.proofs.Outcomes.{follows-then}
 use Rattle.meter_states.proofs.Runs.{run-append}
-use Rattle.meter_states.proofs.Settings.{step-is}
+use Rattle.meter_states.proofs.Settings.{rounding-is, step-is}
 
 -- as many intervals as the cores that they lead through
 pub intervals-follow : (s : Setting) (p k : ℕ) (f : ℕ → Plain) (m : Meter) → ((i : ℕ) (n : Meter) → i < k → f i ≡ plain_of s n → Follows s (f (suc i)) [] [] (run s (interval_of p) n))
@@ -115,9 +115,6 @@ interval-quiet s (suc p) m n on most none is latch short few same =
     ∙ ap (λ (o : Outcome). o >>= run s []) (step-on s m.operating events.Tick more on ∙ tick-quiet s more n (is ∙ counted-more s m.operating (suc p) m on none) latch short few same)
 
 -- ---- at a core
-
-rounding-is : (s : Setting) (p : TableParts) → IsTariffOf s p → p.rounding ≡ rounding_of s
-rounding-is s p is = ap (λ (q : TableParts). q.rounding) is.compiled.parts
 
 -- the display steps of a meterage that was saved
 steps-saved : (r : Rounding) (o : fares.Opening) (charged : ℕ) → 0 < o.modulus → steps_of r (saved o charged) ≡ steps_above r o charged

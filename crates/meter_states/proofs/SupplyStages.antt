@@ -6,7 +6,7 @@ use Rattle.taxi_units.specs.Time.{IsSecond}
 use Rattle.totaliser_store.specs.Ranges.{IsHeld}
 use Rattle.totaliser_store.specs.declared.trip.Trip as store
 use Rattle.meter_states.specs.Closing.{closed, roaming_entered}
-use Rattle.meter_states.specs.Meter.{Meter, Outcome, quiet, held}
+use Rattle.meter_states.specs.Meter.{Meter, quiet, held}
 use Rattle.meter_states.specs.Setting.{Setting}
 use Rattle.meter_states.specs.Supply.{aborted, hold_taken, is_stopped, is_within_hold, kept, resumed, trip_kept}
 use Rattle.meter_states.specs.Trip.{Trip, held_trip, saved_of}

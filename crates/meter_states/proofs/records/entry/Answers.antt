@@ -1,4 +1,7 @@
-use Rattle.std.proofs.Common.{arith}
+use Rattle.std.proofs.Common.{ℕ, ap, ◌∙◌, arith}
+use Rattle.pulse_input.specs.Distance.{millimetres_of}
+use Rattle.totaliser_store.specs.declared.trip.Trip as store
+use Rattle.meter_states.proofs.SameParts.{entry-same}
 use Rattle.meter_states.proofs.records.entry.Goals as goal
 
 pub returns-clause-range : goal.returns-clause-range
@@ -10,3 +13,17 @@ returns-clause-range c =
       supplements = c.extras_are_few.ensures.sum;
       position = λ closes. c.requires.position;
     }
+
+pub extras_are_few-requires : goal.extras_are_few-requires
+extras_are_few-requires c = record { range = c.requires.range.range }
+
+pub fare-requires : goal.fare-requires
+fare-requires c = record { range = c.requires.range.range }
+
+pub returns-clause-value : goal.returns-clause-value
+returns-clause-value c = λ s t is saved.
+    entry-same c.args.kind c.args.position
+    (c.distance.ensures.value ∙ ap (λ (k : ℕ). millimetres_of k c.args.trip.now.roam) is.constant ∙ ap (λ (x : store.Trip). millimetres_of s.constant x.roam) saved)
+    (c.distance-2.ensures.value ∙ ap (λ (k : ℕ). millimetres_of k c.args.trip.now.pulses) is.constant ∙ ap (λ (x : store.Trip). millimetres_of s.constant x.pulses) saved)
+    (c.fare.ensures.value s t is saved)
+    (ap (λ (x : store.Trip). x.extras_sum) saved)

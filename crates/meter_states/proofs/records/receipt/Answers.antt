@@ -1,5 +1,10 @@
-use Rattle.std.proofs.Common.{◌≡◌, ◌+◌, ◌*◌, max, min, arith}
+use Rattle.std.proofs.Common.{◌≡◌, ℕ, ◌+◌, ◌*◌, ap, ◌∙◌, max, min, arith}
 use Rattle.std.proofs.Math.Nat.{mul_comm}
+use Rattle.pulse_input.specs.Distance.{millimetres_of}
+use Rattle.totaliser_store.specs.declared.trip.Trip as store
+use Rattle.meter_states.specs.Setting.{stamp_at}
+use Rattle.meter_states.proofs.Settings.{decimals-is, step-is}
+use Rattle.meter_states.proofs.SameParts.{receipt-same}
 use Rattle.meter_states.proofs.records.receipt.Goals as goal
 
 pub returns-clause-range : goal.returns-clause-range
@@ -26,3 +31,32 @@ returns-clause-range g c =
       supplements = c.extras_are_few.ensures.sum;
       decimals = c.decimals.ensures.most;
     }
+
+pub extras_are_few-requires : goal.extras_are_few-requires
+extras_are_few-requires g c = record { range = c.requires.range.range }
+
+pub stamp-start-requires : goal.stamp-start-requires
+stamp-start-requires g c = c.requires.range.range.started
+
+pub stamp-finish-requires : goal.stamp-finish-requires
+stamp-finish-requires g c = c.requires.finish
+
+pub display_steps-requires : goal.display_steps-requires
+display_steps-requires g c = record { range = c.requires.range.range }
+
+pub fare-requires : goal.fare-requires
+fare-requires g c = record { range = c.requires.range.range }
+
+pub returns-clause-value : goal.returns-clause-value
+returns-clause-value g c = λ s t is saved.
+    receipt-same c.args.number c.args.closing.kind c.args.position
+    (c.stamp-start.ensures.value s is.secured ∙ ap (λ (x : store.Trip). stamp_at s x.started) saved)
+    (c.stamp-finish.ensures.value s is.secured)
+    (c.distance.ensures.value ∙ ap (λ (k : ℕ). millimetres_of k c.args.trip.now.pulses) is.tariff.constant ∙ ap (λ (x : store.Trip). millimetres_of s.constant x.pulses) saved)
+    (ap (λ (x : store.Trip). x.initial) saved)
+    (ap (λ (x : store.Trip). x.minimum) saved)
+    (c.display_steps.ensures.value s t is.tariff saved)
+    (c.step.ensures.value ∙ step-is s c.args.tables.now is.tariff)
+    (c.fare.ensures.value s t is.tariff saved)
+    (ap (λ (x : store.Trip). x.extras_sum) saved)
+    (c.decimals.ensures.value ∙ decimals-is s c.args.tables.now is.tariff)

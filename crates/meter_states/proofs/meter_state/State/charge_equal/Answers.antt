@@ -8,8 +8,8 @@ use Rattle.meter_states.specs.Interval.{context_of}
 use Rattle.meter_states.specs.Meter.{Meter}
 use Rattle.meter_states.specs.Run.{run}
 use Rattle.meter_states.specs.Setting.{modulus_of}
-use Rattle.meter_states.proofs.EqualIntervals.{charge-by-weights, context-later, hired-equal, modulus-is, near-later, range-later}
-use Rattle.meter_states.proofs.Settings.{modulus-some}
+use Rattle.meter_states.proofs.EqualIntervals.{charge-by-weights, context-later, hired-equal, near-later, range-later}
+use Rattle.meter_states.proofs.Settings.{modulus-is, modulus-some}
 use Rattle.meter_states.proofs.meter_state.State.charge_equal.Goals as goal
 
 pub returns-clause-follows : goal.returns-clause-follows

@@ -1,4 +1,4 @@
-use Rattle.std.proofs.Common.{ℕ, ◌+◌, ◌≤◌, [], ◌∷◌, ◌++◌, ap, sym, subst, ◌∙◌}
+use Rattle.std.proofs.Common.{◌+◌, ◌≤◌, [], ◌∷◌, ◌++◌, ap, sym, subst, ◌∙◌}
 use Rattle.totaliser_store.specs.Ranges.{last_number}
 use Rattle.totaliser_store.specs.declared.entry.Entry as store
 use Rattle.meter_states.specs.Closing.{entry_of}

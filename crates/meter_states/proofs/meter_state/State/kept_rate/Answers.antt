@@ -1,6 +1,7 @@
 use Rattle.std.proofs.Common.{◌≡◌, ℕ, ap, sym, subst, ◌∙◌}
 use Rattle.std.proofs.lemmas.Option.{IfSome_then}
 use Rattle.tariff_compile.specs.Near.{IsNear}
+use Rattle.tariff_compile.specs.Tables.{IsInRangeFor}
 use Rattle.tariff_syntax.specs.declared.context.Context.{Context}
 use Rattle.meter_states.specs.Core.{Plain}
 use Rattle.meter_states.specs.Interval.{context_of, context_on}
@@ -12,3 +13,12 @@ returns-clause-near c = IfSome_then c.kept_rate.result c.kept_rate.ensures.near 
     let began : c.in_ok-local.local.second ≡ m.began = c.in_ok-local.ensures.second ∙ ap (λ (p : Plain). p.began) (c.self.view_is ∙ e) in
     let same : c.context_on-x.result ≡ context_of s m = c.context_on-x.ensures.value s m is e ∙ ap (λ (second : ℕ). context_on s (local_at s second) m) began in
     near s.tariff y is.tariff.compiled y_in (subst (λ (x : Context). IsNear lasting.further lasting.longer x y) (sym same) is_near))
+
+pub returns-clause-fit : goal.returns-clause-fit
+returns-clause-fit c = c.kept_rate.ensures.fit
+
+pub returns-clause-range : goal.returns-clause-range
+returns-clause-range c = IfSome_then c.kept_rate.result c.kept_rate.ensures.fit (λ lasting fit s m is e.
+    let began : c.in_ok-local.local.second ≡ m.began = c.in_ok-local.ensures.second ∙ ap (λ (p : Plain). p.began) (c.self.view_is ∙ e) in
+    let same : c.context_on-x.result ≡ context_of s m = c.context_on-x.ensures.value s m is e ∙ ap (λ (second : ℕ). context_on s (local_at s second) m) began in
+    subst (IsInRangeFor c.args.tables.now) same c.context_on-x.ensures.range)

@@ -1,4 +1,4 @@
-use Rattle.std.proofs.Common.{refl, sym, subst, ◌∙◌}
+use Rattle.std.proofs.Common.{refl}
 use Rattle.taxi_units.specs.declared.event.Key.TheVariants as keys
 use Rattle.taxi_units.specs.declared.event.Operating.TheVariants.{ForHire, Hired, Stopped}
 use Rattle.meter_states.proofs.KeyStages.{closes-row, commits-row, moves-row, no-clear, no-extra, no-hire, no-position, no-stop, no-zone, refuses-row, steps-none, steps-one, steps-row}

@@ -1,11 +1,123 @@
-use Rattle.std.proofs.Common.{List, subst}
-use Rattle.meter_states.specs.Core.{Follows}
-use Rattle.meter_states.specs.Step.{ticked}
-use Rattle.meter_states.specs.declared.act.Act.{Act}
-use Rattle.meter_states.proofs.Outcomes.{follows-meets}
+use Rattle.std.proofs.Common.{inl, inr}
+use Rattle.taxi_units.specs.declared.event.Event.TheVariants as events
+use Rattle.taxi_units.specs.declared.event.Why.TheVariants.{Powered}
+use Rattle.meter_states.specs.declared.act.Act.TheVariants.{Refuse}
+use Rattle.meter_states.proofs.Outcomes.{dropped-meets, follows-event}
+use Rattle.meter_states.proofs.Pushes.{lawful-more, room-none}
 use Rattle.meter_states.proofs.meter_state.State.take_event.Goals as goal
+
+pub refuse-requires : goal.refuse-requires
+refuse-requires g c = room-none c.args.acts.now.items c.requires.room
+
+pub drop_supply-requires-clause-lawful : goal.drop_supply-requires-clause-lawful
+drop_supply-requires-clause-lawful g c = c.requires.lawful
+
+pub drop_supply-requires-clause-room : goal.drop_supply-requires-clause-room
+drop_supply-requires-clause-room g c = c.requires.room
+
+pub take_pulses-requires-clause-lawful : goal.take_pulses-requires-clause-lawful
+take_pulses-requires-clause-lawful g c = c.requires.lawful
+
+pub take_pulses-requires-clause-room : goal.take_pulses-requires-clause-room
+take_pulses-requires-clause-room g c = c.requires.room
+
+pub tick-requires-clause-lawful : goal.tick-requires-clause-lawful
+tick-requires-clause-lawful g c = c.requires.lawful
+
+pub tick-requires-clause-facts : goal.tick-requires-clause-facts
+tick-requires-clause-facts g c = c.requires.facts
+
+pub tick-requires-clause-room : goal.tick-requires-clause-room
+tick-requires-clause-room g c = c.requires.room
+
+pub read_clock-requires-clause-lawful : goal.read_clock-requires-clause-lawful
+read_clock-requires-clause-lawful g c = c.requires.lawful
+
+pub read_clock-requires-clause-room : goal.read_clock-requires-clause-room
+read_clock-requires-clause-room g c = c.requires.room
+
+pub take_key-requires-clause-lawful : goal.take_key-requires-clause-lawful
+take_key-requires-clause-lawful g c = c.requires.lawful
+
+pub take_key-requires-clause-room : goal.take_key-requires-clause-room
+take_key-requires-clause-room g c = c.requires.room
+
+pub returns-in-Pulses-clause-lawful : goal.returns-in-Pulses-clause-lawful
+returns-in-Pulses-clause-lawful g c = inr c.take_pulses.ensures.lawful
+
+pub returns-in-Pulses-clause-facts : goal.returns-in-Pulses-clause-facts
+returns-in-Pulses-clause-facts g c = c.requires.facts
+
+pub returns-in-Pulses-clause-ranges : goal.returns-in-Pulses-clause-ranges
+returns-in-Pulses-clause-ranges g c = c.take_pulses.ensures.ranges
+
+pub returns-in-Pulses-clause-meets : goal.returns-in-Pulses-clause-meets
+returns-in-Pulses-clause-meets g c = λ s m is e.
+    follows-event s c.args.tables.now c.take_pulses.new.self c.args.acts.now.items c.take_pulses.new.acts.items c.args.event (events.Pulses c.in-Pulses.n) m c.in-Pulses.is c.requires.room c.take_pulses.ensures.lawful (c.take_pulses.ensures.follows s m e)
+
+pub returns-in-Clock-clause-lawful : goal.returns-in-Clock-clause-lawful
+returns-in-Clock-clause-lawful g c = inr c.read_clock.ensures.lawful
+
+pub returns-in-Clock-clause-facts : goal.returns-in-Clock-clause-facts
+returns-in-Clock-clause-facts g c = c.requires.facts
+
+pub returns-in-Clock-clause-ranges : goal.returns-in-Clock-clause-ranges
+returns-in-Clock-clause-ranges g c = c.read_clock.ensures.ranges
+
+pub returns-in-Clock-clause-meets : goal.returns-in-Clock-clause-meets
+returns-in-Clock-clause-meets g c = λ s m is e.
+    follows-event s c.args.tables.now c.read_clock.new.self c.args.acts.now.items c.read_clock.new.acts.items c.args.event (events.Clock c.in-Clock.second) m c.in-Clock.is c.requires.room c.read_clock.ensures.lawful (c.read_clock.ensures.follows s m e)
+
+pub returns-in-Key-clause-lawful : goal.returns-in-Key-clause-lawful
+returns-in-Key-clause-lawful g c = inr c.take_key.ensures.lawful
+
+pub returns-in-Key-clause-facts : goal.returns-in-Key-clause-facts
+returns-in-Key-clause-facts g c = c.requires.facts
+
+pub returns-in-Key-clause-ranges : goal.returns-in-Key-clause-ranges
+returns-in-Key-clause-ranges g c = c.take_key.ensures.ranges
+
+pub returns-in-Key-clause-meets : goal.returns-in-Key-clause-meets
+returns-in-Key-clause-meets g c = λ s m is e.
+    follows-event s c.args.tables.now c.take_key.new.self c.args.acts.now.items c.take_key.new.acts.items c.args.event (events.Key c.in-Key.key) m c.in-Key.is c.requires.room c.take_key.ensures.lawful (c.take_key.ensures.follows s m e)
+
+pub returns-in-Tick-clause-lawful : goal.returns-in-Tick-clause-lawful
+returns-in-Tick-clause-lawful g c = inr c.tick.ensures.lawful
+
+pub returns-in-Tick-clause-facts : goal.returns-in-Tick-clause-facts
+returns-in-Tick-clause-facts g c = c.tick.ensures.facts
+
+pub returns-in-Tick-clause-ranges : goal.returns-in-Tick-clause-ranges
+returns-in-Tick-clause-ranges g c = c.tick.ensures.ranges
+
+pub returns-in-Tick-clause-steps : goal.returns-in-Tick-clause-steps
+returns-in-Tick-clause-steps g c = c.tick.ensures.steps
 
 pub returns-in-Tick-clause-meets : goal.returns-in-Tick-clause-meets
 returns-in-Tick-clause-meets g c = λ s m is e.
-    let follows = subst (λ (acts : List Act). Follows s c.tick.new.self acts c.tick.new.acts.items (ticked s m)) c.requires.room (c.tick.ensures.follows s m is e) in
-    rw c.in-Tick.is (follows-meets s c.args.tables.now 8639999 999999 0 c.tick.new.self c.tick.new.acts.items (ticked s m) c.tick.ensures.lawful follows)
+    follows-event s c.args.tables.now c.tick.new.self c.args.acts.now.items c.tick.new.acts.items c.args.event events.Tick m c.in-Tick.is c.requires.room c.tick.ensures.lawful (c.tick.ensures.follows s m is e)
+
+pub returns-in-Down-clause-lawful : goal.returns-in-Down-clause-lawful
+returns-in-Down-clause-lawful g c = inl c.drop_supply.ensures.off
+
+pub returns-in-Down-clause-facts : goal.returns-in-Down-clause-facts
+returns-in-Down-clause-facts g c = c.requires.facts
+
+pub returns-in-Down-clause-ranges : goal.returns-in-Down-clause-ranges
+returns-in-Down-clause-ranges g c = c.drop_supply.ensures.ranges
+
+pub returns-in-Down-clause-meets : goal.returns-in-Down-clause-meets
+returns-in-Down-clause-meets g c = λ s m is e. dropped-meets s c.drop_supply.new.self c.drop_supply.new.acts.items c.args.event m c.in-Down.is c.drop_supply.ensures.off (c.drop_supply.ensures.done s m is e)
+
+pub returns-in-Up-clause-lawful : goal.returns-in-Up-clause-lawful
+returns-in-Up-clause-lawful g c = inr c.requires.lawful
+
+pub returns-in-Up-clause-facts : goal.returns-in-Up-clause-facts
+returns-in-Up-clause-facts g c = c.requires.facts
+
+pub returns-in-Up-clause-ranges : goal.returns-in-Up-clause-ranges
+returns-in-Up-clause-ranges g c = lawful-more c.args.tables.now c.args.self.now.number c.args.acts.now.items c.refuse.new.acts.items (Refuse Powered) c.refuse.ensures tt
+
+pub returns-in-Up-clause-meets : goal.returns-in-Up-clause-meets
+returns-in-Up-clause-meets g c = λ s m is e.
+    follows-event s c.args.tables.now c.args.self.now c.args.acts.now.items c.refuse.new.acts.items c.args.event (events.Up c.in-Up.field-0) m c.in-Up.is c.requires.room c.requires.lawful (record { state = e; done = c.refuse.ensures })

@@ -1,0 +1,56 @@
+use Rattle.std.proofs.Common.{Bool, if◌then◌else◌, ap, sym, subst, inr, ◌∙◌}
+use Rattle.meter_states.specs.Core.{Follows}
+use Rattle.meter_states.specs.Keys.{key_pressed}
+use Rattle.meter_states.specs.Meter.{Outcome}
+use Rattle.meter_states.specs.Step.{expired}
+use Rattle.meter_states.proofs.KeyStages.{steps-twelve}
+use Rattle.meter_states.proofs.Powered.{between-amid}
+use Rattle.meter_states.proofs.Pushes.{few-longer}
+use Rattle.meter_states.proofs.meter_state.State.expire_or_press.Goals as goal
+
+pub is_long-requires : goal.is_long-requires
+is_long-requires g c = record { lawful = c.requires.lawful }
+
+pub expire-requires-clause-lawful : goal.expire-requires-clause-lawful
+expire-requires-clause-lawful g c = c.requires.lawful
+
+pub expire-requires-clause-trip : goal.expire-requires-clause-trip
+expire-requires-clause-trip g c = c.is_long.ensures.long c.if-is_long.true
+
+pub expire-requires-clause-room : goal.expire-requires-clause-room
+expire-requires-clause-room g c = c.requires.room
+
+pub press-requires : goal.press-requires
+press-requires g c = record { ready = record { lawful = c.is_long.ensures.short c.if-is_long.false; room = c.requires.room } }
+
+pub returns-then-is_long-clause-stage : goal.returns-then-is_long-clause-stage
+returns-then-is_long-clause-stage g c =
+    let stage = c.expire.ensures.stage in
+    record {
+      lawful = between-amid stage.lawful;
+      few = stage.few;
+      roam = inr stage.roam;
+      ranges = stage.ranges;
+      follows = λ s m is e.
+          let long = sym (c.is_long.ensures.state s m e) ∙ c.if-is_long.true in
+          subst (λ (o : Outcome). Follows s c.expire.new.self c.args.acts.now.items c.expire.new.acts.items o) (ap (λ (b : Bool). if b then expired s m else key_pressed s m) (sym long)) (stage.follows s m is e);
+    }
+
+pub returns-then-is_long-clause-steps : goal.returns-then-is_long-clause-steps
+returns-then-is_long-clause-steps g c = steps-twelve c.expire.new.steps c.args.steps.now c.args.self.now.operating c.expire.ensures.steps
+
+pub returns-else-is_long-clause-stage : goal.returns-else-is_long-clause-stage
+returns-else-is_long-clause-stage g c =
+    let stage = c.press.ensures.stage in
+    record {
+      lawful = stage.lawful;
+      few = few-longer c.press.new.acts.items stage.few;
+      roam = stage.roam;
+      ranges = stage.ranges;
+      follows = λ s m is e.
+          let short = sym (c.is_long.ensures.state s m e) ∙ c.if-is_long.false in
+          subst (λ (o : Outcome). Follows s c.press.new.self c.args.acts.now.items c.press.new.acts.items o) (ap (λ (b : Bool). if b then expired s m else key_pressed s m) (sym short)) (stage.follows s m is e);
+    }
+
+pub returns-else-is_long-clause-steps : goal.returns-else-is_long-clause-steps
+returns-else-is_long-clause-steps g c = c.press.ensures.steps
