@@ -1,11 +1,9 @@
 -- What scans found is what a sealing asks for.
-use Rattle.std.proofs.Common.{◌≡◌, ℕ, ◌≤◌, List, Option, Some, subst, sym}
-use Rattle.std.specs.Option.{ForSome}
+use Rattle.std.proofs.Common.{◌≡◌, ℕ, List, Option, subst, sym}
 use Rattle.outside.specs.declared.board.Board.{Ghosts}
 use Rattle.slot_store.specs.declared.found.Found.{Found}
 use Rattle.slot_store.specs.declared.found.Found.TheVariants.{Blank, Latest}
-use Rattle.slot_store.specs.declared.pair.Place.{Place}
-use Rattle.slot_store.specs.Scan.{IsAsFound, IsSound}
+use Rattle.slot_store.specs.Scan.{IsAsFound}
 use Rattle.totaliser_store.specs.declared.durable.Durable.{Durable}
 use Rattle.totaliser_store.specs.Reading as totals
 use Rattle.totaliser_store.specs.Stored as stored
@@ -17,14 +15,6 @@ fewer : {T : Type 0} (reads : List ℕ → Option T) (number_of : T → ℕ) (at
     → ((place : ℕ) → flying place → flown place) → IsAsFound reads number_of at image flown found → IsAsFound reads number_of at image flying found
 fewer reads number_of at image flown flying Blank less is = (is.0, λ place within flies. is.1 place within (less place flies))
 fewer reads number_of at image flown flying (Latest place body) less is = record { quiet = λ byte within flies. is.quiet byte within (less byte flies); is_at = is.is_at }
-
--- a sound seal was found in slot 0 or 1
-slot_of : (a b : Place × ℕ) → Some a ≡ Some b → a.0.slot ≤ 1 → b.0.slot ≤ 1
-slot_of a b same le = let e : a ≡ b = cc in subst (λ (found : Place × ℕ). found.0.slot ≤ 1) e le
-
-pub slot_is_sound : (valid : Seal → Type 0) (found : Found Seal) → IsSound valid found → ForSome (seal_found found) (λ latest. latest.0.slot ≤ 1)
-slot_is_sound valid Blank sound = λ latest is. absurd cc
-slot_is_sound valid (Latest place seal) sound = λ latest is. slot_of (place, seal.seal_number) latest is sound.0
 
 module _ {D L : Type 0} (B : Ghosts D L) where
   pub totals_are_found : (board : D) (found : Found Durable) → ScannedTotals B board found → FoundTotals B board (totals_found found)

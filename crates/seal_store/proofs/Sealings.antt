@@ -169,3 +169,14 @@ module _ {D L : Type 0} (B : Ghosts D L) where
   pub writes_both : (board between after : D) → WritesIn B 0 1024 board between → WritesIn B 1024 1024 between after → WritesIn B 0 2048 board after
   writes_both board between after first second =
       writes_on B 0 2048 board between after (writes_in_part B 0 2048 0 1024 board between (omega arith) (omega arith) first) (writes_in_part B 0 2048 1024 1024 between after (omega arith) (omega arith) second)
+
+  pub writes_first : (board after : D) → WritesIn B 0 1024 board after → WritesIn B 0 2048 board after
+  writes_first board after writes = writes_in_part B 0 2048 0 1024 board after (omega arith) (omega arith) writes
+
+  -- a store into the pair of totals where none were found
+  pub first_beside : (pair : Pair) (old new : D) → pair ≡ first_pair → WritesIn B (spare_at pair) 512 old new → WritesIn B 0 1024 old new
+  first_beside pair old new is writes = writes_in_part B 0 1024 0 512 old new (omega arith) (omega arith) (subst (λ (p : Pair). WritesIn B (spare_at p) 512 old new) is writes)
+
+  -- and one into the pair of seals
+  pub next_beside : (pair : Pair) (found : Option (Place × ℕ)) (old new : D) → pair ≡ pair_for found → WritesIn B (spare_at pair) 512 old new → WritesIn B 1024 1024 old new
+  next_beside pair found old new is writes = writes_in_part B 1024 1024 (spare_at (pair_for found)) 512 old new (omega arith) (omega arith) (subst (λ (p : Pair). WritesIn B (spare_at p) 512 old new) is writes)
