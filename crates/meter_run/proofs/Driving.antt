@@ -1,5 +1,5 @@
 -- A drive, from its first byte to where no more of it is read.
-use Rattle.std.proofs.Common.{◌≡◌, ℕ, ◌+◌, ◌≤◌, ◌<◌, List, [], ◌++◌, length, Option, Some, None, IfSome, refl, sym, ap, subst, ◌∙◌, append_assoc, arith, length-append, flat_map}
+use Rattle.std.proofs.Common.{◌≡◌, ℕ, ◌+◌, ◌≤◌, ◌<◌, List, [], ◌++◌, length, Option, Some, None, IfSome, Result, Ok, refl, sym, ap, subst, ◌∙◌, append_assoc, arith, length-append, flat_map}
 use Rattle.taxi_units.specs.declared.event.Event.{Event}
 use Rattle.drive_text.specs.Drive.{events_in, runs_after}
 use Rattle.drive_text.specs.Ending.{drive_limit}
@@ -114,6 +114,13 @@ stop_at (Some y) P x is h = subst P (same y x is) h
   where
     same : (a b : Stop) → Some a ≡ Some b → a ≡ b
     same a b e = cc
+
+abbrev ended_by : (E : Type 0) → Stop → Result Stop E
+ended_by E stop = Ok stop
+
+-- one answer has one stop
+pub stop_of : (E : Type 0) (a b : Stop) → ended_by E a ≡ ended_by E b → a ≡ b
+stop_of E a b same = cc
 
 -- fewer bytes are left than before
 pub smaller : (told : Type 0) (old new : Progress) (rest rest' given : List ℕ) (runs : List Run) → HasGiven old given → GivesRuns told old new rest rest' given runs → length new.ahead + new.left < length old.ahead + old.left

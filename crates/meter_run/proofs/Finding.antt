@@ -5,6 +5,7 @@ use Rattle.slot_store.specs.Slots.{IsAt}
 use Rattle.slot_store.specs.declared.found.Found.{Found}
 use Rattle.slot_store.specs.declared.found.Found.TheVariants.{Blank, Latest}
 use Rattle.slot_store.specs.declared.found.SlotFault.{SlotFault}
+use Rattle.slot_store.specs.declared.found.SlotFault.TheVariants.{BadBody, DeviceFailed, SameNumber}
 use Rattle.slot_store.specs.declared.pair.Place.{Place}
 use Rattle.slot_store.proofs.Laws.{answer_is}
 use Rattle.totaliser_store.specs.Reading.{reads}
@@ -46,4 +47,20 @@ pub no_fault : (e : SlotFault) (place : Place) (d : Durable) (image : List ℕ) 
 no_fault e place d image at exact = by (exact ∙ answered place d image at)
   where
     by : fails e ≡ latest place d → ⊥
+    by same = absurd cc
+
+-- an answer isn't the board's failure
+pub answers : (f : Found Durable) → Ok f ≡ fails DeviceFailed → ⊥
+answers f bad = absurd cc
+
+pub bad_body : (e : SlotFault) (slot : ℕ) → e ≡ BadBody slot → fails e ≡ fails DeviceFailed → ⊥
+bad_body e slot is bad = by (sym (ap fails is) ∙ bad)
+  where
+    by : fails (BadBody slot) ≡ fails DeviceFailed → ⊥
+    by same = absurd cc
+
+pub same_number : (e : SlotFault) (number : ℕ) → e ≡ SameNumber number → fails e ≡ fails DeviceFailed → ⊥
+same_number e number is bad = by (sym (ap fails is) ∙ bad)
+  where
+    by : fails (SameNumber number) ≡ fails DeviceFailed → ⊥
     by same = absurd cc

@@ -37,7 +37,5 @@ mod Sound
 mod SoundEvents
 -- how a source goes on and stops
 mod Sourcing
--- the laws of the runs of a board's calls that the functions of a dry run try
-mod StoreKept
 -- a whole run on a store: its events, and the supply drop at its end
 mod Whole

@@ -1,5 +1,5 @@
 -- Acts that are carried out, one after the other.
-use Rattle.std.proofs.Common.{◌≡◌, ℕ, zero, suc, ◌+◌, ◌≤◌, ◌<◌, List, [], ◌∷◌, ◌++◌, length, take, drop, get_or, refl, sym, ap, subst, ◌∙◌, append_assoc, add-one, arith}
+use Rattle.std.proofs.Common.{◌≡◌, ℕ, zero, suc, ◌+◌, ◌≤◌, ◌<◌, List, [], ◌∷◌, ◌++◌, length, take, drop, get_or, refl, sym, ap, subst, ◌∙◌, append_assoc, add-one, arith, Result, OnOk}
 use Rattle.std.proofs.lemmas.List.{append-nil, take-append-drop, take_all, take_more}
 use Rattle.outside.specs.Printing.{Begins}
 use Rattle.outside.proofs.Laws.{begins_after, begins_more, begins_whole}
@@ -43,3 +43,17 @@ begins_at p q r acts n x lt so_far b =
 
 pub begins_end : (p q : List ℕ) (acts : List Act) (n : ℕ) → length acts ≤ n → q ≡ p ++ shown_texts (take n acts) → Begins p q (shown_texts acts)
 begins_end p q acts n le h = begins_whole p q (shown_texts acts) (h ∙ ap (λ (xs : List Act). p ++ shown_texts xs) (take_all n acts le))
+
+-- what an act prints, where it's known which act it is
+pub whole_as : {A E : Type 0} (r : Result A E) (p q : List ℕ) (act is : Act) → act ≡ is → OnOk r (q ≡ p ++ shown_text is) → OnOk r (q ≡ p ++ shown_text act)
+whole_as r p q act is same h = subst (λ (x : Act). OnOk r (q ≡ p ++ shown_text x)) (sym same) h
+
+pub begins_as : (p q : List ℕ) (act is : Act) → act ≡ is → Begins p q (shown_text is) → Begins p q (shown_text act)
+begins_as p q act is same h = subst (λ (x : Act). Begins p q (shown_text x)) (sym same) h
+
+-- an act that has no line prints nothing
+pub silent : (p : List ℕ) (act : Act) → shown_text act ≡ [] → p ≡ p ++ shown_text act
+silent p act none = sym (append-nil p) ∙ ap (λ (t : List ℕ). p ++ t) (sym none)
+
+pub silent_begins : (p : List ℕ) (act : Act) → shown_text act ≡ [] → Begins p p (shown_text act)
+silent_begins p act none = begins_whole p p (shown_text act) (silent p act none)

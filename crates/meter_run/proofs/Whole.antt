@@ -1,7 +1,6 @@
 -- A whole run on a store: its events, and the supply drop at its end.
-use Rattle.std.proofs.Common.{◌≡◌, ◌≢◌, inl, inr, ⊎_elim, ℕ, ◌≤◌, ◌+◌, List, [], ◌∷◌, ◌++◌, length, take, drop, Option, None, Result, Ok, Err, IsOk, OnOk, OnErr, arith, refl, sym, ap, subst, ◌∙◌}
+use Rattle.std.proofs.Common.{◌≡◌, ◌≢◌, inl, inr, ⊎_elim, ℕ, ◌≤◌, ◌+◌, List, [], ◌∷◌, ◌++◌, length, take, drop, Option, None, Result, Ok, Err, IsOk, OnOk, OnErr, refl, sym, ap, subst, ◌∙◌}
 use Rattle.std.specs.Option.{ForSome}
-use Rattle.outside.specs.Faults.{Rose}
 use Rattle.outside.specs.Runs.{LeavesNow, LeavesOnly}
 use Rattle.outside.specs.declared.board.Board.{Ghosts}
 use Rattle.outside.proofs.Laws.{leaves_wider}
@@ -73,9 +72,6 @@ done_whole drive left taken stops.Whole h whole calm = refl
 done_whole drive left taken (stops.BadLine line) h whole calm = absurd (let bad : Whole ≡ BadAt line = sym whole ∙ h.end_is in cc)
 done_whole drive left taken stops.TooLong h whole calm = absurd (let bad : Whole ≡ Endless = sym whole ∙ h.end_is in cc)
 done_whole drive left taken stops.ReadFault h whole calm = absurd (calm refl)
-
-pub rose_later : (a b c : ℕ) → a ≤ b → Rose b c → Rose a c
-rose_later a b c le rose = omega (arith, le, rose)
 
 -- tables that were compiled with the seal's constant have a setting
 pub secured_of : (tables : TableParts) (seal : Seal) → IsCompiled tables → tables.constant ≡ seal.params.constant → IsSeal seal → IsSecured tables seal

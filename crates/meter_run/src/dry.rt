@@ -18,7 +18,6 @@ use taxi_units::{Event, Steps};
 use totaliser_store::{Change, Durable};
 
 /// Carries out an act: it prints displays and refusals, and commits into the durable state.
-#[tactic(auto, using(crate::proofs::StoreKept::store_kept))]
 fn perform<B: Board<L>, L: Ledger>(
     durable: &mut Durable,
     act: &Act,
@@ -49,7 +48,6 @@ fn perform<B: Board<L>, L: Ledger>(
 }
 
 /// Carries out acts, one after the other.
-#[tactic(auto, using(crate::proofs::StoreKept::store_kept))]
 fn perform_all<B: Board<L>, L: Ledger>(
     durable: &mut Durable,
     acts: &[Act],

@@ -1,12 +1,56 @@
-use Rattle.std.proofs.Common.{◌∙◌, List, flat_map, subst, arith}
+use Rattle.std.proofs.Common.{◌∙◌, All, List, Some, ap, flat_map, refl, subst, sym}
 use Rattle.taxi_units.specs.declared.event.Event.{Event}
 use Rattle.drive_text.specs.Drive.{events_in}
+use Rattle.drive_text.specs.Ranges.{IsRunInRange}
 use Rattle.drive_text.specs.Runs.{run_events}
 use Rattle.drive_text.specs.declared.run.Run.{Run}
 use Rattle.meter_run.specs.Drives.{IsBounded}
-use Rattle.meter_run.proofs.Driving.{breaks_amid, smaller, so_far_more, stop_at, takes_last}
-use Rattle.meter_run.proofs.Going.{on_err}
+use Rattle.meter_run.proofs.Driving.{breaks_amid, smaller, so_far_more, so_far_none, stop_at, stop_of, takes_last}
+use Rattle.meter_run.proofs.Going.{counts_more, no_more, not_ok, not_this, on_err, rose_later, went_well, went_wrong}
 use Rattle.meter_run.proofs.drive.carry_drive.Goals as goal
+
+pub loop-stop-init : goal.loop-stop-init
+loop-stop-init g c =
+    let t = c.args.tables.now in
+    let k = c.args.seal.now in
+    let m = c.args.meter.now in
+    let b = c.args.board.now in
+    record {
+      ready = c.requires.ready;
+      so_far = so_far_none g.F.Files.tells c.new-source.result (g.F.Files.rest c.args.files.now c.args.word) (λ (es : List Event). g.C.Carrier.carried t k m b es m b) c.args.steps.now
+          c.new-source.ensures.given c.new-source.ensures.none (g.met.C.Carrier.nothing t k m b c.requires.ready);
+      faults = no_more (g.B.Board.faults b);
+      others = λ other differs. refl;
+      counts = λ other. no_more (g.F.Files.faults c.args.files.now other);
+    }
+
+pub next-stop-requires : goal.next-stop-requires
+next-stop-requires g c = record { given = (c.loop-stop.invariant.so_far.given, c.loop-stop.invariant.so_far.stands) }
+
+pub carry_runs-requires-clause-ready : goal.carry_runs-requires-clause-ready
+carry_runs-requires-clause-ready g c = c.loop-stop.invariant.ready
+
+pub carry_runs-requires-clause-ranges : goal.carry_runs-requires-clause-ranges
+carry_runs-requires-clause-ranges g c = subst (All IsRunInRange) (sym c.as_slice.ensures.value) c.next-stop.ensures.range
+
+pub returns-in_err-carry_runs-clause-ready : goal.returns-in_err-carry_runs-clause-ready
+returns-in_err-carry_runs-clause-ready g c = not_ok _ c.from_residual.result _ c.from_residual.ensures.1
+
+pub returns-in_err-carry_runs-clause-carried : goal.returns-in_err-carry_runs-clause-carried
+returns-in_err-carry_runs-clause-carried g c = not_ok _ c.from_residual.result _ c.from_residual.ensures.1
+
+pub returns-in_err-carry_runs-clause-cause : goal.returns-in_err-carry_runs-clause-cause
+returns-in_err-carry_runs-clause-cause g c =
+    went_wrong (g.B.Board.faults c.args.board.now) (g.B.Board.faults c.loop-stop.board) (g.B.Board.faults c.carry_runs.new.board) _ c.from_residual.result c.loop-stop.invariant.faults c.in_err-carry_runs.ensures.cause
+
+pub returns-in_err-carry_runs-clause-others : goal.returns-in_err-carry_runs-clause-others
+returns-in_err-carry_runs-clause-others g c = λ other differs. c.next-stop.ensures.others other differs ∙ c.loop-stop.invariant.others other differs
+
+pub returns-in_err-carry_runs-clause-read_fault : goal.returns-in_err-carry_runs-clause-read_fault
+returns-in_err-carry_runs-clause-read_fault g c = λ ok. absurd (not_this _ c.from_residual.result _ c.from_residual.ensures.1 ok)
+
+pub returns-in_err-carry_runs-clause-counts : goal.returns-in_err-carry_runs-clause-counts
+returns-in_err-carry_runs-clause-counts g c = λ other. counts_more _ _ _ (c.loop-stop.invariant.counts other) (c.next-stop.ensures.counts other)
 
 pub returns-in_err-carry_runs-clause-broke_off : goal.returns-in_err-carry_runs-clause-broke_off
 returns-in_err-carry_runs-clause-broke_off g c =
@@ -43,8 +87,23 @@ returns-in-Some-clause-carried g c =
     (λ done. g.met.C.Carrier.behind t k (events_in s.given) (flat_map run_events runs) m b c.loop-stop.meter c.loop-stop.board c.carry_runs.new.meter c.carry_runs.new.board done next)
     (subst (λ (rs : List Run). IsBounded c.loop-stop.steps c.carry_runs.new.steps (flat_map run_events rs)) c.as_slice.ensures.value c.carry_runs.ensures.steps)
 
+pub returns-in-Some-clause-ready : goal.returns-in-Some-clause-ready
+returns-in-Some-clause-ready g c = c.in_ok-carry_runs.ensures.ready
+
+pub returns-in-Some-clause-broke_off : goal.returns-in-Some-clause-broke_off
+returns-in-Some-clause-broke_off g c = tt
+
+pub returns-in-Some-clause-read_fault : goal.returns-in-Some-clause-read_fault
+returns-in-Some-clause-read_fault g c = λ ok.
+    rose_later (g.F.Files.faults c.args.files.now c.args.word) (g.F.Files.faults c.loop-stop.files c.args.word) (g.F.Files.faults c.next-stop.new.files c.args.word)
+    (c.loop-stop.invariant.counts c.args.word) (c.next-stop.ensures.read_fault (c.in-Some.is ∙ ap Some (stop_of _ _ _ ok)))
+
+pub returns-in-Some-clause-counts : goal.returns-in-Some-clause-counts
+returns-in-Some-clause-counts g c = λ other. counts_more _ _ _ (c.loop-stop.invariant.counts other) (c.next-stop.ensures.counts other)
+
 pub returns-in-Some-clause-cause : goal.returns-in-Some-clause-cause
-returns-in-Some-clause-cause g c = record { later = omega (arith, c.loop-stop.invariant.faults, c.carry_runs.ensures.cause.later); failed = λ err. absurd cc }
+returns-in-Some-clause-cause g c =
+    went_well (g.B.Board.faults c.args.board.now) (g.B.Board.faults c.carry_runs.new.board) _ (counts_more _ _ _ c.loop-stop.invariant.faults c.carry_runs.ensures.cause.later)
 
 pub returns-in-Some-clause-others : goal.returns-in-Some-clause-others
 returns-in-Some-clause-others g c = λ other differs. c.next-stop.ensures.others other differs ∙ c.loop-stop.invariant.others other differs
@@ -71,7 +130,7 @@ loop-stop-preserved g c =
           c.args.steps.now c.loop-stop.steps c.carry_runs.new.steps runs s (c.next-stop.ensures.more c.in_default.is s.given s.stands)
           (λ done. g.met.C.Carrier.behind t k (events_in s.given) (flat_map run_events runs) m b c.loop-stop.meter c.loop-stop.board c.carry_runs.new.meter c.carry_runs.new.board done next)
           (subst (λ (rs : List Run). IsBounded c.loop-stop.steps c.carry_runs.new.steps (flat_map run_events rs)) c.as_slice.ensures.value c.carry_runs.ensures.steps);
-      faults = omega (arith, c.loop-stop.invariant.faults, c.carry_runs.ensures.cause.later);
+      faults = counts_more _ _ _ c.loop-stop.invariant.faults c.carry_runs.ensures.cause.later;
       others = λ other differs. c.next-stop.ensures.others other differs ∙ c.loop-stop.invariant.others other differs;
-      counts = λ other. omega (arith, c.loop-stop.invariant.counts other, c.next-stop.ensures.counts other);
+      counts = λ other. counts_more _ _ _ (c.loop-stop.invariant.counts other) (c.next-stop.ensures.counts other);
     }

@@ -1,5 +1,10 @@
-use Rattle.std.proofs.Common.{arith}
-use Rattle.outside.proofs.Laws.{keeps_then}
+use Rattle.std.proofs.Common.{◌++◌, List, ap, arith, refl, sym, ◌∙◌}
+use Rattle.std.proofs.lemmas.List.{append-nil, take_all}
+use Rattle.outside.proofs.Laws.{keeps_none, keeps_then}
+use Rattle.meter_states.specs.declared.act.Act.{Act}
+use Rattle.meter_run.specs.Commits.{after_acts}
+use Rattle.meter_run.specs.Texts.{shown_texts}
+use Rattle.meter_run.proofs.Going.{not_ok, went_well, went_wrong}
 use Rattle.meter_run.proofs.Performing.{are_after, are_at, after_more, begins_at, begins_end, printed_more}
 use Rattle.meter_run.proofs.dry.perform_all.Goals as goal
 
@@ -19,10 +24,49 @@ loop-act-preserved g c =
       steps = omega (arith, c.loop-act.invariant.steps, c.perform.ensures.steps);
     }
 
+pub loop-act-init : goal.loop-act-init
+loop-act-init g c = record {
+  durable = refl;
+  left = c.requires;
+  printed = λ told. sym (append-nil (g.B.Board.printed c.args.board.now));
+  faults = omega arith;
+  store = keeps_none g.B.Board c.args.board.now;
+  steps = omega arith;
+}
+
+pub returns-in_err-perform-clause-durable : goal.returns-in_err-perform-clause-durable
+returns-in_err-perform-clause-durable g c = not_ok _ c.from_residual.result _ c.from_residual.ensures.1
+
+pub returns-in_err-perform-clause-whole : goal.returns-in_err-perform-clause-whole
+returns-in_err-perform-clause-whole g c = λ told. not_ok _ c.from_residual.result _ c.from_residual.ensures.1
+
+pub returns-in_err-perform-clause-cause : goal.returns-in_err-perform-clause-cause
+returns-in_err-perform-clause-cause g c =
+    went_wrong (g.B.Board.faults c.args.board.now) (g.B.Board.faults c.loop-act.board) (g.B.Board.faults c.perform.new.board) _ c.from_residual.result c.loop-act.invariant.faults c.in_err-perform.ensures.cause
+
+pub returns-in_err-perform-clause-steps : goal.returns-in_err-perform-clause-steps
+returns-in_err-perform-clause-steps g c = omega (arith, c.loop-act-test.true, c.loop-act.invariant.steps, c.perform.ensures.steps)
+
+pub returns-in_err-perform-clause-store : goal.returns-in_err-perform-clause-store
+returns-in_err-perform-clause-store g c = keeps_then g.B.Board c.args.board.now c.loop-act.board c.perform.new.board c.loop-act.invariant.store c.perform.ensures.store
+
 pub returns-in_err-perform-clause-begun : goal.returns-in_err-perform-clause-begun
 returns-in_err-perform-clause-begun g c = λ told.
     begins_at (g.B.Board.printed c.args.board.now) (g.B.Board.printed c.loop-act.board) (g.B.Board.printed c.perform.new.board) c.args.acts.now c.loop-act.act-index _ c.loop-act-test.true
     (c.loop-act.invariant.printed told) (c.perform.ensures.begun told)
+
+pub returns-clause-durable : goal.returns-clause-durable
+returns-clause-durable g c = c.loop-act.invariant.durable ∙ ap (after_acts c.args.durable.now) (take_all c.loop-act.act-index c.args.acts.now c.loop-act-test.false)
+
+pub returns-clause-whole : goal.returns-clause-whole
+returns-clause-whole g c = λ told.
+    c.loop-act.invariant.printed told ∙ ap (λ (acts : List Act). g.B.Board.printed c.args.board.now ++ shown_texts acts) (take_all c.loop-act.act-index c.args.acts.now c.loop-act-test.false)
+
+pub returns-clause-cause : goal.returns-clause-cause
+returns-clause-cause g c = went_well (g.B.Board.faults c.args.board.now) (g.B.Board.faults c.loop-act.board) tt c.loop-act.invariant.faults
+
+pub returns-clause-store : goal.returns-clause-store
+returns-clause-store g c = c.loop-act.invariant.store
 
 pub returns-clause-begun : goal.returns-clause-begun
 returns-clause-begun g c = λ told. begins_end (g.B.Board.printed c.args.board.now) (g.B.Board.printed c.loop-act.board) c.args.acts.now c.loop-act.act-index c.loop-act-test.false (c.loop-act.invariant.printed told)

@@ -1,4 +1,4 @@
-use Rattle.std.proofs.Common.{◌≤◌, Err, ap, subst, sym, ◌∙◌}
+use Rattle.std.proofs.Common.{ℕ, ◌+◌, ◌≤◌, Err, None, ap, arith, subst, sym}
 use Rattle.std.specs.Option.{ForSome}
 use Rattle.meter_states.specs.Fits.{Fits}
 use Rattle.slot_store.specs.Scan.{IsAsFound, IsSound}
@@ -8,9 +8,16 @@ use Rattle.totaliser_store.specs.Reading.{reads}
 use Rattle.totaliser_store.specs.Stored.{KeepsState, number_of}
 use Rattle.totaliser_store.specs.declared.durable.Durable.{Durable}
 use Rattle.meter_run.specs.declared.stored.Known.{Known}
-use Rattle.meter_run.proofs.Finding.{found_is, no_fault, not_blank}
+use Rattle.meter_run.proofs.Finding.{answers, bad_body, found_is, no_fault, not_blank, same_number}
+use Rattle.meter_run.proofs.Going.{went_well}
 use Rattle.meter_run.proofs.Leaves.{beside_scan, scan_point}
 use Rattle.meter_run.proofs.reading.read_store.Goals as goal
+
+nothing_found : (P : Known → Type 0) → ForSome None P
+nothing_found P = λ x is. absurd cc
+
+few : (before now : ℕ) → now ≤ before + 3 → now ≤ before + 19
+few before now h = omega arith
 
 pub returns-in-Ok-Latest-clause-agrees : goal.returns-in-Ok-Latest-clause-agrees
 returns-in-Ok-Latest-clause-agrees g c = λ x is.
@@ -33,7 +40,7 @@ pub returns-in-Ok-Latest-clause-finds : goal.returns-in-Ok-Latest-clause-finds
 returns-in-Ok-Latest-clause-finds g c = λ told place d settled fits.
     let p = c.in-Ok-Latest.place in
     let b = c.in-Ok-Latest.body in
-    let e = found_is c.in-Ok-Latest.field-0 p b place d (g.B.Board.image c.args.board.now) c.in-Ok-Latest.field-0-is settled.is_at (c.in-Ok-Latest.ensures.exact told (λ bad. absurd cc)) in
+    let e = found_is c.in-Ok-Latest.field-0 p b place d (g.B.Board.image c.args.board.now) c.in-Ok-Latest.field-0-is settled.is_at (c.in-Ok-Latest.ensures.exact told (answers c.in-Ok-Latest.field-0)) in
     (record { durable = b; place = p }, (c.where_it_fits.ensures.finds (subst (λ (x : Durable). ForSome x.hold (Fits c.args.tables.now)) (sym e) fits), e))
 
 pub returns-in-Ok-Latest-clause-points : goal.returns-in-Ok-Latest-clause-points
@@ -43,10 +50,10 @@ pub returns-in-Ok-Latest-clause-beside : goal.returns-in-Ok-Latest-clause-beside
 returns-in-Ok-Latest-clause-beside g c = λ told. beside_scan g.B.Board c.args.board.now c.scan.new.board c.scan.ensures.image c.scan.ensures.flight c.scan.ensures.any_moment
 
 pub returns-in-Ok-Latest-clause-cause : goal.returns-in-Ok-Latest-clause-cause
-returns-in-Ok-Latest-clause-cause g c = record { later = c.scan.ensures.faults; failed = λ err. absurd cc }
+returns-in-Ok-Latest-clause-cause g c = went_well (g.B.Board.faults c.args.board.now) (g.B.Board.faults c.scan.new.board) _ c.scan.ensures.faults
 
 pub returns-in-Ok-Blank-clause-finds : goal.returns-in-Ok-Blank-clause-finds
-returns-in-Ok-Blank-clause-finds g c = λ told place d settled fits. absurd (not_blank c.in-Ok-Blank.field-0 place d (g.B.Board.image c.args.board.now) c.in-Ok-Blank.field-0-is settled.is_at (c.in-Ok-Blank.ensures.exact told (λ bad. absurd cc)))
+returns-in-Ok-Blank-clause-finds g c = λ told place d settled fits. absurd (not_blank c.in-Ok-Blank.field-0 place d (g.B.Board.image c.args.board.now) c.in-Ok-Blank.field-0-is settled.is_at (c.in-Ok-Blank.ensures.exact told (answers c.in-Ok-Blank.field-0)))
 
 pub returns-in-Ok-Blank-clause-points : goal.returns-in-Ok-Blank-clause-points
 returns-in-Ok-Blank-clause-points g c = λ told place d settled fits. scan_point g.B.Board c.args.tables.now c.args.seal.now c.args.board.now c.scan.new.board d place settled fits c.scan.ensures.image c.scan.ensures.any_moment c.scan.ensures.text
@@ -55,7 +62,7 @@ pub returns-in-Ok-Blank-clause-beside : goal.returns-in-Ok-Blank-clause-beside
 returns-in-Ok-Blank-clause-beside g c = λ told. beside_scan g.B.Board c.args.board.now c.scan.new.board c.scan.ensures.image c.scan.ensures.flight c.scan.ensures.any_moment
 
 pub returns-in-Ok-Blank-clause-cause : goal.returns-in-Ok-Blank-clause-cause
-returns-in-Ok-Blank-clause-cause g c = record { later = c.scan.ensures.faults; failed = λ err. absurd cc }
+returns-in-Ok-Blank-clause-cause g c = went_well (g.B.Board.faults c.args.board.now) (g.B.Board.faults c.scan.new.board) _ c.scan.ensures.faults
 
 pub returns-in-Err-DeviceFailed-clause-points : goal.returns-in-Err-DeviceFailed-clause-points
 returns-in-Err-DeviceFailed-clause-points g c = λ told place d settled fits. scan_point g.B.Board c.args.tables.now c.args.seal.now c.args.board.now c.scan.new.board d place settled fits c.scan.ensures.image c.scan.ensures.any_moment c.scan.ensures.text
@@ -68,7 +75,7 @@ returns-in-Err-DeviceFailed-clause-cause g c = record { later = c.scan.ensures.f
 
 pub returns-in-Err-BadBody-clause-finds : goal.returns-in-Err-BadBody-clause-finds
 returns-in-Err-BadBody-clause-finds g c = λ told place d settled fits. absurd (no_fault c.in-Err-BadBody.field-0 place d (g.B.Board.image c.args.board.now) settled.is_at
-    (c.in-Err-BadBody.ensures.exact told (λ bad. absurd (let e = sym (ap Err c.in-Err-BadBody.field-0-is) ∙ bad in cc))))
+    (c.in-Err-BadBody.ensures.exact told (bad_body c.in-Err-BadBody.field-0 _ c.in-Err-BadBody.field-0-is)))
 
 pub returns-in-Err-BadBody-clause-points : goal.returns-in-Err-BadBody-clause-points
 returns-in-Err-BadBody-clause-points g c = λ told place d settled fits. scan_point g.B.Board c.args.tables.now c.args.seal.now c.args.board.now c.scan.new.board d place settled fits c.scan.ensures.image c.scan.ensures.any_moment c.scan.ensures.text
@@ -77,11 +84,11 @@ pub returns-in-Err-BadBody-clause-beside : goal.returns-in-Err-BadBody-clause-be
 returns-in-Err-BadBody-clause-beside g c = λ told. beside_scan g.B.Board c.args.board.now c.scan.new.board c.scan.ensures.image c.scan.ensures.flight c.scan.ensures.any_moment
 
 pub returns-in-Err-BadBody-clause-cause : goal.returns-in-Err-BadBody-clause-cause
-returns-in-Err-BadBody-clause-cause g c = record { later = c.scan.ensures.faults; failed = λ err. absurd cc }
+returns-in-Err-BadBody-clause-cause g c = went_well (g.B.Board.faults c.args.board.now) (g.B.Board.faults c.scan.new.board) _ c.scan.ensures.faults
 
 pub returns-in-Err-SameNumber-clause-finds : goal.returns-in-Err-SameNumber-clause-finds
 returns-in-Err-SameNumber-clause-finds g c = λ told place d settled fits. absurd (no_fault c.in-Err-SameNumber.field-0 place d (g.B.Board.image c.args.board.now) settled.is_at
-    (c.in-Err-SameNumber.ensures.exact told (λ bad. absurd (let e = sym (ap Err c.in-Err-SameNumber.field-0-is) ∙ bad in cc))))
+    (c.in-Err-SameNumber.ensures.exact told (same_number c.in-Err-SameNumber.field-0 _ c.in-Err-SameNumber.field-0-is)))
 
 pub returns-in-Err-SameNumber-clause-points : goal.returns-in-Err-SameNumber-clause-points
 returns-in-Err-SameNumber-clause-points g c = λ told place d settled fits. scan_point g.B.Board c.args.tables.now c.args.seal.now c.args.board.now c.scan.new.board d place settled fits c.scan.ensures.image c.scan.ensures.any_moment c.scan.ensures.text
@@ -90,4 +97,61 @@ pub returns-in-Err-SameNumber-clause-beside : goal.returns-in-Err-SameNumber-cla
 returns-in-Err-SameNumber-clause-beside g c = λ told. beside_scan g.B.Board c.args.board.now c.scan.new.board c.scan.ensures.image c.scan.ensures.flight c.scan.ensures.any_moment
 
 pub returns-in-Err-SameNumber-clause-cause : goal.returns-in-Err-SameNumber-clause-cause
-returns-in-Err-SameNumber-clause-cause g c = record { later = c.scan.ensures.faults; failed = λ err. absurd cc }
+returns-in-Err-SameNumber-clause-cause g c = went_well (g.B.Board.faults c.args.board.now) (g.B.Board.faults c.scan.new.board) _ c.scan.ensures.faults
+
+pub returns-in-Ok-Latest-clause-text : goal.returns-in-Ok-Latest-clause-text
+returns-in-Ok-Latest-clause-text g c = c.scan.ensures.text
+
+pub returns-in-Ok-Latest-clause-steps : goal.returns-in-Ok-Latest-clause-steps
+returns-in-Ok-Latest-clause-steps g c = omega (arith, c.scan.ensures.steps, c.where_it_fits.ensures.steps)
+
+pub returns-in-Ok-Blank-clause-agrees : goal.returns-in-Ok-Blank-clause-agrees
+returns-in-Ok-Blank-clause-agrees g c = nothing_found _
+
+pub returns-in-Ok-Blank-clause-range : goal.returns-in-Ok-Blank-clause-range
+returns-in-Ok-Blank-clause-range g c = nothing_found _
+
+pub returns-in-Ok-Blank-clause-text : goal.returns-in-Ok-Blank-clause-text
+returns-in-Ok-Blank-clause-text g c = c.scan.ensures.text
+
+pub returns-in-Ok-Blank-clause-steps : goal.returns-in-Ok-Blank-clause-steps
+returns-in-Ok-Blank-clause-steps g c = few c.args.steps.now c.scan.new.steps c.scan.ensures.steps
+
+pub returns-in-Err-DeviceFailed-clause-agrees : goal.returns-in-Err-DeviceFailed-clause-agrees
+returns-in-Err-DeviceFailed-clause-agrees g c = tt
+
+pub returns-in-Err-DeviceFailed-clause-range : goal.returns-in-Err-DeviceFailed-clause-range
+returns-in-Err-DeviceFailed-clause-range g c = tt
+
+pub returns-in-Err-DeviceFailed-clause-finds : goal.returns-in-Err-DeviceFailed-clause-finds
+returns-in-Err-DeviceFailed-clause-finds g c = λ told place d settled fits. tt
+
+pub returns-in-Err-DeviceFailed-clause-text : goal.returns-in-Err-DeviceFailed-clause-text
+returns-in-Err-DeviceFailed-clause-text g c = c.scan.ensures.text
+
+pub returns-in-Err-DeviceFailed-clause-steps : goal.returns-in-Err-DeviceFailed-clause-steps
+returns-in-Err-DeviceFailed-clause-steps g c = few c.args.steps.now c.scan.new.steps c.scan.ensures.steps
+
+pub returns-in-Err-BadBody-clause-agrees : goal.returns-in-Err-BadBody-clause-agrees
+returns-in-Err-BadBody-clause-agrees g c = nothing_found _
+
+pub returns-in-Err-BadBody-clause-range : goal.returns-in-Err-BadBody-clause-range
+returns-in-Err-BadBody-clause-range g c = nothing_found _
+
+pub returns-in-Err-BadBody-clause-text : goal.returns-in-Err-BadBody-clause-text
+returns-in-Err-BadBody-clause-text g c = c.scan.ensures.text
+
+pub returns-in-Err-BadBody-clause-steps : goal.returns-in-Err-BadBody-clause-steps
+returns-in-Err-BadBody-clause-steps g c = few c.args.steps.now c.scan.new.steps c.scan.ensures.steps
+
+pub returns-in-Err-SameNumber-clause-agrees : goal.returns-in-Err-SameNumber-clause-agrees
+returns-in-Err-SameNumber-clause-agrees g c = nothing_found _
+
+pub returns-in-Err-SameNumber-clause-range : goal.returns-in-Err-SameNumber-clause-range
+returns-in-Err-SameNumber-clause-range g c = nothing_found _
+
+pub returns-in-Err-SameNumber-clause-text : goal.returns-in-Err-SameNumber-clause-text
+returns-in-Err-SameNumber-clause-text g c = c.scan.ensures.text
+
+pub returns-in-Err-SameNumber-clause-steps : goal.returns-in-Err-SameNumber-clause-steps
+returns-in-Err-SameNumber-clause-steps g c = few c.args.steps.now c.scan.new.steps c.scan.ensures.steps

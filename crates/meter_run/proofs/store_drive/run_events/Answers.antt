@@ -1,6 +1,7 @@
 use Rattle.std.proofs.Common.{Ok, ap, refl}
 use Rattle.meter_run.specs.StoreLaws.{beside_then}
-use Rattle.meter_run.proofs.Whole.{done_whole, ran_amid, ran_to_end, ran_whole, ready_new, rose_later, secured_of}
+use Rattle.meter_run.proofs.Going.{rose_later}
+use Rattle.meter_run.proofs.Whole.{done_whole, ran_amid, ran_to_end, ran_whole, ready_new, secured_of}
 use Rattle.meter_run.proofs.store_drive.run_events.Goals as goal
 
 pub carry_drive-requires : goal.carry_drive-requires
