@@ -1,5 +1,5 @@
 -- Equal intervals in each operating position.
-use Rattle.std.proofs.Common.{◌≡◌, ◌≢◌, ℕ, suc, ◌+◌, ◌-◌, ◌*◌, ◌^◌, ◌<◌, ◌≤◌, [], Option, Some, None, option_map, sum, refl, ap, sym, ◌∙◌, arith}
+use Rattle.std.proofs.Common.{◌≡◌, ◌≢◌, ℕ, suc, ◌+◌, ◌-◌, ◌*◌, ◌^◌, ◌<◌, ◌≤◌, [], Option, Some, None, option_map, sum, refl, ap, sym, subst, ◌∙◌, arith}
 use Rattle.std.proofs.Math.Nat.{mul-le-mul_right}
 use Rattle.std.proofs.lemmas.Grind.{common_steps}
 use Rattle.drive_modes.specs.Fare.{added, saved, shown_fare, steps_of}
@@ -19,8 +19,9 @@ use Rattle.taxi_units.specs.declared.receipt.Display.{Display}
 use Rattle.totaliser_store.specs.declared.trip.Trip as store
 use Rattle.meter_states.specs.Charge.{charge_at}
 use Rattle.meter_states.specs.Core.{Plain, Follows, plain_of}
-use Rattle.meter_states.specs.Equals.{IsStill, charged, display_by, intervals_of, passed, roams, spare_of, unfilled}
+use Rattle.meter_states.specs.Equals.{HasTaken, IsStill, charged, display_by, intervals_of, passed, roams, spare_of, unfilled}
 use Rattle.meter_states.specs.Interval.{context_of, context_on, counted_in, pulses_so_far, roaming_with, ticks_so_far}
+use Rattle.meter_states.specs.Lawful.{IsBetweenEvents, IsTripBeside}
 use Rattle.meter_states.specs.Meter.{Meter}
 use Rattle.meter_states.specs.Run.{run}
 use Rattle.meter_states.specs.Setting.{Setting, IsSettingOf, IsTariffOf, local_at, modulus_of}
@@ -273,3 +274,15 @@ range-later tables x pulses ticks x_in few short = record {
   pulses = few;
   ticks = short;
 }
+
+-- a core that takes none
+pub taken-none : {p : TableParts} {inside core : Plain} (count : ℕ) → inside ≡ core → IsBetweenEvents p core → HasTaken p count core inside 0
+taken-none {p} {inside} {core} count view on = record {
+  lawful = subst (IsBetweenEvents p) (sym view) on;
+  most = omega arith;
+  same = (ap (λ (c : Plain). c.operating) view, ap (λ (c : Plain). c.number) view);
+}
+
+-- the pulses of a trip
+pub pulses-few : {p : TableParts} {number : ℕ} {t : store.Trip} → IsTripBeside p (number + 0) 8639999 t → number ≤ 2000000000000001 → t.pulses ≤ 5000000000000000000
+pulses-few beside few = omega (arith, beside.pulses, beside.range.ticks, few)

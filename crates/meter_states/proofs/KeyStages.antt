@@ -6,13 +6,14 @@ use Rattle.taxi_units.specs.declared.event.Key.{Key}
 use Rattle.taxi_units.specs.declared.event.Key.TheVariants as keys
 use Rattle.taxi_units.specs.declared.event.Operating.{Operating}
 use Rattle.taxi_units.specs.declared.event.Operating.TheVariants.{Off, ForHire, Hired, Stopped}
+use Rattle.taxi_units.specs.declared.event.Why.{Why}
 use Rattle.taxi_units.specs.declared.event.Why.TheVariants.{NotNow}
 use Rattle.meter_states.specs.Core.{Plain, Follows, plain_of}
 use Rattle.meter_states.specs.Keys.{key_in}
 use Rattle.meter_states.specs.Lawful.{HasTrip, IsAmidEvent, pressing_steps}
 use Rattle.meter_states.specs.Meter.{Meter, Outcome, quiet, refused}
-use Rattle.meter_states.specs.Setting.{Setting}
-use Rattle.meter_states.specs.Stages.{ClosesTrip, CommitsNothing, IsReadyForKey, MayClose}
+use Rattle.meter_states.specs.Setting.{Setting, IsSettingOf}
+use Rattle.meter_states.specs.Stages.{ClosesTrip, CommitsNothing, IsReadyForKey, MayClose, Stage}
 use Rattle.meter_states.specs.declared.act.Act.{Act}
 use Rattle.meter_states.specs.declared.act.Act.TheVariants.{Refuse}
 use Rattle.meter_states.proofs.Outcomes.{quiet-follows}
@@ -154,3 +155,30 @@ no-extra n Off hired stopped s m = refl
 no-extra n ForHire hired stopped s m = refl
 no-extra n Hired hired stopped s m = absurd (hired refl)
 no-extra n Stopped hired stopped s m = absurd (stopped refl)
+
+-- a stage that refuses
+pub refuses-stage : {p : TableParts} {seal : Seal} {old : Plain} {before acts : List Act} (why : Why) (stage : Stage) → IsReadyForKey p old before → acts ≡ before ++ Refuse why ∷ [] → ((s : Setting) (m : Meter) → IsSettingOf s p seal → stage s m ≡ refused why m)
+    → CommitsNothing p seal old old before acts stage
+refuses-stage {p} {seal} {old} {before} {acts} why stage ready done is =
+    let one : length acts ≤ 1 = rw ready.room at (few-more before acts (Refuse why) done) in
+    record {
+      lawful = ready.lawful;
+      few = one;
+      number = refl;
+      ranges = lawful-more p old.number before acts (Refuse why) done tt;
+      follows = λ s m setting e. subst (λ (o : Outcome). Follows s old before acts o) (sym (is s m setting)) (record { state = e; done = done });
+    }
+
+-- a stage that is another one under the tables and the seal
+pub commits-as : {p : TableParts} {seal : Seal} {old new : Plain} {before acts : List Act} (first stage : Stage) → CommitsNothing p seal old new before acts first → ((s : Setting) (m : Meter) → IsSettingOf s p seal → stage s m ≡ first s m)
+    → CommitsNothing p seal old new before acts stage
+commits-as {p} {seal} {old} {new} {before} {acts} first stage x is = record {
+  lawful = x.lawful;
+  few = x.few;
+  number = x.number;
+  ranges = x.ranges;
+  follows = λ s m setting e. subst (λ (o : Outcome). Follows s new before acts o) (sym (is s m setting)) (x.follows s m setting e);
+}
+
+pub steps-same : (n k : ℕ) → n ≡ k + 1 → n ≤ k + 1
+steps-same n k is = omega arith

@@ -1,11 +1,13 @@
 -- What a powered core has in its operating position, and cores in wider ranges.
-use Rattle.std.proofs.Common.{◌≡◌, ◌≢◌, ℕ, Option, Some, None, refl, arith}
+use Rattle.std.proofs.Common.{◌≡◌, ◌≢◌, ◌⊎◌, ◌↔◌, ℕ, Bool, true, false, Option, Some, None, inl, inr, refl, ap, sym, subst, ◌∙◌, arith}
 use Rattle.tariff_compile.specs.Tables.{TableParts}
 use Rattle.taxi_units.specs.declared.event.Operating.{Operating}
 use Rattle.taxi_units.specs.declared.event.Operating.TheVariants.{Off, ForHire, Hired, Stopped}
 use Rattle.totaliser_store.specs.declared.trip.Trip.{Trip}
-use Rattle.meter_states.specs.Core.{Plain}
+use Rattle.meter_states.specs.Core.{Plain, Stands, plain_of}
 use Rattle.meter_states.specs.Lawful.{HasTrip, IsAmidEvent, IsBetweenEvents, IsPowered, IsTripInRange}
+use Rattle.meter_states.specs.Meter.{Meter}
+use Rattle.meter_states.specs.Setting.{Setting}
 
 -- a meter without a trip is for hire
 pub none-hires : (operating : Operating) (trip : Option Trip) → HasTrip operating trip → trip ≡ None → operating ≡ ForHire
@@ -14,8 +16,19 @@ none-hires ForHire trip has e = refl
 none-hires Hired trip has e = absurd (has e)
 none-hires Stopped trip has e = absurd (has e)
 
-pub some-trip : {trip : Option Trip} (t : Trip) → trip ≡ Some t → trip ≢ None
-some-trip t is none = cc
+pub some-there : {A : Type 0} {o : Option A} (x : A) → o ≡ Some x → o ≢ None
+some-there x is none = cc
+
+-- a core that isn't off
+pub powered-on : {p : TableParts} {inside core : Plain} (off : Bool) → inside ≡ core → (core.operating ≡ Off) ⊎ IsBetweenEvents p core → (off ≡ true) ↔ (inside.operating ≡ Off) → off ≡ false → IsBetweenEvents p inside
+powered-on off view (inl x) tied on =
+    let is : off ≡ true = tied.1 (ap (λ (c : Plain). c.operating) view ∙ x) in
+    absurd cc
+powered-on {p} off view (inr x) tied on = subst (IsBetweenEvents p) (sym view) x
+
+pub stands-on : (s : Setting) (core : Plain) (m : Meter) → Stands s core m → (core.operating ≡ Off → ⊥) → core ≡ plain_of s m
+stands-on s core m (inl x) on = absurd (on x.0)
+stands-on s core m (inr x) on = x.1
 
 -- a trip may have more ticks
 trip-longer : (p : TableParts) (number : ℕ) (trip : Option Trip) → IsTripInRange p number 8639999 trip → IsTripInRange p number 8640000 trip

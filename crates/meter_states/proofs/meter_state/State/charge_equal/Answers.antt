@@ -1,14 +1,15 @@
-use Rattle.std.proofs.Common.{◌≡◌, ℕ, ◌+◌, ◌*◌, ◌<◌, ◌≤◌, [], Some, ap, sym, subst, ◌∙◌, arith}
+use Rattle.std.proofs.Common.{◌≡◌, ℕ, ◌+◌, ◌*◌, ◌<◌, ◌≤◌, [], Some, refl, ap, sym, subst, ◌∙◌, arith}
 use Rattle.std.proofs.Math.Nat.{mul-le-mul_left, mul-le-mul_right}
 use Rattle.tariff_syntax.specs.declared.context.Context.{Context}
 use Rattle.meter_states.specs.Charge.{charge_at}
 use Rattle.meter_states.specs.Core.{Plain, Follows, plain_of}
 use Rattle.meter_states.specs.Equals.{charged, intervals_of, spare_of}
 use Rattle.meter_states.specs.Interval.{context_of}
-use Rattle.meter_states.specs.Meter.{Meter}
+use Rattle.meter_states.specs.Meter.{Meter, quiet}
 use Rattle.meter_states.specs.Run.{run}
 use Rattle.meter_states.specs.Setting.{modulus_of}
-use Rattle.meter_states.proofs.EqualIntervals.{charge-by-weights, context-later, hired-equal, near-later, range-later}
+use Rattle.meter_states.proofs.EqualIntervals.{charge-by-weights, context-later, hired-equal, near-later, pulses-few, range-later, taken-none}
+use Rattle.meter_states.proofs.Outcomes.{quiet-follows}
 use Rattle.meter_states.proofs.Settings.{modulus-is, modulus-some}
 use Rattle.meter_states.proofs.meter_state.State.charge_equal.Goals as goal
 
@@ -46,3 +47,54 @@ returns-clause-follows c = λ s m is e.
     ∙ sym (c.charge-each.ensures.charge ∙ charge-by-weights s tables c.args.seal.now y p lasting.weights is weights) in
     let all = hired-equal s tables p q n m core t is.tariff some c.requires.pulses e c.requires.hired has c.requires.still c.requires.lawful.roam short rest spare charge in
     rw c.add_charged.ensures.value (subst (λ (x : Plain). Follows s (record x { trip = Some (charged p q n t) }) [] [] (run s (intervals_of p n) m)) (sym c.self.view_is) all)
+
+pub kept_rate-requires-clause-lawful : goal.kept_rate-requires-clause-lawful
+kept_rate-requires-clause-lawful c = c.requires.lawful
+
+pub kept_rate-requires-clause-facts : goal.kept_rate-requires-clause-facts
+kept_rate-requires-clause-facts c = c.requires.facts
+
+pub returns-in_default-clause-taken : goal.returns-in_default-clause-taken
+returns-in_default-clause-taken c = taken-none c.args.count refl c.requires.lawful
+
+pub returns-in_default-clause-follows : goal.returns-in_default-clause-follows
+returns-in_default-clause-follows c = λ s m is e. quiet-follows s c.args.self.now [] m e
+
+pub returns-in_default-trip-clause-taken : goal.returns-in_default-trip-clause-taken
+returns-in_default-trip-clause-taken c = taken-none c.args.count c.self.view_is c.requires.lawful
+
+pub returns-in_default-trip-clause-follows : goal.returns-in_default-trip-clause-follows
+returns-in_default-trip-clause-follows c = λ s m is e. subst (λ (x : Plain). Follows s x [] [] (quiet m)) (sym c.self.view_is) (quiet-follows s c.args.self.now [] m e)
+
+pub charge-each-requires-clause-pulses : goal.charge-each-requires-clause-pulses
+charge-each-requires-clause-pulses c = c.requires.pulses
+
+pub overflow_sub-trip : goal.overflow_sub-trip
+overflow_sub-trip c =
+    let has = sym (ap (λ (p : Plain). p.trip) c.self.view_is) ∙ c.in-Some-trip.is in
+    let range = rw has at c.requires.lawful.trip in
+    range.range.ticks
+
+pub spare-requires : goal.spare-requires
+spare-requires c =
+    let has = sym (ap (λ (p : Plain). p.trip) c.self.view_is) ∙ c.in-Some-trip.is in
+    let range = rw has at c.requires.lawful.trip in
+    record { range = range.range }
+
+pub add_charged-requires-clause-pulses : goal.add_charged-requires-clause-pulses
+add_charged-requires-clause-pulses c = c.requires.pulses
+
+pub add_charged-requires-clause-few : goal.add_charged-requires-clause-few
+add_charged-requires-clause-few c =
+    let has = sym (ap (λ (p : Plain). p.trip) c.self.view_is) ∙ c.in-Some-trip.is in
+    let range = rw has at c.requires.lawful.trip in
+    pulses-few range c.requires.lawful.number.1
+
+pub add_charged-requires-clause-range : goal.add_charged-requires-clause-range
+add_charged-requires-clause-range c =
+    let has = sym (ap (λ (p : Plain). p.trip) c.self.view_is) ∙ c.in-Some-trip.is in
+    let range = rw has at c.requires.lawful.trip in
+    range.range
+
+pub add_charged-requires-clause-spare : goal.add_charged-requires-clause-spare
+add_charged-requires-clause-spare c = rw c.spare.ensures.value at c.most_times-n.ensures.room

@@ -5,7 +5,7 @@ use Rattle.meter_states.specs.Closing.{closed}
 use Rattle.meter_states.specs.Core.{Follows, Plain}
 use Rattle.meter_states.specs.Meter.{Outcome}
 use Rattle.meter_states.proofs.Outcomes.{quiet-follows, trip-saved}
-use Rattle.meter_states.proofs.Powered.{none-hires, powered-longer, some-trip}
+use Rattle.meter_states.proofs.Powered.{none-hires, powered-longer, some-there}
 use Rattle.meter_states.proofs.Pushes.{few-none}
 use Rattle.meter_states.proofs.SupplyStages.{aborted-closes, kept-closed, kept-held, kept-quiet, kept-roams}
 use Rattle.meter_states.proofs.meter_state.State.keep.Goals as goal
@@ -38,7 +38,7 @@ pub close-requires-clause-lawful : goal.close-requires-clause-lawful
 close-requires-clause-lawful g c = powered-longer c.requires.lawful
 
 pub close-requires-clause-trip : goal.close-requires-clause-trip
-close-requires-clause-trip g c = some-trip c.in-Some.trip (sym (ap (λ (p : Plain). p.trip) c.self.view_is) ∙ c.in-Some.is)
+close-requires-clause-trip g c = some-there c.in-Some.trip (sym (ap (λ (p : Plain). p.trip) c.self.view_is) ∙ c.in-Some.is)
 
 pub close-requires-clause-kind : goal.close-requires-clause-kind
 close-requires-clause-kind g c = aborted-closes

@@ -1,0 +1,43 @@
+use Rattle.std.proofs.Common.{◌≤◌, Option, sym, subst, ap, ◌∙◌}
+use Rattle.tariff_compile.specs.Tables.{supplement_at}
+use Rattle.tariff_compile.specs.declared.parts.Supplement.{Supplement}
+use Rattle.taxi_units.specs.declared.event.Why.TheVariants.{NoSuch}
+use Rattle.meter_states.specs.Keys.{extra_added, extra_added_to}
+use Rattle.meter_states.specs.Meter.{Meter}
+use Rattle.meter_states.specs.Setting.{Setting}
+use Rattle.meter_states.specs.Supplements.{amount_in}
+use Rattle.meter_states.proofs.KeyStages.{commits-as, refuses-stage, steps-same}
+use Rattle.meter_states.proofs.Powered.{some-there}
+use Rattle.meter_states.proofs.Pushes.{room-none}
+use Rattle.meter_states.proofs.meter_state.State.add_extra.Goals as goal
+
+pub refuse-requires : goal.refuse-requires
+refuse-requires g c = room-none c.args.acts.now.items c.requires.ready.room
+
+pub returns-in_default-clause-stage : goal.returns-in_default-clause-stage
+returns-in_default-clause-stage g c =
+    refuses-stage NoSuch (λ (s : Setting) (m : Meter). extra_added c.args.n (supplement_at s.tariff c.args.n) m) c.requires.ready c.refuse.ensures
+    (λ s m is. ap (λ (o : Option Supplement). extra_added c.args.n o m) (sym (c.find_supplement.ensures.tree s is.tariff) ∙ c.in_default.is))
+
+pub returns-in_default-clause-steps : goal.returns-in_default-clause-steps
+returns-in_default-clause-steps g c = steps-same c.find_supplement.new.steps c.args.steps.now c.find_supplement.ensures.steps
+
+pub add_found-requires-clause-ready : goal.add_found-requires-clause-ready
+add_found-requires-clause-ready g c = c.requires.ready
+
+pub add_found-requires-clause-number : goal.add_found-requires-clause-number
+add_found-requires-clause-number g c = c.find_supplement.ensures.number (some-there c.in-Some.supplement c.in-Some.is)
+
+pub add_found-requires-clause-found : goal.add_found-requires-clause-found
+add_found-requires-clause-found g c = sym c.find_supplement.ensures.value ∙ c.in-Some.is
+
+pub add_found-requires-clause-amount : goal.add_found-requires-clause-amount
+add_found-requires-clause-amount g c = subst (λ (o : Option Supplement). amount_in o ≤ 1000000) c.in-Some.is c.find_supplement.ensures.amount
+
+pub returns-clause-stage : goal.returns-clause-stage
+returns-clause-stage g c =
+    commits-as (λ (s : Setting) (m : Meter). extra_added_to c.args.n c.in-Some.supplement m.trip m) (λ (s : Setting) (m : Meter). extra_added c.args.n (supplement_at s.tariff c.args.n) m) c.add_found.ensures.stage
+    (λ s m is. ap (λ (o : Option Supplement). extra_added c.args.n o m) (sym (c.find_supplement.ensures.tree s is.tariff) ∙ c.in-Some.is))
+
+pub returns-clause-steps : goal.returns-clause-steps
+returns-clause-steps g c = steps-same c.find_supplement.new.steps c.args.steps.now c.find_supplement.ensures.steps
