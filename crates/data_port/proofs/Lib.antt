@@ -1,5 +1,7 @@
 -- how many bytes the items of a request have together
 mod Bodies
+-- what a call passes on of one that failed behind others
+mod Causes
 -- how a stream ends, by the bytes that were taken of it
 mod Endings
 -- what each byte of a piece changes of a port

@@ -1,8 +1,9 @@
 -- A piece, and then a stream, that is served.
 use Rattle.std.proofs.Common.{◌≡◌, ℕ, ◌+◌, ◌<◌, ◌≤◌, ◌^◌, false, List, [], ◌++◌, length, take, drop, get_or, Some, None, Result, Ok, Err, refl, sym, ap, subst, ◌∙◌, append_assoc, arith, length-append, length-take}
-use Rattle.std.specs.Prelude.{IfOk, IfErr, OnOk, OnErr, is_err}
+use Rattle.std.specs.Prelude.{All, IfOk, IfErr, OnOk, OnErr, is_err}
 use Rattle.std.proofs.lemmas.Grind.{flat_map-append}
 use Rattle.std.proofs.lemmas.List.{append-nil, nil_from_length, take-append-drop}
+use Rattle.outside.specs.Faults.{Rose}
 use Rattle.outside.specs.Printing.{Begins}
 use Rattle.outside.proofs.Laws.{begins_after, begins_more}
 use Rattle.seal_store.specs.declared.seal.Seal.{Seal}
@@ -14,7 +15,8 @@ use Rattle.data_port.specs.declared.serving.PortFault.TheVariants.{ReadFault, Bo
 use Rattle.data_port.specs.Reading.{BreaksIn, HasSense, HasTaken, Standing, TakesTo, bad_at_end, between, first_bad, requests_in, standing_after}
 use Rattle.data_port.specs.ReadingStages.{after_bytes, bad_of, ended_in}
 use Rattle.data_port.specs.Reply.{reply_to}
-use Rattle.data_port.specs.Serving.{BadAt, Endless, IsBoundedBy, IsGoing, ReachesEnd, Serves, ServesTo, StopsAfter, StreamEnd, Whole, replies, stream_limit}
+use Rattle.data_port.specs.Requests.{IsRequest}
+use Rattle.data_port.specs.Serving.{BadAt, Endless, IsBoundedBy, ReachesEnd, Serves, ServesTo, StopsAfter, StreamEnd, Whole, replies, stream_limit}
 use Rattle.data_port.specs.ServingStages.{ServesPiece}
 use Rattle.data_port.proofs.Endings.{bad_ends, endless_ends, unfinished_ends, whole_ends}
 use Rattle.data_port.proofs.Laws.{going_count, going_port}
@@ -137,6 +139,39 @@ pub record PieceSoFar (told : Type 0) (durable : Durable) (seal : Seal) (first n
   pub shown : told → printed ≡ before ++ replies durable seal (ended_in first done)
   pub bounded : steps ≤ opening + length (ended_in first done)
 
+-- before the first byte of the piece
+pub piece_opens : (told : Type 0) (durable : Durable) (seal : Seal) (first : Standing) (piece before : List ℕ) (opening : ℕ) → first.failed ≡ false → PieceSoFar told durable seal first first piece piece before before opening opening
+piece_opens told durable seal first piece before opening going = record {
+  done = [];
+  split = refl;
+  now_is = refl;
+  going = going;
+  counted = omega arith;
+  shown = λ t. sym (append-nil before);
+  bounded = omega arith;
+}
+
+-- the requests that a piece gives are in their ranges
+pub piece_requests : (old new given : List Request) → old ≡ [] → given ≡ new → (All IsRequest old → All IsRequest new) → All IsRequest given
+piece_requests old new given none same range =
+    subst (λ (rs : List Request). All IsRequest rs) (sym same) (range (subst (λ (rs : List Request). All IsRequest rs) (sym none) (λ k d lt. absurd (omega (arith, lt)))))
+
+-- a bad place isn't a failure of the board
+pub bad_is_no_fault : (place : ℕ) (P : Type 0) → ◌≡◌ {A = Result (Unit {0}) PortFault} (Err (Frame place)) (Err BoardFault) → P
+bad_is_no_fault place P same = absurd (let bad : Frame place ≡ BoardFault = cc in cc)
+
+-- and neither is the end of a piece
+pub end_is_no_fault : (P : Type 0) → ◌≡◌ {A = Result (Unit {0}) PortFault} (Ok tt) (Err BoardFault) → P
+end_is_no_fault P same = absurd cc
+
+-- a count that doesn't fall
+pub not_less : (old between new : ℕ) → old ≤ between → between ≤ new → old ≤ new
+not_less old between new first next = omega (arith, first, next)
+
+-- a fault that rose behind others
+pub rose_behind : (old between new : ℕ) → old ≤ between → Rose between new → Rose old new
+rose_behind old between new later rose = omega (arith, later, rose)
+
 module _ (told : Type 0) (durable : Durable) (seal : Seal) (first now : Standing) (piece rest before printed : List ℕ) (opening steps : ℕ)
     (f : PieceSoFar told durable seal first now piece rest before printed opening steps) where
   pub piece_sense : HasSense first → HasSense now
@@ -151,6 +186,24 @@ module _ (told : Type 0) (durable : Durable) (seal : Seal) (first now : Standing
   -- the requests that were given are the first ones
   all_of : (items : List Request) → (s : Starts now rest items) → ended_in first piece ≡ (ended_in first f.done ++ items) ++ s.more
   all_of items s = whole_ended ∙ (ap (λ (rs : List Request). ended_in first f.done ++ rs) s.whole ∙ sym (append_assoc (ended_in first f.done) items s.more))
+
+  -- what is left of the piece has room too
+  pub piece_few : first.taken + length piece < 2 ^ 64 → now.taken + length rest < 2 ^ 64
+  piece_few few = omega (arith, few, f.counted, ap length f.split, length-append f.done rest)
+
+  -- where nothing is left the piece was served
+  all_done : length rest ≡ 0 → piece ≡ f.done
+  all_done none = f.split ∙ (ap (λ (l : List ℕ). f.done ++ l) (nil_from_length rest none) ∙ append-nil f.done)
+
+  pub piece_whole : length rest ≡ 0 → (now ≡ after_bytes first piece) × (now.failed ≡ false) × (told → printed ≡ before ++ replies durable seal (ended_in first piece))
+  piece_whole none = (
+    f.now_is ∙ ap (after_bytes first) (sym (all_done none)),
+    f.going,
+    λ t. subst (λ (l : List ℕ). printed ≡ before ++ replies durable seal (ended_in first l)) (sym (all_done none)) (f.shown t),
+  )
+
+  pub piece_whole_steps : length rest ≡ 0 → steps ≤ opening + length (ended_in first piece)
+  piece_whole_steps none = subst (λ (l : List ℕ). steps ≤ opening + length (ended_in first l)) (sym (all_done none)) f.bounded
 
   pub piece_begun : (items : List Request) (printed' : List ℕ) → Starts now rest items → (told → Begins printed printed' (replies durable seal items)) → told → Begins before printed' (replies durable seal (ended_in first piece))
   piece_begun items printed' s begun t =

@@ -1,6 +1,6 @@
-use Rattle.std.proofs.Common.{◌∙◌, sym, arith}
-use Rattle.outside.proofs.Laws.{keeps_then}
-use Rattle.data_port.proofs.Pieces.{breaks_by, ok_of, piece_bad, piece_bad_shown, piece_begun, piece_more, piece_sense, piece_steps, starts_by, takes_by}
+use Rattle.std.proofs.Common.{◌≡◌, ◌∙◌, length, sym, arith, rules}
+use Rattle.outside.proofs.Laws.{keeps_none, keeps_then}
+use Rattle.data_port.proofs.Pieces.{bad_is_no_fault, breaks_by, end_is_no_fault, not_less, ok_of, piece_bad, piece_bad_shown, piece_begun, piece_few, piece_more, piece_opens, piece_requests, piece_sense, piece_steps, piece_whole, piece_whole_steps, rose_behind, starts_by, takes_by}
 use Rattle.data_port.proofs.serving.serve_piece.Goals as goal
 
 pub returns-then-is_err-clause-serves : goal.returns-then-is_err-clause-serves
@@ -39,3 +39,63 @@ loop-rest-preserved g c = record {
   faults = omega (arith, c.loop-rest.invariant.faults, c.print_replies.ensures.cause.later);
   store = keeps_then g.B.Board c.args.board.now c.loop-rest.board c.print_replies.new.board c.loop-rest.invariant.store c.print_replies.ensures.store;
 }
+
+pub loop-rest-init : goal.loop-rest-init
+loop-rest-init g c =
+    record {
+      so_far = piece_opens g.B.Board.tells_text c.args.durable.now c.args.seal.now c.args.port.now c.args.piece.now (g.B.Board.printed c.args.board.now) c.args.steps.now c.requires.going;
+      faults = omega arith;
+      store = keeps_none g.B.Board c.args.board.now;
+    }
+
+pub feed-fed-requires : goal.feed-fed-requires
+feed-fed-requires g c = record { few = piece_few g.B.Board.tells_text c.args.durable.now c.args.seal.now c.args.port.now c.loop-rest.port c.args.piece.now c.loop-rest.rest.now (g.B.Board.printed c.args.board.now) (g.B.Board.printed c.loop-rest.board) c.args.steps.now c.loop-rest.steps c.loop-rest.invariant.so_far c.requires.few }
+
+pub print_replies-requires-clause-requests : goal.print_replies-requires-clause-requests
+print_replies-requires-clause-requests g c = piece_requests c.new-requests.result.items c.feed-fed.new.out.items c.as_slice.result.now c.new-requests.ensures c.as_slice.ensures.value c.feed-fed.ensures.range
+
+pub print_replies-requires-clause-durable : goal.print_replies-requires-clause-durable
+print_replies-requires-clause-durable g c = c.requires.durable
+
+pub print_replies-requires-clause-seal : goal.print_replies-requires-clause-seal
+print_replies-requires-clause-seal g c = c.requires.seal
+
+pub behind-left-requires : goal.behind-left-requires
+behind-left-requires g c = c.in-Ok.ensures.within
+
+pub returns-then-is_err-clause-board_fault : goal.returns-then-is_err-clause-board_fault
+returns-then-is_err-clause-board_fault g c same = rose_behind _ _ _ c.loop-rest.invariant.faults (c.print_replies.ensures.cause.failed (sym c.is_err.ensures.value ∙ c.if-is_err.true))
+
+pub returns-in-Err-clause-board_fault : goal.returns-in-Err-clause-board_fault
+returns-in-Err-clause-board_fault g c = bad_is_no_fault c.in-Err.bad.place _
+
+pub returns-clause-board_fault : goal.returns-clause-board_fault
+returns-clause-board_fault g c = end_is_no_fault _
+
+pub returns-then-is_err-clause-count : goal.returns-then-is_err-clause-count
+returns-then-is_err-clause-count g c = not_less _ _ _ c.loop-rest.invariant.faults c.print_replies.ensures.cause.later
+
+pub returns-then-is_err-clause-store : goal.returns-then-is_err-clause-store
+returns-then-is_err-clause-store g c = keeps_then g.B.Board c.args.board.now c.loop-rest.board c.print_replies.new.board c.loop-rest.invariant.store c.print_replies.ensures.store
+
+pub returns-in-Err-clause-count : goal.returns-in-Err-clause-count
+returns-in-Err-clause-count g c = not_less _ _ _ c.loop-rest.invariant.faults c.print_replies.ensures.cause.later
+
+pub returns-in-Err-clause-store : goal.returns-in-Err-clause-store
+returns-in-Err-clause-store g c = keeps_then g.B.Board c.args.board.now c.loop-rest.board c.print_replies.new.board c.loop-rest.invariant.store c.print_replies.ensures.store
+
+pub returns-clause-count : goal.returns-clause-count
+returns-clause-count g c = c.loop-rest.invariant.faults
+
+pub returns-clause-store : goal.returns-clause-store
+returns-clause-store g c = c.loop-rest.invariant.store
+
+pub returns-clause-serves : goal.returns-clause-serves
+returns-clause-serves g c =
+    let none : length c.loop-rest.rest.now ≡ 0 = search rules in
+    piece_whole g.B.Board.tells_text c.args.durable.now c.args.seal.now c.args.port.now c.loop-rest.port c.args.piece.now c.loop-rest.rest.now (g.B.Board.printed c.args.board.now) (g.B.Board.printed c.loop-rest.board) c.args.steps.now c.loop-rest.steps c.loop-rest.invariant.so_far none
+
+pub returns-clause-steps : goal.returns-clause-steps
+returns-clause-steps g c =
+    let none : length c.loop-rest.rest.now ≡ 0 = search rules in
+    piece_whole_steps g.B.Board.tells_text c.args.durable.now c.args.seal.now c.args.port.now c.loop-rest.port c.args.piece.now c.loop-rest.rest.now (g.B.Board.printed c.args.board.now) (g.B.Board.printed c.loop-rest.board) c.args.steps.now c.loop-rest.steps c.loop-rest.invariant.so_far none
