@@ -5,6 +5,14 @@ use Rattle.taxi_units.proofs.Laws.{words_are_read_by_their_text}
 use Rattle.offset_rules.specs.Names.{IsName, day_names, month_names, name_of, number_names}
 use Rattle.offset_rules.specs.Reading.{found_or, numbered_at}
 
+-- a name that stands at the front gives its number
+pub name_here : (number : ℕ) (found : Option (List ℕ)) (rest : List ℕ) (others : Option (ℕ × List ℕ)) → found ≡ Some rest → found_or number found others ≡ Some (number, rest)
+name_here number found rest others is = rw is refl
+
+-- and one that doesn't leaves it to the others
+pub name_later : (number : ℕ) (found : Option (List ℕ)) (others x : Option (ℕ × List ℕ)) → found ≡ None → others ≡ x → found_or number found others ≡ x
+name_later number found others x none is = rw none is
+
 -- a name stands at the front, where the names are numbered from one on
 record NamedFrom (names : List (List ℕ)) (first : ℕ) (text : List ℕ) (x : ℕ × List ℕ) : Type 0 where
   place : ℕ
