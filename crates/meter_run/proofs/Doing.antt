@@ -1,5 +1,5 @@
 -- Acts on a store, one after the other.
-use Rattle.std.proofs.Common.{◌≡◌, ℕ, zero, suc, ◌+◌, ◌*◌, ◌≤◌, ◌<◌, List, [], ◌∷◌, ◌++◌, All, length, take, drop, get_or, sym, ap, subst, ◌∙◌, arith}
+use Rattle.std.proofs.Common.{◌≡◌, ℕ, zero, suc, ◌+◌, ◌*◌, ◌≤◌, ◌<◌, List, [], ◌∷◌, ◌++◌, All, length, take, drop, get_or, sym, ap, subst, ◌∙◌, arith, Result, OnOk}
 use Rattle.std.proofs.lemmas.List.{append-nil, take-append-drop, take_more}
 use Rattle.std.proofs.lemmas.List.Elements.{All-head, All-tail}
 use Rattle.outside.specs.declared.board.Board.{Ghosts}
@@ -7,7 +7,7 @@ use Rattle.tariff_compile.specs.Tables.{TableParts}
 use Rattle.seal_store.specs.declared.seal.Seal.{Seal}
 use Rattle.totaliser_store.specs.declared.durable.Durable.{Durable}
 use Rattle.meter_states.specs.declared.act.Act.{Act}
-use Rattle.meter_run.specs.Commits.{after_acts, commits_in}
+use Rattle.meter_run.specs.Commits.{after_act, after_acts, commits_in}
 use Rattle.meter_run.specs.Deeds.{Deed, Does, act_text, deeds_of, texts}
 use Rattle.meter_run.specs.PointLaws.{deeds_joined, keeps_longer, keeps_next, text_next}
 use Rattle.meter_run.specs.Points.{KeepsTo}
@@ -34,6 +34,24 @@ steps_more acts n x a b c lt so_far next = omega (arith, so_far, next, commits_m
 pub steps_whole : (acts : List Act) (n : ℕ) (x : Act) (a b c : ℕ) → n < length acts → b ≤ a + n + 5 * commits_in (take n acts) → c ≤ b + 1 + 5 * commits_in (get_or acts n x ∷ [])
     → c ≤ a + length acts + 5 * commits_in acts
 steps_whole acts n x a b c lt so_far next = omega (arith, lt, steps_more acts n x a b c lt so_far next, commits_part acts (n + 1))
+
+-- what an act leaves, prints and takes, where it's known which act it is
+pub leaves_as : {A E : Type 0} (r : Result A E) (d e : Durable) (act is : Act) → act ≡ is → OnOk r (e ≡ after_act d is) → OnOk r (e ≡ after_act d act)
+leaves_as r d e act is same h = subst (λ (x : Act). OnOk r (e ≡ after_act d x)) (sym same) h
+
+pub prints_as : {A E : Type 0} (seal : Seal) (r : Result A E) (p q : List ℕ) (act is : Act) → act ≡ is → OnOk r (q ≡ p ++ act_text seal is) → OnOk r (q ≡ p ++ act_text seal act)
+prints_as seal r p q act is same h = subst (λ (x : Act). OnOk r (q ≡ p ++ act_text seal x)) (sym same) h
+
+pub prints_none : (p q text : List ℕ) → text ≡ [] → q ≡ p → q ≡ p ++ text
+prints_none p q text none same = same ∙ sym (append-nil p) ∙ ap (λ (t : List ℕ). p ++ t) (sym none)
+
+pub print_steps : (act : Act) (a b : ℕ) → b ≤ a + 1 → b ≤ a + 1 + 5 * commits_in (act ∷ [])
+print_steps act a b h = omega (arith, h)
+
+pub commit_steps : (act is : Act) (a b : ℕ) → act ≡ is → commits_in (is ∷ []) ≡ 1 → b ≤ a + 6 → b ≤ a + 1 + 5 * commits_in (act ∷ [])
+commit_steps act is a b same one h =
+    let commits : commits_in (act ∷ []) ≡ 1 = ap (λ (x : Act). commits_in (x ∷ [])) same ∙ one in
+    omega (arith, h, commits)
 
 -- what holds of each act holds of the one at a place
 pub all_at : (P : Act → Type 0) (acts : List Act) (n : ℕ) (x : Act) → n < length acts → All P acts → P (get_or acts n x)

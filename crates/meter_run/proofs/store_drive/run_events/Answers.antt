@@ -1,8 +1,16 @@
-use Rattle.std.proofs.Common.{Ok, ap, refl}
+use Rattle.std.proofs.Common.{◌≡◌, Err, Ok, Result, ap, arith, refl}
 use Rattle.meter_run.specs.StoreLaws.{beside_then}
-use Rattle.meter_run.proofs.Going.{rose_later}
+use Rattle.meter_run.specs.declared.fault.RunFault.{RunFault}
+use Rattle.meter_run.specs.declared.fault.RunFault.TheVariants.{BoardFault, ReadFault}
+use Rattle.meter_run.proofs.Going.{counts_more, rose_later}
 use Rattle.meter_run.proofs.Whole.{done_whole, ran_amid, ran_to_end, ran_whole, ready_new, secured_of}
 use Rattle.meter_run.proofs.store_drive.run_events.Goals as goal
+
+abbrev fails : RunFault → Result (Unit {0}) RunFault
+fails fault = Err fault
+
+other_fault : fails BoardFault ≡ fails ReadFault → ⊥
+other_fault same = absurd cc
 
 pub carry_drive-requires : goal.carry_drive-requires
 carry_drive-requires g c = record {
@@ -55,3 +63,61 @@ returns-in-Err-end-clause-complete g c = λ tells whole calm still.
 
 pub returns-in-Err-clause-complete : goal.returns-in-Err-clause-complete
 returns-in-Err-clause-complete g c = λ tells whole calm still. absurd (still (c.in-Err.ensures.cause.failed refl))
+
+pub end-requires : goal.end-requires
+end-requires g c = record { ready = c.in-Ok.ensures.ready }
+
+pub returns-in-Ok-end-clause-steps : goal.returns-in-Ok-end-clause-steps
+returns-in-Ok-end-clause-steps g c = λ tells.
+    let h = c.in-Ok.ensures.carried in
+    record { taken = h.taken; split = h.split tells; bound = omega (arith, h.bounded, c.end.ensures.steps) }
+
+pub returns-in-Ok-end-clause-others : goal.returns-in-Ok-end-clause-others
+returns-in-Ok-end-clause-others g c = c.carry_drive.ensures.others
+
+pub returns-in-Ok-end-clause-counts : goal.returns-in-Ok-end-clause-counts
+returns-in-Ok-end-clause-counts g c = c.carry_drive.ensures.counts
+
+pub returns-in-Ok-end-clause-count : goal.returns-in-Ok-end-clause-count
+returns-in-Ok-end-clause-count g c = counts_more _ _ _ c.carry_drive.ensures.cause.later c.end.ensures.cause.later
+
+pub returns-in-Err-end-clause-steps : goal.returns-in-Err-end-clause-steps
+returns-in-Err-end-clause-steps g c = λ tells.
+    let h = c.in-Ok.ensures.carried in
+    record { taken = h.taken; split = h.split tells; bound = omega (arith, h.bounded, c.end.ensures.steps) }
+
+pub returns-in-Err-end-clause-others : goal.returns-in-Err-end-clause-others
+returns-in-Err-end-clause-others g c = c.carry_drive.ensures.others
+
+pub returns-in-Err-end-clause-counts : goal.returns-in-Err-end-clause-counts
+returns-in-Err-end-clause-counts g c = c.carry_drive.ensures.counts
+
+pub returns-in-Err-end-clause-count : goal.returns-in-Err-end-clause-count
+returns-in-Err-end-clause-count g c = counts_more _ _ _ c.carry_drive.ensures.cause.later c.end.ensures.cause.later
+
+pub returns-in-Err-end-clause-board_fault : goal.returns-in-Err-end-clause-board_fault
+returns-in-Err-end-clause-board_fault g c = λ is.
+    rose_later (g.B.Board.faults c.args.board.now) (g.B.Board.faults c.carry_drive.new.board) (g.B.Board.faults c.end.new.board) c.carry_drive.ensures.cause.later (c.in-Err-end.ensures.cause.failed refl)
+
+pub returns-in-Err-end-clause-read_fault : goal.returns-in-Err-end-clause-read_fault
+returns-in-Err-end-clause-read_fault g c = λ is. absurd (other_fault is)
+
+pub returns-in-Err-clause-steps : goal.returns-in-Err-clause-steps
+returns-in-Err-clause-steps g c = λ tells.
+    let h = c.in-Err.ensures.broke_off in
+    record { taken = h.taken; split = h.split tells; bound = omega (arith, h.bounded) }
+
+pub returns-in-Err-clause-others : goal.returns-in-Err-clause-others
+returns-in-Err-clause-others g c = c.carry_drive.ensures.others
+
+pub returns-in-Err-clause-counts : goal.returns-in-Err-clause-counts
+returns-in-Err-clause-counts g c = c.carry_drive.ensures.counts
+
+pub returns-in-Err-clause-count : goal.returns-in-Err-clause-count
+returns-in-Err-clause-count g c = c.carry_drive.ensures.cause.later
+
+pub returns-in-Err-clause-board_fault : goal.returns-in-Err-clause-board_fault
+returns-in-Err-clause-board_fault g c = λ is. c.in-Err.ensures.cause.failed refl
+
+pub returns-in-Err-clause-read_fault : goal.returns-in-Err-clause-read_fault
+returns-in-Err-clause-read_fault g c = λ is. absurd (other_fault is)

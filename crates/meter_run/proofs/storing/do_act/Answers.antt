@@ -1,4 +1,4 @@
-use Rattle.std.proofs.Common.{[], ◌∷◌, ap, subst}
+use Rattle.std.proofs.Common.{[], ◌∷◌, ap, subst, sym, refl}
 use Rattle.std.proofs.lemmas.List.Elements.{All-cons, All-nil}
 use Rattle.receipt_text.specs.Receipts.{receipt_text}
 use Rattle.receipt_text.specs.SealParts.{part_of}
@@ -6,11 +6,12 @@ use Rattle.receipt_text.specs.Texts.{display_text, refusal_text}
 use Rattle.meter_states.specs.Acts.{IsLawfulAct}
 use Rattle.meter_states.specs.declared.act.Act.{Act}
 use Rattle.meter_states.specs.declared.act.Act.TheVariants.{Enter}
-use Rattle.meter_run.specs.Commits.{after_act}
+use Rattle.meter_run.specs.Commits.{after_act, IsFor}
 use Rattle.meter_run.specs.Deeds.{Does, act_text}
 use Rattle.meter_run.proofs.Committing.{fits_after}
 use Rattle.meter_run.proofs.Going.{on_ok}
 use Rattle.meter_run.proofs.Leaves.{agrees_kept, beside_kept, print_point}
+use Rattle.meter_run.proofs.Doing.{commit_steps, leaves_as, print_steps, prints_as, prints_none}
 use Rattle.meter_run.proofs.storing.do_act.Goals as goal
 
 pub store-requires-clause-fits : goal.store-requires-clause-fits
@@ -62,3 +63,96 @@ returns-in-Enter-clause-points g c = λ told. c.store.ensures.points told (Does 
 
 pub returns-in-Hold-clause-points : goal.returns-in-Hold-clause-points
 returns-in-Hold-clause-points g c = λ told. c.store-in-Hold.ensures.points told (Does c.args.act.now) (ap (after_act c.args.known.now.durable) c.in-Hold.is)
+
+pub print_display-requires : goal.print_display-requires
+print_display-requires g c = subst (IsFor c.args.known.now.durable) c.in-Show.is c.requires.act
+
+pub store-requires-clause-agrees : goal.store-requires-clause-agrees
+store-requires-clause-agrees g c = c.requires.agrees
+
+pub store-requires-clause-range : goal.store-requires-clause-range
+store-requires-clause-range g c = subst (IsFor c.args.known.now.durable) c.in-Enter.is c.requires.act
+
+pub store-requires-in-Hold-clause-agrees : goal.store-requires-in-Hold-clause-agrees
+store-requires-in-Hold-clause-agrees g c = c.requires.agrees
+
+pub store-requires-in-Hold-clause-range : goal.store-requires-in-Hold-clause-range
+store-requires-in-Hold-clause-range g c = subst (IsFor c.args.known.now.durable) c.in-Hold.is c.requires.act
+
+pub print_receipt-requires-clause-receipt : goal.print_receipt-requires-clause-receipt
+print_receipt-requires-clause-receipt g c = subst (IsLawfulAct c.args.tables.now c.requires.lawful.0) c.in-Receipt.is c.requires.lawful.1
+
+pub print_receipt-requires-clause-seal : goal.print_receipt-requires-clause-seal
+print_receipt-requires-clause-seal g c = c.requires.seal
+
+pub returns-in-Show-clause-durable : goal.returns-in-Show-clause-durable
+returns-in-Show-clause-durable g c = on_ok c.print_display.result _ (sym (ap (after_act c.args.known.now.durable) c.in-Show.is))
+
+pub returns-in-Show-clause-whole : goal.returns-in-Show-clause-whole
+returns-in-Show-clause-whole g c = λ told. prints_as c.args.seal.now c.print_display.result (g.B.Board.printed c.args.board.now) (g.B.Board.printed c.print_display.new.board) c.args.act.now _ c.in-Show.is (c.print_display.ensures.whole told)
+
+pub returns-in-Show-clause-cause : goal.returns-in-Show-clause-cause
+returns-in-Show-clause-cause g c = c.print_display.ensures.cause
+
+pub returns-in-Show-clause-steps : goal.returns-in-Show-clause-steps
+returns-in-Show-clause-steps g c = print_steps c.args.act.now c.args.steps.now c.print_display.new.steps c.print_display.ensures.steps
+
+pub returns-in-Refuse-clause-durable : goal.returns-in-Refuse-clause-durable
+returns-in-Refuse-clause-durable g c = on_ok c.print_refusal.result _ (sym (ap (after_act c.args.known.now.durable) c.in-Refuse.is))
+
+pub returns-in-Refuse-clause-whole : goal.returns-in-Refuse-clause-whole
+returns-in-Refuse-clause-whole g c = λ told. prints_as c.args.seal.now c.print_refusal.result (g.B.Board.printed c.args.board.now) (g.B.Board.printed c.print_refusal.new.board) c.args.act.now _ c.in-Refuse.is (c.print_refusal.ensures.whole told)
+
+pub returns-in-Refuse-clause-cause : goal.returns-in-Refuse-clause-cause
+returns-in-Refuse-clause-cause g c = c.print_refusal.ensures.cause
+
+pub returns-in-Refuse-clause-steps : goal.returns-in-Refuse-clause-steps
+returns-in-Refuse-clause-steps g c = print_steps c.args.act.now c.args.steps.now c.print_refusal.new.steps c.print_refusal.ensures.steps
+
+pub returns-in-Receipt-clause-durable : goal.returns-in-Receipt-clause-durable
+returns-in-Receipt-clause-durable g c = on_ok c.print_receipt.result _ (sym (ap (after_act c.args.known.now.durable) c.in-Receipt.is))
+
+pub returns-in-Receipt-clause-whole : goal.returns-in-Receipt-clause-whole
+returns-in-Receipt-clause-whole g c = λ told. prints_as c.args.seal.now c.print_receipt.result (g.B.Board.printed c.args.board.now) (g.B.Board.printed c.print_receipt.new.board) c.args.act.now _ c.in-Receipt.is (c.print_receipt.ensures.whole told)
+
+pub returns-in-Receipt-clause-cause : goal.returns-in-Receipt-clause-cause
+returns-in-Receipt-clause-cause g c = c.print_receipt.ensures.cause
+
+pub returns-in-Receipt-clause-steps : goal.returns-in-Receipt-clause-steps
+returns-in-Receipt-clause-steps g c = print_steps c.args.act.now c.args.steps.now c.print_receipt.new.steps c.print_receipt.ensures.steps
+
+pub returns-in-Enter-clause-durable : goal.returns-in-Enter-clause-durable
+returns-in-Enter-clause-durable g c = leaves_as c.store.result c.args.known.now.durable c.store.new.known.durable c.args.act.now _ c.in-Enter.is c.store.ensures.durable
+
+pub returns-in-Enter-clause-agrees : goal.returns-in-Enter-clause-agrees
+returns-in-Enter-clause-agrees g c = c.store.ensures.agrees
+
+pub returns-in-Enter-clause-whole : goal.returns-in-Enter-clause-whole
+returns-in-Enter-clause-whole g c = λ told. on_ok c.store.result _ (prints_none (g.B.Board.printed c.args.board.now) (g.B.Board.printed c.store.new.board) (act_text c.args.seal.now c.args.act.now) (ap (act_text c.args.seal.now) c.in-Enter.is) c.store.ensures.text)
+
+pub returns-in-Enter-clause-beside : goal.returns-in-Enter-clause-beside
+returns-in-Enter-clause-beside g c = c.store.ensures.beside
+
+pub returns-in-Enter-clause-cause : goal.returns-in-Enter-clause-cause
+returns-in-Enter-clause-cause g c = c.store.ensures.cause
+
+pub returns-in-Enter-clause-steps : goal.returns-in-Enter-clause-steps
+returns-in-Enter-clause-steps g c = commit_steps c.args.act.now _ c.args.steps.now c.store.new.steps c.in-Enter.is refl c.store.ensures.steps
+
+pub returns-in-Hold-clause-durable : goal.returns-in-Hold-clause-durable
+returns-in-Hold-clause-durable g c = leaves_as c.store-in-Hold.result c.args.known.now.durable c.store-in-Hold.new.known.durable c.args.act.now _ c.in-Hold.is c.store-in-Hold.ensures.durable
+
+pub returns-in-Hold-clause-agrees : goal.returns-in-Hold-clause-agrees
+returns-in-Hold-clause-agrees g c = c.store-in-Hold.ensures.agrees
+
+pub returns-in-Hold-clause-whole : goal.returns-in-Hold-clause-whole
+returns-in-Hold-clause-whole g c = λ told. on_ok c.store-in-Hold.result _ (prints_none (g.B.Board.printed c.args.board.now) (g.B.Board.printed c.store-in-Hold.new.board) (act_text c.args.seal.now c.args.act.now) (ap (act_text c.args.seal.now) c.in-Hold.is) c.store-in-Hold.ensures.text)
+
+pub returns-in-Hold-clause-beside : goal.returns-in-Hold-clause-beside
+returns-in-Hold-clause-beside g c = c.store-in-Hold.ensures.beside
+
+pub returns-in-Hold-clause-cause : goal.returns-in-Hold-clause-cause
+returns-in-Hold-clause-cause g c = c.store-in-Hold.ensures.cause
+
+pub returns-in-Hold-clause-steps : goal.returns-in-Hold-clause-steps
+returns-in-Hold-clause-steps g c = commit_steps c.args.act.now _ c.args.steps.now c.store-in-Hold.new.steps c.in-Hold.is refl c.store-in-Hold.ensures.steps
