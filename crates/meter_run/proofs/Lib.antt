@@ -26,7 +26,7 @@ pub mod Laws
 mod Leaves
 -- what an image that a cut left has
 mod Leavings
--- lines that are printed aren't empty
+-- lines that are printed: which text they have, and that it isn't empty
 mod Lines
 -- acts that are carried out, one after the other
 mod Performing

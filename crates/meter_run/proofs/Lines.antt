@@ -1,5 +1,5 @@
--- Lines that are printed aren't empty.
-use Rattle.std.proofs.Common.{◌≢◌, ◌<◌, ◌≤◌, ◌++◌, length, arith, refl, length-append}
+-- Lines that are printed: which text they have, and that it isn't empty.
+use Rattle.std.proofs.Common.{◌≡◌, ◌≢◌, ◌<◌, ◌≤◌, ◌++◌, ◌∙◌, List, [], ℕ, ap, length, arith, refl, length-append}
 use Rattle.std.specs.Prelude.{codes}
 use Rattle.std.specs.Fmt.{decimal}
 use Rattle.taxi_units.specs.declared.event.Operating.{Operating}
@@ -12,6 +12,10 @@ use Rattle.receipt_text.specs.Receipts.{body_text, heading_text, kind_text, part
 use Rattle.receipt_text.specs.Spelling.{IsSpelled}
 use Rattle.receipt_text.proofs.Laws.{receipts_are_their_texts, short_texts}
 use Rattle.receipt_text.specs.Texts.{display_line, display_text, refusal_text, place_text, amounts_text, why_text}
+
+-- a line has the text that was put into it when it was empty
+pub has_text : (old new line text : List ℕ) → line ≡ new → new ≡ old ++ text → old ≡ [] → line ≡ text
+has_text old new line text value is none = value ∙ is ∙ ap (λ (xs : List ℕ). xs ++ text) none
 
 line_some : (operating : Operating) (d : Display) → operating ≢ Off → 0 < length (display_line operating d)
 line_some Off d on = absurd (on refl)

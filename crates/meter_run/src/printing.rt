@@ -38,7 +38,6 @@ fn print_text<B: Board<L>, L: Ledger>(
 }
 
 /// Prints the line of a display.
-#[tactic(auto, using(crate::proofs::Lines::display_some))]
 pub(crate) fn print_display<B: Board<L>, L: Ledger>(
     display: &Display,
     board: &mut B,
@@ -59,7 +58,6 @@ pub(crate) fn print_display<B: Board<L>, L: Ledger>(
 }
 
 /// Prints the line of a refusal.
-#[tactic(auto, using(crate::proofs::Lines::refusal_some))]
 pub(crate) fn print_refusal<B: Board<L>, L: Ledger>(
     why: Why,
     board: &mut B,
@@ -79,7 +77,6 @@ pub(crate) fn print_refusal<B: Board<L>, L: Ledger>(
 }
 
 /// Prints a receipt under a seal.
-#[tactic(auto, using(crate::proofs::Lines::receipt_some, crate::proofs::Lines::receipt_few))]
 pub(crate) fn print_receipt<B: Board<L>, L: Ledger>(
     receipt: &Receipt,
     seal: &Seal,

@@ -4,7 +4,7 @@ use Rattle.drive_text.specs.Drive.{events_in}
 use Rattle.drive_text.specs.Ranges.{IsRunInRange}
 use Rattle.drive_text.specs.Runs.{run_events}
 use Rattle.drive_text.specs.declared.run.Run.{Run}
-use Rattle.meter_run.specs.Drives.{IsBounded}
+use Rattle.meter_run.specs.Drives.{BreaksDrive, IsBounded}
 use Rattle.meter_run.proofs.Driving.{breaks_amid, smaller, so_far_more, so_far_none, stop_at, stop_of, takes_last}
 use Rattle.meter_run.proofs.Going.{counts_more, no_more, not_ok, not_this, on_err, rose_later, went_well, went_wrong}
 use Rattle.meter_run.proofs.drive.carry_drive.Goals as goal
@@ -62,7 +62,8 @@ returns-in_err-carry_runs-clause-broke_off g c =
     let new = c.carry_runs.new.board in
     let runs = c.next-stop.new.runs.items in
     let broken = subst (λ (rs : List Run). g.C.Carrier.broke_off t k c.loop-stop.meter c.loop-stop.board (flat_map run_events rs) new) c.as_slice.ensures.value c.in_err-carry_runs.ensures.broke_off in
-    on_err c.from_residual.result _
+    on_err c.from_residual.result
+    (BreaksDrive g.F.Files.tells (g.F.Files.rest c.args.files.now c.args.word) (g.F.Files.rest c.next-stop.new.files c.args.word) (λ (es : List Event). g.C.Carrier.broke_off t k m b es new) c.args.steps.now c.carry_runs.new.steps)
     (breaks_amid g.F.Files.tells c.loop-stop.source c.next-stop.new.self (g.F.Files.rest c.args.files.now c.args.word) (g.F.Files.rest c.loop-stop.files c.args.word) (g.F.Files.rest c.next-stop.new.files c.args.word)
     (λ (es : List Event). g.C.Carrier.carried t k m b es c.loop-stop.meter c.loop-stop.board) (λ (es : List Event). g.C.Carrier.broke_off t k m b es new)
     c.args.steps.now c.loop-stop.steps c.carry_runs.new.steps runs c.next-stop.result s

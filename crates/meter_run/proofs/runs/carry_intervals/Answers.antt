@@ -1,6 +1,7 @@
 use Rattle.std.proofs.Common.{◌≡◌, ℕ, ◌+◌, subst, arith}
 use Rattle.drive_text.specs.Runs.{intervals_events}
-use Rattle.meter_run.proofs.Going.{intervals_carried, intervals_broken, intervals_further, bounded_at_interval, bounded_further, on_err}
+use Rattle.meter_run.specs.Drives.{IsBounded}
+use Rattle.meter_run.proofs.Going.{intervals_carried, intervals_broken, intervals_further, bounded_at_interval, bounded_further, counts_more, no_more, not_ok, on_err, went_well, went_wrong}
 use Rattle.meter_run.proofs.runs.carry_intervals.Goals as goal
 
 pub carry_equal-done-requires : goal.carry_equal-done-requires
@@ -20,7 +21,7 @@ loop-done-preserved g c =
       ready = c.carry_equal-done.ensures.ready c.carry_interval.new.board c.in_ok-carry_interval.ensures.ready;
       carried = intervals_further (g.C.Carrier.carried t k) (g.C.Carrier.broke_off t k) (g.met.C.Carrier.behind t k) (g.met.C.Carrier.later t k) (g.met.C.Carrier.sooner t k)
           p (i + 1) n c.args.meter.now c.args.board.now c.carry_interval.new.meter c.carry_interval.new.board c.carry_equal-done.new.self c.carry_interval.new.board one (c.carry_equal-done.ensures.carried c.carry_interval.new.board c.in_ok-carry_interval.ensures.ready);
-      faults = omega (arith, c.loop-done.invariant.faults, c.carry_interval.ensures.cause.later);
+      faults = counts_more _ _ _ c.loop-done.invariant.faults c.carry_interval.ensures.cause.later;
       steps = bounded_further p (i + 1) n c.args.steps.now c.carry_interval.new.steps
           (bounded_at_interval p i (i + 1) c.args.steps.now c.loop-done.steps c.carry_interval.new.steps (omega arith) c.loop-done.invariant.steps c.carry_interval.ensures.steps);
     }
@@ -40,3 +41,39 @@ pub returns-clause-carried : goal.returns-clause-carried
 returns-clause-carried g c =
     let all : c.loop-done.done ≡ c.args.count = omega (arith, c.loop-done-test.false, c.loop-done.invariant.few) in
     subst (λ (n : ℕ). g.C.Carrier.carried c.args.tables.now c.args.seal.now c.args.meter.now c.args.board.now (intervals_events c.args.pulses n) c.loop-done.meter c.loop-done.board) all c.loop-done.invariant.carried
+
+pub loop-done-init : goal.loop-done-init
+loop-done-init g c = record {
+  few = omega arith;
+  ready = c.requires.ready;
+  carried = g.met.C.Carrier.nothing c.args.tables.now c.args.seal.now c.args.meter.now c.args.board.now c.requires.ready;
+  faults = no_more (g.B.Board.faults c.args.board.now);
+  steps = omega arith;
+}
+
+pub carry_interval-requires : goal.carry_interval-requires
+carry_interval-requires g c = record { ready = c.loop-done.invariant.ready }
+
+pub returns-in_err-carry_interval-clause-ready : goal.returns-in_err-carry_interval-clause-ready
+returns-in_err-carry_interval-clause-ready g c = not_ok _ c.from_residual.result _ c.from_residual.ensures.1
+
+pub returns-in_err-carry_interval-clause-carried : goal.returns-in_err-carry_interval-clause-carried
+returns-in_err-carry_interval-clause-carried g c = not_ok _ c.from_residual.result _ c.from_residual.ensures.1
+
+pub returns-in_err-carry_interval-clause-cause : goal.returns-in_err-carry_interval-clause-cause
+returns-in_err-carry_interval-clause-cause g c =
+    went_wrong (g.B.Board.faults c.args.board.now) (g.B.Board.faults c.loop-done.board) (g.B.Board.faults c.carry_interval.new.board) _ c.from_residual.result c.loop-done.invariant.faults c.in_err-carry_interval.ensures.cause
+
+pub returns-clause-ready : goal.returns-clause-ready
+returns-clause-ready g c = c.loop-done.invariant.ready
+
+pub returns-clause-broke_off : goal.returns-clause-broke_off
+returns-clause-broke_off g c = tt
+
+pub returns-clause-cause : goal.returns-clause-cause
+returns-clause-cause g c = went_well (g.B.Board.faults c.args.board.now) (g.B.Board.faults c.loop-done.board) tt c.loop-done.invariant.faults
+
+pub returns-clause-steps : goal.returns-clause-steps
+returns-clause-steps g c =
+    let all : c.loop-done.done ≡ c.args.count = omega (arith, c.loop-done-test.false, c.loop-done.invariant.few) in
+    subst (λ (n : ℕ). IsBounded c.args.steps.now c.loop-done.steps (intervals_events c.args.pulses n)) all c.loop-done.invariant.steps
