@@ -164,6 +164,10 @@ bad_is_no_fault place P same = absurd (let bad : Frame place ≡ BoardFault = cc
 pub end_is_no_fault : (P : Type 0) → ◌≡◌ {A = Result (Unit {0}) PortFault} (Ok tt) (Err BoardFault) → P
 end_is_no_fault P same = absurd cc
 
+-- a read that failed isn't a failure of the board
+pub read_is_no_fault : (P : Type 0) → ◌≡◌ {A = Result (Unit {0}) PortFault} (Err ReadFault) (Err BoardFault) → P
+read_is_no_fault P same = absurd (let bad : ReadFault ≡ BoardFault = cc in cc)
+
 -- a count that doesn't fall
 pub not_less : (old between new : ℕ) → old ≤ between → between ≤ new → old ≤ new
 not_less old between new first next = omega (arith, first, next)

@@ -1,7 +1,7 @@
-use Rattle.std.proofs.Common.{◌≡◌, ◌+◌, ◌-◌, ◌≤◌, ◌++◌, ◌∙◌, ℕ, List, [], Ok, min, length, take, sym, ap, arith, length-take}
+use Rattle.std.proofs.Common.{◌≡◌, is_err, ◌+◌, ◌-◌, ◌≤◌, ◌++◌, ◌∙◌, ℕ, List, [], Ok, min, length, take, sym, ap, arith, length-take}
 use Rattle.std.proofs.lemmas.Result.{err_from_is_err_and}
 use Rattle.outside.proofs.Laws.{keeps_then}
-use Rattle.data_port.proofs.Pieces.{more_steps, served_end, served_err, served_long, served_more}
+use Rattle.data_port.proofs.Pieces.{more_steps, not_less, read_is_no_fault, rose_behind, served_end, served_err, served_long, served_more}
 use Rattle.data_port.proofs.serving.serve.Goals as goal
 
 -- after a read of no bytes the same is left
@@ -48,3 +48,57 @@ loop-left-preserved g c =
 
 pub returns-clause-serves : goal.returns-clause-serves
 returns-clause-serves g c = served_long g.F.Files.tells g.B.Board.tells_text c.args.durable.now c.args.seal.now c.loop-left.port (g.F.Files.rest c.args.files.now c.args.word) (g.F.Files.rest c.loop-left.files c.args.word) (g.B.Board.printed c.args.board.now) (g.B.Board.printed c.loop-left.board) c.loop-left.left c.args.steps.now c.loop-left.steps c.loop-left.invariant.so_far (omega (arith, c.loop-left-test.false))
+
+pub returns-then-count-eq0-clause-others : goal.returns-then-count-eq0-clause-others
+returns-then-count-eq0-clause-others g c other ne = c.read_piece.ensures.others other ne ∙ c.loop-left.invariant.others other ne
+
+pub returns-then-count-eq0-clause-counts : goal.returns-then-count-eq0-clause-counts
+returns-then-count-eq0-clause-counts g c other = not_less _ _ _ (c.loop-left.invariant.counts other) (c.read_piece.ensures.counts other)
+
+pub returns-in-Err-clause-others : goal.returns-in-Err-clause-others
+returns-in-Err-clause-others g c other ne = c.read_piece.ensures.others other ne ∙ c.loop-left.invariant.others other ne
+
+pub returns-in-Err-clause-counts : goal.returns-in-Err-clause-counts
+returns-in-Err-clause-counts g c other = not_less _ _ _ (c.loop-left.invariant.counts other) (c.read_piece.ensures.counts other)
+
+pub returns-in_err-serve_piece-clause-others : goal.returns-in_err-serve_piece-clause-others
+returns-in_err-serve_piece-clause-others g c other ne = c.read_piece.ensures.others other ne ∙ c.loop-left.invariant.others other ne
+
+pub returns-in_err-serve_piece-clause-counts : goal.returns-in_err-serve_piece-clause-counts
+returns-in_err-serve_piece-clause-counts g c other = not_less _ _ _ (c.loop-left.invariant.counts other) (c.read_piece.ensures.counts other)
+
+pub returns-then-count-eq0-clause-count : goal.returns-then-count-eq0-clause-count
+returns-then-count-eq0-clause-count g c = c.loop-left.invariant.faults
+
+pub returns-then-count-eq0-clause-store : goal.returns-then-count-eq0-clause-store
+returns-then-count-eq0-clause-store g c = c.loop-left.invariant.store
+
+pub returns-in-Err-clause-count : goal.returns-in-Err-clause-count
+returns-in-Err-clause-count g c = c.loop-left.invariant.faults
+
+pub returns-in-Err-clause-store : goal.returns-in-Err-clause-store
+returns-in-Err-clause-store g c = c.loop-left.invariant.store
+
+pub returns-clause-count : goal.returns-clause-count
+returns-clause-count g c = c.loop-left.invariant.faults
+
+pub returns-clause-store : goal.returns-clause-store
+returns-clause-store g c = c.loop-left.invariant.store
+
+pub returns-in_err-serve_piece-clause-count : goal.returns-in_err-serve_piece-clause-count
+returns-in_err-serve_piece-clause-count g c = not_less _ _ _ c.loop-left.invariant.faults c.serve_piece.ensures.count
+
+pub returns-in_err-serve_piece-clause-store : goal.returns-in_err-serve_piece-clause-store
+returns-in_err-serve_piece-clause-store g c = keeps_then g.B.Board c.args.board.now c.loop-left.board c.serve_piece.new.board c.loop-left.invariant.store c.serve_piece.ensures.store
+
+pub returns-clause-others : goal.returns-clause-others
+returns-clause-others g c = c.loop-left.invariant.others
+
+pub returns-clause-counts : goal.returns-clause-counts
+returns-clause-counts g c = c.loop-left.invariant.counts
+
+pub returns-in-Err-clause-read_fault : goal.returns-in-Err-clause-read_fault
+returns-in-Err-clause-read_fault g c same = rose_behind _ _ _ (c.loop-left.invariant.counts c.args.word) (c.read_piece.ensures.cause.failed (ap is_err c.in-Err.is))
+
+pub returns-in-Err-clause-board_fault : goal.returns-in-Err-clause-board_fault
+returns-in-Err-clause-board_fault g c = read_is_no_fault _
