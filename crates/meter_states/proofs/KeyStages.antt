@@ -1,5 +1,5 @@
 -- What a key does in its row of operating position and key, as a stage of an event.
-use Rattle.std.proofs.Common.{◌≡◌, ℕ, ◌+◌, ◌≤◌, List, [], ◌∷◌, ◌++◌, length, refl, ap, sym, subst, ◌∙◌, inl, inr, arith}
+use Rattle.std.proofs.Common.{◌≡◌, ℕ, ◌+◌, ◌≤◌, List, [], ◌∷◌, ◌++◌, length, ◌⊎◌, Option, Some, None, refl, ap, sym, subst, ◌∙◌, inl, inr, arith}
 use Rattle.seal_store.specs.declared.seal.Seal.{Seal}
 use Rattle.tariff_compile.specs.Tables.{TableParts}
 use Rattle.taxi_units.specs.declared.event.Key.{Key}
@@ -8,8 +8,9 @@ use Rattle.taxi_units.specs.declared.event.Operating.{Operating}
 use Rattle.taxi_units.specs.declared.event.Operating.TheVariants.{Off, ForHire, Hired, Stopped}
 use Rattle.taxi_units.specs.declared.event.Why.{Why}
 use Rattle.taxi_units.specs.declared.event.Why.TheVariants.{NotNow}
+use Rattle.meter_states.specs.Acts.{StayLawful}
 use Rattle.meter_states.specs.Core.{Plain, Follows, plain_of}
-use Rattle.meter_states.specs.Keys.{key_in}
+use Rattle.meter_states.specs.Keys.{key_in, key_pressed, latch_pressed}
 use Rattle.meter_states.specs.Lawful.{HasTrip, IsAmidEvent, pressing_steps}
 use Rattle.meter_states.specs.Meter.{Meter, Outcome, quiet, refused}
 use Rattle.meter_states.specs.Setting.{Setting, IsSettingOf}
@@ -17,7 +18,7 @@ use Rattle.meter_states.specs.Stages.{ClosesTrip, CommitsNothing, IsReadyForKey,
 use Rattle.meter_states.specs.declared.act.Act.{Act}
 use Rattle.meter_states.specs.declared.act.Act.TheVariants.{Refuse}
 use Rattle.meter_states.proofs.Outcomes.{quiet-follows}
-use Rattle.meter_states.proofs.Powered.{between-amid}
+use Rattle.meter_states.proofs.Powered.{between-amid, powered-unlatched}
 use Rattle.meter_states.proofs.Pushes.{few-more, few-none, lawful-more}
 
 -- a key acts as its row says
@@ -182,3 +183,20 @@ commits-as {p} {seal} {old} {new} {before} {acts} first stage x is = record {
 
 pub steps-same : (n k : ℕ) → n ≡ k + 1 → n ≤ k + 1
 steps-same n k is = omega arith
+
+-- the key that waits is taken, and acts
+pub unlatched-ready : {p : TableParts} {inside old : Plain} {acts : List Act} → inside ≡ old → IsReadyForKey p old acts → IsReadyForKey p (record inside { latch = None }) acts
+unlatched-ready {p} view ready = record { lawful = powered-unlatched (subst (IsAmidEvent p) (sym view) ready.lawful); room = ready.room }
+
+pub pressed-closes : {p : TableParts} {seal : Seal} {inside old new : Plain} {before acts : List Act} (key : Key) → inside ≡ old → inside.latch ≡ Some key
+    → MayClose p seal 2 (record inside { latch = None }) new before acts (λ s m. key_in s key m.operating m) → MayClose p seal 2 old new before acts (λ s m. key_pressed s m)
+pressed-closes {p} {seal} {inside} {old} {new} {before} {acts} key view waits x = record {
+  lawful = x.lawful;
+  few = x.few;
+  roam = subst (λ (c : Plain). ((length acts ≤ 1) × (new.number ≡ c.number)) ⊎ (new.roam ≡ 0)) view x.roam;
+  ranges = subst (λ (c : Plain). StayLawful p c.number before acts) view x.ranges;
+  follows = λ s m setting e.
+      let latch : m.latch ≡ Some key = sym (ap (λ (c : Plain). c.latch) (view ∙ e)) ∙ waits in
+      subst (λ (o : Option Key). Follows s new before acts (latch_pressed s o m)) (sym latch)
+      (x.follows s (record m { latch = None }) setting (ap (λ (c : Plain). record c { latch = None }) (view ∙ e)));
+}

@@ -8,6 +8,7 @@ use Rattle.taxi_units.specs.declared.event.Operating.TheVariants.{Off}
 use Rattle.totaliser_store.specs.declared.trip.Trip.{Trip}
 use Rattle.totaliser_store.specs.declared.trip.Trip as store
 use Rattle.meter_states.specs.Core.{Plain, Follows, Meets, plain_of, forgotten}
+use Rattle.meter_states.specs.Display.{fare_shown}
 use Rattle.meter_states.specs.Lawful.{IsBetweenEvents, IsPowered, HasTrip}
 use Rattle.meter_states.specs.Meter.{Meter, Outcome, ◌>>=◌, quiet}
 use Rattle.meter_states.specs.Setting.{Setting}
@@ -65,3 +66,7 @@ back-stands s m core operating h e saved is =
 pub trip-saved : (s : Setting) (trip : Option model.Trip) (x : store.Trip) → option_map (saved_of s) trip ≡ Some x → (t : model.Trip) × (trip ≡ Some t) × (x ≡ saved_of s t)
 trip-saved s None x e = absurd cc
 trip-saved s (Some t) x e = (t, refl, cc)
+
+pub fare-none : (s : Setting) (trip : Option model.Trip) → option_map (saved_of s) trip ≡ None → 0 ≡ fare_shown s trip
+fare-none s None e = refl
+fare-none s (Some t) e = absurd cc

@@ -1,11 +1,12 @@
 -- What a powered core has in its operating position, and cores in wider ranges.
-use Rattle.std.proofs.Common.{◌≡◌, ◌≢◌, ◌⊎◌, ◌↔◌, ℕ, Bool, true, false, Option, Some, None, inl, inr, refl, ap, sym, subst, ◌∙◌, arith}
+use Rattle.std.proofs.Common.{◌≡◌, ◌≢◌, ◌⊎◌, ◌↔◌, ℕ, ◌+◌, ◌<◌, ◌≤◌, Bool, true, false, Option, Some, None, inl, inr, refl, ap, sym, subst, ◌∙◌, arith}
 use Rattle.tariff_compile.specs.Tables.{TableParts}
 use Rattle.taxi_units.specs.declared.event.Operating.{Operating}
 use Rattle.taxi_units.specs.declared.event.Operating.TheVariants.{Off, ForHire, Hired, Stopped}
+use Rattle.totaliser_store.specs.Ranges.{last_number}
 use Rattle.totaliser_store.specs.declared.trip.Trip.{Trip}
 use Rattle.meter_states.specs.Core.{Plain, Stands, plain_of}
-use Rattle.meter_states.specs.Lawful.{HasTrip, IsAmidEvent, IsBetweenEvents, IsPowered, IsTripInRange}
+use Rattle.meter_states.specs.Lawful.{HasTrip, IsAmidEvent, IsBetweenEvents, IsPowered, IsTripBeside, IsTripInRange}
 use Rattle.meter_states.specs.Meter.{Meter}
 use Rattle.meter_states.specs.Setting.{Setting}
 
@@ -88,3 +89,74 @@ powered-wider on = record {
 -- what is between two events is amid one
 pub between-amid : {p : TableParts} {core : Plain} → IsBetweenEvents p core → IsAmidEvent p core
 between-amid on = powered-wider on
+
+-- a core whose key is taken
+pub powered-unlatched : {p : TableParts} {ticks most spare : ℕ} {core : Plain} → IsPowered p ticks most spare core → IsPowered p ticks most spare (record core { latch = None })
+powered-unlatched on = record {
+  on = on.on;
+  position = on.position;
+  zone = on.zone;
+  clock = on.clock;
+  began = on.began;
+  gate = on.gate;
+  roam = on.roam;
+  none = on.none;
+  ended = on.ended;
+  number = on.number;
+  held = on.held;
+  begun = on.begun;
+  trip = on.trip;
+}
+
+-- a trip may have the pulses of an unfinished interval
+trip-spare : (p : TableParts) (number : ℕ) (trip : Option Trip) → IsTripInRange p (number + 0) 8640000 trip → IsTripInRange p (number + 1) 8640000 trip
+trip-spare p number None range = tt
+trip-spare p number (Some t) range = record { range = range.range; pulses = omega (arith, range.pulses) }
+
+pub amid-closes : {p : TableParts} {core : Plain} → IsAmidEvent p core → IsPowered p 8640000 1001999 1 core
+amid-closes {p} {core} on = record {
+  on = on.on;
+  position = on.position;
+  zone = on.zone;
+  clock = on.clock;
+  began = on.began;
+  gate = on.gate;
+  roam = on.roam;
+  none = on.none;
+  ended = on.ended;
+  number = on.number;
+  held = on.held;
+  begun = on.begun;
+  trip = trip-spare p core.number core.trip (trip-longer p (core.number + 0) core.trip on.trip);
+}
+
+-- a core for hire whose roaming pulses are entered
+pub powered-entered : {p : TableParts} {core : Plain} → core.operating ≡ ForHire → 0 < core.roam → IsPowered p 8639999 1001999 1 core → IsBetweenEvents p (record core { roam = 0; number = core.number + 1 })
+powered-entered {p} {core} hire some on =
+    let none : core.trip ≡ None = subst (λ (o : Operating). HasTrip o core.trip) hire on.on in
+    let few = on.ended some in
+    record {
+      on = on.on;
+      position = on.position;
+      zone = on.zone;
+      clock = on.clock;
+      began = on.began;
+      gate = on.gate;
+      roam = omega arith;
+      none = λ there. refl;
+      ended = λ more. absurd (omega (arith, more));
+      number = (omega arith, omega (arith, few));
+      held = λ there. absurd (there none);
+      begun = on.begun;
+      trip = subst (IsTripInRange p (core.number + 1 + 0) 8639999) (sym none) tt;
+    }
+
+pub roaming-room : {p : TableParts} {ticks most spare : ℕ} {core : Plain} → 0 < core.roam → IsPowered p ticks most spare core → core.number + 1 ≤ last_number
+roaming-room some on = let few = on.ended some in omega (arith, few)
+
+pub roaming-beside : (n : ℕ) → n + 1 ≤ last_number → n ≤ last_number
+roaming-beside n room = omega arith
+
+-- the pulses of a trip
+pub pulses-below : {p : TableParts} {number : ℕ} {t : Trip} → IsTripBeside p (number + 0) 8639999 t → number ≤ 2000000000000001 → t.pulses ≤ 9000000000000000000
+pulses-below beside few = omega (arith, beside.pulses, beside.range.ticks, few)

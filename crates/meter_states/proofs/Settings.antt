@@ -1,5 +1,5 @@
 -- What tables have of their setting.
-use Rattle.std.proofs.Common.{◌≡◌, ℕ, ◌*◌, ◌<◌, ap, ◌∙◌, arith}
+use Rattle.std.proofs.Common.{◌≡◌, ℕ, ◌*◌, ◌<◌, ◌≤◌, ap, ◌∙◌, arith}
 use Rattle.std.proofs.Math.Nat.{mul-pos}
 use Rattle.tariff_check.specs.Measure.{measure_of}
 use Rattle.tariff_compile.specs.Tables.{TableParts, IsFit}
@@ -31,3 +31,6 @@ modulus-some s p is fit =
     let step : 0 < step_of s = omega (arith, step-is s p is, fit.step.0) in
     let unit : 0 < unit_of s = omega (arith, unit-is s p is, fit.measure.0) in
     mul-pos step unit
+
+pub product-some : {a b : ℕ} → 0 < a → 0 < b → 1 ≤ a * b
+product-some a b = mul-pos a b

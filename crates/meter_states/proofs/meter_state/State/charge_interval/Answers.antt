@@ -1,0 +1,34 @@
+use Rattle.std.proofs.Common.{ap, sym, ◌∙◌}
+use Rattle.meter_states.specs.Core.{Plain}
+use Rattle.meter_states.proofs.Powered.{amid-closes, between-amid, pulses-below}
+use Rattle.meter_states.proofs.meter_state.State.charge_interval.Goals as goal
+
+pub weights-weights-requires-clause-lawful : goal.weights-weights-requires-clause-lawful
+weights-weights-requires-clause-lawful g c = amid-closes (between-amid c.requires.lawful)
+
+pub weights-weights-requires-clause-facts : goal.weights-weights-requires-clause-facts
+weights-weights-requires-clause-facts g c = c.requires.facts
+
+pub add_hired-requires-clause-pulses : goal.add_hired-requires-clause-pulses
+add_hired-requires-clause-pulses g c = c.take-pulses.ensures.most
+
+pub add_hired-requires-clause-weights : goal.add_hired-requires-clause-weights
+add_hired-requires-clause-weights g c = c.weights-weights.ensures.fit
+
+pub add_hired-requires-clause-few : goal.add_hired-requires-clause-few
+add_hired-requires-clause-few g c =
+    let has = sym (ap (λ (p : Plain). p.trip) c.self.view_is) ∙ c.in-Some.is in
+    let range = rw has at c.requires.lawful.trip in
+    pulses-below range c.requires.lawful.number.1
+
+pub add_hired-requires-clause-range : goal.add_hired-requires-clause-range
+add_hired-requires-clause-range g c =
+    let has = sym (ap (λ (p : Plain). p.trip) c.self.view_is) ∙ c.in-Some.is in
+    let range = rw has at c.requires.lawful.trip in
+    range.range
+
+pub returns-clause-facts : goal.returns-clause-facts
+returns-clause-facts g c = c.weights-weights.ensures.facts
+
+pub returns-clause-steps : goal.returns-clause-steps
+returns-clause-steps g c = c.weights-weights.ensures.steps

@@ -1,0 +1,34 @@
+use Rattle.std.proofs.Common.{ap, sym, subst, ◌∙◌}
+use Rattle.taxi_units.specs.Time.{IsSecond}
+use Rattle.taxi_units.specs.declared.receipt.Kind.TheVariants.{Closed}
+use Rattle.meter_states.specs.Closing.{closed}
+use Rattle.meter_states.specs.Core.{Follows, Plain}
+use Rattle.meter_states.specs.Meter.{Outcome}
+use Rattle.meter_states.proofs.Powered.{amid-closes}
+use Rattle.meter_states.proofs.Pushes.{few-none}
+use Rattle.meter_states.proofs.meter_state.State.clear.Goals as goal
+
+pub close-requires-clause-lawful : goal.close-requires-clause-lawful
+close-requires-clause-lawful g c = amid-closes c.requires.ready.lawful
+
+pub close-requires-clause-trip : goal.close-requires-clause-trip
+close-requires-clause-trip g c = c.requires.trip
+
+pub close-requires-clause-finish : goal.close-requires-clause-finish
+close-requires-clause-finish g c = subst (λ (p : Plain). IsSecond p.clock) (sym c.self.view_is) c.requires.ready.lawful.clock
+
+pub close-requires-clause-room : goal.close-requires-clause-room
+close-requires-clause-room g c = few-none 1 c.args.acts.now.items c.requires.ready.room
+
+pub returns-clause-stage : goal.returns-clause-stage
+returns-clause-stage g c = record {
+  lawful = c.close.ensures.lawful;
+  few = rw c.requires.ready.room at c.close.ensures.few;
+  roam = c.close.ensures.roam;
+  ranges = c.close.ensures.ranges;
+  follows = λ s m is e. subst (λ (o : Outcome). Follows s c.close.new.self c.args.acts.now.items c.close.new.acts.items o)
+      (ap (λ (p : Plain). closed s Closed p.clock m) (c.self.view_is ∙ e)) (c.close.ensures.follows s m is e);
+}
+
+pub returns-clause-steps : goal.returns-clause-steps
+returns-clause-steps g c = c.close.ensures.steps
