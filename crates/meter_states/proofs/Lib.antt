@@ -34,6 +34,8 @@ mod Refused
 mod Resumed
 -- a trip that is opened from its saved form has the saved form of the whole trip
 mod ResumedForms
+-- what the check of the roaming pulses does in each case
+mod RoamingStages
 -- runs over lists of events
 mod Runs
 -- what tables have of their setting

@@ -109,9 +109,9 @@ powered-unlatched on = record {
 }
 
 -- a trip may have the pulses of an unfinished interval
-trip-spare : (p : TableParts) (number : ℕ) (trip : Option Trip) → IsTripInRange p (number + 0) 8640000 trip → IsTripInRange p (number + 1) 8640000 trip
-trip-spare p number None range = tt
-trip-spare p number (Some t) range = record { range = range.range; pulses = omega (arith, range.pulses) }
+pub trip-spare : (p : TableParts) (number most : ℕ) (trip : Option Trip) → IsTripInRange p (number + 0) most trip → IsTripInRange p (number + 1) most trip
+trip-spare p number most None range = tt
+trip-spare p number most (Some t) range = record { range = range.range; pulses = omega (arith, range.pulses) }
 
 pub amid-closes : {p : TableParts} {core : Plain} → IsAmidEvent p core → IsPowered p 8640000 1001999 1 core
 amid-closes {p} {core} on = record {
@@ -127,7 +127,7 @@ amid-closes {p} {core} on = record {
   number = on.number;
   held = on.held;
   begun = on.begun;
-  trip = trip-spare p core.number core.trip (trip-longer p (core.number + 0) core.trip on.trip);
+  trip = trip-spare p core.number 8640000 core.trip (trip-longer p (core.number + 0) core.trip on.trip);
 }
 
 -- a core for hire whose roaming pulses are entered

@@ -1,0 +1,76 @@
+-- What the check of the roaming pulses does in each case.
+use Rattle.std.proofs.Common.{◌≡◌, ℕ, ◌+◌, ◌<◌, ◌≤◌, ◌⊎◌, List, sum, inl, inr, ap, subst, ◌∙◌, arith}
+use Rattle.std.proofs.lemmas.Grind.{common_steps}
+use Rattle.tariff_compile.specs.Tables.{TableParts}
+use Rattle.taxi_units.specs.declared.event.Operating.{Operating}
+use Rattle.taxi_units.specs.declared.event.Operating.TheVariants.{ForHire}
+use Rattle.meter_states.specs.Acts.{StayLawful}
+use Rattle.meter_states.specs.Closing.{roaming_checked, roaming_checked_in, roaming_entered}
+use Rattle.meter_states.specs.Core.{Plain}
+use Rattle.meter_states.specs.Lawful.{IsAmidEvent, IsBetweenEvents, IsPowered}
+use Rattle.meter_states.specs.Meter.{Meter, quiet}
+use Rattle.meter_states.specs.Setting.{Setting}
+use Rattle.meter_states.specs.declared.act.Act.{Act}
+use Rattle.meter_states.proofs.Powered.{trip-spare}
+
+many-in : (s : Setting) (m : Meter) → 1000000 ≤ sum m.roaming → roaming_checked_in s ForHire m ≡ roaming_entered s m
+many-in s m many = grind (arith, common_steps)
+
+few-in : (s : Setting) (m : Meter) → sum m.roaming < 1000000 → roaming_checked_in s ForHire m ≡ quiet m
+few-in s m few = grind (arith, common_steps)
+
+pub checked-many : (s : Setting) (m : Meter) → m.operating ≡ ForHire → 1000000 ≤ sum m.roaming → roaming_checked s m ≡ roaming_entered s m
+checked-many s m hire many = ap (λ (o : Operating). roaming_checked_in s o m) hire ∙ many-in s m many
+
+pub checked-few : (s : Setting) (m : Meter) → m.operating ≡ ForHire → sum m.roaming < 1000000 → roaming_checked s m ≡ quiet m
+checked-few s m hire few = ap (λ (o : Operating). roaming_checked_in s o m) hire ∙ few-in s m few
+
+-- a core with many roaming pulses has some, and room for their entry
+pub many-some : (roam : ℕ) → 1000000 ≤ roam → 0 < roam
+many-some roam many = omega arith
+
+pub room-three : (n roam : ℕ) → (n ≤ 1) ⊎ ((n ≤ 3) × (roam ≡ 0)) → n ≤ 3
+room-three n roam (inl x) = omega arith
+room-three n roam (inr x) = x.0
+
+pub few-entered : (n before roam : ℕ) → (before ≤ 1) ⊎ ((before ≤ 3) × (roam ≡ 0)) → 1000000 ≤ roam → n ≤ before + 1 → n ≤ 3
+few-entered n before roam (inl x) many few = omega arith
+few-entered n before roam (inr x) many few = absurd (omega (arith, x.1))
+
+pub lawful-entered : (p : TableParts) (n number roam : ℕ) (before acts : List Act) → (n ≡ number) ⊎ (roam ≡ 0) → 1000000 ≤ roam → StayLawful p n before acts → StayLawful p number before acts
+lawful-entered p n number roam before acts (inl x) many stay = subst (λ (k : ℕ). StayLawful p k before acts) x stay
+lawful-entered p n number roam before acts (inr x) many stay = absurd (omega arith)
+
+pub amid-enters : {p : TableParts} {core : Plain} → IsAmidEvent p core → IsPowered p 8639999 1001999 1 core
+amid-enters {p} {core} on = record {
+  on = on.on;
+  position = on.position;
+  zone = on.zone;
+  clock = on.clock;
+  began = on.began;
+  gate = on.gate;
+  roam = on.roam;
+  none = on.none;
+  ended = on.ended;
+  number = on.number;
+  held = on.held;
+  begun = on.begun;
+  trip = trip-spare p core.number 8639999 core.trip on.trip;
+}
+
+pub amid-few : {p : TableParts} {core : Plain} → IsAmidEvent p core → core.roam < 1000000 → IsBetweenEvents p core
+amid-few on few = record {
+  on = on.on;
+  position = on.position;
+  zone = on.zone;
+  clock = on.clock;
+  began = on.began;
+  gate = on.gate;
+  roam = omega (arith, few);
+  none = on.none;
+  ended = on.ended;
+  number = on.number;
+  held = on.held;
+  begun = on.begun;
+  trip = on.trip;
+}
