@@ -1,5 +1,5 @@
--- How a dry run ends, by what its drive came to.
-use Rattle.std.proofs.Common.{◌≡◌, ℕ, ◌≤◌, List, ◌++◌, length, Err, sym, ap, subst}
+-- How a run ends, by what its drive came to.
+use Rattle.std.proofs.Common.{◌≡◌, ℕ, ◌≤◌, List, ◌++◌, length, Err, Result, sym, ap, subst}
 use Rattle.std.proofs.lemmas.List.{take_all}
 use Rattle.outside.specs.Printing.{Begins}
 use Rattle.taxi_units.specs.declared.event.Event.{Event}
@@ -13,9 +13,17 @@ use Rattle.meter_states.specs.Setting.{Setting, IsSettingOf}
 use Rattle.meter_run.specs.Drives.{RunsDrive, RunsTo, answer_of}
 use Rattle.meter_run.specs.Source.{EndsBy}
 use Rattle.meter_run.specs.Texts.{shown_texts}
+use Rattle.meter_run.specs.declared.fault.RunFault.{RunFault}
 use Rattle.meter_run.specs.declared.fault.RunFault.TheVariants as faults
 use Rattle.meter_run.specs.declared.source.Stop.{Stop}
 use Rattle.meter_run.specs.declared.source.Stop.TheVariants as stops
+
+abbrev fails : RunFault → Result (Unit {0}) RunFault
+fails fault = Err fault
+
+-- a fault of the board is no fault of a read
+pub board_only : fails faults.BoardFault ≡ fails faults.ReadFault → ⊥
+board_only same = absurd cc
 
 -- the events of the bytes that were taken are all of those that they have
 pub events_taken : (taken : List ℕ) → length taken ≤ drive_limit → events_of taken ≡ events_in taken

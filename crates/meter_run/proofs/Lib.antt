@@ -8,7 +8,7 @@ mod Doing
 mod Driving
 -- one event, and the supply drop at the end
 mod Dropping
--- how a dry run ends, by what its drive came to
+-- how a run ends, by what its drive came to
 mod Ended
 -- equal intervals that the core carries out at once
 mod Equal

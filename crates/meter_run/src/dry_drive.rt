@@ -82,7 +82,6 @@ fn begin() -> DryMeter
 }
 
 /// The supply drops, where the meter is powered.
-#[tactic(auto, using(outside::proofs::Laws::keeps_none))]
 fn drop_at_end<B: Board<L>, L: Ledger>(
     meter: &mut DryMeter,
     tables: &Tables,

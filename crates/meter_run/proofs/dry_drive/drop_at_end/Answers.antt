@@ -1,6 +1,9 @@
-use Rattle.std.proofs.Common.{◌≡◌, Bool, true, false, sym, ◌∙◌}
+use Rattle.std.proofs.Common.{◌≡◌, ◌∷◌, [], Bool, true, false, sym, ◌∙◌, arith}
 use Rattle.std.proofs.lemmas.Result.{on_ok_weaker}
-use Rattle.meter_run.proofs.Dropping.{ends_on, ends_some}
+use Rattle.outside.proofs.Laws.{keeps_none}
+use Rattle.taxi_units.specs.declared.event.Event.TheVariants.{Down}
+use Rattle.meter_run.proofs.Dropping.{ends_off, ends_on, ends_some, event_store, off_some}
+use Rattle.meter_run.proofs.Going.{no_more, went_well}
 use Rattle.meter_run.proofs.dry_drive.drop_at_end.Goals as goal
 
 off_not : (b : Bool) (P : Type 0) → (P → b ≡ true) → b ≡ false → P → ⊥
@@ -15,3 +18,29 @@ pub returns-clause-begun : goal.returns-clause-begun
 returns-clause-begun g c =
     ends_some g.B.Board c.args.tables.now c.args.seal.now c.carry_out.result c.args.meter.now c.args.board.now c.carry_out.new.self c.carry_out.new.board
     (off_not c.is_off.result _ c.is_off.ensures.1 c.if-is_off.false) c.carry_out.ensures.carried c.carry_out.ensures.broke_off
+
+pub returns-then-is_off-clause-whole : goal.returns-then-is_off-clause-whole
+returns-then-is_off-clause-whole g c = ends_off g.B.Board c.args.tables.now c.args.seal.now c.args.meter.now c.args.board.now (c.is_off.ensures.0 c.if-is_off.true)
+
+pub returns-then-is_off-clause-begun : goal.returns-then-is_off-clause-begun
+returns-then-is_off-clause-begun g c = off_some g.B.Board c.args.tables.now c.args.seal.now c.args.meter.now c.args.board.now (c.is_off.ensures.0 c.if-is_off.true)
+
+pub returns-then-is_off-clause-cause : goal.returns-then-is_off-clause-cause
+returns-then-is_off-clause-cause g c = went_well (g.B.Board.faults c.args.board.now) (g.B.Board.faults c.args.board.now) tt (no_more (g.B.Board.faults c.args.board.now))
+
+pub returns-then-is_off-clause-steps : goal.returns-then-is_off-clause-steps
+returns-then-is_off-clause-steps g c = omega arith
+
+pub returns-then-is_off-clause-store : goal.returns-then-is_off-clause-store
+returns-then-is_off-clause-store g c = keeps_none g.B.Board c.args.board.now
+
+pub returns-clause-cause : goal.returns-clause-cause
+returns-clause-cause g c = c.carry_out.ensures.cause
+
+pub returns-clause-steps : goal.returns-clause-steps
+returns-clause-steps g c = c.carry_out.ensures.steps
+
+pub returns-clause-store : goal.returns-clause-store
+returns-clause-store g c =
+    event_store g.B.Board c.args.tables.now c.args.seal.now c.carry_out.result c.args.meter.now c.args.board.now c.carry_out.new.self c.carry_out.new.board (Down ∷ [])
+    c.carry_out.ensures.carried c.carry_out.ensures.broke_off

@@ -1,7 +1,9 @@
+use Rattle.std.proofs.Common.{arith, refl}
 use Rattle.outside.proofs.Laws.{keeps_then}
 use Rattle.drive_text.specs.Drive.{events_in}
 use Rattle.meter_run.proofs.Dropping.{end_begun, ready_first, run_begun, whole_printed}
-use Rattle.meter_run.proofs.Ended.{breaks, ends}
+use Rattle.meter_run.proofs.Ended.{board_only, breaks, ends}
+use Rattle.meter_run.proofs.Going.{counts_more, rose_later}
 use Rattle.meter_run.proofs.dry_drive.dry_run.Goals as goal
 
 pub carry_drive-requires : goal.carry_drive-requires
@@ -45,3 +47,64 @@ returns-in-Err-clause-ends g c = λ tells.
     breaks g.B.Board.tells_text t k (g.F.Files.rest c.args.files.now c.args.word) (g.F.Files.rest c.carry_drive.new.files c.args.word) (g.B.Board.printed c.args.board.now) (g.B.Board.printed c.carry_drive.new.board)
     h.taken h.few (h.split tells)
     (run_begun g.B.Board t k c.begin-meter.result c.args.board.now c.begin-meter.ensures.off c.begin-meter.ensures.first (events_in h.taken) c.carry_drive.new.board h.broke_off)
+
+pub drop_at_end-requires : goal.drop_at_end-requires
+drop_at_end-requires g c = record { ready = c.in-Ok.ensures.ready }
+
+pub returns-in-Ok-drop_at_end-clause-steps : goal.returns-in-Ok-drop_at_end-clause-steps
+returns-in-Ok-drop_at_end-clause-steps g c = λ tells.
+    let h = c.in-Ok.ensures.carried in
+    record { taken = h.taken; split = h.split tells; bound = omega (arith, h.bounded, c.drop_at_end.ensures.steps) }
+
+pub returns-in-Ok-drop_at_end-clause-others : goal.returns-in-Ok-drop_at_end-clause-others
+returns-in-Ok-drop_at_end-clause-others g c = c.carry_drive.ensures.others
+
+pub returns-in-Ok-drop_at_end-clause-counts : goal.returns-in-Ok-drop_at_end-clause-counts
+returns-in-Ok-drop_at_end-clause-counts g c = c.carry_drive.ensures.counts
+
+pub returns-in-Ok-drop_at_end-clause-count : goal.returns-in-Ok-drop_at_end-clause-count
+returns-in-Ok-drop_at_end-clause-count g c = counts_more _ _ _ c.carry_drive.ensures.cause.later c.drop_at_end.ensures.cause.later
+
+pub returns-in-Err-drop_at_end-clause-steps : goal.returns-in-Err-drop_at_end-clause-steps
+returns-in-Err-drop_at_end-clause-steps g c = λ tells.
+    let h = c.in-Ok.ensures.carried in
+    record { taken = h.taken; split = h.split tells; bound = omega (arith, h.bounded, c.drop_at_end.ensures.steps) }
+
+pub returns-in-Err-drop_at_end-clause-others : goal.returns-in-Err-drop_at_end-clause-others
+returns-in-Err-drop_at_end-clause-others g c = c.carry_drive.ensures.others
+
+pub returns-in-Err-drop_at_end-clause-counts : goal.returns-in-Err-drop_at_end-clause-counts
+returns-in-Err-drop_at_end-clause-counts g c = c.carry_drive.ensures.counts
+
+pub returns-in-Err-drop_at_end-clause-count : goal.returns-in-Err-drop_at_end-clause-count
+returns-in-Err-drop_at_end-clause-count g c = counts_more _ _ _ c.carry_drive.ensures.cause.later c.drop_at_end.ensures.cause.later
+
+pub returns-in-Err-drop_at_end-clause-board_fault : goal.returns-in-Err-drop_at_end-clause-board_fault
+returns-in-Err-drop_at_end-clause-board_fault g c = λ is.
+    rose_later (g.B.Board.faults c.args.board.now) (g.B.Board.faults c.carry_drive.new.board) (g.B.Board.faults c.drop_at_end.new.board) c.carry_drive.ensures.cause.later (c.in-Err-drop_at_end.ensures.cause.failed refl)
+
+pub returns-in-Err-drop_at_end-clause-read_fault : goal.returns-in-Err-drop_at_end-clause-read_fault
+returns-in-Err-drop_at_end-clause-read_fault g c = λ is. absurd (board_only is)
+
+pub returns-in-Err-clause-steps : goal.returns-in-Err-clause-steps
+returns-in-Err-clause-steps g c = λ tells.
+    let h = c.in-Err.ensures.broke_off in
+    record { taken = h.taken; split = h.split tells; bound = omega (arith, h.bounded) }
+
+pub returns-in-Err-clause-others : goal.returns-in-Err-clause-others
+returns-in-Err-clause-others g c = c.carry_drive.ensures.others
+
+pub returns-in-Err-clause-counts : goal.returns-in-Err-clause-counts
+returns-in-Err-clause-counts g c = c.carry_drive.ensures.counts
+
+pub returns-in-Err-clause-count : goal.returns-in-Err-clause-count
+returns-in-Err-clause-count g c = c.carry_drive.ensures.cause.later
+
+pub returns-in-Err-clause-board_fault : goal.returns-in-Err-clause-board_fault
+returns-in-Err-clause-board_fault g c = λ is. c.in-Err.ensures.cause.failed refl
+
+pub returns-in-Err-clause-store : goal.returns-in-Err-clause-store
+returns-in-Err-clause-store g c = c.in-Err.ensures.broke_off.broke_off.store
+
+pub returns-in-Err-clause-read_fault : goal.returns-in-Err-clause-read_fault
+returns-in-Err-clause-read_fault g c = λ is. absurd (board_only is)

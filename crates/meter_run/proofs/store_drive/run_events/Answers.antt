@@ -1,16 +1,9 @@
-use Rattle.std.proofs.Common.{◌≡◌, Err, Ok, Result, ap, arith, refl}
+use Rattle.std.proofs.Common.{Ok, ap, arith, refl}
 use Rattle.meter_run.specs.StoreLaws.{beside_then}
-use Rattle.meter_run.specs.declared.fault.RunFault.{RunFault}
-use Rattle.meter_run.specs.declared.fault.RunFault.TheVariants.{BoardFault, ReadFault}
+use Rattle.meter_run.proofs.Ended.{board_only}
 use Rattle.meter_run.proofs.Going.{counts_more, rose_later}
 use Rattle.meter_run.proofs.Whole.{done_whole, ran_amid, ran_to_end, ran_whole, ready_new, secured_of}
 use Rattle.meter_run.proofs.store_drive.run_events.Goals as goal
-
-abbrev fails : RunFault → Result (Unit {0}) RunFault
-fails fault = Err fault
-
-other_fault : fails BoardFault ≡ fails ReadFault → ⊥
-other_fault same = absurd cc
 
 pub carry_drive-requires : goal.carry_drive-requires
 carry_drive-requires g c = record {
@@ -100,7 +93,7 @@ returns-in-Err-end-clause-board_fault g c = λ is.
     rose_later (g.B.Board.faults c.args.board.now) (g.B.Board.faults c.carry_drive.new.board) (g.B.Board.faults c.end.new.board) c.carry_drive.ensures.cause.later (c.in-Err-end.ensures.cause.failed refl)
 
 pub returns-in-Err-end-clause-read_fault : goal.returns-in-Err-end-clause-read_fault
-returns-in-Err-end-clause-read_fault g c = λ is. absurd (other_fault is)
+returns-in-Err-end-clause-read_fault g c = λ is. absurd (board_only is)
 
 pub returns-in-Err-clause-steps : goal.returns-in-Err-clause-steps
 returns-in-Err-clause-steps g c = λ tells.
@@ -120,4 +113,4 @@ pub returns-in-Err-clause-board_fault : goal.returns-in-Err-clause-board_fault
 returns-in-Err-clause-board_fault g c = λ is. c.in-Err.ensures.cause.failed refl
 
 pub returns-in-Err-clause-read_fault : goal.returns-in-Err-clause-read_fault
-returns-in-Err-clause-read_fault g c = λ is. absurd (other_fault is)
+returns-in-Err-clause-read_fault g c = λ is. absurd (board_only is)
