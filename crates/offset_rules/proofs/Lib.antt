@@ -22,6 +22,8 @@ mod NamesRead
 mod Places
 -- a plain text is read as its rule, and what is read is in its ranges
 mod PlainTexts
+-- what is read one part behind the other
+mod ReadOn
 -- texts of rules are read by their lines
 mod TextsRead
 -- the two changes of a year, the earlier one and the later one
