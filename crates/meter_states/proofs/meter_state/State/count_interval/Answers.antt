@@ -22,12 +22,6 @@ charge_interval-requires-clause-facts g c = c.requires.facts
 pub charge_interval-requires-clause-on : goal.charge_interval-requires-clause-on
 charge_interval-requires-clause-on g c = sym (ap (λ (p : Plain). p.operating) c.self.view_is) ∙ c.in-Hired.is
 
-pub pass_interval-requires-clause-lawful : goal.pass_interval-requires-clause-lawful
-pass_interval-requires-clause-lawful g c = c.requires.lawful
-
-pub pass_interval-requires-clause-on : goal.pass_interval-requires-clause-on
-pass_interval-requires-clause-on g c = sym (ap (λ (p : Plain). p.operating) c.self.view_is) ∙ c.in-Stopped.is
-
 pub returns-in-Off-clause-lawful : goal.returns-in-Off-clause-lawful
 returns-in-Off-clause-lawful g c = absurd (not_off c.args.self.now.operating c.args.self.now.trip c.requires.lawful.on (sym (ap (λ (p : Plain). p.operating) c.self.view_is) ∙ c.in-Off.is))
 
@@ -71,19 +65,8 @@ returns-in-Hired-clause-state g c = λ s m is e.
     let here = sym c.in-Hired.is ∙ ap (λ (p : Plain). p.operating) (c.self.view_is ∙ e) in
     c.charge_interval.ensures.state s m is e ∙ ap (λ (o : Operating). plain_of s (counted_in s o (sum m.taken) m)) here
 
-pub returns-in-Stopped-clause-lawful : goal.returns-in-Stopped-clause-lawful
-returns-in-Stopped-clause-lawful g c = powered-wider c.pass_interval.ensures.lawful
-
 pub returns-in-Stopped-clause-facts : goal.returns-in-Stopped-clause-facts
 returns-in-Stopped-clause-facts g c = c.requires.facts
-
-pub returns-in-Stopped-clause-same : goal.returns-in-Stopped-clause-same
-returns-in-Stopped-clause-same g c = c.pass_interval.ensures.same
-
-pub returns-in-Stopped-clause-state : goal.returns-in-Stopped-clause-state
-returns-in-Stopped-clause-state g c = λ s m is e.
-    let here = sym c.in-Stopped.is ∙ ap (λ (p : Plain). p.operating) (c.self.view_is ∙ e) in
-    c.pass_interval.ensures.state s m e ∙ ap (λ (o : Operating). plain_of s (counted_in s o (sum m.taken) m)) here
 
 pub returns-in-Hired-clause-steps : goal.returns-in-Hired-clause-steps
 returns-in-Hired-clause-steps g c = subst (λ (o : Operating). c.charge_interval.new.steps ≤ c.args.steps.now + counting_steps o) (sym (sym (ap (λ (p : Plain). p.operating) c.self.view_is) ∙ c.in-Hired.is)) c.charge_interval.ensures.steps

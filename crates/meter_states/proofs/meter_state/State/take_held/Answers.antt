@@ -3,9 +3,8 @@ use Rattle.meter_states.specs.Core.{Follows}
 use Rattle.meter_states.specs.Meter.{Outcome}
 use Rattle.meter_states.specs.Supply.{resumed}
 use Rattle.meter_states.proofs.Outcomes.{quiet-follows}
-use Rattle.meter_states.proofs.Powered.{none-hires}
 use Rattle.meter_states.proofs.Pushes.{few-none}
-use Rattle.meter_states.proofs.SupplyStages.{begun-by, held-second, hold-aborted, hold-resumed}
+use Rattle.meter_states.proofs.SupplyStages.{begun-by, held-second, hold-resumed}
 use Rattle.meter_states.proofs.meter_state.State.take_held.Goals as goal
 
 pub is_within_hold-requires : goal.is_within_hold-requires
@@ -26,24 +25,6 @@ go_on-requires-clause-range g c = c.requires.range
 pub go_on-requires-clause-fits : goal.go_on-requires-clause-fits
 go_on-requires-clause-fits g c = c.requires.fits
 
-pub abort-requires-clause-lawful : goal.abort-requires-clause-lawful
-abort-requires-clause-lawful g c = c.requires.lawful
-
-pub abort-requires-clause-hire : goal.abort-requires-clause-hire
-abort-requires-clause-hire g c = none-hires c.args.self.now.operating c.args.self.now.trip c.requires.lawful.on c.requires.new.1
-
-pub abort-requires-clause-new : goal.abort-requires-clause-new
-abort-requires-clause-new g c = c.requires.new
-
-pub abort-requires-clause-range : goal.abort-requires-clause-range
-abort-requires-clause-range g c = c.requires.range
-
-pub abort-requires-clause-fits : goal.abort-requires-clause-fits
-abort-requires-clause-fits g c = c.requires.fits
-
-pub abort-requires-clause-room : goal.abort-requires-clause-room
-abort-requires-clause-room g c = c.requires.room
-
 pub returns-then-is_within_hold-clause-lawful : goal.returns-then-is_within_hold-clause-lawful
 returns-then-is_within_hold-clause-lawful g c = c.go_on.ensures.lawful
 
@@ -60,20 +41,3 @@ returns-then-is_within_hold-clause-follows g c = λ s m is saved e.
     let within = sym (c.is_within_hold.ensures.value s is.secured) ∙ c.if-is_within_hold.true in
     subst (λ (o : Outcome). Follows s c.go_on.new.self acts acts o) (sym (hold-resumed s c.args.second held m within))
     (quiet-follows s c.go_on.new.self acts (resumed held m).next (c.go_on.ensures.state s m is saved e))
-
-pub returns-else-is_within_hold-clause-lawful : goal.returns-else-is_within_hold-clause-lawful
-returns-else-is_within_hold-clause-lawful g c = c.abort.ensures.lawful
-
-pub returns-else-is_within_hold-clause-few : goal.returns-else-is_within_hold-clause-few
-returns-else-is_within_hold-clause-few g c = c.abort.ensures.few
-
-pub returns-else-is_within_hold-clause-ranges : goal.returns-else-is_within_hold-clause-ranges
-returns-else-is_within_hold-clause-ranges g c = c.abort.ensures.ranges
-
-pub returns-else-is_within_hold-clause-follows : goal.returns-else-is_within_hold-clause-follows
-returns-else-is_within_hold-clause-follows g c = λ s m is saved e.
-    let without = sym (c.is_within_hold.ensures.value s is.secured) ∙ c.if-is_within_hold.false in
-    subst (λ (o : Outcome). Follows s c.abort.new.self c.args.acts.now.items c.abort.new.acts.items o) (sym (hold-aborted s c.args.second c.args.held m without)) (c.abort.ensures.follows s m is saved e)
-
-pub returns-else-is_within_hold-clause-steps : goal.returns-else-is_within_hold-clause-steps
-returns-else-is_within_hold-clause-steps g c = c.abort.ensures.steps
