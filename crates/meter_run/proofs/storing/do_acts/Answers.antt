@@ -1,9 +1,13 @@
-use Rattle.std.proofs.Common.{◌+◌, arith, refl, sym}
-use Rattle.std.proofs.lemmas.List.{append-nil}
+use Rattle.std.proofs.Common.{◌+◌, ◌++◌, ◌∙◌, List, ap, arith, refl, sym}
+use Rattle.std.proofs.lemmas.List.{append-nil, take_all}
 use Rattle.meter_states.specs.Acts.{IsLawfulAct}
+use Rattle.meter_states.specs.declared.act.Act.{Act}
+use Rattle.meter_run.specs.Commits.{after_acts}
+use Rattle.meter_run.specs.Deeds.{deeds_of, texts}
 use Rattle.meter_run.specs.StoreLaws.{beside_none, beside_then}
 use Rattle.meter_run.specs.PointLaws.{keeps_still}
 use Rattle.meter_run.proofs.Doing.{all_at, points_more, points_whole, steps_more, steps_whole, text_more}
+use Rattle.meter_run.proofs.Going.{counts_more, not_ok, went_well, went_wrong}
 use Rattle.meter_run.proofs.Performing.{are_after, are_at, after_more}
 use Rattle.meter_run.proofs.storing.do_acts.Goals as goal
 
@@ -32,7 +36,7 @@ loop-act-preserved g c =
       printed = text_more g.B.Board t k a b b' acts n _ c.loop-act-test.true i.printed c.in_ok-do_act.ensures.whole;
       points = λ told. points_more g.B.Board t k a b b' acts n _ c.loop-act-test.true i.printed c.args.known.now.durable c.loop-act.known.durable i.durable (i.points told) (c.do_act.ensures.points told);
       beside = λ told. beside_then g.B.Board a b b' (i.beside told) (c.do_act.ensures.beside told);
-      faults = omega (arith, i.faults, c.do_act.ensures.cause.later);
+      faults = counts_more _ _ _ i.faults c.do_act.ensures.cause.later;
       steps = steps_more acts n _ c.args.steps.now c.loop-act.steps c.do_act.new.steps c.loop-act-test.true i.steps c.do_act.ensures.steps;
     }
 
@@ -71,3 +75,32 @@ returns-in_err-do_act-clause-steps g c = steps_whole c.args.acts.now c.loop-act.
 
 pub returns-clause-points : goal.returns-clause-points
 returns-clause-points g c = λ told. points_whole g.B.Board c.args.tables.now c.args.seal.now c.args.board.now c.loop-act.board c.args.known.now.durable c.args.acts.now c.loop-act.act-index (c.loop-act.invariant.points told)
+
+pub returns-in_err-do_act-clause-durable : goal.returns-in_err-do_act-clause-durable
+returns-in_err-do_act-clause-durable g c = not_ok _ c.from_residual.result _ c.from_residual.ensures.1
+
+pub returns-in_err-do_act-clause-agrees : goal.returns-in_err-do_act-clause-agrees
+returns-in_err-do_act-clause-agrees g c = not_ok _ c.from_residual.result _ c.from_residual.ensures.1
+
+pub returns-in_err-do_act-clause-whole : goal.returns-in_err-do_act-clause-whole
+returns-in_err-do_act-clause-whole g c = λ told. not_ok _ c.from_residual.result _ c.from_residual.ensures.1
+
+pub returns-in_err-do_act-clause-cause : goal.returns-in_err-do_act-clause-cause
+returns-in_err-do_act-clause-cause g c = 
+    went_wrong (g.B.Board.faults c.args.board.now) (g.B.Board.faults c.loop-act.board) (g.B.Board.faults c.do_act.new.board) _ c.from_residual.result c.loop-act.invariant.faults c.in_err-do_act.ensures.cause
+
+pub returns-clause-durable : goal.returns-clause-durable
+returns-clause-durable g c = c.loop-act.invariant.durable ∙ ap (after_acts c.args.known.now.durable) (take_all c.loop-act.act-index c.args.acts.now c.loop-act-test.false)
+
+pub returns-clause-agrees : goal.returns-clause-agrees
+returns-clause-agrees g c = c.loop-act.invariant.agrees
+
+pub returns-clause-whole : goal.returns-clause-whole
+returns-clause-whole g c = λ told.
+    c.loop-act.invariant.printed told ∙ ap (λ (acts : List Act). g.B.Board.printed c.args.board.now ++ texts c.args.seal.now (deeds_of acts)) (take_all c.loop-act.act-index c.args.acts.now c.loop-act-test.false)
+
+pub returns-clause-cause : goal.returns-clause-cause
+returns-clause-cause g c = went_well (g.B.Board.faults c.args.board.now) (g.B.Board.faults c.loop-act.board) tt c.loop-act.invariant.faults
+
+pub returns-clause-beside : goal.returns-clause-beside
+returns-clause-beside g c = c.loop-act.invariant.beside
