@@ -86,7 +86,7 @@ pub returns-in_err-do_act-clause-whole : goal.returns-in_err-do_act-clause-whole
 returns-in_err-do_act-clause-whole g c = λ told. not_ok _ c.from_residual.result _ c.from_residual.ensures.1
 
 pub returns-in_err-do_act-clause-cause : goal.returns-in_err-do_act-clause-cause
-returns-in_err-do_act-clause-cause g c = 
+returns-in_err-do_act-clause-cause g c =
     went_wrong (g.B.Board.faults c.args.board.now) (g.B.Board.faults c.loop-act.board) (g.B.Board.faults c.do_act.new.board) _ c.from_residual.result c.loop-act.invariant.faults c.in_err-do_act.ensures.cause
 
 pub returns-clause-durable : goal.returns-clause-durable

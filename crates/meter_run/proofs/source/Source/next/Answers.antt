@@ -18,3 +18,27 @@ returns-clause-stops g c =
     let rest = g.F.Files.rest c.fill.new.files c.args.word in
     IfSome_then c.feed.result c.feed.ensures.stops (λ stop stops given h.
     stops_filled g.F.Files.tells c.args.self.now c.fill.new.self (g.F.Files.rest c.args.files.now c.args.word) rest given c.feed.new.runs.items stop filled (stops given rest (filled.stands given h)))
+
+pub feed-requires-clause-some : goal.feed-requires-clause-some
+feed-requires-clause-some g c = (c.fill.ensures.filled c.in_default.is).some
+
+pub returns-in-Some-clause-others : goal.returns-in-Some-clause-others
+returns-in-Some-clause-others g c = c.fill.ensures.others
+
+pub returns-in-Some-clause-read_fault : goal.returns-in-Some-clause-read_fault
+returns-in-Some-clause-read_fault g c = c.in-Some.ensures.read_fault
+
+pub returns-in-Some-clause-counts : goal.returns-in-Some-clause-counts
+returns-in-Some-clause-counts g c = c.fill.ensures.counts
+
+pub returns-clause-range : goal.returns-clause-range
+returns-clause-range g c = c.feed.ensures.range
+
+pub returns-clause-others : goal.returns-clause-others
+returns-clause-others g c = c.fill.ensures.others
+
+pub returns-clause-read_fault : goal.returns-clause-read_fault
+returns-clause-read_fault g c = λ fault. absurd (c.feed.ensures.no_fault fault)
+
+pub returns-clause-counts : goal.returns-clause-counts
+returns-clause-counts g c = c.fill.ensures.counts
