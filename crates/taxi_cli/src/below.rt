@@ -13,6 +13,6 @@ mod tariff_calendar_tests;
 mod tariff_check_tests;
 mod tariff_compile_tests;
 mod tariff_syntax_tests;
-mod tariff_texts;
+pub(crate) mod tariff_texts;
 mod totaliser_store_tests;
 mod verify_bench_tests;

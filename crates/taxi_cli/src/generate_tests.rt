@@ -1,21 +1,20 @@
 //! Generated drives, over boards in memory. Events, distances, supplements and fares are sums that a program of
 //! its own in another language makes by the rules of the drives and of the city tariff.
 ghost use Rattle.std.specs.Prelude.{◌≡◌, ◌<◌, ◌≤◌};
-ghost use Rattle.seal_store.specs.Ranges.{IsSeal};
+ghost use Rattle.seal_store.specs.Ranges.{IsParams, IsSeal};
 
+use crate::below::tariff_texts::checked;
 use crate::run_tests::CITY;
 use crate::tests::{A, CALM, Call, SEVENS, ZEROS, called, must, must_answer, must_answer_all};
 use meter_run::run_events;
 use outside::QuietBoard;
-use seal_store::{Seal, place_seal, read_params};
+use seal_store::{Params, Seal, place_seal, read_params};
 use slot_store::{Found, scan};
 use std::alloc::Global;
 use std::marker::Brand;
 use std::sync::ledger::{Blank, Ledger};
 use std::test::Fail;
-use tariff_check::check;
 use tariff_compile::{Tables, compile};
-use tariff_syntax::parse;
 use taxi_units::{Line, LineFull, Steps, put_bytes, put_money};
 use totaliser_store::Durable;
 use verify_bench::Generator;
@@ -103,6 +102,21 @@ fn a_failing_board(rt: HostRuntime) -> Result<(), Fail> {
 const PARAMS: &[u8] =
     b"taxi GEN\nconstant 10000\nmode single\nhold 60\noffset 946684800 3600\nsecured 2025-12-01\n";
 
+/// The first seal of these parameters, for a tariff with two decimals.
+fn first_seal(params: Params) -> Seal
+    requires { IsParams params }
+    ensures sealed { IsSeal result }
+    ensures number { result.seal_number ≡ 1 }
+    ensures constant { result.params.constant ≡ params.constant }
+{
+    Seal {
+        seal_number: 1,
+        params,
+        digest: [0; 32],
+        decimals: 2,
+    }
+}
+
 /// Appends a line of a name, an amount and what stands behind it.
 fn put_line(
     line: &mut Line,
@@ -155,17 +169,12 @@ fn city_totals<L: Ledger>(alloc: Global, blank: Blank) -> Option<Line>
     requires some { 0 < blank.parts }
 {
     let mut steps: Steps<L> = Steps::open(blank);
-    let params = read_params(PARAMS).ok()?;
-    let tariff = parse(alloc, CITY.as_bytes()).ok()?;
-    let checked = check(alloc, tariff).ok()?;
-    let tables = compile(alloc, &checked, params.constant).ok()?;
-    let seal = Seal {
-        seal_number: 1,
-        params,
-        digest: [0; 32],
-        decimals: 2,
+    let Ok(params) = read_params(PARAMS) else {
+        return None;
     };
-    totals_of_the_run(&tables, &seal, &mut steps)
+    let checked = checked(alloc, CITY).ok()?;
+    let tables = compile(alloc, &checked, params.constant).ok()?;
+    totals_of_the_run(&tables, &first_seal(params), &mut steps)
 }
 
 /// A new counter for them.

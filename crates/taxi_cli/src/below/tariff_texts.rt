@@ -7,7 +7,7 @@ use tariff_compile::{Tables, compile};
 use tariff_syntax::{parse, texts_have_their_numbers};
 
 /// The sound tariff of a text, or its fault; `NoMemory` where the text is none.
-pub(super) fn checked(alloc: Global, text: &str) -> Result<Checked, CheckFault> {
+pub(crate) fn checked(alloc: Global, text: &str) -> Result<Checked, CheckFault> {
     match parse(alloc, text.as_bytes()) {
         Ok(tariff) => {
             texts_have_their_numbers();
