@@ -1,11 +1,6 @@
 -- What a call passes on of one that failed behind others.
-use Rattle.std.proofs.Common.{◌≡◌, ℕ, ◌+◌, ◌<◌, ◌≤◌, true, false, Result, Ok, Err, IsErr, IfOk, is_err, ap, arith}
+use Rattle.std.proofs.Common.{◌≡◌, ℕ, ◌+◌, ◌<◌, ◌≤◌, true, false, Result, Ok, Err, is_err, ap, arith}
 use Rattle.outside.specs.Faults.{HasCause}
-
--- of a call that failed nothing is said that holds of its value
-pub on_failed : {A E : Type 0} (r : Result A E) (P : A → Type 0) → IsErr r → IfOk r P
-on_failed (Ok value) P failed = absurd (let bad : false ≡ true = failed in cc)
-on_failed (Err fault) P failed = tt
 
 -- the cause of a failure is that of what is answered
 pub cause_passed : {A E A' E' : Type 0} (old between new : ℕ) (r : Result A E) (fault : E) (answer : Result A' E') → r ≡ Err fault → old ≤ between → HasCause between new r → HasCause old new answer

@@ -1,5 +1,3 @@
--- what a call passes on of the ones that it made
-mod Causes
 -- day numbers of the years 2000 to 2199
 mod DayBounds
 -- a line that is bad has the fault that its form says

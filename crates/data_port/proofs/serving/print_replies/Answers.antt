@@ -5,7 +5,8 @@ use Rattle.seal_store.specs.declared.seal.Seal.{Seal}
 use Rattle.totaliser_store.specs.declared.durable.Durable.{Durable}
 use Rattle.data_port.specs.declared.request.Request.{Request}
 use Rattle.data_port.specs.Serving.{replies}
-use Rattle.data_port.proofs.Causes.{on_failed, cause_passed, cause_of_value, steps_within}
+use Rattle.slot_store.proofs.Laws.{on_failed}
+use Rattle.data_port.proofs.Causes.{cause_passed, cause_of_value, steps_within}
 use Rattle.data_port.proofs.Pieces.{begun_one, printed_one}
 use Rattle.data_port.proofs.serving.print_replies.Goals as goal
 

@@ -1,4 +1,4 @@
-use Rattle.seal_store.proofs.Causes.{on_failed, cause_passed, cause_of_value, cause_behind, fewer_steps, steps_then}
+use Rattle.slot_store.proofs.Laws.{on_failed, cause_passed, cause_of_value, cause_behind, fewer_steps, steps_then}
 use Rattle.seal_store.proofs.Sealings.{found_after, keeps_both, keeps_found, leaves_both, leaves_first, leaves_found, writes_both, writes_first}
 use Rattle.seal_store.proofs.sealing.place_seal.Goals as goal
 

@@ -3,7 +3,7 @@ use Rattle.slot_store.specs.declared.pair.Pair.{Pair}
 use Rattle.slot_store.specs.Slots.{IsSettled}
 use Rattle.slot_store.specs.Stages.{IsReady}
 use Rattle.seal_store.specs.Decoding.{reads, number_of}
-use Rattle.seal_store.proofs.Causes.{on_failed, cause_passed, cause_of_value}
+use Rattle.slot_store.proofs.Laws.{on_failed, cause_passed, cause_of_value}
 use Rattle.seal_store.proofs.Sealings.{newer_found, next_beside, put_next, ready_found}
 use Rattle.seal_store.proofs.sealing.put_seal.Goals as goal
 

@@ -5,7 +5,7 @@ use Rattle.slot_store.specs.Stages.{IsReady, is_spare_open}
 use Rattle.totaliser_store.specs.declared.durable.Durable.{Durable}
 use Rattle.totaliser_store.specs.Reading.{reads}
 use Rattle.totaliser_store.specs.Stored.{number_of}
-use Rattle.seal_store.proofs.Causes.{on_failed, cause_passed, cause_of_value}
+use Rattle.slot_store.proofs.Laws.{on_failed, cause_passed, cause_of_value}
 use Rattle.seal_store.proofs.Sealings.{first_beside, put_first}
 use Rattle.seal_store.proofs.sealing.put_totals.Goals as goal
 
