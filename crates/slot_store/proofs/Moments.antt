@@ -58,15 +58,6 @@ module _ {D L : Type 0} (B : Ghosts D L) (start count : ℕ) where
     text = text;
   }
 
-  -- a sync lies in any part
-  pub sync_beside : (old new : D) → SameBut (B.in_flight old) (B.image old) (B.image new)
-      → ((place : ℕ) → B.in_flight new place → B.in_flight old place) → B.printed new ≡ B.printed old → WritesIn B start count old new
-  sync_beside old new image flight text = record {
-    rest = record { size = image.size; rest = λ place none. image.rest place (λ flies. none (inl flies)) };
-    flight = λ place flies. inl (flight place flies);
-    text = text;
-  }
-
   -- no call writes nothing
   pub writes_none : (board : D) → WritesIn B start count board board
   writes_none board = record { rest = record { size = refl; rest = λ place none. refl }; flight = λ place flies. inl flies; text = refl }
@@ -94,18 +85,6 @@ module _ {D L : Type 0} (B : Ghosts D L) (start count : ℕ) where
         (λ before. let now = only_now left text before in record { bytes = record { size = now.bytes.size; rest = λ place none. now.bytes.rest place (λ flies. none (inl flies)) }; small = now.small; text = now.text })
         (left_beside old new writes left text) (time.nothing_else (B.moment old) left text (omega arith) was);
     before = λ start left text le was. ⊎_elim (λ before. inl before) (λ now. inr (left_beside old new writes left text now)) (time.nothing_else start left text le was);
-  }
-
-  -- and one more call
-  pub next_call_leaves : (old between new : D) → WritesIn B start count old new
-      → Elapses (B.moment between) (B.moment new) (B.left_since between) (B.left_since new) (MayLeave (B.image new) (B.in_flight new) (B.printed new))
-      → LeavesOnly B old between (MayLeave (B.image old) (OrWithin (B.in_flight old) start count) (B.printed old))
-      → LeavesOnly B old new (MayLeave (B.image old) (OrWithin (B.in_flight old) start count) (B.printed old))
-  next_call_leaves old between new writes time first = record {
-    later = omega (arith, first.later, time.later);
-    each = λ left text was. ⊎_elim (first.each left text) (left_beside old new writes left text) (time.nothing_else (B.moment old) left text first.later was);
-    before = λ start left text le was. ⊎_elim (first.before start left text le) (λ now. inr (left_beside old new writes left text now))
-        (time.nothing_else start left text (omega (arith, le, first.later)) was);
   }
 
 module _ {D L : Type 0} (B : Ghosts D L) where
