@@ -8,7 +8,7 @@ use Rattle.offset_rules.specs.Rule.{Change}
 abbrev pub weekday_on : (year month date : ℕ) → ℕ
 weekday_on year month date = weekday_of (pos (day_number_of year month date))
 
--- a weekday comes this many times in a month before a date
+-- the times of a weekday in a month before a date are on how many earlier dates of the month it falls
 unfoldable pub times_before : (year month weekday date : ℕ) → ℕ
 times_before year month weekday date =
     length (filter (λ earlier. weekday_on year month earlier == weekday) (range_with_len 1 (date - 1)))
@@ -27,7 +27,7 @@ pub record IsDateOfChange (year : ℕ) (change : Change) (date : ℕ) : Type 0 w
       ((change.number ≤ 4) × (times_before year change.month change.weekday date + 1 ≡ change.number))
       ⊎ ((change.number ≡ 5) × ComesNoMore year change.month change.weekday date)
 
--- the dates of a month that fall on a weekday, in order
+-- the dates of a month on a weekday are those that fall on it, in order
 abbrev pub dates_on : (year month weekday : ℕ) → List ℕ
 dates_on year month weekday =
     filter (λ date. weekday_on year month date == weekday) (range_with_len 1 (days_of_month year month))

@@ -1,15 +1,16 @@
 -- Rules: the words of changes.
 use Rattle.std.specs.Prelude.{◌≡◌, ℕ, ◌-◌, ◌≤◌, List, [], ◌∷◌, length, slice_index_or, codes}
 
--- the numbers 1 to 5 of a change have these names, which say which of its weekdays in the month is meant
+-- the names of the numbers 1 to 5 of a change are `first`, `second`, `third`, `fourth` and `last`, which say which of
+-- its weekdays in the month is meant
 abbrev pub number_names : List (List ℕ)
 number_names = codes "first" ∷ codes "second" ∷ codes "third" ∷ codes "fourth" ∷ codes "last" ∷ []
 
--- the weekdays 1 to 7, Monday to Sunday, have these names
+-- the names of the weekdays 1 to 7, Monday to Sunday, are their first three letters, `mon` to `sun`
 abbrev pub day_names : List (List ℕ)
 day_names = codes "mon" ∷ codes "tue" ∷ codes "wed" ∷ codes "thu" ∷ codes "fri" ∷ codes "sat" ∷ codes "sun" ∷ []
 
--- the months 1 to 12, January to December, have these names
+-- the names of the months 1 to 12, January to December, are their first three letters, `jan` to `dec`
 abbrev pub month_names : List (List ℕ)
 month_names =
     codes "jan" ∷ codes "feb" ∷ codes "mar" ∷ codes "apr" ∷ codes "may" ∷ codes "jun"

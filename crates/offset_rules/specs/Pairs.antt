@@ -26,7 +26,7 @@ changes_of_year rule year =
 abbrev pub changes_of_years : Rule → (from to : ℕ) → List (ℕ × ℤ)
 changes_of_years rule from to = flat_map (changes_of_year rule) (range_with_len from (to + 1 - from))
 
--- a test whether a change comes at another second than the meter's first
+-- the test `is_later` is true where a change comes at another second than the meter's first
 abbrev pub is_later : ℕ × ℤ → Bool
 is_later pair = not (pair.0 == first_second)
 

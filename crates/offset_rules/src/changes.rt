@@ -10,6 +10,9 @@ use crate::rules::Change;
 use interval_clock::day_number;
 use taxi_units::days_of_month;
 
+/// How many seconds a day has.
+pub(crate) const SECONDS_OF_DAY: u64 = 86_400;
+
 /// The day number of a date that the calendar has.
 fn number_of(year: u16, month: u8, date: u8) -> u32
     requires from { 1970 ≤ year }
@@ -27,7 +30,7 @@ pub(crate) fn first_second_of(year: u16) -> u64
     requires to { year ≤ 9999 }
     ensures { result ≡ spec_summer.first_second_of year }
 {
-    number_of(year, 1, 1) as u64 * 86_400
+    number_of(year, 1, 1) as u64 * SECONDS_OF_DAY
 }
 
 /// The weekday of a day number.
@@ -64,5 +67,5 @@ pub(crate) fn second_of_change(year: u16, change: Change) -> u64
     ensures { result ≡ spec.second_of_change year change }
 {
     let day = number_of(year, change.month, date_of_change(year, change));
-    day as u64 * 86_400 + change.minute as u64 * 60
+    day as u64 * SECONDS_OF_DAY + change.minute as u64 * 60
 }

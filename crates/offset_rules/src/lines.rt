@@ -1,6 +1,7 @@
 //! The lines of a list of offsets.
 ghost use Rattle.std.specs.Prelude.{◌≡◌, ◌+◌, ◌≤◌, ◌++◌, ◌↔◌, length, IsOk, OnOk, OnErr};
 ghost use Rattle.arrayvec.specs.ArrayVec.{array_vec_len};
+ghost use Rattle.taxi_units.specs.Line.{line_size};
 ghost use Rattle.offset_rules.specs.Texts.{offset_line, offset_text};
 
 use taxi_units::{Line, LineFull, push_bytes, push_number, put_bytes};
@@ -11,10 +12,10 @@ use taxi_units::{Line, LineFull, push_bytes, push_number, put_bytes};
 /// `LineFull` where the text doesn't fit; the line is then unchanged. It fits where there is room for 90
 /// bytes. The form is this project's own.
 pub fn put_offset(line: &mut Line, pair: (u64, i32)) -> Result<(), LineFull>
-    ensures variant { IsOk result ↔ (array_vec_len line.old + length (offset_line pair) ≤ 512) }
+    ensures variant { IsOk result ↔ (array_vec_len line.old + length (offset_line pair) ≤ line_size) }
     ensures ok { OnOk result (line.new.items ≡ line.old.items ++ offset_line pair) }
     ensures err { OnErr result (line.new ≡ line.old) }
-    ensures room { array_vec_len line.old + 90 ≤ 512 → IsOk result }
+    ensures room { array_vec_len line.old + 90 ≤ line_size → IsOk result }
 {
     let (second, offset) = pair;
     let mut text = Line::new();
@@ -28,7 +29,7 @@ pub fn put_offset(line: &mut Line, pair: (u64, i32)) -> Result<(), LineFull>
 
 /// Appends an offset.
 fn push_offset(line: &mut Line, offset: i32)
-    requires { array_vec_len line.old + 40 ≤ 512 }
+    requires { array_vec_len line.old + 40 ≤ line_size }
     ensures text { line.new.items ≡ line.old.items ++ offset_text offset }
     ensures len { array_vec_len line.new ≤ array_vec_len line.old + 40 }
 {

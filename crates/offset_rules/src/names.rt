@@ -1,32 +1,28 @@
 //! The words of changes at the front of a text, and what stands after them.
-ghost use Rattle.std.specs.Prelude.{◌≡◌, ◌≤◌, IfSome};
+ghost use Rattle.std.specs.Prelude.{◌≡◌, ◌≤◌, IfSome, length, map};
 ghost use Rattle.offset_rules.specs.Names.{day_names, month_names, number_names};
 ghost use Rattle.offset_rules.specs.Reading.{numbered_at};
 ghost use Rattle.taxi_units.specs.Reading.{Gives};
 
 use taxi_units::word;
 
+/// The names of the numbers 1 to 5 of a change.
+const NUMBERS: [&[u8]; 5] = [b"first", b"second", b"third", b"fourth", b"last"];
+
+/// The names of the weekdays 1 to 7.
+const DAYS: [&[u8]; 7] = [b"mon", b"tue", b"wed", b"thu", b"fri", b"sat", b"sun"];
+
+/// The names of the months 1 to 12.
+const MONTHS: [&[u8]; 12] = [
+    b"jan", b"feb", b"mar", b"apr", b"may", b"jun", b"jul", b"aug", b"sep", b"oct", b"nov", b"dec",
+];
+
 /// Which of its weekday in the month a change is: 1 to 4, or 5 for the last.
 pub(crate) fn number(text: &[u8]) -> Option<(u8, &[u8])>
     ensures value { Gives (λ x. (x.0, x.1.now)) result (numbered_at number_names 1 text.now) }
     ensures range { IfSome result (λ x. (1 ≤ x.0) × (x.0 ≤ 5)) }
 {
-    if let Some(rest) = word(text, b"first") {
-        return Some((1, rest));
-    }
-    if let Some(rest) = word(text, b"second") {
-        return Some((2, rest));
-    }
-    if let Some(rest) = word(text, b"third") {
-        return Some((3, rest));
-    }
-    if let Some(rest) = word(text, b"fourth") {
-        return Some((4, rest));
-    }
-    if let Some(rest) = word(text, b"last") {
-        return Some((5, rest));
-    }
-    None
+    numbered(text, &NUMBERS)
 }
 
 /// A day of the week: 1 for Monday to 7 for Sunday.
@@ -34,28 +30,7 @@ pub(crate) fn weekday(text: &[u8]) -> Option<(u8, &[u8])>
     ensures value { Gives (λ x. (x.0, x.1.now)) result (numbered_at day_names 1 text.now) }
     ensures range { IfSome result (λ x. (1 ≤ x.0) × (x.0 ≤ 7)) }
 {
-    if let Some(rest) = word(text, b"mon") {
-        return Some((1, rest));
-    }
-    if let Some(rest) = word(text, b"tue") {
-        return Some((2, rest));
-    }
-    if let Some(rest) = word(text, b"wed") {
-        return Some((3, rest));
-    }
-    if let Some(rest) = word(text, b"thu") {
-        return Some((4, rest));
-    }
-    if let Some(rest) = word(text, b"fri") {
-        return Some((5, rest));
-    }
-    if let Some(rest) = word(text, b"sat") {
-        return Some((6, rest));
-    }
-    if let Some(rest) = word(text, b"sun") {
-        return Some((7, rest));
-    }
-    None
+    numbered(text, &DAYS)
 }
 
 /// A month: 1 for January to 12 for December.
@@ -63,41 +38,19 @@ pub(crate) fn month(text: &[u8]) -> Option<(u8, &[u8])>
     ensures value { Gives (λ x. (x.0, x.1.now)) result (numbered_at month_names 1 text.now) }
     ensures range { IfSome result (λ x. (1 ≤ x.0) × (x.0 ≤ 12)) }
 {
-    if let Some(rest) = word(text, b"jan") {
-        return Some((1, rest));
-    }
-    if let Some(rest) = word(text, b"feb") {
-        return Some((2, rest));
-    }
-    if let Some(rest) = word(text, b"mar") {
-        return Some((3, rest));
-    }
-    if let Some(rest) = word(text, b"apr") {
-        return Some((4, rest));
-    }
-    if let Some(rest) = word(text, b"may") {
-        return Some((5, rest));
-    }
-    if let Some(rest) = word(text, b"jun") {
-        return Some((6, rest));
-    }
-    if let Some(rest) = word(text, b"jul") {
-        return Some((7, rest));
-    }
-    if let Some(rest) = word(text, b"aug") {
-        return Some((8, rest));
-    }
-    if let Some(rest) = word(text, b"sep") {
-        return Some((9, rest));
-    }
-    if let Some(rest) = word(text, b"oct") {
-        return Some((10, rest));
-    }
-    if let Some(rest) = word(text, b"nov") {
-        return Some((11, rest));
-    }
-    if let Some(rest) = word(text, b"dec") {
-        return Some((12, rest));
+    numbered(text, &MONTHS)
+}
+
+/// The place, counted from 1, of the first name that a text begins with.
+fn numbered<'t>(text: &'t [u8], names: &[&[u8]]) -> Option<(u8, &'t [u8])>
+    requires { length names.now ≤ 12 }
+    ensures value { Gives (λ x. (x.0, x.1.now)) result (numbered_at (map (λ x. x.now) names.now) 1 text.now) }
+    ensures range { IfSome result (λ x. (1 ≤ x.0) × (x.0 ≤ length names.now)) }
+{
+    for (place, name) in names.iter().enumerate() {
+        if let Some(rest) = word(text, name) {
+            return Some((place as u8 + 1, rest));
+        }
     }
     None
 }

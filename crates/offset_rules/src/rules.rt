@@ -7,7 +7,7 @@ ghost use Rattle.offset_rules.specs.Rule.{IsChange, IsRule};
 ghost use Rattle.offset_rules.specs.Summer as spec;
 ghost use Rattle.offset_rules.specs.Summer.{offset_by};
 
-use crate::changes::second_of_change;
+use crate::changes::{SECONDS_OF_DAY, second_of_change};
 use crate::fault::RuleFault;
 use interval_clock::date_of_day;
 use std::marker::Model;
@@ -92,7 +92,7 @@ impl Rules {
         ensures in_range { IsOffset result }
         ensures lawful { IsRule self.now }
     {
-        let year = date_of_day((second / 86_400) as u32).year;
+        let year = date_of_day((second / SECONDS_OF_DAY) as u32).year;
         let begins = second_of_change(year, self.begin);
         let ends = second_of_change(year, self.end);
         if is_summer(begins, ends, second) {
