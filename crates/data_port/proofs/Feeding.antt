@@ -54,15 +54,6 @@ pub record Feeds (first now : Standing) (piece : List ℕ) (count : ℕ) (old ne
   pub added : new ≡ old ++ ended_in first (take count piece)
   pub not_before : (sooner : ℕ) → sooner < count → length (old ++ ended_in first (take sooner piece)) < 64
 
-pub feeds_none : (first : Standing) (piece : List ℕ) (old : List Request) → first.failed ≡ false → Feeds first first piece 0 old old
-feeds_none first piece old going = record {
-  now_is = refl;
-  going = going;
-  counted = omega arith;
-  added = sym (append-nil old);
-  not_before = λ sooner less. absurd (omega arith);
-}
-
 -- behind the bytes so far
 next_after : (first now : Standing) (piece : List ℕ) (count : ℕ) → count < length piece → now ≡ after_bytes first (take count piece) → after_bytes first (take (count + 1) piece) ≡ after_byte now (get_or piece count 0)
 next_after first now piece count lt is =

@@ -1,6 +1,6 @@
 -- Rules: what the bytes of a stream say, and what a port makes of a piece of them. The law
--- `streams_are_read_by_their_frames` says what requests and bad places are, by the streams that there are;
--- ReadingStages has how a port finds them.
+-- streams_are_read_by_their_frames says what requests and bad places are, by the streams that there are; ReadingStages
+-- has how a port finds them.
 use Rattle.std.specs.Prelude.{◌≡◌, ◌⊎◌, ℕ, ◌<◌, ◌≤◌, List, [], ◌∷◌, ◌++◌, length, take, Option, Some, None}
 use Rattle.data_port.specs.declared.request.Request.{Request}
 use Rattle.data_port.specs.ReadingStages.{after_bytes, bad_end_of, bad_of, ended_in}
@@ -8,44 +8,50 @@ pub use Rattle.data_port.specs.Standing.{Standing, between}
 
 -- ---- the bytes of a stream, from the first one on
 
--- a port stands so after the bytes of a stream
+-- the standing of a port after the bytes of a stream is what each byte in its turn makes of a port that has taken none;
+-- `after_bytes` goes through the bytes, and the law streams_are_read_by_their_frames says what follows
 abbrev pub standing_after : List ℕ → Standing
 standing_after bytes = after_bytes (between 0) bytes
 
--- the bytes of a stream have these requests, which are those that are whole before the first bad place
+-- the requests in the bytes of a stream are those that are whole before the first bad place; `ended_in` gives them as
+-- they end, and the law streams_are_read_by_their_frames says which they are
 abbrev pub requests_in : List ℕ → List Request
 requests_in bytes = ended_in (between 0) bytes
 
--- some bytes of a stream add these requests to those of the bytes before them
+-- the requests that some bytes of a stream add are those that end in them, behind the bytes before
 abbrev pub requests_after : (before bytes : List ℕ) → List Request
 requests_after before bytes = ended_in (standing_after before) bytes
 
--- the bytes of a stream have this first bad place, if they have one
+-- the first bad place in the bytes of a stream is the first whose byte no stream of requests has there, if there is
+-- one; `bad_of` gives it as the port keeps it, and the law streams_are_read_by_their_frames says which it is
 abbrev pub first_bad : List ℕ → Option ℕ
 first_bad bytes = bad_of (standing_after bytes)
 
--- a stream that has these bytes and no others has this first bad place; an unfinished request is bad behind the last
--- byte
+-- the first bad place of a stream that is at its end is the first bad one of its bytes, or else the place behind the
+-- last byte where a request is unfinished; `bad_end_of` gives it as the port keeps it, as the law
+-- streams_are_read_by_their_frames says
 abbrev pub bad_at_end : List ℕ → Option ℕ
 bad_at_end bytes = bad_end_of (standing_after bytes)
 
--- pieces of a stream, taken in turn after other bytes of it, give these requests
+-- pieces of a stream that are taken in turn after other bytes of it give the requests that each piece adds to the bytes
+-- before it
 abbrev pub given_by : List ℕ → List (List ℕ) → List Request
 given_by before [] = []
 given_by before (piece ∷ pieces) = requests_after before piece ++ given_by (before ++ piece) pieces
 
 -- ---- a port
 
--- a port has taken these bytes, in whatever pieces they came
+-- a port has taken bytes, in whatever pieces they came, where it stands as a new port does after them
 abbrev pub HasTaken : Standing → List ℕ → Type 0
 HasTaken s bytes = s ≡ standing_after bytes
 
--- a port has taken some bytes
+-- a port makes sense where it stands as a port does that has taken some bytes
 abbrev pub HasSense : Standing → Type 0
 HasSense s = (bytes : List ℕ) × HasTaken s bytes
 
--- a port takes a piece, behind the bytes before it, up to a place: none of these bytes is bad, their requests are
--- appended to the list, and it is the first place where the list is full, or the end of the piece
+-- a port takes a piece, behind the bytes before it, up to a place where none of the bytes up to there is bad, their
+-- requests are appended to the list, and that place is the first at which the list has 64 requests, or else the end of
+-- the piece
 pub record TakesTo (before piece : List ℕ) (old new : List Request) (place : ℕ) : Type 0 where
   pub within : place ≤ length piece
   pub good : first_bad (before ++ take place piece) ≡ None
@@ -53,8 +59,8 @@ pub record TakesTo (before piece : List ℕ) (old new : List Request) (place : �
   pub ends : (place ≡ length piece) ⊎ (length new ≡ 64)
   pub not_before : (sooner : ℕ) → sooner < place → length (old ++ requests_after before (take sooner piece)) < 64
 
--- a port finds a bad place in a piece, behind the bytes before it; the requests before that place are appended to the
--- list and don't fill it
+-- a port finds a bad place in a piece, behind the bytes before it, where the requests before that place are appended to
+-- the list and leave it with fewer than 64
 pub record BreaksIn (before piece : List ℕ) (old new : List Request) (place : ℕ) : Type 0 where
   pub bad : first_bad (before ++ piece) ≡ Some place
   pub requests : new ≡ old ++ requests_after before piece

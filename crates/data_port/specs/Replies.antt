@@ -30,24 +30,25 @@ pub data Agrees (one : Durable) (seal : Seal) (other : Durable) (another : Seal)
 abbrev pub AgreeOn : Durable → Seal → Durable → Seal → Request → Type 0
 AgreeOn one seal other another request = All (Agrees one seal other another) (codes_of request)
 
--- the contents of the items have these numbers of bytes, from item 1 on
+-- the contents of the items, from item 1 on, have 16, 4, 4, 32, 1, 8, 16, 16, 8, 16, 16, 57 and 240 bytes
 abbrev pub sizes : List ℕ
 sizes = 16 ∷ (4 ∷ (4 ∷ (32 ∷ (1 ∷ (8 ∷ (16 ∷ (16 ∷ (8 ∷ (16 ∷ (16 ∷ (57 ∷ (240 ∷ []))))))))))))
 
--- the content of the item with a code has this many bytes
+-- the number of bytes of the content of the item with a code is the one at its place in the list of sizes
 abbrev pub size_of : (code : ℕ) → ℕ
 size_of code = get_or sizes (code - 1) 0
 
--- bytes are read as these items, each a code and a content, of which there are at most `most`
+-- bytes are read as items, at most `most` of them, where each item is a code and as many bytes of content as the item
+-- with that code has
 abbrev pub items_in : (most : ℕ) → List ℕ → List (ℕ × List ℕ)
 items_in zero bytes = []
 items_in (suc most) [] = []
 items_in (suc most) (code ∷ bytes) = (code, take (size_of code) bytes) ∷ items_in most (drop (size_of code) bytes)
 
--- a reply has these bytes between its length and its last byte
+-- the body of a reply is the bytes of its items, which stand between its length and its last byte
 abbrev pub body_of : (reply : List ℕ) → List ℕ
 body_of reply = take (from_be_bytes w16 (take 2 (drop 1 reply))) (drop 3 reply)
 
--- a reply is read as these items, each a code and a content, of which there are at most 13
+-- a reply is read as the items of its body, each a code and a content, of which there are at most 13
 abbrev pub answers_in : (reply : List ℕ) → List (ℕ × List ℕ)
 answers_in reply = items_in 13 (body_of reply)

@@ -24,7 +24,7 @@ pub record HeldTrip : Type 0 where
   pub initial : ℕ
   pub steps_full : ℕ
 
--- a trip that is held is told by these values; its distance is that of its pulses by the constant
+-- a reply tells of a held trip its own values, and as its distance that of its pulses by the constant
 abbrev pub held_trip : (constant : ℕ) → Trip → HeldTrip
 held_trip constant trip = record {
   started = trip.started;
@@ -36,7 +36,7 @@ held_trip constant trip = record {
   steps_full = trip.meterage.steps_full;
 }
 
--- a reply tells these values of the held trip, and none where no trip is held
+-- a reply tells the values of the held trip, and none where no trip is held
 abbrev pub held_values : (constant : ℕ) → Option Trip → Option HeldTrip
 held_values constant None = None
 held_values constant (Some trip) = Some (held_trip constant trip)
@@ -57,11 +57,13 @@ abbrev pub held_content : Option HeldTrip → List ℕ
 held_content None = replicate 57 0
 held_content (Some held) = 1 ∷ trip_content held
 
--- the shares are those of the nine tariff positions, and then what was counted before there were shares
+-- the content of the shares is the share of each of the nine tariff positions, and then what was counted before there
+-- were shares
 abbrev pub shares_content : Totals → List ℕ
 shares_content totals = flat_map share_bytes totals.shares ++ share_bytes totals.before
 
--- each item has this content, from item 1 on, in the order of the codes
+-- the contents of the items, from item 1 on, are the identifier of the taxi, the constant, the day of securing, the
+-- digest, the mode, the number of the store, the five totals, the held trip, and the shares
 abbrev pub rows : Durable → Seal → List (List ℕ)
 rows durable seal =
     padded 16 seal.params.taxi.items
@@ -79,7 +81,7 @@ rows durable seal =
     ∷ (shares_content durable.totals
     ∷ []))))))))))))
 
--- the item with a code has this content
+-- the content of the item with a code is the one at the place of its code in the list of contents
 abbrev pub content : Durable → Seal → (code : ℕ) → List ℕ
 content durable seal code = get_or (rows durable seal) (code - 1) []
 
@@ -91,10 +93,10 @@ item_bytes durable seal code = code ∷ content durable seal code
 abbrev pub items_bytes : Durable → Seal → (codes : List ℕ) → List ℕ
 items_bytes durable seal codes = flat_map (item_bytes durable seal) codes
 
--- a reply is 0x02, the number of the bytes of its items in two bytes, these bytes, and 0x03
+-- the frame of items in bytes is 0x02, how many bytes they are, in two bytes, the items, and 0x03
 abbrev pub framed : List ℕ → List ℕ
 framed bytes = 2 ∷ (to_be_bytes w16 (length bytes) ++ (bytes ++ 3 ∷ []))
 
--- a request has this reply, which frames the items that it asks for
+-- the reply to a request frames the items that the request asks for
 abbrev pub reply_to : Durable → Seal → Request → List ℕ
 reply_to durable seal request = framed (items_bytes durable seal (codes_of request))

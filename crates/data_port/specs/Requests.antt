@@ -8,7 +8,7 @@ abbrev pub Rise : (above : ℕ) → List ℕ → Type 0
 Rise above [] = Unit {0}
 Rise above (code ∷ codes) = (above < code) × ((code ≤ 13) × Rise code codes)
 
--- a request asks for the items with these codes
+-- the codes of a request are those of the items that it asks for
 abbrev pub codes_of : Request → List ℕ
 codes_of request = request.items.items
 

@@ -34,15 +34,15 @@ stream_end stream =
     then end_by (bad_at_end stream) Whole
     else end_by (first_bad (take stream_limit stream)) Endless
 
--- a stream has these requests, as far as its bytes are taken
+-- the requests of a stream are those in its bytes up to the limit
 abbrev pub requests_of : List ℕ → List Request
 requests_of stream = requests_in (take stream_limit stream)
 
--- some bytes of a stream were taken, and the others are left
+-- a stream is split into the bytes that were taken, in front, and those that are left
 pub record IsSplit (stream taken left : List ℕ) : Type 0 where
   pub bytes : stream ≡ taken ++ left
 
--- a stream isn't over with the bytes that were taken: none of their places is bad, and more may be taken
+-- a stream goes on after the bytes that were taken where none of their places is bad and they are fewer than the limit
 pub record IsGoing (taken : List ℕ) : Type 0 where
   pub good : first_bad taken ≡ None
   pub few : length taken < stream_limit
@@ -61,7 +61,7 @@ pub record TellsEnd (stream left : List ℕ) : Type 0 where
   pub split : IsSplit stream taken left
   pub shows : ShowsEnd (stream_end stream) taken left
 
--- requests have these replies, one behind the other
+-- the replies to requests are the reply to each, one behind the other
 abbrev pub replies : Durable → Seal → List Request → List ℕ
 replies durable seal requests = flat_map (reply_to durable seal) requests
 
@@ -71,14 +71,16 @@ pub record IsBoundedBy (stream left : List ℕ) (before now : ℕ) : Type 0 wher
   pub split : IsSplit stream taken left
   pub bound : now ≤ before + length (requests_in taken)
 
--- a call stopped when these bytes of a stream had been taken, which stand and were answered as `state` and `shown` say
+-- a call stopped after some bytes of a stream had been taken, at a standing and with a printed text that `state` and
+-- `shown` ask of the bytes taken
 pub record StopsAfter (stream left : List ℕ) (state shown : List ℕ → Type 0) : Type 0 where
   pub taken : List ℕ
   pub split : IsSplit stream taken left
   pub stands : state taken
   pub printed : shown taken
 
--- a stream was served to an end which the bytes that were taken show, and all of its requests are in these bytes
+-- a stream was served to an end where the bytes that were taken show that end, and all requests of the stream are in
+-- the bytes taken
 pub record ReachesEnd (stream taken left : List ℕ) (reached : StreamEnd) : Type 0 where
   pub end_is : stream_end stream ≡ reached
   pub split : IsSplit stream taken left
@@ -101,7 +103,7 @@ module _ (told : Type 0) (durable : Durable) (seal : Seal) (stream left before n
     pub printed : told → now ≡ before ++ replies durable seal (requests_of stream)
 
   -- serving answers how it ended: at an end of the stream; at a read that failed, after the replies to the requests in
-  -- the bytes that were taken; or at a fault of the board, after a beginning of these replies
+  -- the bytes that were taken; or at a fault of the board, after a beginning of the replies to them
   abbrev pub Serves : {T : Type 0} → Result T PortFault → Type 0
   Serves (Ok done) = ServesTo Whole
   Serves (Err (Frame place)) = ServesTo (BadAt place)

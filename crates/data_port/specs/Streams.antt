@@ -4,7 +4,7 @@ use Rattle.std.specs.List.{All, flat_map}
 use Rattle.data_port.specs.declared.request.Request.{Request}
 use Rattle.data_port.specs.Requests.{IsRequest, request_bytes, stream_bytes}
 
--- some stream of requests begins with these bytes
+-- bytes begin a stream where they are the front of some stream of requests
 pub record BeginsStream (bytes : List ℕ) : Type 0 where
   pub requests : List Request
   pub rest : List ℕ
@@ -17,7 +17,7 @@ pub record IsFirstBad (bytes : List ℕ) (place : ℕ) : Type 0 where
   pub good : BeginsStream (take place bytes)
   pub bad : ¬ (BeginsStream (take (place + 1) bytes))
 
--- bytes, of which there may be none, begin some request and don't end it
+-- a part of a request is unfinished where it begins some request and is not the whole of it; it may be empty
 pub record IsUnfinished (part : List ℕ) : Type 0 where
   pub request : Request
   pub rest : List ℕ
@@ -25,23 +25,24 @@ pub record IsUnfinished (part : List ℕ) : Type 0 where
   pub some : 0 < length rest
   pub bytes_are : part ++ rest ≡ request_bytes request
 
--- bytes are these requests, and an unfinished one behind them
+-- bytes are good where they are some requests, and perhaps an unfinished one behind them
 pub record IsGood (bytes : List ℕ) (requests : List Request) : Type 0 where
   pub part : List ℕ
   pub good : All IsRequest requests
   pub unfinished : IsUnfinished part
   pub bytes_are : bytes ≡ stream_bytes requests ++ part
 
--- bytes are read as this first bad place, if there is one, and the requests that are whole before it
+-- bytes are read as requests with no bad place where they are good, and else as their first bad place and the requests
+-- that are whole before it
 abbrev pub IsReadAs : List ℕ → Option ℕ → List Request → Type 0
 IsReadAs bytes None requests = IsGood bytes requests
 IsReadAs bytes (Some place) requests = IsFirstBad bytes place × IsGood (take place bytes) requests
 
--- bytes are these requests and nothing else
+-- bytes end whole where they are some requests and nothing else
 pub record EndsWhole (bytes : List ℕ) (requests : List Request) : Type 0 where
   pub good : All IsRequest requests
   pub bytes_are : bytes ≡ stream_bytes requests
 
--- pieces, one behind the other, are these bytes
+-- the bytes of some pieces are the bytes of each piece, one after another
 abbrev pub bytes_of : List (List ℕ) → List ℕ
 bytes_of pieces = flat_map (λ piece. piece) pieces

@@ -2,6 +2,7 @@
 ghost use Rattle.std.specs.Prelude.{◌≡◌, [], ◌∷◌, ◌++◌, ◌+◌, ◌*◌, ◌≤◌, length, replicate, IfSome};
 ghost use Rattle.std.specs.List.{flat_map};
 ghost use Rattle.arrayvec.specs.ArrayVec.{array_vec_len};
+ghost use Rattle.taxi_units.specs.Line.{line_size};
 ghost use Rattle.seal_store.specs.Ranges.{IsSeal};
 ghost use Rattle.seal_store.specs.Spelling.{mode_byte, padded, signed_bytes};
 ghost use Rattle.totaliser_store.specs.Bytes.{four, eight, sixteen};
@@ -17,7 +18,7 @@ use totaliser_store::{Durable, Share, Totals, Trip};
 
 /// Appends a number in four bytes.
 fn put_four(line: &mut Line, n: u32)
-    requires { array_vec_len line.old + 4 ≤ 512 }
+    requires { array_vec_len line.old + 4 ≤ line_size }
     ensures items { line.new.items ≡ line.old.items ++ four n }
     ensures len { array_vec_len line.new ≡ array_vec_len line.old + 4 }
 {
@@ -26,7 +27,7 @@ fn put_four(line: &mut Line, n: u32)
 
 /// Appends a number in eight bytes.
 fn put_eight(line: &mut Line, n: u64)
-    requires { array_vec_len line.old + 8 ≤ 512 }
+    requires { array_vec_len line.old + 8 ≤ line_size }
     ensures items { line.new.items ≡ line.old.items ++ eight n }
     ensures len { array_vec_len line.new ≡ array_vec_len line.old + 8 }
 {
@@ -38,7 +39,7 @@ const HALF: u128 = 1 << 64;
 
 /// Appends a number in sixteen bytes.
 fn put_sixteen(line: &mut Line, n: u128)
-    requires { array_vec_len line.old + 16 ≤ 512 }
+    requires { array_vec_len line.old + 16 ≤ line_size }
     ensures items { line.new.items ≡ line.old.items ++ sixteen n }
     ensures len { array_vec_len line.new ≡ array_vec_len line.old + 16 }
 {
@@ -48,7 +49,7 @@ fn put_sixteen(line: &mut Line, n: u128)
 
 /// Appends zeros.
 fn put_zeros(line: &mut Line, count: usize)
-    requires { array_vec_len line.old + count ≤ 512 }
+    requires { array_vec_len line.old + count ≤ line_size }
     ensures items { line.new.items ≡ line.old.items ++ replicate count 0 }
     ensures len { array_vec_len line.new ≡ array_vec_len line.old + count }
 {
@@ -60,7 +61,7 @@ fn put_zeros(line: &mut Line, count: usize)
 /// Appends a taxi identifier, with zeros behind it up to 16 bytes.
 fn put_taxi(line: &mut Line, taxi: &[u8])
     requires few { length taxi.now ≤ 16 }
-    requires room { array_vec_len line.old + 16 ≤ 512 }
+    requires room { array_vec_len line.old + 16 ≤ line_size }
     ensures items { line.new.items ≡ line.old.items ++ padded 16 taxi.now }
     ensures len { array_vec_len line.new ≡ array_vec_len line.old + 16 }
 {
@@ -80,7 +81,7 @@ fn byte_of(mode: Mode) -> u8
 
 /// Appends what is told of a held trip.
 fn put_trip(line: &mut Line, constant: Constant, trip: &Trip)
-    requires room { array_vec_len line.old + 56 ≤ 512 }
+    requires room { array_vec_len line.old + 56 ≤ line_size }
     requires initial { trip.now.initial ≤ 99999999 }
     ensures items { line.new.items ≡ line.old.items ++ trip_content (held_trip constant trip.now) }
     ensures len { array_vec_len line.new ≡ array_vec_len line.old + 56 }
@@ -96,7 +97,7 @@ fn put_trip(line: &mut Line, constant: Constant, trip: &Trip)
 
 /// Appends whether a trip is held, and what is told of it, or zeros.
 fn put_held(line: &mut Line, constant: Constant, number: u64, hold: &Option<Trip>)
-    requires room { array_vec_len line.old + 57 ≤ 512 }
+    requires room { array_vec_len line.old + 57 ≤ line_size }
     requires held { IfSome hold.now (IsHeld number) }
     ensures items { line.new.items ≡ line.old.items ++ held_content (held_values constant hold.now) }
     ensures len { array_vec_len line.new ≡ array_vec_len line.old + 57 }
@@ -112,7 +113,7 @@ fn put_held(line: &mut Line, constant: Constant, number: u64, hold: &Option<Trip
 
 /// Appends a share.
 fn put_share(line: &mut Line, share: &Share)
-    requires { array_vec_len line.old + 24 ≤ 512 }
+    requires { array_vec_len line.old + 24 ≤ line_size }
     ensures items { line.new.items ≡ line.old.items ++ share_bytes share.now }
     ensures len { array_vec_len line.new ≡ array_vec_len line.old + 24 }
 {
@@ -124,7 +125,7 @@ fn put_share(line: &mut Line, share: &Share)
 #[tactic(auto, using(crate::proofs::Parts::one_more))]
 fn put_shares(line: &mut Line, totals: &Totals)
     requires nine { length totals.now.shares ≡ 9 }
-    requires room { array_vec_len line.old + 240 ≤ 512 }
+    requires room { array_vec_len line.old + 240 ≤ line_size }
     ensures items { line.new.items ≡ line.old.items ++ shares_content totals.now }
 {
     for share in &totals.shares {
@@ -136,7 +137,7 @@ fn put_shares(line: &mut Line, totals: &Totals)
 /// Appends the content of an item.
 pub(crate) fn put_content(line: &mut Line, code: u8, durable: &Durable, seal: &Seal)
     requires code { (1 ≤ code) × (code ≤ 13) }
-    requires room { array_vec_len line.old + 240 ≤ 512 }
+    requires room { array_vec_len line.old + 240 ≤ line_size }
     requires durable { IsDurable durable.now }
     requires seal { IsSeal seal.now }
     ensures { line.new.items ≡ line.old.items ++ content durable.now seal.now code }

@@ -29,9 +29,6 @@ module _ {X : Type 0} (p : X → Bool) where
   position_next i (x ∷ xs) ys h = position_next_by (p x) x i xs ys (position_next (i + 1) xs ys) h
 
 module _ {X : Type 0} (m : X → Option (List Run)) where
-  bad : X → Bool
-  bad x = is_none (m x)
-
   -- the runs of the items while they have some
   abbrev pub runs_while : List X → List Run
   runs_while xs = flat_map (λ x. unwrap_or (m x) []) (take_while (λ x. is_some (m x)) xs)

@@ -7,16 +7,18 @@ use Rattle.drive_text.specs.Runs.{run_events}
 use Rattle.drive_text.specs.Lines.{ended_lines, unfinished_line, is_too_long}
 use Rattle.drive_text.specs.Fields.{line_runs}
 
--- the first answer counts where there is one, and else the second
+-- one answer or else another is the first where there is one, and else the second
 abbrev pub or_else : Option ℕ → Option ℕ → Option ℕ
 or_else (Some n) other = Some n
 or_else None other = other
 
--- the first bad line is the first that is no line of a drive, told by its number from 1 on; none where all are good
+-- the first bad line of some lines is the first that is no line of a drive, told by its number from 1 on, and there is
+-- none where all are good; `line_runs` gives what a line says, as the law lines_give_what_the_table_says has it
 abbrev pub first_bad_line : List (List ℕ) → Option ℕ
 first_bad_line lines = position_from (λ line. is_none (line_runs line)) 1 lines
 
--- lines give the runs of the good lines before the first bad one, one after another
+-- the runs of lines are those of the good lines before the first bad one, one after another; `line_runs` gives what a
+-- line says, as the law lines_give_what_the_table_says has it
 abbrev pub runs_of_lines : List (List ℕ) → List Run
 runs_of_lines lines =
     flat_map (λ line. unwrap_or (line_runs line) []) (take_while (λ line. is_some (line_runs line)) lines)
@@ -31,20 +33,20 @@ first_bad_of lines unfinished =
 abbrev pub first_bad : List ℕ → Option ℕ
 first_bad bytes = first_bad_of (ended_lines bytes) (unfinished_line bytes)
 
--- at the end of a drive, bytes behind the last LF are a bad line too, where no earlier line is bad
+-- the first bad line of a whole drive is that of its bytes, or else its last line where bytes stand behind the last LF
 abbrev pub bad_at_end : List ℕ → Option ℕ
 bad_at_end bytes =
     or_else (first_bad bytes)
     (if length (unfinished_line bytes) == 0 then None else Some (length (ended_lines bytes) + 1))
 
--- bytes give the runs of their ended lines before the first bad one, and of all of them where none is bad
+-- the runs in bytes are those of their ended lines before the first bad one, and of all of them where none is bad
 abbrev pub runs_in : List ℕ → List Run
 runs_in bytes = runs_of_lines (ended_lines bytes)
 
--- bytes give the events of the runs that they give, in order
+-- the events in bytes are those of the runs in them, in order
 abbrev pub events_in : List ℕ → List Event
 events_in bytes = flat_map run_events (runs_in bytes)
 
--- bytes that come after other bytes add the runs that both together give and the first alone don't
+-- the runs that bytes add to other bytes are those that both together give and the first alone don't
 abbrev pub runs_after : List ℕ → List ℕ → List Run
 runs_after before bytes = drop (length (runs_in before)) (runs_in (before ++ bytes))

@@ -3,7 +3,7 @@ use Rattle.std.specs.Prelude.{◌≡◌, ◌⊎◌, ℕ, ◌<◌, List, [], ◌+
 use Rattle.taxi_units.specs.declared.event.Event.{Event}
 use Rattle.drive_text.specs.Drive.{events_in, first_bad, bad_at_end}
 
--- at most this many bytes of a drive are taken, 2^40
+-- at most 2^40 bytes of a drive are taken
 abbrev pub drive_limit : ℕ
 drive_limit = 1099511627776
 
@@ -26,7 +26,7 @@ drive_end drive =
     then end_by (bad_at_end drive) Whole
     else end_by (first_bad (take drive_limit drive)) Endless
 
--- a drive has the events of its good lines before the first bad one, as far as bytes are taken
+-- the events of a drive are those of its good lines before the first bad one, within the bytes up to the limit
 abbrev pub events_of : List ℕ → List Event
 events_of drive = events_in (take drive_limit drive)
 

@@ -30,7 +30,7 @@ pub record HasFailed (reading : Reading) (line : ℕ) : Type 0 where
 -- first bad line
 abbrev pub HasTakenLines : Reading → List (List ℕ) → List ℕ → Type 0
 HasTakenLines reading lines unfinished =
-    MatchOption (first_bad_of lines unfinished) (StandsIn reading lines unfinished) (λ line. HasFailed reading line)
+    MatchOption (first_bad_of lines unfinished) (StandsIn reading lines unfinished) (HasFailed reading)
 
 -- a reader has taken some bytes where it has taken their lines, in whatever pieces they came
 abbrev pub HasTaken : Reading → List ℕ → Type 0

@@ -3,13 +3,13 @@ use Rattle.std.specs.Prelude.{ℕ, ◌≢◌, ◌∷◌, ◌++◌, [], All, flat
 use Rattle.std.specs.List.{slice_split}
 use Rattle.std.specs.Str.Lines.{strip_carriage_return}
 
--- all parts of a list of parts but its last one
+-- all but the last of a list of parts are its parts without the last one, and nothing where there is none
 abbrev pub all_but_last : List (List ℕ) → List (List ℕ)
 all_but_last [] = []
 all_but_last (part ∷ []) = []
 all_but_last (part ∷ next ∷ parts) = part ∷ all_but_last (next ∷ parts)
 
--- the last part of a list of parts, which is empty where there is none
+-- the last of a list of parts is its last part, and is empty where there is none
 abbrev pub last_of : List (List ℕ) → List ℕ
 last_of [] = []
 last_of (part ∷ []) = part

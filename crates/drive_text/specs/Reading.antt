@@ -1,4 +1,5 @@
--- Rules: what a reader of a drive does with the next piece of its bytes.
+-- Rules: what a reader of a drive does with the next piece of its bytes. What a reader keeps of the bytes before is
+-- told by the law a_reader_is_known_by_its_bytes.
 use Rattle.std.specs.Prelude.{◌≡◌, ◌⊎◌, ℕ, ◌<◌, ◌≤◌, List, ◌++◌, length, take, None, Some}
 use Rattle.drive_text.specs.declared.run.Run.{Run}
 use Rattle.drive_text.specs.Drive.{first_bad, runs_after}

@@ -17,7 +17,7 @@ pub data GiveAll : List (List ℕ) → List Run → Type 0 where
 abbrev pub IsBad : List ℕ → Type 0
 IsBad line = (runs : List Run) → ¬ (Means (strip_carriage_return line) runs)
 
--- bytes are good and give runs where their ended lines give these runs and their unfinished line isn't too long so far
+-- bytes are good and give runs where their ended lines give the runs, and their unfinished line isn't too long so far
 pub record IsGood (bytes : List ℕ) (runs : List Run) : Type 0 where
   pub lines : List (List ℕ)
   pub unfinished : List ℕ
@@ -27,7 +27,8 @@ pub record IsGood (bytes : List ℕ) (runs : List Run) : Type 0 where
   pub give : GiveAll lines runs
   pub short : is_too_long unfinished ≡ false
 
--- bytes have a bad line behind some good lines where that line is ended and bad, or not ended and too long
+-- bytes have a bad line behind some good lines where the line is bad and an LF ends it, or no LF does and it is too
+-- long
 abbrev pub HasBadLine : List ℕ → List (List ℕ) → List ℕ → Type 0
 HasBadLine bytes lines line =
     ((behind : List ℕ) × (bytes ≡ text_of lines (line ++ 10 ∷ behind)) × IsBad line)
@@ -49,7 +50,7 @@ abbrev pub IsReadAs : List ℕ → Option ℕ → List Run → Type 0
 IsReadAs bytes None runs = IsGood bytes runs
 IsReadAs bytes (Some number) runs = BreaksAt bytes number runs
 
--- bytes end whole with runs where all their lines are ended and give these runs
+-- bytes end whole with runs where all their lines are ended and give the runs
 pub record EndsWhole (bytes : List ℕ) (runs : List Run) : Type 0 where
   pub lines : List (List ℕ)
   pub text : bytes ≡ text_of lines []
@@ -60,7 +61,8 @@ pub record EndsWhole (bytes : List ℕ) (runs : List Run) : Type 0 where
 abbrev pub bytes_of : List (List ℕ) → List ℕ
 bytes_of pieces = flat_map (λ piece. piece) pieces
 
--- pieces that are taken in turn after other bytes give the runs that each adds to the bytes before it
+-- the runs that are given by pieces, taken in turn after other bytes, are those that each piece adds to the bytes
+-- before it
 abbrev pub given_by : List ℕ → List (List ℕ) → List Run
 given_by before [] = []
 given_by before (piece ∷ pieces) = runs_after before piece ++ given_by (before ++ piece) pieces

@@ -1,6 +1,7 @@
 //! Writes the line of one event.
 ghost use Rattle.std.specs.Prelude.{◌≡◌, ◌+◌, ◌*◌, ◌^◌, ◌<◌, ◌≤◌, ◌++◌, ◌↔◌, length, decimal, IsOk, OnOk, OnErr};
 ghost use Rattle.arrayvec.specs.ArrayVec.{array_vec_len};
+ghost use Rattle.taxi_units.specs.Line.{line_size};
 ghost use Rattle.drive_text.specs.Ranges.{IsInRange, IsKeyInRange};
 ghost use Rattle.drive_text.specs.Written.{event_text, event_fields, key_text};
 
@@ -13,7 +14,7 @@ use taxi_units::{Event, Key, Line, LineFull, put_bytes, put_number};
 /// of a drive: seconds are 946,684,800 to 7,258,118,399, pulses 1 to 65,535, keys' numbers 0 to 99.
 pub fn put_event(line: &mut Line, event: Event) -> Result<(), LineFull>
     requires { IsInRange event }
-    ensures variant { IsOk result ↔ (array_vec_len line.old + length (event_text event) ≤ 512) }
+    ensures variant { IsOk result ↔ (array_vec_len line.old + length (event_text event) ≤ line_size) }
     ensures ok { OnOk result (line.new.items ≡ line.old.items ++ event_text event) }
     ensures err { OnErr result (line.new ≡ line.old) }
 {

@@ -8,16 +8,16 @@ pub use Rattle.taxi_units.specs.Calendar.{IsDate, date_place, days_of_month, is_
 abbrev pub days_of_year : ℕ → ℕ
 days_of_year year = if is_leap_year year then 366 else 365
 
--- the first `years` years, from the year 0 on, have this many days together
+-- the days of the first `years` years, from the year 0 on, are the sum of the days of each
 unfoldable pub days_of_years : ℕ → ℕ
 days_of_years zero = 0
 days_of_years (suc years) = days_of_years years + days_of_year years
 
--- the first `months` months of a year have this many days together
+-- the days of the first `months` months of a year are the sum of the days of each
 unfoldable pub days_of_months : (year months : ℕ) → ℕ
 days_of_months year months = sum (take months (month_lengths (is_leap_year year)))
 
--- the place of a date in its year is the number of days before it in that year, so 1 January has place 0
+-- the place of a date in its year is the number of days before it in that year: 1 January has place 0
 abbrev pub place_in_year : (year month date : ℕ) → ℕ
 place_in_year year month date = days_of_months year (month - 1) + (date - 1)
 

@@ -25,7 +25,7 @@ IsInRangeAt pairs place = IsSecond (second_at pairs place) × IsOffset (offset_o
 abbrev pub RisesAt : List (ℕ × ℤ) → ℕ → Type 0
 RisesAt pairs place = 0 < place → second_at pairs (place - 1) < second_at pairs place
 
--- a property of places holds at each place of the list
+-- a property of places holds for a list where it holds at each place of the list
 abbrev pub EachPlace : List (ℕ × ℤ) → (ℕ → Type 0) → Type 0
 EachPlace pairs Holds = (place : ℕ) → place < length pairs → Holds place
 

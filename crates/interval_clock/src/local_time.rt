@@ -9,6 +9,9 @@ use crate::offsets::Offsets;
 use std::sync::ledger::Ledger;
 use taxi_units::{Steps, date_place};
 
+/// How many seconds a day has.
+const SECONDS_OF_DAY: u64 = 86_400;
+
 /// A local date and time, in the proleptic Gregorian calendar.
 #[derive(Clone, Copy, Debug, PartialEq, Eq)]
 pub struct LocalTime {
@@ -56,7 +59,10 @@ fn local_time(local: u64) -> LocalTime
     ensures date { IsDateOf result.day result.year result.month result.date }
     ensures ranges { HasPartsInRange result }
 {
-    on_day((local / 86_400) as i32, (local % 86_400) as u32)
+    on_day(
+        (local / SECONDS_OF_DAY) as i32,
+        (local % SECONDS_OF_DAY) as u32,
+    )
 }
 
 /// The local date and time at a second of a day.

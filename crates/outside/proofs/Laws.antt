@@ -4,6 +4,7 @@ use Rattle.std.proofs.lemmas.List.{append-nil, ext_get_or, get_or-take, get_or-d
 use Rattle.std.proofs.Math.Seq.{take-append-add}
 use Rattle.outside.specs.declared.board.Board.{Ghosts}
 use Rattle.outside.specs.Disk.{AreBytes, IsWithin, MayLeave, MayLeaveAmid, SameBut}
+pub use Rattle.outside.specs.MomentLaws.{counts_now}
 use Rattle.outside.specs.Printing.{Begins}
 use Rattle.outside.specs.Runs.{KeepsStore, LeavesNow, LeavesOnly, MayHold, PrintTakes}
 

@@ -1,12 +1,15 @@
 //! The board, which has a store and prints.
 ghost use Rattle.std.specs.Prelude.{◌≡◌, ◌⊎◌, ℕ, ◌+◌, ◌<◌, ◌≤◌, ◌++◌, List, length, take, drop, OnOk};
-ghost use Rattle.outside.specs.Disk.{IsImage, IsPiece, IsWithin, SameBut, MayLeave, MayLeaveAmid, Elapses};
+ghost use Rattle.outside.specs.Disk.{store_size, piece_size, IsImage, IsPiece, IsWithin, SameBut, MayLeave, MayLeaveAmid, Elapses};
 ghost use Rattle.outside.specs.Faults.{HasCause};
 ghost use Rattle.outside.specs.Printing.{Begins};
 
 use crate::fault::Failed;
 use std::sync::ledger::Ledger;
 use taxi_units::Steps;
+
+/// How many bytes the store of a board has.
+pub const STORE_SIZE: usize = 2048;
 
 /// The meter's one device: a store of 2,048 bytes, with places from 0 on, and a printer, on one clock
 /// of moments. Bytes that are written are in flight until a sync succeeds: a cut of the power may
@@ -45,7 +48,7 @@ pub trait Board<L: Ledger> {
     /// Reads a piece of 1 to 512 bytes that lies in the store into the whole of `buf`. After a read
     /// that failed what `buf` holds is open.
     fn read(&mut self, at: u16, buf: &mut [u8], steps: &mut Steps<L>) -> Result<(), Failed>
-        requires { IsPiece 2048 at (length buf.old) }
+        requires { IsPiece store_size at (length buf.old) }
         ensures bytes { tells_image → OnOk result (buf.new ≡ take (length buf.old) (drop at (image self.old))) }
         ensures image { image self.new ≡ image self.old }
         ensures flight { (place : ℕ) → in_flight self.new place → in_flight self.old place }
@@ -58,7 +61,7 @@ pub trait Board<L: Ledger> {
     /// Writes a piece of 1 to 512 bytes that lies in the store. It is in flight until a sync
     /// succeeds. After a write that failed the piece's places may hold any bytes.
     fn write_at(&mut self, at: u16, bytes: &[u8], steps: &mut Steps<L>) -> Result<(), Failed>
-        requires { IsPiece 2048 at (length bytes.now) }
+        requires { IsPiece store_size at (length bytes.now) }
         ensures written { tells_image → OnOk result (take (length bytes.now) (drop at (image self.new)) ≡ bytes.now) }
         ensures image { SameBut (IsWithin at (length bytes.now)) (image self.old) (image self.new) }
         ensures flight { (place : ℕ) → in_flight self.new place → in_flight self.old place
@@ -86,7 +89,7 @@ pub trait Board<L: Ledger> {
     /// perhaps none of it and perhaps all, and so has a print that a cut ends.
     fn print(&mut self, bytes: &[u8], steps: &mut Steps<L>) -> Result<(), Failed>
         requires some { 0 < length bytes.now }
-        requires few { length bytes.now ≤ 512 }
+        requires few { length bytes.now ≤ piece_size }
         ensures whole { tells_text → OnOk result (printed self.new ≡ printed self.old ++ bytes.now) }
         ensures begun { tells_text → Begins (printed self.old) (printed self.new) bytes.now }
         ensures image { image self.new ≡ image self.old }
@@ -97,7 +100,7 @@ pub trait Board<L: Ledger> {
         ensures step { steps.new ≡ steps.old + 1 };
 
     /// The store has 2,048 bytes.
-    ghost store: { (board : Self) → tells_image → IsImage 2048 (image board) };
+    ghost store: { (board : Self) → tells_image → IsImage store_size (image board) };
 
     /// What a cut may leave now is among what it might have left since an earlier moment.
     ghost counts_now: { (board : Self) (start : ℕ) (left_image left_text : List ℕ)

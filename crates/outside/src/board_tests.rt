@@ -162,10 +162,8 @@ pub(crate) fn call<B: Board<L>, L: Ledger>(
             }
         }
     };
-    match answer {
-        Ok(()) => Ok(buf),
-        Err(fault) => Err(fault),
-    }
+    answer?;
+    Ok(buf)
 }
 
 /// Whether the board has printed this.

@@ -1,7 +1,7 @@
 //! The board of the system.
 ghost use Rattle.std.specs.Prelude.{◌≡◌, ℕ, []};
 
-use crate::board::Board;
+use crate::board::{Board, STORE_SIZE};
 use crate::fault::Failed;
 use crate::file_device::FileDevice;
 use std::alloc::Global;
@@ -13,9 +13,6 @@ use taxi_units::Steps;
 
 /// The name of the store's file, in the working folder.
 const NAME: &str = "taxi.store";
-
-/// How many bytes the store has.
-const SIZE: u64 = 2048;
 
 /// The board of the system. It prints on the standard output, and its store is the file `taxi.store` in
 /// the working folder, of which it uses the first 2,048 bytes. Nothing is told of what the file holds or
@@ -39,7 +36,7 @@ impl<R: HostSystem<File = File> + Print + Drop> FileBoard<R> {
         ensures { result ≡ 0 }
     {
         FileBoard {
-            device: FileDevice::new(rt, alloc, NAME, SIZE),
+            device: FileDevice::new(rt, alloc, NAME, STORE_SIZE as u64),
         }
     }
 }

@@ -27,7 +27,7 @@ mod run_laws;
 mod store_file;
 mod text;
 
-pub use board::Board;
+pub use board::{Board, STORE_SIZE};
 pub use fault::Failed;
 pub use file_board::FileBoard;
 pub use file_device::FileDevice;

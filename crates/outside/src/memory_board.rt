@@ -1,12 +1,12 @@
 //! A board in memory, of which chosen calls fail.
 ghost use Rattle.std.specs.Prelude.{◌≡◌, ◌+◌, ◌<◌, ◌≤◌, [], length, IfOk};
 ghost use Rattle.outside.specs.Calls.{IsInSome, opened};
-ghost use Rattle.outside.specs.Disk.{IsPiece, SameBut};
+ghost use Rattle.outside.specs.Disk.{store_size, piece_size, IsPiece, SameBut};
 ghost use Rattle.outside.specs.MemoryBoard.{Memory, IsNew, new_board, faults_of, held_inside, image_of, in_flight_of, left_since_of, moment_of, text_of};
 ghost use Rattle.outside.specs.MemoryCalls.{PrintsPiece, ReadsPiece, SyncsStore, WritesPiece};
 ghost use Rattle.outside.specs.MomentLaws.{counts_now, only_now};
 
-use crate::board::Board;
+use crate::board::{Board, STORE_SIZE};
 use crate::fault::Failed;
 use crate::memory_device::MemoryDevice;
 use crate::replay::Fill;
@@ -19,11 +19,11 @@ use taxi_units::{NoMemory, Steps};
 /// of it fail as that says.
 #[derive(Drop)]
 pub struct MemoryBoard {
-    device: MemoryDevice<2048>,
+    device: MemoryDevice<STORE_SIZE>,
 }
 
 impl Model for MemoryBoard {
-    ghost Value = { Memory 2048 };
+    ghost Value = { Memory store_size };
 
     ghost view = { λ b. b.device };
 }
@@ -31,7 +31,11 @@ impl Model for MemoryBoard {
 impl MemoryBoard {
     /// A board at moment 0, whose store holds these bytes, with nothing in flight, nothing printed and
     /// no faults. The calls with the numbers in `fail` will fail. `NoMemory` comes only where there is no memory.
-    pub fn new(alloc: Global, image: &[u8; 2048], fail: &[u64]) -> Result<MemoryBoard, NoMemory>
+    pub fn new(
+        alloc: Global,
+        image: &[u8; STORE_SIZE],
+        fail: &[u64],
+    ) -> Result<MemoryBoard, NoMemory>
         ensures state { IfOk result (λ b. b.state ≡ new_board image.now fail.now) }
         ensures new { IfOk result (λ b. IsNew image.now b.state) }
     {
@@ -54,7 +58,7 @@ impl MemoryBoard {
     }
 
     /// What a read gives: the bytes of the store.
-    pub fn image(&self) -> &[u8; 2048]
+    pub fn image(&self) -> &[u8; STORE_SIZE]
         ensures { result.now ≡ image_of self.now.state }
     {
         self.device.image()
@@ -71,7 +75,7 @@ impl MemoryBoard {
     /// was in flight before the call is still so, inside a sync too, and so is the range that the call
     /// itself writes. The bytes in flight become what `fill` says. All others are those that a read
     /// gave before the call.
-    pub fn cut(&self, call: u64, fill: Fill) -> [u8; 2048]
+    pub fn cut(&self, call: u64, fill: Fill) -> [u8; STORE_SIZE]
         requires { call ≤ length self.now.state.calls }
         ensures left { left_since_of self.now.state 0 result (held_inside self.now.state call).text }
         ensures inside { SameBut (IsInSome (held_inside self.now.state call).ranges)
@@ -110,7 +114,7 @@ impl<L: Ledger> Board<L> for MemoryBoard {
         only_now (opened b.state.start) b.state.calls left_image left_text left };
 
     fn read(&mut self, at: u16, buf: &mut [u8], steps: &mut Steps<L>) -> Result<(), Failed>
-        requires { IsPiece 2048 at (length buf.old) }
+        requires { IsPiece store_size at (length buf.old) }
         ensures reads { ReadsPiece self.old.state at buf.old buf.new self.new.state result }
         ensures step { steps.new ≡ steps.old + 1 }
     {
@@ -119,7 +123,7 @@ impl<L: Ledger> Board<L> for MemoryBoard {
     }
 
     fn write_at(&mut self, at: u16, bytes: &[u8], steps: &mut Steps<L>) -> Result<(), Failed>
-        requires { IsPiece 2048 at (length bytes.now) }
+        requires { IsPiece store_size at (length bytes.now) }
         ensures writes { WritesPiece self.old.state at bytes.now self.new.state result }
         ensures step { steps.new ≡ steps.old + 1 }
     {
@@ -137,7 +141,7 @@ impl<L: Ledger> Board<L> for MemoryBoard {
 
     fn print(&mut self, bytes: &[u8], steps: &mut Steps<L>) -> Result<(), Failed>
         requires some { 0 < length bytes.now }
-        requires few { length bytes.now ≤ 512 }
+        requires few { length bytes.now ≤ piece_size }
         ensures prints { PrintsPiece self.old.state bytes.now self.new.state result }
         ensures step { steps.new ≡ steps.old + 1 }
     {

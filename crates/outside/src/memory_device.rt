@@ -1,7 +1,7 @@
 //! The device in memory behind each board in memory: a store of some size, and a printer.
 ghost use Rattle.std.specs.Prelude.{◌≡◌, ◌^◌, ◌<◌, ◌≤◌, [], length, IfOk};
 ghost use Rattle.outside.specs.Calls.{IsInSome};
-ghost use Rattle.outside.specs.Disk.{IsImage, IsPiece, SameBut};
+ghost use Rattle.outside.specs.Disk.{piece_size, IsImage, IsPiece, SameBut};
 ghost use Rattle.outside.specs.MemoryBoard.{Memory, IsNew, new_board, held_inside, image_of, left_since_of, text_of};
 ghost use Rattle.outside.specs.MemoryCalls.{PrintsPiece, ReadsPiece, SyncsStore, WritesPiece};
 
@@ -142,7 +142,7 @@ impl<const N: usize> MemoryDevice<N> {
     /// Prints a piece of 1 to 512 bytes.
     pub fn print(&mut self, bytes: &[u8]) -> Result<(), Failed>
         requires some { 0 < length bytes.now }
-        requires few { length bytes.now ≤ 512 }
+        requires few { length bytes.now ≤ piece_size }
         ensures { PrintsPiece self.old.state bytes.now self.new.state result }
     {
         self.state.keep_print(bytes)

@@ -1,8 +1,8 @@
 //! A board in memory that never fails and keeps nothing of its calls.
 ghost use Rattle.std.specs.Prelude.{◌≡◌, []};
-ghost use Rattle.outside.specs.Disk.{IsImage};
+ghost use Rattle.outside.specs.Disk.{store_size, IsImage};
 
-use crate::board::Board;
+use crate::board::{Board, STORE_SIZE};
 use crate::fault::Failed;
 use crate::image::known;
 use crate::replay::put;
@@ -15,8 +15,8 @@ use taxi_units::Steps;
 /// it names nothing that a cut might have left, so a clause on what a cut leaves says nothing of it.
 #[derive(Drop)]
 pub struct QuietBoard {
-    image: [u8; 2048],
-    ghost is_image: { IsImage 2048 image },
+    image: [u8; STORE_SIZE],
+    ghost is_image: { IsImage store_size image },
 }
 
 impl Model for QuietBoard {
@@ -29,7 +29,7 @@ impl Model for QuietBoard {
 
 impl QuietBoard {
     /// A board whose store holds these bytes.
-    pub fn new(image: &[u8; 2048]) -> QuietBoard
+    pub fn new(image: &[u8; STORE_SIZE]) -> QuietBoard
         ensures { result.image ≡ image.now }
     {
         known(image);

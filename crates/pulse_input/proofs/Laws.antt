@@ -1,3 +1,2 @@
 -- The lemmas that are the laws of the crate's public functions.
-pub use Rattle.pulse_input.proofs.Bursts.{gate_counts_the_sum}
 pub use Rattle.pulse_input.proofs.WholeMillimetres.{millimetres-most, millimetres-reached}

@@ -1,7 +1,7 @@
 -- Rules: the distance that pulses make, where k pulses make a kilometre.
 use Rattle.std.specs.Prelude.{ℕ, ◌*◌, ◌/◌, ◌≤◌}
 
--- p pulses make this distance in whole millimetres, rounded down, where k pulses make a kilometre of 1,000,000 mm
+-- the distance of p pulses in whole millimetres is rounded down, where k pulses make a kilometre of 1,000,000 mm
 abbrev pub millimetres_of : (k p : ℕ) → ℕ
 millimetres_of k p = 1000000 * p / k
 

@@ -57,7 +57,7 @@ impl Gate {
     }
 }
 
-/// A law: after any list of bursts of pulses a gate has counted their sum, up to 2,000.
+/// A law: after any list of bursts of pulses a pulse gate has counted their sum, up to 2,000.
 pub fn a_gate_counts_the_sum()
     ensures { (pulses : ℕ) (bursts : List ℕ) → pulses ≤ 2000
         → fold counted pulses bursts ≡ min 2000 (pulses + sum bursts) }

@@ -4,7 +4,8 @@ use Rattle.taxi_units.specs.declared.receipt.Receipt.{Receipt}
 use Rattle.receipt_text.specs.Grammar.{IsReceiptText}
 use Rattle.receipt_text.specs.Part.{Part}
 
--- a receipt of `count` bytes stands at the front of a text, whatever stands behind it
+-- a receipt stands in front of a text where the first `count` bytes of the text are the receipt, whatever stands behind
+-- them
 pub record IsInFront (text : List ℕ) (receipt : Receipt) (part : Part) (count : ℕ) : Type 0 where
   pub within : count ≤ length text
   pub is : IsReceiptText (take count text) receipt part

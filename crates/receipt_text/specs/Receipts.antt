@@ -9,7 +9,7 @@ use Rattle.taxi_units.specs.declared.receipt.Receipt.{Receipt}
 use Rattle.taxi_units.specs.declared.receipt.Stamp.{Stamp}
 use Rattle.receipt_text.specs.Part.{Part}
 
--- how a hiring ended is written as this word, and roaming, which has no receipt, as nothing
+-- the word for how a hiring ended is `CLOSED`, `ABORTED` or `EXPIRED`, and roaming, which has no receipt, has none
 abbrev pub kind_text : Kind → List ℕ
 kind_text Closed = codes "CLOSED"
 kind_text Aborted = codes "ABORTED"
@@ -37,7 +37,7 @@ day_text day =
     let date = date_after (unsigned_abs day) in
     date_text date.year date.month date.date
 
--- a number below 16 is written as this lower-case hexadecimal digit
+-- the hexadecimal digit of a number below 16 is one of 0 to 9, or one of a to f from 10 on
 abbrev pub hex_digit : ℕ → ℕ
 hex_digit n = if nat_lt n 10 then 48 + n else 87 + n
 

@@ -7,15 +7,16 @@ use Rattle.taxi_units.specs.declared.event.Why.{Why}
 use Rattle.taxi_units.specs.declared.event.Why.TheVariants.{NotNow, KeyWaiting, NoSuch, AtMost, ClockBack, TooFast, Powered, Expired, Ended}
 use Rattle.taxi_units.specs.declared.receipt.Display.{Display}
 
--- a display tells the tariff position and the zone by this text
+-- the tariff position and the zone of a display are written as `T` and `Z`, each with its number
 abbrev pub place_text : Display → List ℕ
 place_text d = codes " T" ++ (decimal d.position ++ (codes " Z" ++ decimal d.zone))
 
--- a display tells the fare by this text, and beside it the supplements, which are no part of the fare
+-- the amounts of a display are its fare and, behind a `+`, its supplements, which are no part of the fare
 abbrev pub amounts_text : Display → List ℕ
 amounts_text d = codes " " ++ (money_text d.decimals d.fare ++ (codes " +" ++ money_text d.decimals d.supplements))
 
--- a display is written as this line in an operating position, and as nothing in Off
+-- the line of a display in an operating position is the word of the position, the tariff position and the zone, and in
+-- Hired and Stopped the amounts; in Off there is none
 abbrev pub display_line : Operating → Display → List ℕ
 display_line Off d = []
 display_line ForHire d = codes "FOR HIRE" ++ (place_text d ++ codes "\n")
@@ -26,8 +27,8 @@ display_line Stopped d = codes "STOPPED" ++ (place_text d ++ (amounts_text d ++ 
 abbrev pub display_text : Display → List ℕ
 display_text d = display_line d.operating d
 
--- a refusal tells its cause by these words, with the two readings of a clock that was set back, or the number of pulses
--- too many
+-- the cause of a refusal is written in its words, with the two readings of a clock that was set back, or the number of
+-- pulses too many
 abbrev pub why_text : Why → List ℕ
 why_text NotNow = codes "NOT NOW"
 why_text KeyWaiting = codes "KEY WAITING"

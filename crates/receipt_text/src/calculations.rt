@@ -1,13 +1,14 @@
 //! The line of a receipt's calculation.
 ghost use Rattle.std.specs.Prelude.{◌≡◌, ◌+◌, ◌≤◌, ◌++◌, ◌↔◌, length, IsOk, OnOk};
 ghost use Rattle.arrayvec.specs.ArrayVec.{array_vec_len};
+ghost use Rattle.taxi_units.specs.Line.{line_size};
 ghost use Rattle.taxi_units.specs.Reading.{Gives};
 ghost use Rattle.receipt_text.specs.Lines as spec;
 ghost use Rattle.receipt_text.specs.Receipts.{calculation_text};
 
 use crate::amounts::amount_below;
 use crate::fields::{put_amount, put_figure};
-use crate::figures::number_below;
+use crate::figures::{READ_BELOW, number_below};
 use taxi_units::{Line, LineFull, Receipt, put_bytes, word};
 
 /// What this line says.
@@ -23,7 +24,7 @@ pub(crate) struct Calculation {
 #[tactic(auto, unfolding(crate::specs::Receipts::calculation_text))]
 pub(crate) fn put_calculation(line: &mut Line, receipt: &Receipt) -> Result<(), LineFull>
     requires { receipt.now.decimals ≤ 3 }
-    ensures variant { IsOk result ↔ (array_vec_len line.old + length (calculation_text receipt.now) ≤ 512) }
+    ensures variant { IsOk result ↔ (array_vec_len line.old + length (calculation_text receipt.now) ≤ line_size) }
     ensures ok { OnOk result (line.new.items ≡ line.old.items ++ calculation_text receipt.now) }
 {
     put_amount(line, b"CALC ", receipt.initial as u128, receipt.decimals)?;
@@ -38,11 +39,11 @@ pub(crate) fn calculation_at(text: &[u8]) -> Option<(Calculation, &[u8])>
     ensures { Gives (λ x. (x.0, x.1.now)) result (spec.calculation_at text.now) }
 {
     let text = word(text, b"CALC ")?;
-    let (initial, text) = amount_below(text, 1_000_000_000_000_000_000)?;
+    let (initial, text) = amount_below(text, READ_BELOW)?;
     let text = word(text, b" + ")?;
-    let (steps, text) = number_below(text, 1_000_000_000_000_000_000)?;
+    let (steps, text) = number_below(text, READ_BELOW)?;
     let text = word(text, b" x ")?;
-    let (step, text) = amount_below(text, 1_000_000_000_000_000_000)?;
+    let (step, text) = amount_below(text, READ_BELOW)?;
     let rest = word(text, b"\n")?;
     let calculation = Calculation {
         decimals: initial.decimals,

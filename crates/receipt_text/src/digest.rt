@@ -1,6 +1,7 @@
 //! Digests, in hexadecimal digits.
 ghost use Rattle.std.specs.Prelude.{◌≡◌, ◌+◌, ◌*◌, ◌<◌, ◌≤◌, ◌++◌, length, Some, None, IfSome};
 ghost use Rattle.arrayvec.specs.ArrayVec.{array_vec_len};
+ghost use Rattle.taxi_units.specs.Line.{line_size};
 ghost use Rattle.taxi_units.specs.Reading.{Gives};
 ghost use Rattle.receipt_text.specs.Digests as spec;
 ghost use Rattle.receipt_text.specs.Receipts.{hex_digit, hex_text};
@@ -20,7 +21,7 @@ pub(crate) fn hex_of(digest: &[u8; 32]) -> Line
 /// Appends the lower-case hexadecimal digits of bytes, two for each, to a line with room for them.
 #[tactic(auto, unfolding(crate::specs::Receipts::hex_text))]
 pub fn push_hex(line: &mut Line, bytes: &[u8])
-    requires { array_vec_len line.old + 2 * length bytes.now ≤ 512 }
+    requires { array_vec_len line.old + 2 * length bytes.now ≤ line_size }
     ensures text { line.new.items ≡ line.old.items ++ hex_text bytes.now }
     ensures len { array_vec_len line.new ≡ array_vec_len line.old + 2 * length bytes.now }
 {

@@ -1,6 +1,7 @@
 //! Displays.
 ghost use Rattle.std.specs.Prelude.{◌≡◌, ◌+◌, ◌≤◌, ◌++◌, ◌↔◌, length, decimal, IsOk, OnOk, OnErr};
 ghost use Rattle.arrayvec.specs.ArrayVec.{array_vec_len};
+ghost use Rattle.taxi_units.specs.Line.{line_size};
 ghost use Rattle.taxi_units.specs.Shown.{IsShown};
 ghost use Rattle.receipt_text.specs.Texts.{amounts_text, display_line, display_text, place_text};
 
@@ -18,10 +19,10 @@ use taxi_units::{
 /// what MI-007 asks; the form of the text is this project's own.
 pub fn put_display(line: &mut Line, display: &Display) -> Result<(), LineFull>
     requires { IsShown display.now }
-    ensures variant { IsOk result ↔ (array_vec_len line.old + length (display_text display.now) ≤ 512) }
+    ensures variant { IsOk result ↔ (array_vec_len line.old + length (display_text display.now) ≤ line_size) }
     ensures ok { OnOk result (line.new.items ≡ line.old.items ++ display_text display.now) }
     ensures err { OnErr result (line.new ≡ line.old) }
-    ensures room { array_vec_len line.old + 200 ≤ 512 → IsOk result }
+    ensures room { array_vec_len line.old + 200 ≤ line_size → IsOk result }
 {
     let mut text = Line::new();
     push_display(&mut text, display);
@@ -30,7 +31,7 @@ pub fn put_display(line: &mut Line, display: &Display) -> Result<(), LineFull>
 
 /// Appends the line of a display.
 fn push_display(line: &mut Line, display: &Display)
-    requires room { array_vec_len line.old + 200 ≤ 512 }
+    requires room { array_vec_len line.old + 200 ≤ line_size }
     requires decimals { display.now.decimals ≤ 3 }
     ensures text { line.new.items ≡ line.old.items ++ display_line display.now.operating display.now }
     ensures len { array_vec_len line.new ≤ array_vec_len line.old + 200 }
@@ -59,7 +60,7 @@ fn push_display(line: &mut Line, display: &Display)
 
 /// Appends the tariff position and the zone.
 fn push_place(line: &mut Line, display: &Display)
-    requires { array_vec_len line.old + 82 ≤ 512 }
+    requires { array_vec_len line.old + 82 ≤ line_size }
     ensures text { line.new.items ≡ line.old.items ++ place_text display.now }
     ensures len { array_vec_len line.new ≤ array_vec_len line.old + 82 }
 {
@@ -71,7 +72,7 @@ fn push_place(line: &mut Line, display: &Display)
 
 /// Appends the fare and the supplements.
 fn push_amounts(line: &mut Line, display: &Display)
-    requires room { array_vec_len line.old + 83 ≤ 512 }
+    requires room { array_vec_len line.old + 83 ≤ line_size }
     requires decimals { display.now.decimals ≤ 3 }
     ensures text { line.new.items ≡ line.old.items ++ amounts_text display.now }
     ensures len { array_vec_len line.new ≤ array_vec_len line.old + 83 }

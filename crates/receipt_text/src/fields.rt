@@ -1,13 +1,14 @@
 //! A word and what stands after it, put into a line.
 ghost use Rattle.std.specs.Prelude.{◌≡◌, ◌+◌, ◌≤◌, ◌++◌, ◌↔◌, length, decimal, IsOk, OnOk};
 ghost use Rattle.arrayvec.specs.ArrayVec.{array_vec_len};
+ghost use Rattle.taxi_units.specs.Line.{line_size};
 ghost use Rattle.taxi_units.specs.Number.{money_text};
 
 use taxi_units::{Line, LineFull, put_bytes, put_money, put_number};
 
 /// Appends a word and a text.
 pub(crate) fn put_text(line: &mut Line, word: &[u8], text: &[u8]) -> Result<(), LineFull>
-    ensures variant { IsOk result ↔ (array_vec_len line.old + length word.now + length text.now ≤ 512) }
+    ensures variant { IsOk result ↔ (array_vec_len line.old + length word.now + length text.now ≤ line_size) }
     ensures ok { OnOk result (line.new.items ≡ line.old.items ++ (word.now ++ text.now)) }
 {
     put_bytes(line, word)?;
@@ -16,7 +17,7 @@ pub(crate) fn put_text(line: &mut Line, word: &[u8], text: &[u8]) -> Result<(), 
 
 /// Appends a word and a number.
 pub(crate) fn put_figure(line: &mut Line, word: &[u8], number: u128) -> Result<(), LineFull>
-    ensures variant { IsOk result ↔ (array_vec_len line.old + length word.now + length (decimal number) ≤ 512) }
+    ensures variant { IsOk result ↔ (array_vec_len line.old + length word.now + length (decimal number) ≤ line_size) }
     ensures ok { OnOk result (line.new.items ≡ line.old.items ++ (word.now ++ decimal number)) }
 {
     put_bytes(line, word)?;
@@ -32,7 +33,7 @@ pub(crate) fn put_amount(
 ) -> Result<(), LineFull>
     requires { decimals ≤ 3 }
     ensures variant { IsOk result
-        ↔ (array_vec_len line.old + length word.now + length (money_text decimals units) ≤ 512) }
+        ↔ (array_vec_len line.old + length word.now + length (money_text decimals units) ≤ line_size) }
     ensures ok { OnOk result (line.new.items ≡ line.old.items ++ (word.now ++ money_text decimals units)) }
 {
     put_bytes(line, word)?;

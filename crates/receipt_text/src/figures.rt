@@ -1,10 +1,13 @@
 //! Numbers at the front of a text.
 ghost use Rattle.std.specs.Prelude.{◌≡◌, ◌^◌, ◌<◌, ◌≤◌, IfSome};
-ghost use Rattle.taxi_units.specs.Reading.{Gives};
+ghost use Rattle.taxi_units.specs.Reading.{Gives, GivesSame};
 ghost use Rattle.receipt_text.specs.Figures as spec;
 ghost use Rattle.receipt_text.specs.Figures.{AreDigits};
 
 use taxi_units::count_digits;
+
+/// Numbers and amounts of a receipt are read where they are below this, but those of its trip and its dates.
+pub(crate) const READ_BELOW: u128 = 1_000_000_000_000_000_000;
 
 /// A number at the front of a text, of all the digits that stand there, and what stands after it. `None`
 /// where no digit stands there, or the number isn't below the limit.
@@ -28,7 +31,7 @@ pub(crate) fn value_below(start: u128, digits: &[u8], limit: u128) -> Option<u12
     requires start { start < limit }
     requires most { limit ≤ 10 ^ 24 }
     requires digits { AreDigits digits.now }
-    ensures value { Gives (λ x. x) result (spec.value_below limit start digits.now) }
+    ensures value { GivesSame result (spec.value_below limit start digits.now) }
     ensures below { IfSome result (λ x. x < limit) }
 {
     let mut value = start;

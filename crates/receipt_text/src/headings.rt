@@ -1,12 +1,13 @@
 //! The lines of a receipt's number and kind.
 ghost use Rattle.std.specs.Prelude.{◌≡◌, ◌+◌, ◌≤◌, ◌++◌, ◌↔◌, length, IsOk, OnOk, IfSome};
 ghost use Rattle.arrayvec.specs.ArrayVec.{array_vec_len};
+ghost use Rattle.taxi_units.specs.Line.{line_size};
 ghost use Rattle.taxi_units.specs.Reading.{Gives};
 ghost use Rattle.receipt_text.specs.Lines as spec;
 ghost use Rattle.receipt_text.specs.Receipts.{heading_text, kind_text};
 
 use crate::fields::put_figure;
-use crate::figures::number_below;
+use crate::figures::{READ_BELOW, number_below};
 use taxi_units::{Kind, Line, LineFull, put_bytes, word};
 
 /// What these lines say.
@@ -19,7 +20,7 @@ pub(crate) struct Heading {
 /// Appends the lines of the number and the kind.
 #[tactic(auto, unfolding(crate::specs::Receipts::heading_text))]
 pub(crate) fn put_heading(line: &mut Line, number: u64, kind: Kind) -> Result<(), LineFull>
-    ensures variant { IsOk result ↔ (array_vec_len line.old + length (heading_text number kind) ≤ 512) }
+    ensures variant { IsOk result ↔ (array_vec_len line.old + length (heading_text number kind) ≤ line_size) }
     ensures ok { OnOk result (line.new.items ≡ line.old.items ++ heading_text number kind) }
 {
     put_figure(line, b"RECEIPT ", number as u128)?;
@@ -30,7 +31,7 @@ pub(crate) fn put_heading(line: &mut Line, number: u64, kind: Kind) -> Result<()
 
 /// Appends how a hiring ended.
 fn put_kind(line: &mut Line, kind: Kind) -> Result<(), LineFull>
-    ensures variant { IsOk result ↔ (array_vec_len line.old + length (kind_text kind) ≤ 512) }
+    ensures variant { IsOk result ↔ (array_vec_len line.old + length (kind_text kind) ≤ line_size) }
     ensures ok { OnOk result (line.new.items ≡ line.old.items ++ kind_text kind) }
 {
     match kind {
@@ -47,7 +48,7 @@ pub(crate) fn heading_at(text: &[u8]) -> Option<(Heading, &[u8])>
     ensures { Gives (λ x. (x.0, x.1.now)) result (spec.heading_at text.now) }
 {
     let text = word(text, b"RECEIPT ")?;
-    let (number, text) = number_below(text, 1_000_000_000_000_000_000)?;
+    let (number, text) = number_below(text, READ_BELOW)?;
     let text = word(text, b"\nKIND ")?;
     let (kind, text) = kind_at(text)?;
     let rest = word(text, b"\n")?;

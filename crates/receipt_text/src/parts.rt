@@ -2,6 +2,7 @@
 ghost use Rattle.std.specs.Prelude.{◌≡◌, ◌+◌, ◌≤◌, ◌++◌, ◌↔◌, codes, length, IsOk, OnOk, OnErr};
 ghost use Rattle.std.specs.List.{prefix_len};
 ghost use Rattle.arrayvec.specs.ArrayVec.{array_vec_len};
+ghost use Rattle.taxi_units.specs.Line.{line_size};
 ghost use Rattle.taxi_units.specs.Reading.{Gives};
 ghost use Rattle.receipt_text.specs.Lines as spec;
 ghost use Rattle.receipt_text.specs.Part.{IsDigest, IsPart};
@@ -71,7 +72,7 @@ fn bytes_are_a_digest(bytes: &[u8])
 #[tactic(auto, unfolding(crate::specs::Receipts::part_text))]
 pub(crate) fn put_part(line: &mut Line, part: &SealPart) -> Result<(), LineFull>
     requires { IsDay part.now.secured }
-    ensures variant { IsOk result ↔ (array_vec_len line.old + length (part_text part.now) ≤ 512) }
+    ensures variant { IsOk result ↔ (array_vec_len line.old + length (part_text part.now) ≤ line_size) }
     ensures ok { OnOk result (line.new.items ≡ line.old.items ++ part_text part.now) }
 {
     put_text(line, b"TAXI ", part.taxi.as_slice())?;
@@ -84,7 +85,7 @@ pub(crate) fn put_part(line: &mut Line, part: &SealPart) -> Result<(), LineFull>
 /// Appends the word of the date of securing, and the date of its day number.
 fn put_secured(line: &mut Line, secured: i32) -> Result<(), LineFull>
     requires { IsDay secured }
-    ensures variant { IsOk result ↔ (array_vec_len line.old + 9 + length (day_text secured) ≤ 512) }
+    ensures variant { IsOk result ↔ (array_vec_len line.old + 9 + length (day_text secured) ≤ line_size) }
     ensures ok { OnOk result (line.new.items ≡ line.old.items ++ (codes "\nSECURED " ++ day_text secured)) }
 {
     put_bytes(line, b"\nSECURED ")?;

@@ -1,6 +1,7 @@
 //! Receipts.
 ghost use Rattle.std.specs.Prelude.{◌≡◌, ◌+◌, ◌≤◌, ◌++◌, ◌↔◌, length, IsOk, OnOk, OnErr};
 ghost use Rattle.arrayvec.specs.ArrayVec.{array_vec_len};
+ghost use Rattle.taxi_units.specs.Line.{line_size};
 ghost use Rattle.taxi_units.specs.Shown.{IsReceipt};
 ghost use Rattle.seal_store.specs.Ranges.{IsDay, IsSeal};
 ghost use Rattle.receipt_text.specs.Receipts.{body_text, receipt_text};
@@ -24,7 +25,7 @@ pub fn put_receipt(line: &mut Line, receipt: &Receipt, seal: &Seal) -> Result<()
     requires receipt { IsReceipt receipt.now }
     requires seal { IsSeal seal.now }
     ensures variant { IsOk result
-        ↔ (array_vec_len line.old + length (receipt_text receipt.now (part_of seal.now)) ≤ 512) }
+        ↔ (array_vec_len line.old + length (receipt_text receipt.now (part_of seal.now)) ≤ line_size) }
     ensures ok { OnOk result (line.new.items ≡ line.old.items ++ receipt_text receipt.now (part_of seal.now)) }
     ensures err { OnErr result (line.new ≡ line.old) }
     ensures grammar { IsSpelled (receipt_text receipt.now (part_of seal.now)) receipt.now (part_of seal.now) }
@@ -41,7 +42,7 @@ pub(crate) fn put_part_receipt(
 ) -> Result<(), LineFull>
     requires decimals { receipt.now.decimals ≤ 3 }
     requires secured { IsDay part.now.secured }
-    ensures variant { IsOk result ↔ (array_vec_len line.old + length (receipt_text receipt.now part.now) ≤ 512) }
+    ensures variant { IsOk result ↔ (array_vec_len line.old + length (receipt_text receipt.now part.now) ≤ line_size) }
     ensures ok { OnOk result (line.new.items ≡ line.old.items ++ receipt_text receipt.now part.now) }
     ensures err { OnErr result (line.new ≡ line.old) }
 {
@@ -55,7 +56,7 @@ pub(crate) fn put_part_receipt(
 fn put_lines(line: &mut Line, receipt: &Receipt, part: &SealPart) -> Result<(), LineFull>
     requires decimals { receipt.now.decimals ≤ 3 }
     requires secured { IsDay part.now.secured }
-    ensures variant { IsOk result ↔ (array_vec_len line.old + length (receipt_text receipt.now part.now) ≤ 512) }
+    ensures variant { IsOk result ↔ (array_vec_len line.old + length (receipt_text receipt.now part.now) ≤ line_size) }
     ensures ok { OnOk result (line.new.items ≡ line.old.items ++ receipt_text receipt.now part.now) }
 {
     put_heading(line, receipt.number, receipt.kind)?;
@@ -67,7 +68,7 @@ fn put_lines(line: &mut Line, receipt: &Receipt, part: &SealPart) -> Result<(), 
 #[tactic(auto, unfolding(crate::specs::Receipts::body_text))]
 fn put_body(line: &mut Line, receipt: &Receipt) -> Result<(), LineFull>
     requires { receipt.now.decimals ≤ 3 }
-    ensures variant { IsOk result ↔ (array_vec_len line.old + length (body_text receipt.now) ≤ 512) }
+    ensures variant { IsOk result ↔ (array_vec_len line.old + length (body_text receipt.now) ≤ line_size) }
     ensures ok { OnOk result (line.new.items ≡ line.old.items ++ body_text receipt.now) }
 {
     put_trip(line, receipt)?;

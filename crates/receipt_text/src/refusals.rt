@@ -2,6 +2,7 @@
 ghost use Rattle.std.specs.Prelude.{◌≡◌, ◌+◌, ◌≤◌, ◌++◌, ◌↔◌, length, IsOk, OnOk, OnErr};
 ghost use Rattle.arrayvec.specs.ArrayVec.{array_vec_len};
 ghost use Rattle.receipt_text.specs.Texts.{refusal_text, why_text};
+ghost use Rattle.taxi_units.specs.Line.{line_size};
 
 use taxi_units::{Line, LineFull, Why, push_bytes, push_number, put_bytes};
 
@@ -11,10 +12,10 @@ use taxi_units::{Line, LineFull, Why, push_bytes, push_number, put_bytes};
 /// `LineFull` where the text doesn't fit; the line is then unchanged. It fits where there is room for 100
 /// bytes. Refusals are this project's own.
 pub fn put_refusal(line: &mut Line, why: Why) -> Result<(), LineFull>
-    ensures variant { IsOk result ↔ (array_vec_len line.old + length (refusal_text why) ≤ 512) }
+    ensures variant { IsOk result ↔ (array_vec_len line.old + length (refusal_text why) ≤ line_size) }
     ensures ok { OnOk result (line.new.items ≡ line.old.items ++ refusal_text why) }
     ensures err { OnErr result (line.new ≡ line.old) }
-    ensures room { array_vec_len line.old + 100 ≤ 512 → IsOk result }
+    ensures room { array_vec_len line.old + 100 ≤ line_size → IsOk result }
 {
     let mut text = Line::new();
     push_bytes(&mut text, b"REFUSED ");
@@ -25,7 +26,7 @@ pub fn put_refusal(line: &mut Line, why: Why) -> Result<(), LineFull>
 
 /// Appends what a refusal says.
 fn push_why(line: &mut Line, why: Why)
-    requires { array_vec_len line.old + 90 ≤ 512 }
+    requires { array_vec_len line.old + 90 ≤ line_size }
     ensures text { line.new.items ≡ line.old.items ++ why_text why }
     ensures len { array_vec_len line.new ≤ array_vec_len line.old + 90 }
 {
@@ -47,7 +48,7 @@ fn push_why(line: &mut Line, why: Why)
 
 /// Appends what the refusal of a reading of the clock says.
 fn push_clock_back(line: &mut Line, last: u64, given: u64)
-    requires { array_vec_len line.old + 90 ≤ 512 }
+    requires { array_vec_len line.old + 90 ≤ line_size }
     ensures text { line.new.items ≡ line.old.items ++ why_text (Why.ClockBack last given) }
     ensures len { array_vec_len line.new ≤ array_vec_len line.old + 90 }
 {

@@ -1,7 +1,8 @@
 //! Dates, days and local times.
 ghost use Rattle.std.specs.Prelude.{◌≡◌, ◌+◌, ◌^◌, ◌<◌, ◌≤◌, ◌++◌, ◌↔◌, length, IsOk, OnOk, IfSome, Some};
 ghost use Rattle.arrayvec.specs.ArrayVec.{array_vec_len};
-ghost use Rattle.taxi_units.specs.Reading.{Gives};
+ghost use Rattle.taxi_units.specs.Line.{line_size};
+ghost use Rattle.taxi_units.specs.Reading.{Gives, GivesSame};
 ghost use Rattle.seal_store.specs.Ranges.{IsDay};
 ghost use Rattle.receipt_text.specs.Dates as spec;
 ghost use Rattle.receipt_text.specs.Receipts.{date_text, day_text, stamp_text, time_text};
@@ -12,7 +13,7 @@ use taxi_units::{Line, LineFull, Stamp, put_bytes, put_padded, word};
 
 /// Appends a date.
 pub(crate) fn put_date(line: &mut Line, year: u16, month: u8, date: u8) -> Result<(), LineFull>
-    ensures variant { IsOk result ↔ (array_vec_len line.old + length (date_text year month date) ≤ 512) }
+    ensures variant { IsOk result ↔ (array_vec_len line.old + length (date_text year month date) ≤ line_size) }
     ensures ok { OnOk result (line.new.items ≡ line.old.items ++ date_text year month date) }
 {
     put_padded(line, year as u64, 4)?;
@@ -24,7 +25,7 @@ pub(crate) fn put_date(line: &mut Line, year: u16, month: u8, date: u8) -> Resul
 
 /// Appends a second of the day as hours, minutes and seconds.
 fn put_time(line: &mut Line, second: u32) -> Result<(), LineFull>
-    ensures variant { IsOk result ↔ (array_vec_len line.old + length (time_text second) ≤ 512) }
+    ensures variant { IsOk result ↔ (array_vec_len line.old + length (time_text second) ≤ line_size) }
     ensures ok { OnOk result (line.new.items ≡ line.old.items ++ time_text second) }
 {
     put_padded(line, (second / 3600) as u64, 2)?;
@@ -37,7 +38,7 @@ fn put_time(line: &mut Line, second: u32) -> Result<(), LineFull>
 /// Appends a local date and time.
 #[tactic(auto, unfolding(crate::specs::Receipts::stamp_text))]
 pub(crate) fn put_stamp(line: &mut Line, stamp: &Stamp) -> Result<(), LineFull>
-    ensures variant { IsOk result ↔ (array_vec_len line.old + length (stamp_text stamp.now) ≤ 512) }
+    ensures variant { IsOk result ↔ (array_vec_len line.old + length (stamp_text stamp.now) ≤ line_size) }
     ensures ok { OnOk result (line.new.items ≡ line.old.items ++ stamp_text stamp.now) }
 {
     put_date(line, stamp.year, stamp.month, stamp.date)?;
@@ -49,7 +50,7 @@ pub(crate) fn put_stamp(line: &mut Line, stamp: &Stamp) -> Result<(), LineFull>
 #[tactic(auto, unfolding(crate::specs::Receipts::day_text))]
 pub(crate) fn put_day(line: &mut Line, day: i32) -> Result<(), LineFull>
     requires { IsDay day }
-    ensures variant { IsOk result ↔ (array_vec_len line.old + length (day_text day) ≤ 512) }
+    ensures variant { IsOk result ↔ (array_vec_len line.old + length (day_text day) ≤ line_size) }
     ensures ok { OnOk result (line.new.items ≡ line.old.items ++ day_text day) }
 {
     let date = date_of_day(day as u32);
@@ -88,7 +89,7 @@ pub(crate) fn day_at(text: &[u8]) -> Option<(i32, &[u8])>
 /// The day number of a date of the years 2000 to 2199.
 fn day_of(date: CalendarDate) -> Option<i32>
     requires { date.year < 10000 }
-    ensures { Gives (λ day. day) result (spec.day_of date) }
+    ensures { GivesSame result (spec.day_of date) }
 {
     if date.year < 1970 {
         return None;

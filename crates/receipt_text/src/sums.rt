@@ -1,12 +1,14 @@
 //! The lines of a receipt's minimum fare and of its amounts.
 ghost use Rattle.std.specs.Prelude.{◌≡◌, ◌+◌, ◌≤◌, ◌++◌, ◌↔◌, length, IsOk, OnOk};
 ghost use Rattle.arrayvec.specs.ArrayVec.{array_vec_len};
+ghost use Rattle.taxi_units.specs.Line.{line_size};
 ghost use Rattle.taxi_units.specs.Reading.{Gives};
 ghost use Rattle.receipt_text.specs.Lines as spec;
 ghost use Rattle.receipt_text.specs.Receipts.{minimum_text, sums_text, total_text};
 
 use crate::amounts::amount_below;
 use crate::fields::put_amount;
+use crate::figures::READ_BELOW;
 use taxi_units::{Line, LineFull, Receipt, put_bytes, word};
 
 /// What the lines of the amounts say.
@@ -19,9 +21,9 @@ pub(crate) struct Sums {
 /// Appends the line of the minimum fare, where it is above 0.
 #[tactic(auto, unfolding(crate::specs::Receipts::minimum_text))]
 pub(crate) fn put_minimum(line: &mut Line, decimals: u8, minimum: u64) -> Result<(), LineFull>
-    requires room { array_vec_len line.old ≤ 512 }
+    requires room { array_vec_len line.old ≤ line_size }
     requires decimals { decimals ≤ 3 }
-    ensures variant { IsOk result ↔ (array_vec_len line.old + length (minimum_text decimals minimum) ≤ 512) }
+    ensures variant { IsOk result ↔ (array_vec_len line.old + length (minimum_text decimals minimum) ≤ line_size) }
     ensures ok { OnOk result (line.new.items ≡ line.old.items ++ minimum_text decimals minimum) }
 {
     if minimum == 0 {
@@ -35,7 +37,7 @@ pub(crate) fn put_minimum(line: &mut Line, decimals: u8, minimum: u64) -> Result
 #[tactic(auto, unfolding(crate::specs::Receipts::sums_text))]
 pub(crate) fn put_sums(line: &mut Line, receipt: &Receipt) -> Result<(), LineFull>
     requires { receipt.now.decimals ≤ 3 }
-    ensures variant { IsOk result ↔ (array_vec_len line.old + length (sums_text receipt.now) ≤ 512) }
+    ensures variant { IsOk result ↔ (array_vec_len line.old + length (sums_text receipt.now) ≤ line_size) }
     ensures ok { OnOk result (line.new.items ≡ line.old.items ++ sums_text receipt.now) }
 {
     put_amount(line, b"FARE ", receipt.fare as u128, receipt.decimals)?;
@@ -48,7 +50,7 @@ pub(crate) fn put_sums(line: &mut Line, receipt: &Receipt) -> Result<(), LineFul
 #[tactic(auto, unfolding(crate::specs::Receipts::total_text))]
 pub(crate) fn put_total(line: &mut Line, receipt: &Receipt) -> Result<(), LineFull>
     requires { receipt.now.decimals ≤ 3 }
-    ensures variant { IsOk result ↔ (array_vec_len line.old + length (total_text receipt.now) ≤ 512) }
+    ensures variant { IsOk result ↔ (array_vec_len line.old + length (total_text receipt.now) ≤ line_size) }
     ensures ok { OnOk result (line.new.items ≡ line.old.items ++ total_text receipt.now) }
 {
     let total = receipt.fare as u128 + receipt.supplements as u128;
@@ -65,7 +67,7 @@ pub(crate) fn minimum_at(text: &[u8]) -> Option<(u64, &[u8])>
     match word(text, b"MINIMUM ") {
         None => Some((0, text)),
         Some(text) => {
-            let (minimum, text) = amount_below(text, 1_000_000_000_000_000_000)?;
+            let (minimum, text) = amount_below(text, READ_BELOW)?;
             let rest = word(text, b"\n")?;
             Some((minimum.units as u64, rest))
         }
@@ -89,6 +91,6 @@ fn amount_field<'a>(text: &'a [u8], before: &[u8]) -> Option<(u64, &'a [u8])>
     ensures { Gives (λ x. (x.0, x.1.now)) result (spec.amount_field before.now text.now) }
 {
     let text = word(text, before)?;
-    let (amount, rest) = amount_below(text, 1_000_000_000_000_000_000)?;
+    let (amount, rest) = amount_below(text, READ_BELOW)?;
     Some((amount.units as u64, rest))
 }

@@ -1,6 +1,7 @@
 //! The lines of a receipt's trip.
 ghost use Rattle.std.specs.Prelude.{◌≡◌, ◌+◌, ◌≤◌, ◌++◌, ◌↔◌, length, IsOk, OnOk};
 ghost use Rattle.arrayvec.specs.ArrayVec.{array_vec_len};
+ghost use Rattle.taxi_units.specs.Line.{line_size};
 ghost use Rattle.taxi_units.specs.Reading.{Gives};
 ghost use Rattle.receipt_text.specs.Lines as spec;
 ghost use Rattle.receipt_text.specs.Receipts.{stamp_text, trip_text};
@@ -23,7 +24,7 @@ pub(crate) struct Trip {
 /// Appends the lines of the trip.
 #[tactic(auto, unfolding(crate::specs::Receipts::trip_text))]
 pub(crate) fn put_trip(line: &mut Line, receipt: &Receipt) -> Result<(), LineFull>
-    ensures variant { IsOk result ↔ (array_vec_len line.old + length (trip_text receipt.now) ≤ 512) }
+    ensures variant { IsOk result ↔ (array_vec_len line.old + length (trip_text receipt.now) ≤ line_size) }
     ensures ok { OnOk result (line.new.items ≡ line.old.items ++ trip_text receipt.now) }
 {
     put_time(line, b"START ", &receipt.start)?;
@@ -36,7 +37,7 @@ pub(crate) fn put_trip(line: &mut Line, receipt: &Receipt) -> Result<(), LineFul
 /// Appends a word and a local date and time.
 fn put_time(line: &mut Line, word: &[u8], stamp: &Stamp) -> Result<(), LineFull>
     ensures variant { IsOk result
-        ↔ (array_vec_len line.old + length word.now + length (stamp_text stamp.now) ≤ 512) }
+        ↔ (array_vec_len line.old + length word.now + length (stamp_text stamp.now) ≤ line_size) }
     ensures ok { OnOk result (line.new.items ≡ line.old.items ++ (word.now ++ stamp_text stamp.now)) }
 {
     put_bytes(line, word)?;

@@ -19,7 +19,8 @@ key_of Hold = codes "hold"
 key_of Offset = codes "offset"
 key_of Secured = codes "secured"
 
--- a parameter that only one line may say was said before; an offset may be said again
+-- a parameter was said where an earlier line has said it, and is one that only one line may say; an offset may be said
+-- again
 pub data WasSaid (said : Said) : Name → Type 0 where
   taxi_was : (value : List ℕ) → said.taxi ≡ Some value → WasSaid said Taxi
   constant_was : (n : ℕ) → said.constant ≡ Some n → WasSaid said Constant
@@ -27,8 +28,8 @@ pub data WasSaid (said : Said) : Name → Type 0 where
   hold_was : (n : ℕ) → said.hold ≡ Some n → WasSaid said Hold
   secured_was : (day : ℤ) → said.secured ≡ Some day → WasSaid said Secured
 
--- a line has the first of three faults: its key is no parameter's; it says a parameter a second time; its value says
--- nothing
+-- a line is bad by the first of three faults that it has: its key is no parameter's; it says a parameter a second time;
+-- its value says nothing
 pub data IsBad (said : Said) (number : ℕ) (line : List ℕ) : ParamFault → Type 0 where
   unknown_key : (key value : List ℕ) → ¬ (IsSilent line) → IsParted line key value
       → ((which : Name) → key ≢ key_of which) → IsBad said number line (Unknown number)

@@ -9,7 +9,7 @@ use Rattle.interval_clock.specs.declared.day_numbers.CalendarDate.{CalendarDate}
 use Rattle.taxi_units.specs.Number.{padded_text}
 use Rattle.seal_store.specs.declared.params.Params.{Params}
 
--- the word of a mode
+-- the word of a mode is `single` for mode S and `double` for mode D
 abbrev pub mode_text : Mode → List ℕ
 mode_text Single = codes "single"
 mode_text Double = codes "double"

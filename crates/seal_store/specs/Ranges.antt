@@ -16,7 +16,7 @@ pub record IsTaxi (text : List ℕ) : Type 0 where
   pub few : length text ≤ longest_taxi
   pub characters : All IsTaxiCharacter text
 
--- a day number is that of a date of the years 2000 to 2199
+-- a day number is one of the meter where it is that of a date of the years 2000 to 2199
 abbrev pub IsDay : ℤ → Type 0
 IsDay day = (pos first_day ≤ℤ day) × (day ≤ℤ pos last_day)
 
@@ -28,7 +28,7 @@ pub record IsParams (params : Params) : Type 0 where
   pub secured : IsDay params.secured
   pub offsets : IsOffsetList params.offsets
 
--- a seal is in its ranges; its digest may be any 32 bytes
+-- a seal is in its ranges where each of its fields is in its own; its digest may be any 32 bytes
 pub record IsSeal (seal : Seal) : Type 0 where
   pub seal_number : (1 ≤ seal.seal_number) × (seal.seal_number ≤ last_seal_number)
   pub params : IsParams seal.params

@@ -2,7 +2,7 @@
 use Rattle.std.specs.Prelude.{ℕ, ℤ, List, [], Option, None}
 use Rattle.drive_modes.specs.declared.charges.Mode.{Mode}
 
--- what lines have said so far is some of the parameters, and the list of the offsets up to here
+-- what lines have said so far is some of the parameters, and the offsets of the list up to the last line
 pub record Said : Type 0 where
   pub taxi : Option (List ℕ)
   pub constant : Option ℕ

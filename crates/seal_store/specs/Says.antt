@@ -33,7 +33,8 @@ pub record IsNumberIn (low high : ℕ) (digits : List ℕ) (number : ℕ) : Type
   pub below : number ≤ high
 
 -- lines break at a fault where all lines before one of them are good, and that line, numbered behind them, has the
--- fault
+-- fault; `lines_read` and `line_read` give what lines and a line say or their fault, as the laws
+-- lines_say_their_parameter and bad_lines_have_their_fault say
 pub record BreaksAt (said : Said) (number : ℕ) (lines : List (List ℕ)) (fault : ParamFault) : Type 0 where
   pub before : List (List ℕ)
   pub line : List ℕ

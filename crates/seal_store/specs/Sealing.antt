@@ -18,7 +18,8 @@ pub use Rattle.seal_store.specs.Decoding.{reads}
 use Rattle.seal_store.specs.Limits.{seals_at}
 use Rattle.seal_store.specs.Ranges.{number_of}
 
--- an image has a seal where its pair of seals stands for it
+-- an image has a seal where its pair of seals stands for it; `reads` says which seal the bytes of a slot are read as,
+-- as the law seals_are_read_by_their_table says
 abbrev pub HasSeal : List ℕ → Seal → Type 0
 HasSeal image seal = StandsFor reads number_of seals_at image seal
 
@@ -72,22 +73,23 @@ abbrev pub places_written : (found : Option Durable) → ℕ
 places_written None = pair_size + pair_size
 places_written (Some durable) = pair_size
 
--- the number of the found seal, where one was found
+-- the number of the found seal is that of the pair of its place and its number, and there is none where no seal was
+-- found
 abbrev pub found_number : Option (Place × ℕ) → Option ℕ
 found_number None = None
 found_number (Some found) = Some found.1
 
--- the totals that a scan found, if any
+-- the totals that a scan found are those of its latest body, and there are none where the pair is blank
 abbrev pub totals_found : Found Durable → Option Durable
 totals_found Blank = None
 totals_found (Latest place durable) = Some durable
 
--- the place and the number of the seal that a scan found, if any
+-- the seal that a scan found is told by its place and its number, and there is none where the pair is blank
 abbrev pub seal_found : Found Seal → Option (Place × ℕ)
 seal_found Blank = None
 seal_found (Latest place seal) = Some (place, seal.seal_number)
 
--- the seal that a scan found, if any
+-- the old seal is the one that a scan found, and there is none where the pair is blank
 abbrev pub old_seal : Found Seal → Option Seal
 old_seal Blank = None
 old_seal (Latest place seal) = Some seal
@@ -111,11 +113,11 @@ module _ {D L : Type 0} (B : Ghosts D L) where
   FoundSeal board (Some found) None = ⊥
   FoundSeal board (Some found) (Some seal) = KeepsSeal found.0 board seal × (seal.seal_number ≡ found.1)
 
-  -- a scan of the pair of totals left it as it was found
+  -- a scan has found totals on a board where its pair of totals is as the scan found it, with nothing in flight
   abbrev pub ScannedTotals : D → Found Durable → Type 0
   ScannedTotals board found = IsAsFound totals.reads stored.number_of 0 (B.image board) (B.in_flight board) found
 
-  -- a scan of the pair of seals left it as it was found
+  -- a scan has found a seal on a board where its pair of seals is as the scan found it, with nothing in flight
   abbrev pub ScannedSeal : D → Found Seal → Type 0
   ScannedSeal board found = IsAsFound reads number_of seals_at (B.image board) (B.in_flight board) found
 

@@ -43,7 +43,7 @@ IsUnsaid said Hold = said.hold ≡ None
 IsUnsaid said Offset = said.offsets ≡ []
 IsUnsaid said Secured = said.secured ≡ None
 
--- a parameter has this row in the table of the format, which counts from 0
+-- the row of a parameter is its place in the table of the format, counted from 0
 abbrev pub row_of : Name → ℕ
 row_of Taxi = 0
 row_of Constant = 1

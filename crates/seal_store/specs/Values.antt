@@ -1,6 +1,6 @@
 -- For proofs: the values of the parameters, as they are read. The laws texts_say_parameters_line_by_line and
 -- values_are_read_by_their_forms say what they are.
-use Rattle.std.specs.Prelude.{ℕ, ◌+◌, ◌&&◌, ◌||◌, ◌==◌, nat_le, Bool, if◌then◌else◌, ℤ, pos, neg_ℤ, List, length, Option, Some, None, codes}
+use Rattle.std.specs.Prelude.{ℕ, ◌&&◌, ◌||◌, ◌==◌, nat_le, Bool, if◌then◌else◌, ℤ, pos, neg_ℤ, List, length, Option, Some, None, codes}
 use Rattle.std.specs.List.{list_all}
 use Rattle.std.specs.Str.{bytes_eq}
 use Rattle.drive_modes.specs.declared.charges.Mode.{Mode}

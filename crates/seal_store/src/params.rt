@@ -18,7 +18,7 @@ pub(crate) const MOST_OFFSETS: usize = 32;
 #[derive(Drop)]
 pub struct Params {
     /// The taxi identifier: 1 to 16 characters of A to Z, 0 to 9 and `-`.
-    pub taxi: ArrayVec<u8, 16>,
+    pub taxi: ArrayVec<u8, LONGEST_TAXI>,
     /// The constant of the distance signal generator.
     pub constant: Constant,
     /// How time and distance are charged.

@@ -1,7 +1,7 @@
 //! The values of the parameters.
 ghost use Rattle.std.specs.Prelude.{◌≡◌, ◌+◌, ◌<◌, ◌≤◌, ◌^◌, [], length, IfSome};
 ghost use Rattle.std.specs.List.{list_all};
-ghost use Rattle.taxi_units.specs.Reading.{Gives};
+ghost use Rattle.taxi_units.specs.Reading.{Gives, GivesSame};
 ghost use Rattle.seal_store.specs.Limits.{least_constant, greatest_constant, longest_hold, first_year, last_year};
 ghost use Rattle.seal_store.specs.Values as spec;
 
@@ -66,7 +66,7 @@ pub(crate) fn taxi(text: &[u8]) -> Option<ArrayVec<u8, LONGEST_TAXI>>
 /// A number in a range.
 #[tactic(auto, unfolding(crate::specs::Values::number_in))]
 fn number(text: &[u8], low: u64, high: u64) -> Option<u64>
-    ensures value { Gives (λ n. n) result (spec.number_in low high text.now) }
+    ensures value { GivesSame result (spec.number_in low high text.now) }
     ensures low { IfSome result (λ n. low ≤ n) }
     ensures high { IfSome result (λ n. n ≤ high) }
 {
@@ -79,7 +79,7 @@ fn number(text: &[u8], low: u64, high: u64) -> Option<u64>
 
 /// The constant of the distance signal generator.
 pub(crate) fn constant(text: &[u8]) -> Option<Constant>
-    ensures { Gives (λ k. k) result (spec.number_in least_constant greatest_constant text.now) }
+    ensures { GivesSame result (spec.number_in least_constant greatest_constant text.now) }
 {
     let per_kilometre = number(text, LEAST_CONSTANT, GREATEST_CONSTANT)?;
     match Constant::new(per_kilometre as u32) {
@@ -90,7 +90,7 @@ pub(crate) fn constant(text: &[u8]) -> Option<Constant>
 
 /// The seconds for which a trip may be held.
 pub(crate) fn hold(text: &[u8]) -> Option<u16>
-    ensures { Gives (λ n. n) result (spec.number_in 0 longest_hold text.now) }
+    ensures { GivesSame result (spec.number_in 0 longest_hold text.now) }
 {
     let seconds = number(text, 0, u64::from(LONGEST_HOLD))?;
     Some(seconds as u16)
@@ -99,7 +99,7 @@ pub(crate) fn hold(text: &[u8]) -> Option<u16>
 /// How time and distance are charged.
 #[tactic(auto, unfolding(crate::specs::Values::mode_read))]
 pub(crate) fn mode(text: &[u8]) -> Option<Mode>
-    ensures { Gives (λ mode. mode) result (spec.mode_read text.now) }
+    ensures { GivesSame result (spec.mode_read text.now) }
 {
     if is_text(text, b"single") {
         Some(Mode::Single)
@@ -113,7 +113,7 @@ pub(crate) fn mode(text: &[u8]) -> Option<Mode>
 /// An offset of at most 14 hours, in seconds.
 #[tactic(auto, unfolding(crate::specs::Values::offset_read))]
 fn offset(text: &[u8]) -> Option<i32>
-    ensures { Gives (λ n. n) result (spec.offset_read text.now) }
+    ensures { GivesSame result (spec.offset_read text.now) }
 {
     match word(text, b"-") {
         Some(digits) => {
@@ -130,7 +130,7 @@ fn offset(text: &[u8]) -> Option<i32>
 /// A second, and the offset that is in force from it on.
 #[tactic(auto, unfolding(crate::specs::Values::pair_read))]
 pub(crate) fn pair(text: &[u8]) -> Option<(u64, i32)>
-    ensures { Gives (λ pair. pair) result (spec.pair_read text.now) }
+    ensures { GivesSame result (spec.pair_read text.now) }
 {
     let (second, rest) = number_at(text)?;
     let rest = word(rest, b" ")?;
@@ -141,7 +141,7 @@ pub(crate) fn pair(text: &[u8]) -> Option<(u64, i32)>
 /// The day number of a date of the years 2000 to 2199.
 #[tactic(auto, unfolding(crate::specs::Values::secured_read))]
 pub(crate) fn secured(text: &[u8]) -> Option<i32>
-    ensures { Gives (λ day. day) result (spec.secured_read text.now) }
+    ensures { GivesSame result (spec.secured_read text.now) }
 {
     let (year, rest) = number_of_width(text, 4)?;
     let rest = word(rest, b"-")?;
@@ -159,7 +159,7 @@ pub(crate) fn secured(text: &[u8]) -> Option<i32>
 fn day_of(year: u16, month: u8, date: u8) -> Option<i32>
     requires from { first_year ≤ year }
     requires to { year ≤ last_year }
-    ensures { Gives (λ day. day) result (spec.where_date year month date []) }
+    ensures { GivesSame result (spec.where_date year month date []) }
 {
     match day_number(year, month, date) {
         Some(day) => Some(day as i32),

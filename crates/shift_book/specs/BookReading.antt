@@ -39,7 +39,7 @@ following now before mark rest = if may_follow now before mark then Some (mark, 
 -- the line of this mark, which may follow, stands at the front of a text, and this text behind it
 unfoldable pub next_at : (now : Durable) (before : Option Signing) → List ℕ → Option (Signing × List ℕ)
 next_at now before text =
-    mark_at text >>= (λ mark. word_at (mark_text mark) text >>= (λ rest. following now before mark rest))
+    mark_at text >>= (λ mark. word_at (mark_text mark) text >>= (following now before mark))
 
 -- reading goes on with what was found, and names the line as bad where nothing was
 abbrev pub or_bad : {A : Type 0} → (line : ℕ) → Option A → (A → Result (List Signing) BookFault)

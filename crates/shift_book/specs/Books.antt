@@ -10,28 +10,32 @@ use Rattle.shift_book.specs.Marks.{Signing, mark_text, book_text}
 abbrev pub longest : ℕ
 longest = 1048576
 
--- a text begins with the line of a mark that may follow the one before it, and `rest` stands behind the line
+-- a mark is next in a text where the text begins with the line of the mark, which may follow the one before it, and
+-- `rest` stands behind the line
 pub record IsNext (now : Durable) (before : Option Signing) (text : List ℕ) (mark : Signing)
     (rest : List ℕ) : Type 0 where
   pub line : text ≡ mark_text mark ++ rest
   pub follows : MayFollow now before mark
 
--- a text begins with the lines of marks, each of which may follow the one before it, and `rest` stands behind them
+-- marks begin a text where the text begins with their lines, each mark may follow the one before it, and `rest` stands
+-- behind the lines
 pub record Begins (now : Durable) (text : List ℕ) (marks : List Signing) (rest : List ℕ) : Type 0 where
   pub lines : text ≡ book_text marks ++ rest
   pub follow : FollowOn now None marks
 
--- a text goes on behind some marks, but with no line of a mark that may follow
+-- a text breaks behind some marks where it goes on, but with no line of a mark that may follow
 pub record Breaks (now : Durable) (marks : List Signing) (rest : List ℕ) : Type 0 where
   pub more : rest ≢ []
   pub bad : (mark : Signing) (after : List ℕ) → ¬ IsNext now (last_of marks) rest mark after
 
--- a text is a book of these marks: it isn't too long, and is the lines of marks that may follow one another
+-- a text is a book of marks where it has at most 1,048,576 bytes and is the lines of the marks, which may follow one
+-- another
 pub record IsBook (now : Durable) (text : List ℕ) (marks : List Signing) : Type 0 where
   pub few : length text ≤ longest
   pub begins : Begins now text marks []
 
--- a line of a text, counted from 1, is the first that is no line of a mark that may follow
+-- a line of a text, counted from 1, is the first bad one where the lines before it are those of marks that may follow
+-- one another, and it is no line of a mark that may follow them
 pub record IsFirstBad (now : Durable) (text : List ℕ) (line : ℕ) : Type 0 where
   pub few : length text ≤ longest
   pub marks : List Signing
@@ -40,7 +44,7 @@ pub record IsFirstBad (now : Durable) (text : List ℕ) (line : ℕ) : Type 0 wh
   pub breaks : Breaks now marks rest
   pub place : line ≡ length marks + 1
 
--- a text gives no marks for this reason: it is too long, or has a first bad line, or memory ran out over it
+-- a text has the fault for which it gives no marks: it is too long, or has a first bad line, or memory ran out over it
 abbrev pub IsFault : Durable → (text : List ℕ) → BookFault → Type 0
 IsFault now text TooLong = longest < length text
 IsFault now text (BadLine line) = IsFirstBad now text line

@@ -4,13 +4,13 @@ use Rattle.totaliser_store.specs.declared.durable.Durable.{Durable}
 use Rattle.shift_book.specs.declared.numbers.Numbers.{Numbers}
 use Rattle.shift_book.specs.Marks.{Signing, HasDriver, numbers_of}
 
--- a state of the store has these numbers, which are its own number and its totals in the order of a mark
+-- the numbers of a state of the store are its own number and its totals, in the order of a mark
 abbrev pub numbers_in : Durable → Numbers
 numbers_in now =
     numbers_of now.number now.totals.distance_mm now.totals.hired_mm now.totals.hirings
     now.totals.supplements now.totals.fare
 
--- none of six numbers is smaller than before
+-- six numbers are nowhere less than six before where none of them is smaller than before
 pub record IsNowhereLess (before after : Numbers) : Type 0 where
   pub number : before.number ≤ after.number
   pub distance : before.distance_mm ≤ after.distance_mm
@@ -47,6 +47,6 @@ abbrev pub FollowOn : Durable → (before : Option Signing) → List Signing →
 FollowOn now before [] = ⊤
 FollowOn now before (mark ∷ marks) = MayFollow now before mark × FollowOn now (Some mark) marks
 
--- marks end with this one, if there are any
+-- the last of some marks is the one behind all others, and there is none where there are no marks
 abbrev pub last_of : List Signing → Option Signing
 last_of marks = slice_get marks (length marks - 1)

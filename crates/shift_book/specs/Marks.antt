@@ -4,7 +4,8 @@ use Rattle.std.specs.List.{AllByRecursion, flat_map}
 use Rattle.taxi_units.specs.Written.{IsNumberText}
 use Rattle.shift_book.specs.declared.numbers.Numbers.{Numbers}
 
--- a mark has the number of the store, and five of its totals in this order
+-- the numbers of a mark are the number of the store, the distance, the distance when hired, the hirings, the
+-- supplements and the fare
 abbrev pub numbers_of : (number distance hired hirings supplements fare : ℕ) → Numbers
 numbers_of number distance hired hirings supplements fare =
     record {
@@ -26,7 +27,7 @@ pub record Signing : Type 0 where
 abbrev pub is_driver_character : ℕ → Bool
 is_driver_character c = (nat_le 65 c && nat_le c 90) || ((nat_le 48 c && nat_le c 57) || (c == 45))
 
--- every byte passes a test
+-- bytes pass a test where every one of them does
 abbrev pub PassAll : (ℕ → Bool) → List ℕ → Type 0
 PassAll test bytes = AllByRecursion (λ c. test c ≡ true) bytes
 
@@ -56,7 +57,7 @@ numbers_text n =
     number_text n.number ++ (number_text n.distance_mm ++ (number_text n.hired_mm
     ++ (number_text n.hirings ++ (number_text n.supplements ++ (number_text n.fare ++ 10 ∷ [])))))
 
--- a mark is written as this line
+-- the line of a mark is its word, with the driver behind `ON`, and its numbers
 abbrev pub mark_text : Signing → List ℕ
 mark_text mark = head_text mark.on mark.driver ++ numbers_text mark.numbers
 

@@ -19,7 +19,7 @@ digits_at text =
 
 -- a blank and the digits of this number stand at the front, and this text behind them
 unfoldable pub amount_at : List ℕ → Option (ℕ × List ℕ)
-amount_at text = word_at (codes " ") text >>= (λ rest. digits_at rest)
+amount_at text = word_at (codes " ") text >>= digits_at
 
 -- a blank and the digits of this number below 2^64 stand at the front, and this text behind them
 unfoldable pub count_at : List ℕ → Option (ℕ × List ℕ)
@@ -48,7 +48,7 @@ alone (driver, c ∷ cs) = None
 
 -- a word is this driver
 unfoldable pub driver_of : List ℕ → Option (List ℕ)
-driver_of word = driver_at word >>= (λ found. alone found)
+driver_of word = driver_at word >>= alone
 
 -- a text behind the word ON is a driver and six numbers, which make this mark
 unfoldable pub on_at : List ℕ → Option Signing

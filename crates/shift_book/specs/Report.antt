@@ -40,16 +40,18 @@ abbrev pub driver_lines : (decimals : ℕ) → List (Driver × Numbers) → List
 driver_lines decimals [] = []
 driver_lines decimals (sum ∷ sums) = driver_line decimals sum ++ driver_lines decimals sums
 
--- a book has this report, with the drivers' sums in the order of the drivers
+-- the report of a book is the lines of its shifts, the lines of the drivers' sums in the order of the drivers, the line
+-- of the growth while nobody was on, and the line of all growth; `with_shifts` adds up the sums shift by shift, and the
+-- law reports_share_the_growth says that the text is the report
 abbrev pub report_text : (decimals : ℕ) (now : Numbers) → List Signing → List ℕ
 report_text decimals now marks =
     shift_lines decimals 1 (shifts_in now marks) ++ (driver_lines decimals (with_shifts [] (shifts_in now marks))
     ++ ((codes "UNSIGNED" ++ growth_text decimals (unsigned_in now marks))
     ++ (codes "GROWTH" ++ growth_text decimals (growth_in now marks))))
 
--- a text is the report of a book: a line for each shift, one for each driver, one for the growth while nobody was on,
--- and one for all growth; the shifts and the growth while nobody was on add up to all growth, and so do the drivers'
--- sums and it
+-- a text is the report of a book where it has a line for each shift, one for each driver, one for the growth while
+-- nobody was on, and one for all growth; the shifts and the growth while nobody was on add up to all growth, and so do
+-- the drivers' sums and that growth
 pub record IsReport (decimals : ℕ) (now : Numbers) (marks : List Signing) (report : List ℕ) : Type 0 where
   pub sums : List (Driver × Numbers)
   pub text_is : report ≡ shift_lines decimals 1 (shifts_in now marks) ++ (driver_lines decimals sums
@@ -59,5 +61,5 @@ pub record IsReport (decimals : ℕ) (now : Numbers) (marks : List Signing) (rep
   pub are_sums : AreSums sums (shifts_in now marks)
   pub shifts_add_up : (column : Column) → sum_by (λ shift. at column shift.growth) (shifts_in now marks)
       + at column (unsigned_in now marks) ≡ at column (growth_in now marks)
-  pub drivers_add_up : (column : Column) → sum_by (λ n. at column n) (values_of sums)
+  pub drivers_add_up : (column : Column) → sum_by (at column) (values_of sums)
       + at column (unsigned_in now marks) ≡ at column (growth_in now marks)

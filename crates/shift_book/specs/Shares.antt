@@ -13,7 +13,7 @@ use Rattle.shift_book.specs.declared.numbers.Numbers.{Numbers}
 use Rattle.shift_book.specs.declared.shift.Shift.{Shift}
 use Rattle.shift_book.specs.Marks.{Signing, numbers_of}
 
--- the six numbers of a point, or of growth, are told apart by these columns
+-- a column tells apart the six numbers of a point, or of growth
 pub data Column : Type 0 where
   Number : Column
   Distance : Column
@@ -22,7 +22,7 @@ pub data Column : Type 0 where
   Supplements : Column
   Fare : Column
 
--- a point, or growth, has this number in a column
+-- the number of a point, or of growth, in a column is the one that the column names
 abbrev pub at : Column → Numbers → ℕ
 at Number n = n.number
 at Distance n = n.distance_mm
@@ -31,18 +31,18 @@ at Hirings n = n.hirings
 at Supplements n = n.supplements
 at Fare n = n.fare
 
--- nothing has grown
+-- growth of nothing has six zeros
 abbrev pub nothing : Numbers
 nothing = numbers_of 0 0 0 0 0 0
 
--- from one point to a later one this has grown
+-- what has grown from one point to a later one is the difference of each of the six numbers
 abbrev pub grown : (before after : Numbers) → Numbers
 grown before after =
     numbers_of (after.number - before.number) (after.distance_mm - before.distance_mm)
     (after.hired_mm - before.hired_mm) (after.hirings - before.hirings)
     (after.supplements - before.supplements) (after.fare - before.fare)
 
--- two growths make this growth together
+-- two growths together are the sum of each of the six numbers
 abbrev pub plus : Numbers → Numbers → Numbers
 plus a b =
     numbers_of (a.number + b.number) (a.distance_mm + b.distance_mm) (a.hired_mm + b.hired_mm) (a.hirings + b.hirings)
@@ -53,27 +53,28 @@ abbrev pub next_point : (now : Numbers) → List Signing → Numbers
 next_point now [] = now
 next_point now (mark ∷ marks) = mark.numbers
 
--- a mark that signs on begins this shift, with the growth up to the next point; one that signs off begins none
+-- a mark that signs on begins one shift, with the growth up to the next point, and one that signs off begins none
 abbrev pub begun_by : Signing → (next : Numbers) → List Shift
 begun_by mark next =
     if mark.on then record { driver = record { items = mark.driver }; growth = grown mark.numbers next } ∷ [] else []
 
--- behind a mark that signs off this has grown up to the next point while nobody was on, and nothing behind one that
--- signs on
+-- the growth behind a mark while nobody was on is what has grown up to the next point where the mark signs off, and
+-- nothing where it signs on
 abbrev pub free_behind : Signing → (next : Numbers) → Numbers
 free_behind mark next = if mark.on then nothing else grown mark.numbers next
 
--- a book has these shifts, in order
+-- the shifts of a book are those that its marks begin, in order
 abbrev pub shifts_in : (now : Numbers) → List Signing → List Shift
 shifts_in now [] = []
 shifts_in now (mark ∷ marks) = begun_by mark (next_point now marks) ++ shifts_in now marks
 
--- this has grown while nobody was on
+-- the growth of a book while nobody was on is the sum of what has grown behind each mark that signs off
 abbrev pub unsigned_in : (now : Numbers) → List Signing → Numbers
 unsigned_in now [] = nothing
 unsigned_in now (mark ∷ marks) = plus (free_behind mark (next_point now marks)) (unsigned_in now marks)
 
--- this has grown from the first point of a book to the last, which is nothing where the book has no marks
+-- the growth of a book is what has grown from its first mark to the store as it is, which is nothing where the book has
+-- no marks
 abbrev pub growth_in : (now : Numbers) → List Signing → Numbers
 growth_in now [] = nothing
 growth_in now (mark ∷ marks) = grown mark.numbers now
@@ -82,11 +83,11 @@ growth_in now (mark ∷ marks) = grown mark.numbers now
 abbrev pub Driver : Type 0
 Driver = ArrayVec ℕ
 
--- drivers are in the order of their bytes
+-- drivers are compared by the bytes of their names
 abbrev pub driver_cmp : Driver → Driver → Ordering
 driver_cmp a b = slice_cmp nat_cmp a.items b.items
 
--- a shift is a driver's where the names are the same
+-- the test `is_of` is true where a shift is a driver's, by the same name
 abbrev pub is_of : Driver → Shift → Bool
 is_of driver shift = is_eq (driver_cmp shift.driver driver)
 
@@ -94,7 +95,7 @@ is_of driver shift = is_eq (driver_cmp shift.driver driver)
 abbrev pub gives : Driver → Column → Shift → ℕ
 gives driver column shift = if is_of driver shift then at column shift.growth else 0
 
--- sums have this for a driver in a column, and nothing where they don't have the driver
+-- the sum for a driver in a column is what the sums have for the driver there, and 0 where they don't have the driver
 abbrev pub sum_for : Driver → Column → List (Driver × Numbers) → ℕ
 sum_for driver column sums = unwrap_or (option_map (at column) (lookup (is_at (driver_cmp driver)) sums)) 0
 
@@ -103,7 +104,7 @@ sum_for driver column sums = unwrap_or (option_map (at column) (lookup (is_at (d
 pub record AreSums (sums : List (Driver × Numbers)) (shifts : List Shift) : Type 0 where
   pub drivers : (driver : Driver) → is_some (lookup (is_at (driver_cmp driver)) sums) ≡ list_any (is_of driver) shifts
   pub each : (driver : Driver) (column : Column) → sum_for driver column sums ≡ sum_by (gives driver column) shifts
-  pub all : (column : Column) → sum_by (λ n. at column n) (values_of sums)
+  pub all : (column : Column) → sum_by (at column) (values_of sums)
       ≡ sum_by (λ shift. at column shift.growth) shifts
 
 -- the drivers stand in the order of their bytes, each once

@@ -37,7 +37,7 @@ const LONGEST: usize = 1_048_576;
 /// that is known. The form and the limit are this project's own.
 pub fn read_book(alloc: Global, text: &[u8], now: &Durable) -> Result<Vec<Mark>, BookFault>
     ensures meaning { MatchResult result (λ marks. IsBook now.now text.now marks.items)
-        (λ fault. IsFault now.now text.now fault) }
+        (IsFault now.now text.now) }
     ensures few { IfOk result (λ marks. length marks.items ≤ length text.now) }
     ensures marks { IfOk result (λ marks. book_read now.now text.now ≡ Ok marks.items) }
     ensures refused { (fault : BookFault) → result ≡ Err fault → fault ≢ BookFault.NoMemory

@@ -1,7 +1,7 @@
 //! Digits at the front of a text.
 ghost use Rattle.std.specs.Prelude.{◌≡◌, length};
 ghost use Rattle.taxi_units.specs.Number.{digits_at_front};
-ghost use Rattle.taxi_units.specs.Reading.{Gives};
+ghost use Rattle.taxi_units.specs.Reading.{Gives, GivesSame};
 ghost use Rattle.shift_book.specs.Reading as spec;
 
 use taxi_units::count_digits;
@@ -20,7 +20,7 @@ pub(crate) fn digits_at(text: &[u8]) -> Option<(u128, &[u8])>
 /// The number that digits make, where it is below 2^128.
 fn value_of(digits: &[u8]) -> Option<u128>
     requires { digits_at_front digits.now ≡ length digits.now }
-    ensures { Gives (λ x. x) result (spec.value_below digits.now) }
+    ensures { GivesSame result (spec.value_below digits.now) }
 {
     let mut value = 0u128;
     for byte in digits {

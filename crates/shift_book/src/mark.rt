@@ -1,6 +1,7 @@
 //! Marks: what a driver signs on and off by.
 ghost use Rattle.std.specs.Prelude.{◌≡◌, ◌+◌, ◌<◌, ◌≤◌, ◌++◌, ◌↔◌, length, IsOk, OnOk, OnErr};
 ghost use Rattle.arrayvec.specs.ArrayVec.{array_vec_len};
+ghost use Rattle.taxi_units.specs.Line.{line_size};
 ghost use Rattle.shift_book.specs.Following.{Fit};
 ghost use Rattle.shift_book.specs.Marks.{HasDriver, IsMarkLine, head_text, mark_text};
 
@@ -77,7 +78,7 @@ impl Mark {
 /// empty line. The form is this project's own.
 #[tactic(auto, using(crate::proofs::Lines::said))]
 pub fn put_mark(line: &mut Line, mark: &Mark) -> Result<(), LineFull>
-    ensures variant { IsOk result ↔ (array_vec_len line.old + length (mark_text mark.now) ≤ 512) }
+    ensures variant { IsOk result ↔ (array_vec_len line.old + length (mark_text mark.now) ≤ line_size) }
     ensures ok { OnOk result (line.new.items ≡ line.old.items ++ mark_text mark.now) }
     ensures err { OnErr result (line.new ≡ line.old) }
     ensures some { 0 < length (mark_text mark.now) }

@@ -1,7 +1,8 @@
 //! The six numbers of a mark.
 ghost use Rattle.std.specs.Prelude.{◌≡◌, ◌+◌, ◌≤◌, ◌++◌, ◌↔◌, IsTrue};
 ghost use Rattle.arrayvec.specs.ArrayVec.{array_vec_len};
-ghost use Rattle.taxi_units.specs.Reading.{Gives};
+ghost use Rattle.taxi_units.specs.Line.{line_size};
+ghost use Rattle.taxi_units.specs.Reading.{Gives, GivesSame};
 ghost use Rattle.shift_book.specs.Marks.{number_text, numbers_of, numbers_text};
 ghost use Rattle.shift_book.specs.Following.{Fit, IsNowhereLess, numbers_in};
 ghost use Rattle.shift_book.specs.Reading as spec;
@@ -72,7 +73,7 @@ pub(crate) fn is_nowhere_less(before: &Numbers, after: &Numbers) -> bool
 
 /// Appends the numbers, each behind a blank, and the end of the line.
 pub(crate) fn push_numbers(line: &mut Line, numbers: &Numbers)
-    requires room { array_vec_len line.old + 220 ≤ 512 }
+    requires room { array_vec_len line.old + 220 ≤ line_size }
     ensures text { line.new.items ≡ line.old.items ++ numbers_text numbers.now }
     ensures some { array_vec_len line.old ≤ array_vec_len line.new }
     ensures most { array_vec_len line.new ≤ array_vec_len line.old + 203 }
@@ -88,7 +89,7 @@ pub(crate) fn push_numbers(line: &mut Line, numbers: &Numbers)
 
 /// Appends a number behind a blank.
 pub(crate) fn push_field(line: &mut Line, value: u128)
-    requires room { array_vec_len line.old + 40 ≤ 512 }
+    requires room { array_vec_len line.old + 40 ≤ line_size }
     ensures text { line.new.items ≡ line.old.items ++ number_text value }
     ensures most { array_vec_len line.new ≤ array_vec_len line.old + 40 }
 {
@@ -99,7 +100,7 @@ pub(crate) fn push_field(line: &mut Line, value: u128)
 /// Appends a number below 2^64 behind a blank.
 #[tactic(auto, using(crate::proofs::Lines::counts_are_short))]
 fn push_count(line: &mut Line, value: u64)
-    requires room { array_vec_len line.old + 40 ≤ 512 }
+    requires room { array_vec_len line.old + 40 ≤ line_size }
     ensures text { line.new.items ≡ line.old.items ++ number_text value }
     ensures most { array_vec_len line.new ≤ array_vec_len line.old + 21 }
 {
@@ -109,7 +110,7 @@ fn push_count(line: &mut Line, value: u64)
 /// The six numbers at the front of a text, each behind a blank.
 #[tactic(auto, unfolding(crate::specs::Reading::numbers_at))]
 pub(crate) fn numbers_at(text: &[u8]) -> Option<Numbers>
-    ensures { Gives (λ x. x) result (spec.numbers_at text.now) }
+    ensures { GivesSame result (spec.numbers_at text.now) }
 {
     let (number, text) = count_at(text)?;
     let (distance_mm, text) = amount_at(text)?;

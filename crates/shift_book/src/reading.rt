@@ -1,7 +1,7 @@
 //! The mark that a line says, if it is one.
 ghost use Rattle.std.specs.Prelude.{◌≡◌, ◌≤◌, length, IfNone, IfSome};
 ghost use Rattle.std.specs.List.{prefix_len};
-ghost use Rattle.taxi_units.specs.Reading.{Gives};
+ghost use Rattle.taxi_units.specs.Reading.{Gives, GivesSame};
 ghost use Rattle.shift_book.specs.Marks.{HasDriver, IsDriver, is_driver_character};
 ghost use Rattle.shift_book.specs.Reading.{driver_of};
 ghost use Rattle.shift_book.specs.Reading as spec;
@@ -14,7 +14,7 @@ use taxi_units::word;
 /// The only mark whose line may stand at the front of a text. Whether it does, its own line says.
 #[tactic(auto, unfolding(crate::specs::Reading::mark_at))]
 pub(crate) fn mark_at(text: &[u8]) -> Option<Mark>
-    ensures mark { Gives (λ x. x) result (spec.mark_at text.now) }
+    ensures mark { GivesSame result (spec.mark_at text.now) }
     ensures driver { IfSome result (λ x. HasDriver x.on x.driver) }
 {
     match word(text, b"ON ") {
@@ -26,7 +26,7 @@ pub(crate) fn mark_at(text: &[u8]) -> Option<Mark>
 /// A mark that signs on, behind its word.
 #[tactic(auto, unfolding(crate::specs::Reading::on_at))]
 fn on_at(text: &[u8]) -> Option<Mark>
-    ensures mark { Gives (λ x. x) result (spec.on_at text.now) }
+    ensures mark { GivesSame result (spec.on_at text.now) }
     ensures driver { IfSome result (λ x. HasDriver x.on x.driver) }
 {
     let (driver, rest) = driver_at(text)?;
@@ -37,7 +37,7 @@ fn on_at(text: &[u8]) -> Option<Mark>
 /// A mark that signs off.
 #[tactic(auto, unfolding(crate::specs::Reading::off_at))]
 fn off_at(text: &[u8]) -> Option<Mark>
-    ensures mark { Gives (λ x. x) result (spec.off_at text.now) }
+    ensures mark { GivesSame result (spec.off_at text.now) }
     ensures driver { IfSome result (λ x. HasDriver x.on x.driver) }
 {
     let rest = word(text, b"OFF")?;

@@ -1,6 +1,7 @@
 //! The report of a book.
 ghost use Rattle.std.specs.Prelude.{◌≡◌, ◌+◌, ◌*◌, ◌≤◌, ◌++◌, None, length, vec_len, IfOk, OnOk};
 ghost use Rattle.arrayvec.specs.ArrayVec.{array_vec_len};
+ghost use Rattle.taxi_units.specs.Line.{line_size};
 ghost use Rattle.shift_book.specs.Following.{FollowOn, numbers_in};
 ghost use Rattle.shift_book.specs.Report.{IsReport, amount_text, driver_line, driver_lines, growth_text};
 ghost use Rattle.shift_book.specs.Report.{report_text, shift_line, shift_lines};
@@ -50,7 +51,7 @@ pub fn shifts(
 fn push_shifts(report: &mut Vec<u8>, shifts: &[Shift], decimals: u8) -> Result<(), NoMemory>
     requires { decimals ≤ 3 }
     ensures text { OnOk result (report.new.items ≡ report.old.items ++ shift_lines decimals 1 shifts.now) }
-    ensures most { OnOk result (vec_len report.new ≤ vec_len report.old + 512 * length shifts.now) }
+    ensures most { OnOk result (vec_len report.new ≤ vec_len report.old + line_size * length shifts.now) }
 {
     let total = shifts.len();
     let mut count = 0usize;
@@ -72,7 +73,7 @@ fn push_shift_line(
 ) -> Result<(), NoMemory>
     requires { decimals ≤ 3 }
     ensures text { OnOk result (report.new.items ≡ report.old.items ++ shift_line decimals number shift.now) }
-    ensures most { OnOk result (vec_len report.new ≤ vec_len report.old + 512) }
+    ensures most { OnOk result (vec_len report.new ≤ vec_len report.old + line_size) }
 {
     let mut head = Line::new();
     push_bytes(&mut head, b"SHIFT ");
@@ -86,7 +87,7 @@ fn push_shift_line(
 fn push_drivers(report: &mut Vec<u8>, sums: Sums, decimals: u8) -> Result<(), NoMemory>
     requires { decimals ≤ 3 }
     ensures text { OnOk result (report.new.items ≡ report.old.items ++ driver_lines decimals sums.entries) }
-    ensures most { OnOk result (vec_len report.new ≤ vec_len report.old + 512 * length sums.entries) }
+    ensures most { OnOk result (vec_len report.new ≤ vec_len report.old + line_size * length sums.entries) }
 {
     let mut left = sums;
     while let Some((driver, sum)) = left.pop_first() {
@@ -104,7 +105,7 @@ fn push_driver_line(
 ) -> Result<(), NoMemory>
     requires { decimals ≤ 3 }
     ensures text { OnOk result (report.new.items ≡ report.old.items ++ driver_line decimals (driver.now, sum.now)) }
-    ensures most { OnOk result (vec_len report.new ≤ vec_len report.old + 512) }
+    ensures most { OnOk result (vec_len report.new ≤ vec_len report.old + line_size) }
 {
     let mut head = Line::new();
     push_bytes(&mut head, b"DRIVER ");
@@ -122,20 +123,19 @@ fn push_line(
     requires head { length head.now ≤ 100 }
     requires decimals { decimals ≤ 3 }
     ensures text { OnOk result (report.new.items ≡ report.old.items ++ (head.now ++ growth_text decimals growth.now)) }
-    ensures most { OnOk result (vec_len report.new ≤ vec_len report.old + 512) }
+    ensures most { OnOk result (vec_len report.new ≤ vec_len report.old + line_size) }
 {
     let mut line = Line::new();
     push_bytes(&mut line, head);
     push_growth(&mut line, growth, decimals);
-    match report.extend_from_slice(line.as_slice()) {
-        Ok(()) => Ok(()),
-        Err(_) => Err(NoMemory),
-    }
+    report
+        .extend_from_slice(line.as_slice())
+        .map_err(|_| NoMemory)
 }
 
 /// Appends growth, and the end of the line.
 fn push_growth(line: &mut Line, growth: &Numbers, decimals: u8)
-    requires room { array_vec_len line.old + 206 ≤ 512 }
+    requires room { array_vec_len line.old + 206 ≤ line_size }
     requires decimals { decimals ≤ 3 }
     ensures { line.new.items ≡ line.old.items ++ growth_text decimals growth.now }
 {
@@ -149,7 +149,7 @@ fn push_growth(line: &mut Line, growth: &Numbers, decimals: u8)
 
 /// Appends an amount behind a blank.
 fn push_amount(line: &mut Line, units: u128, decimals: u8)
-    requires room { array_vec_len line.old + 41 ≤ 512 }
+    requires room { array_vec_len line.old + 41 ≤ line_size }
     requires decimals { decimals ≤ 3 }
     ensures text { line.new.items ≡ line.old.items ++ amount_text decimals units }
     ensures most { array_vec_len line.new ≤ array_vec_len line.old + 41 }

@@ -49,10 +49,7 @@ fn push_shift(shifts: &mut Vec<Shift>, mark: &Mark, next: &Numbers) -> Result<()
         .try_extend_from_slice(mark.driver.as_slice())
         .unwrap();
     let growth = grown(&mark.numbers(), next);
-    match shifts.push(Shift { driver, growth }) {
-        Ok(()) => Ok(()),
-        Err(_) => Err(NoMemory),
-    }
+    shifts.push(Shift { driver, growth }).map_err(|_| NoMemory)
 }
 
 /// What grew while nobody was on.

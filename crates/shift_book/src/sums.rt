@@ -46,10 +46,8 @@ fn add_shift(sums: &mut Sums, shift: &Shift) -> Result<(), NoMemory>
 {
     let driver = copied(&shift.driver);
     let sum = plus(&sum_so_far(sums, &driver), &shift.growth);
-    match sums.insert(driver, sum) {
-        Ok(_) => Ok(()),
-        Err(_) => Err(NoMemory),
-    }
+    sums.insert(driver, sum).map_err(|_| NoMemory)?;
+    Ok(())
 }
 
 /// A copy of a driver.

@@ -7,29 +7,30 @@ use Rattle.slot_store.specs.declared.pair.Place.{Place}
 use Rattle.slot_store.specs.Sizes.{last_pair}
 use Rattle.slot_store.specs.Slots.{slot_at, IsQuiet, IsClosed, IsBlank, IsOpen, HasBody, IsSettled}
 
--- the slot that is kept is the one with the latest body, and slot 1 of a blank pair
+-- the kept slot is the one with the latest body, and slot 1 of a blank pair
 abbrev pub kept_slot : Option Place → ℕ
 kept_slot None = 1
 kept_slot (Some place) = place.slot
 
--- the slot that is kept begins here
+-- the kept slot begins at the place of its number in the pair
 abbrev pub kept_at : Pair → ℕ
 kept_at pair = slot_at pair.at (kept_slot pair.latest)
 
--- the slot that is written next is the one that isn't kept
+-- the spare slot, which is written next, is the one that isn't kept
 abbrev pub spare_slot : Option Place → ℕ
 spare_slot latest = 1 - kept_slot latest
 
--- the slot that is written next begins here
+-- the spare slot begins at the place of its number in the pair
 abbrev pub spare_at : Pair → ℕ
 spare_at pair = slot_at pair.at (spare_slot pair.latest)
 
--- a test whether the gate of the slot that is written next is open, which it isn't in a blank pair
+-- the test `is_spare_open` is true where the gate of the slot that is written next is open, which it isn't in a blank
+-- pair
 abbrev pub is_spare_open : Option Place → Bool
 is_spare_open None = false
 is_spare_open (Some place) = place.other_open
 
--- a new body is at this place once its gate is open: in the slot that is written next, beside an open one where the
+-- the place of a new body, once its gate is open, is in the slot that is written next, beside an open one where the
 -- pair had a body before
 abbrev pub new_place : Pair → Place
 new_place pair = record { slot = spare_slot pair.latest; other_open = is_some pair.latest }

@@ -20,13 +20,14 @@ module _ {D L : Type 0} (B : Ghosts D L) where
     pub same : B.image synced ≡ B.image old
     pub settled : IsSettled B synced
 
-  -- a call leaves this kind from its opening sync on where a cut behind that sync leaves only what is of this kind, and
-  -- one before it what it might have left before the call; where the sync fails, nothing is written
+  -- a call leaves a kind of image and text from its opening sync on where a cut behind that sync leaves only what is of
+  -- that kind, and a cut before it leaves what it might have left before the call; where the sync fails, nothing is
+  -- written
   abbrev pub LeavesFromSync : (fails : Type 0) (old new : D) (kind : List ℕ → List ℕ → Type 0) → Type 0
   LeavesFromSync fails old new kind =
       (fails × ReadsOnly old new) ⊎ ((synced : D) × IsSynced old synced × LeavesOnly B synced new kind)
 
-  -- an image and a text are as held where they are those of this board
+  -- an image and a text are as held where they are those that a board holds
   pub record IsAsHeld (board : D) (left_image left_text : List ℕ) : Type 0 where
     pub image : left_image ≡ B.image board
     pub text : left_text ≡ B.printed board

@@ -1,6 +1,6 @@
 //! One write and its sync.
 ghost use Rattle.std.specs.Prelude.{◌≡◌, ◌+◌, ◌≤◌, ℕ, length, take, drop, OnOk};
-ghost use Rattle.outside.specs.Disk.{IsPiece, MayLeave};
+ghost use Rattle.outside.specs.Disk.{store_size, IsPiece, MayLeave};
 ghost use Rattle.outside.specs.Faults.{HasCause};
 ghost use Rattle.outside.specs.Runs.{LeavesOnly};
 ghost use Rattle.slot_store.specs.Writes.{OrWithin, WritesIn};
@@ -17,7 +17,7 @@ pub fn write_and_sync<B: Board<L>, L: Ledger>(
     bytes: &[u8],
     steps: &mut Steps<L>,
 ) -> Result<(), Failed>
-    requires { IsPiece 2048 at (length bytes.now) }
+    requires { IsPiece store_size at (length bytes.now) }
     ensures any_moment { LeavesOnly B.Board board.old board.new
         (MayLeave (B.image board.old) (OrWithin (B.in_flight board.old) at (length bytes.now)) (B.printed board.old)) }
     ensures beside { WritesIn B.Board at (length bytes.now) board.old board.new }

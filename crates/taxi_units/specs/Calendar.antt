@@ -6,7 +6,8 @@ use Rattle.std.specs.Prelude.{ℕ, ◌+◌, ◌-◌, ◌%◌, ◌≤◌, Bool, t
 abbrev pub is_leap_year : ℕ → Bool
 is_leap_year year = (year % 4 == 0) && (not (year % 100 == 0) || (year % 400 == 0))
 
--- the months from January to December have these numbers of days, and February has one more in a leap year
+-- the lengths of the months from January to December are their numbers of days, and February has one more in a leap
+-- year
 abbrev pub month_lengths : (leap : Bool) → List ℕ
 month_lengths leap =
     31 ∷ (if leap then 29 else 28) ∷ 31 ∷ 30 ∷ 31 ∷ 30 ∷ 31 ∷ 31 ∷ 30 ∷ 31 ∷ 30 ∷ 31 ∷ []
@@ -23,7 +24,7 @@ days_of_month year month = slice_index (month_lengths (is_leap_year year)) (mont
 abbrev pub IsDate : (year month date : ℕ) → Type 0
 IsDate year month date = IsMonth month × (1 ≤ date) × (date ≤ days_of_month year month)
 
--- the test whether the calendar has a date
+-- the test `is_date` is true where the calendar has a date
 abbrev pub is_date : (year month date : ℕ) → Bool
 is_date year month date =
     nat_le 1 month && (nat_le month 12 && (nat_le 1 date && nat_le date (days_of_month year month)))
@@ -32,17 +33,19 @@ is_date year month date =
 abbrev pub IsLeapYearDate : (month date : ℕ) → Type 0
 IsLeapYearDate month date = IsDate 2000 month date
 
--- the place of a date in a leap year is the number of days before it: those of the earlier months, and those of its own
+-- the place of a date in a leap year is the number of days before it, in the earlier months and in its own
 abbrev pub date_place : (month date : ℕ) → ℕ
 date_place month date = sum (take (month - 1) (month_lengths true)) + (date - 1)
 
--- the month and date that come a number of days after the first of a month, where the lengths of the months from that
--- one on are listed; none where the listed months have no more days than that number
+-- the date that comes a number of days after the first of a month is told by its month and its day, where the lengths
+-- of the months from that one on are listed, and there is none where the listed months have no more days than that
+-- number
 abbrev pub date_from : (month : ℕ) → List ℕ → (days : ℕ) → Option (ℕ × ℕ)
 date_from month [] days = None
 date_from month (length ∷ lengths) days =
     if nat_lt days length then Some (month, days + 1) else date_from (month + 1) lengths (days - length)
 
--- the month and date at a place in a leap year, where place 0 is 1 January; a place above 365 has none
+-- the date of a place in a leap year is told by its month and its day, where place 0 is 1 January, and there is none
+-- for a place above 365
 abbrev pub date_of_place : (place : ℕ) → Option (ℕ × ℕ)
 date_of_place place = date_from 1 (month_lengths true) place

@@ -1,15 +1,15 @@
 -- Rules: what look-ups in a list find, and in how many steps.
 use Rattle.std.specs.Prelude.{◌≡◌, ℕ, ◌+◌, ◌-◌, ◌<◌, ◌≤◌, ◌^◌, List, slice_index_or}
 
--- the element stands at the place, counted from 0, in a list that is longer than the place says
+-- an element stands at a place, counted from 0, in a list that is longer than the place says
 abbrev pub IsElement : {T : Type 0} → List T → (place : ℕ) → T → Type 0
 IsElement {T} list place element = (other : T) → element ≡ slice_index_or list place other
 
--- the element is the last of the first `count` elements of a list, and there is at least one
+-- an element is the last of the first `count` elements of a list, of which there is at least one
 abbrev pub IsLastOf : {T : Type 0} → List T → (count : ℕ) → T → Type 0
 IsLastOf list count element = (0 < count) × IsElement list (count - 1) element
 
--- a look-up in a list of this length takes no more steps than the length has binary digits, and at least one where the
+-- a look-up in a list of a length takes no more steps than the length has binary digits, and at least one where the
 -- list has an element; the counter went from `old` to `new`
 pub record HalvesIn (length old new : ℕ) : Type 0 where
   pub kept : old ≤ new

@@ -4,11 +4,11 @@ use Rattle.std.specs.Str.Parse.{AllDigits, IsNumeral, digits_value}
 use Rattle.taxi_units.specs.declared.decimal.NumberFault.{NumberFault}
 use Rattle.taxi_units.specs.declared.decimal.NumberFault.TheVariants.{Empty, BadDigit, TooManyDecimals, TooBig}
 
--- digits before the point and after it make this many units, where a unit is 1 in the last of `decimals` decimals
+-- the units of digits before the point and after it are counted in the last of `decimals` decimals
 abbrev pub units_of : (decimals : ℕ) → (whole parts : List ℕ) → ℕ
 units_of decimals whole parts = digits_value 10 (whole ++ parts) * 10 ^ (decimals - length parts)
 
--- a decimal text is one or more digits (`whole`), or those, a point, and one or more digits (`parts`)
+-- a decimal text is one or more digits (`whole`), or one or more digits, a point, and one or more digits (`parts`)
 abbrev pub IsDecimal : List ℕ → List ℕ → List ℕ → Type 0
 IsDecimal text whole [] = IsNumeral 10 whole × (text ≡ whole)
 IsDecimal text whole (c ∷ cs) = IsNumeral 10 whole × AllDigits 10 (c ∷ cs) × (text ≡ whole ++ 46 ∷ c ∷ cs)

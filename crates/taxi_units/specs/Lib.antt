@@ -2,6 +2,7 @@ pub mod Calendar
 pub mod Counted
 pub mod Decimal
 pub mod Halving
+pub mod Line
 pub mod Number
 pub mod NumberStages
 pub mod Reading

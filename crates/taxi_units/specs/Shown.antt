@@ -7,16 +7,17 @@ use Rattle.taxi_units.specs.declared.receipt.Receipt.{Receipt}
 use Rattle.taxi_units.specs.declared.receipt.Stamp.{Stamp}
 use Rattle.taxi_units.specs.Calendar.{IsDate}
 
--- an amount of money is written with 0 to 3 decimals
+-- decimals are those of an amount of money where they are 0 to 3
 abbrev pub AreDecimals : ℕ → Type 0
 AreDecimals decimals = decimals ≤ 3
 
--- a display is shown by a meter that isn't off, and its amounts have 0 to 3 decimals
+-- a display may be shown where its meter isn't off, and its amounts have 0 to 3 decimals
 pub record IsShown (display : Display) : Type 0 where
   pub operating : display.operating ≢ Off
   pub decimals : AreDecimals display.decimals
 
--- a stamp is a date that the calendar has, of the years 1999 to 2200, and a second of a day, 0 to 86,399
+-- a stamp is in its ranges where it has a date that the calendar has, of the years 1999 to 2200, and a second of a day,
+-- 0 to 86,399
 pub record IsStamp (stamp : Stamp) : Type 0 where
   pub year : (1999 ≤ stamp.year) × (stamp.year ≤ 2200)
   pub date : IsDate stamp.year stamp.month stamp.date
@@ -27,7 +28,8 @@ pub record IsStamp (stamp : Stamp) : Type 0 where
 abbrev pub fare_of : Receipt → ℕ
 fare_of receipt = min 99999999 (max receipt.minimum (receipt.initial + receipt.steps * receipt.step))
 
--- a receipt is for a hiring and not for roaming, has each number in its range, and the fare that its parts make
+-- a receipt is in its ranges where it is for a hiring and not for roaming, has each number in its range, and the fare
+-- that its parts make
 pub record IsReceipt (receipt : Receipt) : Type 0 where
   pub kind : receipt.kind ≢ Roam
   pub number : (1 ≤ receipt.number) × (receipt.number ≤ 2 * 10 ^ 15 + 1)

@@ -13,6 +13,10 @@ last_second = 7258118399
 abbrev pub IsSecond : ℕ → Type 0
 IsSecond second = (first_second ≤ second) × (second ≤ last_second)
 
--- the longest trip has this many measuring intervals of 0.1 s, which are ten days
+-- the longest trip has 8,640,000 measuring intervals of 0.1 s, which are ten days
 abbrev pub longest_trip : ℕ
 longest_trip = 8640000
+
+-- a trip between two events has passed at most this many ticks, one fewer than the longest trip
+abbrev pub last_tick : ℕ
+last_tick = 8639999

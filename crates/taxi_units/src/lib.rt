@@ -20,7 +20,7 @@ pub use calendar::{
 pub use counted::{AtMost, Counted, Keyed, each_step_halves};
 pub use decimal::{NumberFault, count_digits, number_at, number_of_width, read_decimal};
 pub use event::{Event, Key, Operating, Why};
-pub use line::{Line, LineFull, put_bytes, put_money, put_number, put_padded};
+pub use line::{LINE_SIZE, Line, LineFull, put_bytes, put_money, put_number, put_padded};
 pub use push::{push_bytes, push_money, push_number};
 pub use reading::word;
 pub use receipt::{Display, Kind, Receipt, Stamp};

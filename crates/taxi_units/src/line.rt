@@ -4,12 +4,16 @@
 ghost use Rattle.std.specs.Prelude.{◌≡◌, ◌+◌, ◌≤◌, ◌++◌, ◌↔◌, length, IsOk, OnOk, OnErr};
 ghost use Rattle.std.specs.Fmt.{decimal};
 ghost use Rattle.arrayvec.specs.ArrayVec.{array_vec_len};
+ghost use Rattle.taxi_units.specs.Line.{line_size};
 ghost use Rattle.taxi_units.specs.Number.{money_text, padded_text};
 
 use arrayvec::ArrayVec;
 
+/// How many bytes a line has room for.
+pub const LINE_SIZE: usize = 512;
+
 /// A line of text, of at most 512 bytes.
-pub type Line = ArrayVec<u8, 512>;
+pub type Line = ArrayVec<u8, LINE_SIZE>;
 
 /// The text doesn't fit into what is left of the line.
 #[derive(Clone, Copy, Debug, PartialEq, Eq)]
@@ -22,7 +26,7 @@ type Draft = ArrayVec<u8, 256>;
 ///
 /// `LineFull` where they don't fit; the line is then unchanged.
 pub fn put_bytes(line: &mut Line, bytes: &[u8]) -> Result<(), LineFull>
-    ensures variant { IsOk result ↔ (array_vec_len line.old + length bytes.now ≤ 512) }
+    ensures variant { IsOk result ↔ (array_vec_len line.old + length bytes.now ≤ line_size) }
     ensures ok { OnOk result (line.new.items ≡ line.old.items ++ bytes.now) }
     ensures err { OnErr result (line.new ≡ line.old) }
 {
@@ -34,7 +38,7 @@ pub fn put_bytes(line: &mut Line, bytes: &[u8]) -> Result<(), LineFull>
 /// `LineFull` where it doesn't fit; the line is then unchanged.
 #[tactic(auto, using(crate::proofs::Written::decimal_short))]
 pub fn put_number(line: &mut Line, value: u128) -> Result<(), LineFull>
-    ensures variant { IsOk result ↔ (array_vec_len line.old + length (decimal value) ≤ 512) }
+    ensures variant { IsOk result ↔ (array_vec_len line.old + length (decimal value) ≤ line_size) }
     ensures ok { OnOk result (line.new.items ≡ line.old.items ++ decimal value) }
     ensures err { OnErr result (line.new ≡ line.old) }
 {
@@ -49,7 +53,7 @@ pub fn put_number(line: &mut Line, value: u128) -> Result<(), LineFull>
 /// `LineFull` where it doesn't fit; the line is then unchanged.
 #[tactic(auto, using(crate::proofs::Written::padded_short))]
 pub fn put_padded(line: &mut Line, value: u64, width: u8) -> Result<(), LineFull>
-    ensures variant { IsOk result ↔ (array_vec_len line.old + length (padded_text width value) ≤ 512) }
+    ensures variant { IsOk result ↔ (array_vec_len line.old + length (padded_text width value) ≤ line_size) }
     ensures ok { OnOk result (line.new.items ≡ line.old.items ++ padded_text width value) }
     ensures err { OnErr result (line.new ≡ line.old) }
 {
@@ -65,7 +69,7 @@ pub fn put_padded(line: &mut Line, value: u64, width: u8) -> Result<(), LineFull
 #[tactic(auto, using(crate::proofs::Written::amounts_are_short))]
 pub fn put_money(line: &mut Line, units: u128, decimals: u8) -> Result<(), LineFull>
     requires { decimals ≤ 3 }
-    ensures variant { IsOk result ↔ (array_vec_len line.old + length (money_text decimals units) ≤ 512) }
+    ensures variant { IsOk result ↔ (array_vec_len line.old + length (money_text decimals units) ≤ line_size) }
     ensures ok { OnOk result (line.new.items ≡ line.old.items ++ money_text decimals units) }
     ensures err { OnErr result (line.new ≡ line.old) }
 {

@@ -6,18 +6,18 @@ use Rattle.totaliser_store.specs.declared.entry.Entry.{Entry}
 use Rattle.totaliser_store.specs.declared.totals.Share.{Share}
 use Rattle.totaliser_store.specs.declared.totals.Totals.{Totals}
 
--- a test whether a kind of entry is one of a closed hiring, which all are but roaming
+-- the test `is_of_hiring` is true where a kind of entry is one of a closed hiring, which all are but roaming
 abbrev pub is_of_hiring : Kind → Bool
 is_of_hiring Closed = true
 is_of_hiring Aborted = true
 is_of_hiring Expired = true
 is_of_hiring Roam = false
 
--- a test whether an entry closes a hiring
+-- the test `closes` is true where an entry closes a hiring
 abbrev pub closes : Entry → Bool
 closes entry = is_of_hiring entry.kind
 
--- a test whether an entry closes a hiring at this tariff position
+-- the test `closes_at` is true where an entry closes a hiring at a tariff position
 abbrev pub closes_at : ℕ → Entry → Bool
 closes_at position entry = closes entry && entry.position == position
 

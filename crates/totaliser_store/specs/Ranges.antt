@@ -5,14 +5,14 @@ use Rattle.totaliser_store.specs.declared.durable.Durable.{Durable}
 use Rattle.totaliser_store.specs.declared.entry.Entry.{Entry}
 use Rattle.totaliser_store.specs.declared.totals.Totals.{Totals}
 use Rattle.totaliser_store.specs.declared.trip.Trip.{Trip}
-use Rattle.taxi_units.specs.Time.{IsSecond, last_second}
+use Rattle.taxi_units.specs.Time.{IsSecond, last_second, last_tick}
 use Rattle.totaliser_store.specs.Entries.{closes, distance_of, no_share}
 
 -- the last number with which a trip may be held is 2 * 10^15; a state has one more at most
 abbrev pub last_number : ℕ
 last_number = 2 * 10 ^ 15
 
--- a trip is in its ranges beside the number of a state
+-- a trip is in its ranges, beside the number of a state, where each of its fields is in its own
 pub record IsTrip (number : ℕ) (trip : Trip) : Type 0 where
   pub started : IsSecond trip.started
   pub saved : (trip.started ≤ trip.saved) × (trip.saved ≤ last_second)
@@ -20,7 +20,7 @@ pub record IsTrip (number : ℕ) (trip : Trip) : Type 0 where
   pub zone : (1 ≤ trip.zone) × (trip.zone ≤ 9)
   pub roam : trip.roam ≤ 1001999
   pub pulses : trip.pulses ≤ 2000 * (trip.ticks + number)
-  pub ticks : trip.ticks ≤ 8639999
+  pub ticks : trip.ticks ≤ last_tick
   pub initial : trip.initial ≤ 99999999
   pub cover_left : trip.meterage.cover_left ≤ 2 * 10 ^ 31
   pub steps_full : trip.meterage.steps_full ≤ 41000000000 * trip.ticks
@@ -29,13 +29,13 @@ pub record IsTrip (number : ℕ) (trip : Trip) : Type 0 where
   pub extras_sum : trip.extras_sum ≤ 1584000000
   pub minimum : trip.minimum ≤ 99999999
 
--- a trip may be held beside a number that leaves room for its closing entry, where the trip is in its ranges
+-- a trip may be held beside a number where the number leaves room for its closing entry, and the trip is in its ranges
 pub record IsHeld (number : ℕ) (trip : Trip) : Type 0 where
   pub room : number ≤ last_number
   pub ranges : IsTrip number trip
 
 -- shares are those of their totals where hirings and fare are the sums of nine shares and of what was counted before
--- there were shares; in layout 1 all of it was
+-- there were shares; in layout 1 the shares are all zero
 pub record AreShares (layout : ℕ) (totals : Totals) : Type 0 where
   pub nine : length totals.shares ≡ 9
   pub hirings : sum_by (λ share. share.hirings) totals.shares + totals.before.hirings ≡ totals.hirings
@@ -61,7 +61,7 @@ pub record IsEntry (entry : Entry) : Type 0 where
   pub supplements : entry.supplements ≤ 1584000000
   pub position : closes entry ≡ true → (1 ≤ entry.position) × (entry.position ≤ 9)
 
--- a state has room for an entry where one of roaming beside a held trip, which stays, leaves room for the entry that
--- will close the trip
+-- a state has room for an entry where the entry closes a hiring, or no trip is held, or the number leaves room for the
+-- entry that will close the held trip
 abbrev pub HasRoom : Durable → Entry → Type 0
 HasRoom durable entry = closes entry ≡ false → is_some durable.hold ≡ true → durable.number + 1 ≤ last_number

@@ -31,8 +31,8 @@ abbrev pub totals_after : Totals → Change → Totals
 totals_after totals (Enter entry) = totals_with totals entry
 totals_after totals (Hold trip) = totals
 
--- after a commit the trip is held that it holds; an entry that closes a hiring leaves none, and one of roaming leaves
--- what was held
+-- the held trip after a commit is the one that the commit holds, or none where an entry closes a hiring, or the one
+-- held before where an entry is of roaming
 abbrev pub held_after : Option Trip → Change → Option Trip
 held_after held (Enter entry) = if closes entry then None else held
 held_after held (Hold trip) = Some trip
@@ -66,7 +66,7 @@ abbrev pub IsClosing : Change → Type 0
 IsClosing (Enter entry) = closes entry ≡ true
 IsClosing (Hold trip) = ⊥
 
--- a commit is one of roaming where it is an entry that closes no hiring, and so leaves a held trip as it is
+-- a commit is one of roaming where it is an entry that closes no hiring, which leaves a held trip as it is
 abbrev pub IsRoaming : Change → Type 0
 IsRoaming (Enter entry) = closes entry ≡ false
 IsRoaming (Hold trip) = ⊥
@@ -78,7 +78,8 @@ pub record IsLast (changes : List Change) (last : Change) : Type 0 where
   pub split : changes ≡ earlier ++ last ∷ later
   pub roaming : All IsRoaming later
 
--- what is held after a list of commits, of which `opening` was held before
+-- a trip, or none, is held after a list of commits, where `opening` was held before, as the last commit that isn't of
+-- roaming leaves it, or as it was held before where there is no such commit
 abbrev pub IsHeldAfter : Option Trip → List Change → Option Trip → Type 0
 -- a trip: it was held last, and no closing entry follows, or it stood first, and there is neither
 IsHeldAfter opening changes (Some trip) =

@@ -8,15 +8,16 @@ use Rattle.slot_store.specs.Writes.{LeavesThroughout}
 use Rattle.totaliser_store.specs.declared.durable.Durable.{Durable}
 pub use Rattle.totaliser_store.specs.Reading.{reads}
 
--- the number of a state is the one by which the later of two is known
+-- the number of a state tells the later of two states
 abbrev pub number_of : Durable → ℕ
 number_of durable = durable.number
 
--- an image has a state where its pair of totals stands for it
+-- an image has a state where its pair of totals stands for it; `reads` says which state the bytes of a slot are read
+-- as, as the law states_are_read_by_their_table says
 abbrev pub HasState : List ℕ → Durable → Type 0
 HasState image durable = StandsFor reads number_of 0 image durable
 
--- an image has either of two states where its pair of totals stands for the one or the other
+-- an image has either of two states where its pair of totals stands for one of them
 abbrev pub HasEither : Durable → Durable → List ℕ → Type 0
 HasEither old new image = ShowsEither reads number_of 0 (Some old) new image
 

@@ -10,11 +10,11 @@ use Rattle.totaliser_store.specs.Entries.{closes, closes_at, distance_of, hired_
 use Rattle.totaliser_store.specs.Entries.{fare_at, no_share, totals_with}
 use Rattle.totaliser_store.specs.States.{entries_of, layout_after, IsHeldAfter}
 
--- the totals of opening ones and a list of entries are those with each entry more in its turn
+-- the totals of a list of entries, behind opening ones, grow by each entry in its turn
 abbrev pub totals_of : Totals → List Entry → Totals
 totals_of opening entries = fold totals_with opening entries
 
--- the share of a tariff position, which counts from 1
+-- the share of a tariff position, which counts from 1, is the one at its place in the list of shares
 abbrev pub share_of : Totals → ℕ → Share
 share_of totals position = get_or totals.shares (position - 1) no_share
 

@@ -7,7 +7,7 @@ use Rattle.totaliser_store.specs.declared.durable.Durable.{Durable}
 use Rattle.totaliser_store.specs.declared.totals.Share.{Share}
 use Rattle.totaliser_store.specs.declared.totals.Totals.{Totals}
 use Rattle.totaliser_store.specs.declared.trip.Trip.{Trip}
-use Rattle.taxi_units.specs.Time.{first_second, last_second}
+use Rattle.taxi_units.specs.Time.{first_second, last_second, last_tick}
 use Rattle.totaliser_store.specs.Ranges.{last_number}
 
 -- a test whether a number is from 1 to 9
@@ -23,7 +23,7 @@ is_course number trip =
     && is_digit trip.zone
     && nat_le trip.roam 1001999
     && nat_le trip.pulses (2000 * (trip.ticks + number))
-    && nat_le trip.ticks 8639999
+    && nat_le trip.ticks last_tick
     && nat_le trip.initial 99999999
 
 -- a test whether what the charges of a trip of `ticks` intervals have come to is in its ranges

@@ -21,9 +21,6 @@ impl Entry {
     pub fn closes(&self) -> bool
         ensures { result ≡ closes self.now }
     {
-        match self.kind {
-            Kind::Closed | Kind::Aborted | Kind::Expired => true,
-            Kind::Roam => false,
-        }
+        !matches!(self.kind, Kind::Roam)
     }
 }

@@ -1,6 +1,7 @@
 //! The ranges of what a totals' slot holds, in the order of its table.
 ghost use Rattle.std.specs.Prelude.{◌≡◌, ℕ, ◌+◌, ◌*◌, ◌^◌, ◌≤◌, ◌↔◌, true, IsTrue, List};
 ghost use Rattle.std.specs.List.{list_all};
+ghost use Rattle.taxi_units.specs.Time.{last_tick};
 ghost use Rattle.totaliser_store.specs.Ranges.{last_number, IsDurable};
 ghost use Rattle.totaliser_store.specs.Tests.{is_digit, is_course, is_meterage, are_counts, are_extras};
 ghost use Rattle.totaliser_store.specs.Tests.{is_layout, is_trip, is_held, is_none, add_up, are_totals};
@@ -8,7 +9,7 @@ ghost use Rattle.totaliser_store.specs.Tests.{are_shares, is_durable};
 
 use crate::{Durable, Share, Totals, Trip};
 use drive_modes::Meterage;
-use taxi_units::{FIRST_SECOND, LAST_SECOND};
+use taxi_units::{FIRST_SECOND, LAST_SECOND, LONGEST_TRIP};
 
 /// The greatest number beside which a trip may be held.
 const LAST_NUMBER: u64 = 2_000_000_000_000_000;
@@ -79,13 +80,13 @@ fn is_course(number: u64, trip: &Trip) -> bool
         && is_digit(trip.zone)
         && trip.roam <= 1_001_999
         && trip.pulses <= 2_000 * (u64::from(trip.ticks) + number)
-        && trip.ticks <= 8_639_999
+        && trip.ticks < LONGEST_TRIP
         && trip.initial <= GREATEST_FARE
 }
 
 /// Whether the charges of a trip of `ticks` intervals may have come to this.
 fn is_meterage(ticks: u32, meterage: &Meterage) -> bool
-    requires { ticks ≤ 8639999 }
+    requires { ticks ≤ last_tick }
     ensures { result ≡ is_meterage ticks meterage.now }
 {
     meterage.cover_left <= 20_000_000_000_000_000_000_000_000_000_000
