@@ -1,20 +1,14 @@
 -- What a look-up finds in numbers that don't fall.
-use Rattle.std.proofs.Common.{◌≡◌, ◌∙◌, sym, ℕ, zero, suc, ◌+◌, ◌-◌, min, ◌<◌, ◌≤◌, ◌^◌, false, leb, eqb, List, length, get_or, inl, inr, arith}
+use Rattle.std.proofs.Common.{◌≡◌, ◌∙◌, sym, ℕ, zero, suc, ◌+◌, ◌-◌, min, ◌<◌, ◌≤◌, ◌^◌, false, eqb, List, length, get_or, inl, inr, arith}
 use Rattle.std.proofs.lemmas.Bool.{cases_lt, cases_eq, eq-eqb, ne_eqb}
 use Rattle.std.proofs.lemmas.List.Elements.{All-from_get_or}
 use Rattle.std.proofs.lemmas.List.Folds.{list_any_at, list_any_none}
-use Rattle.std.proofs.lemmas.List.Sorted.{IsNonDecreasingBy-from_default, IsPartitionedBy-leb}
 use Rattle.std.specs.List.{list_any}
-use Rattle.std.specs.List.Sorted.{IsPartitionedBy}
 use Rattle.tariff_calendar.specs.Lists.{IsNotFalling, count_at_most, most_reads}
 use Rattle.tariff_calendar.proofs.Counts.{IsNotFalling-le, count_at_most-above, count_at_most-below, count_at_most-le-length}
 use Rattle.tariff_check.specs.Cuts.{most_cuts}
 use Rattle.tariff_check.specs.declared.fault.Dimension.{Dimension}
 use Rattle.tariff_check.specs.declared.fault.Dimension.TheVariants.{MonthDay, Minute, Distance, Time}
-
--- a value parts them
-pub parted : (v : ℕ) (xs : List ℕ) → IsNotFalling xs → IsPartitionedBy (λ x. leb x v) xs
-parted v xs ordered = IsPartitionedBy-leb (λ x. x) xs v (IsNonDecreasingBy-from_default (λ x. x) xs 0 (λ i j le within. IsNotFalling-le xs i j ordered le within))
 
 -- where none is at most the value, it isn't among them
 pub none_found : (v : ℕ) (xs : List ℕ) → IsNotFalling xs → count_at_most v xs ≡ 0 → list_any (λ x. eqb x v) xs ≡ false

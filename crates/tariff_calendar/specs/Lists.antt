@@ -10,8 +10,8 @@ use Rattle.tariff_check.specs.declared.fault.Dimension.{Dimension}
 use Rattle.tariff_check.specs.declared.fault.Dimension.TheVariants.{MonthDay, Minute, Distance, Time}
 
 -- the lists of a tariff are numbers in order: the cuts of each dimension, which are places in a leap year, minutes,
--- pulses and ticks, and the day numbers of the holidays; different distances may be the same number of pulses, so a
--- number may come twice among the pulses
+-- pulses and ticks, and the day numbers of the holidays; different distances may be the same number of pulses, and that
+-- number then comes twice among the pulses
 pub record CutLists : Type 0 where
   pub month_days : List ℕ
   pub minutes : List ℕ
@@ -19,15 +19,16 @@ pub record CutLists : Type 0 where
   pub times : List ℕ
   pub holidays : List ℕ
 
--- a distance in decimetres has passed with this many pulses, and not with fewer, where k pulses make a kilometre
+-- the pulses for a distance in decimetres are the fewest with which it has passed, where k pulses make a kilometre
 abbrev pub pulses_for : (k decimetres : ℕ) → ℕ
 pulses_for k decimetres = (k * decimetres + 9999) / 10000
 
--- a date has the day number that the calendar gives it
+-- the day number of a date is the one that the calendar gives it
 abbrev pub day_of : DateNumbers → ℕ
 day_of d = day_number_of d.year d.month d.date
 
--- a tariff has these lists where k pulses make a kilometre
+-- the lists of a tariff have its cuts of each dimension, distances as pulses of which k make a kilometre, and the days
+-- of its holidays
 abbrev pub lists_of : Tree → (k : ℕ) → CutLists
 lists_of t k =
     record {
@@ -38,14 +39,14 @@ lists_of t k =
       holidays = with_each [] (map day_of (holidays_of t.lines));
     }
 
--- a dimension has this one of the lists
+-- the list of a dimension among the lists is that of its cuts
 abbrev pub list_in : CutLists → Dimension → List ℕ
 list_in lists MonthDay = lists.month_days
 list_in lists Minute = lists.minutes
 list_in lists Distance = lists.distances
 list_in lists Time = lists.times
 
--- a value has this many cuts at or below it
+-- the count of a value among cuts is how many of them are at or below it
 abbrev pub count_at_most : (value : ℕ) → List ℕ → ℕ
 count_at_most value cuts = count_by (λ cut. nat_le cut value) cuts
 
@@ -66,22 +67,22 @@ pub record AreOrdered (lists : CutLists) : Type 0 where
   pub times : IsOrdered 15 lists.times
   pub holidays : IsOrdered 255 lists.holidays
 
--- a look-up in a dimension reads at most this many cuts
+-- a look-up reads at most 6 cuts in the dimensions of days and minutes, and at most 4 in those of distances and times
 abbrev pub most_reads : Dimension → ℕ
 most_reads MonthDay = 6
 most_reads Minute = 6
 most_reads Distance = 4
 most_reads Time = 4
 
--- a test whether a day number is that of a holiday
+-- the test `has_day` is true where a day number is that of a holiday
 abbrev pub has_day : List ℕ → ℤ → Bool
 has_day holidays day = list_any (λ holiday. int_eq (pos holiday) day) holidays
 
--- a test whether the lists have a holiday
+-- the test `has_days` is true where the lists have a holiday
 abbrev pub has_days : CutLists → Bool
 has_days lists = nat_lt 0 (length lists.holidays)
 
--- a test whether a date stands in a holiday line
+-- the test `is_holiday` is true where a date stands in a holiday line
 abbrev pub is_holiday : List Line → (year month date : ℕ) → Bool
 is_holiday lines year month date =
     list_any (λ (d : DateNumbers). (d.year == year) && ((d.month == month) && (d.date == date))) (holidays_of lines)

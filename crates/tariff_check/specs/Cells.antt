@@ -5,17 +5,18 @@ use Rattle.tariff_check.specs.Cuts.{count_of}
 use Rattle.tariff_check.specs.Parts.{positions_of, zones_of, has_holidays}
 use Rattle.tariff_check.specs.declared.fault.Dimension.TheVariants.{MonthDay, Minute, Distance, Time}
 
--- a tariff with a holiday has two kinds of days, holidays and others, and a tariff without has one
+-- the kinds of days of a tariff are two where it has a holiday, holidays and others, and one where it has none
 abbrev pub day_kinds : List Line → ℕ
 day_kinds lines = if has_holidays lines then 2 else 1
 
--- a tariff has this many bands between its cuts, in all four dimensions together: in each, one more than it has cuts
+-- the bands of a tariff between its cuts, in all four dimensions together, are the product of how many there are in
+-- each: one more than it has cuts
 abbrev pub bands_between : List Line → ℕ
 bands_between lines =
     (count_of MonthDay lines + 1) * (count_of Minute lines + 1)
     * (count_of Distance lines + 1) * (count_of Time lines + 1)
 
--- a tariff has this many cells: one for each position, zone, weekday, kind of day, and band between the cuts of each
--- dimension
+-- the number of cells of a tariff is that of its positions, times its zones, weekdays, kinds of days and bands between
+-- cuts
 abbrev pub cells_of : List Line → ℕ
 cells_of lines = positions_of lines * zones_of lines * 7 * day_kinds lines * bands_between lines

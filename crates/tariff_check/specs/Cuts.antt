@@ -20,8 +20,8 @@ day_cut place = if (place == 0) || (place == 366) then [] else place ∷ []
 abbrev pub minute_cut : ℕ → List ℕ
 minute_cut minute = if minute == 0 then [] else minute ∷ []
 
--- an atom has these cuts in a dimension: a range of dates before its first day and after its last, a range of minutes
--- at its two ends, a distance at its decimetres, a time at its tenths of a second
+-- the cuts of an atom in a dimension are, of a range of dates, before its first day and after its last, of a range of
+-- minutes, its two ends, of a distance, its decimetres, and of a time, its tenths of a second
 abbrev pub atom_cuts : Dimension → Condition → List ℕ
 atom_cuts MonthDay (tree.date from_month from_date to_month to_date) =
     day_cut (date_place from_month from_date) ++ day_cut (date_place to_month to_date + 1)
@@ -30,7 +30,7 @@ atom_cuts Distance (tree.after_distance decimetres) = decimetres ∷ []
 atom_cuts Time (tree.after_time tenths) = tenths ∷ []
 atom_cuts dimension atom = []
 
--- lines have the cuts of all atoms of their conditions, in the order of the text
+-- the cuts of lines are those of all atoms of their conditions, in the order of the text
 abbrev pub all_cuts : Dimension → List Line → List ℕ
 all_cuts dimension lines = flat_map (λ (l : Line). flat_map (atom_cuts dimension) (atoms_in l.entry)) lines
 
@@ -39,15 +39,15 @@ abbrev pub with_each : (numbers more : List ℕ) → List ℕ
 with_each numbers [] = numbers
 with_each numbers (n ∷ ns) = with_each (insert_key nat_cmp numbers n) ns
 
--- a dimension has these different cuts, in order
+-- the cuts of a dimension are the different ones of all atoms, in order
 abbrev pub cuts_of : Dimension → List Line → List ℕ
 cuts_of dimension lines = with_each [] (all_cuts dimension lines)
 
--- a dimension has this many different cuts
+-- the number of cuts of a dimension is that of its different ones
 abbrev pub count_of : Dimension → List Line → ℕ
 count_of dimension lines = length (cuts_of dimension lines)
 
--- a dimension may have at most this many different cuts
+-- a dimension may have at most 63 different cuts for days and for minutes, and at most 15 for distances and for times
 abbrev pub most_cuts : Dimension → ℕ
 most_cuts MonthDay = 63
 most_cuts Minute = 63
@@ -58,7 +58,7 @@ most_cuts Time = 15
 abbrev pub IsRising : List ℕ → Type 0
 IsRising xs = (i j : ℕ) → i < j → j < length xs → get_or xs i 0 < get_or xs j 0
 
--- a list is some numbers in order where it rises and has exactly these numbers
+-- a list is some numbers in order where it rises and has just the same numbers
 pub record IsInOrder (numbers ordered : List ℕ) : Type 0 where
   pub rising : IsRising ordered
   pub same : (n : ℕ) → Contains numbers n ↔ Contains ordered n

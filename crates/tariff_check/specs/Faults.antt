@@ -22,17 +22,17 @@ use Rattle.tariff_check.specs.declared.fault.CheckFault.TheVariants.{LineAfterDe
 use Rattle.tariff_check.specs.declared.fault.CheckFault.TheVariants.{MeasureZero, NoCommonMeasure, TooManyCuts}
 use Rattle.tariff_check.specs.declared.fault.CheckFault.TheVariants.{TooManyCells}
 
--- the fault is there where the test is true
+-- a fault is there where its test is true
 abbrev pub fault_if : Bool → CheckFault → Option CheckFault
 fault_if true fault = Some fault
 fault_if false fault = None
 
--- the fault is there with the number of a line, where there is such a line
+-- a fault is there with the number of a line, where there is such a line
 abbrev pub fault_at : (ℕ → CheckFault) → Option ℕ → Option CheckFault
 fault_at fault None = None
 fault_at fault (Some line) = Some (fault line)
 
--- a test whether there is a display step, and it is 0
+-- the test `is_step_zero` is true where there is a display step, and it is 0
 abbrev pub is_step_zero : Option (ℕ × Rounding) → Bool
 is_step_zero None = false
 is_step_zero (Some s) = s.0 == 0
@@ -43,11 +43,11 @@ cuts_fault lines dimension =
     fault_if (nat_lt (most_cuts dimension) (count_of dimension lines))
     (TooManyCuts dimension (count_of dimension lines))
 
--- a test whether one of some lines has no condition
+-- the test `has_default` is true where one of some lines has no condition
 abbrev pub has_default : List (Option Condition) → Bool
 has_default conditions = list_any is_none conditions
 
--- the first twelve faults, each there or not, are these in order
+-- the first twelve faults, each there or not, stand in the order of the table of faults
 abbrev pub faults_before_cuts : List Line → List (Option CheckFault)
 faults_before_cuts ls =
     fault_if (is_none (step_of ls)) NoStep
@@ -64,7 +64,7 @@ faults_before_cuts ls =
     ∷ fault_if (nat_lt (10 ^ 18) (measure_of ls)) NoCommonMeasure
     ∷ []
 
--- the last faults, those of the cuts of each dimension and of cells, each there or not, are these in order
+-- the last faults, each there or not, are those of the cuts of each dimension, and of the number of cells
 abbrev pub faults_from_cuts : List Line → List (Option CheckFault)
 faults_from_cuts ls =
     cuts_fault ls MonthDay
@@ -74,7 +74,7 @@ faults_from_cuts ls =
     ∷ fault_if (nat_lt 64512 (cells_of ls)) (TooManyCells (cells_of ls))
     ∷ []
 
--- all faults, each there or not, stand in this order
+-- all faults of lines, each there or not, are the first twelve, and then those of cuts and of cells
 abbrev pub faults_of : List Line → List (Option CheckFault)
 faults_of ls = faults_before_cuts ls ++ faults_from_cuts ls
 
@@ -82,7 +82,7 @@ faults_of ls = faults_before_cuts ls ++ faults_from_cuts ls
 abbrev pub HasNone : List (Option CheckFault) → Type 0
 HasNone faults = All (λ (f : Option CheckFault). f ≡ None) faults
 
--- the first of a list of values that are each there or not
+-- the first of a list of values that are each there or not is the first that is there
 abbrev pub first_some : {A : Type 0} → List (Option A) → Option A
 first_some [] = None
 first_some (x ∷ xs) = option_or x (first_some xs)

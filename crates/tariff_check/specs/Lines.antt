@@ -8,7 +8,7 @@ use Rattle.tariff_syntax.specs.Condition.{Condition}
 use Rattle.tariff_syntax.specs.Tree.{Line, Entry, step, positions, zones, holiday, supplement, initial, rate, minimum}
 use Rattle.tariff_check.specs.Parts.{when_part}
 
--- a condition has these atoms, in order
+-- the atoms of a condition are its parts without `not`, `and` and `or`, in order
 abbrev pub atoms_of : Condition → List Condition
 atoms_of (tree.and left right) = atoms_of left ++ atoms_of right
 atoms_of (tree.or left right) = atoms_of left ++ atoms_of right
@@ -22,17 +22,17 @@ atoms_of tree.holiday = tree.holiday ∷ []
 atoms_of (tree.after_distance decimetres) = tree.after_distance decimetres ∷ []
 atoms_of (tree.after_time tenths) = tree.after_time tenths ∷ []
 
--- a condition that may be none has its atoms, or none
+-- the atoms of a condition that may be none are its own, and none for none
 abbrev pub atoms_if : Option Condition → List Condition
 atoms_if None = []
 atoms_if (Some when) = atoms_of when
 
--- a line has the atoms of its condition
+-- the atoms in a line are those of its condition
 abbrev pub atoms_in : Entry → List Condition
 atoms_in entry = atoms_if (when_part entry)
 
--- a test whether a tariff may have only one of two lines: two steps, two numbers of positions, two of zones, two
--- supplements of one number, or one holiday twice
+-- the test `excludes` is true where a tariff may have only one of two lines: two steps, two numbers of positions, two
+-- of zones, two supplements of one number, or one holiday twice
 abbrev pub excludes : Entry → Entry → Bool
 excludes (step amount rounding) (step other also) = true
 excludes (positions number) (positions other) = true
@@ -42,7 +42,8 @@ excludes (holiday year month date) (holiday year₂ month₂ date₂) =
     (year == year₂) && ((month == month₂) && (date == date₂))
 excludes entry other = false
 
--- a test whether two lines are both rates, both initial hire fees, both minimum fares or both holidays
+-- the test `is_alike` is true where two lines are both rates, both initial hire fees, both minimum fares or both
+-- holidays
 abbrev pub is_alike : Entry → Entry → Bool
 is_alike (rate a b c e when) (rate a₂ b₂ c₂ e₂ when₂) = true
 is_alike (initial amount covers when) (initial amount₂ covers₂ when₂) = true
@@ -55,38 +56,39 @@ abbrev pub most_alike : Entry → ℕ
 most_alike (holiday year month date) = 255
 most_alike entry = 64
 
--- a test whether the second line is the default for the first: it is of the same kind and has no condition
+-- the test `is_default_for` is true where the second line is the default for the first: it is of the same kind and has
+-- no condition
 abbrev pub is_default_for : Entry → Entry → Bool
 is_default_for (rate a b c e when) (rate a₂ b₂ c₂ e₂ None) = true
 is_default_for (initial amount covers when) (initial amount₂ covers₂ None) = true
 is_default_for (minimum amount when) (minimum amount₂ None) = true
 is_default_for entry other = false
 
--- a test whether an atom names a position or a zone above the highest
+-- the test `is_unknown` is true where an atom names a position or a zone above the highest
 abbrev pub is_unknown : (highest_position highest_zone : ℕ) → Condition → Bool
 is_unknown highest_position highest_zone (tree.position number) = nat_lt highest_position number
 is_unknown highest_position highest_zone (tree.zone number) = nat_lt highest_zone number
 is_unknown highest_position highest_zone atom = false
 
--- a test whether an atom has a month and date that no leap year has
+-- the test `is_undated` is true where an atom has a month and date that no leap year has
 abbrev pub is_undated : Condition → Bool
 is_undated (tree.date from_month from_date to_month to_date) =
     not (is_date 2000 from_month from_date && is_date 2000 to_month to_date)
 is_undated atom = false
 
--- a test whether an atom is an `after` of 0
+-- the test `is_after_nothing` is true where an atom is an `after` of 0
 abbrev pub is_after_nothing : Condition → Bool
 is_after_nothing (tree.after_distance decimetres) = decimetres == 0
 is_after_nothing (tree.after_time tenths) = tenths == 0
 is_after_nothing atom = false
 
--- a test whether a line is a holiday that is no date of the years 2000 to 2199
+-- the test `is_no_holiday` is true where a line is a holiday that is no date of the years 2000 to 2199
 abbrev pub is_no_holiday : Entry → Bool
 is_no_holiday (holiday year month date) = not (nat_le 2000 year && (nat_le year 2199 && is_date year month date))
 is_no_holiday entry = false
 
--- a test whether a line has an amount that is too great: a step, an amount of a rate or a supplement above 1,000,000,
--- or an initial hire fee, its cover or a minimum fare above 99,999,999
+-- the test `is_great` is true where a line has an amount that is too great: a step, an amount of a rate or a supplement
+-- above 1,000,000, or an initial hire fee, its cover or a minimum fare above 99,999,999
 abbrev pub is_great : Entry → Bool
 is_great (step amount rounding) = nat_lt (10 ^ 6) amount
 is_great (supplement number amount most) = nat_lt (10 ^ 6) amount
@@ -95,12 +97,12 @@ is_great (initial amount covers when) = nat_lt 99999999 amount || nat_lt 9999999
 is_great (minimum amount when) = nat_lt 99999999 amount
 is_great entry = false
 
--- a test whether a line is a rate with a measure of 0
+-- the test `is_for_nothing` is true where a line is a rate with a measure of 0
 abbrev pub is_for_nothing : Entry → Bool
 is_for_nothing (rate a b c e when) = (b == 0) || (e == 0)
 is_for_nothing entry = false
 
--- a line is tested by what it says and by the lines before it
+-- a test of a line goes by what the line says and by the lines before it
 abbrev pub LineTest : Type 0
 LineTest = List Line → Entry → Bool
 
@@ -147,7 +149,7 @@ abbrev pub IsNowhere : LineTest → List Line → Type 0
 IsNowhere test lines =
     (before after : List Line) (line : Line) → lines ≡ before ++ line ∷ after → test before line.entry ≡ false
 
--- a number is that of the first line that passes a test where a line has it, that line passes, and no line before it
+-- a number is that of the first line that passes a test where a line has the number and passes, and no line before it
 -- does
 pub record IsFirstLine (test : LineTest) (lines : List Line) (number : ℕ) : Type 0 where
   pub before : List Line

@@ -4,17 +4,17 @@ use Rattle.std.specs.List.{flat_map}
 use Rattle.tariff_syntax.specs.Tree.{Line}
 use Rattle.tariff_check.specs.Parts.{RateNumbers, rates_of}
 
--- the rates among lines have these measures: the decimetres and the tenths of a second of each
+-- the measures of lines are the decimetres and the tenths of a second of each of their rates
 abbrev pub measures_of : List Line → List ℕ
 measures_of lines = flat_map (λ (r : RateNumbers). r.b ∷ r.e ∷ []) (rates_of lines)
 
--- the greatest number that divides both, found by Euclid's remainders, of which at most `fuel` are taken
+-- the greatest number that divides two is found by Euclid's remainders, of which at most `fuel` are taken
 unfoldable pub gcd_in : (fuel a b : ℕ) → ℕ
 gcd_in zero a b = a
 gcd_in (suc fuel) a zero = a
 gcd_in (suc fuel) a (suc b) = gcd_in fuel (suc b) (a % suc b)
 
--- the greatest number that divides both; b + 1 remainders are enough to find it
+-- the greatest number that divides two is found by b + 1 remainders at most
 unfoldable pub gcd_of : (a b : ℕ) → ℕ
 gcd_of a b = gcd_in (b + 1) a b
 

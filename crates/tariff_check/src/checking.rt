@@ -28,10 +28,8 @@ pub fn check(alloc: Global, tariff: Tariff) -> Result<Checked, CheckFault>
     ensures fault { IfErr result (λ f. (f ≡ NoMemory) ⊎ (fault_of (tree_of tariff) ≡ Some f)) }
     ensures memory { IfErr result (λ f. f ≡ NoMemory → HasNone (faults_before_cuts (tree_of tariff).lines)) }
 {
-    match numbers(alloc, tariff.lines.as_slice()) {
-        Ok(numbers) => Ok(Checked { tariff, numbers }),
-        Err(fault) => Err(fault),
-    }
+    let numbers = numbers(alloc, tariff.lines.as_slice())?;
+    Ok(Checked { tariff, numbers })
 }
 
 /// The most cells that a tariff may have.

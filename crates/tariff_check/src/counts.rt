@@ -15,7 +15,7 @@ use tariff_syntax::TariffLine;
 
 /// How many cuts some lines have in each dimension, or that they are too many.
 pub(crate) fn counts(alloc: Global, lines: &[TariffLine]) -> Result<Counts, CheckFault>
-    ensures counts { IfOk result (λ n. HasCounts (map line_of lines.now) n) }
+    ensures counts { IfOk result (HasCounts (map line_of lines.now)) }
     ensures none { OnOk result (cut_fault (map line_of lines.now) ≡ None) }
     ensures fault { IfErr result (λ f. (f ≡ NoMemory) ⊎ (cut_fault (map line_of lines.now) ≡ Some f)) }
 {
@@ -38,10 +38,8 @@ fn count(alloc: Global, lines: &[TariffLine], dimension: Dimension) -> Result<u3
     ensures none { OnOk result (cuts_fault (map line_of lines.now) dimension ≡ None) }
     ensures fault { IfErr result (λ f. (f ≡ NoMemory) ⊎ (cuts_fault (map line_of lines.now) dimension ≡ Some f)) }
 {
-    let count = match cuts(alloc, lines, dimension) {
-        Ok(cuts) => cuts.len(),
-        Err(_) => return Err(CheckFault::NoMemory),
-    };
+    let cuts = cuts(alloc, lines, dimension).map_err(|_| CheckFault::NoMemory)?;
+    let count = cuts.len();
     if count > u32::MAX as usize {
         return Err(CheckFault::NoMemory);
     }

@@ -28,10 +28,7 @@ pub fn cut_values(
 {
     let cuts = cuts(alloc, checked.tariff().lines.as_slice(), dimension)?;
     let values: Result<Vec<u64>, AllocError> = cuts.into_iter().collect(alloc);
-    match values {
-        Ok(values) => Ok(values),
-        Err(_) => Err(NoMemory),
-    }
+    values.map_err(|_| NoMemory)
 }
 
 /// The different cuts of some lines in a dimension.
@@ -101,8 +98,6 @@ fn add_atom(cuts: &mut BTreeSet<u64>, dimension: Dimension, cond: &Cond) -> Resu
 fn add(cuts: &mut BTreeSet<u64>, cut: u64) -> Result<(), NoMemory>
     ensures { OnOk result (cuts.new.keys ≡ insert_key nat_cmp cuts.old.keys cut) }
 {
-    match cuts.insert(cut) {
-        Ok(_) => Ok(()),
-        Err(_) => Err(NoMemory),
-    }
+    cuts.insert(cut).map_err(|_| NoMemory)?;
+    Ok(())
 }

@@ -73,10 +73,8 @@ fn number_fault(lines: &[TariffLine]) -> Option<CheckFault>
 fn fault_at(rule: LineRule, lines: &[TariffLine]) -> Option<CheckFault>
     ensures { result ≡ fault_at (fault_of_rule rule) (first_line (breaks_rule rule) (map line_of lines.now)) }
 {
-    match first_line(rule, lines) {
-        Some(line) => Some(fault_of(rule, line)),
-        None => None,
-    }
+    let line = first_line(rule, lines)?;
+    Some(fault_of(rule, line))
 }
 
 /// The fault of a line that breaks a rule.

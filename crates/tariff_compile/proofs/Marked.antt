@@ -1,6 +1,5 @@
 -- How marks are made: one context after another, and the first mark that a place has.
-use Rattle.std.proofs.Common.{◌≡◌, ◌∙◌, inl, inr, ap, sym, subst, add-one, drop-cons, ◌≢◌, ℕ, ◌+◌, ◌<◌, ◌≤◌, Bool, false, ◌||◌, List, [], ◌∷◌, ◌++◌, length, get_or, drop, map, Option, Some, None, refl, arith}
-use Rattle.std.proofs.lemmas.Bool.{cases_eq}
+use Rattle.std.proofs.Common.{◌≡◌, ◌∙◌, ap, add-one, drop-cons, ℕ, ◌+◌, ◌<◌, ◌≤◌, Bool, false, List, [], ◌∷◌, ◌++◌, length, get_or, drop, map, Option, Some, None, refl, arith}
 use Rattle.std.proofs.lemmas.Grind.{common_steps}
 use Rattle.std.specs.List.{cons_option, position_from, slice_get}
 use Rattle.tariff_syntax.specs.Condition.{Condition}
@@ -20,22 +19,6 @@ pub record MarksFirst (passes : Context → Bool) (xs : List Context) (n : ℕ) 
 
 one_value : (x y : Context) → Some x ≡ Some y → x ≡ y
 one_value x y same = cc
-
--- one context more
-pub marks_more : (passes : Context → Bool) (xs : List Context) (n : ℕ) (x : Context) (old new : Marks)
-    → MarksFirst passes xs n old → slice_get xs n ≡ Some x
-    → is_marked new n ≡ (is_marked old n || passes x) → ((other : ℕ) → other ≢ n → is_marked new other ≡ is_marked old other)
-    → MarksFirst passes xs (n + 1) new
-marks_more passes xs n x old new first at_n here others =
-    let now : is_marked new n ≡ passes x = here ∙ ap (λ (b : Bool). b || passes x) (first.left n (omega arith)) in
-    record {
-      so_far = λ place y at below.
-          elim (cases_eq place n) [
-            | inl same ↦ subst (λ (p : ℕ). is_marked new p ≡ passes y) (sym same) (now ∙ ap passes (one_value x y (sym at_n ∙ (ap (slice_get xs) (sym same) ∙ at))))
-            | inr apart ↦ others place apart ∙ first.so_far place y at (omega (arith, below, apart))
-          ];
-      left = λ place above. others place (omega (arith, above)) ∙ first.left place (omega (arith, above));
-    }
 
 -- the first that passes a test is known by which of them pass
 pub first_by_answers : {A B : Type 0} (f : A → Bool) (g : B → Bool) (n : ℕ) (xs : List A) (ys : List B)

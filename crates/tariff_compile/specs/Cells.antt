@@ -5,8 +5,8 @@ use Rattle.tariff_calendar.specs.Lists.{CutLists, count_at_most}
 use Rattle.taxi_units.specs.Time.{longest_trip}
 use Rattle.tariff_compile.specs.declared.parts.Bands.{Bands}
 
--- each dimension has this many numbers: as many as there are positions, zones, weekdays and kinds of days, and one more
--- than there are cuts in the others
+-- the size of a dimension is how many numbers it has: as many as there are positions, zones, weekdays and kinds of
+-- days, and one more than there are cuts in the others
 abbrev pub sizes_of : (positions zones day_kinds : ℕ) → CutLists → Bands
 sizes_of positions zones day_kinds lists =
     record {
@@ -31,7 +31,7 @@ pub record IsBelow (sizes b : Bands) : Type 0 where
   pub distance : b.distance < sizes.distance
   pub time : b.time < sizes.time
 
--- a cell has these numbers, one after another
+-- the numbers of a cell in its dimensions stand one after another, from the position to the time
 abbrev pub places_of : Bands → List ℕ
 places_of b =
     b.position ∷ b.zone ∷ b.weekday ∷ b.holiday ∷ b.month_day ∷ b.minute ∷ b.distance ∷ b.time ∷ []
@@ -45,13 +45,13 @@ IsBefore xs ys = ⊥
 abbrev pub cell_count : (sizes : Bands) → ℕ
 cell_count s = s.position * s.zone * s.weekday * s.holiday * s.month_day * s.minute * s.distance * s.time
 
--- a cell has this number, counted from 0 over the dimensions, where the last runs fastest
+-- the number of a cell counts from 0 over the dimensions, of which the last runs fastest
 abbrev pub cell_number : (sizes b : Bands) → ℕ
 cell_number s b =
     ((((((b.position * s.zone + b.zone) * s.weekday + b.weekday) * s.holiday + b.holiday) * s.month_day + b.month_day)
     * s.minute + b.minute) * s.distance + b.distance) * s.time + b.time
 
--- the cell of a number has these numbers in each dimension
+-- the numbers of a cell in its dimensions are told by its number, as the remainders by the sizes of the dimensions
 abbrev pub bands_of : (sizes : Bands) (cell : ℕ) → Bands
 bands_of s n =
     let distances = n / s.time in
@@ -71,7 +71,7 @@ bands_of s n =
       time = n % s.time;
     }
 
--- a context is in the cell of these numbers: its position, zone and weekday from 0, 1 for a holiday, and in each other
+-- the numbers of the cell of a context are its position, zone and weekday from 0, 1 for a holiday, and in each other
 -- dimension the number of cuts at or below it
 abbrev pub bands_at : CutLists → Context → Bands
 bands_at lists x =
@@ -90,8 +90,8 @@ bands_at lists x =
 abbrev pub beginning : List ℕ → (band : ℕ) → ℕ
 beginning cuts band = get_or (0 ∷ cuts) band 0
 
--- a cell has this context, at the beginning of each band; no trip has more than 8,640,000 ticks, and a cell beyond them
--- has its lines too, those at 8,640,000 ticks
+-- the context of a cell is at the beginning of each of its bands; a cell whose ticks begin beyond 8,640,000, the most
+-- that a trip has, has the context at 8,640,000 ticks
 abbrev pub context_in : (k : ℕ) → CutLists → Bands → Context
 context_in k lists b =
     record {

@@ -7,7 +7,7 @@ use Rattle.tariff_compile.specs.Tables.{TableParts}
 use Rattle.tariff_compile.specs.declared.parts.CellLines.{CellLines}
 use Rattle.tariff_compile.specs.declared.parts.Fee.{Fee}
 
--- the row of the measure says how many units of charge make the smallest unit of money
+-- the row `MEASURE` says how many units of charge make the smallest unit of money
 abbrev pub measure_row : (measure : ℕ) → List ℕ
 measure_row measure = codes "MEASURE " ++ (decimal measure ++ codes "\n")
 
@@ -43,21 +43,22 @@ cell_row minimums number lines =
     (decimal (lines.rate + 1) ++
     (codes " " ++ (decimal (lines.initial + 1) ++ minimum_field minimums lines.minimum)))))
 
--- the elements of a list have these rows, each with its number, counted from `first` on
+-- the rows of a list are one for each of its elements, with its number, counted from `first` on
 abbrev pub numbered : {A : Type 0} → (row : ℕ → A → List ℕ) → (first : ℕ) → List A → List (List ℕ)
 numbered row first [] = []
 numbered row first (x ∷ xs) = row first x ∷ numbered row (first + 1) xs
 
--- a test whether the tariff has minimum fares
+-- the test `has_minimums` is true where the tariff has minimum fares
 abbrev pub has_minimums : TableParts → Bool
 has_minimums tables = nat_lt 0 (length tables.minimums)
 
--- tables have this many rows
+-- the number of rows of tables is one for the row `MEASURE`, and one for each rate, initial hire fee, minimum fare and
+-- cell
 abbrev pub row_count : TableParts → ℕ
 row_count tables = 1 + length tables.weights + length tables.initials + length tables.minimums + length tables.cells
 
--- tables have this row at a place: first the measure, then each rate, each initial hire fee, each minimum fare, each
--- cell
+-- the row of tables at a place is first `MEASURE`, then that of each rate, each initial hire fee, each minimum fare,
+-- and each cell
 abbrev pub row_text : TableParts → (row : ℕ) → List ℕ
 row_text tables row =
     if row == 0 then measure_row tables.measure
@@ -77,7 +78,7 @@ row_text tables row =
 abbrev pub rows_text : TableParts → List ℕ
 rows_text tables = flat_map (row_text tables) (range_with_len 0 (row_count tables))
 
--- tables have these rows, part by part: the measure, then the rates, the initial hire fees and the minimum fares,
+-- all rows of tables are, part by part, the row `MEASURE`, then the rates, the initial hire fees and the minimum fares,
 -- numbered from 1, then the cells, numbered from 0
 abbrev pub all_rows : TableParts → List (List ℕ)
 all_rows tables =

@@ -22,7 +22,9 @@ use Rattle.tariff_compile.specs.declared.parts.Fee.{Fee}
 use Rattle.tariff_compile.specs.declared.parts.Initial.{Initial}
 use Rattle.tariff_compile.specs.declared.parts.Supplement.{Supplement}
 
--- tables have these parts
+-- tables have the cuts of their tariff, the weights of its rates, its initial hire fees, its minimum fares, the lines
+-- of its cells and its supplements, the constant, M, the display step and its rounding, and the decimals, positions and
+-- zones
 pub record TableParts : Type 0 where
   pub cuts : CutLists
   pub weights : List Weights
@@ -38,37 +40,38 @@ pub record TableParts : Type 0 where
   pub positions : ℕ
   pub zones : ℕ
 
--- a rate has these weights of a pulse and of a tick, in units of charge, of which k times the common measure make the
+-- the weights of a rate, of a pulse and of a tick, are in units of charge, of which k times the common measure make the
 -- smallest unit of money
 abbrev pub weights_of : (k common : ℕ) → RateNumbers → Weights
 weights_of k common r = record { per_pulse = 10000 * r.a * (common / r.b); per_tick = r.c * k * (common / r.e) }
 
--- an initial hire fee stands in the tables as its amount and its cover
+-- the fee of an initial hire fee in the tables is its amount and its cover
 abbrev pub fee_of : InitialNumbers → Fee
 fee_of i = record { amount = i.amount; covers = i.covers }
 
--- a supplement stands in the tables as its amount and how often a hiring may have it
+-- a supplement in the tables is its amount and how often a hiring may have it
 abbrev pub supplement_in : SupplementNumbers → Supplement
 supplement_in s = record { amount = s.amount; max = s.most }
 
--- a tariff has these weights of its rates, in order
+-- the weights in the tables of a tariff are those of each of its rates, in order
 abbrev pub all_weights : Tree → (k : ℕ) → List Weights
 all_weights t k = map (weights_of k (measure_of t.lines)) (rates_of t.lines)
 
--- a tariff has these initial hire fees in its tables, in order
+-- the initial hire fees in the tables of a tariff are the amount and the cover of each, in order
 abbrev pub all_initials : Tree → List Fee
 all_initials t = map fee_of (initials_of t.lines)
 
--- a tariff has this supplement of a number in its tables, where it has one
+-- the supplement of a number in the tables of a tariff is its amount and how often a hiring may have it, where the
+-- tariff has one
 abbrev pub supplement_at : Tree → (number : ℕ) → Option Supplement
 supplement_at t number = option_map supplement_in (supplement_of t.lines number)
 
--- a place that may be none is numbered from 1 on, and none is 0
+-- the number of a place that may be none is one more than the place, and 0 for none
 abbrev pub number_of : Option ℕ → ℕ
 number_of None = 0
 number_of (Some place) = place + 1
 
--- a context has these lines: the rate that holds first in it, and the initial hire fee and the minimum fare that hold
+-- the lines of a context are the rate that holds first in it, and the initial hire fee and the minimum fare that hold
 -- first at its hiring
 abbrev pub lines_at : Tree → Context → CellLines
 lines_at t x =
@@ -78,15 +81,15 @@ lines_at t x =
       minimum = number_of (minimum_place t x);
     }
 
--- a tariff's cells have dimensions of these sizes
+-- the sizes of a tariff's dimensions are those of its positions, zones, kinds of days and cuts
 abbrev pub sizes_in : Tree → (k : ℕ) → Bands
 sizes_in t k = sizes_of (positions_of t.lines) (zones_of t.lines) (day_kinds t.lines) (lists_of t k)
 
--- the cell of a number has this context
+-- the context of the cell with a number is at the beginning of each of its bands
 abbrev pub context_of : Tree → (k cell : ℕ) → Context
 context_of t k cell = context_in k (lists_of t k) (bands_of (sizes_in t k) cell)
 
--- a context is in the cell of this number
+-- the number of the cell of a context is made of its numbers in each dimension
 abbrev pub cell_of : Tree → (k : ℕ) → Context → ℕ
 cell_of t k x = cell_number (sizes_in t k) (bands_at (lists_of t k) x)
 
@@ -97,15 +100,16 @@ pub record HasLinesOf (t : Tree) (x : Context) (lines : CellLines) : Type 0 wher
   pub initial : initial_place t x ≡ Some lines.initial
   pub minimum : number_of (minimum_place t x) ≡ lines.minimum
 
--- a tariff has these lines of each cell, in the order of the cells
+-- the lines in the tables of a tariff are those of the context of each cell, in the order of the cells
 abbrev pub all_cells : Tree → (k : ℕ) → List CellLines
 all_cells t k = map (λ cell. lines_at t (context_of t k cell)) (range_with_len 0 (cell_count (sizes_in t k)))
 
--- a tariff has this display step and this rounding to it
+-- the display step in the tables of a tariff, with the rounding to it, is that of its `step` line
 abbrev pub step_in : Tree → ℕ × Rounding
 step_in t = unwrap_or (step_of t.lines) (0, Behind)
 
--- a tariff has these tables where k pulses make a kilometre
+-- the tables of a tariff, where k pulses make a kilometre, have its cuts, the weights of its rates, its fees and
+-- minimum fares, the lines of each cell and its supplements, and as M the constant k times the common measure
 abbrev pub tables_of : Tree → (k : ℕ) → TableParts
 tables_of t k =
     record {
@@ -124,7 +128,7 @@ tables_of t k =
       zones = zones_of t.lines;
     }
 
--- the cells of tables have dimensions of these sizes
+-- the sizes of the dimensions of tables are those of their positions, zones, kinds of days and cuts
 abbrev pub sizes_for : TableParts → Bands
 sizes_for tables = sizes_of tables.positions tables.zones (if has_days tables.cuts then 2 else 1) tables.cuts
 
@@ -145,15 +149,16 @@ pub record IsTablesOf (t : Tree) (tables : TableParts) : Type 0 where
 abbrev pub IsCompiled : TableParts → Type 0
 IsCompiled tables = (t : Tree) × IsTablesOf t tables
 
--- a context has the weights of the rate that holds first in it
+-- the weights of a context by the tree are those of the rate that holds first in it
 abbrev pub rate_by : Tree → (k : ℕ) → Context → Weights
 rate_by t k x = get_or (all_weights t k) (unwrap_or (rate_place t x) 0) (record { per_pulse = 0; per_tick = 0 })
 
--- an initial hire fee and a minimum fare are looked up together
+-- an initial hire fee and a minimum fare are looked up together, as one value
 abbrev pub initial_with : Fee → (minimum : ℕ) → Initial
 initial_with fee minimum = record { amount = fee.amount; covers = fee.covers; minimum = minimum }
 
--- a context has the initial hire fee and the minimum fare that hold first at its hiring; without a minimum fare, 0
+-- the initial hire fee of a context by the tree is the one that holds first at its hiring, with the minimum fare that
+-- does, or 0 where none does
 abbrev pub initial_by : Tree → Context → Initial
 initial_by t x =
     initial_with (get_or (all_initials t) (unwrap_or (initial_place t x) 0) (record { amount = 0; covers = 0 }))

@@ -16,7 +16,7 @@ use taxi_units::NoMemory;
 /// context of it, at the beginning of its bands. `NoMemory` where memory runs out.
 pub fn compile(alloc: Global, checked: &Checked, k: Constant) -> Result<Tables, NoMemory>
     ensures value { IfOk result (λ tables. tables ≡ tables_of (tree_of checked.now) k) }
-    ensures tables { IfOk result (λ tables. IsTablesOf (tree_of checked.now) tables) }
+    ensures tables { IfOk result (IsTablesOf (tree_of checked.now)) }
     ensures fit { IfOk result IsFit }
 {
     let tariff = checked.tariff();

@@ -1,6 +1,7 @@
 //! Makes the rows of the tables, each in an empty line.
 ghost use Rattle.std.specs.Prelude.{◌≡◌, [], ◌+◌, ◌≤◌, ◌++◌, ◌↔◌, length, codes, decimal, IsOk, OnOk};
 ghost use Rattle.arrayvec.specs.ArrayVec.{array_vec_len};
+ghost use Rattle.taxi_units.specs.Line.{line_size};
 ghost use Rattle.taxi_units.specs.Number.{money_text};
 ghost use Rattle.tariff_compile.specs.Rows.{cell_row, initial_row, measure_row, minimum_field, minimum_row, rate_row};
 
@@ -11,7 +12,7 @@ use taxi_units::{Line, LineFull, put_bytes, put_money, put_number};
 /// The row of the measure.
 pub(crate) fn measure_row(row: &mut Line, measure: u128) -> Result<(), LineFull>
     requires { row.old.items ≡ [] }
-    ensures variant { IsOk result ↔ (length (measure_row measure) ≤ 512) }
+    ensures variant { IsOk result ↔ (length (measure_row measure) ≤ line_size) }
     ensures ok { OnOk result (row.new.items ≡ measure_row measure) }
 {
     put_field(row, b"MEASURE ", measure)?;
@@ -21,7 +22,7 @@ pub(crate) fn measure_row(row: &mut Line, measure: u128) -> Result<(), LineFull>
 /// The row of a rate, by its number from 1.
 pub(crate) fn rate_row(row: &mut Line, number: u64, weights: Weights) -> Result<(), LineFull>
     requires { row.old.items ≡ [] }
-    ensures variant { IsOk result ↔ (length (rate_row number weights) ≤ 512) }
+    ensures variant { IsOk result ↔ (length (rate_row number weights) ≤ line_size) }
     ensures ok { OnOk result (row.new.items ≡ rate_row number weights) }
 {
     put_field(row, b"RATE ", number as u128)?;
@@ -39,7 +40,7 @@ pub(crate) fn initial_row(
 ) -> Result<(), LineFull>
     requires empty { row.old.items ≡ [] }
     requires decimals { decimals ≤ 3 }
-    ensures variant { IsOk result ↔ (length (initial_row decimals number fee) ≤ 512) }
+    ensures variant { IsOk result ↔ (length (initial_row decimals number fee) ≤ line_size) }
     ensures ok { OnOk result (row.new.items ≡ initial_row decimals number fee) }
 {
     put_field(row, b"INITIAL ", number as u128)?;
@@ -57,7 +58,7 @@ pub(crate) fn minimum_row(
 ) -> Result<(), LineFull>
     requires empty { row.old.items ≡ [] }
     requires decimals { decimals ≤ 3 }
-    ensures variant { IsOk result ↔ (length (minimum_row decimals number amount) ≤ 512) }
+    ensures variant { IsOk result ↔ (length (minimum_row decimals number amount) ≤ line_size) }
     ensures ok { OnOk result (row.new.items ≡ minimum_row decimals number amount) }
 {
     put_field(row, b"MINIMUM ", number as u128)?;
@@ -74,7 +75,7 @@ pub(crate) fn cell_row(
     lines: CellLines,
 ) -> Result<(), LineFull>
     requires { row.old.items ≡ [] }
-    ensures variant { IsOk result ↔ (length (cell_row minimums cell lines) ≤ 512) }
+    ensures variant { IsOk result ↔ (length (cell_row minimums cell lines) ≤ line_size) }
     ensures ok { OnOk result (row.new.items ≡ cell_row minimums cell lines) }
 {
     put_field(row, b"CELL ", cell as u128)?;
@@ -85,7 +86,7 @@ pub(crate) fn cell_row(
 
 /// Ends the row of a cell, where there are minimum fares with the number of the cell's.
 fn put_minimum(row: &mut Line, minimums: bool, number: u8) -> Result<(), LineFull>
-    ensures variant { IsOk result ↔ (array_vec_len row.old + length (minimum_field minimums number) ≤ 512) }
+    ensures variant { IsOk result ↔ (array_vec_len row.old + length (minimum_field minimums number) ≤ line_size) }
     ensures ok { OnOk result (row.new.items ≡ row.old.items ++ minimum_field minimums number) }
 {
     if minimums {
@@ -96,7 +97,7 @@ fn put_minimum(row: &mut Line, minimums: bool, number: u8) -> Result<(), LineFul
 
 /// Appends a word and a number.
 fn put_field(row: &mut Line, word: &[u8], number: u128) -> Result<(), LineFull>
-    ensures variant { IsOk result ↔ (array_vec_len row.old + length word.now + length (decimal number) ≤ 512) }
+    ensures variant { IsOk result ↔ (array_vec_len row.old + length word.now + length (decimal number) ≤ line_size) }
     ensures ok { OnOk result (row.new.items ≡ row.old.items ++ (word.now ++ decimal number)) }
 {
     put_bytes(row, word)?;
@@ -106,7 +107,7 @@ fn put_field(row: &mut Line, word: &[u8], number: u128) -> Result<(), LineFull>
 /// Appends a blank and an amount of money.
 fn put_amount(row: &mut Line, decimals: u8, amount: u64) -> Result<(), LineFull>
     requires { decimals ≤ 3 }
-    ensures variant { IsOk result ↔ (array_vec_len row.old + 1 + length (money_text decimals amount) ≤ 512) }
+    ensures variant { IsOk result ↔ (array_vec_len row.old + 1 + length (money_text decimals amount) ≤ line_size) }
     ensures ok { OnOk result (row.new.items ≡ row.old.items ++ (codes " " ++ money_text decimals amount)) }
 {
     put_bytes(row, b" ")?;

@@ -10,6 +10,7 @@ ghost use Rattle.tariff_compile.specs.Tables.{AreFit, IsCompiled, IsFit, IsFitIn
 ghost use Rattle.tariff_syntax.specs.Tree.{Tree};
 ghost use Rattle.tariff_syntax.specs.declared.context.Context.{Context};
 ghost use Rattle.taxi_units.specs.Counted.{IsElement};
+ghost use Rattle.taxi_units.specs.Line.{line_size};
 
 use crate::bands::{cell_number, sizes_of};
 use crate::contexts::{bands_at, bands_at_hiring, bands_until};
@@ -247,11 +248,11 @@ impl Tables {
     /// `LineFull` where it doesn't fit; the line is then unchanged.
     pub fn put_row(&self, i: u64, line: &mut Line) -> Result<(), LineFull>
         requires { i < row_count self.now }
-        ensures variant { IsOk result ↔ (array_vec_len line.old + length (row_text self.now i) ≤ 512) }
+        ensures variant { IsOk result ↔ (array_vec_len line.old + length (row_text self.now i) ≤ line_size) }
         ensures ok { OnOk result (line.new.items ≡ line.old.items ++ row_text self.now i) }
         ensures err { OnErr result (line.new ≡ line.old) }
         // A row fits into an empty line.
-        ensures short { (0 < length (row_text self.now i)) × (length (row_text self.now i) ≤ 512) }
+        ensures short { (0 < length (row_text self.now i)) × (length (row_text self.now i) ≤ line_size) }
     {
         let mut row = Line::new();
         self.make_row(i, &mut row)?;
@@ -262,7 +263,7 @@ impl Tables {
     fn make_row(&self, i: u64, row: &mut Line) -> Result<(), LineFull>
         requires row { i < row_count self.now }
         requires empty { row.old.items ≡ [] }
-        ensures variant { IsOk result ↔ (length (row_text self.now i) ≤ 512) }
+        ensures variant { IsOk result ↔ (length (row_text self.now i) ≤ line_size) }
         ensures ok { OnOk result (row.new.items ≡ row_text self.now i) }
         ensures compiled { IsCompiled self.now }
     {

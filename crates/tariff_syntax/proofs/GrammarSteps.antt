@@ -1,9 +1,8 @@
 -- Reading a condition, a step at a time.
 use Rattle.std.proofs.Common.{◌≡◌, ℕ, zero, suc, ◌+◌, ◌<◌, List, Option, Some, None, refl, subst, arith}
 use Rattle.taxi_units.specs.Reading.{◌>>=◌}
-use Rattle.tariff_syntax.specs.Built.{IsBuilt, IsFront, Builds}
+use Rattle.tariff_syntax.specs.Built.{Built, IsBuilt, IsFront, Builds}
 use Rattle.tariff_syntax.specs.Condition.{Condition}
-use Rattle.tariff_syntax.specs.declared.condition.Cond.{Cond}
 use Rattle.tariff_syntax.specs.Grammar.{Reader, factor_by, condition_by, chain_on, factor_first}
 use Rattle.tariff_syntax.specs.Token.{Token}
 use Rattle.tariff_syntax.specs.Words.{after_word}
@@ -34,6 +33,6 @@ chain_goes joint joined zero less left ts rest h e = absurd (omega arith)
 chain_goes joint joined (suc most) less left ts rest h e = let same : less ≡ most = omega arith in rw same (rw (e, chain_on) refl)
 
 -- what is read behind something read is read behind what was built of it
-pub then_builds : {X : Type 0} (view : X → Option Cond × List Token) (found : Option X) (built : Option Cond) (ts : List Token) (read : Option (Condition × List Token)) (f : Condition × List Token → Option (Condition × List Token)) → IsFront (built, ts) read → ((c : Condition) → IsBuilt built c → Builds view found (f (c, ts))) → Builds view found (read >>= f)
+pub then_builds : {X : Type 0} (view : X → Built × List Token) (found : Option X) (built : Built) (ts : List Token) (read : Option (Condition × List Token)) (f : Condition × List Token → Option (Condition × List Token)) → IsFront (built, ts) read → ((c : Condition) → IsBuilt built c → Builds view found (f (c, ts))) → Builds view found (read >>= f)
 then_builds view found built ts None f h g = absurd h
 then_builds view found built ts (Some read) f h g = subst (λ (rest : List Token). Builds view found (f (read.0, rest))) h.1 (g read.0 h.0)

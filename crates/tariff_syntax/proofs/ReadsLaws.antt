@@ -165,13 +165,6 @@ head_other : (number : ℕ) (text : List ℕ) (texts : List (List ℕ)) (ts : Li
 head_other number text texts [] below filled e = absurd (filled refl)
 head_other number text texts (t ∷ ts) below filled e = rw e refl
 
--- a line that says an entry has tokens, and doesn't say the decimals
-says_filled : (decimals : ℕ) (text : List ℕ) (x : Entry) → Says decimals text x → tokens_of text ≡ [] → ⊥
-says_filled decimals text x h e =
-    let some = says_again decimals text x h in
-    let none = no_item decimals in
-    cc
-
 says_other : (decimals : ℕ) (text : List ℕ) (x : Entry) → Says decimals text x → decimals_read (tokens_of text) ≡ None
 says_other decimals text x h = ap decimals_read (spelled_alone text h.0 h.1) ∙ item_alone decimals h.0 x h.2
 

@@ -72,9 +72,6 @@ letters_run [] [] h s = tt
 letters_run [] (c ∷ text) h s = s
 letters_run (c ∷ w) text h s = (h.0, letters_run w text h.1 s)
 
-no_blanks : (c : ℕ) (rest : List ℕ) → is_blank c rest ≡ false → IsRun is_blank [] (c ∷ rest)
-no_blanks c rest e = e
-
 pub word_shows : (c : ℕ) (w more : List ℕ) (ts : List Token) (texts : List (List ℕ)) → AllLetters (c ∷ w) → Ready more ts texts → Shows ((c ∷ w) ++ more) (word (c ∷ w) ∷ ts) texts
 word_shows c w more ts texts h r =
     let text = r.shows.text in

@@ -1,9 +1,10 @@
 -- For proofs: what is built of a condition that is read, where memory may run out.
-use Rattle.std.specs.Prelude.{◌≡◌, List, Option, Some, None, ⊤}
+use Rattle.std.specs.Prelude.{◌≡◌, List, Option, Some, None, Result, Ok, Err, ⊤}
 use Rattle.tariff_syntax.specs.Condition.{Condition, condition_of, and, or, not}
 use Rattle.tariff_syntax.specs.Token.{Token}
 use Rattle.tariff_syntax.specs.Tree.{Entry, initial, rate, minimum}
 use Rattle.tariff_syntax.specs.declared.condition.Cond.{Cond}
+use Rattle.taxi_units.specs.declared.NoMemory.{NoMemory}
 
 -- a condition has parts, which take memory of their own, where it is no atom
 abbrev pub HasParts : Condition → Type 0
@@ -24,17 +25,21 @@ EntryHasParts (rate a b c e when) = HasPartsIf when
 EntryHasParts (minimum amount when) = HasPartsIf when
 EntryHasParts _ = ⊥
 
+-- a condition, or the want of memory for its parts
+abbrev pub Built : Type 0
+Built = Result Cond NoMemory
+
 -- a condition was built, or is missing since memory ran out for its parts
-abbrev pub IsBuilt : Option Cond → Condition → Type 0
-IsBuilt (Some built) c = condition_of built ≡ c
-IsBuilt None c = HasParts c
+abbrev pub IsBuilt : Built → Condition → Type 0
+IsBuilt (Ok built) c = condition_of built ≡ c
+IsBuilt (Err _) c = HasParts c
 
 -- what was built, and the tokens after it, are what reading gives, and reading gives something
-abbrev pub IsFront : Option Cond × List Token → Option (Condition × List Token) → Type 0
+abbrev pub IsFront : Built × List Token → Option (Condition × List Token) → Type 0
 IsFront found None = ⊥
 IsFront found (Some read) = IsBuilt found.0 read.0 × (found.1 ≡ read.1)
 
 -- a function built what reading gives, seen through `view`, and returned None exactly where reading gives nothing
-abbrev pub Builds : {X : Type 0} → (X → Option Cond × List Token) → Option X → Option (Condition × List Token) → Type 0
+abbrev pub Builds : {X : Type 0} → (X → Built × List Token) → Option X → Option (Condition × List Token) → Type 0
 Builds view None read = read ≡ None
 Builds view (Some found) read = IsFront (view found) read

@@ -36,7 +36,7 @@ IsMinute text minute =
     (hours : ℕ) × (minutes : ℕ) × IsPair (codes ":") text hours minutes × (hours ≤ 23) × (minutes ≤ 59)
     × (minute ≡ 60 * hours + minutes)
 
--- a text is an amount where it is a decimal text of at most `decimals` decimals that has this many units
+-- a text is an amount of units where it is a decimal text of at most `decimals` decimals that has just as many units
 abbrev pub IsAmount : (decimals : ℕ) → List ℕ → ℕ → Type 0
 IsAmount decimals text n = IsReadAs decimals text (Ok n)
 

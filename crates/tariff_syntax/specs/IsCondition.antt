@@ -6,8 +6,9 @@ use Rattle.tariff_syntax.specs.Forms.{IsAtom}
 use Rattle.tariff_syntax.specs.PrintedCondition.{Level, whole, term, factor}
 use Rattle.tariff_syntax.specs.Token.{Token, word, sign}
 
--- tokens are a condition by this grammar: a factor is an atom, `not` and a factor, or a whole condition in parentheses;
--- a term is a factor, or a term, `and` and a factor; a whole condition is a term, or a whole condition, `or` and a term
+-- tokens are a condition at a level of the grammar: a factor is an atom, `not` and a factor, or a whole condition in
+-- parentheses; a term is a factor, or a term, `and` and a factor; a whole condition is a term, or a whole condition,
+-- `or` and a term
 pub data IsCondition : Level → List Token → Condition → Type 0 where
   atom : (ts : List Token) (c : Condition) → IsAtom ts c → IsCondition factor ts c
   negation : (ts : List Token) (c : Condition) → IsCondition factor ts c
@@ -21,7 +22,7 @@ pub data IsCondition : Level → List Token → Condition → Type 0 where
   disjunction : (left right : List Token) (p q : Condition) → IsCondition whole left p → IsCondition term right q
       → IsCondition whole (left ++ word (codes "or") ∷ right) (tree.or p q)
 
--- a condition is made of this many atoms, `not` and `(` together
+-- the size of a condition is how many atoms, `not` and `(` it is made of, together
 abbrev pub size_of : (level : Level) (ts : List Token) (c : Condition) → IsCondition level ts c → ℕ
 size_of factor ts c (atom ts' c' h) = 1
 size_of factor ts c (negation ts' c' h) = 1 + size_of factor ts' c' h

@@ -6,7 +6,7 @@ use Rattle.tariff_syntax.specs.Tree.{Line, Entry, initial, rate, minimum}
 use Rattle.tariff_syntax.specs.declared.meaning.LineKind.{LineKind}
 use Rattle.tariff_syntax.specs.declared.meaning.LineKind.TheVariants.{Rate, Initial, Minimum}
 
--- lines have these parts: the part of each line that has one, in order
+-- the parts of lines are the part of each line that has one, in order
 abbrev pub parts : {A : Type 0} → (Entry → Option A) → List Line → List A
 parts part lines = filter_map (λ (l : Line). part l.entry) lines
 
@@ -31,14 +31,15 @@ when_of Rate x = rate_when x
 when_of Initial x = initial_when x
 when_of Minimum x = minimum_when x
 
--- the rates among some lines have these conditions, in order
+-- the conditions of the rates among some lines are that of each rate, or none where it has none, in order
 abbrev pub rate_conditions : List Line → List (Option Condition)
 rate_conditions lines = parts rate_when lines
 
--- the initial hire fees among some lines have these conditions, in order
+-- the conditions of the initial hire fees among some lines are that of each fee, or none where it has none, in order
 abbrev pub initial_conditions : List Line → List (Option Condition)
 initial_conditions lines = parts initial_when lines
 
--- the minimum fares among some lines have these conditions, in order
+-- the conditions of the minimum fares among some lines are that of each minimum fare, or none where it has none, in
+-- order
 abbrev pub minimum_conditions : List Line → List (Option Condition)
 minimum_conditions lines = parts minimum_when lines

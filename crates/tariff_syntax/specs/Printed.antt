@@ -9,7 +9,7 @@ use Rattle.tariff_syntax.specs.PrintedCondition.{condition_text}
 use Rattle.tariff_syntax.specs.Tree.{Tree, Line, Entry, step, positions, zones, holiday, supplement, initial, rate}
 use Rattle.tariff_syntax.specs.Tree.{minimum}
 
--- the rounding of the fare to the display step is printed as this word
+-- the word of a rounding to the display step is `behind` or `ahead`
 abbrev pub rounding_word : Rounding → List ℕ
 rounding_word Behind = codes "behind"
 rounding_word Ahead = codes "ahead"

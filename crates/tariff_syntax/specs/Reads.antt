@@ -1,5 +1,5 @@
--- Rules: what a text says. It is cut into lines; the first line that has tokens may say the decimals; each further one
--- says an entry.
+-- Rules: what a text says. It is parted into lines; the first line that has tokens may say the decimals; each further
+-- one says an entry.
 use Rattle.std.specs.Prelude.{◌≡◌, ℕ, ◌+◌, ◌<◌, ◌≤◌, ◌⊎◌, List, [], ◌∷◌, length, Result, Ok, Err}
 use Rattle.std.specs.List.{AllPairs}
 use Rattle.tariff_syntax.specs.IsItem.{IsItem, IsDecimals}
@@ -53,8 +53,8 @@ FirstBad decimals number (text ∷ texts) bad =
     ((bad ≡ number) × ¬ (IsEmpty text) × ((entry : Entry) → ¬ (Says decimals text entry)))
     ⊎ ((IsEmpty text ⊎ ((entry : Entry) × Says decimals text entry)) × FirstBad decimals (number + 1) texts bad)
 
--- of texts that are numbered from `number` on, of which the first that isn't empty may say the decimals, and else they
--- are 2, the first bad one under these decimals has the number `bad`
+-- the first bad one of texts that are numbered from `number` on has the number `bad`, under the decimals that the first
+-- text that isn't empty says, or under 2 where it says none
 abbrev pub FirstBadBelow : (number : ℕ) → List (List ℕ) → (bad : ℕ) → Type 0
 FirstBadBelow number [] bad = ⊥
 FirstBadBelow number (text ∷ texts) bad =

@@ -42,8 +42,8 @@ abbrev pub IsEnd : List ℕ → Type 0
 IsEnd [] = ⊤
 IsEnd (c ∷ rest) = c ≡ 35
 
--- a line is spelled by tokens where it is these tokens, with any blanks before each and behind the last, and perhaps a
--- comment at its end
+-- a line is spelled by tokens where it is the tokens one after another, with any blanks before each and behind the
+-- last, and perhaps a comment at its end
 abbrev pub IsSpelled : List ℕ → List Token → Type 0
 IsSpelled text [] =
     (blanks : List ℕ) × (rest : List ℕ) × (text ≡ blanks ++ rest) × IsRun is_blank blanks rest × IsEnd rest

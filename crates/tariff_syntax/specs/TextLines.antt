@@ -6,7 +6,7 @@ abbrev pub in_front : ℕ → List (List ℕ) → List (List ℕ)
 in_front c [] = (c ∷ []) ∷ []
 in_front c (text ∷ texts) = (c ∷ text) ∷ texts
 
--- a text has these lines: each line feed ends one, and the text's end may end the last
+-- the lines of a text are ended by a line feed each, and the last may be ended by the text's end
 abbrev pub lines_of : List ℕ → List (List ℕ)
 lines_of [] = []
 lines_of (c ∷ cs) = if c == 10 then [] ∷ lines_of cs else in_front c (lines_of cs)
@@ -19,7 +19,7 @@ is_inner c rest = not (c == 10)
 abbrev pub IsLine : List ℕ → Type 0
 IsLine text = All (λ (c : ℕ). c ≢ 10) text
 
--- lines are those of a text where the text is these lines, each followed by a line feed; the last may end with the text
+-- lines are those of a text where the text is the lines, each followed by a line feed; the last may end with the text
 -- instead, where it isn't empty
 abbrev pub AreLines : (text : List ℕ) → List (List ℕ) → Type 0
 AreLines text [] = text ≡ []

@@ -2,7 +2,7 @@
 use Rattle.std.specs.Prelude.{ℕ, ◌-◌, List, [], ◌∷◌, codes}
 use Rattle.std.specs.List.{slice_index_or}
 
--- the weekdays from Monday to Sunday have these short names
+-- the short names of the weekdays, from Monday to Sunday, are `mon`, `tue`, `wed`, `thu`, `fri`, `sat` and `sun`
 abbrev pub day_words : List (List ℕ)
 day_words = codes "mon" ∷ codes "tue" ∷ codes "wed" ∷ codes "thu" ∷ codes "fri" ∷ codes "sat" ∷ codes "sun" ∷ []
 

@@ -5,7 +5,7 @@ use Rattle.tariff_syntax.specs.Condition.{Condition}
 use Rattle.tariff_syntax.specs.Tree.{Tree, Line, Entry, step, positions, zones, holiday, supplement, initial, rate}
 use Rattle.tariff_syntax.specs.Tree.{minimum}
 
--- a number is from the least to the most, both included
+-- a number is from one to another where it is neither below the least nor above the most
 abbrev pub IsFromTo : (least most n : ℕ) → Type 0
 IsFromTo least most n = (least ≤ n) × (n ≤ most)
 

@@ -1,6 +1,8 @@
 //! The atoms of a condition.
+#![tactic(auto, unfolding(crate::specs::Atom::numbered_first))]
+
 ghost use Rattle.std.specs.Prelude.{◌≡◌, ◌≤◌, IfSome};
-ghost use Rattle.taxi_units.specs.Reading.{Gives};
+ghost use Rattle.taxi_units.specs.Reading.{Gives, GivesSame};
 ghost use Rattle.tariff_syntax.specs.Atom as spec;
 ghost use Rattle.tariff_syntax.specs.Condition as tree;
 ghost use Rattle.tariff_syntax.specs.Condition.{condition_of};
@@ -41,7 +43,6 @@ pub fn atom_named<'a>(name: &[u8], line: &'a [u8]) -> Option<(Cond, &'a [u8])>
 }
 
 /// A tariff position.
-#[tactic(auto, unfolding(crate::specs::Atom::numbered_first))]
 fn position(line: &[u8]) -> Option<(Cond, &[u8])>
     ensures { Gives (λ x. (condition_of x.0, tokens_of x.1.now)) result
         (spec.numbered_first tree.position (tokens_of line.now)) }
@@ -51,7 +52,6 @@ fn position(line: &[u8]) -> Option<(Cond, &[u8])>
 }
 
 /// A zone.
-#[tactic(auto, unfolding(crate::specs::Atom::numbered_first))]
 fn zone(line: &[u8]) -> Option<(Cond, &[u8])>
     ensures { Gives (λ x. (condition_of x.0, tokens_of x.1.now)) result
         (spec.numbered_first tree.zone (tokens_of line.now)) }
@@ -124,7 +124,7 @@ fn weekday_first(line: &[u8]) -> Option<(u8, &[u8])>
 
 /// The weekday that a word names, from 1 for Monday.
 fn weekday(name: &[u8]) -> Option<u8>
-    ensures { Gives (λ n. n) result (spec.weekday_read name.now) }
+    ensures { GivesSame result (spec.weekday_read name.now) }
 {
     if is_text(name, b"mon") {
         return Some(1);

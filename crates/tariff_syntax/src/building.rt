@@ -5,29 +5,33 @@ ghost use Rattle.tariff_syntax.specs.Condition.{Condition};
 
 use crate::condition::Cond;
 use std::alloc::Global;
+use taxi_units::NoMemory;
 
-/// That both hold. `None` where one is missing, or memory runs out.
-pub fn and(alloc: Global, left: Option<Cond>, right: Option<Cond>) -> Option<Cond>
+/// A condition, or `NoMemory` where memory ran out for it or for one of its parts.
+pub type Built = Result<Cond, NoMemory>;
+
+/// That both hold. `NoMemory` where one is missing, or memory runs out.
+pub fn and(alloc: Global, left: Built, right: Built) -> Built
     ensures { (a b : Condition) → IsBuilt left a → IsBuilt right b → IsBuilt result (tree.and a b) }
 {
-    let left = Box::new(alloc, left?).ok()?;
-    let right = Box::new(alloc, right?).ok()?;
-    Some(Cond::And(left, right))
+    let left = Box::new(alloc, left?).map_err(|_| NoMemory)?;
+    let right = Box::new(alloc, right?).map_err(|_| NoMemory)?;
+    Ok(Cond::And(left, right))
 }
 
-/// That one of them holds. `None` where one is missing, or memory runs out.
-pub fn or(alloc: Global, left: Option<Cond>, right: Option<Cond>) -> Option<Cond>
+/// That one of them holds. `NoMemory` where one is missing, or memory runs out.
+pub fn or(alloc: Global, left: Built, right: Built) -> Built
     ensures { (a b : Condition) → IsBuilt left a → IsBuilt right b → IsBuilt result (tree.or a b) }
 {
-    let left = Box::new(alloc, left?).ok()?;
-    let right = Box::new(alloc, right?).ok()?;
-    Some(Cond::Or(left, right))
+    let left = Box::new(alloc, left?).map_err(|_| NoMemory)?;
+    let right = Box::new(alloc, right?).map_err(|_| NoMemory)?;
+    Ok(Cond::Or(left, right))
 }
 
-/// That it doesn't hold. `None` where it is missing, or memory runs out.
-pub fn not(alloc: Global, inner: Option<Cond>) -> Option<Cond>
+/// That it doesn't hold. `NoMemory` where it is missing, or memory runs out.
+pub fn not(alloc: Global, inner: Built) -> Built
     ensures { (a : Condition) → IsBuilt inner a → IsBuilt result (tree.not a) }
 {
-    let inner = Box::new(alloc, inner?).ok()?;
-    Some(Cond::Not(inner))
+    let inner = Box::new(alloc, inner?).map_err(|_| NoMemory)?;
+    Ok(Cond::Not(inner))
 }

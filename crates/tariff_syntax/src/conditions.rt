@@ -14,7 +14,7 @@ ghost use Rattle.tariff_syntax.specs.Token.{token_of};
 ghost use Rattle.tariff_syntax.specs.TokenReading.{tokens_of};
 
 use crate::atoms::atom_named;
-use crate::building::{and, not, or};
+use crate::building::{Built, and, not, or};
 use crate::condition::Cond;
 use crate::tokens::{Token, first_token};
 use crate::words::{after_sign, after_word, is_over, is_text};
@@ -52,7 +52,7 @@ fn word_of(joint: Joint) -> &'static [u8]
 /// read on where memory runs out: the condition is missing then, and what stands after it is known.
 #[cycle(conditions)]
 #[tactic(auto, unfolding(crate::specs::Grammar::condition_by))]
-fn condition(alloc: Global, depth: u8, line: &[u8]) -> Option<(Option<Cond>, &[u8])>
+fn condition(alloc: Global, depth: u8, line: &[u8]) -> Option<(Built, &[u8])>
     ensures { Builds (λ x. (x.0, tokens_of x.1.now)) result
         (condition_by (factor_first depth) (tokens_of line.now)) }
 {
@@ -63,7 +63,7 @@ fn condition(alloc: Global, depth: u8, line: &[u8]) -> Option<(Option<Cond>, &[u
 /// A term, and what stands after it.
 #[cycle(conditions)]
 #[tactic(auto, unfolding(crate::specs::Grammar::term_by))]
-fn term(alloc: Global, depth: u8, line: &[u8]) -> Option<(Option<Cond>, &[u8])>
+fn term(alloc: Global, depth: u8, line: &[u8]) -> Option<(Built, &[u8])>
     ensures { Builds (λ x. (x.0, tokens_of x.1.now)) result
         (term_by (factor_first depth) (tokens_of line.now)) }
 {
@@ -78,9 +78,9 @@ fn more_parts(
     joint: Joint,
     depth: u8,
     most: u8,
-    left: Option<Cond>,
+    left: Built,
     line: &[u8],
-) -> Option<(Option<Cond>, &[u8])>
+) -> Option<(Built, &[u8])>
     ensures { (c : Condition) → IsBuilt left c → Builds (λ x. (x.0, tokens_of x.1.now)) result
         (chain_on (joints.word_of joint) (joined_by joint (factor_first depth)) most c (tokens_of line.now)) }
 {
@@ -100,9 +100,9 @@ fn joined_part(
     alloc: Global,
     joint: Joint,
     depth: u8,
-    left: Option<Cond>,
+    left: Built,
     line: &[u8],
-) -> Option<(Option<Cond>, &[u8])>
+) -> Option<(Built, &[u8])>
     ensures { (c : Condition) → IsBuilt left c → Builds (λ x. (x.0, tokens_of x.1.now)) result
         (joined_by joint (factor_first depth) c (tokens_of line.now)) }
 {
@@ -120,7 +120,7 @@ fn joined_part(
 
 /// A factor, and what stands after it.
 #[cycle(conditions)]
-fn factor(alloc: Global, depth: u8, line: &[u8]) -> Option<(Option<Cond>, &[u8])>
+fn factor(alloc: Global, depth: u8, line: &[u8]) -> Option<(Built, &[u8])>
     ensures { Builds (λ x. (x.0, tokens_of x.1.now)) result
         (factor_first depth (tokens_of line.now)) }
 {
@@ -132,7 +132,7 @@ fn factor(alloc: Global, depth: u8, line: &[u8]) -> Option<(Option<Cond>, &[u8])
 
 /// A factor, with one more `not` or `(` around it than a number.
 #[cycle(conditions)]
-fn factor_above(alloc: Global, depth: u8, line: &[u8]) -> Option<(Option<Cond>, &[u8])>
+fn factor_above(alloc: Global, depth: u8, line: &[u8]) -> Option<(Built, &[u8])>
     ensures { Builds (λ x. (x.0, tokens_of x.1.now)) result
         (factor_by (factor_first depth) (condition_by (factor_first depth)) (tokens_of line.now)) }
 {
@@ -143,7 +143,7 @@ fn factor_above(alloc: Global, depth: u8, line: &[u8]) -> Option<(Option<Cond>, 
                 return negation(alloc, depth, rest);
             }
             let (atom, rest) = atom_named(name, rest)?;
-            Some((Some(atom), rest))
+            Some((Ok(atom), rest))
         }
         Token::Sign(text) => {
             if is_text(text, b"(") {
@@ -157,7 +157,7 @@ fn factor_above(alloc: Global, depth: u8, line: &[u8]) -> Option<(Option<Cond>, 
 
 /// The negation of the factor that stands first.
 #[cycle(conditions)]
-fn negation(alloc: Global, depth: u8, line: &[u8]) -> Option<(Option<Cond>, &[u8])>
+fn negation(alloc: Global, depth: u8, line: &[u8]) -> Option<(Built, &[u8])>
     ensures { Builds (λ x. (x.0, tokens_of x.1.now)) result
         (negated (factor_first depth (tokens_of line.now))) }
 {
@@ -167,7 +167,7 @@ fn negation(alloc: Global, depth: u8, line: &[u8]) -> Option<(Option<Cond>, &[u8
 
 /// A condition before a closing parenthesis.
 #[cycle(conditions)]
-fn in_parentheses(alloc: Global, depth: u8, line: &[u8]) -> Option<(Option<Cond>, &[u8])>
+fn in_parentheses(alloc: Global, depth: u8, line: &[u8]) -> Option<(Built, &[u8])>
     ensures { Builds (λ x. (x.0, tokens_of x.1.now)) result
         (closed_after (condition_by (factor_first depth) (tokens_of line.now))) }
 {
@@ -206,10 +206,7 @@ fn bounded_condition(alloc: Global, line: &[u8]) -> Result<Cond, LineFault>
     if !is_over(rest) {
         return Err(LineFault::Bad);
     }
-    match cond {
-        Some(cond) => Ok(cond),
-        None => Err(LineFault::NoMemory),
-    }
+    cond.map_err(|_| LineFault::NoMemory)
 }
 
 /// How many atoms, `not` and `(` begin in a line.

@@ -1,6 +1,6 @@
 //! What figures say: numbers of one or two digits, amounts, dates and minutes.
 ghost use Rattle.std.specs.Prelude.{◌≡◌, ◌≤◌, IfSome};
-ghost use Rattle.taxi_units.specs.Reading.{Gives};
+ghost use Rattle.taxi_units.specs.Reading.{Gives, GivesSame};
 ghost use Rattle.tariff_syntax.specs.Figure as spec;
 ghost use Rattle.tariff_syntax.specs.TokenReading.{tokens_of};
 
@@ -62,7 +62,7 @@ pub fn year_date_first(line: &[u8]) -> Option<((u16, u8, u8), &[u8])>
 /// A number of one or two digits from `least` to `most`.
 #[tactic(auto, unfolding(crate::specs::Figure::small_number))]
 fn small_number(text: &[u8], least: u8, most: u8) -> Option<u8>
-    ensures value { Gives (λ n. n) result (spec.small_number least most text.now) }
+    ensures value { GivesSame result (spec.small_number least most text.now) }
     ensures within { IfSome result (λ n. n ≤ most) }
 {
     let (number, rest) = number_at(text)?;
@@ -76,7 +76,7 @@ fn small_number(text: &[u8], least: u8, most: u8) -> Option<u8>
 #[tactic(auto, unfolding(crate::specs::Figure::amount_read))]
 fn amount(text: &[u8], decimals: u8) -> Option<u64>
     requires { decimals ≤ 3 }
-    ensures { Gives (λ n. n) result (spec.amount_read decimals text.now) }
+    ensures { GivesSame result (spec.amount_read decimals text.now) }
 {
     match read_decimal(text, decimals) {
         Ok(amount) => Some(amount),
@@ -87,7 +87,7 @@ fn amount(text: &[u8], decimals: u8) -> Option<u64>
 /// A minute of the day, from its hours and minutes.
 #[tactic(auto, unfolding(crate::specs::Figure::minute_read))]
 fn minute(text: &[u8]) -> Option<u16>
-    ensures { Gives (λ n. n) result (spec.minute_read text.now) }
+    ensures { GivesSame result (spec.minute_read text.now) }
 {
     let (hours, minutes) = pair(text, b":")?;
     if hours <= 23 && minutes <= 59 {
@@ -99,7 +99,7 @@ fn minute(text: &[u8]) -> Option<u16>
 /// A year of four digits, a month and a date of two.
 #[tactic(auto, unfolding(crate::specs::Figure::year_date_read))]
 fn year_date(text: &[u8]) -> Option<(u16, u8, u8)>
-    ensures { Gives (λ x. x) result (spec.year_date_read text.now) }
+    ensures { GivesSame result (spec.year_date_read text.now) }
 {
     let (year, rest) = number_of_width(text, 4)?;
     let rest = word(rest, b"-")?;
@@ -110,7 +110,7 @@ fn year_date(text: &[u8]) -> Option<(u16, u8, u8)>
 /// Two numbers of two digits, with a byte between them.
 #[tactic(auto, unfolding(crate::specs::Figure::pair_read))]
 fn pair(text: &[u8], between: &[u8]) -> Option<(u8, u8)>
-    ensures { Gives (λ x. x) result (spec.pair_read between.now text.now) }
+    ensures { GivesSame result (spec.pair_read between.now text.now) }
 {
     let (first, rest) = number_of_width(text, 2)?;
     let rest = word(rest, between)?;

@@ -1,6 +1,6 @@
 //! Reads what a line says.
 ghost use Rattle.std.specs.Prelude.{◌≡◌, ◌≤◌, IfSome};
-ghost use Rattle.taxi_units.specs.Reading.{Gives};
+ghost use Rattle.taxi_units.specs.Reading.{Gives, GivesSame};
 ghost use Rattle.tariff_syntax.specs.Built.{EntryHasParts};
 ghost use Rattle.tariff_syntax.specs.Faults.{GivesOrFails};
 ghost use Rattle.tariff_syntax.specs.Items as spec;
@@ -87,7 +87,7 @@ fn step(decimals: u8, line: &[u8]) -> Option<Item>
 /// The rounding at the end of a line, which may leave it out.
 #[tactic(auto, unfolding(crate::specs::Items::rounding_end))]
 fn rounding_end(line: &[u8]) -> Option<Rounding>
-    ensures { Gives (λ x. x) result (spec.rounding_end (tokens_of line.now)) }
+    ensures { GivesSame result (spec.rounding_end (tokens_of line.now)) }
 {
     if is_over(line) {
         return Some(Rounding::Behind);
@@ -102,7 +102,7 @@ fn rounding_end(line: &[u8]) -> Option<Rounding>
 
 /// The rounding that a word names.
 fn rounding(name: &[u8]) -> Option<Rounding>
-    ensures { Gives (λ x. x) result (spec.rounding_read name.now) }
+    ensures { GivesSame result (spec.rounding_read name.now) }
 {
     if is_text(name, b"behind") {
         return Some(Rounding::Behind);
@@ -132,7 +132,7 @@ fn zones(line: &[u8]) -> Option<Item>
 /// A number from 1 to 9 at the end of a line.
 #[tactic(auto, unfolding(crate::specs::Items::count_read))]
 fn count(line: &[u8]) -> Option<u8>
-    ensures { Gives (λ n. n) result (count_read (tokens_of line.now)) }
+    ensures { GivesSame result (count_read (tokens_of line.now)) }
 {
     let (number, rest) = number_first(line, 1, 9)?;
     if !is_over(rest) {
@@ -253,7 +253,7 @@ fn minimum(alloc: Global, decimals: u8, line: &[u8]) -> Result<Item, LineFault>
 /// The decimals of a line of decimals.
 #[tactic(auto, unfolding(crate::specs::Items::decimals_read))]
 pub fn decimals(line: &[u8]) -> Option<u8>
-    ensures value { Gives (λ n. n) result (spec.decimals_read (tokens_of line.now)) }
+    ensures value { GivesSame result (spec.decimals_read (tokens_of line.now)) }
     ensures small { IfSome result (λ n. n ≤ 3) }
 {
     let rest = after_word(line, b"decimals")?;

@@ -1,4 +1,6 @@
 //! Reads a whole tariff.
+#![tactic(auto, unfolding(crate::specs::Parsed::entries_read))]
+
 ghost use Rattle.std.specs.Prelude.{◌≡◌, ◌+◌, ◌<◌, ◌≤◌, ◌^◌, ◌∷◌, [], ℕ, List, Result, length, map, MatchOption, IfOk};
 ghost use Rattle.std.specs.Prelude.{OnOk, OnErr, Err, Some, drop, if◌then◌else◌};
 ghost use Rattle.tariff_syntax.specs.Parsed.{before, line_read, entries_read, heading_read};
@@ -73,10 +75,8 @@ fn parse_text(alloc: Global, text: &[u8]) -> Result<Tariff, ParseFault>
         return Err(ParseFault::TooLong);
     }
     let (decimals, number, rest) = heading(text);
-    match lines(alloc, decimals, number, rest) {
-        Ok(lines) => Ok(Tariff { decimals, lines }),
-        Err(fault) => Err(fault),
-    }
+    let lines = lines(alloc, decimals, number, rest)?;
+    Ok(Tariff { decimals, lines })
 }
 
 /// The decimals of a text, the number of the line from which its other lines are read, and the text
@@ -105,7 +105,6 @@ fn heading(text: &[u8]) -> (u8, u32, &[u8])
 
 /// The lines of a tariff, from the lines of a text, which are numbered on from a number. Where memory runs out,
 /// the lines below are still looked at: a bad one is named, whatever memory there is.
-#[tactic(auto, unfolding(crate::specs::Parsed::entries_read))]
 fn lines(alloc: Global, decimals: u8, first: u32, text: &[u8]) -> Result<Lines, ParseFault>
     requires decimals { decimals ≤ 3 }
     requires room { first + length text.now < 2 ^ 32 }
@@ -146,12 +145,10 @@ fn put_line(
     if is_over(line) {
         return Ok(());
     }
-    match item(alloc, decimals, line) {
-        Ok(item) => match lines.push(TariffLine { line: number, item }) {
-            Ok(()) => Ok(()),
-            Err(_) => Err(LineFault::NoMemory),
-        },
-        Err(fault) => Err(fault),
+    let item = item(alloc, decimals, line)?;
+    match lines.push(TariffLine { line: number, item }) {
+        Ok(()) => Ok(()),
+        Err(_) => Err(LineFault::NoMemory),
     }
 }
 
@@ -168,7 +165,6 @@ fn fault_below(alloc: Global, decimals: u8, first: u32, text: &[u8]) -> ParseFau
 }
 
 /// The number of the first bad line, of lines which are numbered on from a number.
-#[tactic(auto, unfolding(crate::specs::Parsed::entries_read))]
 fn first_bad(alloc: Global, decimals: u8, first: u32, text: &[u8]) -> Option<u32>
     requires decimals { decimals ≤ 3 }
     requires room { first + length text.now < 2 ^ 32 }
@@ -195,11 +191,7 @@ fn is_bad(alloc: Global, decimals: u8, line: &[u8]) -> bool
     if is_over(line) {
         return false;
     }
-    match item(alloc, decimals, line) {
-        Ok(_) => false,
-        Err(LineFault::Bad) => true,
-        Err(LineFault::NoMemory) => false,
-    }
+    matches!(item(alloc, decimals, line), Err(LineFault::Bad))
 }
 
 /// The first line of a text, without its line feed, and what stands after it. `None` at the end.

@@ -1,4 +1,5 @@
 use Rattle.std.proofs.Common.{◌≡◌, List, map, refl, subst}
+use Rattle.std.proofs.lemmas.Result.{err_from_is_err_and}
 use Rattle.tariff_check.proofs.Staging.{sound_if_none}
 use Rattle.tariff_check.specs.Faults.{HasNone, faults_before_cuts}
 use Rattle.tariff_check.specs.declared.fault.CheckFault.TheVariants.{NoMemory}
@@ -8,14 +9,15 @@ use Rattle.tariff_check.proofs.checking.check.Goals as goal
 
 pub invariant_of-result : goal.invariant_of-result
 invariant_of-result c =
-    let h = rw c.as_slice.ensures at c.in-Ok.ensures.numbers in
+    let h = rw c.as_slice.ensures at c.in_ok-numbers.ensures.numbers in
     (c.requires, h)
 
-pub returns-in-Ok-clause-sound : goal.returns-in-Ok-clause-sound
-returns-in-Ok-clause-sound c =
-    let h = rw c.as_slice.ensures at c.in-Ok.ensures.numbers in
+pub returns-clause-sound : goal.returns-clause-sound
+returns-clause-sound c =
+    let h = rw c.as_slice.ensures at c.in_ok-numbers.ensures.numbers in
     (refl, sound_if_none (tree_of c.args.tariff) h.sound)
 
-pub returns-in-Err-clause-memory : goal.returns-in-Err-clause-memory
-returns-in-Err-clause-memory c =
-    subst (λ (lines : List TariffLine). c.in-Err.fault ≡ NoMemory → HasNone (faults_before_cuts (map line_of lines))) c.as_slice.ensures c.in-Err.ensures.memory
+pub returns-in_err-numbers-clause-memory : goal.returns-in_err-numbers-clause-memory
+returns-in_err-numbers-clause-memory c =
+    let p = err_from_is_err_and c.from_residual.result c.from_residual.ensures.1 in
+    rw (p.1, p.2) (subst (λ (lines : List TariffLine). c.in_err-numbers.field-0.0 ≡ NoMemory → HasNone (faults_before_cuts (map line_of lines))) c.as_slice.ensures c.in_err-numbers.ensures.memory)
