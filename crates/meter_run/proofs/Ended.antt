@@ -1,5 +1,5 @@
 -- How a run ends, by what its drive came to.
-use Rattle.std.proofs.Common.{◌≡◌, ℕ, ◌≤◌, List, ◌++◌, length, Err, Result, sym, ap, subst}
+use Rattle.std.proofs.Common.{◌≡◌, ◌∙◌, Bool, true, false, ℕ, ◌≤◌, List, ◌++◌, length, Err, Result, sym, ap, subst}
 use Rattle.std.proofs.lemmas.List.{take_all}
 use Rattle.outside.specs.Printing.{Begins}
 use Rattle.taxi_units.specs.declared.event.Event.{Event}
@@ -51,3 +51,7 @@ module _ (told : Type 0) (tables : TableParts) (seal : Seal) (drive left before 
   -- the board failed
   pub breaks : (taken : List ℕ) → length taken ≤ drive_limit → IsSplit drive taken left → ShownSome (events_in taken) → RunsDrive told tables seal drive left before now {T = Unit {0}} (Err faults.BoardFault)
   breaks taken few split shown = record { taken = taken; split = split; stands = tt; printed = subst ShownSome (sym (events_taken taken few)) shown }
+
+-- what a test tells where it holds doesn't hold where the test fails
+pub not_told : (test : Bool) (P : Type 0) → (P → test ≡ true) → test ≡ false → P → ⊥
+not_told test P tells fails p = absurd (let bad : false ≡ true = sym fails ∙ tells p in cc)

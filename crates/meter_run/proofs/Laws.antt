@@ -20,6 +20,7 @@ use Rattle.meter_states.proofs.Laws.{receipts_follow_their_entries-run}
 use Rattle.drive_text.specs.Ending.{events_of}
 use Rattle.meter_run.specs.Deeds.{Deed, Does, Prints, changes_of}
 use Rattle.meter_run.specs.OnStore.{HasBeside, WritesTotals}
+pub use Rattle.meter_run.specs.PointLaws.{left_has, settled_has, texts_joined}
 use Rattle.meter_run.specs.Points.{HasEntries, HasEntryOf, IsCut}
 use Rattle.meter_run.specs.Runs.{HasDone, HasStopped, OpensWith, run_deeds}
 use Rattle.meter_run.proofs.Cuts.{acts_have_entries, line_has_entries}

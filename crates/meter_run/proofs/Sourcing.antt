@@ -2,7 +2,7 @@
 use Rattle.std.proofs.Common.{◌≡◌, ◌≢◌, ℕ, ◌+◌, ◌-◌, ◌^◌, ◌≤◌, ◌<◌, List, [], ◌++◌, length, take, drop, Some, None, false, refl, sym, ap, subst, ◌∙◌, append_assoc, arith, length-append, length-take, length-drop}
 use Rattle.std.proofs.lemmas.List.{append-nil, take-append-drop, drop-take, drop-drop, drop_all}
 use Rattle.drive_text.specs.Drive.{bad_at_end, events_in, runs_after, runs_in}
-use Rattle.drive_text.specs.Ending.{drive_limit, IsGoing, IsSplit, ReachesEnd, BadAt}
+use Rattle.drive_text.specs.Ending.{drive_limit, ReachesEnd, BadAt}
 use Rattle.drive_text.specs.Ending as ends
 use Rattle.drive_text.specs.Reading.{BreaksIn, HasTaken, Reading, TakesTo}
 use Rattle.drive_text.specs.declared.run.Run.{Run}
@@ -120,22 +120,6 @@ stops_end told old rest rest' given (BadLine line) none some over over' whole ba
     (λ t. at_end told given rest rest' over over' t (BadAt line) (unfinished_drive_ends given line (omega (arith, h.count, some)) (bad line refl given h.read)))
 stops_end told old rest rest' given TooLong none some over over' whole bad long fault h = absurd (long refl)
 stops_end told old rest rest' given ReadFault none some over over' whole bad long fault h = absurd (fault refl)
-
--- ---- the next piece is ahead
-
-pub fills_piece : (told : Type 0) (old new : Progress) (rest rest' : List ℕ) → old.ahead ≡ [] → 0 < length new.ahead → new.reading ≡ old.reading → length new.ahead + new.left ≡ old.left → (told → rest ≡ new.ahead ++ rest') → Fills told old new rest rest'
-fills_piece told old new rest rest' none some same count passes = record {
-  some = some;
-  stands = λ given h. record {
-    read = subst (λ (r : Reading). HasTaken r given) (sym same) h.read;
-    going = ap (λ (r : Reading). r.failed) same ∙ h.going;
-    count = omega (arith, h.count, count, ap length none);
-  };
-  passes = λ t. ap (λ (xs : List ℕ). xs ++ rest) none ∙ passes t;
-}
-
-pub fills_still : (told : Type 0) (old new : Progress) (rest : List ℕ) → 0 < length old.ahead → new ≡ old → Fills told old new rest rest
-fills_still told old new rest some same = subst (λ (x : Progress). Fills told old x rest rest) (sym same) (record { some = some; stands = λ given h. h; passes = λ t. refl })
 
 -- ---- one after the other
 

@@ -8,7 +8,8 @@ use Rattle.totaliser_store.specs.declared.durable.Durable.{Durable}
 use Rattle.meter_states.specs.declared.act.Act.{Act}
 use Rattle.meter_states.specs.declared.act.Act.TheVariants.{Show, Refuse, Enter, Hold, Receipt}
 
--- an act leaves this durable state: an entry and a held trip are committed, and other acts change nothing
+-- the durable state after an act is the one after its commit, where it is an entry or a held trip, and is unchanged
+-- after any other act
 abbrev pub after_act : Durable → Act → Durable
 after_act durable (Show display) = durable
 after_act durable (Refuse why) = durable
@@ -16,12 +17,12 @@ after_act durable (Enter entry) = after durable (changes.Enter entry)
 after_act durable (Hold trip) = after durable (changes.Hold trip)
 after_act durable (Receipt receipt) = durable
 
--- acts leave this durable state, one after the other
+-- the durable state after acts is the one after each of them in its turn
 abbrev pub after_acts : Durable → List Act → Durable
 after_acts durable [] = durable
 after_acts durable (act ∷ acts) = after_acts (after_act durable act) acts
 
--- acts have this many commits among them
+-- the number of commits among acts is that of their entries and held trips
 abbrev pub commits_in : List Act → ℕ
 commits_in [] = zero
 commits_in (Show display ∷ acts) = commits_in acts
@@ -38,7 +39,7 @@ IsFor durable (Enter entry) = IsDurable (after durable (changes.Enter entry))
 IsFor durable (Hold trip) = IsDurable (after durable (changes.Hold trip))
 IsFor durable (Receipt receipt) = Unit {0}
 
--- acts may be carried out at a durable state where each may be at the state that those before it leave
+-- acts may be carried out at a durable state where each may be at the state that the acts before it leave
 abbrev pub AreFor : Durable → List Act → Type 0
 AreFor durable [] = Unit {0}
 AreFor durable (act ∷ acts) = IsFor durable act × AreFor (after_act durable act) acts

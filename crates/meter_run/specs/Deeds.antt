@@ -16,7 +16,8 @@ pub data Deed : Type 0 where
   Does : Act → Deed
   Prints : (line : List ℕ) → Deed
 
--- an act prints this text under a seal: that of its display, its refusal or its receipt, and none for a commit
+-- the text that an act prints under a seal is that of its display, its refusal or its receipt, and is empty for a
+-- commit
 abbrev pub act_text : Seal → Act → List ℕ
 act_text seal (Show display) = display_text display
 act_text seal (Refuse why) = refusal_text why
@@ -24,37 +25,37 @@ act_text seal (Enter entry) = []
 act_text seal (Hold trip) = []
 act_text seal (Receipt receipt) = receipt_text receipt (part_of seal)
 
--- a deed prints this text under a seal
+-- the text that a deed prints under a seal is that of its act, or its line
 abbrev pub text_in : Seal → Deed → List ℕ
 text_in seal (Does act) = act_text seal act
 text_in seal (Prints line) = line
 
--- deeds print these texts under a seal, one behind the other
+-- the texts of deeds under a seal are the text of each deed, one behind the other
 abbrev pub texts : Seal → List Deed → List ℕ
 texts seal [] = []
 texts seal (deed ∷ deeds) = text_in seal deed ++ texts seal deeds
 
--- a deed leaves this durable state: that after its act, and a print leaves it as it is
+-- the durable state after a deed is the one after its act, and a print of a line leaves it as it is
 abbrev pub after_deed : Durable → Deed → Durable
 after_deed durable (Does act) = after_act durable act
 after_deed durable (Prints line) = durable
 
--- deeds leave this durable state, one after the other
+-- the durable state after deeds is the one after each of them in its turn
 abbrev pub after_deeds : Durable → List Deed → Durable
 after_deeds durable [] = durable
 after_deeds durable (deed ∷ deeds) = after_deeds (after_deed durable deed) deeds
 
--- a deed commits these changes: those of its act
+-- the changes that a deed commits are those of its act, and none where it prints a line
 abbrev pub changes_in : Deed → List Change
 changes_in (Does act) = commits_of (act ∷ [])
 changes_in (Prints line) = []
 
--- deeds commit these changes, in their order
+-- the changes that deeds commit are those of each deed, in their order
 abbrev pub changes_of : List Deed → List Change
 changes_of [] = []
 changes_of (deed ∷ deeds) = changes_in deed ++ changes_of deeds
 
--- acts are these deeds, one for each
+-- the deeds of acts are one for each act, in their order
 abbrev pub deeds_of : List Act → List Deed
 deeds_of [] = []
 deeds_of (act ∷ acts) = Does act ∷ deeds_of acts

@@ -14,7 +14,7 @@ use Rattle.meter_run.specs.declared.fault.RunFault.TheVariants.{ReadFault, Board
 use Rattle.meter_run.specs.declared.source.Stop.{Stop}
 use Rattle.meter_run.specs.declared.source.Stop.TheVariants as stops
 
--- steps are bounded where they went from `before` to `now` by at most 64 for each event
+-- the steps of events are bounded where the count of steps rose from `before` to `now` by at most 64 for each event
 abbrev pub IsBounded : (before now : ℕ) → List Event → Type 0
 IsBounded before now events = now ≤ before + 64 * length events
 
@@ -42,13 +42,15 @@ pub record BreaksDrive (told : Type 0) (drive left : List ℕ) (broken : List Ev
 
 -- ---- what a dry run of a drive prints
 
--- steps are bounded by a drive where they are at most `opening`, and 64 for each event of the bytes that were taken
+-- the steps of a call are bounded by a drive where the count of steps rose from `before` to `now` by at most `opening`,
+-- and 64 for each event of the bytes that were taken
 pub record IsBoundedBy (opening : ℕ) (drive left : List ℕ) (before now : ℕ) : Type 0 where
   pub taken : List ℕ
   pub split : IsSplit drive taken left
   pub bound : now ≤ before + opening + 64 * length (events_in taken)
 
--- a call stopped after some bytes of the drive had been taken, in a state and with a text that those bytes tell
+-- a call stopped after some bytes of the drive had been taken, in a state and with a printed text that `state` and
+-- `shown` ask of the bytes taken
 pub record StopsAfter (drive left : List ℕ) (state shown : List ℕ → Type 0) : Type 0 where
   pub taken : List ℕ
   pub split : IsSplit drive taken left
@@ -56,11 +58,11 @@ pub record StopsAfter (drive left : List ℕ) (state shown : List ℕ → Type 0
   pub printed : shown taken
 
 module _ (told : Type 0) (tables : TableParts) (seal : Seal) (drive left before now : List ℕ) where
-  -- what the bytes that were taken show was printed, where the text is told
+  -- a text is printed where it is what the bytes that were taken show, where the text is told
   abbrev pub Printed : (taken : List ℕ) → Type 0
   Printed taken = told → (s : Setting) → IsSettingOf s tables seal → now ≡ before ++ drive_shown s taken
 
-  -- a beginning of what the bytes that were taken show was printed, where the text is told
+  -- a text is printed in part where it is a beginning of what the bytes that were taken show, where the text is told
   abbrev pub PrintedSome : (taken : List ℕ) → Type 0
   PrintedSome taken = told → (s : Setting) → IsSettingOf s tables seal → Begins before now (drive_shown s taken)
 
@@ -72,7 +74,7 @@ module _ (told : Type 0) (tables : TableParts) (seal : Seal) (drive left before 
     pub printed : Printed drive
 
   -- a dry run ends as its answer says: at the drive's end; or after a read that failed, where what the bytes taken show
-  -- was printed; or after a fault of the board, where a beginning of it was
+  -- was printed; or after a fault of the board, where a beginning of it was printed
   abbrev pub RunsDrive : {T : Type 0} → Result T RunFault → Type 0
   RunsDrive (Ok done) = RunsTo Whole
   RunsDrive (Err (BadDrive line)) = RunsTo (BadAt line)
@@ -80,7 +82,7 @@ module _ (told : Type 0) (tables : TableParts) (seal : Seal) (drive left before 
   RunsDrive (Err ReadFault) = StopsAfter drive left IsGoing Printed
   RunsDrive (Err BoardFault) = StopsAfter drive left (λ taken. Unit {0}) PrintedSome
 
--- a run that stopped for a reason has this answer
+-- the answer of a run that stopped is none where the drive was whole, and else the fault for which it stopped
 abbrev pub answer_of : Stop → Result (Unit {0}) RunFault
 answer_of stops.Whole = Ok tt
 answer_of (stops.BadLine line) = Err (BadDrive line)

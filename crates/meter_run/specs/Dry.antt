@@ -20,7 +20,8 @@ use Rattle.meter_run.specs.Texts.{shown_texts}
 use Rattle.meter_run.specs.declared.dry.DryMeter.{DryMeter}
 
 -- a core and a durable state are under way where they stand for some state of the meter, under some setting of the
--- tables and the seal
+-- tables and the seal; the core is a whole one, which has its plain data, and beside them facts that were looked up in
+-- the tables and only save look-ups, as `Core::step` says by its clause `meets`
 pub record IsUnderWay (tables : TableParts) (seal : Seal) (core : Whole) (durable : Durable) : Type 0 where
   pub setting : Setting
   pub meter : Meter
@@ -36,12 +37,14 @@ pub record IsReady (tables : TableParts) (seal : Seal) (core : Whole) (durable :
   pub way : IsUnderWay tables seal core durable
 
 module _ {D L : Type 0} (B : Ghosts D L) (tables : TableParts) (seal : Seal) where
-  -- the displays and refusals of an outcome were printed, where the text is told
+  -- an outcome is printed where what stands printed is what stood there before, followed by the displays and refusals
+  -- of the outcome, where the text is told
   abbrev pub Prints : (outcome : Setting → Meter → Outcome) → DryMeter → (board board' : D) → Type 0
   Prints outcome old board board' = B.tells_text → (s : Setting) (m : Meter) → IsSettingOf s tables seal
       → StandsWith s old.core.plain old.durable m → B.printed board' ≡ B.printed board ++ shown_texts (outcome s m).acts
 
-  -- a beginning of the displays and refusals of an outcome was printed, where the text is told
+  -- an outcome is printed in part where what stands printed is what stood there before, followed by a beginning of the
+  -- displays and refusals of the outcome, where the text is told
   abbrev pub PrintsSome : (outcome : Setting → Meter → Outcome) → DryMeter → (board board' : D) → Type 0
   PrintsSome outcome old board board' = B.tells_text → (s : Setting) (m : Meter) → IsSettingOf s tables seal
       → StandsWith s old.core.plain old.durable m → Begins (B.printed board) (B.printed board')

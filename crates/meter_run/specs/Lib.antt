@@ -8,6 +8,7 @@ pub mod Kept
 pub mod OnStore
 pub mod PointLaws
 pub mod Points
+pub mod Printing
 pub mod RunLaws
 pub mod Runs
 pub mod Source

@@ -26,7 +26,7 @@ use Rattle.meter_run.specs.Points.{KeepsTo}
 use Rattle.meter_run.specs.declared.stored.Known.{Known}
 use Rattle.meter_run.specs.declared.stored.StoreMeter.{StoreMeter}
 
--- tables and a seal are secured where the seal is in its ranges and they are those of some setting
+-- tables and a seal are secured where the seal is in its ranges, and both are those of some setting
 pub record IsSecured (tables : TableParts) (seal : Seal) : Type 0 where
   pub range : IsSeal seal
   pub setting : Setting
@@ -35,12 +35,12 @@ pub record IsSecured (tables : TableParts) (seal : Seal) : Type 0 where
 -- ---- the bytes outside the pair of totals
 
 module _ {D L : Type 0} (B : Ghosts D L) where
-  -- an image has beside the pair of totals what a cut might have left there of this board
+  -- an image has beside the pair of totals what a cut might have left there of a board
   abbrev pub HasBeside : D → List ℕ → Type 0
   HasBeside board image = MayHold (B.image board) (OrWithin (B.in_flight board) 0 1024) image
 
   -- a board writes totals alone where the store beside the pair of totals is as it was but for what was in flight, and
-  -- a cut at each moment leaves it so
+  -- a cut at each moment leaves it as it was there too
   pub record WritesTotals (old new : D) : Type 0 where
     pub rest : SameBut (OrWithin (B.in_flight old) 0 1024) (B.image old) (B.image new)
     pub flight : (place : ℕ) → B.in_flight new place → OrWithin (B.in_flight old) 0 1024 place
@@ -70,12 +70,14 @@ module _ {D L : Type 0} (B : Ghosts D L) where
     pub fits : ForSome known.durable.hold (Fits tables)
 
   -- a meter knows of the store nothing where it is off, and else a state at which the next event may come, with which
-  -- the board agrees
+  -- the board agrees; the core of the meter is a whole one, which has its plain data, and beside them facts that were
+  -- looked up in the tables and only save look-ups, as `Core::step` says by its clause `meets`
   abbrev pub Knows : TableParts → Seal → Whole → Option Known → D → Type 0
   Knows tables seal core None board = core.plain.operating ≡ Off
   Knows tables seal core (Some known) board = IsReady tables seal core known.durable × Agrees tables known board
 
-  -- a meter is ready on a board for the next event, whatever the store has
+  -- a meter is ready on a board for the next event where its tables and its seal are secured, its core is lawful, and
+  -- it knows what it has to of the store
   pub record IsReadyOn (tables : TableParts) (seal : Seal) (x : StoreMeter) (board : D) : Type 0 where
     pub secured : IsSecured tables seal
     pub lawful : IsLawful tables seal x.core
@@ -84,7 +86,7 @@ module _ {D L : Type 0} (B : Ghosts D L) where
 -- ---- what events leave
 
 module _ {D L : Type 0} (B : Ghosts D L) (tables : TableParts) (seal : Seal) where
-  -- something holds for each state that a meter and a board stand for, where the image is told
+  -- a property holds for each state of the meter where a meter and a board stand for that state, and the image is told
   abbrev pub ForEach : StoreMeter → D → (Setting → Meter → Type 0) → Type 0
   ForEach x board Holding =
       B.tells_image → (s : Setting) (m : Meter) → IsSettingOf s tables seal → StandsOn B tables s x board m

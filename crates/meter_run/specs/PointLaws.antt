@@ -22,16 +22,19 @@ use Rattle.meter_run.specs.Points.{AtPoint, KeepsTo}
 
 -- ---- lists of deeds
 
+-- the texts of two lists of deeds that are joined are those of the first, and then those of the second
 pub texts_joined : (seal : Seal) (xs ys : List Deed) → texts seal (xs ++ ys) ≡ texts seal xs ++ texts seal ys
 texts_joined seal [] ys = refl
 texts_joined seal (x ∷ xs) ys =
     ap (λ (t : List ℕ). text_in seal x ++ t) (texts_joined seal xs ys)
     ∙ sym (append_assoc (text_in seal x) (texts seal xs) (texts seal ys))
 
+-- the state after two lists of deeds that are joined is the one after the second, from the state after the first
 pub after_joined : (d : Durable) (xs ys : List Deed) → after_deeds d (xs ++ ys) ≡ after_deeds (after_deeds d xs) ys
 after_joined d [] ys = refl
 after_joined d (x ∷ xs) ys = after_joined (after_deed d x) xs ys
 
+-- the deeds of two lists of acts that are joined are those of the first, and then those of the second
 pub deeds_joined : (xs ys : List Act) → deeds_of (xs ++ ys) ≡ deeds_of xs ++ deeds_of ys
 deeds_joined [] ys = refl
 deeds_joined (x ∷ xs) ys = ap (λ (deeds : List Deed). Does x ∷ deeds) (deeds_joined xs ys)
@@ -39,6 +42,7 @@ deeds_joined (x ∷ xs) ys = ap (λ (deeds : List Deed). Does x ∷ deeds) (deed
 -- ---- points
 
 module _ (tables : TableParts) (seal : Seal) (told : Type 0) where
+  -- an image and a text are at a point of a list of deeds, by the tables and the seal at hand
   abbrev At : Durable → List ℕ → List Deed → List ℕ → List ℕ → Type 0
   At d p deeds i x = AtPoint tables seal told d p deeds i x
 
@@ -62,7 +66,7 @@ module _ (tables : TableParts) (seal : Seal) (told : Type 0) where
   at_longer d p (deed ∷ xs) ys i x (inr later) =
       inr (at_longer (after_deed d deed) (p ++ text_in seal deed) xs ys i x later)
 
-  -- and so is a point of what stands behind
+  -- a point of the second of two lists is one of both, joined
   pub at_later : (d : Durable) (p : List ℕ) (xs ys : List Deed) (i x : List ℕ)
       → At (after_deeds d xs) (p ++ texts seal xs) ys i x → At d p (xs ++ ys) i x
   at_later d p [] ys i x h = at_same d (p ++ []) p ys i x (λ t. append-nil p) h
@@ -79,7 +83,7 @@ pub left_has : (place : Place) (d : Durable) (image : List ℕ) (flying : ℕ �
 left_has place d image flying left settled same =
     ready_left reads number_of (record { at = 0; latest = Some place }) (Some d) image flying left settled same
 
--- and so it stands in the image itself
+-- a settled pair stands for its state in the image itself
 pub settled_has : (place : Place) (d : Durable) (image : List ℕ) (flying : ℕ → Type 0)
     → IsSettled reads number_of 0 place image flying d → HasState image d
 settled_has place d image flying settled =
@@ -88,13 +92,15 @@ settled_has place d image flying settled =
 -- ---- calls that carry deeds out
 
 module _ {D L : Type 0} (B : Ghosts D L) (tables : TableParts) (seal : Seal) where
+  -- calls of the board keep to deeds, by the tables and the seal at hand
   abbrev Keeps : D → D → Durable → List Deed → Type 0
   Keeps old new d deeds = KeepsTo B tables seal old new d deeds
 
+  -- an image and a text are at a point of deeds that began at an old board
   abbrev Point : D → Durable → List Deed → List ℕ → List ℕ → Type 0
   Point old d deeds i x = AtPoint tables seal B.tells_text d (B.printed old) deeds i x
 
-  -- no call
+  -- a board that is not called keeps to no deeds
   pub keeps_still : (a : D) (place : Place) (d : Durable) → LeavesNow B a → KeepsState B place a d
       → ForSome d.hold (Fits tables) → Keeps a a d []
   keeps_still a place d now settled fits = record {
@@ -106,19 +112,21 @@ module _ {D L : Type 0} (B : Ghosts D L) (tables : TableParts) (seal : Seal) whe
     stops = (record { has = settled_has place d (B.image a) (B.in_flight a) settled; fits = fits }, λ t. refl);
   }
 
+  -- calls that keep to deeds keep to them with more deeds behind them
   pub keeps_longer : (a b : D) (d : Durable) (xs ys : List Deed) → Keeps a b d xs → Keeps a b d (xs ++ ys)
   keeps_longer a b d xs ys h = record {
     leaves = leaves_wider B (Point a d xs) (Point a d (xs ++ ys)) a b
-        (λ i x at. at_longer tables seal B.tells_text d (B.printed a) xs ys i x at) h.leaves;
+        (at_longer tables seal B.tells_text d (B.printed a) xs ys) h.leaves;
     stops = at_longer tables seal B.tells_text d (B.printed a) xs ys (B.image b) (B.printed b) h.stops;
   }
 
+  -- calls that keep to deeds, and calls behind them that keep to more, keep to both lists, joined
   pub keeps_next : (a b c : D) (d : Durable) (xs ys : List Deed)
       → (B.tells_text → B.printed b ≡ B.printed a ++ texts seal xs)
       → Keeps a b d xs → Keeps b c (after_deeds d xs) ys → Keeps a c d (xs ++ ys)
   keeps_next a b c d xs ys text h k = record {
     leaves = leaves_then B (Point a d (xs ++ ys)) a b c (keeps_longer a b d xs ys h).leaves
-        (leaves_wider B (Point b (after_deeds d xs) ys) (Point a d (xs ++ ys)) b c (λ i x at. shifted i x at) k.leaves);
+        (leaves_wider B (Point b (after_deeds d xs) ys) (Point a d (xs ++ ys)) b c shifted k.leaves);
     stops = shifted (B.image c) (B.printed c) k.stops;
   }
     where
@@ -127,6 +135,7 @@ module _ {D L : Type 0} (B : Ghosts D L) (tables : TableParts) (seal : Seal) whe
           (at_same tables seal B.tells_text (after_deeds d xs) (B.printed b) (B.printed a ++ texts seal xs) ys i x
           text at)
 
+  -- the texts of two lists of deeds that are printed one behind the other are the texts of both, joined
   pub text_next : (a b c : D) (xs ys : List Deed) → (B.tells_text → B.printed b ≡ B.printed a ++ texts seal xs)
       → (B.tells_text → B.printed c ≡ B.printed b ++ texts seal ys)
       → B.tells_text → B.printed c ≡ B.printed a ++ texts seal (xs ++ ys)

@@ -19,7 +19,8 @@ use Rattle.meter_states.specs.declared.act.Act.TheVariants.{Enter, Receipt}
 use Rattle.meter_run.specs.Deeds.{Deed, Does, changes_of, texts}
 pub use Rattle.meter_run.specs.DeedPoints.{Holds, IsAmid, AtPoint, KeepsTo}
 
--- a scan answers a durable state of an image where it finds it as the latest, at some place
+-- a scan answers a durable state of an image where it finds that state as the latest body, at some place; `reads` says
+-- which state the bytes of a slot are read as, as the law states_are_read_by_their_table of totaliser_store says
 abbrev pub ScanAnswers : (image : List ℕ) → Durable → Type 0
 ScanAnswers image durable = (place : Place) × (found_at reads number_of 0 image ≡ Ok (Latest place durable))
 
@@ -57,18 +58,20 @@ pub record IsCut (tables : TableParts) (seal : Seal) (told : Type 0) (durable : 
   pub left : List Deed
   pub split : deeds ≡ done ++ (next ++ left)
   pub one : length next ≤ 1
-  -- where the text is told, that of the deeds that had been done was printed, and a beginning of the next one's
+  -- the text that is printed is that of the deeds that had been done and a beginning of the next one's, where the text
+  -- is told
   pub begun : told → Begins (printed ++ texts seal done) text (texts seal next)
   -- the image has what was committed by the deeds that had been done, or by the next one too
   pub kept : List Deed
   pub kept_is : (kept ≡ done) ⊎ (kept ≡ done ++ next)
-  -- it stands for a state, which a scan of it answers and whose held trip fits; the number of that state less the
-  -- opening one is the number of those commits, and its totals are the opening ones plus the sums over their entries
+  -- the image stands for a state, which a scan of it answers and whose held trip fits; the number of that state less
+  -- the opening one is the number of commits that the image has, and its totals are the opening ones plus the sums over
+  -- the entries of those commits
   pub found : Durable
   pub stands : HasState image found
   pub scanned : ScanAnswers image found
   pub fits : ForSome found.hold (Fits tables)
   pub follows : Follows durable found (changes_of kept)
-  -- and of each receipt of which a byte may have been printed, the entry directly before it is among what the image has
+  -- of each receipt of which a byte may have been printed, the entry directly before it is among what the image has
   pub receipts : (earlier later : List Deed) (receipt : receipts.Receipt)
       → done ++ next ≡ earlier ++ Does (Receipt receipt) ∷ later → IsEntered kept earlier receipt

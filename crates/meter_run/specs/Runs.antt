@@ -20,8 +20,8 @@ use Rattle.meter_run.specs.Points.{IsCut}
 use Rattle.meter_run.specs.declared.fault.RunFault.{RunFault}
 use Rattle.meter_run.specs.declared.fault.RunFault.TheVariants.{ReadFault, BoardFault, BadDrive, TooLong}
 
--- the deeds of a run over bytes of a drive, where the store opens with a durable state: the acts of the events, and the
--- acts of the supply drop at their end
+-- the deeds of a run over bytes of a drive, where the store opens with a durable state, are the acts of the events, and
+-- the acts of the supply drop at their end
 abbrev pub run_deeds : Setting → Durable → (drive : List ℕ) → List Deed
 run_deeds s durable drive = deeds_of (actions_of s durable (events_of drive))
 
@@ -33,8 +33,8 @@ module _ {D L : Type 0} (B : Ghosts D L) (tables : TableParts) where
     pub fits : ForSome durable.hold (Fits tables)
 
 module _ {D L : Type 0} (B : Ghosts D L) (tables : TableParts) (seal : Seal) (old new : D) where
-  -- something holds for each setting of the tables and the seal, and the state that the run opens with, where the board
-  -- tells its image
+  -- a property holds from the opening where it holds for each setting of the tables and the seal, and the state that
+  -- the run opens with, where the board tells its image
   abbrev pub FromOpening : (Setting → Durable → Type 0) → Type 0
   FromOpening Holding =
       B.tells_image → (s : Setting) (durable : Durable) → IsSettingOf s tables seal → OpensWith B tables old durable
@@ -54,7 +54,7 @@ module _ {D L : Type 0} (B : Ghosts D L) (tables : TableParts) (seal : Seal) (ol
     pub follows : Follows durable (after_deeds durable deeds) (changes_of deeds)
     pub cuts : CutsLeave durable deeds
 
-  -- a board has stopped amid deeds where what it has is a point of them, and so is what a cut leaves
+  -- a board has stopped amid deeds where what it has is a point of them, and a cut leaves a point of them too
   pub record HasStopped (durable : Durable) (deeds : List Deed) : Type 0 where
     pub stops : IsCut tables seal B.tells_text durable (B.printed old) deeds (B.image new) (B.printed new)
     pub cuts : CutsLeave durable deeds

@@ -21,7 +21,7 @@ pub record HasGiven (progress : Progress) (given : List ℕ) : Type 0 where
   pub going : progress.reading.failed ≡ false
   pub count : length given + (length progress.ahead + progress.left) ≡ drive_limit
 
--- a source gives runs where they are those of further bytes, of one at least, which come from the front of what was
+-- a source gives the runs of further bytes, of which there is at least one, and which come from the front of what was
 -- left, where that is told
 pub record GivesRuns (told : Type 0) (old new : Progress) (rest rest' given : List ℕ) (runs : List Run) : Type 0 where
   pub fed : List ℕ

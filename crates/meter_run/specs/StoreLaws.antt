@@ -23,12 +23,14 @@ use Rattle.meter_run.specs.RunLaws.{run_acts, run_durable, run_next}
 use Rattle.meter_run.specs.declared.stored.Known.{Known}
 use Rattle.meter_run.specs.declared.stored.StoreMeter.{StoreMeter}
 
+-- the deeds of a run over two lists of events that are joined are those over the first, and then those over the second
 run_deeds : (s : Setting) (m : Meter) (es fs : List Event)
     → deeds_of (run s (es ++ fs) m).acts ≡ deeds_of (run s es m).acts ++ deeds_of (run s fs (run s es m).next).acts
 run_deeds s m es fs =
     ap deeds_of (run_acts s m es fs) ∙ deeds_joined (run s es m).acts (run s fs (run s es m).next).acts
 
--- what was in flight at a board, and what is at a later one
+-- what changed beside the pair of totals up to one board, and then up to a later one, is what might change there from
+-- the first one on
 pub beside_more : (flown flying : ℕ → Type 0) (a b c : List ℕ)
     → ((place : ℕ) → flying place → OrWithin flown 0 1024 place)
     → SameBut (OrWithin flown 0 1024) a b → SameBut (OrWithin flying 0 1024) b c → SameBut (OrWithin flown 0 1024) a c
@@ -48,6 +50,7 @@ module _ {D L : Type 0} (B : Ghosts D L) where
 
   -- ---- outside the pair of totals
 
+  -- a board that is not called writes totals alone
   pub beside_none : (a : D) → LeavesNow B a → WritesTotals B a a
   beside_none a now = record {
     rest = record { size = refl; rest = λ place none. refl };
@@ -58,10 +61,11 @@ module _ {D L : Type 0} (B : Ghosts D L) where
     });
   }
 
+  -- calls that write totals alone, one behind the other, write totals alone together
   pub beside_then : (a b c : D) → WritesTotals B a b → WritesTotals B b c → WritesTotals B a c
   beside_then a b c h k = record {
     rest = beside_more (B.in_flight a) (B.in_flight b) (B.image a) (B.image b) (B.image c) h.flight h.rest k.rest;
-    flight = λ place flies. ⊎_elim (λ before. h.flight place before) (λ within. inr within) (k.flight place flies);
+    flight = λ place flies. ⊎_elim (h.flight place) inr (k.flight place flies);
     leaves = leaves_then B (λ i x. HasBeside B a i) a b c h.leaves
         (leaves_wider B (λ i x. HasBeside B b i) (λ i x. HasBeside B a i) b c (λ i x left. record {
           bytes = beside_more (B.in_flight a) (B.in_flight b) (B.image a) (B.image b) i h.flight h.rest left.bytes;
@@ -70,15 +74,19 @@ module _ {D L : Type 0} (B : Ghosts D L) where
   }
 
 module _ {D L : Type 0} (B : Ghosts D L) (tables : TableParts) (seal : Seal) where
+  -- a meter and a board carry out a list of events
   abbrev Out : List Event → StoreMeter → D → StoreMeter → D → Type 0
   Out events x a y b = CarriesOut B tables seal (λ s m. run s events m) x a y b
 
+  -- a board stops amid a list of events
   abbrev Amid : List Event → StoreMeter → D → D → Type 0
   Amid events x a b = StopsAmid B tables seal (λ s m. run s events m) x a b
 
+  -- calls of the board keep to deeds, by the tables and the seal at hand
   abbrev Keeps : D → D → Durable → List Deed → Type 0
   Keeps a b d deeds = KeepsTo B tables seal a b d deeds
 
+  -- a meter and a board that is not called carry out no events
   pub out_none : (x : StoreMeter) (a : D) → LeavesNow B a → Out [] x a x a
   out_none x a now = record {
     stands = λ told s m is h. h;
@@ -88,6 +96,7 @@ module _ {D L : Type 0} (B : Ghosts D L) (tables : TableParts) (seal : Seal) whe
     beside = λ told. beside_none B a now;
   }
 
+  -- events that are carried out, and events behind them that are, are carried out as one list
   pub out_then : (es fs : List Event) (x : StoreMeter) (a : D) (y : StoreMeter) (b : D) (z : StoreMeter) (c : D)
       → Out es x a y b → Out fs y b z c → Out (es ++ fs) x a z c
   out_then es fs x a y b z c first next = record {
@@ -105,6 +114,7 @@ module _ {D L : Type 0} (B : Ghosts D L) (tables : TableParts) (seal : Seal) whe
     beside = λ told. beside_then B a b c (first.beside told) (next.beside told);
   }
 
+  -- a board that stops amid the second of two lists of events, when the first was carried out, stops amid both, joined
   pub amid_later : (es fs : List Event) (x : StoreMeter) (a : D) (y : StoreMeter) (b c : D)
       → Out es x a y b → Amid fs y b c → Amid (es ++ fs) x a c
   amid_later es fs x a y b c first next = record {
@@ -116,6 +126,7 @@ module _ {D L : Type 0} (B : Ghosts D L) (tables : TableParts) (seal : Seal) whe
     beside = λ told. beside_then B a b c (first.beside told) (next.beside told);
   }
 
+  -- a board that stops amid the first of two lists of events stops amid both, joined
   pub amid_sooner : (es fs : List Event) (x : StoreMeter) (a c : D) → Amid es x a c → Amid (es ++ fs) x a c
   amid_sooner es fs x a c h = record {
     points = λ told s m is st. subst (λ (deeds : List Deed). Keeps a c m.durable deeds) (sym (run_deeds s m es fs))

@@ -8,7 +8,7 @@ use Rattle.receipt_text.specs.Texts.{display_text, refusal_text}
 use Rattle.drive_text.specs.Ending.{events_of}
 use Rattle.totaliser_store.specs.States.{first_state}
 
--- an act has this line where it is a display or a refusal, and none otherwise
+-- the line that is shown of an act is that of its display or its refusal, and is empty for any other act
 abbrev pub shown_text : Act → List ℕ
 shown_text (Show display) = display_text display
 shown_text (Refuse why) = refusal_text why
@@ -16,12 +16,12 @@ shown_text (Enter entry) = []
 shown_text (Hold trip) = []
 shown_text (Receipt receipt) = []
 
--- acts have these lines, one behind the other
+-- the lines that are shown of acts are those of each act, one behind the other
 abbrev pub shown_texts : List Act → List ℕ
 shown_texts [] = []
 shown_texts (act ∷ acts) = shown_text act ++ shown_texts acts
 
--- a drive shows these lines where it begins with number 1, totals of nothing and no held trip: the displays and
--- refusals of its events, and of the supply drop at its end
+-- a drive that begins with number 1, totals of nothing and no held trip shows the displays and refusals of its events,
+-- and of the supply drop at its end
 abbrev pub drive_shown : Setting → (drive : List ℕ) → List ℕ
 drive_shown s drive = shown_texts (actions_of s first_state (events_of drive))

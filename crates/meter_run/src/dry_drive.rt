@@ -31,7 +31,8 @@ use totaliser_store::Durable;
 /// tables that were compiled with the seal's constant. The durable state is a value, which begins with
 /// number 1, totals of zero and no held trip; entries and held trips change it, and an `Up` goes on from
 /// it. Displays and refusals are printed, and no receipts; the store is left as it is. At most
-/// 64 steps an event, the supply drop at the end counting as one. It takes no memory.
+/// 64 steps an event, the supply drop at the end counting as one. It takes no memory itself; the devices
+/// may.
 ///
 /// `BadDrive` with the first line that is no line of a drive; `TooLong` where 2^40 bytes were taken, none
 /// of their lines is bad, and the end wasn't told; `ReadFault` only where the count of faults of the word
@@ -90,8 +91,8 @@ fn drop_at_end<B: Board<L>, L: Ledger>(
     steps: &mut Steps<L>,
 ) -> Result<(), Failed>
     requires ready { IsReady tables.now seal.now meter.old.core meter.old.durable }
-    ensures whole { OnOk result (Prints B.Board tables.now seal.now (λ s m. ended s m) meter.old board.old board.new) }
-    ensures begun { PrintsSome B.Board tables.now seal.now (λ s m. ended s m) meter.old board.old board.new }
+    ensures whole { OnOk result (Prints B.Board tables.now seal.now ended meter.old board.old board.new) }
+    ensures begun { PrintsSome B.Board tables.now seal.now ended meter.old board.old board.new }
     ensures cause { HasCause (B.faults board.old) (B.faults board.new) result }
     ensures steps { steps.new ≤ steps.old + 64 }
     ensures store { KeepsStore B.Board board.old board.new }

@@ -25,7 +25,7 @@ use taxi_units::{Event, Steps};
 /// read, under tables that were compiled with the constant of a seal in its ranges. Displays, refusals and
 /// receipts are printed; entries and held trips are committed to the pair of totals; and an `Up` while the
 /// meter is off scans that pair, and goes on from what it finds. At most 64 steps an event, the supply drop
-/// at the end counting as one. It takes no memory.
+/// at the end counting as one. It takes no memory itself; the devices may.
 ///
 /// `BadDrive` with the first line that is no line of a drive; `TooLong` where 2^40 bytes were taken, none
 /// of their lines is bad, and the end wasn't told; `ReadFault` only where the count of faults of the word
@@ -84,9 +84,9 @@ fn end<B: Board<L>, L: Ledger>(
     steps: &mut Steps<L>,
 ) -> Result<(), Failed>
     requires ready { IsReadyOn B.Board tables.now seal.now meter.old board.old }
-    ensures carried { OnOk result (CarriesOut B.Board tables.now seal.now (λ s m. ended s m)
+    ensures carried { OnOk result (CarriesOut B.Board tables.now seal.now ended
         meter.old board.old meter.new board.new) }
-    ensures stopped { StopsAmid B.Board tables.now seal.now (λ s m. ended s m) meter.old board.old board.new }
+    ensures stopped { StopsAmid B.Board tables.now seal.now ended meter.old board.old board.new }
     ensures cause { HasCause (B.faults board.old) (B.faults board.new) result }
     ensures steps { steps.new ≤ steps.old + 64 }
 {

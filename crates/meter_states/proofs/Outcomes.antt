@@ -7,13 +7,13 @@ use Rattle.taxi_units.specs.declared.event.Operating.{Operating}
 use Rattle.taxi_units.specs.declared.event.Operating.TheVariants.{Off}
 use Rattle.totaliser_store.specs.declared.trip.Trip.{Trip}
 use Rattle.totaliser_store.specs.declared.trip.Trip as store
-use Rattle.meter_states.specs.Core.{Plain, Follows, Meets, plain_of, forgotten}
+use Rattle.meter_states.specs.Core.{Plain, Follows, Meets, plain_of}
 use Rattle.meter_states.specs.Display.{fare_shown}
 use Rattle.meter_states.specs.Lawful.{IsBetweenEvents, IsPowered, HasTrip}
 use Rattle.meter_states.specs.Meter.{Meter, Outcome, ◌>>=◌, quiet}
 use Rattle.meter_states.specs.Setting.{Setting}
 use Rattle.meter_states.specs.Step.{powered_step}
-use Rattle.meter_states.specs.Supply.{running, supply_dropped}
+use Rattle.meter_states.specs.Supply.{supply_dropped}
 use Rattle.meter_states.specs.Trip as model
 use Rattle.meter_states.specs.Trip.{saved_of}
 use Rattle.meter_states.specs.declared.act.Act.{Act}
@@ -53,14 +53,6 @@ quiet-follows s core acts m e = record { state = e; done = sym (append-nil acts)
 pub same-or : (L : Type 0) (a b n r : ℕ) → (L × (a ≡ b)) ⊎ (r ≡ 0) → b ≡ n → (a ≡ n) ⊎ (r ≡ 0)
 same-or L a b n r (inl x) e = inl (x.1 ∙ e)
 same-or L a b n r (inr y) e = inr y
-
--- a held trip that goes on
-pub back-stands : (s : Setting) (m : Meter) (core : Plain) (operating : Operating) (h : store.Trip) → core ≡ plain_of s (record m { trip = None }) → Some (forgotten h) ≡ option_map (saved_of s) m.trip → operating ≡ running h.stopped
-    → record core { operating = operating; position = h.position; zone = h.zone; trip = Some (forgotten h) } ≡ plain_of s (record m { operating = running h.stopped; position = h.position; zone = h.zone })
-back-stands s m core operating h e saved is =
-    let first = ap (λ (p : Plain). record p { operating = operating; position = h.position; zone = h.zone; trip = Some (forgotten h) }) e in
-    let base = plain_of s m in
-    first ∙ ap (λ (t : Option store.Trip). record base { operating = operating; position = h.position; zone = h.zone; trip = t }) saved ∙ ap (λ (o : Operating). record base { operating = o; position = h.position; zone = h.zone }) is
 
 -- a trip that the core has is that of the state
 pub trip-saved : (s : Setting) (trip : Option model.Trip) (x : store.Trip) → option_map (saved_of s) trip ≡ Some x → (t : model.Trip) × (trip ≡ Some t) × (x ≡ saved_of s t)

@@ -1,6 +1,7 @@
 -- What a powered core has in its operating position, and cores in wider ranges.
 use Rattle.std.proofs.Common.{◌≡◌, ◌≢◌, ◌⊎◌, ◌↔◌, ℕ, ◌+◌, ◌<◌, ◌≤◌, Bool, true, false, Option, Some, None, inl, inr, refl, ap, sym, subst, ◌∙◌, arith}
 use Rattle.tariff_compile.specs.Tables.{TableParts}
+use Rattle.taxi_units.specs.declared.event.Key.{Key}
 use Rattle.taxi_units.specs.declared.event.Operating.{Operating}
 use Rattle.taxi_units.specs.declared.event.Operating.TheVariants.{Off, ForHire, Hired, Stopped}
 use Rattle.totaliser_store.specs.Ranges.{last_number}
@@ -51,40 +52,36 @@ trip-longer p number (Some t) range = record {
   pulses = range.pulses;
 }
 
-pub powered-longer : {p : TableParts} {most spare : ℕ} {core : Plain} → IsPowered p 8639999 most spare core → IsPowered p 8640000 most spare core
-powered-longer {p} {most} {spare} {core} on = record {
+-- a core in its ranges is so with another latch, and in other ranges that have its roaming pulses and its trip
+within : {p : TableParts} {ticks most spare ticks' most' spare' : ℕ} {core : Plain} (latch : Option Key) → core.roam ≤ most' → IsTripInRange p (core.number + spare') ticks' core.trip
+    → IsPowered p ticks most spare core → IsPowered p ticks' most' spare' (record core { latch = latch })
+within latch roam trip on = record {
   on = on.on;
   position = on.position;
   zone = on.zone;
   clock = on.clock;
   began = on.began;
   gate = on.gate;
-  roam = on.roam;
+  roam = roam;
   none = on.none;
   ended = on.ended;
   number = on.number;
   held = on.held;
   begun = on.begun;
-  trip = trip-longer p _ core.trip on.trip;
+  trip = trip;
 }
+
+-- a core in its ranges is in others that have its roaming pulses and its trip
+pub powered-within : {p : TableParts} {ticks most spare ticks' most' spare' : ℕ} {core : Plain} → core.roam ≤ most' → IsTripInRange p (core.number + spare') ticks' core.trip
+    → IsPowered p ticks most spare core → IsPowered p ticks' most' spare' core
+powered-within {core = core} roam trip on = within core.latch roam trip on
+
+pub powered-longer : {p : TableParts} {most spare : ℕ} {core : Plain} → IsPowered p 8639999 most spare core → IsPowered p 8640000 most spare core
+powered-longer {p} {core = core} on = powered-within on.roam (trip-longer p _ core.trip on.trip) on
 
 -- a core with few roaming pulses may have more
 pub powered-wider : {p : TableParts} {ticks spare : ℕ} {core : Plain} → IsPowered p ticks 999999 spare core → IsPowered p ticks 1001999 spare core
-powered-wider on = record {
-  on = on.on;
-  position = on.position;
-  zone = on.zone;
-  clock = on.clock;
-  began = on.began;
-  gate = on.gate;
-  roam = omega (arith, on.roam);
-  none = on.none;
-  ended = on.ended;
-  number = on.number;
-  held = on.held;
-  begun = on.begun;
-  trip = on.trip;
-}
+powered-wider on = powered-within (omega (arith, on.roam)) on.trip on
 
 -- what is between two events is amid one
 pub between-amid : {p : TableParts} {core : Plain} → IsBetweenEvents p core → IsAmidEvent p core
@@ -92,21 +89,7 @@ between-amid on = powered-wider on
 
 -- a core whose key is taken
 pub powered-unlatched : {p : TableParts} {ticks most spare : ℕ} {core : Plain} → IsPowered p ticks most spare core → IsPowered p ticks most spare (record core { latch = None })
-powered-unlatched on = record {
-  on = on.on;
-  position = on.position;
-  zone = on.zone;
-  clock = on.clock;
-  began = on.began;
-  gate = on.gate;
-  roam = on.roam;
-  none = on.none;
-  ended = on.ended;
-  number = on.number;
-  held = on.held;
-  begun = on.begun;
-  trip = on.trip;
-}
+powered-unlatched on = within None on.roam on.trip on
 
 -- a trip may have the pulses of an unfinished interval
 pub trip-spare : (p : TableParts) (number most : ℕ) (trip : Option Trip) → IsTripInRange p (number + 0) most trip → IsTripInRange p (number + 1) most trip
@@ -114,21 +97,7 @@ trip-spare p number most None range = tt
 trip-spare p number most (Some t) range = record { range = range.range; pulses = omega (arith, range.pulses) }
 
 pub amid-closes : {p : TableParts} {core : Plain} → IsAmidEvent p core → IsPowered p 8640000 1001999 1 core
-amid-closes {p} {core} on = record {
-  on = on.on;
-  position = on.position;
-  zone = on.zone;
-  clock = on.clock;
-  began = on.began;
-  gate = on.gate;
-  roam = on.roam;
-  none = on.none;
-  ended = on.ended;
-  number = on.number;
-  held = on.held;
-  begun = on.begun;
-  trip = trip-spare p core.number 8640000 core.trip (trip-longer p (core.number + 0) core.trip on.trip);
-}
+amid-closes {p} {core} on = powered-within on.roam (trip-spare p core.number 8640000 core.trip (trip-longer p (core.number + 0) core.trip on.trip)) on
 
 -- a core for hire whose roaming pulses are entered
 pub powered-entered : {p : TableParts} {core : Plain} → core.operating ≡ ForHire → 0 < core.roam → IsPowered p 8639999 1001999 1 core → IsBetweenEvents p (record core { roam = 0; number = core.number + 1 })

@@ -1,4 +1,4 @@
--- What the check of the roaming pulses does in each case.
+-- What the check of the roaming pulses does where they are many.
 use Rattle.std.proofs.Common.{◌≡◌, ℕ, ◌+◌, ◌<◌, ◌≤◌, ◌⊎◌, List, sum, inl, inr, ap, subst, ◌∙◌, arith}
 use Rattle.std.proofs.lemmas.Grind.{common_steps}
 use Rattle.tariff_compile.specs.Tables.{TableParts}
@@ -7,23 +7,17 @@ use Rattle.taxi_units.specs.declared.event.Operating.TheVariants.{ForHire}
 use Rattle.meter_states.specs.Acts.{StayLawful}
 use Rattle.meter_states.specs.Closing.{roaming_checked, roaming_checked_in, roaming_entered}
 use Rattle.meter_states.specs.Core.{Plain}
-use Rattle.meter_states.specs.Lawful.{IsAmidEvent, IsBetweenEvents, IsPowered}
-use Rattle.meter_states.specs.Meter.{Meter, quiet}
+use Rattle.meter_states.specs.Lawful.{IsAmidEvent, IsPowered}
+use Rattle.meter_states.specs.Meter.{Meter}
 use Rattle.meter_states.specs.Setting.{Setting}
 use Rattle.meter_states.specs.declared.act.Act.{Act}
-use Rattle.meter_states.proofs.Powered.{trip-spare}
+use Rattle.meter_states.proofs.Powered.{powered-within, trip-spare}
 
 many-in : (s : Setting) (m : Meter) → 1000000 ≤ sum m.roaming → roaming_checked_in s ForHire m ≡ roaming_entered s m
 many-in s m many = grind (arith, common_steps)
 
-few-in : (s : Setting) (m : Meter) → sum m.roaming < 1000000 → roaming_checked_in s ForHire m ≡ quiet m
-few-in s m few = grind (arith, common_steps)
-
 pub checked-many : (s : Setting) (m : Meter) → m.operating ≡ ForHire → 1000000 ≤ sum m.roaming → roaming_checked s m ≡ roaming_entered s m
 checked-many s m hire many = ap (λ (o : Operating). roaming_checked_in s o m) hire ∙ many-in s m many
-
-pub checked-few : (s : Setting) (m : Meter) → m.operating ≡ ForHire → sum m.roaming < 1000000 → roaming_checked s m ≡ quiet m
-checked-few s m hire few = ap (λ (o : Operating). roaming_checked_in s o m) hire ∙ few-in s m few
 
 -- a core with many roaming pulses has some, and room for their entry
 pub many-some : (roam : ℕ) → 1000000 ≤ roam → 0 < roam
@@ -42,35 +36,4 @@ lawful-entered p n number roam before acts (inl x) many stay = subst (λ (k : �
 lawful-entered p n number roam before acts (inr x) many stay = absurd (omega arith)
 
 pub amid-enters : {p : TableParts} {core : Plain} → IsAmidEvent p core → IsPowered p 8639999 1001999 1 core
-amid-enters {p} {core} on = record {
-  on = on.on;
-  position = on.position;
-  zone = on.zone;
-  clock = on.clock;
-  began = on.began;
-  gate = on.gate;
-  roam = on.roam;
-  none = on.none;
-  ended = on.ended;
-  number = on.number;
-  held = on.held;
-  begun = on.begun;
-  trip = trip-spare p core.number 8639999 core.trip on.trip;
-}
-
-pub amid-few : {p : TableParts} {core : Plain} → IsAmidEvent p core → core.roam < 1000000 → IsBetweenEvents p core
-amid-few on few = record {
-  on = on.on;
-  position = on.position;
-  zone = on.zone;
-  clock = on.clock;
-  began = on.began;
-  gate = on.gate;
-  roam = omega (arith, few);
-  none = on.none;
-  ended = on.ended;
-  number = on.number;
-  held = on.held;
-  begun = on.begun;
-  trip = on.trip;
-}
+amid-enters {p} {core} on = powered-within on.roam (trip-spare p core.number 8639999 core.trip on.trip) on

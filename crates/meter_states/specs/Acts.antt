@@ -35,7 +35,7 @@ IsLawfulAct tables number (Enter entry) = IsEntryBeside number entry
 IsLawfulAct tables number (Hold trip) = IsHoldBeside tables number trip
 IsLawfulAct tables number (Receipt receipt) = IsReceipt receipt
 
--- acts stay lawful, where the store has a number, if those that came before are lawful
+-- acts stay lawful, where the store has a number, if the acts that came before are lawful
 abbrev pub StayLawful : TableParts → (number : ℕ) → (before acts : List Act) → Type 0
 StayLawful tables number before acts =
     All (IsLawfulAct tables number) before → All (IsLawfulAct tables number) acts

@@ -10,32 +10,33 @@ use Rattle.tariff_syntax.specs.Tree.{Tree}
 use Rattle.tariff_syntax.specs.declared.context.Context.{Context}
 use Rattle.meter_states.specs.Setting.{Setting}
 
--- a place among the tariff's rates, from 0, has this rate
+-- the rate at a place, counted from 0, is the one that stands there among the rates of the tariff
 abbrev pub rate_at : Tree → (place : ℕ) → RateNumbers
 rate_at t place = get_or (rates_of t.lines) place (record { a = 0; b = 0; c = 0; e = 0 })
 
--- a context has the rate that holds first in it
+-- the rate of a context is the one that holds first in it
 abbrev pub rate_of : Tree → Context → RateNumbers
 rate_of t x = rate_at t (unwrap_or (rate_place t x) 0)
 
--- the distance of p pulses costs this many units of charge under a rate of a per b decimetres, where a pulse is 10,000
--- / k decimetres, and k times the common measure units of charge make the smallest unit of money
+-- the charge of the distance of p pulses, in units of charge, is what p times 10,000 / k decimetres cost at a per b
+-- decimetres, where k times the common measure units of charge make the smallest unit of money
 abbrev pub distance_charge : (common : ℕ) → RateNumbers → (p : ℕ) → ℕ
 distance_charge common r p = p * (10000 * r.a * (common / r.b))
 
--- a tenth of a second costs this many units of charge under a rate of c per e tenths of a second, where k times the
--- common measure units of charge make the smallest unit of money
+-- the charge of a tenth of a second, in units of charge, is what it costs at c per e tenths of a second, where k times
+-- the common measure units of charge make the smallest unit of money
 abbrev pub time_charge : (k common : ℕ) → RateNumbers → ℕ
 time_charge k common r = r.c * k * (common / r.e)
 
--- an interval of p pulses is charged, in mode S, its time below the cross-over speed and its distance otherwise, where
--- that speed is the time tariff value, c per e, divided by the distance tariff value, a per b; in mode D it is charged
--- both
+-- the charge of an interval of p pulses is, in mode S, that of its time where it is below the cross-over speed, and of
+-- its distance otherwise, where that speed is the time tariff value, c per e, divided by the distance tariff value, a
+-- per b; in mode D it is the charge of both together
 abbrev pub charge_by : Mode → (k common : ℕ) → RateNumbers → (p : ℕ) → ℕ
 charge_by Single k common r p =
     if nat_lt (10000 * p * r.a * r.e) (r.c * k * r.b) then time_charge k common r else distance_charge common r p
 charge_by Double k common r p = distance_charge common r p + time_charge k common r
 
--- an interval of p pulses has this charge in a context, by the rate that holds first in it
+-- the charge of an interval of p pulses in a context is made by the rate that holds first in the context, by the mode
+-- and by the constant of the setting
 abbrev pub charge_at : Setting → Context → (p : ℕ) → ℕ
 charge_at s x p = charge_by s.mode s.constant (measure_of s.tariff.lines) (rate_of s.tariff x) p

@@ -12,7 +12,7 @@ use Rattle.meter_states.specs.Setting.{Setting, stamp_at, step_of}
 use Rattle.meter_states.specs.Supplements.{amounts_of}
 use Rattle.meter_states.specs.Trip.{Trip, fare_of, pulses_of, steps_shown}
 
--- a trip that is closed at a tariff position is entered with its kind, its distances, its fare and its supplements
+-- the entry of a trip that is closed at a tariff position has its kind, its distances, its fare and its supplements
 abbrev pub entry_of : Setting → Kind → (position : ℕ) → Trip → Entry
 entry_of s kind position t = record {
   kind = kind;
@@ -23,7 +23,8 @@ entry_of s kind position t = record {
   position = position;
 }
 
--- a trip that is closed has this receipt, with the store's number after its entry
+-- the receipt of a trip that is closed has the store's number after its entry, its kind, its start and its finish in
+-- local time, its position, its distance, how its fare is made, its supplements, and the decimals of the tariff
 abbrev pub receipt_of : Setting → Kind → (finish position : ℕ) → Trip → (number : ℕ) → Receipt
 receipt_of s kind finish position t number = record {
   number = number;
@@ -48,7 +49,7 @@ trip_closed s kind finish (Some t) m = do
   m ← entered (entry_of s kind m.position t) m
   printed (receipt_of s kind finish m.position t m.durable.number) m
 
--- the meter closes its trip, has none then, and is for hire
+-- a meter that closes its trip enters it, prints its receipt, has no trip then, and is for hire
 abbrev pub closed : Setting → Kind → (finish : ℕ) → Meter → Outcome
 closed s kind finish m = trip_closed s kind finish m.trip (record m { operating = ForHire; trip = None })
 
@@ -60,11 +61,23 @@ hirings_end = 1000000000000000
 abbrev pub holds_end : ℕ
 holds_end = 2000000000000000
 
+-- the store's number is at most 2 * 10^15 + 1, one more than the last with which a trip may be held
+abbrev pub number_most : ℕ
+number_most = 2000000000000001
+
 -- roaming pulses are entered as soon as they are 1,000,000
 abbrev pub roaming_most : ℕ
 roaming_most = 1000000
 
--- roaming is entered with its distance alone
+-- a meter between two events has at most this many roaming pulses, one fewer than are entered
+abbrev pub roaming_between : ℕ
+roaming_between = 999999
+
+-- a meter amid an event has at most this many roaming pulses, which is 2,000 more, those of one interval
+abbrev pub roaming_amid : ℕ
+roaming_amid = 1001999
+
+-- the entry of roaming has the distance alone
 abbrev pub roaming_entry : Setting → (pulses : ℕ) → Entry
 roaming_entry s pulses = record {
   kind = Roam;

@@ -1,4 +1,4 @@
--- For proofs: the core as plain data, and which state of the meter it stands for. Meter says what a state is.
+-- Rules: the core as plain data, and which state of the meter it stands for.
 use Rattle.std.specs.Prelude.{◌≡◌, ◌≢◌, ◌⊎◌, ℕ, List, ◌++◌, Option, option_map, sum, false}
 use Rattle.taxi_units.specs.declared.event.Key.{Key}
 use Rattle.taxi_units.specs.declared.event.Operating.{Operating}
@@ -11,8 +11,8 @@ use Rattle.meter_states.specs.Trip as model
 use Rattle.meter_states.specs.Trip.{saved_of}
 use Rattle.meter_states.specs.declared.act.Act.{Act}
 
--- a core has counts in place of lists, the saved form of the trip in place of its intervals, and the store's number in
--- place of what the store has
+-- a core as plain data has counts in place of lists, the saved form of the trip in place of its intervals, and the
+-- store's number in place of what the store has
 pub record Plain : Type 0 where
   pub operating : Operating
   pub clock : ℕ
@@ -26,7 +26,8 @@ pub record Plain : Type 0 where
   pub shown : Option Display
   pub trip : Option Trip
 
--- a state of the meter has this core
+-- the core of a state of the meter counts the pulses of its running interval and of its roaming, and has the saved form
+-- of its trip, the number of its store, and all else as the state has it
 abbrev pub plain_of : Setting → Meter → Plain
 plain_of s m = record {
   operating = m.operating;
@@ -46,7 +47,8 @@ plain_of s m = record {
 abbrev pub Stands : Setting → Plain → Meter → Type 0
 Stands s core m = (core.operating ≡ Off) × (m.operating ≡ Off) ⊎ (m.operating ≢ Off) × (core ≡ plain_of s m)
 
--- a powered core follows an outcome where it is the core of the outcome's state, and the outcome's acts were appended
+-- a powered core follows an outcome of a part of an event where it is the core of the outcome's state, and the
+-- outcome's acts were appended
 pub record Follows (s : Setting) (core : Plain) (before acts : List Act) (o : Outcome) : Type 0 where
   pub state : core ≡ plain_of s o.next
   pub done : acts ≡ before ++ o.acts
@@ -56,7 +58,8 @@ pub record Meets (s : Setting) (core : Plain) (acts : List Act) (o : Outcome) : 
   pub state : Stands s core o.next
   pub done : acts ≡ o.acts
 
--- a held trip is forgotten what has a meaning in the store alone: when, how and where it was saved
+-- a held trip is forgotten what has a meaning in the store alone, which is when it was saved, whether it was stopped,
+-- and its position and zone
 abbrev pub forgotten : Trip → Trip
 forgotten trip = record trip { saved = 0; stopped = false; position = 1; zone = 1 }
 

@@ -9,17 +9,18 @@ use Rattle.meter_states.specs.Supplements.{amounts_of}
 use Rattle.meter_states.specs.Trip.{Trip, fare_of}
 use Rattle.meter_states.specs.declared.act.Act.TheVariants.{Show}
 
--- the display shows the fare of the trip, and 0 without one
+-- the fare that the display shows is that of the trip, and 0 without one
 abbrev pub fare_shown : Setting → Option Trip → ℕ
 fare_shown s None = 0
 fare_shown s (Some t) = fare_of s t
 
--- the display shows the amounts of the trip's supplements, and 0 without a trip
+-- the amount of supplements that the display shows is that of the trip's, and 0 without a trip
 abbrev pub extras_shown : Setting → Option Trip → ℕ
 extras_shown s None = 0
 extras_shown s (Some t) = amounts_of s.tariff t.extras
 
--- a state of the meter has this display
+-- the display of a state of the meter has its operating position, its position and its zone, the fare and the
+-- supplements of its trip, and the decimals of the tariff
 abbrev pub display_of : Setting → Meter → Display
 display_of s m = record {
   operating = m.operating;
@@ -30,7 +31,7 @@ display_of s m = record {
   decimals = s.tariff.decimals;
 }
 
--- a test whether two operating positions are the same
+-- the test `same_operating` is true where two operating positions are the same
 abbrev pub same_operating : Operating → Operating → Bool
 same_operating Off Off = true
 same_operating ForHire ForHire = true
@@ -38,7 +39,7 @@ same_operating Hired Hired = true
 same_operating Stopped Stopped = true
 same_operating a b = false
 
--- a test whether two displays are the same in each field
+-- the test `same_display` is true where two displays are the same in each field
 abbrev pub same_display : Display → Display → Bool
 same_display a b =
     same_operating a.operating b.operating
@@ -46,7 +47,7 @@ same_display a b =
     && (a.zone == b.zone
     && (a.fare == b.fare && (a.supplements == b.supplements && a.decimals == b.decimals))))
 
--- a test whether a display is the one that was shown last
+-- the test `is_shown` is true where a display is the one that was shown last
 abbrev pub is_shown : Option Display → Display → Bool
 is_shown None new = false
 is_shown (Some old) new = same_display old new

@@ -12,7 +12,7 @@ use Rattle.meter_states.specs.Setting.{Setting, local_at}
 use Rattle.meter_states.specs.Trip.{Trip, Part, InHired, InStopped, Rest, with_part, pulses_of, ticks_of}
 use Rattle.meter_states.specs.declared.act.Act.TheVariants.{Refuse}
 
--- the running interval has room for this many more pulses: up to 2,000 together
+-- the running interval has room for as many pulses as are left of 2,000 behind those that it has taken
 abbrev pub room_of : Meter → ℕ
 room_of m = 2000 - sum m.taken
 
@@ -23,17 +23,18 @@ pulses_taken n m = record {
   acts = if nat_lt 0 (n - room_of m) then Refuse (TooFast (n - room_of m)) ∷ [] else [];
 }
 
--- the trip has this many pulses so far, and none is 0
+-- the pulses of a trip so far are those of its opening and its parts, and 0 without a trip
 abbrev pub pulses_so_far : Option Trip → ℕ
 pulses_so_far None = 0
 pulses_so_far (Some t) = pulses_of t
 
--- the trip has this many ticks so far, and none is 0
+-- the ticks of a trip so far are those of its opening and its parts, and 0 without a trip
 abbrev pub ticks_so_far : Option Trip → ℕ
 ticks_so_far None = 0
 ticks_so_far (Some t) = ticks_of t
 
--- the meter has this context at a local time
+-- the context at a local time is the position and the zone, the weekday, day and minute of that time, whether its date
+-- is a holiday, and the pulses and ticks of the trip, 0 without one
 abbrev pub context_on : Setting → LocalTime → Meter → Context
 context_on s local m = record {
   constant = s.constant;
@@ -47,23 +48,23 @@ context_on s local m = record {
   ticks = ticks_so_far m.trip;
 }
 
--- the running interval has the context of its beginning
+-- the context of the running interval is the one at the local time of its beginning
 abbrev pub context_of : Setting → Meter → Context
 context_of s m = context_on s (local_at s m.began) m
 
--- the meter has this context at the clock's second
+-- the context of the meter now is the one at the local time of the clock's second
 abbrev pub context_now : Setting → Meter → Context
 context_now s m = context_on s (local_at s m.clock) m
 
--- the trip has one interval more, and the next interval has no pulses yet
+-- a meter with an interval more has it as a part behind those of its trip, and no pulses yet in the next interval
 abbrev pub with_interval : Part → Meter → Meter
 with_interval part m = record m { taken = []; trip = option_map (with_part part) m.trip }
 
--- the roaming pulses have some pulses more, where the store takes hirings, and are the same otherwise
+-- the roaming pulses grow by some pulses more, where the store takes hirings, and are the same otherwise
 abbrev pub roaming_with : (pulses : ℕ) → Meter → List ℕ
 roaming_with pulses m = if nat_lt m.durable.number hirings_end then m.roaming ++ pulses ∷ [] else m.roaming
 
--- the meter has some roaming pulses more, and the next interval has no pulses yet
+-- a meter with roaming pulses more has them where the store takes hirings, and no pulses yet in the next interval
 abbrev pub with_roaming : (pulses : ℕ) → Meter → Meter
 with_roaming pulses m = record m { taken = []; roaming = roaming_with pulses m }
 

@@ -10,8 +10,9 @@ use Rattle.meter_states.specs.Setting.{Setting, modulus_of}
 use Rattle.meter_states.specs.Supplements.{amounts_from}
 use Rattle.meter_states.specs.Trip.{Trip, Part, InHired, InStopped, Rest}
 
--- in Off the store holds the saved form of the meter's trip, and no trip where it has none; in For Hire there is no
--- trip, and none is held; in Hired and Stopped there is a trip, and no roaming pulses wait for an entry
+-- the trip is kept in an operating position where in Off the store holds the saved form of the meter's trip, and no
+-- trip where it has none; in For Hire there is no trip, and none is held; and in Hired and Stopped there is a trip, and
+-- no roaming pulses wait for an entry
 abbrev pub IsKeptIn : Setting → Operating → (hold : Option store.Trip) → Option Trip → (roaming : List ℕ) → Type 0
 IsKeptIn s Off hold trip roaming = IsSavedIn s hold trip
 IsKeptIn s ForHire hold trip roaming = (hold ≡ None) × (trip ≡ None)
@@ -29,24 +30,24 @@ pub record FitsSetting (s : Setting) (trip : store.Trip) : Type 0 where
   pub extras : length trip.extras ≡ 16
   pub extras_sum : trip.extras_sum ≡ amounts_from (supplement_at s.tariff) 1 trip.extras
 
--- a held trip, if there is one, fits the setting
+-- what a store holds fits a setting where it is no trip, or one that fits the setting
 abbrev pub HoldFits : Setting → Option store.Trip → Type 0
 HoldFits s None = Unit {0}
 HoldFits s (Some trip) = FitsSetting s trip
 
--- a trip has some parts more behind its own
+-- a trip with parts more has them behind its own
 abbrev pub with_parts : List Part → Trip → Trip
 with_parts parts t = record t { parts = t.parts ++ parts }
 
--- a trip has some parts and some supplements more behind its own
+-- a trip with parts and supplements more has them behind its own
 abbrev pub with_more : List Part → (extras : List ℕ) → Trip → Trip
 with_more parts extras t = record t { parts = t.parts ++ parts; extras = t.extras ++ extras }
 
--- a supplement's number is one of 1 to 16
+-- a number is that of a supplement where it is 1 to 16
 abbrev pub IsSupplementNumber : ℕ → Type 0
 IsSupplementNumber n = (1 ≤ n) × (n ≤ 16)
 
--- a list of parts has these intervals that ended in Hired, in order
+-- the intervals in Hired of a list of parts are its parts that ended in Hired, in order
 abbrev pub hired_in : List Part → List Part
 hired_in [] = []
 hired_in (InHired p x ∷ parts) = InHired p x ∷ hired_in parts

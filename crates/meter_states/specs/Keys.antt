@@ -1,4 +1,4 @@
--- Rules: keys. One may wait for the end of the interval, and acts then.
+-- Rules: keys, one of which may wait for the end of the interval, and acts then.
 use Rattle.std.specs.Prelude.{ℕ, Bool, ◌&&◌, [], Option, Some, None, sum, if◌then◌else◌, nat_le}
 use Rattle.tariff_check.specs.Parts.{positions_of, zones_of}
 use Rattle.tariff_compile.specs.Tables.{initial_by, supplement_at}
@@ -21,8 +21,8 @@ abbrev pub latched : Option Key → Key → Meter → Outcome
 latched None key m = quiet (record m { latch = Some key })
 latched (Some waiting) key m = refused KeyWaiting m
 
--- the meter is hired: a trip begins at the clock's second, with the initial hire fee and the minimum fare that the
--- tariff's text names there, and takes the roaming pulses
+-- a meter that is hired has a trip that begins at the clock's second, with the initial hire fee and the minimum fare
+-- that the tariff's text names there, and takes the roaming pulses
 abbrev pub hired : Setting → Meter → Meter
 hired s m = record m {
   operating = Hired;
@@ -34,7 +34,7 @@ hired s m = record m {
 abbrev pub hiring : Setting → Meter → Outcome
 hiring s m = if nat_le hirings_end m.durable.number then refused Ended m else quiet (hired s m)
 
--- a test whether a number is from 1 to the most
+-- the test `is_among` is true where a number is from 1 to the most
 abbrev pub is_among : (most n : ℕ) → Bool
 is_among most n = nat_le 1 n && nat_le n most
 
@@ -47,7 +47,7 @@ position_set s n m =
 abbrev pub zone_set : Setting → (n : ℕ) → Meter → Outcome
 zone_set s n m = if is_among (zones_of s.tariff.lines) n then quiet (record m { zone = n }) else refused NoSuch m
 
--- a supplement that the tariff has is added to the trip, and refused where it was added as often as it may be
+-- a supplement that the tariff has is added to the trip, and is refused where it was added as often as it may be
 abbrev pub extra_added_to : (n : ℕ) → Supplement → Option Trip → Meter → Outcome
 extra_added_to n supplement None m = quiet m
 extra_added_to n supplement (Some t) m =
@@ -60,7 +60,7 @@ abbrev pub extra_added : (n : ℕ) → Option Supplement → Meter → Outcome
 extra_added n None m = refused NoSuch m
 extra_added n (Some supplement) m = extra_added_to n supplement m.trip m
 
--- a key acts in an operating position as its row says, and is refused in the others
+-- a key acts in the operating positions in which the lines below let it, and is refused in all others
 abbrev pub key_in : Setting → Key → Operating → Meter → Outcome
 key_in s keys.Hire ForHire m = hiring s m
 key_in s keys.Hire Stopped m = quiet (record m { operating = Hired })

@@ -1,13 +1,14 @@
 -- Rules: which cores are lawful.
 use Rattle.std.specs.Prelude.{◌≡◌, ◌≢◌, ◌⊎◌, Bool, true, false, ℕ, ◌+◌, ◌*◌, ◌<◌, ◌≤◌, Option, Some, None, length}
 use Rattle.tariff_compile.specs.Tables.{TableParts}
-use Rattle.taxi_units.specs.Time.{IsSecond}
+use Rattle.taxi_units.specs.Time.{IsSecond, last_tick}
 use Rattle.taxi_units.specs.declared.event.Event.{Event}
 use Rattle.taxi_units.specs.declared.event.Event.TheVariants as events
 use Rattle.taxi_units.specs.declared.event.Operating.{Operating}
 use Rattle.taxi_units.specs.declared.event.Operating.TheVariants.{Off, ForHire, Hired, Stopped}
 use Rattle.totaliser_store.specs.declared.trip.Trip.{Trip}
 use Rattle.seal_store.specs.declared.seal.Seal.{Seal}
+use Rattle.meter_states.specs.Closing.{hirings_end, holds_end, number_most, roaming_amid, roaming_between}
 use Rattle.meter_states.specs.Core.{Plain}
 use Rattle.meter_states.specs.Facts.{AreTrue, Whole}
 use Rattle.meter_states.specs.Supplements.{AreAllowed, amounts_from, supplement_in}
@@ -21,7 +22,7 @@ IsTimely event = Unit {0}
 -- a saved trip is in range where it has at most `most` ticks, fits the tables, and has its numbers in their ranges
 pub record IsTrip (tables : TableParts) (most : ℕ) (trip : Trip) : Type 0 where
   pub started : IsSecond trip.started
-  pub roam : trip.roam ≤ 1001999
+  pub roam : trip.roam ≤ roaming_amid
   pub ticks : trip.ticks ≤ most
   pub initial : trip.initial ≤ 99999999
   pub minimum : trip.minimum ≤ 99999999
@@ -48,7 +49,7 @@ abbrev pub HasBegunBy : (clock : ℕ) → Option Trip → Type 0
 HasBegunBy clock None = Unit {0}
 HasBegunBy clock (Some trip) = trip.started ≤ clock
 
--- a powered meter has a trip in Hired and in Stopped, has none in For Hire, and isn't off
+-- a powered meter has a trip in Hired and in Stopped, has none in For Hire, and is never in Off
 abbrev pub HasTrip : Operating → Option Trip → Type 0
 HasTrip Off trip = ⊥
 HasTrip ForHire trip = trip ≡ None
@@ -67,42 +68,44 @@ pub record IsPowered (tables : TableParts) (ticks most spare : ℕ) (core : Plai
   pub gate : core.gate ≤ 2000
   pub roam : core.roam ≤ most
   pub none : core.trip ≢ None → core.roam ≡ 0
-  pub ended : 0 < core.roam → core.number < 1000000000000000
-  pub number : (1 ≤ core.number) × (core.number ≤ 2000000000000001)
-  pub held : core.trip ≢ None → core.number ≤ 2000000000000000
+  pub ended : 0 < core.roam → core.number < hirings_end
+  pub number : (1 ≤ core.number) × (core.number ≤ number_most)
+  pub held : core.trip ≢ None → core.number ≤ holds_end
   pub begun : HasBegunBy core.clock core.trip
   pub trip : IsTripInRange tables (core.number + spare) ticks core.trip
 
 -- a powered core is between two events where it is in its ranges, its trip has fewer ticks than the longest trip, and
 -- it has fewer than 1,000,000 roaming pulses
 abbrev pub IsBetweenEvents : TableParts → Plain → Type 0
-IsBetweenEvents tables core = IsPowered tables 8639999 999999 0 core
+IsBetweenEvents tables core = IsPowered tables last_tick roaming_between 0 core
 
 -- a powered core is amid an event where it is in its ranges, its trip has fewer ticks than the longest trip, and it may
 -- have the roaming pulses of one more interval
 abbrev pub IsAmidEvent : TableParts → Plain → Type 0
-IsAmidEvent tables core = IsPowered tables 8639999 1001999 0 core
+IsAmidEvent tables core = IsPowered tables last_tick roaming_amid 0 core
 
 -- a core is lawful between two events where it is off, or powered and in its ranges, and the facts that it keeps are
--- true
+-- true: the facts are what was looked up in the tables and only save look-ups, so that they take no part in which state
+-- of the meter the core stands for, as the clause `meets` of `Core::step` says
 pub record IsLawful (tables : TableParts) (seal : Seal) (core : Whole) : Type 0 where
   pub powered : (core.plain.operating ≡ Off) ⊎ IsBetweenEvents tables core.plain
   pub facts : AreTrue tables seal core.facts
 
--- a test whether a trip runs in an operating position
+-- the test `is_busy` is true where a trip runs in an operating position
 abbrev pub is_busy : Operating → Bool
 is_busy Off = false
 is_busy ForHire = false
 is_busy Hired = true
 is_busy Stopped = true
 
--- the end of an interval takes at most this many steps: a charge looks up a local time, a holiday and a rate
+-- the end of an interval takes at most 36 steps in Hired, where a charge looks up a local time, a holiday and a rate,
+-- and none elsewhere
 abbrev pub counting_steps : Operating → ℕ
 counting_steps Hired = 36
 counting_steps operating = 0
 
--- a key takes at most this many steps: a hiring looks up a local time, a holiday and an initial hire fee, and a closing
--- two local times
+-- a key takes at most 29 steps in For Hire, where a hiring looks up a local time, a holiday and an initial hire fee,
+-- and at most 12 elsewhere, where a closing looks up two local times
 abbrev pub pressing_steps : Operating → ℕ
 pressing_steps ForHire = 29
 pressing_steps operating = 12

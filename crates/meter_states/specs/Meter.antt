@@ -16,7 +16,8 @@ use Rattle.meter_states.specs.declared.act.Act.{Act}
 use Rattle.meter_states.specs.declared.act.Act.TheVariants.{Refuse, Enter, Hold}
 use Rattle.meter_states.specs.declared.act.Act.TheVariants as acts
 
--- a state of the meter has these parts
+-- a state of the meter has its operating position, its clock, its running interval, the key that waits, the position
+-- and the zone, its roaming pulses, what was shown last, its trip, and what the store has
 pub record Meter : Type 0 where
   pub operating : Operating
   -- the last accepted reading of the clock, and the second at which the running interval began

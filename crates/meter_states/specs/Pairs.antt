@@ -32,7 +32,7 @@ ArePaired None (act ∷ acts) = ArePaired None acts
 ArePaired (Some entry) (Receipt receipt ∷ acts) = IsReceiptOf entry receipt × ArePaired None acts
 ArePaired (Some entry) acts = ⊥
 
--- acts commit these changes, in order
+-- the commits of acts are their entries and held trips, in order
 abbrev pub commits_of : List Act → List Change
 commits_of [] = []
 commits_of (Enter entry ∷ acts) = changes.Enter entry ∷ commits_of acts

@@ -13,7 +13,8 @@ use Rattle.meter_states.specs.Supply.{supply_dropped}
 use Rattle.meter_states.specs.Trip.{Trip}
 use Rattle.meter_states.specs.declared.act.Act.{Act}
 
--- counts say how often each number stands in a list, from `first` on, and this is that list in order
+-- a list of numbers is made of counts, the first of which is that of the number `first` and each further one that of
+-- the next number: it has each number as often as its count says, in order
 abbrev pub numbers_from : (first : ℕ) → (counts : List ℕ) → List ℕ
 numbers_from first [] = []
 numbers_from first (count ∷ counts) = replicate count first ++ numbers_from (first + 1) counts
@@ -35,7 +36,7 @@ trip_of s trip = record {
   extras = numbers_from 1 trip.extras;
 }
 
--- the meter is opened before the supply first comes, with what the store has: off, at the first second, with the held
+-- a meter is opened before the supply first comes, with what the store has: off, at the first second, with the held
 -- trip
 abbrev pub opened : Setting → Durable → Meter
 opened s durable = record {
@@ -52,7 +53,7 @@ opened s durable = record {
   durable = durable;
 }
 
--- a list of events comes to what its events come to, one after the other
+-- a list of events comes to what each event in its turn comes to, one after the other
 abbrev pub run : Setting → List Event → Meter → Outcome
 run s [] m = quiet m
 run s (event ∷ events) m = step s event m >>= run s events
@@ -66,7 +67,8 @@ abbrev pub ended_in : Setting → Operating → Meter → Outcome
 ended_in s Off m = quiet m
 ended_in s operating m = supply_dropped s m
 
--- a run ends in the meter's operating position
+-- a run ends in the meter's operating position: with a supply drop where the meter is powered, and with nothing where
+-- it is off
 abbrev pub ended : Setting → Meter → Outcome
 ended s m = ended_in s m.operating m
 
@@ -74,6 +76,6 @@ ended s m = ended_in s m.operating m
 abbrev pub whole_run : Setting → Durable → List Event → Outcome
 whole_run s durable events = run s events (opened s durable) >>= ended s
 
--- the meter does these acts in a whole run, in order
+-- the acts of a whole run are all that the meter does in it, in order
 abbrev pub actions_of : Setting → Durable → List Event → List Act
 actions_of s durable events = (whole_run s durable events).acts

@@ -19,47 +19,48 @@ pub record Setting : Type 0 where
   pub hold : ℕ
   pub offsets : List (ℕ × ℤ)
 
--- tables are those of a setting where they are compiled from its tariff under its constant
+-- tables are those of a setting where they are compiled from the setting's tariff under its constant
 pub record IsTariffOf (s : Setting) (tables : TableParts) : Type 0 where
   pub compiled : IsTablesOf s.tariff tables
   pub constant : tables.constant ≡ s.constant
 
--- a seal is that of a setting where it secures its constant, its mode, its hold and its offsets
+-- a seal is that of a setting where it secures the setting's constant, mode, hold and offsets
 pub record IsSealOf (s : Setting) (seal : Seal) : Type 0 where
   pub constant : seal.params.constant ≡ s.constant
   pub mode : seal.params.mode ≡ s.mode
   pub hold : seal.params.hold ≡ s.hold
   pub offsets : seal.params.offsets ≡ s.offsets
 
--- tables and a seal are those of a setting where both are, so the tables were compiled with the seal's constant
+-- tables and a seal are those of a setting where the tables are compiled from its tariff under its constant, and the
+-- seal secures its constant, mode, hold and offsets
 pub record IsSettingOf (s : Setting) (tables : TableParts) (seal : Seal) : Type 0 where
   pub tariff : IsTariffOf s tables
   pub secured : IsSealOf s seal
 
--- the constant times the common measure of the tariff, this many units of charge make the smallest unit of money
+-- the smallest unit of money has as many units of charge as the constant times the common measure of the tariff
 abbrev pub unit_of : Setting → ℕ
 unit_of s = s.constant * measure_of s.tariff.lines
 
--- the tariff has this display step
+-- the display step of a setting is that of its tariff, in the smallest units of money
 abbrev pub step_of : Setting → ℕ
 step_of s = (step_in s.tariff).0
 
--- the tariff rounds the fare to the display step so
+-- the rounding of a setting is the one by which its tariff rounds the fare to the display step
 abbrev pub rounding_of : Setting → Rounding
 rounding_of s = (step_in s.tariff).1
 
--- a display step takes this many units of charge
+-- a display step has as many units of charge as the step has smallest units of money, times the units of charge in each
 abbrev pub modulus_of : Setting → ℕ
 modulus_of s = step_of s * unit_of s
 
--- a second has this local time, by the offsets of the setting
+-- the local time at a second is the one that the offsets of the setting give
 abbrev pub local_at : Setting → (second : ℕ) → LocalTime
 local_at s second = local_time_of (local_second s.offsets second)
 
--- a local time has the stamp of its date and its second of the day
+-- the stamp of a local time has its date and its second of the day
 abbrev pub stamp_of : LocalTime → Stamp
 stamp_of local = record { year = local.year; month = local.month; date = local.date; second = local.second }
 
--- a second has the stamp of its local time
+-- the stamp of a second is that of its local time
 abbrev pub stamp_at : Setting → (second : ℕ) → Stamp
 stamp_at s second = stamp_of (local_at s second)

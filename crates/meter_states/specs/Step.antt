@@ -22,7 +22,7 @@ abbrev pub latch_refused : Option Key → Meter → Outcome
 latch_refused None m = quiet m
 latch_refused (Some key) m = refused why.Expired (record m { latch = None })
 
--- the trip expires: it is closed at the clock's second, and the key that waits is refused
+-- a trip that expires is closed at the clock's second, and the key that waits is refused
 abbrev pub expired : Setting → Meter → Outcome
 expired s m = do
   m ← closed s kinds.Expired m.clock m
@@ -53,7 +53,8 @@ clock_read Hired second m = clock_read_in_trip second m
 clock_read Stopped second m = clock_read_in_trip second m
 clock_read operating second m = quiet (record m { clock = second })
 
--- an event of a powered meter does what its row says
+-- at a powered meter the coming of the supply is refused; a drop of the supply, pulses, a tick, a reading of the clock
+-- and a key do what their definitions say
 abbrev pub powered_step : Setting → Event → Meter → Outcome
 powered_step s (events.Up second) m = refused Powered m
 powered_step s events.Down m = supply_dropped s m
@@ -62,18 +63,19 @@ powered_step s events.Tick m = ticked s m
 powered_step s (events.Clock second) m = clock_read m.operating second m
 powered_step s (events.Key key) m = latched m.latch key m
 
--- an event of a meter that is off is refused, except the coming of the supply
+-- at a meter that is off each event is refused, except the coming of the supply
 abbrev pub off_step : Setting → Event → Meter → Outcome
 off_step s (events.Up second) m = supply_came s second m
 off_step s event m = refused NotNow m
 
--- an event in an operating position is one of a powered meter, or of one that is off
+-- an event in the operating position Off is one of a meter that is off, and in each other position it is one of a
+-- powered meter
 abbrev pub step_in : Setting → Operating → Event → Meter → Outcome
 step_in s Off event m = off_step s event m
 step_in s ForHire event m = powered_step s event m
 step_in s Hired event m = powered_step s event m
 step_in s Stopped event m = powered_step s event m
 
--- an event comes to what it does in the meter's operating position
+-- what an event comes to is what it does in the meter's operating position
 abbrev pub step : Setting → Event → Meter → Outcome
 step s event m = step_in s m.operating event m

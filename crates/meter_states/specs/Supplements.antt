@@ -4,34 +4,35 @@ use Rattle.tariff_compile.specs.Tables.{TableParts, supplement_at}
 use Rattle.tariff_compile.specs.declared.parts.Supplement.{Supplement}
 use Rattle.tariff_syntax.specs.Tree.{Tree}
 
--- a supplement that may be none has this amount, and none has 0
+-- the amount of a supplement that may be none is its own, and 0 for none
 abbrev pub amount_in : Option Supplement → ℕ
 amount_in None = 0
 amount_in (Some supplement) = supplement.amount
 
--- a hiring may have a supplement that may be none this often, and none 0 times
+-- a hiring may have a supplement, which may be none, as often as the supplement says, and 0 times for none
 abbrev pub most_in : Option Supplement → ℕ
 most_in None = 0
 most_in (Some supplement) = supplement.max
 
--- supplements, listed by their numbers, have these amounts together under a tariff
+-- the amount of a list of supplements, told by their numbers, is the sum of what the tariff says of each
 abbrev pub amounts_of : Tree → List ℕ → ℕ
 amounts_of t numbers = sum (map (λ number. amount_in (supplement_at t number)) numbers)
 
--- a number stands this often in a list
+-- the times of a number in a list are how often it stands there
 abbrev pub times : ℕ → List ℕ → ℕ
 times number numbers = count_by (λ n. n == number) numbers
 
--- each of `many` numbers, from `first` on, stands this often in a list
+-- the counts of `many` numbers, from `first` on, are how often each of them stands in a list
 unfoldable pub counts_from : (many first : ℕ) → List ℕ → List ℕ
 counts_from zero first numbers = []
 counts_from (suc many) first numbers = times first numbers ∷ counts_from many (first + 1) numbers
 
--- each of the numbers 1 to 16 stands this often in a list
+-- the counts of a list are how often each of the numbers 1 to 16 stands in it
 abbrev pub counts_of : List ℕ → List ℕ
 counts_of numbers = counts_from 16 1 numbers
 
--- the tables have this supplement of a number, and none of the number 0
+-- the supplement of a number in tables is the one at that place of their list, counted from 1, where there is one, and
+-- none for the number 0
 abbrev pub supplement_in : TableParts → (number : ℕ) → Option Supplement
 supplement_in tables number = get_or (None ∷ tables.supplements) number None
 
@@ -41,7 +42,8 @@ AreAllowed supplement first [] = Unit {0}
 AreAllowed supplement first (count ∷ counts) =
     (count ≤ most_in (supplement first)) × AreAllowed supplement (first + 1) counts
 
--- counts of the numbers from `first` on have these amounts together: each count times its supplement's amount
+-- the amounts of counts, the first of which is that of the number `first`, are added up: each count times its
+-- supplement's amount
 abbrev pub amounts_from : (supplement : ℕ → Option Supplement) → (first : ℕ) → (counts : List ℕ) → ℕ
 amounts_from supplement first [] = 0
 amounts_from supplement first (count ∷ counts) =

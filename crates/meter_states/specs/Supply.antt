@@ -11,7 +11,7 @@ use Rattle.meter_states.specs.Meter.{Meter, Outcome, ◌>>=◌, quiet, held}
 use Rattle.meter_states.specs.Setting.{Setting}
 use Rattle.meter_states.specs.Trip.{Trip, held_trip}
 
--- a test whether an operating position is Stopped
+-- the test `is_stopped` is true where an operating position is Stopped
 abbrev pub is_stopped : Operating → Bool
 is_stopped Off = false
 is_stopped ForHire = false
@@ -30,7 +30,7 @@ abbrev pub kept : Setting → Option Trip → Meter → Outcome
 kept s None m = if nat_lt 0 (sum m.roaming) then roaming_entered s m else quiet m
 kept s (Some t) m = trip_kept s t m
 
--- the meter is turned off, and a key that waited is lost
+-- a meter that is turned off is in Off, and a key that waited is lost
 abbrev pub turned_off : Meter → Outcome
 turned_off m = quiet (record m { operating = Off; latch = None })
 
@@ -41,7 +41,8 @@ supply_dropped s m = do
   m ← kept s m.trip m
   turned_off m
 
--- the meter is powered at a second: for hire, at that second, in position 1 and zone 1, with nothing counted or shown
+-- a meter that is powered at a second is for hire, at that second, in position 1 and zone 1, with nothing counted or
+-- shown
 abbrev pub powered : (second : ℕ) → Meter → Meter
 powered second m = record m {
   operating = ForHire;
@@ -60,7 +61,7 @@ abbrev pub running : (stopped : Bool) → Operating
 running true = Stopped
 running false = Hired
 
--- a test whether a second is not before the supply drop, and not later than the hold after it
+-- the test `is_within_hold` is true where a second is not before the supply drop, and not later than the hold after it
 abbrev pub is_within_hold : Setting → (second : ℕ) → store.Trip → Bool
 is_within_hold s second trip = nat_le trip.saved second && nat_le second (trip.saved + s.hold)
 
@@ -68,8 +69,8 @@ is_within_hold s second trip = nat_le trip.saved second && nat_le second (trip.s
 abbrev pub resumed : store.Trip → Meter → Outcome
 resumed trip m = quiet (record m { operating = running trip.stopped; position = trip.position; zone = trip.zone })
 
--- a held trip is aborted: it is closed at its position and the second of its supply drop, and then the position and the
--- zone are 1
+-- a held trip that is aborted is closed at its position and the second of its supply drop, and then the position and
+-- the zone are 1
 abbrev pub aborted : Setting → store.Trip → Meter → Outcome
 aborted s trip m = do
   m ← closed s Aborted trip.saved (record m { position = trip.position })
@@ -80,7 +81,7 @@ abbrev pub hold_taken : Setting → (second : ℕ) → Option store.Trip → Met
 hold_taken s second None m = quiet (record m { trip = None })
 hold_taken s second (Some trip) m = if is_within_hold s second trip then resumed trip m else aborted s trip m
 
--- the supply comes at a second: the meter is powered, takes the held trip, and shows its display
+-- as the supply comes at a second the meter is powered, takes the held trip, and shows its display
 abbrev pub supply_came : Setting → (second : ℕ) → Meter → Outcome
 supply_came s second m = do
   m ← hold_taken s second m.durable.hold (powered second m)

@@ -35,7 +35,7 @@ pub record Trip : Type 0 where
   pub parts : List Part
   pub extras : List ℕ
 
--- a part has its pulses, of whichever kind it is
+-- the pulses in a part are its own, of whichever kind it is
 abbrev pub pulses_in : Part → ℕ
 pulses_in (InHired p x) = p
 pulses_in (InStopped p) = p
@@ -47,33 +47,37 @@ ticks_in (InHired p x) = 1
 ticks_in (InStopped p) = 1
 ticks_in (Rest p) = 0
 
--- a part is charged where its interval ended in Hired, by the context at its beginning, and else it is free
+-- the charge in a part whose interval ended in Hired is the one in the context at its beginning, and any other part is
+-- free
 abbrev pub charge_in : Setting → Part → ℕ
 charge_in s (InHired p x) = charge_at s x p
 charge_in s (InStopped p) = 0
 charge_in s (Rest p) = 0
 
--- a trip has the pulses of its opening and of its parts
+-- the pulses of a trip are those of its opening and of its parts
 abbrev pub pulses_of : Trip → ℕ
 pulses_of t = t.opening.pulses + sum (map pulses_in t.parts)
 
--- a trip has the ticks of its opening and of its parts
+-- the ticks of a trip are those of its opening and of its parts
 abbrev pub ticks_of : Trip → ℕ
 ticks_of t = t.opening.ticks + sum (map ticks_in t.parts)
 
--- a trip has charges of this sum, over its parts
+-- the charges of a trip are the sum of the charges in its parts
 abbrev pub charges_of : Setting → Trip → ℕ
 charges_of s t = sum (map (charge_in s) t.parts)
 
--- the charges of a trip begin at its opening
+-- the charges of a trip begin with the cover and the charge of its opening, and a display step has the units of charge
+-- that the tariff gives it
 abbrev pub opening_of : Setting → Trip → fares.Opening
 opening_of s t = record { cover = t.opening.cover; above = t.opening.above; modulus = modulus_of s }
 
--- a trip shows this many display steps above the cover
+-- the display steps of a trip are its charges above the cover, divided by a display step, and rounded as the tariff
+-- says
 abbrev pub steps_shown : Setting → Trip → ℕ
 steps_shown s t = steps_above (rounding_of s) (opening_of s t) (charges_of s t)
 
--- a trip shows this fare
+-- the fare of a trip is its initial hire fee and the display step for each step shown, or its minimum fare where that
+-- is more, and at most 99,999,999
 abbrev pub fare_of : Setting → Trip → ℕ
 fare_of s t = shown_fare t.initial t.minimum (step_of s) (steps_shown s t)
 
@@ -89,15 +93,16 @@ begun s fee second roam = record {
   extras = [];
 }
 
--- a trip has one part more behind its own
+-- a trip with a part more has that part behind its own
 abbrev pub with_part : Part → Trip → Trip
 with_part part t = record t { parts = t.parts ++ part ∷ [] }
 
--- a trip has one supplement more behind its own
+-- a trip with a supplement more has the number of that supplement behind its own
 abbrev pub with_extra : (number : ℕ) → Trip → Trip
 with_extra number t = record t { extras = t.extras ++ number ∷ [] }
 
--- a trip has this saved form, but for what a supply drop adds: when, how and where it was saved
+-- the saved form of a trip has its numbers, the sums of its parts, and what its charges have come to, and it lacks what
+-- a supply drop adds, which is when, how and where the trip was saved
 abbrev pub saved_of : Setting → Trip → store.Trip
 saved_of s t = record {
   started = t.started;
@@ -115,7 +120,8 @@ saved_of s t = record {
   extras_sum = amounts_of s.tariff t.extras;
 }
 
--- a trip has this saved form at a supply drop, with the second, whether it is stopped, the position and the zone
+-- a held trip is the saved form of a trip at a supply drop, with the second, whether it is stopped, the position and
+-- the zone
 abbrev pub held_trip : Setting → (second : ℕ) → (stopped : Bool) → (position zone : ℕ) → Trip → store.Trip
 held_trip s second stopped position zone t =
     record (saved_of s t) { saved = second; stopped = stopped; position = position; zone = zone }

@@ -1,10 +1,11 @@
 //! Entries: of a trip that is closed, with its receipt directly behind, and of roaming.
 ghost use Rattle.std.specs.Prelude.{◌≡◌, ◌≢◌, ◌⊎◌, ◌<◌, ◌≤◌, ◌+◌, ℕ, All, None, Some, length};
-ghost use Rattle.taxi_units.specs.Time.{IsSecond};
+ghost use Rattle.taxi_units.specs.Time.{IsSecond, last_tick, longest_trip};
 ghost use Rattle.taxi_units.specs.declared.event.Operating.TheVariants.{ForHire};
 ghost use Rattle.taxi_units.specs.declared.receipt.Kind.TheVariants.{Roam};
 ghost use Rattle.meter_states.specs.Acts.{IsLawfulAct, StayLawful};
 ghost use Rattle.meter_states.specs.Closing.{closed, entry_of, receipt_of, roaming_checked, roaming_entered, trip_closed};
+ghost use Rattle.meter_states.specs.Closing.{holds_end, number_most, roaming_amid};
 ghost use Rattle.meter_states.specs.Core.{Follows, plain_of};
 ghost use Rattle.meter_states.specs.Lawful.{IsAmidEvent, IsBetweenEvents, IsPowered, IsTripBeside};
 ghost use Rattle.meter_states.specs.Meter.{Meter, entered, printed};
@@ -22,7 +23,7 @@ use taxi_units::{Kind, Operating, Steps};
 use totaliser_store::Trip;
 
 /// Roaming pulses are entered as soon as they are this many.
-const ROAMING_MOST: u32 = 1_000_000;
+pub(crate) const ROAMING_MOST: u32 = 1_000_000;
 
 impl State {
     /// The trip is closed, and the meter is for hire. At most 12 steps.
@@ -34,7 +35,7 @@ impl State {
         acts: &mut Acts,
         steps: &mut Steps<L>,
     )
-        requires lawful { IsPowered tables.now 8640000 1001999 1 self.old }
+        requires lawful { IsPowered tables.now longest_trip roaming_amid 1 self.old }
         requires trip { self.old.trip ≢ None }
         requires kind { closing.kind ≢ Roam }
         requires finish { IsSecond closing.finish }
@@ -44,7 +45,7 @@ impl State {
         ensures roam { self.new.roam ≡ 0 }
         ensures ranges { StayLawful tables.now self.old.number acts.old.items acts.new.items }
         ensures follows { FollowsStage tables.now seal.now self.old self.new acts.old.items acts.new.items
-            (λ s m. closed s closing.kind closing.finish m) }
+            (λ s. closed s closing.kind closing.finish) }
         ensures steps { steps.new ≤ steps.old + 12 }
     {
         tables.are_fit();
@@ -65,8 +66,8 @@ impl State {
         acts: &mut Acts,
         steps: &mut Steps<L>,
     )
-        requires range { IsTripBeside tables.now (self.old.number + 1) 8640000 trip.now }
-        requires number { self.old.number ≤ 2000000000000000 }
+        requires range { IsTripBeside tables.now (self.old.number + 1) longest_trip trip.now }
+        requires number { self.old.number ≤ holds_end }
         requires position { (1 ≤ self.old.position) × (self.old.position ≤ 9) }
         requires kind { closing.kind ≢ Roam }
         requires finish { IsSecond closing.finish }
@@ -85,8 +86,8 @@ impl State {
 
     /// A trip is entered.
     fn enter_trip(&mut self, kind: Kind, trip: &Trip, tables: &Tables, seal: &Seal, acts: &mut Acts)
-        requires range { IsTripBeside tables.now (self.old.number + 1) 8640000 trip.now }
-        requires number { self.old.number ≤ 2000000000000000 }
+        requires range { IsTripBeside tables.now (self.old.number + 1) longest_trip trip.now }
+        requires number { self.old.number ≤ holds_end }
         requires position { (1 ≤ self.old.position) × (self.old.position ≤ 9) }
         requires kind { kind ≢ Roam }
         requires room { length acts.old.items ≤ 3 }
@@ -111,8 +112,8 @@ impl State {
         acts: &mut Acts,
         steps: &mut Steps<L>,
     )
-        requires range { IsTripBeside tables.now self.now.number 8640000 trip.now }
-        requires number { (1 ≤ self.now.number) × (self.now.number ≤ 2000000000000001) }
+        requires range { IsTripBeside tables.now self.now.number longest_trip trip.now }
+        requires number { (1 ≤ self.now.number) × (self.now.number ≤ number_most) }
         requires position { (1 ≤ self.now.position) × (self.now.position ≤ 9) }
         requires kind { closing.kind ≢ Roam }
         requires finish { IsSecond closing.finish }
@@ -147,21 +148,16 @@ impl State {
             → All (IsLawfulAct tables.now number) acts.old.items
             → All (IsLawfulAct tables.now number) acts.new.items }
         ensures follows { FollowsStage tables.now seal.now self.old self.new acts.old.items acts.new.items
-            (λ s m. roaming_checked s m) }
+            roaming_checked }
     {
-        match self.operating {
-            Operating::ForHire => {
-                if self.roam >= ROAMING_MOST {
-                    self.enter_roaming(tables, seal, acts);
-                }
-            }
-            Operating::Off | Operating::Hired | Operating::Stopped => {}
+        if matches!(self.operating, Operating::ForHire) && self.roam >= ROAMING_MOST {
+            self.enter_roaming(tables, seal, acts);
         }
     }
 
     /// Roaming pulses are entered, and are then none.
     pub(crate) fn enter_roaming(&mut self, tables: &Tables, seal: &Seal, acts: &mut Acts)
-        requires lawful { IsPowered tables.now 8639999 1001999 1 self.old }
+        requires lawful { IsPowered tables.now last_tick roaming_amid 1 self.old }
         requires hire { self.old.operating ≡ ForHire }
         requires some { 0 < self.old.roam }
         requires room { length acts.old.items ≤ 3 }
@@ -169,7 +165,7 @@ impl State {
         ensures few { length acts.new.items ≤ length acts.old.items + 1 }
         ensures ranges { StayLawful tables.now self.old.number acts.old.items acts.new.items }
         ensures follows { FollowsStage tables.now seal.now self.old self.new acts.old.items acts.new.items
-            (λ s m. roaming_entered s m) }
+            roaming_entered }
     {
         acts.push(Act::Enter(roaming_entry(self.roam, tables)));
         self.number += 1;

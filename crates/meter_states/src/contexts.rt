@@ -1,7 +1,8 @@
 //! The context of an interval, and what the interval weighs in it.
 ghost use Rattle.std.specs.Prelude.{◌≡◌, ◌≤◌, ◌+◌};
 ghost use Rattle.tariff_compile.specs.Tables.{AreFit, IsInRangeFor, rate_by};
-ghost use Rattle.taxi_units.specs.Time.{IsSecond};
+ghost use Rattle.taxi_units.specs.Time.{IsSecond, longest_trip};
+ghost use Rattle.meter_states.specs.Closing.{roaming_amid};
 ghost use Rattle.meter_states.specs.Core.{plain_of};
 ghost use Rattle.meter_states.specs.Facts.{AreLocal, AreTrue};
 ghost use Rattle.meter_states.specs.Interval.{context_of, context_on};
@@ -27,7 +28,7 @@ impl State {
         seal: &Seal,
         steps: &mut Steps<L>,
     ) -> Weights
-        requires lawful { IsPowered tables.now 8640000 1001999 1 self.now }
+        requires lawful { IsPowered tables.now longest_trip roaming_amid 1 self.now }
         requires facts { AreTrue tables.now seal.now facts.old }
         ensures facts { AreTrue tables.now seal.now facts.new }
         ensures rate { (s : Setting) (m : Meter) → IsSettingOf s tables.now seal.now → self.now ≡ plain_of s m
@@ -49,7 +50,7 @@ impl State {
         steps: &mut Steps<L>,
     ) -> Context
         requires second { IsSecond second }
-        requires lawful { IsPowered tables.now 8640000 1001999 1 self.now }
+        requires lawful { IsPowered tables.now longest_trip roaming_amid 1 self.now }
         ensures value { (s : Setting) (m : Meter) → IsSettingOf s tables.now seal.now → self.now ≡ plain_of s m
             → result ≡ context_on s (local_at s second) m }
         ensures range { IsInRangeFor tables.now result }
@@ -61,7 +62,7 @@ impl State {
 
     /// The context at a local time.
     pub(crate) fn context_on(&self, local: &LocalFacts, tables: &Tables, seal: &Seal) -> Context
-        requires lawful { IsPowered tables.now 8640000 1001999 1 self.now }
+        requires lawful { IsPowered tables.now longest_trip roaming_amid 1 self.now }
         requires local { AreLocal tables.now seal.now local.now }
         ensures value { (s : Setting) (m : Meter) → IsSettingOf s tables.now seal.now → self.now ≡ plain_of s m
             → result ≡ context_on s (local_at s local.now.second) m }

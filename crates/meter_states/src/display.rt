@@ -26,8 +26,7 @@ impl State {
         ensures lawful { IsBetweenEvents tables.now self.new }
         ensures ranges { (number : ℕ) → All (IsLawfulAct tables.now number) acts.old.items
             → All (IsLawfulAct tables.now number) acts.new.items }
-        ensures follows { FollowsStage tables.now seal.now self.old self.new acts.old.items acts.new.items
-            (λ s m. shown s m) }
+        ensures follows { FollowsStage tables.now seal.now self.old self.new acts.old.items acts.new.items shown }
     {
         let display = self.display(tables, seal);
         if !is_shown(&self.shown, &display) {

@@ -1,5 +1,6 @@
 //! Trips after equal intervals, and how many there may be.
 ghost use Rattle.std.specs.Prelude.{◌≡◌, ◌≤◌, ◌<◌, ◌+◌, ◌*◌, ◌^◌};
+ghost use Rattle.taxi_units.specs.Time.{last_tick};
 ghost use Rattle.meter_states.specs.Equals as model;
 ghost use Rattle.meter_states.specs.Lawful.{IsTrip};
 
@@ -30,7 +31,7 @@ pub(crate) fn most_times(count: u32, room: u128, each: u128) -> u32
 
 /// The charges that show no further display step of a trip.
 pub(crate) fn spare(trip: &Trip, tables: &Tables) -> u128
-    requires range { IsTrip tables.now 8639999 trip.now }
+    requires range { IsTrip tables.now last_tick trip.now }
     ensures value { result ≡ model.spare_of tables.now.rounding (tables.now.step * tables.now.measure)
         trip.now.meterage }
     ensures most { result ≤ 3 * 10 ^ 31 }
@@ -54,10 +55,10 @@ pub(crate) fn spare(trip: &Trip, tables: &Tables) -> u128
 pub(crate) fn add_passed(trip: &mut Trip, tables: &Tables, pulses: u32, count: u32)
     requires pulses { pulses ≤ 2000 }
     requires few { trip.old.pulses ≤ 5000000000000000000 }
-    requires range { IsTrip tables.now 8639999 trip.old }
-    requires short { trip.old.ticks + count ≤ 8639999 }
+    requires range { IsTrip tables.now last_tick trip.old }
+    requires short { trip.old.ticks + count ≤ last_tick }
     ensures value { trip.new ≡ model.passed pulses count trip.old }
-    ensures range { IsTrip tables.now 8639999 trip.new }
+    ensures range { IsTrip tables.now last_tick trip.new }
 {
     trip.pulses += count as u64 * pulses as u64;
     trip.ticks += count;
@@ -67,13 +68,13 @@ pub(crate) fn add_passed(trip: &mut Trip, tables: &Tables, pulses: u32, count: u
 pub(crate) fn add_charged(trip: &mut Trip, tables: &Tables, pulses: u32, charge: u128, count: u32)
     requires pulses { pulses ≤ 2000 }
     requires few { trip.old.pulses ≤ 5000000000000000000 }
-    requires range { IsTrip tables.now 8639999 trip.old }
-    requires short { trip.old.ticks + count ≤ 8639999 }
+    requires range { IsTrip tables.now last_tick trip.old }
+    requires short { trip.old.ticks + count ≤ last_tick }
     requires spare { count * charge ≤ model.spare_of tables.now.rounding (tables.now.step * tables.now.measure)
         trip.old.meterage }
     requires most { count * charge ≤ 3 * 10 ^ 31 }
     ensures value { trip.new ≡ model.charged pulses charge count trip.old }
-    ensures range { IsTrip tables.now 8639999 trip.new }
+    ensures range { IsTrip tables.now last_tick trip.new }
 {
     tables.are_fit();
     let all = count as u128 * charge;

@@ -13,6 +13,7 @@ ghost use Rattle.meter_states.specs.Meter.{Meter};
 ghost use Rattle.meter_states.specs.Run.{run};
 ghost use Rattle.meter_states.specs.Setting.{Setting, IsSettingOf};
 
+use crate::closing::ROAMING_MOST;
 use crate::core_state::Core;
 use crate::equal_trip::{add_charged, add_passed, most_times, roams, spare};
 use crate::facts::Facts;
@@ -101,7 +102,7 @@ impl State {
     {
         tables.are_fit();
         let each = roams(self.number, pulses);
-        let n = most_times(count, 999_999 - self.roam as u128, each as u128);
+        let n = most_times(count, (ROAMING_MOST - 1 - self.roam) as u128, each as u128);
         self.roam += n * each;
         n
     }

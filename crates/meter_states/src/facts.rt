@@ -111,17 +111,11 @@ impl Facts {
     pub(crate) fn kept_local(&self, second: u64, tables: &Tables, seal: &Seal) -> Option<LocalFacts>
         requires facts { AreTrue tables.now seal.now self.now }
         ensures second { IfSome result (λ local. local.second ≡ second) }
-        ensures local { IfSome result (λ local. AreLocal tables.now seal.now local) }
+        ensures local { IfSome result (AreLocal tables.now seal.now) }
     {
         match &self.local {
-            None => None,
-            Some(local) => {
-                if local.second == second {
-                    Some(*local)
-                } else {
-                    None
-                }
-            }
+            Some(local) if local.second == second => Some(*local),
+            _ => None,
         }
     }
 
@@ -135,14 +129,8 @@ impl Facts {
             → lasting.weights ≡ rate_by t tables.now.constant y) }
     {
         match &self.rate {
-            None => None,
-            Some(rate) => {
-                if is_near(rate, x) {
-                    Some(lasting_from(rate, x))
-                } else {
-                    None
-                }
-            }
+            Some(rate) if is_near(rate, x) => Some(lasting_from(rate, x)),
+            _ => None,
         }
     }
 

@@ -1,7 +1,9 @@
 //! The measuring interval: its pulses, the context of its beginning, and what it becomes at its end.
 ghost use Rattle.std.specs.Prelude.{◌≡◌, ◌≤◌, ◌+◌, ◌≢◌, ℕ, [], None, sum};
+ghost use Rattle.taxi_units.specs.Time.{last_tick, longest_trip};
 ghost use Rattle.taxi_units.specs.declared.event.Operating.TheVariants.{ForHire, Hired, Stopped};
 ghost use Rattle.meter_states.specs.Acts.{StayLawful};
+ghost use Rattle.meter_states.specs.Closing.{roaming_amid, roaming_between};
 ghost use Rattle.meter_states.specs.Core.{Follows, plain_of};
 ghost use Rattle.meter_states.specs.Facts.{AreTrue};
 ghost use Rattle.meter_states.specs.Interval.{counted_in, interval_counted, interval_left, left_in, pulses_taken};
@@ -47,7 +49,7 @@ impl State {
     )
         requires lawful { IsBetweenEvents tables.now self.old }
         requires facts { AreTrue tables.now seal.now facts.old }
-        ensures lawful { IsPowered tables.now 8640000 1001999 0 self.new }
+        ensures lawful { IsPowered tables.now longest_trip roaming_amid 0 self.new }
         ensures facts { AreTrue tables.now seal.now facts.new }
         ensures same { (self.new.operating ≡ self.old.operating) × (self.new.number ≡ self.old.number) }
         ensures state { (s : Setting) (m : Meter) → IsSettingOf s tables.now seal.now → self.old ≡ plain_of s m
@@ -88,7 +90,7 @@ impl State {
         requires lawful { IsBetweenEvents tables.now self.old }
         requires facts { AreTrue tables.now seal.now facts.old }
         requires on { self.old.operating ≡ Hired }
-        ensures lawful { IsPowered tables.now 8640000 999999 0 self.new }
+        ensures lawful { IsPowered tables.now longest_trip roaming_between 0 self.new }
         ensures facts { AreTrue tables.now seal.now facts.new }
         ensures same { (self.new.operating ≡ self.old.operating) × (self.new.number ≡ self.old.number) }
         ensures state { (s : Setting) (m : Meter) → IsSettingOf s tables.now seal.now → self.old ≡ plain_of s m
@@ -106,7 +108,7 @@ impl State {
     fn pass_interval(&mut self, tables: &Tables)
         requires lawful { IsBetweenEvents tables.now self.old }
         requires on { self.old.operating ≡ Stopped }
-        ensures lawful { IsPowered tables.now 8640000 999999 0 self.new }
+        ensures lawful { IsPowered tables.now longest_trip roaming_between 0 self.new }
         ensures same { (self.new.operating ≡ self.old.operating) × (self.new.number ≡ self.old.number) }
         ensures state { (s : Setting) (m : Meter) → self.old ≡ plain_of s m
             → self.new ≡ plain_of s (counted_in s Stopped (sum m.taken) m) }
@@ -120,7 +122,7 @@ impl State {
     /// A supply drop leaves the interval unfinished.
     pub(crate) fn leave_interval(&mut self, tables: &Tables)
         requires lawful { IsBetweenEvents tables.now self.old }
-        ensures lawful { IsPowered tables.now 8639999 1001999 1 self.new }
+        ensures lawful { IsPowered tables.now last_tick roaming_amid 1 self.new }
         ensures same { (self.new.operating ≡ self.old.operating) × (self.new.number ≡ self.old.number) }
         ensures state { (s : Setting) (m : Meter) → self.old ≡ plain_of s m
             → self.new ≡ plain_of s (interval_left m).next }
@@ -137,7 +139,7 @@ impl State {
     fn leave_trip(&mut self, tables: &Tables)
         requires lawful { IsBetweenEvents tables.now self.old }
         requires trip { self.old.trip ≢ None }
-        ensures lawful { IsPowered tables.now 8639999 999999 1 self.new }
+        ensures lawful { IsPowered tables.now last_tick roaming_between 1 self.new }
         ensures same { (self.new.operating ≡ self.old.operating) × (self.new.number ≡ self.old.number) }
         ensures state { (s : Setting) (m : Meter) → self.old ≡ plain_of s m
             → self.new ≡ plain_of s (left_in Hired (sum m.taken) m) }

@@ -35,8 +35,7 @@ impl State {
     )
         requires ready { IsReadyForKey tables.now self.old acts.old.items }
         requires hire { self.old.operating ≡ ForHire }
-        ensures stage { CommitsNothing tables.now seal.now self.old self.new acts.old.items acts.new.items
-            (λ s m. hiring s m) }
+        ensures stage { CommitsNothing tables.now seal.now self.old self.new acts.old.items acts.new.items hiring }
         ensures steps { steps.new ≤ steps.old + 29 }
     {
         if self.number >= HIRINGS_END {
@@ -86,7 +85,7 @@ impl State {
     pub(crate) fn set_position(&mut self, n: u8, tables: &Tables, seal: &Seal, acts: &mut Acts)
         requires ready { IsReadyForKey tables.now self.old acts.old.items }
         ensures stage { CommitsNothing tables.now seal.now self.old self.new acts.old.items acts.new.items
-            (λ s m. position_set s n m) }
+            (λ s. position_set s n) }
     {
         if n < 1 || n > tables.positions() {
             refuse(Why::NoSuch, acts);
@@ -99,7 +98,7 @@ impl State {
     pub(crate) fn set_zone(&mut self, n: u8, tables: &Tables, seal: &Seal, acts: &mut Acts)
         requires ready { IsReadyForKey tables.now self.old acts.old.items }
         ensures stage { CommitsNothing tables.now seal.now self.old self.new acts.old.items acts.new.items
-            (λ s m. zone_set s n m) }
+            (λ s. zone_set s n) }
     {
         if n < 1 || n > tables.zones() {
             refuse(Why::NoSuch, acts);
@@ -119,7 +118,7 @@ impl State {
     )
         requires ready { IsReadyForKey tables.now self.old acts.old.items }
         ensures stage { CommitsNothing tables.now seal.now self.old self.new acts.old.items acts.new.items
-            (λ s m. extra_added n (supplement_at s.tariff n) m) }
+            (λ s. extra_added n (supplement_at s.tariff n)) }
         ensures steps { steps.new ≤ steps.old + 1 }
     {
         let Some(supplement) = find_supplement(tables, n, steps) else {

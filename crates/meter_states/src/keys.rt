@@ -42,8 +42,7 @@ impl State {
         steps: &mut Steps<L>,
     )
         requires ready { IsReadyForKey tables.now self.old acts.old.items }
-        ensures stage { MayClose tables.now seal.now 2 self.old self.new acts.old.items acts.new.items
-            (λ s m. key_pressed s m) }
+        ensures stage { MayClose tables.now seal.now 2 self.old self.new acts.old.items acts.new.items key_pressed }
         ensures steps { steps.new ≤ steps.old + pressing_steps self.old.operating }
     {
         if let Some(key) = self.latch {

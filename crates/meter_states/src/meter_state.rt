@@ -1,6 +1,8 @@
 //! The state of the meter, as the core keeps it.
 ghost use Rattle.std.specs.Prelude.{◌≡◌, ◌≤◌, ℕ, None};
+ghost use Rattle.taxi_units.specs.Time.{longest_trip};
 ghost use Rattle.taxi_units.specs.declared.event.Operating.TheVariants.{Off};
+ghost use Rattle.meter_states.specs.Closing.{roaming_amid};
 ghost use Rattle.meter_states.specs.Core.{plain_of};
 ghost use Rattle.meter_states.specs.Interval as interval;
 ghost use Rattle.meter_states.specs.Lawful.{IsPowered, is_busy};
@@ -107,7 +109,7 @@ impl State {
 
     /// The pulses of the trip so far.
     pub(crate) fn pulses(&self, tables: &Tables) -> u64
-        requires lawful { IsPowered tables.now 8640000 1001999 1 self.now }
+        requires lawful { IsPowered tables.now longest_trip roaming_amid 1 self.now }
         ensures state { (s : Setting) (m : Meter) → self.now ≡ plain_of s m → result ≡ interval.pulses_so_far m.trip }
         ensures range { result ≤ 5000000000000000000 }
     {
@@ -119,9 +121,9 @@ impl State {
 
     /// The ticks of the trip so far.
     pub(crate) fn ticks(&self, tables: &Tables) -> u32
-        requires lawful { IsPowered tables.now 8640000 1001999 1 self.now }
+        requires lawful { IsPowered tables.now longest_trip roaming_amid 1 self.now }
         ensures state { (s : Setting) (m : Meter) → self.now ≡ plain_of s m → result ≡ interval.ticks_so_far m.trip }
-        ensures range { result ≤ 8640000 }
+        ensures range { result ≤ longest_trip }
     {
         match &self.trip {
             None => 0,

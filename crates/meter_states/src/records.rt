@@ -1,7 +1,7 @@
 //! Entries and receipts.
 ghost use Rattle.std.specs.Prelude.{◌≡◌, ◌≢◌, ◌+◌, ◌*◌, ◌≤◌};
 ghost use Rattle.taxi_units.specs.Shown.{IsReceipt};
-ghost use Rattle.taxi_units.specs.Time.{IsSecond};
+ghost use Rattle.taxi_units.specs.Time.{IsSecond, longest_trip};
 ghost use Rattle.taxi_units.specs.declared.receipt.Kind.TheVariants.{Roam};
 ghost use Rattle.totaliser_store.specs.Ranges.{IsEntry};
 ghost use Rattle.meter_states.specs.Closing as model;
@@ -26,9 +26,9 @@ pub(crate) struct Closing {
 
 /// The entry of a trip that is closed at a tariff position, where the store has a number.
 pub(crate) fn entry(kind: Kind, position: u8, trip: &Trip, number: u64, tables: &Tables) -> Entry
-    requires range { IsTripBeside tables.now (number + 1) 8640000 trip.now }
+    requires range { IsTripBeside tables.now (number + 1) longest_trip trip.now }
     requires position { (1 ≤ position) × (position ≤ 9) }
-    requires number { number ≤ 2000000000000000 }
+    requires number { number ≤ model.holds_end }
     requires kind { kind ≢ Roam }
     ensures value { (s : Setting) (t : trips.Trip) → IsTariffOf s tables.now → trip.now ≡ trips.saved_of s t
         → result ≡ model.entry_of s kind position t }
@@ -48,7 +48,7 @@ pub(crate) fn entry(kind: Kind, position: u8, trip: &Trip, number: u64, tables: 
 
 /// The entry of roaming.
 pub(crate) fn roaming_entry(pulses: u32, tables: &Tables) -> Entry
-    requires { pulses ≤ 1001999 }
+    requires { pulses ≤ model.roaming_amid }
     ensures value { (s : Setting) → IsTariffOf s tables.now → result ≡ model.roaming_entry s pulses }
     ensures range { IsEntry result }
 {
@@ -72,9 +72,9 @@ pub(crate) fn receipt<L: Ledger>(
     seal: &Seal,
     steps: &mut Steps<L>,
 ) -> Receipt
-    requires range { IsTripBeside tables.now number 8640000 trip.now }
+    requires range { IsTripBeside tables.now number longest_trip trip.now }
     requires position { (1 ≤ position) × (position ≤ 9) }
-    requires number { (1 ≤ number) × (number ≤ 2000000000000001) }
+    requires number { (1 ≤ number) × (number ≤ model.number_most) }
     requires kind { closing.kind ≢ Roam }
     requires finish { IsSecond closing.finish }
     ensures value { (s : Setting) (t : trips.Trip) → IsSettingOf s tables.now seal.now

@@ -1,9 +1,11 @@
 //! What a supply drop leaves.
 ghost use Rattle.std.specs.Prelude.{◌≡◌, ◌<◌, ◌≤◌, ◌+◌, [], None, Some};
+ghost use Rattle.taxi_units.specs.Time.{last_tick};
 ghost use Rattle.taxi_units.specs.declared.event.Operating.TheVariants.{Off};
 ghost use Rattle.totaliser_store.specs.Ranges.{IsTrip};
 ghost use Rattle.taxi_units.specs.declared.receipt.Kind.TheVariants.{Aborted};
 ghost use Rattle.meter_states.specs.Acts.{StayLawful};
+ghost use Rattle.meter_states.specs.Closing.{holds_end, roaming_amid};
 ghost use Rattle.meter_states.specs.Core.{Follows, plain_of};
 ghost use Rattle.meter_states.specs.Fits.{Fits};
 ghost use Rattle.meter_states.specs.Lawful.{IsBetweenEvents, IsPowered};
@@ -58,7 +60,7 @@ impl State {
         acts: &mut Acts,
         steps: &mut Steps<L>,
     )
-        requires lawful { IsPowered tables.now 8639999 1001999 1 self.old }
+        requires lawful { IsPowered tables.now last_tick roaming_amid 1 self.old }
         requires room { acts.old.items ≡ [] }
         ensures ranges { StayLawful tables.now self.old.number acts.old.items acts.new.items }
         ensures follows { FollowsStage tables.now seal.now self.old self.new acts.old.items acts.new.items
@@ -87,9 +89,9 @@ impl State {
 
     /// The trip is held.
     fn hold(&mut self, trip: Trip, tables: &Tables, seal: &Seal, acts: &mut Acts)
-        requires lawful { IsPowered tables.now 8639999 1001999 1 self.old }
+        requires lawful { IsPowered tables.now last_tick roaming_amid 1 self.old }
         requires trip { self.old.trip ≡ Some trip }
-        requires number { self.old.number < 2000000000000000 }
+        requires number { self.old.number < holds_end }
         requires room { acts.old.items ≡ [] }
         ensures ranges { StayLawful tables.now self.old.number acts.old.items acts.new.items }
         ensures follows { (s : Setting) (m : Meter) (t : trips.Trip) → IsSettingOf s tables.now seal.now
@@ -103,7 +105,7 @@ impl State {
 
     /// The trip as it is held.
     fn held_form(&self, trip: Trip, tables: &Tables) -> Trip
-        requires lawful { IsPowered tables.now 8639999 1001999 1 self.now }
+        requires lawful { IsPowered tables.now last_tick roaming_amid 1 self.now }
         requires trip { self.now.trip ≡ Some trip }
         ensures value { result ≡ record trip {
           saved = self.now.clock;

@@ -2,6 +2,7 @@
 ghost use Rattle.std.specs.Prelude.{◌≡◌, ◌≢◌, ◌≤◌, ◌+◌, [], None, IsTrue, false, nat_le};
 ghost use Rattle.taxi_units.specs.Time.{longest_trip};
 ghost use Rattle.meter_states.specs.Acts.{StayLawful};
+ghost use Rattle.meter_states.specs.Closing.{roaming_amid};
 ghost use Rattle.meter_states.specs.Core.{plain_of};
 ghost use Rattle.meter_states.specs.Facts.{AreTrue};
 ghost use Rattle.meter_states.specs.Interval.{ticks_so_far};
@@ -36,8 +37,7 @@ impl State {
         ensures lawful { IsBetweenEvents tables.now self.new }
         ensures facts { AreTrue tables.now seal.now facts.new }
         ensures ranges { StayLawful tables.now self.old.number acts.old.items acts.new.items }
-        ensures follows { FollowsStage tables.now seal.now self.old self.new acts.old.items acts.new.items
-            (λ s m. ticked s m) }
+        ensures follows { FollowsStage tables.now seal.now self.old self.new acts.old.items acts.new.items ticked }
         ensures steps { steps.new ≤ steps.old + 48 }
     {
         self.count_interval(facts, tables, seal, steps);
@@ -56,10 +56,10 @@ impl State {
         acts: &mut Acts,
         steps: &mut Steps<L>,
     )
-        requires lawful { IsPowered tables.now 8640000 1001999 0 self.old }
+        requires lawful { IsPowered tables.now longest_trip roaming_amid 0 self.old }
         requires room { acts.old.items ≡ [] }
         ensures stage { MayClose tables.now seal.now 3 self.old self.new acts.old.items acts.new.items
-            (λ s m. expired_or_pressed s m) }
+            expired_or_pressed }
         ensures steps { steps.new ≤ steps.old + pressing_steps self.old.operating }
     {
         if self.is_long(tables) {
@@ -71,7 +71,7 @@ impl State {
 
     /// Whether the trip has reached its longest time.
     fn is_long(&self, tables: &Tables) -> bool
-        requires lawful { IsPowered tables.now 8640000 1001999 0 self.now }
+        requires lawful { IsPowered tables.now longest_trip roaming_amid 0 self.now }
         ensures state { (s : Setting) (m : Meter) → self.now ≡ plain_of s m
             → result ≡ nat_le longest_trip (ticks_so_far m.trip) }
         ensures long { IsTrue result → self.now.trip ≢ None }
@@ -91,11 +91,10 @@ impl State {
         acts: &mut Acts,
         steps: &mut Steps<L>,
     )
-        requires lawful { IsPowered tables.now 8640000 1001999 0 self.old }
+        requires lawful { IsPowered tables.now longest_trip roaming_amid 0 self.old }
         requires trip { self.old.trip ≢ None }
         requires room { acts.old.items ≡ [] }
-        ensures stage { ClosesTrip tables.now seal.now 3 self.old self.new acts.old.items acts.new.items
-            (λ s m. expired s m) }
+        ensures stage { ClosesTrip tables.now seal.now 3 self.old self.new acts.old.items acts.new.items expired }
         ensures steps { steps.new ≤ steps.old + 12 }
     {
         let closing = Closing {

@@ -3,8 +3,9 @@ ghost use Rattle.std.specs.Prelude.{◌≡◌, ◌≢◌, ℕ, ◌+◌, ◌-◌,
 ghost use Rattle.drive_modes.specs.Fare.{shown_fare, steps_of};
 ghost use Rattle.tariff_compile.specs.Tables.{AreFit, IsFitInitial, rate_by};
 ghost use Rattle.tariff_syntax.specs.declared.context.Context.{Context};
-ghost use Rattle.taxi_units.specs.Time.{IsSecond};
+ghost use Rattle.taxi_units.specs.Time.{IsSecond, last_tick, longest_trip};
 ghost use Rattle.totaliser_store.specs.declared.trip.Trip as store;
+ghost use Rattle.meter_states.specs.Closing.{roaming_amid};
 ghost use Rattle.meter_states.specs.Lawful.{IsTrip};
 ghost use Rattle.meter_states.specs.Setting.{Setting, IsSettingOf, IsTariffOf};
 ghost use Rattle.meter_states.specs.Supplements.{supplement_in, times};
@@ -22,10 +23,10 @@ use totaliser_store::Trip;
 pub(crate) fn begun(tables: &Tables, fee: Initial, second: u64, roam: u32) -> Trip
     requires second { IsSecond second }
     requires fee { IsFitInitial fee }
-    requires roam { roam ≤ 1001999 }
+    requires roam { roam ≤ roaming_amid }
     ensures saved { (s : Setting) → IsTariffOf s tables.now
         → result ≡ model.saved_of s (model.begun s fee second roam) }
-    ensures range { IsTrip tables.now 8639999 result }
+    ensures range { IsTrip tables.now last_tick result }
     ensures none { (result.pulses ≡ 0) × (result.ticks ≡ 0) }
     ensures started { result.started ≡ second }
 {
@@ -58,11 +59,11 @@ pub(crate) fn add_hired(
     requires pulses { pulses ≤ 2000 }
     requires weights { AreFit tables.now.measure weights }
     requires few { trip.old.pulses ≤ 9000000000000000000 }
-    requires range { IsTrip tables.now 8639999 trip.old }
+    requires range { IsTrip tables.now last_tick trip.old }
     ensures saved { (s : Setting) (t : model.Trip) (x : Context) → IsSettingOf s tables.now seal.now
         → weights ≡ rate_by s.tariff tables.now.constant x → trip.old ≡ model.saved_of s t
         → trip.new ≡ model.saved_of s (model.with_part (model.InHired pulses x) t) }
-    ensures range { IsTrip tables.now 8640000 trip.new }
+    ensures range { IsTrip tables.now longest_trip trip.new }
     ensures counts { (trip.new.pulses ≡ trip.old.pulses + pulses) × (trip.new.ticks ≡ trip.old.ticks + 1) }
     ensures started { trip.new.started ≡ trip.old.started }
 {
@@ -80,10 +81,10 @@ pub(crate) fn add_hired(
 pub(crate) fn add_stopped(trip: &mut Trip, tables: &Tables, pulses: u32)
     requires pulses { pulses ≤ 2000 }
     requires few { trip.old.pulses ≤ 9000000000000000000 }
-    requires range { IsTrip tables.now 8639999 trip.old }
+    requires range { IsTrip tables.now last_tick trip.old }
     ensures saved { (s : Setting) (t : model.Trip) → trip.old ≡ model.saved_of s t
         → trip.new ≡ model.saved_of s (model.with_part (model.InStopped pulses) t) }
-    ensures range { IsTrip tables.now 8640000 trip.new }
+    ensures range { IsTrip tables.now longest_trip trip.new }
     ensures counts { (trip.new.pulses ≡ trip.old.pulses + pulses) × (trip.new.ticks ≡ trip.old.ticks + 1) }
     ensures started { trip.new.started ≡ trip.old.started }
 {
@@ -95,10 +96,10 @@ pub(crate) fn add_stopped(trip: &mut Trip, tables: &Tables, pulses: u32)
 pub(crate) fn add_rest(trip: &mut Trip, tables: &Tables, pulses: u32)
     requires pulses { pulses ≤ 2000 }
     requires few { trip.old.pulses ≤ 9000000000000000000 }
-    requires range { IsTrip tables.now 8639999 trip.old }
+    requires range { IsTrip tables.now last_tick trip.old }
     ensures saved { (s : Setting) (t : model.Trip) → trip.old ≡ model.saved_of s t
         → trip.new ≡ model.saved_of s (model.with_part (model.Rest pulses) t) }
-    ensures range { IsTrip tables.now 8639999 trip.new }
+    ensures range { IsTrip tables.now last_tick trip.new }
     ensures counts { (trip.new.pulses ≡ trip.old.pulses + pulses) × (trip.new.ticks ≡ trip.old.ticks) }
     ensures started { trip.new.started ≡ trip.old.started }
 {
@@ -108,7 +109,7 @@ pub(crate) fn add_rest(trip: &mut Trip, tables: &Tables, pulses: u32)
 /// What is known of the supplements of a trip: how often each was added at most, and what they come to at
 /// most.
 pub(crate) fn extras_are_few(trip: &Trip, tables: &Tables)
-    requires range { IsTrip tables.now 8640000 trip.now }
+    requires range { IsTrip tables.now longest_trip trip.now }
     ensures counts { All (λ count. count ≤ 99) trip.now.extras }
     ensures sum { trip.now.extras_sum ≤ 1584000000 }
 {
@@ -117,7 +118,7 @@ pub(crate) fn extras_are_few(trip: &Trip, tables: &Tables)
 
 /// The display steps that are shown.
 pub(crate) fn display_steps(trip: &Trip, tables: &Tables) -> u64
-    requires range { IsTrip tables.now 8640000 trip.now }
+    requires range { IsTrip tables.now longest_trip trip.now }
     ensures value { (s : Setting) (t : model.Trip) → IsTariffOf s tables.now → trip.now ≡ model.saved_of s t
         → result ≡ model.steps_shown s t }
     ensures exact { result ≡ steps_of tables.now.rounding trip.now.meterage }
@@ -128,7 +129,7 @@ pub(crate) fn display_steps(trip: &Trip, tables: &Tables) -> u64
 
 /// The fare that is shown.
 pub(crate) fn fare(trip: &Trip, tables: &Tables) -> u64
-    requires range { IsTrip tables.now 8640000 trip.now }
+    requires range { IsTrip tables.now longest_trip trip.now }
     ensures value { (s : Setting) (t : model.Trip) → IsTariffOf s tables.now → trip.now ≡ model.saved_of s t
         → result ≡ model.fare_of s t }
     ensures exact { result ≡ shown_fare trip.now.initial trip.now.minimum tables.now.step
@@ -153,10 +154,10 @@ pub(crate) fn add_extra(trip: &mut Trip, tables: &Tables, number: u8, supplement
     requires found { supplement_in tables.now number ≡ Some supplement }
     requires amount { supplement.amount ≤ 1000000 }
     requires few { slice_index trip.old.extras (number - 1) < supplement.max }
-    requires range { IsTrip tables.now 8639999 trip.old }
+    requires range { IsTrip tables.now last_tick trip.old }
     ensures saved { (s : Setting) (t : model.Trip) → IsTariffOf s tables.now → trip.old ≡ model.saved_of s t
         → trip.new ≡ model.saved_of s (model.with_extra number t) }
-    ensures range { IsTrip tables.now 8639999 trip.new }
+    ensures range { IsTrip tables.now last_tick trip.new }
     ensures counts { (trip.new.pulses ≡ trip.old.pulses) × (trip.new.ticks ≡ trip.old.ticks) }
     ensures started { trip.new.started ≡ trip.old.started }
 {

@@ -1,17 +1,12 @@
 -- The supply of the bench's meter.
-use Rattle.std.proofs.Common.{◌≡◌, ℕ, ◌+◌, ◌<◌, ◌≤◌, ◌∙◌, List, [], ◌∷◌, ◌++◌, refl, ap, map, sum, true, false, Option, Some, None, arith}
+use Rattle.std.proofs.Common.{◌≡◌, ◌<◌, refl, sum, true, Option, Some, None, arith}
 use Rattle.std.specs.Prelude.{nat_lt, option_map}
-use Rattle.std.proofs.lemmas.Bool.{lt-ltb, le-ltb}
-use Rattle.std.proofs.lemmas.List.{map-append}
-use Rattle.std.proofs.lemmas.List.Sums.{fold-append}
+use Rattle.std.proofs.lemmas.Bool.{lt-ltb}
 use Rattle.meter_states.specs.Closing.{roaming_entered}
-use Rattle.meter_states.specs.Interval.{interval_left, left_in, ticks_so_far}
-use Rattle.meter_states.specs.Meter.{Meter, quiet}
+use Rattle.meter_states.specs.Meter.{Meter}
 use Rattle.meter_states.specs.Setting.{Setting}
 use Rattle.meter_states.specs.Supply.{kept}
-use Rattle.meter_states.specs.Trip.{Part, Rest, Trip, ticks_in, with_part}
-use Rattle.taxi_units.specs.declared.event.Operating.{Operating}
-use Rattle.taxi_units.specs.declared.event.Operating.TheVariants.{Off, ForHire, Hired, Stopped}
+use Rattle.meter_states.specs.Trip.{Trip}
 use Rattle.totaliser_store.specs.declared.trip.Trip as store
 use Rattle.verify_bench.specs.Bench.{AreTrips, Stands, held_of}
 use Rattle.verify_bench.specs.declared.hiring.Hiring.{Hiring}
@@ -29,13 +24,7 @@ pub hold_beside : (hold : Option store.Trip) (held : Held) → Some held ≡ opt
 hold_beside None held are = absurd cc
 hold_beside (Some trip) held are = (trip, refl, cc)
 
--- no roaming is entered where there is none, and else it is
-pub keeps_none : (s : Setting) (meter : PlainMeter) (m : Meter) → Stands s meter m → meter.hiring ≡ None → meter.roam ≡ 0 → kept s m.trip m ≡ quiet m
-keeps_none s meter m stands none short =
-    let trip : m.trip ≡ None = none_beside s meter.hiring m.trip none stands.trips in
-    let no : nat_lt 0 (sum m.roaming) ≡ false = le-ltb 0 (sum m.roaming) (omega (arith, stands.roam)) in
-    rw (trip, no) refl
-
+-- roaming is entered where there is some
 pub keeps_roaming : (s : Setting) (meter : PlainMeter) (m : Meter) → Stands s meter m → meter.hiring ≡ None → 0 < meter.roam → kept s m.trip m ≡ roaming_entered s m
 keeps_roaming s meter m stands none long =
     let trip : m.trip ≡ None = none_beside s meter.hiring m.trip none stands.trips in

@@ -1,11 +1,10 @@
 -- What the meter of the bench stands for.
-use Rattle.std.proofs.Common.{◌≡◌, ℕ, ◌<◌, ◌≤◌, ◌∙◌, List, [], ◌∷◌, ◌++◌, refl, ap, sym, subst, map, sum, true, false, Bool, Option, Some, None, arith, append_assoc}
+use Rattle.std.proofs.Common.{◌≡◌, ℕ, ◌<◌, ◌≤◌, ◌∙◌, ◌⊎◌, inl, inr, List, [], ◌∷◌, ◌++◌, refl, ap, sym, subst, map, sum, true, false, Bool, Option, Some, None, arith, append_assoc}
 use Rattle.std.specs.Prelude.{nat_le, if◌then◌else◌}
 use Rattle.std.proofs.lemmas.Bool.{le-leb}
 use Rattle.std.proofs.lemmas.List.{append-nil}
 use Rattle.meter_states.specs.Closing.{roaming_checked, roaming_entered}
 use Rattle.meter_states.specs.Display.{shown, display_of, is_shown}
-use Rattle.meter_states.specs.Step.{latch_refused}
 use Rattle.taxi_units.specs.declared.event.Key.{Key}
 use Rattle.meter_states.specs.Interval.{context_of, interval_begun, interval_counted, pulses_so_far, ticks_so_far, with_interval}
 use Rattle.meter_states.specs.Meter.{Meter, Outcome, ◌>>=◌}
@@ -190,3 +189,9 @@ pub acts_by : (s : Setting) (ticks : ℕ) (a b : List Expected) (meter : PlainMe
     → Moves s ticks a b meter (key_in s other operating m) → Moves s ticks a b meter (key_in s key m.operating m)
 acts_by s ticks a b meter m key other operating is at moves =
     subst (λ (k : Key). Moves s ticks a b meter (key_in s k m.operating m)) (sym is) (subst (λ (o : Operating). Moves s ticks a b meter (key_in s other o m)) (sym at) moves)
+
+-- a key acts alike in two operating positions
+pub acts_by_either : (s : Setting) (ticks : ℕ) (a b : List Expected) (meter : PlainMeter) (m : Meter) (key other : Key) (operating one two : Operating) → key ≡ other → operating ≡ m.operating
+    → (operating ≡ one) ⊎ (operating ≡ two) → Moves s ticks a b meter (key_in s other one m) → Moves s ticks a b meter (key_in s other two m) → Moves s ticks a b meter (key_in s key m.operating m)
+acts_by_either s ticks a b meter m key other operating one two is same (inl at) first second = acts_by s ticks a b meter m key other one is (sym same ∙ at) first
+acts_by_either s ticks a b meter m key other operating one two is same (inr at) first second = acts_by s ticks a b meter m key other two is (sym same ∙ at) second

@@ -3,6 +3,7 @@ use Rattle.std.specs.Prelude.{◌≡◌, ℕ, ◌+◌, ◌≤◌, ◌++◌, List
 use Rattle.arrayvec.specs.ArrayVec.{array_vec_len}
 use Rattle.drive_text.specs.Runs.{run_events}
 use Rattle.drive_text.specs.declared.run.Run.{Run}
+use Rattle.taxi_units.specs.Line.{line_size}
 use Rattle.verify_bench.specs.Generated.{Place, Written, lines_text}
 use Rattle.verify_bench.specs.declared.writing.Writing.{Writing}
 
@@ -28,6 +29,6 @@ pub record Adds (old new : Writing) (bytes tenths events : ℕ) (written : Writt
 -- is at most 10^9 tenths, and its events are at most 10^12
 abbrev pub HasRoom : Writing → (bytes tenths events : ℕ) → Type 0
 HasRoom writing bytes tenths events =
-    (array_vec_len writing.text + bytes ≤ 512)
+    (array_vec_len writing.text + bytes ≤ line_size)
     × (writing.tenths + tenths ≤ 1000000000)
     × (writing.events + events ≤ 1000000000000)

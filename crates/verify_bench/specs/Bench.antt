@@ -2,11 +2,12 @@
 -- state is.
 use Rattle.std.specs.Prelude.{◌≡◌, ℕ, ◌+◌, ◌*◌, ◌-◌, ◌^◌, ◌≤◌, ◌++◌, min, sum, List, Option, Some, None, option_map}
 use Rattle.drive_text.specs.Ranges.{IsInRange}
+use Rattle.meter_states.specs.Closing.{holds_end}
 use Rattle.meter_states.specs.Interval.{ticks_so_far}
 use Rattle.meter_states.specs.Meter.{Meter, Outcome}
 use Rattle.meter_states.specs.Setting.{Setting}
 use Rattle.meter_states.specs.Trip.{Trip}
-use Rattle.taxi_units.specs.Time.{IsSecond}
+use Rattle.taxi_units.specs.Time.{IsSecond, last_tick}
 use Rattle.taxi_units.specs.declared.event.Event.{Event}
 use Rattle.taxi_units.specs.declared.event.Operating.TheVariants.{ForHire}
 use Rattle.totaliser_store.specs.declared.trip.Trip as store
@@ -52,7 +53,7 @@ pub record Stands (s : Setting) (meter : PlainMeter) (m : Meter) : Type 0 where
 abbrev pub IsSoundHiring : (number most more : ℕ) → Option Hiring → Type 0
 IsSoundHiring number most more None = Unit {0}
 IsSoundHiring number most more (Some hiring) =
-    IsWhole hiring × (hiring.pulses ≤ 2000 * (hiring.ticks + number + more)) × (number ≤ 2000000000000000)
+    IsWhole hiring × (hiring.pulses ≤ 2000 * (hiring.ticks + number + more)) × (number ≤ holds_end)
     × (hiring.ticks ≤ most)
 
 -- a meter of the bench is sound where its seconds and its pulses are in their ranges, For Hire has no hiring, and a
@@ -67,7 +68,7 @@ pub record IsSound (most more : ℕ) (meter : PlainMeter) : Type 0 where
 -- a meter of the bench may take an event where it is sound, its hiring short of its longest time and no interval
 -- unfinished, and the numbers of the event are in their ranges
 abbrev pub MayTake : PlainMeter → Event → Type 0
-MayTake meter event = IsSound 8639999 0 meter × IsInRange event
+MayTake meter event = IsSound last_tick 0 meter × IsInRange event
 
 -- a hiring has the ticks that it counts, and where there is none they are 0
 abbrev pub HasTicks : Option Hiring → (ticks : ℕ) → Type 0

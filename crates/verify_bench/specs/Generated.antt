@@ -8,7 +8,7 @@ use Rattle.taxi_units.specs.declared.event.Event.TheVariants as events
 use Rattle.taxi_units.specs.declared.event.Key.{Key}
 use Rattle.taxi_units.specs.declared.event.Key.TheVariants.{Hire, Stop, Clear, Position, Zone, Extra}
 
--- the generator stands at a state of its draws, and at a time since its beginning, in tenths of a second
+-- the place of the generator is the state of its draws, and the time since its beginning, in tenths of a second
 pub record Place : Type 0 where
   pub state : ℕ
   pub tenths : ℕ

@@ -1,4 +1,5 @@
--- Rules: in which reports every row passes.
+-- Rules: in which reports every row passes. The law readings_pass_where_each_row_does says that `do_all_pass`, of
+-- PassingStages, is true exactly where each row does.
 use Rattle.std.specs.Prelude.{◌≡◌, ℕ, ◌<◌, List, length, max, codes, slice_get}
 use Rattle.verify_bench.specs.Report.{finding}
 use Rattle.verify_bench.specs.declared.expected.Expected.{Expected}

@@ -1,4 +1,5 @@
--- Rules: texts of readings, which are the header and a row for each reading.
+-- Rules: texts of readings, which are the header and a row for each reading. The law texts_have_one_reading says that
+-- `readings_in`, of ReadingStages, gives what a text is read as.
 use Rattle.std.specs.Prelude.{◌≡◌, ◌≢◌, ℕ, ◌+◌, ◌<◌, ◌≤◌, List, [], ◌∷◌, ◌++◌, length, Result, Ok, Err}
 use Rattle.taxi_units.specs.Number.{decimal_read}
 use Rattle.verify_bench.specs.declared.reading.Reading.{Reading}
@@ -7,8 +8,9 @@ use Rattle.verify_bench.specs.declared.reading.ReadingsFault.TheVariants.{TooLon
 pub use Rattle.verify_bench.specs.ReadingRows.{Row, AreRows, AreFirstRows, header, readings_limit}
 pub use Rattle.verify_bench.specs.ReadingStages.{readings_in}
 
--- a row says a reading where its three fields are read as its fare, with the tariff's decimals, its distance in metres,
--- with three, and its time in seconds, with one
+-- a row says a reading where its three fields are read as the reading's fare, with the tariff's decimals, its distance
+-- in metres, with three decimals, and its time in seconds, with one; `decimal_read` gives the number of a text, as the
+-- law decimals_are_read_by_their_form of taxi_units says
 pub record Says (decimals : ℕ) (row : Row) (reading : Reading) : Type 0 where
   pub fare : List ℕ
   pub distance : List ℕ

@@ -1,4 +1,5 @@
--- Rules: the permissible errors, and the verdict on a reading.
+-- Rules: the permissible errors, and the verdict on a reading. The law verdicts_name_the_first_fault says that
+-- `verdict_of`, of VerdictStages, gives it.
 use Rattle.std.specs.Prelude.{ℕ, ◌*◌, ◌≤◌, ◌⊎◌}
 use Rattle.std.specs.Int.{abs_diff}
 use Rattle.verify_bench.specs.declared.expected.Expected.{Expected}

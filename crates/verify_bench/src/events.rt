@@ -3,7 +3,7 @@ ghost use Rattle.std.specs.Prelude.{◌≡◌, ◌≢◌, ◌≤◌, OnOk};
 ghost use Rattle.meter_states.specs.Interval.{pulses_taken};
 ghost use Rattle.meter_states.specs.Setting.{Setting};
 ghost use Rattle.meter_states.specs.Step.{clock_read, powered_step, step};
-ghost use Rattle.taxi_units.specs.Time.{IsSecond};
+ghost use Rattle.taxi_units.specs.Time.{IsSecond, last_tick};
 ghost use Rattle.taxi_units.specs.declared.event.Operating.TheVariants.{Off};
 ghost use Rattle.verify_bench.specs.Settings.{setting_of};
 
@@ -34,7 +34,7 @@ impl PlainMeter {
         requires takes { MayTake self.old event }
         ensures moves { OnOk result (GoesThroughEvent (setting_of checked.now seal.now) event (λ s. step s event)
             self.old self.new found.old.items found.new.items) }
-        ensures sound { OnOk result (IsSound 8639999 0 self.new) }
+        ensures sound { OnOk result (IsSound last_tick 0 self.new) }
     {
         match self.operating {
             Operating::Off => match event {
@@ -60,7 +60,7 @@ impl PlainMeter {
         requires takes { MayTake self.old event }
         ensures moves { OnOk result (GoesThroughEvent (setting_of checked.now seal.now) event
             (λ s. powered_step s event) self.old self.new found.old.items found.new.items) }
-        ensures sound { OnOk result (IsSound 8639999 0 self.new) }
+        ensures sound { OnOk result (IsSound last_tick 0 self.new) }
     {
         match event {
             Event::Up(_) => Ok(()),
@@ -83,20 +83,20 @@ impl PlainMeter {
 
     /// The interval takes the pulses that it has room for.
     fn take_pulses(&mut self, pulses: u32)
-        requires sound { IsSound 8639999 0 self.old }
+        requires sound { IsSound last_tick 0 self.old }
         ensures moves { (s : Setting) → GoesThroughQuietly s (λ s. pulses_taken pulses) self.old self.new }
-        ensures sound { IsSound 8639999 0 self.new }
+        ensures sound { IsSound last_tick 0 self.new }
     {
         self.taken += pulses.min(INTERVAL_MOST - self.taken);
     }
 
     /// The clock is read: in a trip it doesn't go back.
     fn read_clock(&mut self, second: u64)
-        requires sound { IsSound 8639999 0 self.old }
+        requires sound { IsSound last_tick 0 self.old }
         requires second { IsSecond second }
         ensures moves { (s : Setting) → GoesThroughQuietly s (λ s m. clock_read m.operating second m)
             self.old self.new }
-        ensures sound { IsSound 8639999 0 self.new }
+        ensures sound { IsSound last_tick 0 self.new }
     {
         match self.operating {
             Operating::Off | Operating::ForHire => self.clock = second,

@@ -4,6 +4,7 @@ ghost use Rattle.drive_text.specs.Ranges.{IsRunInRange};
 ghost use Rattle.drive_text.specs.Runs.{interval_events, intervals_events, run_events};
 ghost use Rattle.meter_states.specs.Run.{opened};
 ghost use Rattle.meter_states.specs.Setting.{Setting};
+ghost use Rattle.taxi_units.specs.Time.{last_tick};
 ghost use Rattle.totaliser_store.specs.States.{first_state};
 ghost use Rattle.verify_bench.specs.Carrying.{Carries};
 ghost use Rattle.verify_bench.specs.Expecting.{expected_of};
@@ -69,7 +70,7 @@ impl PlainMeter {
     /// Before the supply first comes, over an empty store.
     fn new() -> PlainMeter
         ensures stands { (s : Setting) → Stands s result (opened s first_state) }
-        ensures sound { IsSound 8639999 0 result }
+        ensures sound { IsSound last_tick 0 result }
     {
         PlainMeter {
             operating: Operating::Off,
@@ -96,11 +97,11 @@ impl PlainMeter {
         found: &mut Vec<Expected>,
         steps: &mut Steps<L>,
     ) -> Result<(), NoMemory>
-        requires sound { IsSound 8639999 0 self.old }
+        requires sound { IsSound last_tick 0 self.old }
         requires range { IsRunInRange run }
         ensures carries { OnOk result (Carries (setting_of checked.now seal.now) (run_events run)
             self.old self.new found.old.items found.new.items) }
-        ensures sound { OnOk result (IsSound 8639999 0 self.new) }
+        ensures sound { OnOk result (IsSound last_tick 0 self.new) }
     {
         match run {
             Run::One(event) => self.carry(event, alloc, checked, seal, found, steps),
@@ -121,11 +122,11 @@ impl PlainMeter {
         found: &mut Vec<Expected>,
         steps: &mut Steps<L>,
     ) -> Result<(), NoMemory>
-        requires sound { IsSound 8639999 0 self.old }
+        requires sound { IsSound last_tick 0 self.old }
         requires pulses { pulses ≤ 65535 }
         ensures carries { OnOk result (Carries (setting_of checked.now seal.now) (intervals_events pulses count)
             self.old self.new found.old.items found.new.items) }
-        ensures sound { OnOk result (IsSound 8639999 0 self.new) }
+        ensures sound { OnOk result (IsSound last_tick 0 self.new) }
     {
         for place in 0..count {
             self.interval(pulses, alloc, checked, seal, found, steps)?;
@@ -143,11 +144,11 @@ impl PlainMeter {
         found: &mut Vec<Expected>,
         steps: &mut Steps<L>,
     ) -> Result<(), NoMemory>
-        requires sound { IsSound 8639999 0 self.old }
+        requires sound { IsSound last_tick 0 self.old }
         requires pulses { pulses ≤ 65535 }
         ensures carries { OnOk result (Carries (setting_of checked.now seal.now) (interval_events pulses)
             self.old self.new found.old.items found.new.items) }
-        ensures sound { OnOk result (IsSound 8639999 0 self.new) }
+        ensures sound { OnOk result (IsSound last_tick 0 self.new) }
     {
         if pulses == 0 {
             return self.carry(Event::Tick, alloc, checked, seal, found, steps);
@@ -169,7 +170,7 @@ impl PlainMeter {
         requires takes { MayTake self.old event }
         ensures carries { OnOk result (Carries (setting_of checked.now seal.now) (event ∷ [])
             self.old self.new found.old.items found.new.items) }
-        ensures sound { OnOk result (IsSound 8639999 0 self.new) }
+        ensures sound { OnOk result (IsSound last_tick 0 self.new) }
     {
         self.event(event, alloc, checked, seal, found, steps)?;
         Ok(())

@@ -3,6 +3,7 @@ ghost use Rattle.std.specs.Prelude.{◌≡◌, ℕ, ◌+◌, ◌*◌, ◌^◌, �
 ghost use Rattle.meter_states.specs.Supplements.{times};
 ghost use Rattle.tariff_compile.specs.Tables.{IsFitInitial};
 ghost use Rattle.meter_states.specs.Trip.{Trip, fare_of};
+ghost use Rattle.taxi_units.specs.Time.{longest_trip};
 ghost use Rattle.verify_bench.specs.Hirings.{IsTrip, part_charge, part_pulses, part_ticks};
 ghost use Rattle.verify_bench.specs.Settings.{setting_of};
 
@@ -71,10 +72,7 @@ impl Hiring {
     {
         self.pulses += pulses_of(&part) as u64;
         self.ticks += ticks_of(&part);
-        match self.parts.push(part) {
-            Ok(()) => Ok(()),
-            Err(_) => Err(NoMemory),
-        }
+        self.parts.push(part).map_err(|_| NoMemory)
     }
 
     /// A supplement more.
@@ -87,10 +85,7 @@ impl Hiring {
         ensures pulses { OnOk result (self.new.pulses ≡ self.old.pulses) }
         ensures ticks { OnOk result (self.new.ticks ≡ self.old.ticks) }
     {
-        match self.extras.push(number) {
-            Ok(()) => Ok(()),
-            Err(_) => Err(NoMemory),
-        }
+        self.extras.push(number).map_err(|_| NoMemory)
     }
 
     /// How often a supplement was added.
@@ -109,10 +104,10 @@ impl Hiring {
     /// The sum of the charges of its intervals.
     fn charges(&self, checked: &Checked, seal: &Seal) -> u128
         requires whole { IsWhole self.now }
-        requires ticks { self.now.ticks ≤ 8640000 }
+        requires ticks { self.now.ticks ≤ longest_trip }
         ensures charged { result
             ≡ sum (map (part_charge (setting_of checked.now seal.now)) self.now.parts.items) }
-        ensures bound { result ≤ 8640000 * (202 * 10 ^ 29) }
+        ensures bound { result ≤ longest_trip * (202 * 10 ^ 29) }
     {
         let mut total = 0;
         for part in self.parts.as_slice() {
@@ -124,7 +119,7 @@ impl Hiring {
     /// Its fare.
     pub(crate) fn fare(&self, checked: &Checked, seal: &Seal) -> u64
         requires whole { IsWhole self.now }
-        requires ticks { self.now.ticks ≤ 8640000 }
+        requires ticks { self.now.ticks ≤ longest_trip }
         ensures { (trip : Trip) → IsTrip (setting_of checked.now seal.now) self.now trip
             → result ≡ fare_of (setting_of checked.now seal.now) trip }
     {

@@ -1,8 +1,11 @@
 //! What keys do to the meter of the bench.
+#![tactic(auto, using(crate::proofs::Benches::looser))]
+
 ghost use Rattle.std.specs.Prelude.{◌≡◌, ◌≢◌, ◌≤◌, Some, OnOk, true};
 ghost use Rattle.meter_states.specs.Keys.{extra_added, hiring, key_in, latched, position_set, zone_set};
 ghost use Rattle.meter_states.specs.Setting.{Setting};
 ghost use Rattle.tariff_compile.specs.Tables.{supplement_at};
+ghost use Rattle.taxi_units.specs.Time.{last_tick};
 ghost use Rattle.verify_bench.specs.Settings.{setting_of};
 
 use crate::expected::Expected;
@@ -22,9 +25,9 @@ impl PlainMeter {
 
     /// A key waits, where none does.
     pub(crate) fn latch_key(&mut self, key: Key)
-        requires sound { IsSound 8639999 0 self.old }
+        requires sound { IsSound last_tick 0 self.old }
         ensures moves { (s : Setting) → GoesThroughQuietly s (λ s m. latched m.latch key m) self.old self.new }
-        ensures sound { IsSound 8639999 0 self.new }
+        ensures sound { IsSound last_tick 0 self.new }
     {
         match self.latch {
             None => self.latch = Some(key),
@@ -33,7 +36,6 @@ impl PlainMeter {
     }
 
     /// A trip begins.
-    #[tactic(auto, using(crate::proofs::Benches::looser))]
     pub(crate) fn hire<L: Ledger>(
         &mut self,
         alloc: Global,
@@ -41,9 +43,9 @@ impl PlainMeter {
         seal: &Seal,
         steps: &mut Steps<L>,
     )
-        requires sound { IsSound 8639999 0 self.old }
+        requires sound { IsSound last_tick 0 self.old }
         ensures moves { GoesThroughQuietly (setting_of checked.now seal.now) hiring self.old self.new }
-        ensures sound { IsSound 8639999 0 self.new }
+        ensures sound { IsSound last_tick 0 self.new }
     {
         if self.number >= HIRINGS_END {
             return;
@@ -57,10 +59,10 @@ impl PlainMeter {
 
     /// A tariff position is set.
     fn set_position(&mut self, number: u8, checked: &Checked, seal: &Seal)
-        requires sound { IsSound 8639999 0 self.old }
+        requires sound { IsSound last_tick 0 self.old }
         ensures moves { GoesThroughQuietly (setting_of checked.now seal.now) (λ s. position_set s number)
             self.old self.new }
-        ensures sound { IsSound 8639999 0 self.new }
+        ensures sound { IsSound last_tick 0 self.new }
     {
         if 1 <= number && number <= checked.positions() {
             self.position = number;
@@ -69,10 +71,10 @@ impl PlainMeter {
 
     /// A zone is set.
     fn set_zone(&mut self, number: u8, checked: &Checked, seal: &Seal)
-        requires sound { IsSound 8639999 0 self.old }
+        requires sound { IsSound last_tick 0 self.old }
         ensures moves { GoesThroughQuietly (setting_of checked.now seal.now) (λ s. zone_set s number)
             self.old self.new }
-        ensures sound { IsSound 8639999 0 self.new }
+        ensures sound { IsSound last_tick 0 self.new }
     {
         if 1 <= number && number <= checked.zones() {
             self.zone = number;
@@ -81,26 +83,23 @@ impl PlainMeter {
 
     /// A supplement is added to the trip, where the tariff has it, up to its most.
     fn add_supplement(&mut self, number: u8, checked: &Checked, seal: &Seal) -> Result<(), NoMemory>
-        requires sound { IsSound 8639999 0 self.old }
+        requires sound { IsSound last_tick 0 self.old }
         ensures moves { OnOk result (GoesThroughQuietly (setting_of checked.now seal.now)
             (λ s. extra_added number (supplement_at s.tariff number)) self.old self.new) }
-        ensures sound { OnOk result (IsSound 8639999 0 self.new) }
+        ensures sound { OnOk result (IsSound last_tick 0 self.new) }
     {
         match supplement_at(checked.tariff().lines.as_slice(), number) {
             None => Ok(()),
-            Some(supplement) => {
-                self.add_up_to(number, supplement)?;
-                Ok(())
-            }
+            Some(supplement) => self.add_up_to(number, supplement),
         }
     }
 
     /// It is added up to its most.
     fn add_up_to(&mut self, number: u8, supplement: Supplement) -> Result<(), NoMemory>
-        requires sound { IsSound 8639999 0 self.old }
+        requires sound { IsSound last_tick 0 self.old }
         ensures moves { OnOk result ((s : Setting) → GoesThroughQuietly s (λ s. extra_added number (Some supplement))
             self.old self.new) }
-        ensures sound { OnOk result (IsSound 8639999 0 self.new) }
+        ensures sound { OnOk result (IsSound last_tick 0 self.new) }
     {
         match &mut self.hiring {
             None => Ok(()),
@@ -115,7 +114,6 @@ impl PlainMeter {
     }
 
     /// A key acts.
-    #[tactic(auto, using(crate::proofs::Benches::looser))]
     pub(crate) fn act<L: Ledger>(
         &mut self,
         key: Key,
@@ -125,10 +123,10 @@ impl PlainMeter {
         found: &mut Vec<Expected>,
         steps: &mut Steps<L>,
     ) -> Result<(), NoMemory>
-        requires sound { IsSound 8639999 0 self.old }
+        requires sound { IsSound last_tick 0 self.old }
         ensures moves { OnOk result (GoesThrough (setting_of checked.now seal.now)
             (λ s m. key_in s key m.operating m) self.old self.new found.old.items found.new.items) }
-        ensures sound { OnOk result (IsSound 8639999 0 self.new) }
+        ensures sound { OnOk result (IsSound last_tick 0 self.new) }
     {
         match (key, self.operating) {
             (Key::Hire, Operating::ForHire) => {
@@ -144,29 +142,16 @@ impl PlainMeter {
                 Ok(())
             }
             (Key::Clear, Operating::Stopped) => self.close(Kind::Closed, checked, seal, found),
-            (Key::Position(number), Operating::ForHire) => {
+            (Key::Position(number), Operating::ForHire | Operating::Hired) => {
                 self.set_position(number, checked, seal);
                 Ok(())
             }
-            (Key::Position(number), Operating::Hired) => {
-                self.set_position(number, checked, seal);
-                Ok(())
-            }
-            (Key::Zone(number), Operating::ForHire) => {
+            (Key::Zone(number), Operating::ForHire | Operating::Hired) => {
                 self.set_zone(number, checked, seal);
                 Ok(())
             }
-            (Key::Zone(number), Operating::Hired) => {
-                self.set_zone(number, checked, seal);
-                Ok(())
-            }
-            (Key::Extra(number), Operating::Hired) => {
-                self.add_supplement(number, checked, seal)?;
-                Ok(())
-            }
-            (Key::Extra(number), Operating::Stopped) => {
-                self.add_supplement(number, checked, seal)?;
-                Ok(())
+            (Key::Extra(number), Operating::Hired | Operating::Stopped) => {
+                self.add_supplement(number, checked, seal)
             }
             _ => Ok(()),
         }

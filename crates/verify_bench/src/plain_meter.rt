@@ -1,4 +1,6 @@
 //! The meter of the bench: it keeps each interval of a trip, and adds up at its end.
+#![tactic(auto, using(crate::proofs::Benches::looser))]
+
 ghost use Rattle.std.specs.Prelude.{◌≡◌, ◌≢◌, ℕ, ◌+◌, ◌-◌, ◌≤◌, ◌<◌, None, OnOk, true};
 ghost use Rattle.interval_clock.specs.LocalTime.{local_second, local_time_of};
 ghost use Rattle.meter_states.specs.Closing.{closed, roaming_checked, roaming_entered};
@@ -6,7 +8,7 @@ ghost use Rattle.meter_states.specs.Interval.{context_on, interval_counted, inte
 ghost use Rattle.meter_states.specs.Meter.{Meter};
 ghost use Rattle.meter_states.specs.Setting.{Setting, local_at};
 ghost use Rattle.meter_states.specs.Trip.{Trip, fare_of, pulses_of, ticks_of};
-ghost use Rattle.taxi_units.specs.Time.{IsSecond};
+ghost use Rattle.taxi_units.specs.Time.{IsSecond, last_tick, longest_trip};
 ghost use Rattle.taxi_units.specs.declared.event.Operating.TheVariants.{ForHire, Off};
 ghost use Rattle.totaliser_store.specs.Entries.{is_of_hiring};
 ghost use Rattle.verify_bench.specs.Hirings.{IsTrip, IsWhole, part_of, part_pulses, part_ticks};
@@ -63,7 +65,7 @@ impl PlainMeter {
 
     /// How many ticks the trip has, 0 without one.
     pub(crate) fn ticks(&self) -> u32
-        requires { IsSound 8640000 1 self.now }
+        requires { IsSound longest_trip 1 self.now }
         ensures stands { (s : Setting) (m : Meter) → Stands s self.now m → result ≡ ticks_so_far m.trip }
         ensures own { HasTicks self.now.hiring result }
     {
@@ -75,7 +77,7 @@ impl PlainMeter {
 
     /// How many pulses the trip has, 0 without one.
     fn pulses(&self) -> u64
-        requires { IsSound 8640000 1 self.now }
+        requires { IsSound longest_trip 1 self.now }
         ensures { (s : Setting) (m : Meter) → Stands s self.now m → result ≡ pulses_so_far m.trip }
     {
         match &self.hiring {
@@ -93,7 +95,7 @@ impl PlainMeter {
         steps: &mut Steps<L>,
     ) -> Context
         requires second { IsSecond second }
-        requires sound { IsSound 8640000 1 self.now }
+        requires sound { IsSound longest_trip 1 self.now }
         ensures { (m : Meter) → Stands (setting_of checked.now seal.now) self.now m
             → result ≡ context_on (setting_of checked.now seal.now)
             (local_at (setting_of checked.now seal.now) second) m }
@@ -121,11 +123,11 @@ impl PlainMeter {
         seal: &Seal,
         found: &mut Vec<Expected>,
     ) -> Result<(), NoMemory>
-        requires sound { IsSound 8640000 1 self.old }
+        requires sound { IsSound longest_trip 1 self.old }
         requires kind { is_of_hiring kind ≡ true }
         ensures moves { OnOk result ((finish : ℕ) → GoesThrough (setting_of checked.now seal.now)
             (λ s. closed s kind finish) self.old self.new found.old.items found.new.items) }
-        ensures sound { OnOk result (IsSound 8639999 0 self.new) }
+        ensures sound { OnOk result (IsSound last_tick 0 self.new) }
     {
         self.operating = Operating::ForHire;
         let hiring = self.hiring.take();
@@ -135,20 +137,17 @@ impl PlainMeter {
                 self.number = self.number.saturating_add(1);
                 self.held = None;
                 let expected = receipt_of(&hiring, kind, checked, seal);
-                match found.push(expected) {
-                    Ok(()) => Ok(()),
-                    Err(_) => Err(NoMemory),
-                }
+                found.push(expected).map_err(|_| NoMemory)
             }
         }
     }
 
     /// Roaming is entered.
     pub(crate) fn enter_roaming(&mut self)
-        requires sound { IsSound 8639999 0 self.old }
+        requires sound { IsSound last_tick 0 self.old }
         requires none { self.old.hiring ≡ None }
         ensures moves { (s : Setting) → GoesThroughQuietly s roaming_entered self.old self.new }
-        ensures sound { IsSound 8639999 0 self.new }
+        ensures sound { IsSound last_tick 0 self.new }
         ensures operating { self.new.operating ≡ self.old.operating }
     {
         self.roam = 0;
@@ -157,27 +156,21 @@ impl PlainMeter {
 
     /// Roaming is entered for hire where it is long.
     pub(crate) fn check_roaming(&mut self)
-        requires sound { IsSound 8639999 0 self.old }
+        requires sound { IsSound last_tick 0 self.old }
         ensures moves { (s : Setting) → GoesThroughQuietly s roaming_checked self.old self.new }
-        ensures sound { IsSound 8639999 0 self.new }
+        ensures sound { IsSound last_tick 0 self.new }
     {
-        match self.operating {
-            Operating::Off | Operating::Hired | Operating::Stopped => {}
-            Operating::ForHire => {
-                if self.roam < ROAMING_MOST {
-                    return;
-                }
-                self.enter_roaming();
-            }
+        if matches!(self.operating, Operating::ForHire) && self.roam >= ROAMING_MOST {
+            self.enter_roaming();
         }
     }
 
     /// The pulses of the interval are roamed, while the store takes hirings.
     fn roam_on(&mut self)
-        requires sound { IsSound 8639999 0 self.old }
+        requires sound { IsSound last_tick 0 self.old }
         ensures stands { (s : Setting) (m : Meter) → Stands s self.old m
             → Stands s self.new (with_roaming self.old.taken m) }
-        ensures sound { IsSound 8639999 0 self.new }
+        ensures sound { IsSound last_tick 0 self.new }
     {
         let pulses = self.taken;
         self.taken = 0;
@@ -188,11 +181,11 @@ impl PlainMeter {
 
     /// The trip has an interval more.
     fn add_part(&mut self, part: Part) -> Result<(), NoMemory>
-        requires sound { IsSound 8639999 0 self.old }
+        requires sound { IsSound last_tick 0 self.old }
         requires slow { part_pulses part ≤ 2000 }
         ensures stands { OnOk result ((s : Setting) (m : Meter) → Stands s self.old m
             → Stands s self.new (with_interval (part_of part) m)) }
-        ensures sound { OnOk result (IsSound (8639999 + part_ticks part) (1 - part_ticks part) self.new) }
+        ensures sound { OnOk result (IsSound (last_tick + part_ticks part) (1 - part_ticks part) self.new) }
     {
         self.taken = 0;
         match &mut self.hiring {
@@ -202,18 +195,17 @@ impl PlainMeter {
     }
 
     /// The interval ends.
-    #[tactic(auto, using(crate::proofs::Benches::looser))]
     pub(crate) fn count_interval<L: Ledger>(
         &mut self,
         checked: &Checked,
         seal: &Seal,
         steps: &mut Steps<L>,
     ) -> Result<(), NoMemory>
-        requires sound { IsSound 8639999 0 self.old }
+        requires sound { IsSound last_tick 0 self.old }
         ensures stands { OnOk result ((m : Meter) → Stands (setting_of checked.now seal.now) self.old m
             → Stands (setting_of checked.now seal.now) self.new
             (interval_counted (setting_of checked.now seal.now) m).next) }
-        ensures sound { OnOk result (IsSound 8640000 0 self.new) }
+        ensures sound { OnOk result (IsSound longest_trip 0 self.new) }
     {
         match self.operating {
             Operating::Off => Ok(()),
@@ -231,12 +223,11 @@ impl PlainMeter {
     }
 
     /// A supply drop leaves the interval unfinished.
-    #[tactic(auto, using(crate::proofs::Benches::looser))]
     pub(crate) fn leave_interval(&mut self) -> Result<(), NoMemory>
-        requires sound { IsSound 8639999 0 self.old }
+        requires sound { IsSound last_tick 0 self.old }
         ensures stands { OnOk result ((s : Setting) (m : Meter) → Stands s self.old m
             → Stands s self.new (interval_left m).next) }
-        ensures sound { OnOk result (IsSound 8639999 1 self.new) }
+        ensures sound { OnOk result (IsSound last_tick 1 self.new) }
     {
         match self.operating {
             Operating::Off => Ok(()),
@@ -252,7 +243,7 @@ impl PlainMeter {
 /// What the receipt of a trip says.
 fn receipt_of(hiring: &Hiring, kind: Kind, checked: &Checked, seal: &Seal) -> Expected
     requires whole { IsWhole hiring.now }
-    requires ticks { hiring.now.ticks ≤ 8640000 }
+    requires ticks { hiring.now.ticks ≤ longest_trip }
     ensures { (trip : Trip) → IsTrip (setting_of checked.now seal.now) hiring.now trip → result
         ≡ record {
           kind = kind;

@@ -8,6 +8,7 @@ ghost use Rattle.tariff_check.specs.Sound.{IsSoundRate};
 ghost use Rattle.tariff_compile.specs.Tables.{IsFitInitial, initial_by, number_of};
 ghost use Rattle.tariff_syntax.specs.Meaning.{minimum_place};
 ghost use Rattle.tariff_syntax.specs.Tree.{tree_of};
+ghost use Rattle.taxi_units.specs.Time.{longest_trip};
 ghost use Rattle.verify_bench.specs.Settings.{setting_of};
 ghost use Rattle.verify_bench.specs.Tree.{numbers_of};
 
@@ -102,7 +103,7 @@ fn minimum_fare(tariff: &Tariff, x: &Context) -> u64
 /// The fare that is shown of a hiring whose charges have this sum.
 pub(crate) fn fare(checked: &Checked, seal: &Seal, fee: Initial, charged: u128) -> u64
     requires fee { IsFitInitial fee }
-    requires charged { charged ≤ 8640000 * (202 * 10 ^ 29) }
+    requires charged { charged ≤ longest_trip * (202 * 10 ^ 29) }
     ensures { result ≡ shown_fare fee.amount fee.minimum (step_of (setting_of checked.now seal.now))
         (steps_above (rounding_of (setting_of checked.now seal.now))
         (record {

@@ -74,10 +74,7 @@ fn take_row(
     let Some(reading) = reading_of(row, decimals) else {
         return Err(ReadingsFault::BadRow(readings.len() as u64 + 2));
     };
-    match readings.push(reading) {
-        Ok(()) => Ok(()),
-        Err(_) => Err(ReadingsFault::NoMemory),
-    }
+    readings.push(reading).map_err(|_| ReadingsFault::NoMemory)
 }
 
 /// A text of readings has one answer, which is a function of the text and the tariff's decimals: the

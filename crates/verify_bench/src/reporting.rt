@@ -40,10 +40,7 @@ pub fn report(
         let row = row_of(alloc, place, expected, reading, step, decimals)?;
         put_row(&mut writer, &row)?;
     }
-    match writer.into_inner() {
-        Ok(text) => Ok(text),
-        Err(_) => Err(NoMemory),
-    }
+    writer.into_inner().map_err(|_| NoMemory)
 }
 
 /// The element at a place, where there is one.
@@ -58,10 +55,7 @@ fn put_row(writer: &mut Writer<Vec<u8>>, row: &ByteRecord) -> Result<(), NoMemor
     ensures { OnOk result ((text : List ℕ) → HasRows (λ v. Some v.items) writer.old text
         → HasRows (λ v. Some v.items) writer.new (text ++ row_text default_writer (fields_of row.now))) }
 {
-    match writer.write_byte_record(row) {
-        Ok(()) => Ok(()),
-        Err(_) => Err(NoMemory),
-    }
+    writer.write_byte_record(row).map_err(|_| NoMemory)
 }
 
 /// A row without fields.
@@ -75,10 +69,7 @@ fn begin_row(alloc: Global) -> ByteRecord
 fn put_field(row: &mut ByteRecord, field: &[u8]) -> Result<(), NoMemory>
     ensures { OnOk result ((fields : List (List ℕ)) → IsRow row.old fields → IsRow row.new (fields ++ field.now ∷ [])) }
 {
-    match row.push_field(field) {
-        Ok(()) => Ok(()),
-        Err(_) => Err(NoMemory),
-    }
+    row.push_field(field).map_err(|_| NoMemory)
 }
 
 /// The header.

@@ -1,6 +1,7 @@
 //! Writes the cross-over speeds of a tariff.
 ghost use Rattle.std.specs.Prelude.{◌≡◌, ◌+◌, ◌≤◌, ◌<◌, ◌^◌, ◌++◌, [], All, map, length, IfOk, OnOk};
 ghost use Rattle.arrayvec.specs.ArrayVec.{array_vec_len};
+ghost use Rattle.taxi_units.specs.Line.{line_size};
 ghost use Rattle.tariff_check.specs.Parts.{RateNumbers, rates_of};
 ghost use Rattle.tariff_check.specs.Sound.{IsSoundRate};
 ghost use Rattle.tariff_syntax.specs.Tree.{line_of, tree_of};
@@ -34,10 +35,8 @@ fn lines_of_rates(alloc: Global, lines: &[TariffLine]) -> Result<Vec<u8>, NoMemo
         if let Item::Rate(rate) = &line.item {
             number += 1;
             let line = line_of_rate(number, rate);
-            match text.extend_from_slice(line.as_slice()) {
-                Ok(()) => {}
-                Err(_) => return Err(NoMemory),
-            }
+            text.extend_from_slice(line.as_slice())
+                .map_err(|_| NoMemory)?;
         }
     }
     Ok(text)
@@ -68,7 +67,7 @@ fn speed_of(rate: &RateLine) -> Option<u128>
 
 /// Appends a speed.
 fn push_speed(line: &mut Line, speed: Option<u128>)
-    requires { array_vec_len line.old + 100 ≤ 512 }
+    requires { array_vec_len line.old + 100 ≤ line_size }
     ensures text { line.new.items ≡ line.old.items ++ speed_text speed }
     ensures len { array_vec_len line.new ≤ array_vec_len line.old + 44 }
 {

@@ -1,12 +1,13 @@
 //! What the supply does to the meter of the bench.
 ghost use Rattle.std.specs.Prelude.{◌≡◌, ◌≢◌, ◌+◌, ◌<◌, ◌≤◌, ◌&&◌, nat_le, None, Some, OnOk};
+ghost use Rattle.meter_states.specs.Closing.{holds_end};
 ghost use Rattle.meter_states.specs.Interval.{ticks_so_far};
 ghost use Rattle.meter_states.specs.Meter.{Meter, held};
 ghost use Rattle.meter_states.specs.Trip.{Trip, held_trip};
 ghost use Rattle.meter_states.specs.Run.{ended};
 ghost use Rattle.meter_states.specs.Setting.{Setting};
 ghost use Rattle.meter_states.specs.Supply.{aborted, hold_taken, is_stopped, kept, powered, resumed, supply_came, supply_dropped};
-ghost use Rattle.taxi_units.specs.Time.{IsSecond};
+ghost use Rattle.taxi_units.specs.Time.{IsSecond, last_tick};
 ghost use Rattle.taxi_units.specs.declared.event.Operating.TheVariants.{Off};
 ghost use Rattle.totaliser_store.specs.declared.trip.Trip as store;
 ghost use Rattle.verify_bench.specs.Bench.{held_of};
@@ -30,11 +31,11 @@ impl PlainMeter {
         seal: &Seal,
         found: &mut Vec<Expected>,
     ) -> Result<(), NoMemory>
-        requires sound { IsSound 8639999 0 self.old }
+        requires sound { IsSound last_tick 0 self.old }
         requires second { IsSecond second }
         ensures moves { OnOk result (GoesThrough (setting_of checked.now seal.now) (λ s. supply_came s second)
             self.old self.new found.old.items found.new.items) }
-        ensures sound { OnOk result (IsSound 8639999 0 self.new) }
+        ensures sound { OnOk result (IsSound last_tick 0 self.new) }
     {
         self.wake(second);
         self.take_hold(second, checked, seal, found)
@@ -42,10 +43,10 @@ impl PlainMeter {
 
     /// It is powered, and still off.
     fn wake(&mut self, second: u64)
-        requires sound { IsSound 8639999 0 self.old }
+        requires sound { IsSound last_tick 0 self.old }
         requires second { IsSecond second }
         ensures stands { (s : Setting) (m : Meter) → Stands s self.old m → Stands s self.new (waking second m) }
-        ensures sound { IsSound 8639999 0 self.new }
+        ensures sound { IsSound last_tick 0 self.new }
     {
         self.operating = Operating::Off;
         self.clock = second;
@@ -65,12 +66,12 @@ impl PlainMeter {
         seal: &Seal,
         found: &mut Vec<Expected>,
     ) -> Result<(), NoMemory>
-        requires sound { IsSound 8639999 0 self.old }
+        requires sound { IsSound last_tick 0 self.old }
         requires second { IsSecond second }
         ensures moves { OnOk result ((m : Meter) → Stands (setting_of checked.now seal.now) self.old (waking second m)
             → Moves (setting_of checked.now seal.now) (ticks_so_far m.trip) found.old.items found.new.items self.new
             (hold_taken (setting_of checked.now seal.now) second m.durable.hold (powered second m))) }
-        ensures sound { OnOk result (IsSound 8639999 0 self.new) }
+        ensures sound { OnOk result (IsSound last_tick 0 self.new) }
     {
         match self.held {
             None => {
@@ -92,10 +93,10 @@ impl PlainMeter {
 
     /// A held trip goes on.
     fn resume(&mut self, held: Held)
-        requires sound { IsSound 8639999 0 self.old }
+        requires sound { IsSound last_tick 0 self.old }
         ensures moves { (s : Setting) (trip : store.Trip) → held ≡ held_of trip
             → GoesThroughQuietly s (λ s. resumed trip) self.old self.new }
-        ensures sound { IsSound 8639999 0 self.new }
+        ensures sound { IsSound last_tick 0 self.new }
     {
         self.operating = if held.stopped {
             Operating::Stopped
@@ -114,11 +115,11 @@ impl PlainMeter {
         seal: &Seal,
         found: &mut Vec<Expected>,
     ) -> Result<(), NoMemory>
-        requires sound { IsSound 8639999 0 self.old }
+        requires sound { IsSound last_tick 0 self.old }
         ensures moves { OnOk result ((trip : store.Trip) → held ≡ held_of trip
             → GoesThrough (setting_of checked.now seal.now) (λ s. aborted s trip)
             self.old self.new found.old.items found.new.items) }
-        ensures sound { OnOk result (IsSound 8639999 0 self.new) }
+        ensures sound { OnOk result (IsSound last_tick 0 self.new) }
     {
         self.position = held.position;
         self.close(Kind::Aborted, checked, seal, found)?;
@@ -134,10 +135,10 @@ impl PlainMeter {
         seal: &Seal,
         found: &mut Vec<Expected>,
     ) -> Result<(), NoMemory>
-        requires sound { IsSound 8639999 0 self.old }
+        requires sound { IsSound last_tick 0 self.old }
         ensures moves { OnOk result (GoesThrough (setting_of checked.now seal.now) supply_dropped
             self.old self.new found.old.items found.new.items) }
-        ensures sound { OnOk result (IsSound 8639999 0 self.new) }
+        ensures sound { OnOk result (IsSound last_tick 0 self.new) }
     {
         self.leave_interval()?;
         self.keep(checked, seal, found)?;
@@ -153,10 +154,10 @@ impl PlainMeter {
         seal: &Seal,
         found: &mut Vec<Expected>,
     ) -> Result<(), NoMemory>
-        requires sound { IsSound 8639999 1 self.old }
+        requires sound { IsSound last_tick 1 self.old }
         ensures moves { OnOk result (GoesThrough (setting_of checked.now seal.now) (λ s m. kept s m.trip m)
             self.old self.new found.old.items found.new.items) }
-        ensures sound { OnOk result (IsSound 8639999 0 self.new) }
+        ensures sound { OnOk result (IsSound last_tick 0 self.new) }
     {
         match &self.hiring {
             None => {
@@ -176,10 +177,10 @@ impl PlainMeter {
     /// Without a trip roaming is entered, where there is any.
     #[tactic(auto, using(crate::proofs::Benches::sound_without))]
     fn keep_roaming(&mut self)
-        requires sound { IsSound 8639999 1 self.old }
+        requires sound { IsSound last_tick 1 self.old }
         requires none { self.old.hiring ≡ None }
         ensures moves { (s : Setting) → GoesThroughQuietly s (λ s m. kept s m.trip m) self.old self.new }
-        ensures sound { IsSound 8639999 0 self.new }
+        ensures sound { IsSound last_tick 0 self.new }
     {
         if self.roam == 0 {
             return;
@@ -189,11 +190,11 @@ impl PlainMeter {
 
     /// The trip is held.
     fn hold(&mut self)
-        requires sound { IsSound 8639999 1 self.old }
-        requires room { self.old.number < 2000000000000000 }
+        requires sound { IsSound last_tick 1 self.old }
+        requires room { self.old.number < holds_end }
         ensures moves { (s : Setting) (trip : Trip) → GoesThroughQuietly s (λ s m.
             held (held_trip s m.clock (is_stopped m.operating) m.position m.zone trip) m) self.old self.new }
-        ensures sound { IsSound 8639999 0 self.new }
+        ensures sound { IsSound last_tick 0 self.new }
     {
         self.held = Some(Held {
             saved: self.clock,
@@ -211,7 +212,7 @@ impl PlainMeter {
         seal: &Seal,
         found: &mut Vec<Expected>,
     ) -> Result<(), NoMemory>
-        requires sound { IsSound 8639999 0 self.old }
+        requires sound { IsSound last_tick 0 self.old }
         ensures { OnOk result (GoesThrough (setting_of checked.now seal.now) ended
             self.old self.new found.old.items found.new.items) }
     {

@@ -1,6 +1,7 @@
 //! What a tick does to the meter of the bench.
 ghost use Rattle.std.specs.Prelude.{◌≡◌, ◌≢◌, ◌≤◌, OnOk};
 ghost use Rattle.meter_states.specs.Step.{expired, expired_or_pressed, ticked};
+ghost use Rattle.taxi_units.specs.Time.{last_tick, longest_trip};
 ghost use Rattle.taxi_units.specs.declared.event.Event.TheVariants.{Tick};
 ghost use Rattle.verify_bench.specs.Settings.{setting_of};
 
@@ -24,10 +25,10 @@ impl PlainMeter {
         found: &mut Vec<Expected>,
         steps: &mut Steps<L>,
     ) -> Result<(), NoMemory>
-        requires sound { IsSound 8639999 0 self.old }
+        requires sound { IsSound last_tick 0 self.old }
         ensures moves { OnOk result (GoesThroughEvent (setting_of checked.now seal.now) Tick ticked
             self.old self.new found.old.items found.new.items) }
-        ensures sound { OnOk result (IsSound 8639999 0 self.new) }
+        ensures sound { OnOk result (IsSound last_tick 0 self.new) }
     {
         self.count_interval(checked, seal, steps)?;
         self.expire_or_press(alloc, checked, seal, found, steps)?;
@@ -46,10 +47,10 @@ impl PlainMeter {
         found: &mut Vec<Expected>,
         steps: &mut Steps<L>,
     ) -> Result<(), NoMemory>
-        requires sound { IsSound 8640000 0 self.old }
+        requires sound { IsSound longest_trip 0 self.old }
         ensures moves { OnOk result (GoesThrough (setting_of checked.now seal.now) expired_or_pressed
             self.old self.new found.old.items found.new.items) }
-        ensures sound { OnOk result (IsSound 8639999 0 self.new) }
+        ensures sound { OnOk result (IsSound last_tick 0 self.new) }
     {
         if self.ticks() >= LONGEST_TRIP {
             self.expire(checked, seal, found)
@@ -72,10 +73,10 @@ impl PlainMeter {
         seal: &Seal,
         found: &mut Vec<Expected>,
     ) -> Result<(), NoMemory>
-        requires sound { IsSound 8640000 0 self.old }
+        requires sound { IsSound longest_trip 0 self.old }
         ensures moves { OnOk result (GoesThrough (setting_of checked.now seal.now) expired
             self.old self.new found.old.items found.new.items) }
-        ensures sound { OnOk result (IsSound 8639999 0 self.new) }
+        ensures sound { OnOk result (IsSound last_tick 0 self.new) }
     {
         self.close(Kind::Expired, checked, seal, found)?;
         self.latch = None;

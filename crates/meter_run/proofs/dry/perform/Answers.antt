@@ -19,37 +19,37 @@ pub returns-in-Show-clause-durable : goal.returns-in-Show-clause-durable
 returns-in-Show-clause-durable g c = sym (ap (after_act c.args.durable.now) c.in-Show.is)
 
 pub returns-in-Show-clause-whole : goal.returns-in-Show-clause-whole
-returns-in-Show-clause-whole g c = λ told. whole_as c.print_display.result (g.B.Board.printed c.args.board.now) (g.B.Board.printed c.print_display.new.board) c.args.act.now _ c.in-Show.is (c.print_display.ensures.whole told)
+returns-in-Show-clause-whole g c = λ told. whole_as c.print_display.result (g.B.Board.printed c.args.board.now) (g.B.Board.printed c.print_display.new.board) c.args.act.now _ c.in-Show.is (c.print_display.ensures.printed.whole told)
 
 pub returns-in-Show-clause-begun : goal.returns-in-Show-clause-begun
-returns-in-Show-clause-begun g c = λ told. begins_as (g.B.Board.printed c.args.board.now) (g.B.Board.printed c.print_display.new.board) c.args.act.now _ c.in-Show.is (c.print_display.ensures.begun told)
+returns-in-Show-clause-begun g c = λ told. begins_as (g.B.Board.printed c.args.board.now) (g.B.Board.printed c.print_display.new.board) c.args.act.now _ c.in-Show.is (c.print_display.ensures.printed.begun told)
 
 pub returns-in-Show-clause-cause : goal.returns-in-Show-clause-cause
-returns-in-Show-clause-cause g c = c.print_display.ensures.cause
+returns-in-Show-clause-cause g c = c.print_display.ensures.printed.cause
 
 pub returns-in-Show-clause-steps : goal.returns-in-Show-clause-steps
 returns-in-Show-clause-steps g c = c.print_display.ensures.steps
 
 pub returns-in-Show-clause-store : goal.returns-in-Show-clause-store
-returns-in-Show-clause-store g c = c.print_display.ensures.store
+returns-in-Show-clause-store g c = c.print_display.ensures.printed.store
 
 pub returns-in-Refuse-clause-durable : goal.returns-in-Refuse-clause-durable
 returns-in-Refuse-clause-durable g c = sym (ap (after_act c.args.durable.now) c.in-Refuse.is)
 
 pub returns-in-Refuse-clause-whole : goal.returns-in-Refuse-clause-whole
-returns-in-Refuse-clause-whole g c = λ told. whole_as c.print_refusal.result (g.B.Board.printed c.args.board.now) (g.B.Board.printed c.print_refusal.new.board) c.args.act.now _ c.in-Refuse.is (c.print_refusal.ensures.whole told)
+returns-in-Refuse-clause-whole g c = λ told. whole_as c.print_refusal.result (g.B.Board.printed c.args.board.now) (g.B.Board.printed c.print_refusal.new.board) c.args.act.now _ c.in-Refuse.is (c.print_refusal.ensures.printed.whole told)
 
 pub returns-in-Refuse-clause-begun : goal.returns-in-Refuse-clause-begun
-returns-in-Refuse-clause-begun g c = λ told. begins_as (g.B.Board.printed c.args.board.now) (g.B.Board.printed c.print_refusal.new.board) c.args.act.now _ c.in-Refuse.is (c.print_refusal.ensures.begun told)
+returns-in-Refuse-clause-begun g c = λ told. begins_as (g.B.Board.printed c.args.board.now) (g.B.Board.printed c.print_refusal.new.board) c.args.act.now _ c.in-Refuse.is (c.print_refusal.ensures.printed.begun told)
 
 pub returns-in-Refuse-clause-cause : goal.returns-in-Refuse-clause-cause
-returns-in-Refuse-clause-cause g c = c.print_refusal.ensures.cause
+returns-in-Refuse-clause-cause g c = c.print_refusal.ensures.printed.cause
 
 pub returns-in-Refuse-clause-steps : goal.returns-in-Refuse-clause-steps
 returns-in-Refuse-clause-steps g c = c.print_refusal.ensures.steps
 
 pub returns-in-Refuse-clause-store : goal.returns-in-Refuse-clause-store
-returns-in-Refuse-clause-store g c = c.print_refusal.ensures.store
+returns-in-Refuse-clause-store g c = c.print_refusal.ensures.printed.store
 
 pub returns-in-Enter-clause-durable : goal.returns-in-Enter-clause-durable
 returns-in-Enter-clause-durable g c = c.after.ensures.state ∙ sym (ap (after_act c.args.durable.now) c.in-Enter.is)

@@ -1,23 +1,21 @@
-use Rattle.std.proofs.Common.{◌≡◌, ◌∷◌, [], Bool, true, false, sym, ◌∙◌, arith}
+use Rattle.std.proofs.Common.{◌∷◌, [], arith}
 use Rattle.std.proofs.lemmas.Result.{on_ok_weaker}
 use Rattle.outside.proofs.Laws.{keeps_none}
 use Rattle.taxi_units.specs.declared.event.Event.TheVariants.{Down}
 use Rattle.meter_run.proofs.Dropping.{ends_off, ends_on, ends_some, event_store, off_some}
+use Rattle.meter_run.proofs.Ended.{not_told}
 use Rattle.meter_run.proofs.Going.{no_more, went_well}
 use Rattle.meter_run.proofs.dry_drive.drop_at_end.Goals as goal
-
-off_not : (b : Bool) (P : Type 0) → (P → b ≡ true) → b ≡ false → P → ⊥
-off_not b P holds is p = absurd (let bad : false ≡ true = sym is ∙ holds p in cc)
 
 pub returns-clause-whole : goal.returns-clause-whole
 returns-clause-whole g c =
     on_ok_weaker c.carry_out.result (λ h. ends_on g.B.Board c.args.tables.now c.args.seal.now c.args.meter.now c.args.board.now c.carry_out.new.self c.carry_out.new.board
-    (off_not c.is_off.result _ c.is_off.ensures.1 c.if-is_off.false) h) c.carry_out.ensures.carried
+    (not_told c.is_off.result _ c.is_off.ensures.1 c.if-is_off.false) h) c.carry_out.ensures.carried
 
 pub returns-clause-begun : goal.returns-clause-begun
 returns-clause-begun g c =
     ends_some g.B.Board c.args.tables.now c.args.seal.now c.carry_out.result c.args.meter.now c.args.board.now c.carry_out.new.self c.carry_out.new.board
-    (off_not c.is_off.result _ c.is_off.ensures.1 c.if-is_off.false) c.carry_out.ensures.carried c.carry_out.ensures.broke_off
+    (not_told c.is_off.result _ c.is_off.ensures.1 c.if-is_off.false) c.carry_out.ensures.carried c.carry_out.ensures.broke_off
 
 pub returns-then-is_off-clause-whole : goal.returns-then-is_off-clause-whole
 returns-then-is_off-clause-whole g c = ends_off g.B.Board c.args.tables.now c.args.seal.now c.args.meter.now c.args.board.now (c.is_off.ensures.0 c.if-is_off.true)

@@ -12,6 +12,9 @@ carry_drive-requires g c = record {
       (c.begin-meter.ensures.lawful c.args.tables.now c.args.seal.now) c.begin-meter.ensures.off c.begin-meter.ensures.range c.begin-meter.ensures.first;
 }
 
+pub drop_at_end-requires : goal.drop_at_end-requires
+drop_at_end-requires g c = record { ready = c.in-Ok.ensures.ready }
+
 pub returns-in-Ok-drop_at_end-clause-ends : goal.returns-in-Ok-drop_at_end-clause-ends
 returns-in-Ok-drop_at_end-clause-ends g c = λ tells.
     let t = c.args.tables.now in
@@ -23,9 +26,6 @@ returns-in-Ok-drop_at_end-clause-ends g c = λ tells.
     (whole_printed g.B.Board t k c.begin-meter.result c.args.board.now c.begin-meter.ensures.off c.begin-meter.ensures.first (events_in h.taken) c.carry_drive.new.meter c.carry_drive.new.board c.drop_at_end.new.board
     h.carried c.in-Ok-drop_at_end.ensures.whole))
 
-pub returns-in-Ok-drop_at_end-clause-store : goal.returns-in-Ok-drop_at_end-clause-store
-returns-in-Ok-drop_at_end-clause-store g c = keeps_then g.B.Board c.args.board.now c.carry_drive.new.board c.drop_at_end.new.board c.in-Ok.ensures.carried.carried.store c.drop_at_end.ensures.store
-
 pub returns-in-Err-drop_at_end-clause-ends : goal.returns-in-Err-drop_at_end-clause-ends
 returns-in-Err-drop_at_end-clause-ends g c = λ tells.
     let t = c.args.tables.now in
@@ -36,9 +36,6 @@ returns-in-Err-drop_at_end-clause-ends g c = λ tells.
     (end_begun g.B.Board t k c.begin-meter.result c.args.board.now c.begin-meter.ensures.off c.begin-meter.ensures.first (events_in h.taken) c.carry_drive.new.meter c.carry_drive.new.board c.drop_at_end.new.board
     h.carried c.drop_at_end.ensures.begun)
 
-pub returns-in-Err-drop_at_end-clause-store : goal.returns-in-Err-drop_at_end-clause-store
-returns-in-Err-drop_at_end-clause-store g c = keeps_then g.B.Board c.args.board.now c.carry_drive.new.board c.drop_at_end.new.board c.in-Ok.ensures.carried.carried.store c.drop_at_end.ensures.store
-
 pub returns-in-Err-clause-ends : goal.returns-in-Err-clause-ends
 returns-in-Err-clause-ends g c = λ tells.
     let t = c.args.tables.now in
@@ -48,63 +45,66 @@ returns-in-Err-clause-ends g c = λ tells.
     h.taken h.few (h.split tells)
     (run_begun g.B.Board t k c.begin-meter.result c.args.board.now c.begin-meter.ensures.off c.begin-meter.ensures.first (events_in h.taken) c.carry_drive.new.board h.broke_off)
 
-pub drop_at_end-requires : goal.drop_at_end-requires
-drop_at_end-requires g c = record { ready = c.in-Ok.ensures.ready }
-
 pub returns-in-Ok-drop_at_end-clause-steps : goal.returns-in-Ok-drop_at_end-clause-steps
 returns-in-Ok-drop_at_end-clause-steps g c = λ tells.
     let h = c.in-Ok.ensures.carried in
     record { taken = h.taken; split = h.split tells; bound = omega (arith, h.bounded, c.drop_at_end.ensures.steps) }
-
-pub returns-in-Ok-drop_at_end-clause-others : goal.returns-in-Ok-drop_at_end-clause-others
-returns-in-Ok-drop_at_end-clause-others g c = c.carry_drive.ensures.others
-
-pub returns-in-Ok-drop_at_end-clause-counts : goal.returns-in-Ok-drop_at_end-clause-counts
-returns-in-Ok-drop_at_end-clause-counts g c = c.carry_drive.ensures.counts
-
-pub returns-in-Ok-drop_at_end-clause-count : goal.returns-in-Ok-drop_at_end-clause-count
-returns-in-Ok-drop_at_end-clause-count g c = counts_more _ _ _ c.carry_drive.ensures.cause.later c.drop_at_end.ensures.cause.later
 
 pub returns-in-Err-drop_at_end-clause-steps : goal.returns-in-Err-drop_at_end-clause-steps
 returns-in-Err-drop_at_end-clause-steps g c = λ tells.
     let h = c.in-Ok.ensures.carried in
     record { taken = h.taken; split = h.split tells; bound = omega (arith, h.bounded, c.drop_at_end.ensures.steps) }
 
-pub returns-in-Err-drop_at_end-clause-others : goal.returns-in-Err-drop_at_end-clause-others
-returns-in-Err-drop_at_end-clause-others g c = c.carry_drive.ensures.others
-
-pub returns-in-Err-drop_at_end-clause-counts : goal.returns-in-Err-drop_at_end-clause-counts
-returns-in-Err-drop_at_end-clause-counts g c = c.carry_drive.ensures.counts
-
-pub returns-in-Err-drop_at_end-clause-count : goal.returns-in-Err-drop_at_end-clause-count
-returns-in-Err-drop_at_end-clause-count g c = counts_more _ _ _ c.carry_drive.ensures.cause.later c.drop_at_end.ensures.cause.later
-
-pub returns-in-Err-drop_at_end-clause-board_fault : goal.returns-in-Err-drop_at_end-clause-board_fault
-returns-in-Err-drop_at_end-clause-board_fault g c = λ is.
-    rose_later (g.B.Board.faults c.args.board.now) (g.B.Board.faults c.carry_drive.new.board) (g.B.Board.faults c.drop_at_end.new.board) c.carry_drive.ensures.cause.later (c.in-Err-drop_at_end.ensures.cause.failed refl)
-
-pub returns-in-Err-drop_at_end-clause-read_fault : goal.returns-in-Err-drop_at_end-clause-read_fault
-returns-in-Err-drop_at_end-clause-read_fault g c = λ is. absurd (board_only is)
-
 pub returns-in-Err-clause-steps : goal.returns-in-Err-clause-steps
 returns-in-Err-clause-steps g c = λ tells.
     let h = c.in-Err.ensures.broke_off in
     record { taken = h.taken; split = h.split tells; bound = omega (arith, h.bounded) }
 
+pub returns-in-Ok-drop_at_end-clause-others : goal.returns-in-Ok-drop_at_end-clause-others
+returns-in-Ok-drop_at_end-clause-others g c = c.carry_drive.ensures.others
+
+pub returns-in-Err-drop_at_end-clause-others : goal.returns-in-Err-drop_at_end-clause-others
+returns-in-Err-drop_at_end-clause-others g c = c.carry_drive.ensures.others
+
 pub returns-in-Err-clause-others : goal.returns-in-Err-clause-others
 returns-in-Err-clause-others g c = c.carry_drive.ensures.others
 
-pub returns-in-Err-clause-counts : goal.returns-in-Err-clause-counts
-returns-in-Err-clause-counts g c = c.carry_drive.ensures.counts
+pub returns-in-Err-drop_at_end-clause-read_fault : goal.returns-in-Err-drop_at_end-clause-read_fault
+returns-in-Err-drop_at_end-clause-read_fault g c = λ is. absurd (board_only is)
 
-pub returns-in-Err-clause-count : goal.returns-in-Err-clause-count
-returns-in-Err-clause-count g c = c.carry_drive.ensures.cause.later
+pub returns-in-Err-clause-read_fault : goal.returns-in-Err-clause-read_fault
+returns-in-Err-clause-read_fault g c = λ is. absurd (board_only is)
+
+pub returns-in-Err-drop_at_end-clause-board_fault : goal.returns-in-Err-drop_at_end-clause-board_fault
+returns-in-Err-drop_at_end-clause-board_fault g c = λ is.
+    rose_later (g.B.Board.faults c.args.board.now) (g.B.Board.faults c.carry_drive.new.board) (g.B.Board.faults c.drop_at_end.new.board) c.carry_drive.ensures.cause.later (c.in-Err-drop_at_end.ensures.cause.failed refl)
 
 pub returns-in-Err-clause-board_fault : goal.returns-in-Err-clause-board_fault
 returns-in-Err-clause-board_fault g c = λ is. c.in-Err.ensures.cause.failed refl
 
+pub returns-in-Ok-drop_at_end-clause-counts : goal.returns-in-Ok-drop_at_end-clause-counts
+returns-in-Ok-drop_at_end-clause-counts g c = c.carry_drive.ensures.counts
+
+pub returns-in-Err-drop_at_end-clause-counts : goal.returns-in-Err-drop_at_end-clause-counts
+returns-in-Err-drop_at_end-clause-counts g c = c.carry_drive.ensures.counts
+
+pub returns-in-Err-clause-counts : goal.returns-in-Err-clause-counts
+returns-in-Err-clause-counts g c = c.carry_drive.ensures.counts
+
+pub returns-in-Ok-drop_at_end-clause-count : goal.returns-in-Ok-drop_at_end-clause-count
+returns-in-Ok-drop_at_end-clause-count g c = counts_more _ _ _ c.carry_drive.ensures.cause.later c.drop_at_end.ensures.cause.later
+
+pub returns-in-Err-drop_at_end-clause-count : goal.returns-in-Err-drop_at_end-clause-count
+returns-in-Err-drop_at_end-clause-count g c = counts_more _ _ _ c.carry_drive.ensures.cause.later c.drop_at_end.ensures.cause.later
+
+pub returns-in-Err-clause-count : goal.returns-in-Err-clause-count
+returns-in-Err-clause-count g c = c.carry_drive.ensures.cause.later
+
+pub returns-in-Ok-drop_at_end-clause-store : goal.returns-in-Ok-drop_at_end-clause-store
+returns-in-Ok-drop_at_end-clause-store g c = keeps_then g.B.Board c.args.board.now c.carry_drive.new.board c.drop_at_end.new.board c.in-Ok.ensures.carried.carried.store c.drop_at_end.ensures.store
+
+pub returns-in-Err-drop_at_end-clause-store : goal.returns-in-Err-drop_at_end-clause-store
+returns-in-Err-drop_at_end-clause-store g c = keeps_then g.B.Board c.args.board.now c.carry_drive.new.board c.drop_at_end.new.board c.in-Ok.ensures.carried.carried.store c.drop_at_end.ensures.store
+
 pub returns-in-Err-clause-store : goal.returns-in-Err-clause-store
 returns-in-Err-clause-store g c = c.in-Err.ensures.broke_off.broke_off.store
-
-pub returns-in-Err-clause-read_fault : goal.returns-in-Err-clause-read_fault
-returns-in-Err-clause-read_fault g c = λ is. absurd (board_only is)

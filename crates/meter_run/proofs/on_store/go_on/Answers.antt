@@ -23,7 +23,7 @@ do_acts-requires-clause-lawful g c =
 pub returns-in-None-clause-attempts : goal.returns-in-None-clause-attempts
 returns-in-None-clause-attempts g c =
     let a = c.args.board.now in
-    let printed = c.print_refusal.ensures in
+    let printed = c.print_refusal.ensures.printed in
     refusal_attempted g.B.Board c.args.tables.now c.args.seal.now c.args.meter.now a c.print_refusal.new.board c.args.event c.requires.ready c.in-None.is c.requires.supply (g.met.B.Board.only_now a)
     printed.store printed.leaves printed.begun c.print_refusal.result printed.whole printed.cause
 

@@ -1,9 +1,7 @@
-use Rattle.std.proofs.Common.{◌≡◌, ◌≤◌, ◌<◌, ◌++◌, List, ℕ, OnOk, ap, arith, length, subst, sym}
-use Rattle.outside.specs.Disk.{MayLeaveAmid}
-use Rattle.outside.specs.Printing.{Begins}
-use Rattle.outside.specs.Runs.{LeavesOnly}
+use Rattle.std.proofs.Common.{◌≤◌, ◌<◌, List, ℕ, ap, arith, length, subst, sym}
 use Rattle.receipt_text.specs.Receipts.{receipt_text}
 use Rattle.receipt_text.specs.SealParts.{part_of}
+use Rattle.meter_run.specs.Printing.{PrintsText}
 use Rattle.meter_run.proofs.Lines.{has_text, receipt_few, receipt_some}
 use Rattle.meter_run.proofs.printing.print_receipt.Goals as goal
 
@@ -26,30 +24,11 @@ print_text-requires-clause-few g c =
     let text = receipt_text c.args.receipt.now (part_of c.args.seal.now) in
     subst (λ (bytes : List ℕ). length bytes ≤ 512) (sym (has_text c.new-line.result.items c.put_receipt.new.line.items c.as_slice.result.now text c.as_slice.ensures.value (rw c.unwrap.ensures at c.put_receipt.ensures.ok) c.new-line.ensures)) (receipt_few c.args.receipt.now (part_of c.args.seal.now) c.put_receipt.ensures.grammar)
 
-pub returns-clause-whole : goal.returns-clause-whole
-returns-clause-whole g c = λ told.
+pub returns-clause-printed : goal.returns-clause-printed
+returns-clause-printed g c =
     let text = receipt_text c.args.receipt.now (part_of c.args.seal.now) in
-    subst (λ (bytes : List ℕ). OnOk c.print_text.result (g.B.Board.printed c.print_text.new.board ≡ g.B.Board.printed c.args.board.now ++ bytes))
-    (has_text c.new-line.result.items c.put_receipt.new.line.items c.as_slice.result.now text c.as_slice.ensures.value (rw c.unwrap.ensures at c.put_receipt.ensures.ok) c.new-line.ensures) (c.print_text.ensures.whole told)
-
-pub returns-clause-begun : goal.returns-clause-begun
-returns-clause-begun g c = λ told.
-    let text = receipt_text c.args.receipt.now (part_of c.args.seal.now) in
-    subst (Begins (g.B.Board.printed c.args.board.now) (g.B.Board.printed c.print_text.new.board))
-    (has_text c.new-line.result.items c.put_receipt.new.line.items c.as_slice.result.now text c.as_slice.ensures.value (rw c.unwrap.ensures at c.put_receipt.ensures.ok) c.new-line.ensures) (c.print_text.ensures.begun told)
-
-pub returns-clause-cause : goal.returns-clause-cause
-returns-clause-cause g c = c.print_text.ensures.cause
+    subst (λ (bytes : List ℕ). PrintsText g.B.Board c.args.board.now bytes c.print_text.new.board c.print_text.result)
+    (has_text c.new-line.result.items c.put_receipt.new.line.items c.as_slice.result.now text c.as_slice.ensures.value (rw c.unwrap.ensures at c.put_receipt.ensures.ok) c.new-line.ensures) c.print_text.ensures.printed
 
 pub returns-clause-steps : goal.returns-clause-steps
 returns-clause-steps g c = c.print_text.ensures.steps
-
-pub returns-clause-store : goal.returns-clause-store
-returns-clause-store g c = c.print_text.ensures.store
-
-pub returns-clause-leaves : goal.returns-clause-leaves
-returns-clause-leaves g c =
-    let text = receipt_text c.args.receipt.now (part_of c.args.seal.now) in
-    let a = c.args.board.now in
-    subst (λ (bytes : List ℕ). LeavesOnly g.B.Board a c.print_text.new.board (MayLeaveAmid (g.B.Board.image a) (g.B.Board.in_flight a) (g.B.Board.printed a) bytes))
-    (has_text c.new-line.result.items c.put_receipt.new.line.items c.as_slice.result.now text c.as_slice.ensures.value (rw c.unwrap.ensures at c.put_receipt.ensures.ok) c.new-line.ensures) c.print_text.ensures.leaves

@@ -11,35 +11,38 @@ carry_drive-requires g c = record {
       (c.new-meter.ensures.lawful c.args.tables.now c.args.seal.now) c.new-meter.ensures.off c.new-meter.ensures.unknown;
 }
 
+pub end-requires : goal.end-requires
+end-requires g c = record { ready = c.in-Ok.ensures.ready }
+
 pub returns-in-Ok-end-clause-ends : goal.returns-in-Ok-end-clause-ends
 returns-in-Ok-end-clause-ends g c = λ tells. rw c.answer.ensures
     (ran_whole g.B.Board c.args.tables.now c.args.seal.now c.new-meter.result c.args.board.now c.new-meter.ensures.off c.new-meter.ensures.unknown c.carry_drive.new.meter c.carry_drive.new.board c.end.new.meter c.end.new.board c.in-Ok.ensures.carried c.in-Ok-end.ensures.carried tells).ends
-
-pub returns-in-Ok-end-clause-cuts : goal.returns-in-Ok-end-clause-cuts
-returns-in-Ok-end-clause-cuts g c = λ tells.
-    (ran_whole g.B.Board c.args.tables.now c.args.seal.now c.new-meter.result c.args.board.now c.new-meter.ensures.off c.new-meter.ensures.unknown c.carry_drive.new.meter c.carry_drive.new.board c.end.new.meter c.end.new.board c.in-Ok.ensures.carried c.in-Ok-end.ensures.carried tells).cuts
-
-pub returns-in-Ok-end-clause-beside : goal.returns-in-Ok-end-clause-beside
-returns-in-Ok-end-clause-beside g c = λ told. beside_then g.B.Board c.args.board.now c.carry_drive.new.board c.end.new.board (c.in-Ok.ensures.carried.carried.beside told) (c.end.ensures.stopped.beside told)
 
 pub returns-in-Err-end-clause-ends : goal.returns-in-Err-end-clause-ends
 returns-in-Err-end-clause-ends g c = λ tells.
     (ran_to_end g.B.Board c.args.tables.now c.args.seal.now c.new-meter.result c.args.board.now c.new-meter.ensures.off c.new-meter.ensures.unknown c.carry_drive.new.meter c.carry_drive.new.board c.end.new.board c.in-Ok.ensures.carried c.end.ensures.stopped tells).ends
 
-pub returns-in-Err-end-clause-cuts : goal.returns-in-Err-end-clause-cuts
-returns-in-Err-end-clause-cuts g c = λ tells.
-    (ran_to_end g.B.Board c.args.tables.now c.args.seal.now c.new-meter.result c.args.board.now c.new-meter.ensures.off c.new-meter.ensures.unknown c.carry_drive.new.meter c.carry_drive.new.board c.end.new.board c.in-Ok.ensures.carried c.end.ensures.stopped tells).cuts
-
-pub returns-in-Err-end-clause-beside : goal.returns-in-Err-end-clause-beside
-returns-in-Err-end-clause-beside g c = λ told. beside_then g.B.Board c.args.board.now c.carry_drive.new.board c.end.new.board (c.in-Ok.ensures.carried.carried.beside told) (c.end.ensures.stopped.beside told)
-
 pub returns-in-Err-clause-ends : goal.returns-in-Err-clause-ends
 returns-in-Err-clause-ends g c = λ tells.
     (ran_amid g.B.Board c.args.tables.now c.args.seal.now c.new-meter.result c.args.board.now c.new-meter.ensures.off c.new-meter.ensures.unknown c.carry_drive.new.board c.in-Err.ensures.broke_off tells).ends
 
+pub returns-in-Ok-end-clause-cuts : goal.returns-in-Ok-end-clause-cuts
+returns-in-Ok-end-clause-cuts g c = λ tells.
+    (ran_whole g.B.Board c.args.tables.now c.args.seal.now c.new-meter.result c.args.board.now c.new-meter.ensures.off c.new-meter.ensures.unknown c.carry_drive.new.meter c.carry_drive.new.board c.end.new.meter c.end.new.board c.in-Ok.ensures.carried c.in-Ok-end.ensures.carried tells).cuts
+
+pub returns-in-Err-end-clause-cuts : goal.returns-in-Err-end-clause-cuts
+returns-in-Err-end-clause-cuts g c = λ tells.
+    (ran_to_end g.B.Board c.args.tables.now c.args.seal.now c.new-meter.result c.args.board.now c.new-meter.ensures.off c.new-meter.ensures.unknown c.carry_drive.new.meter c.carry_drive.new.board c.end.new.board c.in-Ok.ensures.carried c.end.ensures.stopped tells).cuts
+
 pub returns-in-Err-clause-cuts : goal.returns-in-Err-clause-cuts
 returns-in-Err-clause-cuts g c = λ tells.
     (ran_amid g.B.Board c.args.tables.now c.args.seal.now c.new-meter.result c.args.board.now c.new-meter.ensures.off c.new-meter.ensures.unknown c.carry_drive.new.board c.in-Err.ensures.broke_off tells).cuts
+
+pub returns-in-Ok-end-clause-beside : goal.returns-in-Ok-end-clause-beside
+returns-in-Ok-end-clause-beside g c = λ told. beside_then g.B.Board c.args.board.now c.carry_drive.new.board c.end.new.board (c.in-Ok.ensures.carried.carried.beside told) (c.end.ensures.stopped.beside told)
+
+pub returns-in-Err-end-clause-beside : goal.returns-in-Err-end-clause-beside
+returns-in-Err-end-clause-beside g c = λ told. beside_then g.B.Board c.args.board.now c.carry_drive.new.board c.end.new.board (c.in-Ok.ensures.carried.carried.beside told) (c.end.ensures.stopped.beside told)
 
 pub returns-in-Err-clause-beside : goal.returns-in-Err-clause-beside
 returns-in-Err-clause-beside g c = λ told. c.in-Err.ensures.broke_off.broke_off.beside told
@@ -57,60 +60,57 @@ returns-in-Err-end-clause-complete g c = λ tells whole calm still.
 pub returns-in-Err-clause-complete : goal.returns-in-Err-clause-complete
 returns-in-Err-clause-complete g c = λ tells whole calm still. absurd (still (c.in-Err.ensures.cause.failed refl))
 
-pub end-requires : goal.end-requires
-end-requires g c = record { ready = c.in-Ok.ensures.ready }
-
 pub returns-in-Ok-end-clause-steps : goal.returns-in-Ok-end-clause-steps
 returns-in-Ok-end-clause-steps g c = λ tells.
     let h = c.in-Ok.ensures.carried in
     record { taken = h.taken; split = h.split tells; bound = omega (arith, h.bounded, c.end.ensures.steps) }
-
-pub returns-in-Ok-end-clause-others : goal.returns-in-Ok-end-clause-others
-returns-in-Ok-end-clause-others g c = c.carry_drive.ensures.others
-
-pub returns-in-Ok-end-clause-counts : goal.returns-in-Ok-end-clause-counts
-returns-in-Ok-end-clause-counts g c = c.carry_drive.ensures.counts
-
-pub returns-in-Ok-end-clause-count : goal.returns-in-Ok-end-clause-count
-returns-in-Ok-end-clause-count g c = counts_more _ _ _ c.carry_drive.ensures.cause.later c.end.ensures.cause.later
 
 pub returns-in-Err-end-clause-steps : goal.returns-in-Err-end-clause-steps
 returns-in-Err-end-clause-steps g c = λ tells.
     let h = c.in-Ok.ensures.carried in
     record { taken = h.taken; split = h.split tells; bound = omega (arith, h.bounded, c.end.ensures.steps) }
 
-pub returns-in-Err-end-clause-others : goal.returns-in-Err-end-clause-others
-returns-in-Err-end-clause-others g c = c.carry_drive.ensures.others
-
-pub returns-in-Err-end-clause-counts : goal.returns-in-Err-end-clause-counts
-returns-in-Err-end-clause-counts g c = c.carry_drive.ensures.counts
-
-pub returns-in-Err-end-clause-count : goal.returns-in-Err-end-clause-count
-returns-in-Err-end-clause-count g c = counts_more _ _ _ c.carry_drive.ensures.cause.later c.end.ensures.cause.later
-
-pub returns-in-Err-end-clause-board_fault : goal.returns-in-Err-end-clause-board_fault
-returns-in-Err-end-clause-board_fault g c = λ is.
-    rose_later (g.B.Board.faults c.args.board.now) (g.B.Board.faults c.carry_drive.new.board) (g.B.Board.faults c.end.new.board) c.carry_drive.ensures.cause.later (c.in-Err-end.ensures.cause.failed refl)
-
-pub returns-in-Err-end-clause-read_fault : goal.returns-in-Err-end-clause-read_fault
-returns-in-Err-end-clause-read_fault g c = λ is. absurd (board_only is)
-
 pub returns-in-Err-clause-steps : goal.returns-in-Err-clause-steps
 returns-in-Err-clause-steps g c = λ tells.
     let h = c.in-Err.ensures.broke_off in
     record { taken = h.taken; split = h.split tells; bound = omega (arith, h.bounded) }
 
+pub returns-in-Ok-end-clause-others : goal.returns-in-Ok-end-clause-others
+returns-in-Ok-end-clause-others g c = c.carry_drive.ensures.others
+
+pub returns-in-Err-end-clause-others : goal.returns-in-Err-end-clause-others
+returns-in-Err-end-clause-others g c = c.carry_drive.ensures.others
+
 pub returns-in-Err-clause-others : goal.returns-in-Err-clause-others
 returns-in-Err-clause-others g c = c.carry_drive.ensures.others
 
-pub returns-in-Err-clause-counts : goal.returns-in-Err-clause-counts
-returns-in-Err-clause-counts g c = c.carry_drive.ensures.counts
+pub returns-in-Err-end-clause-read_fault : goal.returns-in-Err-end-clause-read_fault
+returns-in-Err-end-clause-read_fault g c = λ is. absurd (board_only is)
 
-pub returns-in-Err-clause-count : goal.returns-in-Err-clause-count
-returns-in-Err-clause-count g c = c.carry_drive.ensures.cause.later
+pub returns-in-Err-clause-read_fault : goal.returns-in-Err-clause-read_fault
+returns-in-Err-clause-read_fault g c = λ is. absurd (board_only is)
+
+pub returns-in-Err-end-clause-board_fault : goal.returns-in-Err-end-clause-board_fault
+returns-in-Err-end-clause-board_fault g c = λ is.
+    rose_later (g.B.Board.faults c.args.board.now) (g.B.Board.faults c.carry_drive.new.board) (g.B.Board.faults c.end.new.board) c.carry_drive.ensures.cause.later (c.in-Err-end.ensures.cause.failed refl)
 
 pub returns-in-Err-clause-board_fault : goal.returns-in-Err-clause-board_fault
 returns-in-Err-clause-board_fault g c = λ is. c.in-Err.ensures.cause.failed refl
 
-pub returns-in-Err-clause-read_fault : goal.returns-in-Err-clause-read_fault
-returns-in-Err-clause-read_fault g c = λ is. absurd (board_only is)
+pub returns-in-Ok-end-clause-counts : goal.returns-in-Ok-end-clause-counts
+returns-in-Ok-end-clause-counts g c = c.carry_drive.ensures.counts
+
+pub returns-in-Err-end-clause-counts : goal.returns-in-Err-end-clause-counts
+returns-in-Err-end-clause-counts g c = c.carry_drive.ensures.counts
+
+pub returns-in-Err-clause-counts : goal.returns-in-Err-clause-counts
+returns-in-Err-clause-counts g c = c.carry_drive.ensures.counts
+
+pub returns-in-Ok-end-clause-count : goal.returns-in-Ok-end-clause-count
+returns-in-Ok-end-clause-count g c = counts_more _ _ _ c.carry_drive.ensures.cause.later c.end.ensures.cause.later
+
+pub returns-in-Err-end-clause-count : goal.returns-in-Err-end-clause-count
+returns-in-Err-end-clause-count g c = counts_more _ _ _ c.carry_drive.ensures.cause.later c.end.ensures.cause.later
+
+pub returns-in-Err-clause-count : goal.returns-in-Err-clause-count
+returns-in-Err-clause-count g c = c.carry_drive.ensures.cause.later

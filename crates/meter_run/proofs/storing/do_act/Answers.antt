@@ -23,40 +23,40 @@ store-requires-clause-fits g c =
     fits_after t n c.args.known.now.durable (entry ∷ []) c.requires.agrees.fits (All-cons (IsLawfulAct t n) entry [] lawful (All-nil (IsLawfulAct t n)))
 
 pub returns-in-Show-clause-agrees : goal.returns-in-Show-clause-agrees
-returns-in-Show-clause-agrees g c = on_ok c.print_display.result _ (agrees_kept g.B.Board c.args.tables.now c.args.known.now c.args.board.now c.print_display.new.board c.print_display.ensures.store c.requires.agrees)
+returns-in-Show-clause-agrees g c = on_ok c.print_display.result _ (agrees_kept g.B.Board c.args.tables.now c.args.known.now c.args.board.now c.print_display.new.board c.print_display.ensures.printed.store c.requires.agrees)
 
 pub returns-in-Show-clause-points : goal.returns-in-Show-clause-points
 returns-in-Show-clause-points g c = λ told.
     let known = c.args.known.now in
     print_point g.B.Board c.args.tables.now c.args.seal.now c.args.board.now c.print_display.new.board known.durable known.place (Does c.args.act.now) (display_text c.in-Show.display) (ap (act_text c.args.seal.now) c.in-Show.is)
-    (c.requires.agrees.settled told) c.requires.agrees.fits c.print_display.ensures.store c.print_display.ensures.leaves c.print_display.ensures.begun
+    (c.requires.agrees.settled told) c.requires.agrees.fits c.print_display.ensures.printed.store c.print_display.ensures.printed.leaves c.print_display.ensures.printed.begun
 
 pub returns-in-Show-clause-beside : goal.returns-in-Show-clause-beside
-returns-in-Show-clause-beside g c = λ told. beside_kept g.B.Board c.args.board.now c.print_display.new.board (g.met.B.Board.only_now c.args.board.now) c.print_display.ensures.store
+returns-in-Show-clause-beside g c = λ told. beside_kept g.B.Board c.args.board.now c.print_display.new.board (g.met.B.Board.only_now c.args.board.now) c.print_display.ensures.printed.store
 
 pub returns-in-Refuse-clause-agrees : goal.returns-in-Refuse-clause-agrees
-returns-in-Refuse-clause-agrees g c = on_ok c.print_refusal.result _ (agrees_kept g.B.Board c.args.tables.now c.args.known.now c.args.board.now c.print_refusal.new.board c.print_refusal.ensures.store c.requires.agrees)
+returns-in-Refuse-clause-agrees g c = on_ok c.print_refusal.result _ (agrees_kept g.B.Board c.args.tables.now c.args.known.now c.args.board.now c.print_refusal.new.board c.print_refusal.ensures.printed.store c.requires.agrees)
 
 pub returns-in-Refuse-clause-points : goal.returns-in-Refuse-clause-points
 returns-in-Refuse-clause-points g c = λ told.
     let known = c.args.known.now in
     print_point g.B.Board c.args.tables.now c.args.seal.now c.args.board.now c.print_refusal.new.board known.durable known.place (Does c.args.act.now) (refusal_text c.in-Refuse.why) (ap (act_text c.args.seal.now) c.in-Refuse.is)
-    (c.requires.agrees.settled told) c.requires.agrees.fits c.print_refusal.ensures.store c.print_refusal.ensures.leaves c.print_refusal.ensures.begun
+    (c.requires.agrees.settled told) c.requires.agrees.fits c.print_refusal.ensures.printed.store c.print_refusal.ensures.printed.leaves c.print_refusal.ensures.printed.begun
 
 pub returns-in-Refuse-clause-beside : goal.returns-in-Refuse-clause-beside
-returns-in-Refuse-clause-beside g c = λ told. beside_kept g.B.Board c.args.board.now c.print_refusal.new.board (g.met.B.Board.only_now c.args.board.now) c.print_refusal.ensures.store
+returns-in-Refuse-clause-beside g c = λ told. beside_kept g.B.Board c.args.board.now c.print_refusal.new.board (g.met.B.Board.only_now c.args.board.now) c.print_refusal.ensures.printed.store
 
 pub returns-in-Receipt-clause-agrees : goal.returns-in-Receipt-clause-agrees
-returns-in-Receipt-clause-agrees g c = on_ok c.print_receipt.result _ (agrees_kept g.B.Board c.args.tables.now c.args.known.now c.args.board.now c.print_receipt.new.board c.print_receipt.ensures.store c.requires.agrees)
+returns-in-Receipt-clause-agrees g c = on_ok c.print_receipt.result _ (agrees_kept g.B.Board c.args.tables.now c.args.known.now c.args.board.now c.print_receipt.new.board c.print_receipt.ensures.printed.store c.requires.agrees)
 
 pub returns-in-Receipt-clause-points : goal.returns-in-Receipt-clause-points
 returns-in-Receipt-clause-points g c = λ told.
     let known = c.args.known.now in
     print_point g.B.Board c.args.tables.now c.args.seal.now c.args.board.now c.print_receipt.new.board known.durable known.place (Does c.args.act.now) (receipt_text c.in-Receipt.receipt (part_of c.args.seal.now)) (ap (act_text c.args.seal.now) c.in-Receipt.is)
-    (c.requires.agrees.settled told) c.requires.agrees.fits c.print_receipt.ensures.store c.print_receipt.ensures.leaves c.print_receipt.ensures.begun
+    (c.requires.agrees.settled told) c.requires.agrees.fits c.print_receipt.ensures.printed.store c.print_receipt.ensures.printed.leaves c.print_receipt.ensures.printed.begun
 
 pub returns-in-Receipt-clause-beside : goal.returns-in-Receipt-clause-beside
-returns-in-Receipt-clause-beside g c = λ told. beside_kept g.B.Board c.args.board.now c.print_receipt.new.board (g.met.B.Board.only_now c.args.board.now) c.print_receipt.ensures.store
+returns-in-Receipt-clause-beside g c = λ told. beside_kept g.B.Board c.args.board.now c.print_receipt.new.board (g.met.B.Board.only_now c.args.board.now) c.print_receipt.ensures.printed.store
 
 pub returns-in-Enter-clause-points : goal.returns-in-Enter-clause-points
 returns-in-Enter-clause-points g c = λ told. c.store.ensures.points told (Does c.args.act.now) (ap (after_act c.args.known.now.durable) c.in-Enter.is)
@@ -89,10 +89,10 @@ pub returns-in-Show-clause-durable : goal.returns-in-Show-clause-durable
 returns-in-Show-clause-durable g c = on_ok c.print_display.result _ (sym (ap (after_act c.args.known.now.durable) c.in-Show.is))
 
 pub returns-in-Show-clause-whole : goal.returns-in-Show-clause-whole
-returns-in-Show-clause-whole g c = λ told. prints_as c.args.seal.now c.print_display.result (g.B.Board.printed c.args.board.now) (g.B.Board.printed c.print_display.new.board) c.args.act.now _ c.in-Show.is (c.print_display.ensures.whole told)
+returns-in-Show-clause-whole g c = λ told. prints_as c.args.seal.now c.print_display.result (g.B.Board.printed c.args.board.now) (g.B.Board.printed c.print_display.new.board) c.args.act.now _ c.in-Show.is (c.print_display.ensures.printed.whole told)
 
 pub returns-in-Show-clause-cause : goal.returns-in-Show-clause-cause
-returns-in-Show-clause-cause g c = c.print_display.ensures.cause
+returns-in-Show-clause-cause g c = c.print_display.ensures.printed.cause
 
 pub returns-in-Show-clause-steps : goal.returns-in-Show-clause-steps
 returns-in-Show-clause-steps g c = print_steps c.args.act.now c.args.steps.now c.print_display.new.steps c.print_display.ensures.steps
@@ -101,10 +101,10 @@ pub returns-in-Refuse-clause-durable : goal.returns-in-Refuse-clause-durable
 returns-in-Refuse-clause-durable g c = on_ok c.print_refusal.result _ (sym (ap (after_act c.args.known.now.durable) c.in-Refuse.is))
 
 pub returns-in-Refuse-clause-whole : goal.returns-in-Refuse-clause-whole
-returns-in-Refuse-clause-whole g c = λ told. prints_as c.args.seal.now c.print_refusal.result (g.B.Board.printed c.args.board.now) (g.B.Board.printed c.print_refusal.new.board) c.args.act.now _ c.in-Refuse.is (c.print_refusal.ensures.whole told)
+returns-in-Refuse-clause-whole g c = λ told. prints_as c.args.seal.now c.print_refusal.result (g.B.Board.printed c.args.board.now) (g.B.Board.printed c.print_refusal.new.board) c.args.act.now _ c.in-Refuse.is (c.print_refusal.ensures.printed.whole told)
 
 pub returns-in-Refuse-clause-cause : goal.returns-in-Refuse-clause-cause
-returns-in-Refuse-clause-cause g c = c.print_refusal.ensures.cause
+returns-in-Refuse-clause-cause g c = c.print_refusal.ensures.printed.cause
 
 pub returns-in-Refuse-clause-steps : goal.returns-in-Refuse-clause-steps
 returns-in-Refuse-clause-steps g c = print_steps c.args.act.now c.args.steps.now c.print_refusal.new.steps c.print_refusal.ensures.steps
@@ -113,10 +113,10 @@ pub returns-in-Receipt-clause-durable : goal.returns-in-Receipt-clause-durable
 returns-in-Receipt-clause-durable g c = on_ok c.print_receipt.result _ (sym (ap (after_act c.args.known.now.durable) c.in-Receipt.is))
 
 pub returns-in-Receipt-clause-whole : goal.returns-in-Receipt-clause-whole
-returns-in-Receipt-clause-whole g c = λ told. prints_as c.args.seal.now c.print_receipt.result (g.B.Board.printed c.args.board.now) (g.B.Board.printed c.print_receipt.new.board) c.args.act.now _ c.in-Receipt.is (c.print_receipt.ensures.whole told)
+returns-in-Receipt-clause-whole g c = λ told. prints_as c.args.seal.now c.print_receipt.result (g.B.Board.printed c.args.board.now) (g.B.Board.printed c.print_receipt.new.board) c.args.act.now _ c.in-Receipt.is (c.print_receipt.ensures.printed.whole told)
 
 pub returns-in-Receipt-clause-cause : goal.returns-in-Receipt-clause-cause
-returns-in-Receipt-clause-cause g c = c.print_receipt.ensures.cause
+returns-in-Receipt-clause-cause g c = c.print_receipt.ensures.printed.cause
 
 pub returns-in-Receipt-clause-steps : goal.returns-in-Receipt-clause-steps
 returns-in-Receipt-clause-steps g c = print_steps c.args.act.now c.args.steps.now c.print_receipt.new.steps c.print_receipt.ensures.steps

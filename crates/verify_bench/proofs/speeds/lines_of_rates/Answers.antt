@@ -1,10 +1,10 @@
-use Rattle.std.proofs.Common.{◌≡◌, ◌∙◌, ◌+◌, ◌++◌, ℕ, List, All, map, drop, refl, ap, subst, arith}
+use Rattle.std.proofs.Common.{◌≡◌, ◌+◌, ◌++◌, List, All, map, drop, refl, subst, arith, rules}
 use Rattle.tariff_check.specs.Parts.{RateNumbers, rates_of}
 use Rattle.tariff_check.specs.Sound.{IsSoundRate}
 use Rattle.tariff_syntax.specs.Tree.{line_of}
 use Rattle.verify_bench.specs.CrossOvers.{cross_over_line, cross_over_lines, cross_overs_text}
 use Rattle.verify_bench.proofs.CrossOverLines.{first_sound, no_more, numbers, rates_behind, rates_here, text_more}
-use Rattle.verify_bench.proofs.speeds.lines_of_rates.Goals.{in-Rate+in-Ok, in_default}
+use Rattle.verify_bench.proofs.speeds.lines_of_rates.Goals.{in-Rate+in_ok-map_err, in_default}
 use Rattle.verify_bench.proofs.speeds.lines_of_rates.Goals as goal
 
 pub loop-line-init : goal.loop-line-init
@@ -23,7 +23,7 @@ line_of_rate-line-requires c =
 
 pub loop-line-preserved : goal.loop-line-preserved
 loop-line-preserved c = elim c.match-line.branch [
-  | in-Rate+in-Ok w ↦
+  | in-Rate+in_ok-map_err w ↦
       let lines = c.args.lines.now in
       let i = c.loop-line.line-index in
       let all = cross_overs_text (map line_of lines) in
@@ -32,7 +32,7 @@ loop-line-preserved c = elim c.match-line.branch [
       let here = rates_here lines i c.line-item.result w.in-Rate.rate (omega arith) c.line-item.is w.in-Rate.is in
       let next : c.match-line.number ≡ c.loop-line.number + 1 = w.number-is in
       let grown : c.match-line.text.items ≡ c.loop-line.text.items ++ cross_over_line (c.loop-line.number + 1) (numbers w.in-Rate.rate) =
-      rw w.text-is (w.in-Ok.ensures.items ∙ ap (λ (x : List ℕ). c.loop-line.text.items ++ x) (w.as_slice.ensures.value ∙ w.line_of_rate-line.ensures)) in
+      rw w.text-is (search rules) in
       record {
         text = rw (grown, next) (text_more c.loop-line.text.items all (c.loop-line.number + 1) rates more (numbers w.in-Rate.rate) here c.loop-line.invariant.text);
         sound = (first_sound rates more (numbers w.in-Rate.rate) here c.loop-line.invariant.sound).1;

@@ -1,15 +1,17 @@
-use Rattle.std.proofs.Common.{◌<◌, ◌≤◌, length, ap, sym, subst, ◌∙◌}
+use Rattle.std.proofs.Common.{◌≡◌, ◌<◌, ◌≤◌, length, ap, sym, subst, ◌∙◌}
+use Rattle.taxi_units.specs.declared.event.Operating.TheVariants.{ForHire}
 use Rattle.meter_states.specs.Core.{Follows, Plain}
 use Rattle.meter_states.specs.Meter.{Outcome}
-use Rattle.meter_states.proofs.Outcomes.{quiet-follows}
-use Rattle.meter_states.proofs.RoamingStages.{amid-enters, amid-few, checked-few, checked-many, few-entered, lawful-entered, many-some, room-three}
+use Rattle.meter_states.proofs.RoamingStages.{amid-enters, checked-many, few-entered, lawful-entered, many-some, room-three}
 use Rattle.meter_states.proofs.meter_state.State.check_roaming.Goals as goal
+use Rattle.meter_states.proofs.meter_state.State.check_roaming.Goals.{in-ForHire, in_default}
 
 pub enter_roaming-requires-clause-lawful : goal.enter_roaming-requires-clause-lawful
 enter_roaming-requires-clause-lawful c = amid-enters c.requires.lawful
 
 pub enter_roaming-requires-clause-hire : goal.enter_roaming-requires-clause-hire
-enter_roaming-requires-clause-hire c = sym (ap (λ (p : Plain). p.operating) c.self.view_is) ∙ c.in-ForHire.is
+enter_roaming-requires-clause-hire c =
+    elim c.match-matches.branch [ in-ForHire w ↦ sym (ap (λ (p : Plain). p.operating) c.self.view_is) ∙ w.in-ForHire.is | in_default w ↦ absurd cc ]
 
 pub enter_roaming-requires-clause-some : goal.enter_roaming-requires-clause-some
 enter_roaming-requires-clause-some c = subst (λ (p : Plain). 0 < p.roam) c.self.view_is (many-some c.self.inside.roam c.if-self-ge-ROAMING_MOST.true)
@@ -32,21 +34,7 @@ returns-then-self-ge-ROAMING_MOST-clause-ranges c = λ number same.
 
 pub returns-then-self-ge-ROAMING_MOST-clause-follows : goal.returns-then-self-ge-ROAMING_MOST-clause-follows
 returns-then-self-ge-ROAMING_MOST-clause-follows c = λ s m is e.
-    let hire = sym (ap (λ (p : Plain). p.operating) (c.self.view_is ∙ e)) ∙ c.in-ForHire.is in
+    let here : c.self.inside.operating ≡ ForHire = elim c.match-matches.branch [ in-ForHire w ↦ w.in-ForHire.is | in_default w ↦ absurd cc ] in
+    let hire = sym (ap (λ (p : Plain). p.operating) (c.self.view_is ∙ e)) ∙ here in
     let many = subst (λ (p : Plain). 1000000 ≤ p.roam) (c.self.view_is ∙ e) c.if-self-ge-ROAMING_MOST.true in
     subst (λ (o : Outcome). Follows s c.enter_roaming.new.self c.args.acts.now.items c.enter_roaming.new.acts.items o) (sym (checked-many s m hire many)) (c.enter_roaming.ensures.follows s m is e)
-
-pub returns-else-self-ge-ROAMING_MOST-clause-lawful : goal.returns-else-self-ge-ROAMING_MOST-clause-lawful
-returns-else-self-ge-ROAMING_MOST-clause-lawful c = amid-few c.requires.lawful (subst (λ (p : Plain). p.roam < 1000000) c.self.view_is c.if-self-ge-ROAMING_MOST.false)
-
-pub returns-else-self-ge-ROAMING_MOST-clause-few : goal.returns-else-self-ge-ROAMING_MOST-clause-few
-returns-else-self-ge-ROAMING_MOST-clause-few c = room-three (length c.args.acts.now.items) c.args.self.now.roam c.requires.room
-
-pub returns-else-self-ge-ROAMING_MOST-clause-ranges : goal.returns-else-self-ge-ROAMING_MOST-clause-ranges
-returns-else-self-ge-ROAMING_MOST-clause-ranges c = λ number same before. before
-
-pub returns-else-self-ge-ROAMING_MOST-clause-follows : goal.returns-else-self-ge-ROAMING_MOST-clause-follows
-returns-else-self-ge-ROAMING_MOST-clause-follows c = λ s m is e.
-    let hire = sym (ap (λ (p : Plain). p.operating) (c.self.view_is ∙ e)) ∙ c.in-ForHire.is in
-    let few = subst (λ (p : Plain). p.roam < 1000000) (c.self.view_is ∙ e) c.if-self-ge-ROAMING_MOST.false in
-    subst (λ (o : Outcome). Follows s c.args.self.now c.args.acts.now.items c.args.acts.now.items o) (sym (checked-few s m hire few)) (quiet-follows s c.args.self.now c.args.acts.now.items m e)

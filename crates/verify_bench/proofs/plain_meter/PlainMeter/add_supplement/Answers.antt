@@ -1,12 +1,13 @@
 use Rattle.std.proofs.Common.{◌≡◌, ◌∙◌, sym, Some}
+use Rattle.std.proofs.lemmas.Result.{on_ok_weaker}
 use Rattle.tariff_compile.specs.Tables.{supplement_at}
 use Rattle.tariff_syntax.specs.Tree.{tree_of}
 use Rattle.verify_bench.specs.Settings.{setting_of}
 use Rattle.verify_bench.proofs.plain_meter.PlainMeter.add_supplement.Goals as goal
 
-pub returns-in_ok-add_up_to-in-Some-clause-moves : goal.returns-in_ok-add_up_to-in-Some-clause-moves
-returns-in_ok-add_up_to-in-Some-clause-moves c ticks found m stands =
+pub returns-in-Some-clause-moves : goal.returns-in-Some-clause-moves
+returns-in-Some-clause-moves c =
     let is : supplement_at (tree_of c.args.checked.now) c.args.number ≡ Some c.in-Some.supplement =
     sym (rw (c.as_slice.ensures, c.tariff.ensures.value) at c.supplement_at.ensures) ∙ c.in-Some.is
     in
-    rw is (c.in_ok-add_up_to-in-Some.ensures.moves (setting_of c.args.checked.now c.args.seal.now) ticks found m stands)
+    on_ok_weaker c.add_up_to.result (λ moves ticks found m stands. rw is (moves (setting_of c.args.checked.now c.args.seal.now) ticks found m stands)) c.add_up_to.ensures.moves

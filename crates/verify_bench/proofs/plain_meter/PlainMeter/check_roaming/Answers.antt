@@ -1,6 +1,14 @@
+use Rattle.std.proofs.Common.{◌≡◌}
+use Rattle.taxi_units.specs.declared.event.Operating.TheVariants.{ForHire}
 use Rattle.verify_bench.proofs.Benches.{roams}
 use Rattle.verify_bench.proofs.plain_meter.PlainMeter.check_roaming.Goals as goal
+use Rattle.verify_bench.proofs.plain_meter.PlainMeter.check_roaming.Goals.{in-ForHire, in_default}
 
-pub returns-else-self-lt-ROAMING_MOST-clause-moves : goal.returns-else-self-lt-ROAMING_MOST-clause-moves
-returns-else-self-lt-ROAMING_MOST-clause-moves c s ticks found m stands =
-    rw (roams s c.args.self.now m stands c.in-ForHire.is c.if-self-lt-ROAMING_MOST.false) (c.enter_roaming.ensures.moves s ticks found m stands)
+pub enter_roaming-requires-clause-none : goal.enter_roaming-requires-clause-none
+enter_roaming-requires-clause-none c =
+    c.requires.sound.for_hire (elim c.match-matches.branch [ in-ForHire w ↦ w.in-ForHire.is | in_default w ↦ absurd cc ])
+
+pub returns-then-self-ge-ROAMING_MOST-clause-moves : goal.returns-then-self-ge-ROAMING_MOST-clause-moves
+returns-then-self-ge-ROAMING_MOST-clause-moves c s ticks found m stands =
+    let here : c.args.self.now.operating ≡ ForHire = elim c.match-matches.branch [ in-ForHire w ↦ w.in-ForHire.is | in_default w ↦ absurd cc ] in
+    rw (roams s c.args.self.now m stands here c.if-self-ge-ROAMING_MOST.true) (c.enter_roaming.ensures.moves s ticks found m stands)
