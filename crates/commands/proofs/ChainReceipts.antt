@@ -11,9 +11,8 @@ use Rattle.totaliser_store.specs.declared.change.Change.{Change}
 use Rattle.totaliser_store.specs.declared.durable.Durable.{Durable}
 use Rattle.meter_states.specs.declared.act.Act.TheVariants.{Receipt}
 use Rattle.meter_run.specs.Deeds.{Deed, Does, Prints, changes_of, texts}
-use Rattle.meter_run.specs.PointLaws.{texts_joined}
 use Rattle.meter_run.specs.Points.{HasEntryOf}
-use Rattle.meter_run.proofs.Laws.{receipts_have_their_entries-cut, the_number_tells_the_commits-beginning}
+use Rattle.meter_run.proofs.Laws.{receipts_have_their_entries-cut, texts_joined, the_number_tells_the_commits-beginning}
 use Rattle.commands.specs.Chain.{HasByteOf, IsChain, last_image, last_state}
 use Rattle.commands.specs.Link.{IsLink, Link, begun_with, bytes_done, commits_done, deeds_from, last_line, prefix_of}
 use Rattle.commands.specs.Run.{IsRunCut, MayFind, Start, deeds_in, tables_in}

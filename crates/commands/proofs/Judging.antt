@@ -1,17 +1,14 @@
 -- Judging readings by a drive, and why nothing is judged.
-use Rattle.std.proofs.Common.{◌≡◌, ◌≢◌, ℕ, ◌<◌, Bool, List, ◌++◌, length, Ok, Err, refl, sym, ap, subst, ◌∙◌, inl, inr, flat_map}
-use Rattle.std.proofs.lemmas.Bool.{lt-ltb}
+use Rattle.std.proofs.Common.{◌≡◌, ◌≢◌, ℕ, Bool, List, ◌++◌, Ok, Err, refl, sym, ap, subst, ◌∙◌, inl, inr}
 use Rattle.std.proofs.lemmas.List.{append-nil}
-use Rattle.drive_text.specs.Runs.{run_events}
 use Rattle.drive_text.specs.declared.run.Run.{Run}
-use Rattle.taxi_units.specs.declared.event.Event.{Event}
-use Rattle.verify_bench.specs.Readings.{IsReadAs, readings_in, readings_limit}
+use Rattle.verify_bench.specs.Readings.{IsReadAs, readings_in}
 use Rattle.verify_bench.specs.declared.reading.Reading.{Reading}
 use Rattle.verify_bench.specs.declared.reading.ReadingsFault.{ReadingsFault}
 use Rattle.verify_bench.specs.declared.reading.ReadingsFault.TheVariants as readings
 use Rattle.verify_bench.proofs.Laws.{texts_have_one_reading}
 use Rattle.commands.specs.Bench.{Terms, ended_for_readings}
-use Rattle.commands.specs.BenchSteps.{IsJudged, IsNoDrive, IsNoReadings, IsNotJudged, IsStopped, IsWholeDrive, ended_for_drive, judged_pass, judged_text}
+use Rattle.commands.specs.BenchSteps.{IsJudged, IsNoDrive, IsNoReadings, IsNotJudged, IsStopped, IsWholeDrive, ended_for_drive}
 use Rattle.commands.specs.declared.ending.Ended.{Ended}
 use Rattle.commands.specs.declared.ending.Ended.TheVariants as ended
 use Rattle.commands.specs.declared.whole_drive.DriveFault.{DriveFault}
@@ -26,14 +23,6 @@ pub no_readings : (decimals : ℕ) (text : List ℕ) (read_failed : Type 0) (fau
 no_readings decimals text read_failed readings.TooLong h = (texts_have_one_reading decimals text (Err readings.TooLong) (λ e. absurd cc)).1 h
 no_readings decimals text read_failed (readings.BadRow row) h = (texts_have_one_reading decimals text (Err (readings.BadRow row)) (λ e. absurd cc)).1 h
 no_readings decimals text read_failed readings.NoMemory h = tt
-
-pub long_readings : (decimals : ℕ) (text : List ℕ) → readings_limit < length text → readings_in decimals text ≡ Err readings.TooLong
-long_readings decimals text long = rw (lt-ltb readings_limit (length text) long) refl
-
-pub not_read-readings : (fault : ReadingsFault) → (ended_for_readings fault ≢ ended.ReadFault) × (ended_for_readings fault ≢ ended.BoardFault)
-not_read-readings readings.TooLong = (λ e. absurd cc, λ e. absurd cc)
-not_read-readings (readings.BadRow row) = (λ e. absurd cc, λ e. absurd cc)
-not_read-readings readings.NoMemory = (λ e. absurd cc, λ e. absurd cc)
 
 -- more may be known of a read that failed
 pub no_readings-as : (decimals : ℕ) (text : List ℕ) (read_failed more : Type 0) (why : Ended) → (read_failed → more) → IsNoReadings decimals text read_failed why → IsNoReadings decimals text more why
@@ -84,18 +73,6 @@ module _ (terms : Terms) (drive left text : List ℕ) (drive_failed text_failed 
     not_judged-readings (ended.BadReadings row) h = (whole.end_is, h)
     not_judged-readings ended.LongReadings h = (whole.end_is, h)
     not_judged-readings why h = absurd h
-
-    pub is_judged : (found : List Reading) (printed : List ℕ) (pass : Bool) → readings_in terms.tree.decimals text ≡ Ok found
-        → printed ≡ judged_text terms (flat_map run_events runs) found → pass ≡ judged_pass terms (flat_map run_events runs) found
-        → IsJudged terms drive left text printed pass
-    is_judged found printed pass read is passes = record {
-      found = found;
-      end_is = whole.end_is;
-      none_left = whole.none_left;
-      read = read;
-      printed_is = is ∙ ap (λ (events : List Event). judged_text terms events found) whole.events;
-      pass_is = passes ∙ ap (λ (events : List Event). judged_pass terms events found) whole.events;
-    }
 
 -- of texts that are equal
 pub judged-over : (terms : Terms) (drive drive' left text text' printed : List ℕ) (pass : Bool) → drive ≡ drive' → text ≡ text' → IsJudged terms drive left text printed pass

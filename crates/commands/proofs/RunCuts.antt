@@ -16,7 +16,7 @@ use Rattle.tariff_compile.specs.Tables.{TableParts}
 use Rattle.meter_states.specs.Fits.{Fits}
 use Rattle.meter_states.specs.declared.act.Act.TheVariants.{Receipt}
 use Rattle.meter_run.specs.Deeds.{Deed, Does, Prints, after_deeds, changes_of, texts}
-use Rattle.meter_run.specs.PointLaws.{texts_joined}
+use Rattle.meter_run.proofs.Laws.{texts_joined}
 use Rattle.meter_run.specs.Points.{HasEntries, IsCut}
 
 -- ---- lists

@@ -14,9 +14,9 @@ use Rattle.slot_store.specs.Writes.{OrWithin}
 use Rattle.slot_store.proofs.Laws.{from_sync_as, goes_on, settled_already}
 use Rattle.totaliser_store.specs.declared.durable.Durable.{Durable}
 use Rattle.meter_states.specs.Setting.{IsSettingOf}
-use Rattle.meter_run.specs.Deeds.{Deed, Prints, after_deeds, texts}
+use Rattle.meter_run.specs.Deeds.{Prints, after_deeds, texts}
 use Rattle.meter_run.specs.OnStore.{HasBeside, WritesTotals}
-use Rattle.meter_run.specs.PointLaws.{left_has, settled_has}
+use Rattle.meter_run.proofs.Laws.{left_has, settled_has}
 use Rattle.meter_run.specs.Points.{IsCut}
 use Rattle.meter_run.specs.Runs.{EndsRun, HasDone, HasStopped, OpensWith, RunsUpTo}
 use Rattle.meter_run.specs.declared.fault.RunFault.{RunFault}
@@ -48,9 +48,6 @@ module _ {E D L : Type 0} (F : FileGhosts E) (B : Ghosts D L) (files files' : E)
 
   abbrev drive : List ℕ
   drive = F.rest files 2
-
-  abbrev Cut : List Deed → List ℕ → List ℕ → Type 0
-  Cut deeds i x = IsCut (tables_in s) s.seal B.tells_text s.durable printed deeds i x
 
   -- what is found of the start is found of what the run begins with
   found : (bytes line i x : List ℕ) → IsRunCut B.tells_text image printed s bytes line i x → MayFind B.tells_text image printed (start_at F B files old) bytes line i x

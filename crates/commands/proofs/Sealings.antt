@@ -1,11 +1,9 @@
 -- The command `seal`: what it answers.
-use Rattle.std.proofs.Common.{◌≡◌, ◌≢◌, ◌⊎◌, ⊎_elim, inl, inr, ℕ, List, [], ◌++◌, Option, None, Some, Result, Ok, Err, refl, sym, ap, subst, ◌∙◌}
-use Rattle.std.specs.Prelude.{◌==◌, if◌then◌else◌, Bool, true, false}
+use Rattle.std.proofs.Common.{◌≡◌, ◌≢◌, ◌⊎◌, ⊎_elim, inl, inr, ℕ, List, [], ◌++◌, Option, Result, Ok, Err, refl, sym, ap, subst, ◌∙◌}
+use Rattle.std.specs.Prelude.{if◌then◌else◌}
 use Rattle.sha2.specs.Sha256.{sha256}
 use Rattle.outside.specs.Printing.{Begins}
 use Rattle.tariff_syntax.specs.Tree.{Tree}
-use Rattle.seal_store.specs.declared.params.Params.{Params}
-use Rattle.seal_store.specs.declared.params.ParamFault.{ParamFault}
 use Rattle.seal_store.specs.declared.seal.Seal.{Seal}
 use Rattle.seal_store.specs.Reading.{params_read}
 use Rattle.seal_store.specs.Sealing.{Sealing, found_number, next_number, old_seal}
@@ -14,46 +12,21 @@ use Rattle.commands.specs.declared.ending.Ended.TheVariants as ended
 use Rattle.commands.specs.declared.opening.Opening.{Opening}
 use Rattle.commands.specs.declared.opening.StoreFault.{StoreFault}
 use Rattle.commands.specs.declared.opening.StoreFault.TheVariants as stores
-use Rattle.commands.specs.declared.params.ParamsFault.{ParamsFault}
 use Rattle.commands.specs.declared.params.ParamsFault.TheVariants as params
 use Rattle.commands.specs.declared.seal.Base.{Base}
 use Rattle.commands.specs.declared.tariff.Refusal.{Refusal}
-use Rattle.commands.specs.declared.tariff.TextFault.{TextFault}
 use Rattle.commands.specs.declared.tariff.TextFault.TheVariants as texts
 use Rattle.commands.specs.Answer.{Answer}
 use Rattle.commands.specs.Course.{Answered, NoMemory, ReadFailed}
-use Rattle.commands.specs.Ending.{Comes, ended_for, ended_for_params}
+use Rattle.commands.specs.Ending.{Comes}
 use Rattle.commands.specs.LastLine.{sealed_line, status_of}
 use Rattle.commands.specs.Opening.{opening_of, store_ended}
-use Rattle.commands.specs.Seal.{HasDecimals, IsSealable, are_decimals, base_in, over_totals, seal_answer, seal_command, seal_read, sealing_of, sealing_over, sealing_with, where_decimals, with_params, with_tariff}
-use Rattle.commands.specs.SealSteps.{IsNoSeal, IsNoTariff, IsTariffWith}
-use Rattle.commands.specs.Tariffs.{tariff_in}
+use Rattle.commands.specs.Seal.{HasDecimals, IsSealable, base_in, over_totals, seal_answer, seal_command, seal_read, sealing_of, sealing_over, sealing_with, where_decimals, with_params, with_tariff}
+use Rattle.commands.specs.SealSteps.{IsNoSeal, IsNoTariff}
 use Rattle.commands.proofs.Answering.{comes-refusal, none}
 use Rattle.commands.proofs.Openings.{as_found}
 
 -- ---- the texts
-
--- why a tariff wasn't read
-pub no_tariff : (found : Option ℕ) (tariff : List ℕ) (fault : TextFault) → fault ≢ texts.ReadFault
-    → ((why : Refusal) → fault ≡ texts.Refused why → tariff_in tariff ≡ Err why) → IsNoTariff found tariff (ended_for fault)
-no_tariff found tariff texts.ReadFault read why = absurd (read refl)
-no_tariff found tariff (texts.Refused why) read refused = refused why refl
-no_tariff found tariff texts.NoMemory read why = tt
-
--- the decimals of a sound tariff are others
-pub other_decimals : (found : Option ℕ) (tariff : List ℕ) (t : Tree) (end : Ended) → tariff_in tariff ≡ Ok t → are_decimals found t.decimals ≡ Err end
-    → IsNoTariff found tariff end
-other_decimals None tariff t end sound e = absurd cc
-other_decimals (Some one) tariff t end sound e = by (one == t.decimals) refl e
-  where
-    others : Ended
-    others = ended.OtherDecimals one t.decimals
-
-    by : (same : Bool) → (one == t.decimals) ≡ same → (if same then Ok (tt {0}) else Err others) ≡ Err end → IsNoTariff (Some one) tariff end
-    by true is e = absurd cc
-    by false is e =
-        let end_is : end ≡ others = cc in
-        rw end_is (t, sound, ap (λ (same : Bool). if same then Ok (tt {0}) else Err others) is)
 
 -- a tariff that is refused makes no seal
 pub no_seal-tariff : (number : ℕ) (found : Option ℕ) (tariff params : List ℕ) (read_failed : ℕ → Type 0) (end : Ended) → IsNoTariff found tariff end
@@ -93,36 +66,12 @@ no_seal-tariff number found tariff params read_failed ended.BoardFault h = absur
 pub no_tariff-fault : (found : Option ℕ) (tariff : List ℕ) (end : Ended) → IsNoTariff found tariff end → (end ≢ ended.ReadFault) × (end ≢ ended.BoardFault)
 no_tariff-fault found tariff end h = (λ e. subst (λ (x : Ended). IsNoTariff found tariff x) e h, λ e. subst (λ (x : Ended). IsNoTariff found tariff x) e h)
 
--- neither does a tariff that wasn't read
-pub no_seal-text : (number : ℕ) (found : Option ℕ) (tariff params : List ℕ) (read_failed : ℕ → Type 0) (fault : TextFault) → (fault ≡ texts.ReadFault → read_failed 1)
-    → ((why : Refusal) → fault ≡ texts.Refused why → tariff_in tariff ≡ Err why) → IsNoSeal number found tariff params read_failed (ended_for fault)
-no_seal-text number found tariff params read_failed texts.ReadFault failed refused = inl (failed refl)
-no_seal-text number found tariff params read_failed (texts.Refused why) failed refused =
-    ap (λ (r : Result Tree Refusal). with_tariff number found (sha256 tariff) r (params_read params)) (refused why refl)
-no_seal-text number found tariff params read_failed texts.NoMemory failed refused = tt
-
 -- what a tariff that fits makes with the parameters
 seal_with : (number : ℕ) (found : Option ℕ) (tariff params : List ℕ) (h : HasDecimals found tariff)
     → seal_read number found tariff params ≡ with_params number (sha256 tariff) h.tree.decimals (params_read params)
 seal_with number found tariff params h =
     ap (λ (r : Result Tree Refusal). with_tariff number found (sha256 tariff) r (params_read params)) h.sound
     ∙ ap (λ (r : Result (Unit {0}) Ended). where_decimals r (with_params number (sha256 tariff) h.tree.decimals (params_read params))) h.decimals
-
--- parameters that weren't read make none
-pub no_seal-params : (number : ℕ) (found : Option ℕ) (tariff text : List ℕ) (read_failed : ℕ → Type 0) (h : HasDecimals found tariff) (fault : ParamsFault)
-    → (fault ≡ params.ReadFault → read_failed 2) → ((why : ParamFault) → fault ≡ params.Refused why → params_read text ≡ Err why)
-    → IsNoSeal number found tariff text read_failed (ended_for_params fault)
-no_seal-params number found tariff text read_failed h params.ReadFault failed refused = inr (h, failed refl)
-no_seal-params number found tariff text read_failed h (params.Refused why) failed refused =
-    seal_with number found tariff text h ∙ ap (with_params number (sha256 tariff) h.tree.decimals) (refused why refl)
-no_seal-params number found tariff text read_failed h params.NoMemory failed refused = tt
-
--- the seal of both texts
-pub seal-made : (number decimals : ℕ) (found : Option ℕ) (tariff text : List ℕ) (is : IsTariffWith found decimals tariff) (p : Params) → params_read text ≡ Ok p
-    → seal_read number found tariff text ≡ Ok (record { seal_number = number; params = p; digest = sha256 tariff; decimals = decimals })
-seal-made number decimals found tariff text is p read =
-    seal_with number found tariff text is.has ∙ ap (with_params number (sha256 tariff) is.has.tree.decimals) read
-    ∙ ap (λ (d : ℕ). Ok (record { seal_number = number; params = p; digest = sha256 tariff; decimals = d })) is.decimals_are
 
 -- ---- the answer
 

@@ -18,14 +18,6 @@ use Rattle.commands.specs.Shifts.{ended_for_book, reported, shifts_answer, shift
 use Rattle.commands.proofs.Answering.{comes-refusal}
 use Rattle.commands.proofs.Showing.{comes-lacking, comes-unread}
 
--- there is no report only where a read failed, the text is no book or memory ran out, and none of these is another
-pub not_read-report : (fault : ReportFault) → ended_for_report fault ≡ ended.ReadFault → fault ≡ reports.ReadFault
-not_read-report reports.ReadFault e = refl
-not_read-report (reports.Refused books.TooLong) e = absurd cc
-not_read-report (reports.Refused (books.BadLine line)) e = absurd cc
-not_read-report (reports.Refused books.NoMemory) e = absurd cc
-not_read-report reports.NoMemory e = absurd cc
-
 pub not_board-report : (fault : ReportFault) → ended_for_report fault ≢ ended.BoardFault
 not_board-report reports.ReadFault = λ e. absurd cc
 not_board-report (reports.Refused books.TooLong) = λ e. absurd cc

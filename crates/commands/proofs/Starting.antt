@@ -50,12 +50,6 @@ tariff-wrong digest text few other = rw (le-ltb 65536 (length text) few, other) 
 pub tariff-long : (digest text : List ℕ) → 65536 < length text → sealed_tariff digest text ≡ Err (ended.BadTariff TooLong)
 tariff-long digest text long = rw (lt-ltb 65536 (length text) long) refl
 
--- no tables were made
-pub no_tables-text : (text : List ℕ) (fault : TextFault) → fault ≢ texts.ReadFault → ((why : Refusal) → fault ≡ texts.Refused why → tariff_in text ≡ Err why) → IsNoTables text (ended_for fault)
-no_tables-text text texts.ReadFault read refused = absurd (read refl)
-no_tables-text text (texts.Refused why) read refused = refused why refl
-no_tables-text text texts.NoMemory read refused = tt
-
 pub no_tables-read : (digest text : List ℕ) (read_failed : Type 0) (fault : TextFault) → (fault ≡ texts.ReadFault → read_failed)
     → ((why : Refusal) → fault ≡ texts.Refused why → (why ≡ TooLong) × (65536 < length text)) → AreNoTables digest text read_failed (ended_for fault)
 no_tables-read digest text read_failed texts.ReadFault failed long = failed refl
@@ -75,10 +69,6 @@ no_tables-as digest text read_failed more ended.NoMemory is h = tt
 no_tables-as digest text read_failed more (ended.BadTariff why) is h = h
 no_tables-as digest text read_failed more (ended.WrongTariff sealed own) is h = h
 no_tables-as digest text read_failed more why is h = absurd h
-
--- a fault of making tables is none of a read or of the board
-pub no_tables-fault : (text : List ℕ) (why : Ended) → IsNoTables text why → (why ≢ ended.ReadFault) × (why ≢ ended.BoardFault)
-no_tables-fault text why h = (λ e. subst (λ (x : Ended). IsNoTables text x) e h, λ e. subst (λ (x : Ended). IsNoTables text x) e h)
 
 pub text-not_board : (fault : TextFault) → ended_for fault ≢ ended.BoardFault
 text-not_board texts.ReadFault = λ e. absurd cc

@@ -3,18 +3,15 @@ use Rattle.std.proofs.Common.{◌≡◌, ◌≢◌, ℕ, List, [], ◌++◌, Res
 use Rattle.std.proofs.lemmas.List.{append-nil}
 use Rattle.outside.specs.Printing.{Begins}
 use Rattle.tariff_syntax.specs.Tree.{Tree}
-use Rattle.tariff_check.specs.Cells.{cells_of}
-use Rattle.tariff_check.specs.Measure.{measure_of}
 use Rattle.tariff_compile.specs.Rows.{rows_text}
 use Rattle.tariff_compile.specs.Tables.{TableParts, tables_of}
 use Rattle.commands.specs.declared.ending.Ended.{Ended}
 use Rattle.commands.specs.declared.ending.Ended.TheVariants as ended
 use Rattle.commands.specs.declared.tariff.Refusal.{Refusal}
 use Rattle.commands.specs.Answer.{Answer}
-use Rattle.commands.specs.Check.{check_answer, check_command}
+use Rattle.commands.specs.Check.{check_answer}
 use Rattle.commands.specs.Course.{Answered}
-use Rattle.commands.specs.Ending.{Comes, ComesUnprinted}
-use Rattle.commands.specs.LastLine.{sound_line}
+use Rattle.commands.specs.Ending.{Comes}
 use Rattle.commands.specs.Tables.{tables_answer, tables_command}
 use Rattle.commands.specs.Tariffs.{bad_tariff, tariff_in}
 
@@ -30,23 +27,6 @@ zero-two n e f = absurd cc
 
 zero-three : (n : ℕ) → n ≡ 0 → n ≢ 3
 zero-three n e f = absurd cc
-
--- the line of a sound tariff
-pub comes-sound : (contents left : ℕ → List ℕ) (image : List ℕ) (read_failed : ℕ → Type 0) (t : Tree) (cells measure : ℕ) → tariff_in (contents 1) ≡ Ok t → left 1 ≡ []
-    → cells ≡ cells_of t.lines → measure ≡ measure_of t.lines → ComesUnprinted check_command contents left image read_failed (ended.Sound cells measure)
-comes-sound contents left image read_failed t cells measure sound read are is_measure =
-    let e = ap check_answer sound in
-    let line : sound_line cells measure ≡ sound_line (cells_of t.lines) (measure_of t.lines) = ap (λ (n : ℕ). sound_line n measure) are ∙ ap (λ (n : ℕ). sound_line (cells_of t.lines) n) is_measure in
-    let zero : (check_answer (tariff_in (contents 1))).status ≡ 0 = ap (λ (a : Answer). a.status) e in
-    record {
-      course = Answered;
-      may = record {
-        whole = λ is word reads. ap left reads ∙ read;
-        refused = λ is. absurd (zero-two _ zero is);
-        bad = λ is. absurd (zero-three _ zero is);
-      };
-      stands = inl (record { status_is = sym zero; line_is = line ∙ sym (ap (λ (a : Answer). a.line) e); shown = ap (λ (a : Answer). a.shown) e });
-    }
 
 -- the rows of the tables of a tariff, and a beginning of them
 module _ (k : ℕ) (contents left : ℕ → List ℕ) (image : List ℕ) (read_failed : ℕ → Type 0) (failed told : Type 0) (before now : List ℕ)

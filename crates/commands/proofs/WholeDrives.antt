@@ -19,14 +19,6 @@ pub record IsSoFar (told : Type 0) (progress : Progress) (drive rest : List ℕ)
   pub split : told → drive ≡ given ++ (progress.ahead ++ rest)
   pub runs_are : runs ≡ runs_in given
 
-pub so_far_none : (told : Type 0) (progress : Progress) (drive : List ℕ) → HasGiven progress [] → progress.ahead ≡ [] → IsSoFar told progress drive drive []
-so_far_none told progress drive stands none = record {
-  given = [];
-  stands = stands;
-  split = λ t. sym (ap (λ (xs : List ℕ). xs ++ drive) none);
-  runs_are = refl;
-}
-
 same : (a b : DriveFault) → Some a ≡ Some b → a ≡ b
 same a b e = cc
 

@@ -35,18 +35,19 @@ pub record Terms : Type 0 where
   pub seal : Seal
   pub tree : Tree
 
--- the terms with a seal and a tariff, which are refused where the tariff is
+-- a verification over a seal has terms of that seal and of a tariff, or is refused where the tariff is
 abbrev pub terms_with : Seal → Result Tree Ended → Result Terms Ended
 terms_with seal (Err why) = Err why
 terms_with seal (Ok t) = Ok (record { seal = seal; tree = t })
 
--- the terms over a sealed store, with a tariff's text, which are refused where the store is
+-- a verification over a sealed store has terms of the store's seal and of a tariff's text, or is refused where the
+-- store is
 abbrev pub terms_over : Result (Durable × Seal) Ended → (tariff : List ℕ) → Result Terms Ended
 terms_over (Err why) tariff = Err why
 terms_over (Ok store) tariff = terms_with store.1 (sealed_tariff store.1.digest tariff)
 
--- the terms of what was opened, with a tariff's text, or the first refusal, which is one of the store before one of the
--- text
+-- a verification over what was opened has terms, with a tariff's text, or the first refusal, which is one of the store
+-- before one of the text
 abbrev pub terms_of : Result Opening StoreFault → (tariff : List ℕ) → Result Terms Ended
 terms_of opening tariff = terms_over (store_of opening) tariff
 
@@ -60,12 +61,13 @@ setting_under terms = record {
   offsets = terms.seal.params.offsets;
 }
 
--- the amount of a display step, or 0 where there is none
+-- the amount of a display step that may be none is its own, and 0 for none
 abbrev pub step_amount : Option (ℕ × Rounding) → ℕ
 step_amount None = 0
 step_amount (Some step) = step.0
 
--- the display step of a tariff in its smallest units; a sound tariff has one
+-- the display step of a tariff is counted in the smallest units of money, and is 0 without a step, which a sound tariff
+-- has
 abbrev pub display_step : Tree → ℕ
 display_step t = step_amount (step_of t.lines)
 
@@ -81,7 +83,7 @@ bench_text terms drive found =
     cross_overs_text terms.tree.lines
     ++ report_text (display_step terms.tree) terms.tree.decimals (hirings_under terms drive) found
 
--- a test whether every row of the report passes
+-- the test `does_bench_pass` is true where every row of the report passes
 abbrev pub does_bench_pass : Terms → (drive : List ℕ) → List Reading → Bool
 does_bench_pass terms drive found = do_all_pass (display_step terms.tree) (hirings_under terms drive) found
 

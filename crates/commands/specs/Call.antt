@@ -19,8 +19,8 @@ module _ (c : Command) (contents left : ℕ → List ℕ) (image : List ℕ) (re
     pub refused : (c.answer contents image).status ≡ 2 → Takes c.drive contents left []
     pub bad : (c.answer contents image).status ≡ bad_status c.drive → TellsItsEnd c.drive contents left
 
-  -- a read failed of a word whose file the command reads and had come to, when these bytes of the drive or of the
-  -- requests were taken
+  -- a read of a word's file failed where the command reads the file and had come to it when the bytes `taken` of the
+  -- drive or of the requests were taken
   pub record FailsToRead (word : ℕ) (taken : List ℕ) : Type 0 where
     pub reads : c.reads word
     pub comes : c.comes_to contents image word taken
@@ -33,7 +33,7 @@ module _ (c : Command) (contents left : ℕ → List ℕ) (image : List ℕ) (re
     pub may : c.may_lack contents image taken
     pub takes : Takes c.drive contents left taken
 
-  -- the board failed when these bytes of the drive or of the requests were taken
+  -- the board failed in a call when the bytes `taken` of the drive or of the requests were taken
   pub record FailsAtBoard (taken : List ℕ) : Type 0 where
     pub failed : board_failed
     pub takes : Takes c.drive contents left taken
@@ -45,7 +45,7 @@ module _ (c : Command) (contents left : ℕ → List ℕ) (image : List ℕ) (re
   MayTake NoMemory = LacksMemory
   MayTake (BoardFailed taken) = FailsAtBoard taken
 
--- memory may run out in a call of a command where it may when some bytes of the drive were taken
+-- memory may run out in a call of a command where it may when some bytes of the drive or of the requests were taken
 abbrev pub MayLack : Command → (contents : ℕ → List ℕ) (image : List ℕ) → Type 0
 MayLack c contents image = (taken : List ℕ) × c.may_lack contents image taken
 

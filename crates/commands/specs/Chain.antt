@@ -41,8 +41,8 @@ abbrev pub prefixes_of : Durable → (image : List ℕ) → List Link → List C
 prefixes_of durable image [] = []
 prefixes_of durable image (link ∷ links) = prefix_of durable image link ++ prefixes_of link.found link.image links
 
--- a call has made a chain where there are runs with these files before and after them, these cuts and these answers,
--- and the last image is that of the call and stands for the last state
+-- a call has made a chain of runs where the runs have the files `files` before them and `files_left` behind them, the
+-- cuts `cuts` and the answers `answers`, and the last image is that of the call and stands for the last state
 pub record HasChain (durable : Durable) (image : List ℕ) (files files_left : List FilesState)
     (cuts : List (Option (ℕ × Fill))) (last : List ℕ) (answers : List (ℕ × ℕ)) : Type 0 where
   pub links : List Link

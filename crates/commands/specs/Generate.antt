@@ -40,7 +40,7 @@ generated_setting t =
 abbrev pub state_after : Setting → (drive : List ℕ) → Durable
 state_after s drive = after_deeds first_state (run_deeds s first_state drive)
 
--- how many events the drive of a seed has
+-- the number of events of a generated drive is how many events its lines give
 abbrev pub event_count : (seed trips : ℕ) → ℕ
 event_count seed trips = length (events_in (generated seed trips))
 

@@ -24,7 +24,7 @@ use Rattle.tariff_check.specs.declared.fault.Dimension.TheVariants as dimensions
 use Rattle.tariff_check.specs.declared.fault.CheckFault.{CheckFault}
 use Rattle.tariff_check.specs.declared.fault.CheckFault.TheVariants as faults
 
--- the last line where the words are no command
+-- where the words are no command the last line is `BAD WORDS`
 abbrev pub bad_words_line : List ℕ
 bad_words_line = codes "BAD WORDS\n"
 
@@ -33,11 +33,11 @@ abbrev pub sound_line : (cells measure : ℕ) → List ℕ
 sound_line cells measure =
     codes "OK CELLS " ++ (decimal cells ++ (codes " MEASURE " ++ (decimal measure ++ codes "\n")))
 
--- a name, a blank and a number
+-- a numbered text is a name, a blank and a number in decimal digits
 abbrev pub numbered : (name : List ℕ) → ℕ → List ℕ
 numbered name number = name ++ (codes " " ++ decimal number)
 
--- the name of a dimension of which a tariff has too many cuts
+-- a dimension of which a tariff has too many cuts is written as its name
 abbrev pub dimension_text : Dimension → List ℕ
 dimension_text dimensions.MonthDay = codes "MonthDay"
 dimension_text dimensions.Minute = codes "Minute"
@@ -81,7 +81,7 @@ bad_slot_line slot = number_line (codes "BAD STORE ") slot
 abbrev pub same_number_line : ℕ → ℕ → List ℕ
 same_number_line first second = codes "BAD STORE " ++ (decimal first ++ (codes " " ++ (decimal second ++ codes "\n")))
 
--- the last line where decimals differ has those of the found seal, and those of the tariff
+-- where decimals differ the last line has the found seal's and the tariff's
 abbrev pub other_decimals_line : (found own : ℕ) → List ℕ
 other_decimals_line found own = codes "OTHER DECIMALS " ++ (decimal found ++ (codes " " ++ (decimal own ++ codes "\n")))
 
@@ -89,7 +89,7 @@ other_decimals_line found own = codes "OTHER DECIMALS " ++ (decimal found ++ (co
 abbrev pub wrong_tariff_line : (digest own : List ℕ) → List ℕ
 wrong_tariff_line digest own = codes "WRONG TARIFF " ++ (hex_text digest ++ (codes " " ++ (hex_text own ++ codes "\n")))
 
--- the name of a parameter
+-- a parameter is written in a last line as its name
 abbrev pub name_text : Name → List ℕ
 name_text names.Taxi = codes "Taxi"
 name_text names.Constant = codes "Constant"
@@ -118,7 +118,7 @@ sealed_line number = number_line (codes "SEALED ") number
 abbrev pub bad_frame_line : ℕ → List ℕ
 bad_frame_line place = number_line (codes "BAD FRAME ") place
 
--- the last line where requests have no end within the bytes that they may have
+-- where requests have no end within the bytes that they may have the last line is `BAD FRAME TOO LONG`
 abbrev pub endless_requests_line : List ℕ
 endless_requests_line = codes "BAD FRAME TOO LONG\n"
 
@@ -126,7 +126,7 @@ endless_requests_line = codes "BAD FRAME TOO LONG\n"
 abbrev pub bad_readings_line : ℕ → List ℕ
 bad_readings_line row = number_line (codes "BAD READINGS ") row
 
--- the last line where readings have more bytes than they may have
+-- where readings have more bytes than they may have the last line is `BAD READINGS TOO LONG`
 abbrev pub long_readings_line : List ℕ
 long_readings_line = codes "BAD READINGS TOO LONG\n"
 
@@ -137,7 +137,7 @@ bad_rules_line rules.TooLong = codes "BAD RULES TooLong\n"
 bad_rules_line (rules.BadLine line) = number_line (codes "BAD RULES BadLine ") line
 bad_rules_line rules.SameMonth = codes "BAD RULES SameMonth\n"
 
--- the last line where a book has more bytes than it may have
+-- where a book has more bytes than it may have the last line is `BAD BOOK TOO LONG`
 abbrev pub long_book_line : List ℕ
 long_book_line = codes "BAD BOOK TOO LONG\n"
 
@@ -145,15 +145,15 @@ long_book_line = codes "BAD BOOK TOO LONG\n"
 abbrev pub bad_book_line : ℕ → List ℕ
 bad_book_line line = number_line (codes "BAD BOOK ") line
 
--- the last line where a drive has no end within the bytes that it may have
+-- where a drive has no end within the bytes that it may have the last line is `BAD DRIVE TOO LONG`
 abbrev pub endless_drive_line : List ℕ
 endless_drive_line = codes "BAD DRIVE TOO LONG\n"
 
--- the last line where a read failed
+-- where a read failed the last line is `READ FAULT`
 abbrev pub read_fault_line : List ℕ
 read_fault_line = codes "READ FAULT\n"
 
--- the last line where memory ran out
+-- where memory ran out the last line is `NO MEMORY`
 abbrev pub no_memory_line : List ℕ
 no_memory_line = codes "NO MEMORY\n"
 

@@ -16,9 +16,9 @@ use Rattle.commands.specs.Run.{IsOfTotals, MayFind, Start, bytes_in, deeds_in, r
 use Rattle.commands.specs.declared.ending.Ended.{Ended}
 
 -- A run of a chain is told by what its files held and what is left of them, how the power was cut, how far the run
--- came, its status, and what is left behind it, which is the next image, the state that this stands for, its number,
--- and what had been printed. A cut is one inside the board's call with a number, and what it makes of the bytes in
--- flight.
+-- came, its status, and what is left behind it, which is the next image, the state for which that image stands, the
+-- number of that state, and what had been printed. A cut is one inside the board's call with a number, and what it
+-- makes of the bytes in flight.
 pub record Link : Type 0 where
   pub files : FilesState
   pub files_left : FilesState
@@ -40,15 +40,16 @@ module _ (image : List ℕ) (link : Link) where
   abbrev pub begun_with : Result Start Ended
   begun_with = start_of (opening_of image) (rest_of link.files 1)
 
-  -- the bytes of its drive that a run carried out are all where it came to its answer, and else those that were taken
+  -- the bytes of its drive that a run carried out are the whole drive where it came to its answer, and else the bytes
+  -- that were taken
   abbrev pub bytes_done : List ℕ
   bytes_done = bytes_in link.course (rest_of link.files 2)
 
-  -- the deeds that a run has done are those over the bytes that it carried out
+  -- the deeds that a run has done are the deeds over the bytes that it carried out
   abbrev pub deeds_done : List Deed
   deeds_done = deeds_from begun_with bytes_done
 
-  -- the commits that a run has done are those of its deeds, in order
+  -- the commits that a run has done are the commits of its deeds, in order
   abbrev pub commits_done : List Change
   commits_done = changes_of deeds_done
 
@@ -60,7 +61,8 @@ module _ (image : List ℕ) (link : Link) where
 abbrev pub prefix_of : (durable : Durable) (image : List ℕ) → Link → List Change
 prefix_of durable image link = take (link.number - durable.number) (commits_done image link)
 
--- A run of a chain is one over an image that stands for a durable state, as these parts say.
+-- A run of a chain is one over an image that stands for a durable state, where its course, its status, its commits, the
+-- next image and what had been printed are as the fields say.
 pub record IsLink (durable : Durable) (image : List ℕ) (link : Link) : Type 0 where
   -- the run came to its answer over the whole drive, with the status of the command's definition, or to a read that
   -- failed, with 7; memory didn't run out, and the board didn't fail

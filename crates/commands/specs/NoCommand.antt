@@ -4,7 +4,7 @@ use Rattle.commands.specs.Answer.{Answer, refuses}
 use Rattle.commands.specs.Course.{Command}
 use Rattle.commands.specs.LastLine.{bad_words_line}
 
--- the answer to words that are no command
+-- the answer to words that are no command is the status 1 and the last line `BAD WORDS`
 abbrev pub bad_words : Answer
 bad_words = refuses 1 bad_words_line
 

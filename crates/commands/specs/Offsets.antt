@@ -16,7 +16,8 @@ offsets_answer years (Err fault) = refuses 17 (bad_rules_line fault)
 offsets_answer years (Ok rule) = shows (offset_lines (pairs_of rule years.0 years.1))
 
 -- the command `offsets` reads its rules, prints each line by itself and takes no memory, in at most 31 steps and one
--- for the last line
+-- for the last line; `rules_read` gives the rule that a text says or its fault, as the law texts_say_rules_line_by_line
+-- of offset_rules says
 abbrev pub offsets_command : (years : ℕ × ℕ) → Command
 offsets_command years = record {
   answer = λ contents image. offsets_answer years (rules_read (contents 1));

@@ -50,7 +50,7 @@ abbrev pub sealed_or : Option (Durable × Seal) → Result (Durable × Seal) End
 sealed_or None = Err ended.NotSealed
 sealed_or (Some store) = Ok store
 
--- the durable state and the seal of what was opened, or the end by which the store is refused
+-- the store of what was opened gives its durable state and its seal, or the end by which it is refused
 abbrev pub store_of : Result Opening StoreFault → Result (Durable × Seal) Ended
 store_of (Err fault) = Err (store_ended fault)
 store_of (Ok opening) = sealed_or (sealed_store opening.totals opening.seal)

@@ -45,21 +45,23 @@ abbrev pub accepted : Result Tree Refusal → Result Tree Ended
 accepted (Err why) = Err (ended.BadTariff why)
 accepted (Ok t) = Ok t
 
--- the sealed tariff of a text, or the end by which it is refused: for its length before its digest, and for its digest
--- before its content
+-- a text is accepted as the sealed tariff or refused, for its length before its digest, and for its digest before its
+-- content
 abbrev pub sealed_tariff : (digest text : List ℕ) → Result Tree Ended
 sealed_tariff digest text =
     if nat_lt 65536 (length text) then Err (ended.BadTariff TooLong)
     else (if pointwise nat_eq digest (sha256 text) then accepted (tariff_in text)
     else Err (ended.WrongTariff digest (sha256 text)))
 
--- a test whether no count of supplements, whose numbers run from a first one on, is above what a hiring may have
+-- the test `are_allowed` is true where no count of supplements, whose numbers run from a first one on, is above what a
+-- hiring may have
 abbrev pub are_allowed : (supplement : ℕ → Option Supplement) → (first : ℕ) → (counts : List ℕ) → Bool
 are_allowed supplement first [] = true
 are_allowed supplement first (count ∷ counts) =
     nat_le count (most_in (supplement first)) && are_allowed supplement (first + 1) counts
 
--- a test whether a trip fits the tables: its position, zone, rest, cover and supplements may come from a hiring by them
+-- the test `does_fit` is true where a trip fits the tables: its position, zone, rest, cover and supplements may come
+-- from a hiring by them
 abbrev pub does_fit : TableParts → Trip → Bool
 does_fit tables trip =
     nat_le 1 trip.position
@@ -71,7 +73,7 @@ does_fit tables trip =
     && (are_allowed (supplement_in tables) 1 trip.extras
     && trip.extras_sum == amounts_from (supplement_in tables) 1 trip.extras))))))
 
--- a test whether a held trip fits the tables, or there is none
+-- the test `does_hold_fit` is true where a held trip fits the tables, or there is none
 abbrev pub does_hold_fit : TableParts → Option Trip → Bool
 does_hold_fit tables None = true
 does_hold_fit tables (Some trip) = does_fit tables trip
@@ -96,20 +98,21 @@ setting_in start = record {
   offsets = start.seal.params.offsets;
 }
 
--- the start with a durable state, a seal and a tariff, which is refused where the held trip doesn't fit the tables
+-- a run starts with a durable state, a seal and a tariff, or is refused where the tariff is or the held trip doesn't
+-- fit the tables
 abbrev pub start_with : Durable → Seal → Result Tree Ended → Result Start Ended
 start_with durable seal (Err why) = Err why
 start_with durable seal (Ok t) =
     if does_hold_fit (tables_of t seal.params.constant) durable.hold
     then Ok (record { durable = durable; seal = seal; tree = t }) else Err ended.BadTrip
 
--- the start over a sealed store, with a tariff's text, which is refused where the store is
+-- a run starts over a sealed store with a tariff's text, or is refused where the store is
 abbrev pub start_over : Result (Durable × Seal) Ended → (tariff : List ℕ) → Result Start Ended
 start_over (Err why) tariff = Err why
 start_over (Ok store) tariff = start_with store.0 store.1 (sealed_tariff store.1.digest tariff)
 
--- the start over what was opened, with a tariff's text, or the first refusal, which is one of the store before one of
--- the text
+-- a run starts over what was opened with a tariff's text, or has the first refusal, which is one of the store before
+-- one of the text
 abbrev pub start_of : Result Opening StoreFault → (tariff : List ℕ) → Result Start Ended
 start_of opening tariff = start_over (store_of opening) tariff
 
@@ -191,17 +194,19 @@ module _ (told : Type 0) (image printed : List ℕ) where
     pub state : HasState now (after_deeds start.durable (deeds_in start bytes))
     pub seal_stays : SameBut IsOfTotals image now
 
-  -- an image stands in the end of a run that is done, or is the opening one where the run was refused
+  -- an image stands where a run ends: it has the state after all commits of the run, beside the opening seal, or is the
+  -- opening one where the run was refused
   abbrev pub Stands : Result Start Ended → (bytes now : List ℕ) → Type 0
   Stands (Err why) bytes now = now ≡ image
   Stands (Ok start) bytes now = IsRunDone start bytes now
 
 module _ {E D L : Type 0} (F : FileGhosts E) (B : Ghosts D L) where
-  -- the start of a run on a board, with the file of word 1 as its tariff
+  -- the start of a run on a board is the one that the image of the store and the file of word 1, its tariff, give
   abbrev pub start_at : (files : E) (board : D) → Result Start Ended
   start_at files board = start_of (opening_of (B.image board)) (F.rest files 1)
 
-  -- a cut of a run that took a course may have left an image and a text
+  -- a cut of a run that took a course may have left an image and a text that a cut may leave of the deeds over the
+  -- bytes that the course carried out, behind which the course's last line stands
   abbrev pub MayFindIn : (files : E) (old : D) → Course → (left_image left_text : List ℕ) → Type 0
   MayFindIn files old course = MayFind B.tells_text (B.image old) (B.printed old) (start_at files old)
       (bytes_in course (F.rest files 2)) (line_in run_command (F.rest files) (B.image old) course)

@@ -40,40 +40,42 @@ abbrev pub over_totals : Found Durable → Found Seal → Result Base Ended
 over_totals Blank seal = over_seal None seal
 over_totals (Latest place durable) seal = if is_some durable.hold then Err TripHeld else over_seal (Some durable) seal
 
--- the base of a sealing over what was opened, or the end by which the store is refused
+-- the base of a sealing over what was opened is made of the totals and the seal that were found, or is the end by which
+-- the store is refused
 abbrev pub base_in : Result Opening StoreFault → Result Base Ended
 base_in (Err fault) = Err (store_ended fault)
 base_in (Ok opening) = over_totals opening.totals opening.seal
 
 -- ---- the new seal
 
--- decimals may be sealed where they are those of the found seal, or there is none
+-- decimals may be sealed where they are the decimals of the found seal, or no seal was found
 abbrev pub are_decimals : Option ℕ → ℕ → Result (Unit {0}) Ended
 are_decimals None own = Ok tt
 are_decimals (Some found) own = if found == own then Ok tt else Err (OtherDecimals found own)
 
--- a seal of a number, a digest, decimals and parameters, which is refused where the parameters are
+-- a seal is made of a number, a digest, decimals and parameters, and is refused where the parameters are
 abbrev pub with_params : (number : ℕ) → (digest : List ℕ) → (decimals : ℕ) → Result Params ParamFault
     → Result Seal Ended
 with_params number digest decimals (Err fault) = Err (BadParams fault)
 with_params number digest decimals (Ok params) =
     Ok (record { seal_number = number; params = params; digest = digest; decimals = decimals })
 
--- a seal is refused where its decimals are
+-- a seal is refused where its decimals are, and is otherwise made or refused for another reason
 abbrev pub where_decimals : Result (Unit {0}) Ended → Result Seal Ended → Result Seal Ended
 where_decimals (Err ended) seal = Err ended
 where_decimals (Ok same) seal = seal
 
--- a seal of a number, a digest, a tariff and parameters, which is refused where the tariff is, before its decimals and
--- its parameters are asked
+-- a seal is made of a number, a digest, a tariff and parameters, and is refused where the tariff is, before its
+-- decimals and its parameters are asked
 abbrev pub with_tariff : (number : ℕ) → Option ℕ → (digest : List ℕ) → Result Tree Refusal → Result Params ParamFault
     → Result Seal Ended
 with_tariff number found digest (Err why) params = Err (BadTariff why)
 with_tariff number found digest (Ok t) params =
     where_decimals (are_decimals found t.decimals) (with_params number digest t.decimals params)
 
--- the seal of a number that a tariff's text and a parameter text give, beside decimals that were found, or the first
--- refusal
+-- a tariff's text and a parameter text give the seal of a number, beside decimals that were found, or the first
+-- refusal; `params_read` gives the parameters or their first fault, as the laws texts_say_their_parameters,
+-- texts_are_too_long_or_lack_a_parameter and texts_say_parameters_line_by_line of seal_store say
 abbrev pub seal_read : (number : ℕ) → Option ℕ → (tariff params : List ℕ) → Result Seal Ended
 seal_read number found tariff params = with_tariff number found (sha256 tariff) (tariff_in tariff) (params_read params)
 
@@ -90,14 +92,14 @@ abbrev pub sealing_with : (old : Option Seal) → Base → Result Seal Ended →
 sealing_with old base (Err ended) = Err ended
 sealing_with old base (Ok seal) = Ok (record { totals = base.totals; old = old; new = seal })
 
--- the sealing over a base, with the number behind that of the found seal
+-- the sealing over a base puts in a seal whose number follows that of the found seal
 abbrev pub sealing_over : (old : Option Seal) → Result Base Ended → (tariff params : List ℕ) → Result Sealing Ended
 sealing_over old (Err ended) tariff params = Err ended
 sealing_over old (Ok base) tariff params =
     sealing_with old base (seal_read (next_number (found_number base.found)) base.decimals tariff params)
 
--- the sealing of what was opened, with a tariff's text and a parameter text, or the first refusal, which is one of the
--- store before one of the tariff, and of the tariff before one of the parameters
+-- the sealing of what was opened is made with a tariff's text and a parameter text, or is the first refusal, which is
+-- one of the store before one of the tariff, and of the tariff before one of the parameters
 abbrev pub sealing_of : Result Opening StoreFault → (tariff params : List ℕ) → Result Sealing Ended
 sealing_of (Err fault) tariff params = Err (store_ended fault)
 sealing_of (Ok opening) tariff params =

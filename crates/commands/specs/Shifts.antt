@@ -27,7 +27,8 @@ abbrev pub reported : (decimals : ℕ) (now : Durable) → Result (List Signing)
 reported decimals now (Err fault) = refused_as (ended_for_book fault)
 reported decimals now (Ok marks) = shows (report_text decimals (numbers_in now) marks)
 
--- the answer to a text over a sealed store is that of the book, and else it is the refusal of the store
+-- the answer to a text over a sealed store is that of the book, and else it is the refusal of the store; `book_read`
+-- gives the marks of the book or its fault, as the law texts_are_read_as_they_say of shift_book says
 abbrev pub shifts_answer : Result (Durable × Seal) Ended → (text : List ℕ) → Answer
 shifts_answer (Err why) text = refused_as why
 shifts_answer (Ok store) text = reported store.1.decimals store.0 (book_read store.0 text)

@@ -14,7 +14,7 @@ abbrev pub tables_answer : (k : ℕ) → Result Tree Refusal → Answer
 tables_answer k (Err why) = bad_tariff why
 tables_answer k (Ok t) = shows (rows_text (tables_of t k))
 
--- how many rows are shown under a constant
+-- the number of rows that are shown under a constant is that of the tables of a sound tariff, and 0 for another text
 abbrev pub rows_under : (k : ℕ) → Result Tree Refusal → ℕ
 rows_under k (Err why) = 0
 rows_under k (Ok t) = row_count (tables_of t k)

@@ -19,7 +19,9 @@ abbrev pub checked_in : Result Tree ℕ → Result Tree Refusal
 checked_in (Ok t) = sound_in t (fault_of t)
 checked_in (Err line) = Err (Syntax line)
 
--- the sound tariff of a text, or why there is none: more than 65,536 bytes, a bad line, or a fault
+-- the tariff of a text is the sound one that the text reads as, or is refused because the text has more than 65,536
+-- bytes, has a bad line, or its tariff has a fault; `tree_parsed` gives the tariff or the first bad line, as the law
+-- texts_are_parsed_as_they_read of tariff_syntax says
 abbrev pub tariff_in : List ℕ → Result Tree Refusal
 tariff_in text = if nat_lt 65536 (length text) then Err TooLong else checked_in (tree_parsed text)
 

@@ -16,15 +16,16 @@ constant_in word None = None
 constant_in word (Some (k, rest)) =
     if (length rest == 0 && (nat_le (length word) 6 && (nat_le 500 k && nat_le k 200000))) then Some k else None
 
--- the constant that a word is, if it is one
+-- a word is a constant where it is a number of at most 6 digits and of 500 to 200,000, and else none; `number_at` gives
+-- the number and what stands after it, as the law numbers_are_read_by_their_digits of taxi_units says
 unfoldable pub constant_of : List ℕ → Option ℕ
 constant_of word = constant_in word (number_at word)
 
--- a number, if 64 bits hold it
+-- a number fits where it is below 2^64, and else there is none
 abbrev pub fitting : ℕ → Option ℕ
 fitting number = if nat_lt number (2 ^ 64) then Some number else None
 
--- the seed that a word is, if it has 1 to 20 digits and 64 bits hold its number
+-- a word is a seed where it has 1 to 20 digits and their number is below 2^64, and else none
 unfoldable pub seed_of : List ℕ → Option ℕ
 seed_of word =
     if (nat_le 1 (length word) && (nat_le (length word) 20 && digits_at_front word == length word))
@@ -36,7 +37,7 @@ trips_in word None = None
 trips_in word (Some (count, rest)) =
     if (length rest == 0 && (nat_le (length word) 4 && (nat_le 1 count && nat_le count 1000))) then Some count else None
 
--- the number of trips that a word is, if it is one
+-- a word is a number of trips where it is a number of at most 4 digits and of 1 to 1,000, and else none
 unfoldable pub trips_of : List ℕ → Option ℕ
 trips_of word = trips_in word (number_at word)
 
@@ -45,11 +46,11 @@ abbrev pub gen_of : Option ℕ → Option ℕ → Option Row
 gen_of None trips = None
 gen_of (Some seed) trips = option_map (Gen seed) trips
 
--- the row by which a driver signs on
+-- the row by which a driver signs on has the name of the driver
 abbrev pub signs_on : List ℕ → Row
 signs_on driver = Mark (Some (record { items = driver }))
 
--- a test whether a word is a name
+-- the test `is_word` is true where a word has the same bytes as a name
 abbrev pub is_word : List ℕ → List ℕ → Bool
 is_word word name = pointwise nat_eq word name
 
@@ -66,7 +67,8 @@ two_words command last =
     else (if is_word command (codes "shifts") then Some Shifts else None)))
 
 -- the row of three words is `tables TARIFF CONSTANT`, `seal TARIFF PARAMS`, `run TARIFF DRIVE`, `gen SEED N` or
--- `mark on DRIVER`
+-- `mark on DRIVER`; `driver_of` gives a word as a driver where it is 1 to 16 of the characters A to Z, 0 to 9 and -,
+-- and nothing for another word
 abbrev pub three_words : (command middle last : List ℕ) → Option Row
 three_words command middle last =
     if is_word command (codes "tables") then option_map Tables (constant_of last)
@@ -83,7 +85,7 @@ four_words command third last =
     else (if is_word command (codes "bench") then Some Bench
     else (if is_word command (codes "offsets") then option_map Offsets (years_of third last) else None))
 
--- the row that words are, if they are a command
+-- words are the row of the command that they call, and no row where they are no command
 abbrev pub row_of : List (List ℕ) → Option Row
 row_of (command ∷ []) = one_word command
 row_of (command ∷ last ∷ []) = two_words command last

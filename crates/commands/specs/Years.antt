@@ -8,16 +8,18 @@ year_in word None = None
 year_in word (Some (year, rest)) =
     if (length rest == 0 && (length word == 4 && (nat_le 2000 year && nat_le year 2199))) then Some year else None
 
--- the year that a word is, if it is one
+-- a word is a year where it is four digits and a number of 2000 to 2199, and else none; `number_at` gives the number
+-- and what stands after it, as the law numbers_are_read_by_their_digits of taxi_units says
 unfoldable pub year_of : List ℕ → Option ℕ
 year_of word = year_in word (number_at word)
 
--- two years are the first and the last of at most fifteen
+-- two years are the bounds of the years that are asked for where there are at most fifteen, the first one to the last
 abbrev pub years_in : Option ℕ → Option ℕ → Option (ℕ × ℕ)
 years_in None last = None
 years_in (Some from) None = None
 years_in (Some from) (Some to) = if (nat_le from to && nat_le to (from + 14)) then Some (from, to) else None
 
--- the first and the last year that two words are, if they are the bounds of at most fifteen years
+-- two words are the first and the last year that are asked for where they are years and bound at most fifteen, and else
+-- none
 abbrev pub years_of : (first last : List ℕ) → Option (ℕ × ℕ)
 years_of first last = years_in (year_of first) (year_of last)

@@ -42,13 +42,7 @@ pub fn open_terms<F: Files, B: Board<L>, L: Ledger>(
     ensures counts { (other : ℕ) → F.faults files.old other ≤ F.faults files.new other }
     ensures steps { steps.new ≤ steps.old + 6 }
 {
-    let (_, seal) = match open_sealed(board, steps) {
-        Ok(store) => store,
-        Err(why) => return Err(why),
-    };
-    let checked = match read_sealed(alloc, files, &seal.digest) {
-        Ok(checked) => checked,
-        Err(why) => return Err(why),
-    };
+    let (_, seal) = open_sealed(board, steps)?;
+    let checked = read_sealed(alloc, files, &seal.digest)?;
     Ok(Terms { seal, checked })
 }

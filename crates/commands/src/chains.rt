@@ -13,32 +13,26 @@ ghost use Rattle.commands.specs.Run.{IsOfTotals};
 ghost use Rattle.commands.specs.Words.{row_of};
 ghost use Rattle.commands.specs.declared.words.Row.TheVariants.{Run};
 
+use crate::ending::{BOARD_FAULT, NO_MEMORY};
 use crate::opening::{open_store, sealed_store};
 use crate::top::taxi;
-use outside::{Fill, MemoryBoard, MemoryFiles, QuietBoard};
+use outside::{Fill, MemoryBoard, MemoryFiles, QuietBoard, STORE_SIZE};
 use slot_store::{Found, scan};
 use std::alloc::Global;
 use std::sync::ledger::Ledger;
 use taxi_units::{NoMemory, Steps};
 use totaliser_store::Durable;
 
-/// The status of a run whose board failed. A board in memory that fails nowhere by its list fails only for
-/// want of memory.
-const BOARD_FAULT: u8 = 8;
-
-/// The status of a run for which there was no memory.
-const NO_MEMORY: u8 = 12;
-
 /// What a run of a chain leaves: the next image, the run's status, and the number that is found in the image.
 #[derive(Drop)]
 struct Left {
-    image: [u8; 2048],
+    image: [u8; STORE_SIZE],
     status: u8,
     number: u64,
 }
 
 /// Whether an image stands for a durable state and a seal, so that a chain may begin with it.
-pub fn may_begin<L: Ledger>(image: &[u8; 2048], steps: &mut Steps<L>) -> bool
+pub fn may_begin<L: Ledger>(image: &[u8; STORE_SIZE], steps: &mut Steps<L>) -> bool
     ensures { IsTrue result ↔ IsSealedStore image.now }
 {
     let mut board = QuietBoard::new(image);
@@ -49,7 +43,7 @@ pub fn may_begin<L: Ledger>(image: &[u8; 2048], steps: &mut Steps<L>) -> bool
 }
 
 /// The number of the state that an image stands for, as a scan finds it.
-fn stored_number<L: Ledger>(image: &[u8; 2048], steps: &mut Steps<L>) -> u64
+fn stored_number<L: Ledger>(image: &[u8; STORE_SIZE], steps: &mut Steps<L>) -> u64
     ensures { (durable : Durable) → HasState image.now durable → result ≡ durable.number }
 {
     let mut board = QuietBoard::new(image);
@@ -66,7 +60,11 @@ fn stored_number<L: Ledger>(image: &[u8; 2048], steps: &mut Steps<L>) -> u64
 /// The image that is left of a run over an image, with its board: that of a cut inside a call, the last one
 /// where the number is above it, or that of the board where there is no cut. Before the first call nothing
 /// of the run has been done.
-fn left_by(image: &[u8; 2048], board: &MemoryBoard, cut: Option<(u64, Fill)>) -> [u8; 2048]
+fn left_by(
+    image: &[u8; STORE_SIZE],
+    board: &MemoryBoard,
+    cut: Option<(u64, Fill)>,
+) -> [u8; STORE_SIZE]
     ensures left { ((text : List ℕ) × left_since_of board.now.state 0 result text) ⊎ (result ≡ image.now) }
     ensures whole { cut ≡ None → result ≡ image_of board.now.state }
     ensures none { (fill : Fill) → cut ≡ Some (0, fill) → result ≡ image.now }
@@ -78,12 +76,13 @@ fn left_by(image: &[u8; 2048], board: &MemoryBoard, cut: Option<(u64, Fill)>) ->
     }
 }
 
-/// One run of a chain, over an image.
+/// One run of a chain, over an image. Its board in memory fails nowhere by its list, so it fails only for want
+/// of memory.
 fn run_over<L: Ledger>(
     alloc: Global,
     words: &[String],
     files: &mut MemoryFiles,
-    image: &[u8; 2048],
+    image: &[u8; STORE_SIZE],
     cut: Option<(u64, Fill)>,
     steps: &mut Steps<L>,
 ) -> Result<Left, NoMemory>
@@ -121,10 +120,10 @@ pub fn chain<L: Ledger>(
     alloc: Global,
     words: &[String],
     files: &mut [MemoryFiles],
-    image: &[u8; 2048],
+    image: &[u8; STORE_SIZE],
     cuts: &[Option<(u64, Fill)>],
     steps: &mut Steps<L>,
-) -> Result<([u8; 2048], Vec<(u8, u64)>), NoMemory>
+) -> Result<([u8; STORE_SIZE], Vec<(u8, u64)>), NoMemory>
     requires run { row_of (map string_bytes words.now) ≡ Some Run }
     requires cuts { length cuts.now ≡ length files.old }
     requires sealed { IsSealedStore image.now }

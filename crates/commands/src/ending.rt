@@ -20,6 +20,12 @@ use seal_store::ParamFault;
 use std::sync::ledger::Ledger;
 use taxi_units::Steps;
 
+/// The status of a call whose board failed.
+pub(crate) const BOARD_FAULT: u8 = 8;
+
+/// The status of a call for which there was no memory.
+pub(crate) const NO_MEMORY: u8 = 12;
+
 /// How a command ended.
 #[derive(Clone, Copy)]
 pub enum Ended {
@@ -168,8 +174,8 @@ fn status(ended: Ended) -> u8
         Ended::BadDrive(_) => 3,
         Ended::EndlessDrive => 3,
         Ended::ReadFault => 7,
-        Ended::BoardFault => 8,
-        Ended::NoMemory => 12,
+        Ended::BoardFault => BOARD_FAULT,
+        Ended::NoMemory => NO_MEMORY,
     }
 }
 
@@ -191,6 +197,6 @@ pub fn finish<B: Board<L>, L: Ledger>(ended: Ended, board: &mut B, steps: &mut S
     }
     match board.print(line.as_slice(), steps) {
         Ok(()) => status(ended),
-        Err(_) => 8,
+        Err(_) => BOARD_FAULT,
     }
 }

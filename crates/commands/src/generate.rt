@@ -10,6 +10,7 @@ ghost use Rattle.outside.specs.Runs.{KeepsStore};
 ghost use Rattle.seal_store.specs.Ranges.{IsSeal};
 ghost use Rattle.seal_store.specs.Sealing.{FoundSeal, FoundTotals, totals_found};
 ghost use Rattle.slot_store.specs.declared.found.Found.{Found};
+ghost use Rattle.taxi_units.specs.Line.{line_size};
 ghost use Rattle.taxi_units.specs.Time.{first_second};
 ghost use Rattle.totaliser_store.specs.Stored.{HasState};
 ghost use Rattle.totaliser_store.specs.declared.durable.Durable.{Durable};
@@ -26,7 +27,7 @@ use arrayvec::ArrayVec;
 use drive_modes::Mode;
 use interval_clock::Offsets;
 use meter_run::run_events;
-use outside::{Board, Files, QuietBoard};
+use outside::{Board, Files, QuietBoard, STORE_SIZE};
 use pulse_input::Constant;
 use seal_store::{Params, Seal, place_seal};
 use slot_store::{Found, scan};
@@ -173,7 +174,7 @@ fn state_of_drive<L: Ledger>(
 {
     generated_drives_mean_their_lines();
     let mut drive = Generator::new(seed, trips);
-    let mut board = QuietBoard::new(&[0; 2048]);
+    let mut board = QuietBoard::new(&[0; STORE_SIZE]);
     run_afresh(tables, seal, &mut drive, &mut board, steps).unwrap()
 }
 
@@ -183,7 +184,7 @@ fn summary(seed: u64, trips: u32, durable: &Durable, decimals: u8) -> Line
     requires decimals { decimals ≤ 3 }
     ensures text { result.items ≡ generated_text seed trips decimals durable.now }
     ensures some { 0 < array_vec_len result }
-    ensures few { array_vec_len result ≤ 512 }
+    ensures few { array_vec_len result ≤ line_size }
 {
     let mut line = Line::new();
     push_bytes(&mut line, b"GEN ");

@@ -52,10 +52,7 @@ pub fn judge_drive<F: Files>(
         Err(fault) => return Err(refused_drive(fault)),
     };
     let decimals = terms.checked.tariff().decimals;
-    let readings = match readings_of_word(alloc, files, 3, decimals) {
-        Ok(readings) => readings,
-        Err(why) => return Err(why),
-    };
+    let readings = readings_of_word(alloc, files, 3, decimals)?;
     match judge_readings(alloc, terms, runs.as_slice(), readings.as_slice()) {
         Ok(judgement) => Ok(judgement),
         Err(_) => Err(Ended::NoMemory),

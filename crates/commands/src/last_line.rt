@@ -1,6 +1,7 @@
 //! The last lines of the program.
 ghost use Rattle.std.specs.Prelude.{◌≡◌, ◌+◌, ◌≤◌, ◌++◌, [], length};
 ghost use Rattle.arrayvec.specs.ArrayVec.{array_vec_len};
+ghost use Rattle.taxi_units.specs.Line.{line_size};
 ghost use Rattle.commands.specs.LastLine.{bad_params_line, bad_rules_line, bad_tariff_line, dimension_text, fault_text};
 ghost use Rattle.commands.specs.LastLine.{line_of, name_text, numbered, other_decimals_line, param_fault_text};
 ghost use Rattle.commands.specs.LastLine.{same_number_line, sound_line, wrong_tariff_line};
@@ -81,7 +82,7 @@ fn push_bad_tariff(line: &mut Line, why: Refusal)
 
 /// Appends the name of a fault, and its numbers.
 fn push_fault(line: &mut Line, fault: CheckFault)
-    requires { array_vec_len line.old + 80 ≤ 512 }
+    requires { array_vec_len line.old + 80 ≤ line_size }
     ensures text { line.new.items ≡ line.old.items ++ fault_text fault }
     ensures len { array_vec_len line.new ≤ array_vec_len line.old + 80 }
 {
@@ -109,7 +110,7 @@ fn push_fault(line: &mut Line, fault: CheckFault)
 
 /// Appends a name and a number.
 fn push_numbered(line: &mut Line, name: &[u8], number: u64)
-    requires { array_vec_len line.old + length name.now + 40 ≤ 512 }
+    requires { array_vec_len line.old + length name.now + 40 ≤ line_size }
     ensures text { line.new.items ≡ line.old.items ++ numbered name.now number }
     ensures len { array_vec_len line.new ≤ array_vec_len line.old + length name.now + 40 }
 {
@@ -179,7 +180,7 @@ fn push_bad_params(line: &mut Line, fault: ParamFault)
 
 /// Appends the name of a fault of parameters, and its line or the parameter.
 fn push_param_fault(line: &mut Line, fault: ParamFault)
-    requires { array_vec_len line.old + 80 ≤ 512 }
+    requires { array_vec_len line.old + 80 ≤ line_size }
     ensures text { line.new.items ≡ line.old.items ++ param_fault_text fault }
     ensures len { array_vec_len line.new ≤ array_vec_len line.old + 80 }
 {

@@ -1,5 +1,6 @@
 //! The commands `mark on DRIVER` and `mark off`.
 ghost use Rattle.std.specs.Prelude.{◌≡◌, ◌≢◌, ◌+◌, ◌<◌, ◌≤◌, ℕ, List, length};
+ghost use Rattle.taxi_units.specs.Line.{line_size};
 ghost use Rattle.shift_book.specs.Following.{numbers_in};
 ghost use Rattle.shift_book.specs.Marks.{mark_text};
 ghost use Rattle.commands.specs.Ending.{ComesFrom, HasCauseOn, OnlyLooksAt};
@@ -44,7 +45,7 @@ pub fn print_mark<B: Board<L>, L: Ledger>(
 fn mark_line(driver: Option<ArrayVec<u8, 16>>, now: &Durable) -> Line
     ensures text { result.items ≡ mark_text (spec.mark_of driver now.now) }
     ensures some { 0 < length result.items }
-    ensures few { length result.items ≤ 512 }
+    ensures few { length result.items ≤ line_size }
 {
     let mut line = Line::new();
     put_mark(&mut line, &mark_of(driver, now)).unwrap();

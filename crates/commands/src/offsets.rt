@@ -2,6 +2,7 @@
 #![tactic(auto, using(crate::proofs::BoardRuns::board_runs))]
 
 ghost use Rattle.std.specs.Prelude.{◌≡◌, ◌≢◌, ℕ, ◌+◌, ◌<◌, ◌≤◌, ◌++◌, [], length, IfOk, OnOk, Err};
+ghost use Rattle.taxi_units.specs.Line.{line_size};
 ghost use Rattle.outside.specs.Faults.{HasCause, Rose};
 ghost use Rattle.outside.specs.Printing.{Begins};
 ghost use Rattle.outside.specs.Runs.{KeepsStore};
@@ -113,7 +114,7 @@ fn print_pairs<B: Board<L>, L: Ledger>(
 fn line_of(pair: (u64, i32)) -> Line
     ensures text { result.items ≡ offset_line pair }
     ensures some { 0 < length result.items }
-    ensures few { length result.items ≤ 512 }
+    ensures few { length result.items ≤ line_size }
 {
     let mut line = Line::new();
     put_offset(&mut line, pair).unwrap();

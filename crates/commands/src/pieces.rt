@@ -9,6 +9,9 @@ use outside::{Board, Failed};
 use std::sync::ledger::Ledger;
 use taxi_units::Steps;
 
+/// How many bytes a piece has at most.
+const PIECE_SIZE: usize = 512;
+
 /// Prints a text in pieces of at most 512 bytes, a step each.
 #[tactic(auto, using(crate::proofs::BoardRuns::board_runs))]
 pub fn print_text<B: Board<L>, L: Ledger>(
@@ -24,7 +27,7 @@ pub fn print_text<B: Board<L>, L: Ledger>(
 {
     let mut rest = text;
     while !rest.is_empty() {
-        let (piece, more) = rest.split_at(rest.len().min(512));
+        let (piece, more) = rest.split_at(rest.len().min(PIECE_SIZE));
         board.print(piece, steps)?;
         rest = more;
     }

@@ -45,10 +45,7 @@ fn read_tables<F: Files>(alloc: Global, files: &mut F, seal: &Seal) -> Result<Ta
     ensures others { (other : ℕ) → other ≢ 1 → F.rest files.new other ≡ F.rest files.old other }
     ensures counts { (other : ℕ) → F.faults files.old other ≤ F.faults files.new other }
 {
-    let checked = match read_sealed(alloc, files, &seal.digest) {
-        Ok(checked) => checked,
-        Err(why) => return Err(why),
-    };
+    let checked = read_sealed(alloc, files, &seal.digest)?;
     match compile(alloc, &checked, seal.params.constant) {
         Ok(tables) => Ok(tables),
         Err(_) => Err(Ended::NoMemory),
@@ -88,14 +85,8 @@ fn begin<F: Files, B: Board<L>, L: Ledger>(
     ensures counts { (other : ℕ) → F.faults files.old other ≤ F.faults files.new other }
     ensures steps { steps.new ≤ steps.old + 22 }
 {
-    let (durable, seal) = match open_sealed(board, steps) {
-        Ok(store) => store,
-        Err(why) => return Err(why),
-    };
-    let tables = match read_tables(alloc, files, &seal) {
-        Ok(tables) => tables,
-        Err(why) => return Err(why),
-    };
+    let (durable, seal) = open_sealed(board, steps)?;
+    let tables = read_tables(alloc, files, &seal)?;
     if !hold_fits(&durable.hold, &tables, steps) {
         return Err(Ended::BadTrip);
     }

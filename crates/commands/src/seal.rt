@@ -116,10 +116,8 @@ fn decimals_of(alloc: Global, text: &[u8], found: Option<u8>) -> Result<u8, Ende
         Ok(checked) => checked.tariff().decimals,
         Err(fault) => return Err(refused_by(fault)),
     };
-    match are_decimals(found, decimals) {
-        Ok(()) => Ok(decimals),
-        Err(ended) => Err(ended),
-    }
+    are_decimals(found, decimals)?;
+    Ok(decimals)
 }
 
 /// Reads the tariff of word 1 and the parameters of word 2, and makes a seal of them.
@@ -149,10 +147,7 @@ fn read_seal<F: Files>(
         Ok(text) => text,
         Err(fault) => return Err(refused_by(fault)),
     };
-    let decimals = match decimals_of(alloc, text.as_slice(), found) {
-        Ok(decimals) => decimals,
-        Err(ended) => return Err(ended),
-    };
+    let decimals = decimals_of(alloc, text.as_slice(), found)?;
     let params = match read_parameters(alloc, files, 2) {
         Ok(params) => params,
         Err(fault) => return Err(refused_params(fault)),

@@ -2,6 +2,7 @@
 #![tactic(auto, using(crate::proofs::BoardRuns::board_runs))]
 
 ghost use Rattle.std.specs.Prelude.{◌≡◌, ◌≢◌, ℕ, ◌+◌, ◌<◌, ◌≤◌, ◌++◌, length, OnOk};
+ghost use Rattle.taxi_units.specs.Line.{line_size};
 ghost use Rattle.outside.specs.Faults.{HasCause, Rose};
 ghost use Rattle.outside.specs.Printing.{Begins};
 ghost use Rattle.outside.specs.Runs.{KeepsStore};
@@ -74,7 +75,7 @@ fn row_of(tables: &Tables, i: u64) -> Line
     requires { i < row_count tables.now }
     ensures text { result.items ≡ row_text tables.now i }
     ensures some { 0 < length result.items }
-    ensures few { length result.items ≤ 512 }
+    ensures few { length result.items ≤ line_size }
 {
     let mut line = Line::new();
     tables.put_row(i, &mut line).unwrap();

@@ -102,9 +102,6 @@ pub fn read_tariff<F: Files>(
     ensures others { (other : ℕ) → other ≢ word → F.rest files.new other ≡ F.rest files.old other }
     ensures counts { (other : ℕ) → F.faults files.old other ≤ F.faults files.new other }
 {
-    let text = match text_of_word(alloc, files, word) {
-        Ok(text) => text,
-        Err(fault) => return Err(fault),
-    };
+    let text = text_of_word(alloc, files, word)?;
     tariff_of_text(alloc, text.as_slice())
 }

@@ -127,8 +127,8 @@ fn carry_out<F: Files, B: Board<L>, L: Ledger>(
 ///   or the readings have more than 1,048,576 bytes
 /// - 11, no line: exactly where a row of the report of `bench` doesn't pass; the output is whole, and each file was
 ///   read to its end
-/// - 12, `NO MEMORY`: free but for `totals`, `port` and `mark`, before anything is printed or written and, but for
-///   `bench`, before the first byte of the drive is taken
+/// - 12, `NO MEMORY`: free but for `totals`, `port`, `mark` and `offsets`, before anything is printed or written and,
+///   but for `bench`, before the first byte of the drive is taken
 /// - 13, `TRIP HELD`: exactly where the totals of the store hold a trip
 /// - 14, `SEAL ENDED`: exactly where the found seal has the last number, 10^15
 /// - 15, `OTHER DECIMALS x y`: exactly where the found seal has x decimals, and the tariff y

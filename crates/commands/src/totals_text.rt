@@ -1,6 +1,7 @@
 //! The text of totals.
 ghost use Rattle.std.specs.Prelude.{◌≡◌, ◌+◌, ◌<◌, ◌≤◌, ◌++◌, length};
 ghost use Rattle.arrayvec.specs.ArrayVec.{array_vec_len};
+ghost use Rattle.taxi_units.specs.Line.{line_size};
 ghost use Rattle.commands.specs.TotalsText.{amount_line, distances_text, heading_text, held_line, money_lines, position_text, share_text, summary_text};
 
 use crate::number_line::push_number_line;
@@ -9,7 +10,7 @@ use totaliser_store::{Durable, Share, Totals, Trip};
 
 /// Appends a line of a name, an amount and an end.
 fn push_amount_line(line: &mut Line, name: &[u8], amount: u128, decimals: u8, end: &[u8])
-    requires room { array_vec_len line.old + length name.now + 40 + length end.now ≤ 512 }
+    requires room { array_vec_len line.old + length name.now + 40 + length end.now ≤ line_size }
     requires decimals { decimals ≤ 3 }
     ensures text { line.new.items ≡ line.old.items ++ amount_line name.now decimals amount end.now }
     ensures len { array_vec_len line.new ≤ array_vec_len line.old + length name.now + 40 + length end.now }
@@ -21,7 +22,7 @@ fn push_amount_line(line: &mut Line, name: &[u8], amount: u128, decimals: u8, en
 
 /// Appends the distances.
 fn push_distances(line: &mut Line, totals: &Totals)
-    requires { array_vec_len line.old + 101 ≤ 512 }
+    requires { array_vec_len line.old + 101 ≤ line_size }
     ensures text { line.new.items ≡ line.old.items ++ distances_text totals.now }
     ensures len { array_vec_len line.new ≤ array_vec_len line.old + 101 }
 {
@@ -31,7 +32,7 @@ fn push_distances(line: &mut Line, totals: &Totals)
 
 /// Appends the money.
 fn push_money_lines(line: &mut Line, totals: &Totals, decimals: u8)
-    requires room { array_vec_len line.old + 99 ≤ 512 }
+    requires room { array_vec_len line.old + 99 ≤ line_size }
     requires decimals { decimals ≤ 3 }
     ensures text { line.new.items ≡ line.old.items ++ money_lines decimals totals.now }
     ensures len { array_vec_len line.new ≤ array_vec_len line.old + 99 }
@@ -42,7 +43,7 @@ fn push_money_lines(line: &mut Line, totals: &Totals, decimals: u8)
 
 /// Appends the number and the five totals.
 pub fn push_summary(line: &mut Line, durable: &Durable, decimals: u8)
-    requires room { array_vec_len line.old + 295 ≤ 512 }
+    requires room { array_vec_len line.old + 295 ≤ line_size }
     requires decimals { decimals ≤ 3 }
     ensures text { line.new.items ≡ line.old.items ++ summary_text decimals durable.now }
     ensures len { array_vec_len line.new ≤ array_vec_len line.old + 295 }
@@ -55,7 +56,7 @@ pub fn push_summary(line: &mut Line, durable: &Durable, decimals: u8)
 
 /// Appends whether a trip is held.
 fn push_held(line: &mut Line, hold: &Option<Trip>)
-    requires { array_vec_len line.old + 9 ≤ 512 }
+    requires { array_vec_len line.old + 9 ≤ line_size }
     ensures text { line.new.items ≡ line.old.items ++ held_line hold.now }
     ensures len { array_vec_len line.new ≤ array_vec_len line.old + 9 }
 {
@@ -67,7 +68,7 @@ fn push_held(line: &mut Line, hold: &Option<Trip>)
 
 /// Appends hirings and their fare.
 fn push_share(line: &mut Line, share: &Share, decimals: u8)
-    requires room { array_vec_len line.old + 81 ≤ 512 }
+    requires room { array_vec_len line.old + 81 ≤ line_size }
     requires decimals { decimals ≤ 3 }
     ensures text { line.new.items ≡ line.old.items ++ share_text decimals share.now }
     ensures len { array_vec_len line.new ≤ array_vec_len line.old + 81 }
@@ -82,7 +83,7 @@ fn push_share(line: &mut Line, share: &Share, decimals: u8)
 pub fn heading(durable: &Durable, decimals: u8) -> Line
     requires { decimals ≤ 3 }
     ensures text { result.items ≡ heading_text decimals durable.now }
-    ensures few { array_vec_len result ≤ 512 }
+    ensures few { array_vec_len result ≤ line_size }
 {
     let mut line = Line::new();
     push_summary(&mut line, durable, decimals);
@@ -98,7 +99,7 @@ pub fn position_line(position: u64, share: &Share, decimals: u8) -> Line
     requires decimals { decimals ≤ 3 }
     requires some { 0 < share.now.hirings }
     ensures text { result.items ≡ position_text decimals position share.now }
-    ensures few { array_vec_len result ≤ 512 }
+    ensures few { array_vec_len result ≤ line_size }
     ensures some { 0 < array_vec_len result }
 {
     let mut line = Line::new();

@@ -3,7 +3,7 @@ ghost use Rattle.std.specs.Prelude.{◌≡◌, ℕ, ◌≤◌, ◌==◌, Some, l
 ghost use Rattle.std.specs.Option.{option_map};
 ghost use Rattle.std.specs.Str.Parse.{digits_value};
 ghost use Rattle.taxi_units.specs.Number.{digits_at_front};
-ghost use Rattle.taxi_units.specs.Reading.{Gives};
+ghost use Rattle.taxi_units.specs.Reading.{GivesSame};
 ghost use Rattle.shift_book.specs.Reading.{driver_of};
 ghost use Rattle.commands.specs.Words.{constant_of, fitting, row_of, seed_of, signs_on, trips_of};
 ghost use Rattle.commands.specs.Words as spec;
@@ -75,7 +75,7 @@ pub enum Row {
 /// The constant that a word is: 1 to 6 digits, 500 to 200,000.
 #[tactic(auto, unfolding(crate::specs::Words::constant_of))]
 fn constant(word: &[u8]) -> Option<Constant>
-    ensures { Gives (λ k. k) result (constant_of word.now) }
+    ensures { GivesSame result (constant_of word.now) }
 {
     let (k, rest) = number_at(word)?;
     if rest.is_empty() && word.len() <= 6 && 500 <= k && k <= 200_000 {
@@ -128,7 +128,7 @@ fn seed(word: &[u8]) -> Option<u64>
 /// The number of trips that a word is: 1 to 4 digits, 1 to 1,000.
 #[tactic(auto, unfolding(crate::specs::Words::trips_of))]
 fn trip_count(word: &[u8]) -> Option<Trips>
-    ensures { Gives (λ n. n) result (trips_of word.now) }
+    ensures { GivesSame result (trips_of word.now) }
 {
     let (count, rest) = number_at(word)?;
     if rest.is_empty() && word.len() <= 4 && 1 <= count && count <= 1000 {

@@ -1,7 +1,7 @@
 //! The years for which offsets are asked.
 ghost use Rattle.std.specs.Prelude.{◌≡◌, ◌≤◌, IfSome};
 ghost use Rattle.offset_rules.specs.Pairs.{AreYears};
-ghost use Rattle.taxi_units.specs.Reading.{Gives};
+ghost use Rattle.taxi_units.specs.Reading.{GivesSame};
 ghost use Rattle.commands.specs.Years.{year_of, years_of};
 
 use std::marker::Model;
@@ -30,7 +30,7 @@ impl Model for Years {
 /// The year that a word is: four digits, 2000 to 2199.
 #[tactic(auto, unfolding(crate::specs::Years::year_of))]
 fn year(word: &[u8]) -> Option<u16>
-    ensures value { Gives (λ year. year) result (year_of word.now) }
+    ensures value { GivesSame result (year_of word.now) }
     ensures range { IfSome result (λ year. (2000 ≤ year) × (year ≤ 2199)) }
 {
     let (year, rest) = number_at(word)?;

@@ -1,7 +1,7 @@
 -- How many records a log has whose end is known, and where the first of them is held.
-use Rattle.std.proofs.Common.{◌≡◌, inl, inr, ℕ, ◌+◌, ◌-◌, ◌^◌, ◌<◌, ◌≤◌, Bool, true, false, List, length, Option, Some, None, refl, subst, arith}
+use Rattle.std.proofs.Common.{◌≡◌, inl, inr, ℕ, ◌+◌, ◌-◌, ◌≤◌, Bool, true, false, List, length, refl, subst, arith}
 use Rattle.std.proofs.lemmas.Bool.{cases_lt}
-use Rattle.hiring_log.specs.Filings.{IsLast, IsTailOf}
+use Rattle.hiring_log.specs.Filings.{IsTailOf}
 use Rattle.hiring_log.specs.LogList.{AreHeld, EndsWith, StandsFor}
 use Rattle.hiring_log.specs.Record.{Record}
 use Rattle.hiring_log.specs.Slots.{slot_of, IsClosed, IsOpen}
@@ -18,13 +18,6 @@ module _ (image : List ℕ) (last : ℕ) (is_open : Bool) (records : List Record
     | inl fewer ↦ omega (arith, fewer, (bounds last (length records) ends.count).great many)
     | inr all ↦ absurd (closed shut (next_open image last records ends (omega (arith, all, (bounds last (length records) ends.count).most))))
   ]
-
--- ---- whatever is told
-
--- the place of a newest record is below its number's bound
-pub last_small : (last : ℕ) (newest : Option Record) → IsLast last newest → last < 2 ^ 63
-last_small last None is = omega (arith, is)
-last_small last (Some newest) is = omega (arith, is.1, is.0.number_is, is.0.is.receipt_is.number)
 
 -- ---- the end that was found
 

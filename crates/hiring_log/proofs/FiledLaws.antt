@@ -1,6 +1,5 @@
 -- What filing the receipts of a roll comes to.
 use Rattle.std.proofs.Common.{◌≡◌, ℕ, List, [], ◌∷◌, ◌++◌, Option, Some, None, refl, ap, sym, ◌∙◌, subst, arith}
-use Rattle.std.proofs.lemmas.List.{append-nil}
 use Rattle.hiring_log.specs.Filed.{EndsAt, Files, IsNewer, IsOlder}
 use Rattle.hiring_log.specs.Filed.Files.{over, passed, appended}
 use Rattle.hiring_log.specs.Record.{Record}
@@ -11,12 +10,6 @@ pub files_on : (newest mid last : Option Record) (xs ys filed more : List Record
 files_on newest mid last xs ys filed more (over n) then = then
 files_on newest mid last xs ys filed more (passed n l r rest those older files) then = passed n last r (rest ++ ys) (those ++ more) older (files_on n mid last rest ys those more files then)
 files_on newest mid last xs ys filed more (appended n l r rest those newer files) then = appended n last r (rest ++ ys) (those ++ more) newer (files_on (Some r) mid last rest ys those more files then)
-
--- a receipt more is passed over
-pub files_past : (newest last : Option Record) (r : Record) (receipts filed : List Record) → Files newest receipts filed last → IsOlder last r → Files newest (receipts ++ r ∷ []) filed last
-files_past newest last r receipts filed files older =
-    subst (λ (those : List Record). Files newest (receipts ++ r ∷ []) those last) (append-nil filed)
-    (files_on newest last last receipts (r ∷ []) filed [] files (passed last last r [] [] older (over last)))
 
 -- a receipt more is appended
 pub files_one_more : (newest last : Option Record) (r : Record) (receipts filed : List Record) → Files newest receipts filed last → IsNewer last r → Files newest (receipts ++ r ∷ []) (filed ++ r ∷ []) (Some r)

@@ -8,7 +8,7 @@ use Rattle.outside.specs.Printing.{Begins}
 use Rattle.outside.specs.Runs.{IsSettled, KeepsStore, LeavesNow, LeavesOnly, MayHold}
 use Rattle.outside.specs.declared.board.Board.{Ghosts}
 use Rattle.outside.specs.declared.files.Files.{Ghosts as FileGhosts}
-use Rattle.outside.proofs.Laws.{begins_after, begins_more, keeps_none, leaves_kept, leaves_then, leaves_wider}
+use Rattle.outside.proofs.Laws.{begins_after, begins_more, leaves_kept, leaves_then, leaves_wider}
 use Rattle.slot_store.specs.Syncs.{LeavesFromSync, ReadsOnly}
 use Rattle.hiring_log.specs.Calls.{AppendsNothing, IsCall, IsCutShort, IsNewestOf, IsOfTaxi, IsOneTaxi, IsWhole, LeavesLog, MayEnd, OnlyLooks, shown_of}
 use Rattle.hiring_log.specs.Comes.{Comes, IsBrokenOff, IsDue, IsTold}
@@ -40,17 +40,6 @@ eight_is (OtherTaxi place) e = absurd (omega (arith, e))
 eight_is TooLong e = absurd (omega (arith, e))
 eight_is ReadFault e = absurd (omega (arith, e))
 eight_is BoardFault e = refl
-
-pub seven_is : (ended : Ended) → status_of ended ≡ 7 → ended ≡ ReadFault
-seven_is (Filed count) e = absurd (omega (arith, e))
-seven_is Shown e = absurd (omega (arith, e))
-seven_is BadWords e = absurd (omega (arith, e))
-seven_is (BadLog slot) e = absurd (omega (arith, e))
-seven_is BrokenLog e = absurd (omega (arith, e))
-seven_is (OtherTaxi place) e = absurd (omega (arith, e))
-seven_is TooLong e = absurd (omega (arith, e))
-seven_is ReadFault e = refl
-seven_is BoardFault e = absurd (omega (arith, e))
 
 silent_end : (ended : Ended) → status_of ended ≡ 8 → line_of ended ≡ []
 silent_end ended e = ap line_of (eight_is ended e)
@@ -109,15 +98,6 @@ module _ {D L : Type 0} (B : Ghosts D L) where
 
   pub looks_keeps : (log mid log' : D) (status : ℕ) → LeavesNow B mid → ReadsOnly B log mid → B.image mid ≡ B.image log → KeepsStore B mid log' → OnlyLooks B log log' status
   looks_keeps log mid log' status now reads same keeps = looks_print log mid log' 0 status now (looks_read log mid 0 reads (λ not. same)) keeps (λ not. λ zero. omega (arith, zero))
-
-  -- nothing was called
-  pub looks_none : (log : D) (status : ℕ) → LeavesNow B log → OnlyLooks B log log status
-  looks_none log status now = record {
-    image = record { size = refl; rest = λ place none. refl };
-    same = λ not. refl;
-    flight = λ place flies. flies;
-    moments = leaves_kept B log log now (keeps_none B log);
-  }
 
   -- what a filing left is left
   leaves_printed : (log mid log' : D) (list filed : List Record) (status status' : ℕ) → LeavesNow B mid → LeavesLog B list filed log mid status → KeepsStore B mid log' → status ≢ 8 → LeavesLog B list filed log log' status'

@@ -20,8 +20,6 @@ mod Finishing
 mod Fronting
 -- what stays of the log where one of its slots is written
 mod Held
--- the laws that the crates above may cite
-pub mod Laws
 -- how a search for a receipt goes on
 mod Looks
 -- the newest record of a log that stands for a list

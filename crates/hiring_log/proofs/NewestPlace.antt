@@ -1,6 +1,5 @@
 -- The greatest place of the entries is that of the newest record.
-use Rattle.std.proofs.Common.{◌≡◌, ◌⊎◌, inl, inr, ⊎_elim, ℕ, ◌+◌, ◌-◌, ◌<◌, ◌≤◌, ◌^◌, List, get_or, sym, subst, arith, Option, Some, None}
-use Rattle.std.proofs.lemmas.Bool.{cases_eq}
+use Rattle.std.proofs.Common.{◌≡◌, ◌⊎◌, inl, inr, ⊎_elim, ℕ, ◌-◌, ◌<◌, ◌≤◌, ◌^◌, List, get_or, sym, subst, arith, Option, Some, None}
 use Rattle.hiring_log.specs.Record.{Record}
 use Rattle.hiring_log.specs.LogList.{EndsWith}
 use Rattle.hiring_log.specs.LogRow.{AreEntries, IsAtMost, IsBound, IsPlaceOf, slot_back}
@@ -8,18 +7,6 @@ use Rattle.hiring_log.specs.LogScan.{IsEntry}
 use Rattle.hiring_log.specs.declared.scanning.Entry.{Entry}
 use Rattle.hiring_log.proofs.Bounds.{bound_closed, bound_entry, bound_first}
 use Rattle.hiring_log.proofs.Rows.{slot_found, slot_small}
-
-most_still : (place next : ℕ) (entry : Option Entry) → place ≤ next → IsAtMost place entry → IsAtMost next entry
-most_still place next None le most = most
-most_still place next (Some entry) le most = omega (arith, le, most)
-
--- one more entry
-pub most_more : (entries : List (Option Entry)) (n place next : ℕ) → place ≤ next → ((slot : ℕ) → slot < n → IsAtMost place (get_or entries slot None)) → IsAtMost next (get_or entries n None)
-    → (slot : ℕ) → slot < n + 1 → IsAtMost next (get_or entries slot None)
-most_more entries n place next le most new slot small = elim (cases_eq slot n) [
-  | inl same ↦ subst (λ (s : ℕ). IsAtMost next (get_or entries s None)) (sym same) new
-  | inr other ↦ most_still place next (get_or entries slot None) le (most slot (omega (arith, small, other)))
-]
 
 module _ (image : List ℕ) (entries : List (Option Entry)) (last place : ℕ) (records : List Record) (are : AreEntries image entries) (ends : EndsWith image last records) where
   bound : (back : ℕ) → IsBound records back (2 ^ 64 - 1)

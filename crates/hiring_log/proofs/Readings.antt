@@ -46,11 +46,6 @@ module _ {D L : Type 0} (B : Ghosts D L) where
     settled = still;
   }
 
-  -- a read
-  pub reads_now : (old new : D) → LeavesNow B old → B.image new ≡ B.image old → ((place : ℕ) → B.in_flight new place → B.in_flight old place) → B.printed new ≡ B.printed old
-      → Elapses (B.moment old) (B.moment new) (B.left_since old) (B.left_since new) (MayLeave (B.image new) (B.in_flight new) (B.printed new)) → ReadsOnly B old new
-  reads_now old new only_now same flight text time = reads_sync old new only_now (same_but old new same) flight text time
-
   -- no call
   pub reads_none : (board : D) → LeavesNow B board → ReadsOnly B board board
   reads_none board only_now = record {

@@ -1,5 +1,5 @@
 -- How the reader of a roll goes on.
-use Rattle.std.proofs.Common.{◌≡◌, ℕ, ◌+◌, ◌-◌, ◌<◌, ◌≤◌, Bool, true, false, List, [], ◌∷◌, ◌++◌, length, take, drop, Option, Some, None, is_some, IfSome, option_to_list, refl, ap, sym, ◌∙◌, subst, arith, append_assoc, length-append, length-drop}
+use Rattle.std.proofs.Common.{◌≡◌, ℕ, ◌+◌, ◌-◌, ◌<◌, ◌≤◌, Bool, true, false, List, [], ◌∷◌, ◌++◌, length, take, drop, Option, Some, None, is_some, IfSome, option_to_list, refl, ap, sym, ◌∙◌, subst, arith, append_assoc, length-append}
 use Rattle.std.proofs.lemmas.List.{append-nil, drop-drop, drop-take}
 use Rattle.hiring_log.specs.Looking.{LooksTo, MayFollow}
 use Rattle.hiring_log.specs.Reading.{EndsBy, GoesOn, HasRead, Place, roll_limit}
@@ -39,10 +39,6 @@ pub goes_further : (a b c : Place) (x y z : List ℕ) (first second : List Recor
 goes_further a b c x y z first second g h = λ roll receipts read.
     subst (HasRead roll c z) (append_assoc receipts first second) (h roll (receipts ++ first) (g roll receipts read))
 
--- nothing changes
-pub goes_nowhere : (a : Place) (x : List ℕ) → GoesOn a a x x []
-goes_nowhere a x = λ roll receipts read. subst (HasRead roll a x) (sym (append-nil receipts)) read
-
 -- more bytes were taken
 pub goes_filled : (old new : Place) (rest rest' fed : List ℕ) → old.end ≡ None → new.end ≡ None → new.ahead ≡ old.ahead ++ fed → length fed + new.left ≡ old.left → rest ≡ fed ++ rest' → GoesOn old new rest rest' []
 goes_filled old new rest rest' fed going still ahead count passes = λ roll receipts h.
@@ -71,10 +67,6 @@ goes_looked old new count those looks ahead left end rest = λ roll receipts h. 
   ends = subst (λ (e : Option RollEnd). EndsBy e new.left rest) (sym end) (subst (λ (n : ℕ). EndsBy old.end n rest) (sym left) h.ends);
 }
 
--- what is left of a window's part that was looked through
-pub few_after : (ahead : List ℕ) (count : ℕ) → count ≤ length ahead → length ahead < count + 480 → length (drop count ahead) < 480
-few_after ahead count within few = omega (arith, few, within, length-drop count ahead)
-
 -- fewer bytes are left behind a receipt
 pub fewer_ahead : (ended : Bool) (ahead : List ℕ) (count : ℕ) (r : Record) → LooksTo ended ahead count (r ∷ []) → length (drop count ahead) < length ahead
 fewer_ahead ended ahead count r looks =
@@ -91,7 +83,3 @@ fewer_looked ended ahead left count (Some r) looks is = omega (arith, fewer_ahea
 abbrev pub rounds : Option RollEnd → (left : ℕ) → ℕ
 rounds None left = left + 1
 rounds (Some end) left = 0
-
-pub fewer_rounds : (end : Option RollEnd) (left left' : ℕ) → (end ≡ None → left' < left) → rounds end left' < left + 1
-fewer_rounds None left left' fewer = omega (arith, fewer refl)
-fewer_rounds (Some end) left left' fewer = omega arith

@@ -1,11 +1,8 @@
 -- How records are shown one after another.
-use Rattle.std.proofs.Common.{◌≡◌, inl, inr, ⊎_elim, ℕ, zero, suc, ◌+◌, ◌<◌, ◌≤◌, List, [], ◌∷◌, ◌++◌, length, take, drop, refl, ap, sym, ◌∙◌, subst, arith, append_assoc}
-use Rattle.std.proofs.lemmas.List.{append-nil, take-append-drop, take_all}
+use Rattle.std.proofs.Common.{◌≡◌, ℕ, zero, suc, ◌+◌, ◌<◌, ◌≤◌, List, [], ◌∷◌, ◌++◌, length, take, drop, refl, ap, sym, ◌∙◌, subst, arith, append_assoc}
+use Rattle.std.proofs.lemmas.List.{append-nil, take-append-drop}
 use Rattle.outside.specs.Printing.{Begins}
-use Rattle.outside.specs.Runs.{KeepsStore}
-use Rattle.outside.specs.declared.board.Board.{Ghosts}
 use Rattle.outside.proofs.Laws.{begins_after, begins_more}
-use Rattle.slot_store.specs.Syncs.{ReadsOnly}
 use Rattle.hiring_log.specs.LogList.{AreHeld}
 use Rattle.hiring_log.specs.LogScan.{IsContent}
 use Rattle.hiring_log.specs.declared.scanning.Content.{Content}
@@ -80,22 +77,9 @@ pub shown_more : (old mid new : List ℕ) (records : List Record) (k : ℕ) (tex
 shown_more old mid new records k text so_far is more =
     more ∙ (ap (λ (t : List ℕ). t ++ text) so_far ∙ (append_assoc old (texts_of (take k records)) text ∙ ap (λ (t : List ℕ). old ++ t) (sym is)))
 
-pub shown_all : (old new : List ℕ) (records : List Record) (k : ℕ) → length records ≡ k → new ≡ old ++ texts_of (take k records) → new ≡ old ++ texts_of records
-shown_all old new records k is so_far = so_far ∙ ap (λ (xs : List Record). old ++ texts_of xs) (take_all k records (omega (arith, is)))
-
 pub begun_more : (old mid new : List ℕ) (records : List Record) (k : ℕ) (text : List ℕ) → mid ≡ old ++ texts_of (take k records) → texts_of (take (k + 1) records) ≡ texts_of (take k records) ++ text → Begins mid new text
     → Begins old new (texts_of records)
 begun_more old mid new records k text so_far is begins =
     let first : Begins old new (texts_of (take (k + 1) records)) = subst (Begins old new) (sym is) (begins_after old mid new (texts_of (take k records)) text so_far begins) in
     subst (Begins old new) (sym (texts-append (take (k + 1) records) (drop (k + 1) records)) ∙ ap (λ (xs : List Record). texts_of xs) (take-append-drop (k + 1) records))
     (begins_more old new (texts_of (take (k + 1) records)) (texts_of (drop (k + 1) records)) first)
-
-module _ {D L : Type 0} (B : Ghosts D L) where
-  -- a call that reads keeps the store
-  pub keeps_read : (old new : D) → ReadsOnly B old new → B.image new ≡ B.image old → KeepsStore B old new
-  keeps_read old new reads same = record {
-    same = same;
-    flight = reads.flight;
-    later = reads.leaves.later;
-    before = λ start image text le left. ⊎_elim (λ was. inl was) (λ may. inr (record { bytes = may.bytes; small = may.small })) (reads.leaves.before start image text le left);
-  }

@@ -4,11 +4,11 @@ use Rattle.hiring_log.specs.Record.{Record}
 use Rattle.hiring_log.specs.LogList.{StandsFor, last_ones}
 pub use Rattle.hiring_log.specs.AppendStages.{IsStill, IsReady, IsShut, IsWritten}
 
--- an image keeps a list where it stands for the list, or for its last 255
+-- a list is kept in an image that stands for the list, or for its last 255
 abbrev pub IsKept : List Record → List ℕ → Type 0
 IsKept records image = StandsFor records image ⊎ StandsFor (last_ones 255 records) image
 
--- a step of the log leaves an image that keeps the list, or that stands for the last 256 of the list with the new
--- record
+-- an append of a record to the log leaves, at each moment, an image that keeps the list, or that stands for the last
+-- 256 of the list with the new record
 abbrev pub IsStep : List Record → Record → List ℕ → Type 0
 IsStep records it image = IsKept records image ⊎ StandsFor (last_ones 256 (records ++ it ∷ [])) image

@@ -29,14 +29,14 @@ AppendsNothing image roll =
     (records filed : List Record) (rest : List ℕ) → StandsFor records image
     → IsFiledOf (newest_of records) roll rest filed → filed ≡ []
 
--- words are a command where they call something
+-- words are a command where they call for something that the program does
 abbrev pub IsCommand : Option Call → Type 0
 IsCommand call = (command : Call) × (call ≡ Some command)
 
 -- of a call: what its words call, the image at its start, the roll, and what is left of the roll in the end
 module _ (call : Option Call) (image roll rest : List ℕ) where
-  -- a call files a roll and comes to an end of it where it is `file`, its image stands for the list found, and those
-  -- receipts of the bytes taken that the end says are filed behind that list
+  -- a call files a roll up to an end of it where it is `file`, its image stands for the list found, and the receipts
+  -- that are filed behind that list are those of the bytes taken which the end says
   pub record FilesUpTo (end : FileEnd) (found filed : List Record) : Type 0 where
     pub command : call ≡ Some File
     pub stands : StandsFor found image
@@ -71,22 +71,24 @@ module _ (call : Option Call) (image roll rest : List ℕ) (read_failed board_fa
   MayEnd ReadFault found filed = FilesUpTo call image roll rest ends.ReadFault found filed × read_failed
   MayEnd BoardFault found filed = BreaksOff call image roll rest found filed × board_failed
 
--- an end shows this before its last line: the texts of the list that was found where the log is shown, and else nothing
+-- an end of the program shows, before its last line, the texts of the list that was found where the log is shown, and
+-- else nothing
 abbrev pub shown_of : Ended → (found : List Record) → List ℕ
 shown_of Shown found = texts_of found
 shown_of ended found = []
 
--- an end has this text: what it shows, and its last line
+-- the text of an end of the program is what it shows, and then its last line
 abbrev pub text_of : Ended → (found : List Record) → List ℕ
 text_of ended found = shown_of ended found ++ line_of ended
 
 module _ {D L : Type 0} (B : Ghosts D L) where
-  -- an end is told whole where its text is printed and its status given
+  -- a call ends whole where the text of its end was printed, where the text is told, and the status is that of the end
   pub record IsWhole (ended : Ended) (found : List Record) (log log' : D) (status : ℕ) : Type 0 where
     pub status_is : status ≡ status_of ended
     pub printed : B.tells_text → B.printed log' ≡ B.printed log ++ text_of ended found
 
-  -- an end is cut short where the board fails: its status is 8, and a beginning of its text is printed
+  -- a call is cut short where the board failed: its status is 8, and a beginning of the text of its end was printed,
+  -- where the text is told
   pub record IsCutShort (ended : Ended) (found : List Record) (log log' : D) (status : ℕ) : Type 0 where
     pub status_is : status ≡ 8
     pub failed : Rose (B.faults log) (B.faults log')
@@ -137,8 +139,8 @@ abbrev pub IsNewestOf : (taxi : List ℕ) → Option Record → Type 0
 IsNewestOf taxi None = Unit {0}
 IsNewestOf taxi (Some newest) = newest.taxi ≡ taxi
 
--- a roll is of one taxi where all receipts that reading it gives, however far, are of that taxi, and so is the newest
--- record of the log
+-- a roll is of one taxi where all receipts that reading it gives, however far, are of one taxi, of which the newest
+-- record of the log is too
 pub record IsOneTaxi (roll : List ℕ) (newest : Option Record) : Type 0 where
   pub taxi : List ℕ
   pub receipts : (receipts : List Record) (rest : List ℕ) → Reads roll receipts rest → IsOfTaxi taxi receipts

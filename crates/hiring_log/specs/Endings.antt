@@ -8,7 +8,8 @@ use Rattle.hiring_log.specs.declared.file_roll.FileEnd.TheVariants as ends
 use Rattle.hiring_log.specs.declared.finding.FindFault.{FindFault}
 use Rattle.hiring_log.specs.declared.finding.FindFault.TheVariants as faults
 
--- an end of the program has this status
+-- the status of an end of the program is 0 where receipts were filed or the log was shown, and another number for each
+-- other end
 abbrev pub status_of : Ended → ℕ
 status_of (Filed count) = 0
 status_of Shown = 0
@@ -24,7 +25,8 @@ status_of BoardFault = 8
 abbrev pub numbered : List ℕ → ℕ → List ℕ
 numbered word number = word ++ (decimal number ++ codes "\n")
 
--- an end of the program has this last line, or an empty text where it has none
+-- the last line of an end of the program says in words and numbers how the call ended, and is empty where the log was
+-- shown or the board failed
 abbrev pub line_of : Ended → List ℕ
 line_of (Filed count) = numbered (codes "FILED ") count
 line_of Shown = []
@@ -36,13 +38,15 @@ line_of TooLong = codes "ROLL TOO LONG\n"
 line_of ReadFault = codes "READ FAULT\n"
 line_of BoardFault = []
 
--- a call ends so where no end of its log is found
+-- where no end of its log is found, a call ends with the lowest bad slot, with a broken log, or with a fault of the
+-- board
 abbrev pub unread_end : FindFault → Ended
 unread_end (faults.BadSlot slot) = BadLog slot
 unread_end faults.Broken = BrokenLog
 unread_end faults.LogFault = BoardFault
 
--- a call ends so where the filing of its roll does
+-- a call that files a roll ends as its filing does: with the number of the filed receipts, at a receipt of another
+-- taxi, with a roll that is too long, or with a read that failed
 abbrev pub filing_end : FileEnd → Ended
 filing_end (ends.Filed count) = Filed count
 filing_end (ends.OtherTaxi place) = OtherTaxi place

@@ -5,7 +5,7 @@ use Rattle.hiring_log.specs.Roll.{Reads, roll_limit}
 use Rattle.hiring_log.specs.declared.filing.Filing.{Filing}
 use Rattle.hiring_log.specs.declared.filing.Filing.TheVariants.{OtherTaxi, Passed, Appended}
 
--- a receipt is another taxi's where its taxi isn't the newest record's; beside an empty log none is
+-- a receipt is another taxi's where its taxi isn't the newest record's; beside an empty log no receipt is
 abbrev pub IsOther : (newest : Option Record) → Record → Type 0
 IsOther None receipt = ⊥
 IsOther (Some newest) receipt = receipt.taxi ≢ newest.taxi
@@ -15,8 +15,8 @@ abbrev pub IsOlder : (newest : Option Record) → Record → Type 0
 IsOlder None receipt = ⊥
 IsOlder (Some newest) receipt = (receipt.taxi ≡ newest.taxi) × (receipt.number ≤ newest.number)
 
--- a receipt is newer where it is of the newest record's taxi and its number is greater than that record's, and beside
--- an empty log
+-- a receipt is newer where it is of the newest record's taxi and its number is greater than that record's; beside an
+-- empty log each receipt is
 abbrev pub IsNewer : (newest : Option Record) → Record → Type 0
 IsNewer None receipt = Unit {0}
 IsNewer (Some newest) receipt = (receipt.taxi ≡ newest.taxi) × (newest.number < receipt.number)
@@ -27,8 +27,9 @@ IsFiledBy OtherTaxi newest receipt = IsOther newest receipt
 IsFiledBy Passed newest receipt = IsOlder newest receipt
 IsFiledBy Appended newest receipt = IsNewer newest receipt
 
--- receipts, none of another taxi, are gone through beside a log that has the newest record `newest`: those that are
--- newer, each than the record that is the newest when it comes, are filed, and `last` is the newest record then
+-- receipts, none of another taxi, are gone through beside a log that has the newest record `newest`: a receipt that is
+-- newer than the record that is the newest when it comes is filed, an older one is passed over, and `last` is the
+-- newest record in the end
 pub data Files : (newest : Option Record) → (receipts filed : List Record) → (last : Option Record) → Type 0 where
   over : (newest : Option Record) → Files newest [] [] newest
   passed : (newest last : Option Record) (receipt : Record) (receipts filed : List Record) → IsOlder newest receipt
@@ -36,8 +37,8 @@ pub data Files : (newest : Option Record) → (receipts filed : List Record) →
   appended : (newest last : Option Record) (receipt : Record) (receipts filed : List Record) → IsNewer newest receipt
       → Files (Some receipt) receipts filed last → Files newest (receipt ∷ receipts) (receipt ∷ filed) last
 
--- a filing ends at a receipt of another taxi than the record that is then the newest; it has this place among the
--- roll's receipts, from 1 on, and those before it are filed
+-- a filing ends at a place of the roll, counted from 1, where the receipt there is of another taxi than the record that
+-- is then the newest, and the receipts before it are filed
 pub record EndsAt (newest : Option Record) (roll : List ℕ) (filed : List Record) (last : Option Record)
     (place : ℕ) : Type 0 where
   pub before : List Record
@@ -48,8 +49,8 @@ pub record EndsAt (newest : Option Record) (roll : List ℕ) (filed : List Recor
   pub differs : IsOther last other
   pub place_is : place ≡ length before + 1
 
--- receipts are filed of a roll of which this rest isn't taken where reading the bytes taken, at most 2^40, gives
--- receipts of which these are filed behind this newest record
+-- receipts are filed of a roll, of which `rest` is not taken, where at most 2^40 bytes are taken, and going through the
+-- receipts that reading them gives, beside a log with the newest record `newest`, files exactly the receipts `filed`
 pub record IsFiledOf (newest : Option Record) (roll rest : List ℕ) (filed : List Record) : Type 0 where
   pub taken : List ℕ
   pub unread : List ℕ

@@ -7,12 +7,13 @@ use Rattle.hiring_log.specs.Roll.{AreOnRoll, roll_limit}
 use Rattle.hiring_log.specs.declared.file_roll.FileEnd.{FileEnd}
 use Rattle.hiring_log.specs.declared.file_roll.FileEnd.TheVariants.{Filed, OtherTaxi, TooLong, ReadFault}
 
--- records behind a newest record, or behind none, have this newest one: their last, or that record where they are none
+-- the newest record behind some records is the last of them, or the one that was the newest before where they are none
 abbrev pub newest_after : Option Record → List Record → Option Record
 newest_after newest [] = newest
 newest_after newest (it ∷ more) = newest_after (Some it) more
 
--- a list, with its oldest record first, has this newest one, or none where it is empty
+-- the newest record of a list, which has its oldest record first, is its last one, and there is none where the list is
+-- empty
 abbrev pub newest_of : List Record → Option Record
 newest_of records = newest_after None records
 
@@ -23,9 +24,9 @@ pub record StandsForSome (records filed : List Record) (image : List ℕ) : Type
   pub within : count ≤ length filed
   pub stands : StandsForLast (records ++ take count filed) image
 
--- the filing of a roll, of which `rest` wasn't taken, ends so: `Filed` where the whole roll was taken, `OtherTaxi` at
--- the first receipt of another taxi, `TooLong` where 2^40 bytes were taken, `ReadFault` anywhere; and the receipts
--- that are filed, behind which `last` is the newest record, are those of the bytes taken
+-- the filing of a roll, of which `rest` is not taken, ends as its answer says: `Filed` where the whole roll was taken,
+-- `OtherTaxi` at the first receipt of another taxi, `TooLong` where 2^40 bytes were taken, `ReadFault` anywhere; and
+-- the receipts that are filed, behind which `last` is the newest record, are those of the bytes taken
 abbrev pub EndsAs : FileEnd → (newest : Option Record) → (roll rest : List ℕ) → (filed : List Record)
     → (last : Option Record) → Type 0
 EndsAs (Filed count) newest roll rest filed last =

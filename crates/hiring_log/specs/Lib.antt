@@ -11,6 +11,7 @@ pub mod LogList
 pub mod LogRow
 pub mod LogScan
 pub mod Looking
+pub mod Moments
 pub mod Reading
 pub mod Record
 pub mod Roll

@@ -13,8 +13,8 @@ abbrev pub RiseFrom : ℕ → List Record → Type 0
 RiseFrom number [] = Unit {0}
 RiseFrom number (it ∷ more) = (number < it.number) × RiseFrom it.number more
 
--- how many records a log has whose newest is at the place `last`: one at each place where `last` is below 256,
--- and else 256 or 255
+-- a log whose newest record is at the place `last` has one record at each place where `last` is below 256, and else 256
+-- or 255
 abbrev pub IsCount : (last count : ℕ) → Type 0
 IsCount last count = ((last < 256) × (count ≡ last)) ⊎ ((256 ≤ last) × ((count ≡ 256) ⊎ (count ≡ 255)))
 
@@ -31,7 +31,7 @@ pub record EndsWith (image : List ℕ) (last : ℕ) (records : List Record) : Ty
 abbrev pub StandsFor : List Record → List ℕ → Type 0
 StandsFor records image = (last : ℕ) × EndsWith image last records
 
--- a list has these last ones, as many as are asked for, or all where it has fewer
+-- the last ones of a list are as many records of its end as are asked for, or all where it has fewer
 abbrev pub last_ones : ℕ → List Record → List Record
 last_ones count records = drop (length records - count) records
 
@@ -39,6 +39,6 @@ last_ones count records = drop (length records - count) records
 abbrev pub StandsForLast : List Record → List ℕ → Type 0
 StandsForLast records image = StandsFor (last_ones 256 records) image ⊎ StandsFor (last_ones 255 records) image
 
--- an image stands for some list whose newest record is at this place in the log
+-- an image stands at a place of the log where it stands for some list whose newest record is at that place
 abbrev pub StandsAt : List ℕ → (last : ℕ) → Type 0
 StandsAt image last = (records : List Record) × EndsWith image last records

@@ -15,10 +15,10 @@ pub data Reads : (text : List ℕ) → (receipts : List Record) → (rest : List
   passed : (text after rest : List ℕ) (byte : ℕ) (receipts : List Record) → text ≡ byte ∷ after
       → BeginsWithNone text → Reads after receipts rest → Reads text receipts rest
 
--- receipts are those on a roll where reading it to its end gives them
+-- receipts are on a roll where reading the roll to its end gives them, and no others
 abbrev pub AreOnRoll : (receipts : List Record) → (roll : List ℕ) → Type 0
 AreOnRoll receipts roll = Reads roll receipts []
 
--- how many bytes of a roll are taken at most: 2^40
+-- at most 2^40 bytes of a roll are taken
 abbrev pub roll_limit : ℕ
 roll_limit = 2 ^ 40

@@ -3,16 +3,20 @@ use Rattle.std.specs.Prelude.{◌≡◌, ◌≢◌, ℕ, ◌+◌, ◌-◌, ◌*�
 use Rattle.std.specs.Int.{w16, w64, to_be_bytes}
 use Rattle.hiring_log.specs.Record.{Record, IsRecord}
 
--- a slot, 0 to 255, begins at this byte
+-- the store of the log's board has 131,072 bytes
+abbrev pub log_size : ℕ
+log_size = 131072
+
+-- the slots of the log, numbered from 0 to 255, begin 512 bytes from one another, the first at byte 0
 abbrev pub slot_at : ℕ → ℕ
 slot_at slot = 512 * slot
 
--- a place in the log, counted from 1, has this slot
+-- the slot of a place in the log, which counts from 1, is the remainder by 256 of the place less 1
 abbrev pub slot_of : ℕ → ℕ
 slot_of place = (place - 1) % 256
 
--- a record at a place in the log has these 511 bytes behind its gate: the place, the text's length, the text, zeros,
--- and the layout, which is 1
+-- the 511 bytes that spell a record at a place in the log are the place, the text's length, the text, zeros, and the
+-- layout, which is 1
 abbrev pub spelling : ℕ → List ℕ → List ℕ
 spelling place text =
     to_be_bytes w64 place ++ (to_be_bytes w16 (length text) ++ (text ++ (replicate (500 - length text) 0 ++ (1 ∷ []))))
@@ -37,7 +41,7 @@ IsClosed image slot = get_or image (slot_at slot) 0 ≢ 165
 abbrev pub IsOpen : List ℕ → ℕ → Type 0
 IsOpen image slot = get_or image (slot_at slot) 0 ≡ 165
 
--- a slot has these 511 bytes behind its gate
+-- the bytes behind the gate of a slot are the 511 bytes of the slot but for its first
 abbrev pub behind_gate : List ℕ → ℕ → List ℕ
 behind_gate image slot = take 511 (drop (slot_at slot + 1) image)
 

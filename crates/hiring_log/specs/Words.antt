@@ -4,7 +4,7 @@ use Rattle.std.specs.Cmp.Lexicographic.{pointwise}
 use Rattle.hiring_log.specs.declared.words.Call.{Call}
 use Rattle.hiring_log.specs.declared.words.Call.TheVariants.{File, Show}
 
--- a word is `name` where it has the same bytes
+-- the test `is_word` is true where a word has the same bytes as a name
 abbrev pub is_word : List ℕ → List ℕ → Bool
 is_word word name = pointwise nat_eq word name
 
@@ -16,7 +16,7 @@ one_word command = if is_word command (codes "show") then Some Show else None
 abbrev pub two_words : (command : List ℕ) → Option Call
 two_words command = if is_word command (codes "file") then Some File else None
 
--- words are this command: `show`, `file ROLL`, or none
+-- words call for `show`, for `file ROLL`, or for nothing
 abbrev pub call_of : List (List ℕ) → Option Call
 call_of (command ∷ []) = one_word command
 call_of (command ∷ roll ∷ []) = two_words command

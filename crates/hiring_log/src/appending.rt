@@ -9,7 +9,7 @@ ghost use Rattle.hiring_log.specs.Record.{Record, IsRecord};
 ghost use Rattle.hiring_log.specs.Slots.{slot_at, slot_of};
 
 use crate::durable::write_and_sync;
-use crate::log_board::LogBoard;
+use crate::log_board::{LogBoard, SLOTS};
 use crate::log_record::LogRecord;
 use crate::slot_record::spelled;
 use outside::Failed;
@@ -27,7 +27,7 @@ fn next_at(last: u64) -> u32
     ensures is { result ≡ slot_at (slot_of (last + 1)) }
     ensures inside { result ≤ 130560 }
 {
-    512 * (last % 256) as u32
+    512 * (last % SLOTS as u64) as u32
 }
 
 /// The first stage: where the gate of the next place is open, 0x00 is written there and synced. Where it is

@@ -5,6 +5,7 @@ ghost use Rattle.outside.specs.Faults.{HasCause};
 ghost use Rattle.outside.specs.Runs.{LeavesOnly};
 ghost use Rattle.slot_store.specs.Writes.{OrWithin, WritesIn};
 ghost use Rattle.hiring_log.specs.Boards.{board_of};
+ghost use Rattle.hiring_log.specs.Slots.{log_size};
 
 use crate::log_board::LogBoard;
 use outside::Failed;
@@ -19,7 +20,7 @@ pub(crate) fn write_and_sync<G: LogBoard<L>, L: Ledger>(
     bytes: &[u8],
     steps: &mut Steps<L>,
 ) -> Result<(), Failed>
-    requires { IsPiece 131072 at (length bytes.now) }
+    requires { IsPiece log_size at (length bytes.now) }
     ensures any_moment { LeavesOnly (board_of G.LogBoard) log.old log.new
         (MayLeave (G.image log.old) (OrWithin (G.in_flight log.old) at (length bytes.now)) (G.printed log.old)) }
     ensures beside { WritesIn (board_of G.LogBoard) at (length bytes.now) log.old log.new }

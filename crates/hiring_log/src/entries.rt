@@ -8,7 +8,7 @@ ghost use Rattle.hiring_log.specs.LogScan.{IsBad, IsEntry, IsLowestBad};
 ghost use Rattle.hiring_log.specs.declared.scanning.ScanFault.{ScanFault};
 ghost use Rattle.hiring_log.specs.declared.scanning.ScanFault.TheVariants.{BadSlot, DeviceFailed};
 
-use crate::log_board::LogBoard;
+use crate::log_board::{LogBoard, SLOTS};
 use crate::scanning::{Entry, ScanFault, entry_of, read_slot};
 use std::sync::ledger::Ledger;
 use taxi_units::Steps;
@@ -20,7 +20,7 @@ fn read_entry<G: LogBoard<L>, L: Ledger>(
     steps: &mut Steps<L>,
 ) -> Result<Option<Entry>, ScanFault>
     requires { slot < 256 }
-    ensures entry { G.tells_image → IfOk result (λ entry. IsEntry (G.image log.old) slot entry) }
+    ensures entry { G.tells_image → IfOk result (IsEntry (G.image log.old) slot) }
     ensures bad { (other : ℕ) → result ≡ Err (BadSlot other)
         → (other ≡ slot) × (G.tells_image → IsBad (G.image log.old) slot) }
     ensures failed { result ≡ Err DeviceFailed → Rose (G.faults log.old) (G.faults log.new) }
@@ -38,8 +38,8 @@ fn read_entry<G: LogBoard<L>, L: Ledger>(
 pub(crate) fn read_entries<G: LogBoard<L>, L: Ledger>(
     log: &mut G,
     steps: &mut Steps<L>,
-) -> Result<[Option<Entry>; 256], ScanFault>
-    ensures entries { G.tells_image → IfOk result (λ entries. AreEntries (G.image log.old) entries) }
+) -> Result<[Option<Entry>; SLOTS], ScanFault>
+    ensures entries { G.tells_image → IfOk result (AreEntries (G.image log.old)) }
     ensures bad { (slot : ℕ) → result ≡ Err (BadSlot slot) → G.tells_image → IsLowestBad (G.image log.old) slot }
     ensures failed { result ≡ Err DeviceFailed → Rose (G.faults log.old) (G.faults log.new) }
     ensures later { G.faults log.old ≤ G.faults log.new }
@@ -47,12 +47,9 @@ pub(crate) fn read_entries<G: LogBoard<L>, L: Ledger>(
     ensures reads { ReadsOnly (board_of G.LogBoard) log.old log.new }
     ensures steps { steps.new ≤ steps.old + 256 }
 {
-    let mut entries = [None; 256];
-    for slot in 0..256 {
-        match read_entry(slot, log, steps) {
-            Ok(entry) => entries[slot as usize] = entry,
-            Err(fault) => return Err(fault),
-        }
+    let mut entries = [None; SLOTS];
+    for slot in 0..SLOTS as u32 {
+        entries[slot as usize] = read_entry(slot, log, steps)?;
     }
     Ok(entries)
 }

@@ -1,7 +1,7 @@
 //! The board of the log of the system.
 ghost use Rattle.std.specs.Prelude.{◌≡◌, ℕ};
 
-use crate::log_board::LogBoard;
+use crate::log_board::{LOG_SIZE, LogBoard};
 use outside::{Failed, FileDevice};
 use std::alloc::Global;
 use std::fs::File;
@@ -12,9 +12,6 @@ use taxi_units::Steps;
 
 /// The name of the log's file, in the working folder.
 const NAME: &str = "taxi.log";
-
-/// How many bytes the log has.
-const SIZE: u64 = 131072;
 
 /// The board of the log of the system, which is to the meter's `FileBoard` as the log is to its store: it
 /// prints on the standard output, and its store is the first 131,072 bytes of the file `taxi.log` in the
@@ -36,7 +33,7 @@ impl<R: HostSystem<File = File> + Print + Drop> FileLog<R> {
         ensures { result ≡ 0 }
     {
         FileLog {
-            device: FileDevice::new(rt, alloc, NAME, SIZE),
+            device: FileDevice::new(rt, alloc, NAME, LOG_SIZE as u64),
         }
     }
 }
@@ -55,6 +52,11 @@ impl<R: HostSystem<File = File> + Print + Drop, L: Ledger> LogBoard<L> for FileL
         self.device.read(at, buf)
     }
 
+    fn print(&mut self, bytes: &[u8], steps: &mut Steps<L>) -> Result<(), Failed> {
+        steps.spend();
+        self.device.print(bytes)
+    }
+
     fn write_at(&mut self, at: u32, bytes: &[u8], steps: &mut Steps<L>) -> Result<(), Failed> {
         steps.spend();
         self.device.write_at(at, bytes)
@@ -63,10 +65,5 @@ impl<R: HostSystem<File = File> + Print + Drop, L: Ledger> LogBoard<L> for FileL
     fn sync(&mut self, steps: &mut Steps<L>) -> Result<(), Failed> {
         steps.spend();
         self.device.sync()
-    }
-
-    fn print(&mut self, bytes: &[u8], steps: &mut Steps<L>) -> Result<(), Failed> {
-        steps.spend();
-        self.device.print(bytes)
     }
 }

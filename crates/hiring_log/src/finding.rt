@@ -15,7 +15,7 @@ ghost use Rattle.hiring_log.specs.declared.finding.FindFault.TheVariants.{Broken
 ghost use Rattle.hiring_log.specs.LogRow.{AreEntries};
 
 use crate::entries::read_entries;
-use crate::log_board::LogBoard;
+use crate::log_board::{LogBoard, SLOTS};
 use crate::log_record::LogRecord;
 use crate::newest::newest_place;
 use crate::row::is_row;
@@ -46,7 +46,7 @@ fn read_newest<G: LogBoard<L>, L: Ledger>(
     ensures newest { G.tells_image → (records : List Record) → EndsWith (G.image log.old) last records
         → IfOk result (λ newest. newest_of records ≡ newest) }
     ensures bad { (slot : ℕ) → result ≡ Err (BadSlot slot) → G.tells_image → ¬ StandsAt (G.image log.old) last }
-    ensures last { IfOk result (λ newest. IsLast last newest) }
+    ensures last { IfOk result (IsLast last) }
     ensures failed { result ≡ Err DeviceFailed → Rose (G.faults log.old) (G.faults log.new) }
     ensures later { G.faults log.old ≤ G.faults log.new }
     ensures image { G.image log.new ≡ G.image log.old }
@@ -56,7 +56,7 @@ fn read_newest<G: LogBoard<L>, L: Ledger>(
     if last == 0 {
         return Ok(None);
     }
-    let slot = ((last - 1) % 256) as u32;
+    let slot = ((last - 1) % SLOTS as u64) as u32;
     let content = read_slot(slot, log, steps)?;
     match record_at(last, content) {
         Some(it) => Ok(Some(it)),
@@ -99,7 +99,7 @@ fn fault_of(fault: ScanFault) -> FindFault
 
 /// The end of a log whose slots are known, and that was synced. Nothing is written.
 fn tail_of<G: LogBoard<L>, L: Ledger>(
-    entries: &[Option<Entry>; 256],
+    entries: &[Option<Entry>; SLOTS],
     log: &mut G,
     steps: &mut Steps<L>,
 ) -> Result<Tail, FindFault>
@@ -123,7 +123,7 @@ fn tail_of<G: LogBoard<L>, L: Ledger>(
     match read_newest(last, log, steps) {
         Ok(newest) => Ok(Tail {
             last,
-            is_open: entries[(last % 256) as usize].is_some(),
+            is_open: entries[(last % SLOTS as u64) as usize].is_some(),
             newest,
             filed: 0,
         }),

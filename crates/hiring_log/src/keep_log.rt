@@ -16,7 +16,7 @@ ghost use Rattle.hiring_log.specs.Words.{call_of};
 use crate::ending::{Ended, last_line, status};
 use crate::file_roll::{FileEnd, file_roll};
 use crate::finding::{FindFault, find_tail};
-use crate::log_board::LogBoard;
+use crate::log_board::{LogBoard, SLOTS};
 use crate::show::show_records;
 use crate::tail::Tail;
 use crate::words::{Call, call_in};
@@ -81,10 +81,10 @@ fn count_of(tail: &Tail) -> u64
         → (tail.now.is_open ≡ true → IsOpen image (slot_of (tail.now.last + 1)))
         → (tail.now.is_open ≡ false → IsClosed image (slot_of (tail.now.last + 1))) → length records ≡ result }
 {
-    if tail.last < 256 {
+    if tail.last < SLOTS as u64 {
         tail.last
     } else if tail.is_open {
-        256
+        SLOTS as u64
     } else {
         255
     }
@@ -150,12 +150,12 @@ fn finish<G: LogBoard<L>, L: Ledger>(ended: Ended, log: &mut G, steps: &mut Step
     }
     match log.print(line.as_slice(), steps) {
         Ok(()) => status(ended),
-        Err(_) => 8,
+        Err(_) => status(Ended::BoardFault),
     }
 }
 
 /// Carries out the words of a call of the program, and gives its status. Word 0 is the command, and the
-/// file of word 1 is the roll. It takes no memory.
+/// file of word 1 is the roll. It takes no memory itself; the devices may.
 ///
 /// | Words | Output |
 /// |---|---|

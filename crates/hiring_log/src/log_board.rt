@@ -1,12 +1,20 @@
 //! The board of the log, which has a store and prints.
 ghost use Rattle.std.specs.Prelude.{◌≡◌, ◌⊎◌, ℕ, ◌+◌, ◌<◌, ◌≤◌, ◌++◌, List, [], length, take, drop, OnOk};
-ghost use Rattle.outside.specs.Disk.{IsImage, IsPiece, IsWithin, SameBut, CallTakes, MayLeave, PieceTakes};
+ghost use Rattle.outside.specs.Disk.{piece_size, IsImage, IsPiece, IsWithin, SameBut, CallTakes, PieceTakes};
 ghost use Rattle.outside.specs.Faults.{HasCause};
 ghost use Rattle.outside.specs.Printing.{Begins};
+ghost use Rattle.hiring_log.specs.Moments.{CountsNow, IsOnlyNow};
+ghost use Rattle.hiring_log.specs.Slots.{log_size};
 
 use outside::Failed;
 use std::sync::ledger::Ledger;
 use taxi_units::Steps;
+
+/// How many bytes the store of the log's board has.
+pub(crate) const LOG_SIZE: usize = 131072;
+
+/// How many slots the log has.
+pub(crate) const SLOTS: usize = 256;
 
 /// The log's one device: the meter's `Board` with a store of 131,072 bytes. Each member, each call and each
 /// law is the one of that name there, over the greater store. A board of the log that says nothing else
@@ -30,7 +38,7 @@ pub trait LogBoard<L: Ledger> {
 
     /// Reads a piece of 1 to 512 bytes that lies in the store.
     fn read(&mut self, at: u32, buf: &mut [u8], steps: &mut Steps<L>) -> Result<(), Failed>
-        requires { IsPiece 131072 at (length buf.old) }
+        requires { IsPiece log_size at (length buf.old) }
         ensures bytes { tells_image → OnOk result (buf.new ≡ take (length buf.old) (drop at (image self.old))) }
         ensures image { image self.new ≡ image self.old }
         ensures flight { (place : ℕ) → in_flight self.new place → in_flight self.old place }
@@ -41,7 +49,7 @@ pub trait LogBoard<L: Ledger> {
 
     /// Writes a piece of 1 to 512 bytes that lies in the store, which is in flight until a sync succeeds.
     fn write_at(&mut self, at: u32, bytes: &[u8], steps: &mut Steps<L>) -> Result<(), Failed>
-        requires { IsPiece 131072 at (length bytes.now) }
+        requires { IsPiece log_size at (length bytes.now) }
         ensures written { tells_image → OnOk result (take (length bytes.now) (drop at (image self.new)) ≡ bytes.now) }
         ensures image { SameBut (IsWithin at (length bytes.now)) (image self.old) (image self.new) }
         ensures flight { (place : ℕ) → in_flight self.new place → in_flight self.old place
@@ -65,7 +73,7 @@ pub trait LogBoard<L: Ledger> {
     /// Prints a piece of 1 to 512 bytes.
     fn print(&mut self, bytes: &[u8], steps: &mut Steps<L>) -> Result<(), Failed>
         requires some { 0 < length bytes.now }
-        requires few { length bytes.now ≤ 512 }
+        requires few { length bytes.now ≤ piece_size }
         ensures whole { tells_text → OnOk result (printed self.new ≡ printed self.old ++ bytes.now) }
         ensures begun { tells_text → Begins (printed self.old) (printed self.new) bytes.now }
         ensures image { image self.new ≡ image self.old }
@@ -75,16 +83,12 @@ pub trait LogBoard<L: Ledger> {
         ensures step { steps.new ≡ steps.old + 1 };
 
     /// The store has 131,072 bytes.
-    ghost store: { (board : Self) → tells_image → IsImage 131072 (image board) };
+    ghost store: { (board : Self) → tells_image → IsImage log_size (image board) };
 
     /// What a cut may leave now is among what it might have left since an earlier moment.
-    ghost counts_now: { (board : Self) (start : ℕ) (left_image left_text : List ℕ)
-        → tells_image → tells_text → start ≤ moment board
-        → MayLeave (image board) (in_flight board) (printed board) left_image left_text
-        → left_since board start left_image left_text };
+    ghost counts_now: { (board : Self)
+        → CountsNow image in_flight printed moment left_since tells_image tells_text board };
 
     /// Since this moment there is no other.
-    ghost only_now: { (board : Self) (left_image left_text : List ℕ)
-        → left_since board (moment board) left_image left_text
-        → MayLeave (image board) (in_flight board) (printed board) left_image left_text };
+    ghost only_now: { (board : Self) → IsOnlyNow image in_flight printed moment left_since board };
 }

@@ -2,11 +2,14 @@
 use arrayvec::ArrayVec;
 use std::marker::Model;
 
+/// How many bytes a receipt has at most.
+pub(crate) const LONGEST: usize = 480;
+
 /// A receipt as the log keeps it: its text, and of what that says the number and the taxi.
 #[derive(Drop)]
 pub struct LogRecord {
     /// The text, by the grammar of receipts: at most 480 bytes.
-    pub text: ArrayVec<u8, 480>,
+    pub text: ArrayVec<u8, LONGEST>,
     /// The number: 1 to 2,000,000,000,000,001.
     pub number: u64,
     /// The taxi identifier: 1 to 16 characters of A to Z, 0 to 9 and `-`.

@@ -4,10 +4,7 @@ ghost use Rattle.hiring_log.specs.Looking.{LooksTo};
 ghost use Rattle.hiring_log.specs.Record.{IsRecord};
 
 use crate::front::{before_letter, record_in_front};
-use crate::log_record::LogRecord;
-
-/// How many bytes a receipt has at most.
-const LONGEST: usize = 480;
+use crate::log_record::{LONGEST, LogRecord};
 
 /// Looks for the first receipt of a text that is a part of a roll. Answers how many bytes are passed: with
 /// the receipt, or where none is found, up to where so few are left that bytes that follow may make one

@@ -1,12 +1,13 @@
 //! The board of the log in memory, of which chosen calls fail.
 ghost use Rattle.std.specs.Prelude.{◌≡◌, ◌+◌, ◌<◌, ◌≤◌, [], length, IfOk};
 ghost use Rattle.outside.specs.Calls.{IsInSome, opened};
-ghost use Rattle.outside.specs.Disk.{IsPiece, SameBut};
+ghost use Rattle.outside.specs.Disk.{piece_size, IsPiece, SameBut};
 ghost use Rattle.outside.specs.MemoryBoard.{Memory, IsNew, new_board, faults_of, held_inside, image_of, in_flight_of, left_since_of, moment_of, text_of};
 ghost use Rattle.outside.specs.MemoryCalls.{PrintsPiece, ReadsPiece, SyncsStore, WritesPiece};
 ghost use Rattle.outside.specs.MomentLaws.{counts_now, only_now};
+ghost use Rattle.hiring_log.specs.Slots.{log_size};
 
-use crate::log_board::LogBoard;
+use crate::log_board::{LOG_SIZE, LogBoard};
 use outside::{Failed, Fill, MemoryDevice};
 use std::alloc::Global;
 use std::marker::Model;
@@ -17,11 +18,11 @@ use taxi_units::{NoMemory, Steps};
 /// printed, and calls of it fail as that says.
 #[derive(Drop)]
 pub struct MemoryLog {
-    device: MemoryDevice<131072>,
+    device: MemoryDevice<LOG_SIZE>,
 }
 
 impl Model for MemoryLog {
-    ghost Value = { Memory 131072 };
+    ghost Value = { Memory log_size };
 
     ghost view = { λ b. b.device };
 }
@@ -30,7 +31,7 @@ impl MemoryLog {
     /// A board at moment 0 with these bytes in its store. The calls with the numbers in `fail` will fail.
     /// `NoMemory` comes only where there is no memory.
     pub fn new(alloc: Global, image: &[u8], fail: &[u64]) -> Result<MemoryLog, NoMemory>
-        requires { length image.now ≡ 131072 }
+        requires { length image.now ≡ log_size }
         ensures state { IfOk result (λ b. b.state ≡ new_board image.now fail.now) }
         ensures new { IfOk result (λ b. IsNew image.now b.state) }
     {
@@ -69,7 +70,7 @@ impl MemoryLog {
     /// The image that the device's `cut` gives. `NoMemory` comes only where there is no memory.
     pub fn cut(&self, alloc: Global, call: u64, fill: Fill) -> Result<Vec<u8>, NoMemory>
         requires { call ≤ length self.now.state.calls }
-        ensures size { IfOk result (λ cut. length cut.items ≡ 131072) }
+        ensures size { IfOk result (λ cut. length cut.items ≡ log_size) }
         ensures left { IfOk result (λ cut. left_since_of self.now.state 0 cut.items
             (held_inside self.now.state call).text) }
         ensures inside { IfOk result (λ cut. SameBut (IsInSome (held_inside self.now.state call).ranges)
@@ -118,7 +119,7 @@ impl<L: Ledger> LogBoard<L> for MemoryLog {
         only_now (opened b.state.start) b.state.calls left_image left_text left };
 
     fn read(&mut self, at: u32, buf: &mut [u8], steps: &mut Steps<L>) -> Result<(), Failed>
-        requires { IsPiece 131072 at (length buf.old) }
+        requires { IsPiece log_size at (length buf.old) }
         ensures reads { ReadsPiece self.old.state at buf.old buf.new self.new.state result }
         ensures step { steps.new ≡ steps.old + 1 }
     {
@@ -127,7 +128,7 @@ impl<L: Ledger> LogBoard<L> for MemoryLog {
     }
 
     fn write_at(&mut self, at: u32, bytes: &[u8], steps: &mut Steps<L>) -> Result<(), Failed>
-        requires { IsPiece 131072 at (length bytes.now) }
+        requires { IsPiece log_size at (length bytes.now) }
         ensures writes { WritesPiece self.old.state at bytes.now self.new.state result }
         ensures step { steps.new ≡ steps.old + 1 }
     {
@@ -145,7 +146,7 @@ impl<L: Ledger> LogBoard<L> for MemoryLog {
 
     fn print(&mut self, bytes: &[u8], steps: &mut Steps<L>) -> Result<(), Failed>
         requires some { 0 < length bytes.now }
-        requires few { length bytes.now ≤ 512 }
+        requires few { length bytes.now ≤ piece_size }
         ensures prints { PrintsPiece self.old.state bytes.now self.new.state result }
         ensures step { steps.new ≡ steps.old + 1 }
     {
@@ -155,11 +156,11 @@ impl<L: Ledger> LogBoard<L> for MemoryLog {
 }
 
 /// The bytes of a store, as an array of their number.
-fn whole(image: &[u8]) -> &[u8; 131072]
-    requires { length image.now ≡ 131072 }
+fn whole(image: &[u8]) -> &[u8; LOG_SIZE]
+    requires { length image.now ≡ log_size }
     ensures { result.now ≡ image.now }
 {
-    match <&[u8; 131072]>::try_from(image) {
+    match <&[u8; LOG_SIZE]>::try_from(image) {
         Ok(whole) => whole,
         Err(_) => unreachable!(),
     }
@@ -167,9 +168,9 @@ fn whole(image: &[u8]) -> &[u8; 131072]
 
 /// As many bytes as the store has, each of them zero.
 fn room(alloc: Global) -> Result<Vec<u8>, NoMemory>
-    ensures { IfOk result (λ room. length room.items ≡ 131072) }
+    ensures { IfOk result (λ room. length room.items ≡ log_size) }
 {
-    match vec![in alloc; 0u8; 131072] {
+    match vec![in alloc; 0u8; LOG_SIZE] {
         Ok(room) => Ok(room),
         Err(_) => Err(NoMemory),
     }

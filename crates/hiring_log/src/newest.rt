@@ -3,6 +3,7 @@ ghost use Rattle.std.specs.Prelude.{◌≡◌, ◌⊎◌, ℕ, ◌≤◌, List};
 ghost use Rattle.hiring_log.specs.LogList.{StandsAt};
 ghost use Rattle.hiring_log.specs.LogRow.{AreEntries, IsAtMost, IsPlaceOf};
 
+use crate::log_board::SLOTS;
 use crate::scanning::Entry;
 
 /// The greater of a place and that of an entry.
@@ -19,11 +20,11 @@ fn greater(place: u64, entry: Option<Entry>) -> u64
 
 /// The greatest place of the entries, and 0 where all slots are closed. Where the log stands for a list, it
 /// is the place of its newest record, and 0 of the empty list.
-pub(crate) fn newest_place(entries: &[Option<Entry>; 256]) -> u64
+pub(crate) fn newest_place(entries: &[Option<Entry>; SLOTS]) -> u64
     ensures { (image : List ℕ) (last : ℕ) → AreEntries image entries.now → StandsAt image last → last ≡ result }
 {
     let mut newest = 0;
-    for slot in 0..256 {
+    for slot in 0..SLOTS {
         newest = greater(newest, entries[slot]);
     }
     newest

@@ -15,6 +15,9 @@ mod tests;
 /// How many bytes of a roll are taken at most: 2^40.
 const LIMIT: u64 = 1 << 40;
 
+/// How many bytes of a roll are looked through at once.
+const WINDOW: usize = 8192;
+
 /// Why no more of a roll is read.
 #[derive(Clone, Copy, PartialEq, Eq)]
 pub enum RollEnd {
@@ -30,7 +33,7 @@ pub enum RollEnd {
 /// next run's output. It looks through the file of a word by a window of 8,192 bytes, and takes no memory.
 #[derive(Drop)]
 pub struct Roll {
-    window: [u8; 8192],
+    window: [u8; WINDOW],
     from: usize,
     to: usize,
     left: u64,
@@ -56,7 +59,7 @@ impl Roll {
         ensures most { length result.ahead + result.left ≡ roll_limit }
     {
         Roll {
-            window: [0; 8192],
+            window: [0; WINDOW],
             from: 0,
             to: 0,
             left: LIMIT,
@@ -130,7 +133,7 @@ impl Roll {
         let kept = close_up(&mut self.window, self.from, self.to);
         self.from = 0;
         self.to = kept;
-        let most = self.left.min((8192 - kept) as u64) as usize;
+        let most = self.left.min((WINDOW - kept) as u64) as usize;
         match read_behind(files, word, &mut self.window, kept, most) {
             Ok(0) => {
                 self.end = Some(RollEnd::Whole);

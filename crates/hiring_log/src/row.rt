@@ -5,6 +5,7 @@ ghost use Rattle.hiring_log.specs.LogRow.{AreEntries, IsBound, IsRow, slot_back}
 ghost use Rattle.hiring_log.specs.LogScan.{IsEntry};
 ghost use Rattle.hiring_log.specs.Record.{Record};
 
+use crate::log_board::SLOTS;
 use crate::scanning::Entry;
 
 /// The slot that lies a number of places before a place in the log.
@@ -13,7 +14,7 @@ fn slot_back(last: u64, back: u64) -> usize
     ensures is { result ≡ slot_back last back }
     ensures within { result < 256 }
 {
-    ((last % 256 + 255 - back) % 256) as usize
+    ((last % SLOTS as u64 + 255 - back) % SLOTS as u64) as usize
 }
 
 /// The number of the record that lies some places before the newest, where the slot has it, and the number of the
@@ -45,12 +46,12 @@ fn number_back(entry: Option<Entry>, last: u64, back: u64, newer: u64) -> Option
 
 /// Whether the entries are those of a list whose newest record is at this place in the log.
 #[tactic(auto, using(crate::proofs::Rows::row_none, crate::proofs::Bounds::bound_first))]
-pub(crate) fn is_row(entries: &[Option<Entry>; 256], last: u64) -> bool
+pub(crate) fn is_row(entries: &[Option<Entry>; SLOTS], last: u64) -> bool
     ensures row { IsTrue result → (image : List ℕ) → AreEntries image entries.now → StandsAt image last }
     ensures stands { (image : List ℕ) → AreEntries image entries.now → StandsAt image last → IsTrue result }
 {
     let mut newer = u64::MAX;
-    for back in 0..256 {
+    for back in 0..SLOTS as u64 {
         match number_back(entries[slot_back(last, back)], last, back, newer) {
             Some(number) => newer = number,
             None => return false,

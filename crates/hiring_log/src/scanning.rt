@@ -7,7 +7,7 @@ ghost use Rattle.hiring_log.specs.declared.scanning.ScanFault.TheVariants.{Devic
 ghost use Rattle.hiring_log.specs.LogScan.{IsContent, IsContentOf, IsEntryOf, IsSoundContent};
 
 use crate::appending::OPEN;
-use crate::log_board::LogBoard;
+use crate::log_board::{LogBoard, SLOTS};
 use crate::log_record::LogRecord;
 use crate::slot_record::record_in;
 use outside::Failed;
@@ -54,7 +54,7 @@ pub(crate) fn read_slot<G: LogBoard<L>, L: Ledger>(
     steps: &mut Steps<L>,
 ) -> Result<Content, Failed>
     requires { slot < 256 }
-    ensures content { G.tells_image → IfOk result (λ found. IsContent (G.image log.old) slot found) }
+    ensures content { G.tells_image → IfOk result (IsContent (G.image log.old) slot) }
     ensures sound { IfOk result IsSoundContent }
     ensures image { G.image log.new ≡ G.image log.old }
     ensures reads { ReadsOnly (board_of G.LogBoard) log.old log.new }
@@ -92,7 +92,7 @@ pub(crate) fn entry_of(slot: u32, content: Content) -> Result<Option<Entry>, Sca
     match content {
         Content::Closed => Ok(None),
         Content::Held(place, it) => {
-            if (place - 1) % 256 == u64::from(slot) {
+            if (place - 1) % SLOTS as u64 == u64::from(slot) {
                 Ok(Some(Entry {
                     place,
                     number: it.number,

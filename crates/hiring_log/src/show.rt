@@ -9,7 +9,7 @@ ghost use Rattle.hiring_log.specs.Record.{Record};
 ghost use Rattle.hiring_log.specs.Showing.{texts_of};
 ghost use Rattle.hiring_log.specs.Slots.{Holds, slot_of};
 
-use crate::log_board::LogBoard;
+use crate::log_board::{LogBoard, SLOTS};
 use crate::log_record::LogRecord;
 use crate::scanning::{Content, read_slot};
 use outside::Failed;
@@ -31,7 +31,7 @@ fn show_one<G: LogBoard<L>, L: Ledger>(
     ensures cause { HasCause (G.faults log.old) (G.faults log.new) result }
     ensures steps { steps.new ≤ steps.old + 2 }
 {
-    let slot = ((place - 1) % 256) as u32;
+    let slot = ((place - 1) % SLOTS as u64) as u32;
     match read_slot(slot, log, steps)? {
         Content::Held(_, it) => log.print(it.text.as_slice(), steps),
         Content::Unread => Ok(()),

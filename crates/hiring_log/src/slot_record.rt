@@ -5,7 +5,7 @@ ghost use Rattle.arrayvec.specs.ArrayVec.{array_vec_len};
 ghost use Rattle.hiring_log.specs.Record.{Record, IsRecord};
 ghost use Rattle.hiring_log.specs.Slots.{Spells, IsRecordOf, spelling};
 
-use crate::log_record::LogRecord;
+use crate::log_record::{LONGEST, LogRecord};
 use arrayvec::ArrayVec;
 use receipt_text::{read_receipt, receipts_are_short};
 use slot_store::{Spelled, eight_at, put_bytes};
@@ -80,7 +80,7 @@ pub(crate) fn record_in(bytes: &[u8]) -> Option<(u64, LogRecord)>
 {
     let place = eight_at(bytes, 0);
     let count = two_at(bytes, 8) as usize;
-    if count > 480 {
+    if count > LONGEST {
         return None;
     }
     let record = record_of(text_in(bytes, count))?;

@@ -1,7 +1,7 @@
 use Rattle.std.proofs.Common.{inl, refl, sym, subst, List, ℕ, arith}
 use Rattle.outside.specs.Calls.{opened}
 use Rattle.outside.specs.MemoryBoard.{image_of, left_since_of, text_of}
-use Rattle.outside.specs.MomentLaws.{counts_now}
+use Rattle.outside.proofs.Laws.{counts_now}
 use Rattle.commands.proofs.chains.left_by.Goals as goal
 
 pub returns-in-None-clause-left : goal.returns-in-None-clause-left

@@ -1,4 +1,5 @@
 use Rattle.std.proofs.Common.{◌≡◌, ◌≢◌, ◌∙◌, ℕ, List, Err, refl, sym, ap, subst, arith, inl}
+use Rattle.std.proofs.lemmas.Result.{err_from_is_err_and}
 use Rattle.outside.specs.Faults.{Rose}
 use Rattle.tariff_syntax.specs.declared.tariff.Tariff.{Tariff}
 use Rattle.commands.specs.BenchSteps.{IsNoReadings, IsNotJudged, IsWholeDrive, terms_in}
@@ -32,8 +33,10 @@ returns-in-Err-clause-read_fault g c = λ e.
 pub returns-in-Err-clause-not_board : goal.returns-in-Err-clause-not_board
 returns-in-Err-clause-not_board g c = λ e. not_board-drive c.in-Err.fault (sym c.refused_drive.ensures ∙ same_fault _ _ _ refl e)
 
-pub returns-in-Err-readings_of_word-clause-refused : goal.returns-in-Err-readings_of_word-clause-refused
-returns-in-Err-readings_of_word-clause-refused g c = λ why tells e.
+pub returns-in_err-readings-clause-refused : goal.returns-in_err-readings-clause-refused
+returns-in_err-readings-clause-refused g c =
+    let p = err_from_is_err_and c.from_residual.result c.from_residual.ensures.1 in
+    rw (p.1, p.2) (λ why tells e.
     let rest = g.F.Files.rest in
     let faults = g.F.Files.faults in
     let files = c.args.files.now in
@@ -43,8 +46,8 @@ returns-in-Err-readings_of_word-clause-refused g c = λ why tells e.
     let failed = Rose (faults files 2) (faults new 2) in
     let text_failed = Rose (faults files 3) (faults new 3) in
     let first_failed = Rose (faults mid 3) (faults new 3) in
-    let end = c.in-Err-readings_of_word.why in
-    let first : IsNoReadings c.tariff.result.now.decimals (rest mid 3) first_failed end = c.readings_of_word.ensures.refused end tells c.in-Err-readings_of_word.is in
+    let end = c.in_err-readings.field-0.0 in
+    let first : IsNoReadings c.tariff.result.now.decimals (rest mid 3) first_failed end = c.readings_of_word.ensures.refused end tells c.in_err-readings.was in
     let of_text : IsNoReadings c.tariff.result.now.decimals (rest files 3) first_failed end =
     subst (λ (x : List ℕ). IsNoReadings c.tariff.result.now.decimals x first_failed end) (c.read_drive.ensures.others 3 (three-two 3 refl)) first in
     let of_tariff : IsNoReadings terms.tree.decimals (rest files 3) first_failed end =
@@ -53,7 +56,7 @@ returns-in-Err-readings_of_word-clause-refused g c = λ why tells e.
     let whole : IsWholeDrive (rest files 2) (rest new 2) c.in-Ok.runs.items =
     subst (λ (x : List ℕ). IsWholeDrive (rest files 2) x c.in-Ok.runs.items) (sym (c.readings_of_word.ensures.others 2 (two-three 2 refl))) (c.in-Ok.ensures.whole tells) in
     subst (λ (w : Ended). IsNotJudged terms (rest files 2) (rest new 2) (rest files 3) failed text_failed w) (same_fault _ _ _ refl e)
-    (not_judged-readings terms (rest files 2) (rest new 2) (rest files 3) failed text_failed c.in-Ok.runs.items whole end later)
+    (not_judged-readings terms (rest files 2) (rest new 2) (rest files 3) failed text_failed c.in-Ok.runs.items whole end later))
 
 pub returns-clause-refused : goal.returns-clause-refused
 returns-clause-refused g c = λ why tells e.

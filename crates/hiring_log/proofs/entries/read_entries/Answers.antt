@@ -1,5 +1,6 @@
 use Rattle.std.proofs.Common.{ℕ, List, ◌∙◌, subst, arith, refl}
 use Rattle.std.proofs.lemmas.List.{length-set}
+use Rattle.std.proofs.lemmas.Result.{err_from_is_err_and}
 use Rattle.hiring_log.specs.Boards.{board_of}
 use Rattle.hiring_log.proofs.Readings.{reads_none, reads_then}
 use Rattle.hiring_log.proofs.Scans.{entries_more, err_same, lowest_told}
@@ -17,17 +18,19 @@ loop-slot-init g c = record {
   steps = omega arith;
 }
 
-pub returns-in-Err-clause-bad : goal.returns-in-Err-clause-bad
-returns-in-Err-clause-bad g c slot err told =
-    let bad = c.in-Err.ensures.bad slot (err_same _ _ c.in-Err.fault (BadSlot slot) err) in
-    lowest_told _ _ slot c.loop-slot.slot c.loop-slot.entries bad.0 c.loop-slot-test.true c.loop-slot.invariant.image (bad.1 told) (c.loop-slot.invariant.entries told)
+pub returns-in_err-entries-clause-bad : goal.returns-in_err-entries-clause-bad
+returns-in_err-entries-clause-bad g c =
+    let p = err_from_is_err_and c.from_residual.result c.from_residual.ensures.1 in
+    rw (p.1, p.2) (λ slot err told.
+    let bad = c.in_err-entries.ensures.bad slot (err_same _ _ c.in_err-entries.field-0.0 (BadSlot slot) err) in
+    lowest_told _ _ slot c.loop-slot.slot c.loop-slot.entries bad.0 c.loop-slot-test.true c.loop-slot.invariant.image (bad.1 told) (c.loop-slot.invariant.entries told))
 
 pub loop-slot-preserved : goal.loop-slot-preserved
 loop-slot-preserved g c =
     record {
-      size = length-set c.loop-slot.entries c.loop-slot.slot c.in-Ok.entry ∙ c.loop-slot.invariant.size;
-      entries = λ told slot small. entries_more (g.G.LogBoard.image c.args.log.now) c.loop-slot.entries c.loop-slot.slot c.in-Ok.entry (omega (arith, c.loop-slot.invariant.size, c.loop-slot-test.true)) (c.loop-slot.invariant.entries told)
-          (subst (λ (i : List ℕ). IsEntry i c.loop-slot.slot c.in-Ok.entry) c.loop-slot.invariant.image (c.in-Ok.ensures.entry told)) slot small;
+      size = length-set c.loop-slot.entries c.loop-slot.slot c.in_ok-entries.field-0 ∙ c.loop-slot.invariant.size;
+      entries = λ told slot small. entries_more (g.G.LogBoard.image c.args.log.now) c.loop-slot.entries c.loop-slot.slot c.in_ok-entries.field-0 (omega (arith, c.loop-slot.invariant.size, c.loop-slot-test.true)) (c.loop-slot.invariant.entries told)
+          (subst (λ (i : List ℕ). IsEntry i c.loop-slot.slot c.in_ok-entries.field-0) c.loop-slot.invariant.image (c.in_ok-entries.ensures.entry told)) slot small;
       image = c.read_entry.ensures.image ∙ c.loop-slot.invariant.image;
       reads = reads_then (board_of g.G.LogBoard) _ _ _ c.loop-slot.invariant.reads c.loop-slot.invariant.image c.read_entry.ensures.reads;
       later = omega (arith, c.loop-slot.invariant.later, c.read_entry.ensures.later);

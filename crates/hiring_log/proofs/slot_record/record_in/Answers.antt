@@ -4,9 +4,9 @@ use Rattle.hiring_log.specs.Slots.{IsRecordOf, Spells}
 use Rattle.hiring_log.proofs.Spelled.{none_longer, none_other, none_spelled, some_spelled}
 use Rattle.hiring_log.proofs.slot_record.record_in.Goals as goal
 
-pub returns-then-count-gt480 : goal.returns-then-count-gt480
-returns-then-count-gt480 c =
-    none_longer c.args.bytes.now c.eight_at-place.result c.two_at-count.result c.eight_at-place.ensures c.two_at-count.ensures c.if-count-gt480.true
+pub returns-then-count-gt-LONGEST : goal.returns-then-count-gt-LONGEST
+returns-then-count-gt-LONGEST c =
+    none_longer c.args.bytes.now c.eight_at-place.result c.two_at-count.result c.eight_at-place.ensures c.two_at-count.ensures c.if-count-gt-LONGEST.true
 
 pub returns-in_err-record : goal.returns-in_err-record
 returns-in_err-record c =
