@@ -1,6 +1,6 @@
 # What bin/taxi and bin/hiring_log share; both source it, and it does nothing by itself. It needs, set by them: `top`, the
 # top of the checkout; `name`, what the program is called; `program_crate`, the crate whose program is run; `words`, those
-# of a run that needs no file; and two functions: `commands`, which prints a line `WORDS|WHAT|EXAMPLE` for each command,
+# of a run that needs no file; `needs_store`, the commands that need a sealed store; and two functions: `commands`, which prints a line `WORDS|WHAT|EXAMPLE` for each command,
 # and `meaning_of`, which prints what a status means, given the status and the first word.
 
 program=$top/crates/$program_crate/out/$program_crate
@@ -8,7 +8,7 @@ program=$top/crates/$program_crate/out/$program_crate
 help() {
   echo 'usage:'
   commands | while IFS='|' read -r row what _; do printf "  $name %-${width}s %s\n" "$row" "$what"; done
-  echo "$name COMMAND --help shows an example; $page says more."
+  echo "bin/$name COMMAND --help shows an example; $page says more."
 }
 
 # The rows of a command, where it is one.
@@ -21,6 +21,7 @@ help_on() {
     printf 'usage: %s %s\n%s\n' "$name" "$row" "$what"
     printf 'example, from the top of the checkout: bin/%s %s\n' "$name" "$example"
   done <<<"$1"
+  case " $needs_store " in *" ${1%%[ |]*} "*) echo 'it needs a sealed store in the folder; taxi seal TARIFF PARAMS makes one' ;; esac
   echo "more: $page"
 }
 
@@ -59,7 +60,7 @@ build() {
   log=$(mktemp -d) || return 1
   touch "$log/began"
   all=$(echo "$crates" | wc -l)
-  say "proving and building the program; from nothing this takes long (docs/STATUS.md), and later runs only run it"
+  say "proving and building the program; from nothing this takes an hour or so (docs/STATUS.md), and later runs only run it"
   for crate in $crates; do
     place=$((place + 1)) spent=$((SECONDS - began))
     say "crate $place of $all, $crate; $((spent / 60)) min $((spent % 60)) s so far"
@@ -85,6 +86,12 @@ main() {
   if [ $# -eq 2 ] && [ "$2" = --help ] && [ -n "$(rows_of "$1")" ]; then
     help_on "$(rows_of "$1")"
     exit 0
+  fi
+  # For words that can only be refused nothing is built.
+  if [ ! -x "$program" ] && [ -z "$(rows_of "${1:-}")" ]; then
+    help >&2
+    say "status 1: $(wrong_words "${1:-}")"
+    exit 1
   fi
   crates=$(needed_crates)
   if is_old; then
