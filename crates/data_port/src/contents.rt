@@ -4,15 +4,14 @@ ghost use Rattle.std.specs.List.{flat_map};
 ghost use Rattle.arrayvec.specs.ArrayVec.{array_vec_len};
 ghost use Rattle.taxi_units.specs.Line.{line_size};
 ghost use Rattle.seal_store.specs.Ranges.{IsSeal};
-ghost use Rattle.seal_store.specs.Spelling.{mode_byte, padded, signed_bytes};
+ghost use Rattle.seal_store.specs.Spelling.{padded, signed_bytes};
 ghost use Rattle.totaliser_store.specs.Bytes.{four, eight, sixteen};
 ghost use Rattle.totaliser_store.specs.Ranges.{IsDurable, IsHeld};
 ghost use Rattle.totaliser_store.specs.Spelling.{share_bytes};
 ghost use Rattle.data_port.specs.Reply.{content, held_content, held_trip, held_values, shares_content, trip_content};
 
-use drive_modes::Mode;
 use pulse_input::{Constant, millimetres};
-use seal_store::Seal;
+use seal_store::{Seal, mode_byte};
 use taxi_units::{Line, push_bytes};
 use totaliser_store::{Durable, Share, Totals, Trip};
 
@@ -67,16 +66,6 @@ fn put_taxi(line: &mut Line, taxi: &[u8])
 {
     push_bytes(line, taxi);
     put_zeros(line, 16 - taxi.len());
-}
-
-/// The byte of a mode.
-fn byte_of(mode: Mode) -> u8
-    ensures { result ≡ mode_byte mode }
-{
-    match mode {
-        Mode::Single => 0,
-        Mode::Double => 1,
-    }
 }
 
 /// Appends what is told of a held trip.
@@ -149,7 +138,7 @@ pub(crate) fn put_content(line: &mut Line, code: u8, durable: &Durable, seal: &S
         2 => put_four(line, params.constant.get()),
         3 => push_bytes(line, &params.secured.to_be_bytes()),
         4 => push_bytes(line, &seal.digest),
-        5 => push_bytes(line, &[byte_of(params.mode)]),
+        5 => push_bytes(line, &[mode_byte(params.mode)]),
         6 => put_eight(line, durable.number),
         7 => put_sixteen(line, totals.distance_mm),
         8 => put_sixteen(line, totals.hired_mm),

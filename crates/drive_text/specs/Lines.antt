@@ -1,7 +1,8 @@
 -- Rules: the lines of a text, each of which an LF ends, and one CR directly before it is no part of it.
-use Rattle.std.specs.Prelude.{ℕ, ◌≢◌, ◌∷◌, ◌++◌, [], All, flat_map, List, Bool, false, not, length, nat_lt, ◌==◌, ◌&&◌}
+use Rattle.std.specs.Prelude.{ℕ, ◌∷◌, ◌++◌, [], flat_map, List, Bool, false, not, length, nat_lt, ◌==◌, ◌&&◌}
 use Rattle.std.specs.List.{slice_split}
 use Rattle.std.specs.Str.Lines.{strip_carriage_return}
+pub use Rattle.taxi_units.specs.Parting.{HasNone}
 
 -- all but the last of a list of parts are its parts without the last one, and nothing where there is none
 abbrev pub all_but_last : List (List ℕ) → List (List ℕ)
@@ -36,10 +37,6 @@ is_too_long line = nat_lt 80 (length (strip_carriage_return line)) && not (is_co
 -- one
 abbrev pub text_of : List (List ℕ) → List ℕ → List ℕ
 text_of lines unfinished = flat_map (λ line. line ++ 10 ∷ []) lines ++ unfinished
-
--- bytes have none of a byte where each of them is another one
-abbrev pub HasNone : ℕ → List ℕ → Type 0
-HasNone byte bytes = All (λ b. b ≢ byte) bytes
 
 -- bytes are one line where they have no LF
 abbrev pub IsOneLine : List ℕ → Type 0

@@ -10,9 +10,8 @@ ghost use Rattle.drive_text.specs.Lines as lines;
 ghost use Rattle.drive_text.specs.Fields.{text_runs, line_runs};
 ghost use Rattle.drive_text.specs.Content.{runs_of};
 
-use crate::parting::part_at;
 use crate::run::Run;
-use taxi_units::{Event, FIRST_SECOND, Key, LAST_SECOND, number_at};
+use taxi_units::{Event, FIRST_SECOND, Key, LAST_SECOND, number_at, split_at_byte};
 
 /// The number that a field of 1 to 12 digits is, where it lies in the range.
 #[tactic(auto, using(crate::proofs::Numbers::in_none))]
@@ -139,7 +138,7 @@ fn first_field(bytes: &[u8]) -> (&[u8], Option<&[u8]>)
     ensures { slice_split (λ b. b == 32) bytes.now
         ≡ result.0.now ∷ option_map_or (λ rest. slice_split (λ b. b == 32) rest.now) result.1 [] }
 {
-    part_at(bytes, b' ')
+    split_at_byte(bytes, b' ')
 }
 
 /// A line's fields, parted by one blank each.

@@ -4,7 +4,6 @@
 mod ending;
 mod fields;
 mod meaning;
-mod parting;
 mod reader;
 mod run;
 mod state;

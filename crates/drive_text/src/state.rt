@@ -10,10 +10,10 @@ ghost use Rattle.drive_text.specs.Reading.{HasTaken, HasFailed, HasSense};
 
 use crate::fields;
 use crate::fields::{Content, content_of_line, is_long, without_carriage_return};
-use crate::parting::part_at;
 use crate::reader::BadLine;
 use crate::run::Run;
 use arrayvec::ArrayVec;
+use taxi_units::split_at_byte;
 
 /// How many lines were begun, the bytes of an unfinished line that is no comment, whether the
 /// unfinished line is a comment, and whether a bad line came.
@@ -58,7 +58,7 @@ impl State {
         ensures err { IfErr result (λ e. FailsIn (reading_of self.old) (reading_of self.new) piece.now e.line) }
         ensures out { OnErr result (out.new ≡ out.old) }
     {
-        let (line, rest) = part_at(piece, b'\n');
+        let (line, rest) = split_at_byte(piece, b'\n');
         match rest {
             Some(rest) => {
                 self.end_line(line, out)?;

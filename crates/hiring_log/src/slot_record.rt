@@ -1,6 +1,5 @@
 //! A record's bytes in its slot, behind the gate.
 ghost use Rattle.std.specs.Prelude.{◌≡◌, ℕ, ◌+◌, ◌≤◌, ◌++◌, ◌↔◌, List, length, replicate, take, drop, Some, IsTrue};
-ghost use Rattle.std.specs.Int.{w16, from_be_bytes};
 ghost use Rattle.arrayvec.specs.ArrayVec.{array_vec_len};
 ghost use Rattle.hiring_log.specs.Record.{Record, IsRecord};
 ghost use Rattle.hiring_log.specs.Slots.{Spells, IsRecordOf, spelling};
@@ -8,7 +7,7 @@ ghost use Rattle.hiring_log.specs.Slots.{Spells, IsRecordOf, spelling};
 use crate::log_record::{LONGEST, LogRecord};
 use arrayvec::ArrayVec;
 use receipt_text::{read_receipt, receipts_are_short};
-use slot_store::{Spelled, eight_at, put_bytes};
+use slot_store::{Spelled, eight_at, put_bytes, two_at};
 
 /// Appends zeros, for which there is room.
 fn put_zeros(out: &mut Spelled, count: usize)
@@ -34,16 +33,6 @@ pub(crate) fn spelled(place: u64, text: &[u8]) -> Spelled
     put_zeros(&mut out, 500 - text.len());
     put_bytes(&mut out, &[1]);
     out
-}
-
-/// The number in the two bytes from a place on.
-fn two_at(bytes: &[u8], at: usize) -> u16
-    requires { at + 2 ≤ length bytes.now }
-    ensures { result ≡ from_be_bytes w16 (take 2 (drop at bytes.now)) }
-{
-    let mut part = [0; 2];
-    part.copy_from_slice(&bytes[at..at + 2]);
-    u16::from_be_bytes(part)
 }
 
 /// The record whose text this is.

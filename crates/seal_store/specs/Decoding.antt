@@ -1,7 +1,7 @@
 -- For proofs: the seal that bytes are read as, each field at its place, which is one less here than in the slot. The
 -- law seals_are_read_by_their_table says which seal it is.
 use Rattle.std.specs.Prelude.{ℕ, zero, suc, ◌==◌, ◌&&◌, if◌then◌else◌, Bool, nat_le, ℤ, pos, int_le, List, [], ◌∷◌, length, take, drop, Option, Some, None}
-use Rattle.std.specs.Int.{w16, w32, from_be_bytes, cast_signed}
+use Rattle.std.specs.Int.{w32, cast_signed}
 use Rattle.std.specs.Str.{bytes_eq}
 use Rattle.drive_modes.specs.declared.charges.Mode.{Mode}
 use Rattle.drive_modes.specs.declared.charges.Mode.TheVariants.{Single, Double}
@@ -14,11 +14,7 @@ use Rattle.seal_store.specs.OffsetList.{is_offset_list}
 pub use Rattle.seal_store.specs.Ranges.{number_of}
 use Rattle.seal_store.specs.Spelling.{spelling, offset_size}
 use Rattle.seal_store.specs.Values.{is_taxi}
-use Rattle.slot_store.specs.BytesAt.{byte_at, four_at, eight_at}
-
--- the number in the two bytes from a place on
-abbrev pub two_at : List ℕ → ℕ → ℕ
-two_at bytes place = from_be_bytes w16 (take 2 (drop place bytes))
+use Rattle.slot_store.specs.BytesAt.{byte_at, two_at, four_at, eight_at}
 
 -- the signed number in the four bytes from a place on
 abbrev pub signed_at : List ℕ → ℕ → ℤ

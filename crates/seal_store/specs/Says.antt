@@ -1,15 +1,12 @@
 -- Rules: the lines, keys and numbers of a text of parameters, in words that share nothing with how it is read.
-use Rattle.std.specs.Prelude.{◌≡◌, ◌≢◌, ℕ, ◌+◌, ◌≤◌, List, [], ◌∷◌, ◌++◌, length, All, Ok, Err}
+use Rattle.std.specs.Prelude.{◌≡◌, ℕ, ◌+◌, ◌≤◌, List, [], ◌∷◌, ◌++◌, length, Ok, Err}
 use Rattle.std.specs.Str.Lines.{strip_carriage_return}
 use Rattle.std.specs.Str.Parse.{IsNumeral, digits_value}
 use Rattle.seal_store.specs.declared.params.ParamFault.{ParamFault}
 pub use Rattle.seal_store.specs.Reading.{lines_read}
 use Rattle.seal_store.specs.Said.{Said}
 pub use Rattle.seal_store.specs.SaidStages.{line_read}
-
--- bytes have none of a value where no byte of them is of that value
-abbrev pub HasNone : ℕ → List ℕ → Type 0
-HasNone byte bytes = All (λ b. b ≢ byte) bytes
+pub use Rattle.taxi_units.specs.Parting.{HasNone}
 
 -- lines are those of a text where an LF ends each but the last, one CR directly before that LF is no part of its line,
 -- and what stands behind the last LF is the last line as it is

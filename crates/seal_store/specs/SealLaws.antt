@@ -16,11 +16,11 @@ use Rattle.drive_modes.specs.declared.charges.Mode.{Mode}
 use Rattle.drive_modes.specs.declared.charges.Mode.TheVariants.{Single, Double}
 use Rattle.interval_clock.specs.Offsets.{IsOffset, IsInRangeAt}
 use Rattle.slot_store.specs.Bodies.{AreBodies}
-use Rattle.slot_store.specs.BytesAt.{byte_at, four_at}
+use Rattle.slot_store.specs.BytesAt.{byte_at, two_at, four_at}
 use Rattle.slot_store.specs.Sizes.{body_size}
 use Rattle.seal_store.specs.declared.params.Params.{Params}
 use Rattle.seal_store.specs.declared.seal.Seal.{Seal}
-use Rattle.seal_store.specs.Decoding.{are_params, decoded, is_seal, mode_in, pairs_in, reads, signed_at, two_at}
+use Rattle.seal_store.specs.Decoding.{are_params, decoded, is_seal, mode_in, pairs_in, reads, signed_at}
 use Rattle.seal_store.specs.Limits.{least_constant, greatest_constant, longest_hold, first_day, last_day}
 use Rattle.seal_store.specs.Limits.{last_seal_number, digest_size, most_decimals}
 use Rattle.seal_store.specs.Lines.{before}

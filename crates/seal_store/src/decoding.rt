@@ -2,7 +2,7 @@
 ghost use Rattle.std.specs.Prelude.{◌≡◌, ◌+◌, ◌*◌, ◌≤◌, ◌∷◌, FitsSigned, drop, take, length, MatchOption};
 ghost use Rattle.std.specs.Int.{w32};
 ghost use Rattle.seal_store.specs.Decoding as spec;
-ghost use Rattle.seal_store.specs.Decoding.{decoded, signed_at, two_at};
+ghost use Rattle.seal_store.specs.Decoding.{decoded, signed_at};
 ghost use Rattle.seal_store.specs.Limits.{most_offsets};
 ghost use Rattle.seal_store.specs.Spelling.{offsets_size};
 ghost use Rattle.seal_store.specs.Ranges.{IsParams, IsSeal, IsTaxi};
@@ -18,7 +18,7 @@ use arrayvec::ArrayVec;
 use drive_modes::Mode;
 use interval_clock::Offsets;
 use pulse_input::Constant;
-use slot_store::{BODY_SIZE, eight_at, four_at};
+use slot_store::{BODY_SIZE, eight_at, four_at, two_at};
 
 /// The day number of 2000-01-01, before which nothing is secured.
 const FIRST_DAY: i32 = 10_957;
@@ -31,16 +31,6 @@ const LAST_SEAL_NUMBER: u64 = 1_000_000_000_000_000;
 
 /// How many decimals a tariff's money has at most.
 const MOST_DECIMALS: u8 = 3;
-
-/// The number in the two bytes from a place on.
-fn two_at(bytes: &[u8], at: usize) -> u16
-    requires { at + 2 ≤ length bytes.now }
-    ensures { result ≡ two_at bytes.now at }
-{
-    let mut part = [0; 2];
-    part.copy_from_slice(&bytes[at..at + 2]);
-    u16::from_be_bytes(part)
-}
 
 /// The signed number in the four bytes from a place on.
 fn signed_at(bytes: &[u8], at: usize) -> i32

@@ -31,5 +31,6 @@ pub use seal::Seal;
 pub use seal_laws::seals_are_read_by_their_table;
 pub use sealing::place_seal;
 pub use sealing_laws::scans_find_what_a_sealing_asks_for;
+pub use spelling::mode_byte;
 pub use text_laws::{parameters_are_in_their_ranges, texts_say_parameters_line_by_line};
 pub use whole_laws::{texts_are_too_long_or_lack_a_parameter, texts_say_their_parameters};

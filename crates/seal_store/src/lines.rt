@@ -4,26 +4,15 @@ ghost use Rattle.std.specs.Option.{option_map_or};
 ghost use Rattle.std.specs.Str.Lines.{strip_carriage_return};
 ghost use Rattle.seal_store.specs.Lines as spec;
 ghost use Rattle.seal_store.specs.Lines.{lines_of, key_in, value_in};
-ghost use Rattle.seal_store.specs.Says.{HasNone};
 
-/// The bytes before the first one that is this byte, and those after it, where there is one.
-fn part_at(bytes: &[u8], byte: u8) -> (&[u8], Option<&[u8]>)
-    ensures before { HasNone byte result.0.now }
-    ensures after { MatchOption result.1 (bytes.now ≡ result.0.now)
-        (λ rest. bytes.now ≡ result.0.now ++ byte ∷ rest.now) }
-{
-    match bytes.iter().position(|other| *other == byte) {
-        Some(at) => (&bytes[..at], Some(&bytes[at + 1..])),
-        None => (bytes, None),
-    }
-}
+use taxi_units::split_at_byte;
 
 /// The bytes before the first one that is this byte, or all where there is none.
 #[tactic(auto, using(crate::proofs::Parting::before_byte, crate::proofs::Parting::before_none))]
 pub(crate) fn before(bytes: &[u8], byte: u8) -> &[u8]
     ensures { result.now ≡ spec.before byte bytes.now }
 {
-    let (front, _) = part_at(bytes, byte);
+    let (front, _) = split_at_byte(bytes, byte);
     front
 }
 
@@ -33,7 +22,7 @@ pub(crate) fn first_line(text: &[u8]) -> (&[u8], Option<&[u8]>)
     ensures lines { lines_of text.now ≡ result.0.now ∷ option_map_or (λ rest. lines_of rest.now) result.1 [] }
     ensures shorter { IfSome result.1 (λ rest. length rest.now < length text.now) }
 {
-    let (line, rest) = part_at(text, b'\n');
+    let (line, rest) = split_at_byte(text, b'\n');
     match rest {
         Some(rest) => (without_carriage_return(line), Some(rest)),
         None => (line, None),
@@ -66,7 +55,7 @@ pub(crate) fn key_and_value(line: &[u8]) -> (&[u8], &[u8])
     ensures key { result.0.now ≡ key_in line.now }
     ensures value { result.1.now ≡ value_in line.now }
 {
-    let (key, value) = part_at(line, b' ');
+    let (key, value) = split_at_byte(line, b' ');
     match value {
         Some(value) => (key, value),
         None => (key, &[]),

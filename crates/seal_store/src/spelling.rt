@@ -36,7 +36,7 @@ fn put_zeros(out: &mut Spelled, count: usize)
 }
 
 /// The byte of a mode.
-fn byte_of(mode: Mode) -> u8
+pub fn mode_byte(mode: Mode) -> u8
     ensures { result ≡ mode_byte mode }
 {
     match mode {
@@ -99,7 +99,7 @@ fn put_settings(out: &mut Spelled, params: &Params)
     ensures len { array_vec_len out.new ≡ array_vec_len out.old + 7 }
 {
     put_bytes(out, &params.constant.get().to_be_bytes());
-    put_bytes(out, &[byte_of(params.mode)]);
+    put_bytes(out, &[mode_byte(params.mode)]);
     put_bytes(out, &params.hold.to_be_bytes());
 }
 

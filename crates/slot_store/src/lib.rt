@@ -18,7 +18,7 @@ mod sync_laws;
 mod written;
 
 pub use body::{BODY_SIZE, Body};
-pub use body_bytes::{Spelled, eight_at, four_at, put_bytes};
+pub use body_bytes::{Spelled, eight_at, four_at, put_bytes, two_at};
 pub use found::{Found, SlotFault};
 pub use pair::{Pair, Place};
 pub use pair_laws::{

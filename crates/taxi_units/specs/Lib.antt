@@ -3,8 +3,10 @@ pub mod Counted
 pub mod Decimal
 pub mod Halving
 pub mod Line
+pub mod Money
 pub mod Number
 pub mod NumberStages
+pub mod Parting
 pub mod Reading
 pub mod Shown
 pub mod Time

@@ -6,6 +6,7 @@ use Rattle.taxi_units.specs.declared.receipt.Display.{Display}
 use Rattle.taxi_units.specs.declared.receipt.Receipt.{Receipt}
 use Rattle.taxi_units.specs.declared.receipt.Stamp.{Stamp}
 use Rattle.taxi_units.specs.Calendar.{IsDate}
+use Rattle.taxi_units.specs.Money.{largest_amount}
 
 -- decimals are those of an amount of money where they are 0 to 3
 abbrev pub AreDecimals : ℕ → Type 0
@@ -26,7 +27,7 @@ pub record IsStamp (stamp : Stamp) : Type 0 where
 -- the fare of a receipt is its initial hire fee and its step for each display step, or its minimum where that is more,
 -- and at most 99,999,999
 abbrev pub fare_of : Receipt → ℕ
-fare_of receipt = min 99999999 (max receipt.minimum (receipt.initial + receipt.steps * receipt.step))
+fare_of receipt = min largest_amount (max receipt.minimum (receipt.initial + receipt.steps * receipt.step))
 
 -- a receipt is in its ranges where it is for a hiring and not for roaming, has each number in its range, and the fare
 -- that its parts make
@@ -37,8 +38,8 @@ pub record IsReceipt (receipt : Receipt) : Type 0 where
   pub finish : IsStamp receipt.finish
   pub position : (1 ≤ receipt.position) × (receipt.position ≤ 9)
   pub distance : receipt.hired_mm < 10 ^ 23
-  pub initial : receipt.initial ≤ 99999999
-  pub minimum : receipt.minimum ≤ 99999999
+  pub initial : receipt.initial ≤ largest_amount
+  pub minimum : receipt.minimum ≤ largest_amount
   pub steps : receipt.steps < 10 ^ 18
   pub step : (1 ≤ receipt.step) × (receipt.step ≤ 1000000)
   pub fare : receipt.fare ≡ fare_of receipt

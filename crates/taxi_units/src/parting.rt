@@ -1,9 +1,9 @@
 //! Bytes that are parted at a byte.
 ghost use Rattle.std.specs.Prelude.{◌≡◌, ◌∷◌, ◌++◌, MatchOption};
-ghost use Rattle.drive_text.specs.Lines.{HasNone};
+ghost use Rattle.taxi_units.specs.Parting.{HasNone};
 
 /// The bytes before the first one that is this byte, and those after it, where there is one.
-pub(crate) fn part_at(bytes: &[u8], byte: u8) -> (&[u8], Option<&[u8]>)
+pub fn split_at_byte(bytes: &[u8], byte: u8) -> (&[u8], Option<&[u8]>)
     ensures before { HasNone byte result.0.now }
     ensures after { MatchOption result.1 (bytes.now ≡ result.0.now)
         (λ rest. bytes.now ≡ result.0.now ++ byte ∷ rest.now) }

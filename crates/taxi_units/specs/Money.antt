@@ -1,0 +1,7 @@
+-- Rules: the range of an amount of money.
+use Rattle.std.specs.Prelude.{ℕ}
+
+-- an initial hire fee, what it covers, a minimum fare and a fare are each at most 99,999,999 of the smallest unit of
+-- money
+abbrev pub largest_amount : ℕ
+largest_amount = 99999999
