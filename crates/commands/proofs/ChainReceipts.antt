@@ -11,8 +11,8 @@ use Rattle.totaliser_store.specs.declared.change.Change.{Change}
 use Rattle.totaliser_store.specs.declared.durable.Durable.{Durable}
 use Rattle.meter_states.specs.declared.act.Act.TheVariants.{Receipt}
 use Rattle.meter_run.specs.Deeds.{Deed, Does, Prints, changes_of, texts}
-use Rattle.meter_run.specs.Points.{HasEntryOf}
-use Rattle.meter_run.proofs.Laws.{receipts_have_their_entries-cut, texts_joined, the_number_tells_the_commits-beginning}
+use Rattle.meter_run.specs.Points.{HasEntryOf, IsNumberedWithin}
+use Rattle.meter_run.proofs.Laws.{receipts_are_numbered_in_order-cut, receipts_have_their_entries-cut, texts_joined, the_number_tells_the_commits-beginning}
 use Rattle.commands.specs.Chain.{HasByteOf, IsChain, last_image, last_state}
 use Rattle.commands.specs.Link.{IsLink, Link, begun_with, bytes_done, commits_done, deeds_from, last_line, prefix_of}
 use Rattle.commands.specs.Run.{IsRunCut, MayFind, Start, deeds_in, tables_in}
@@ -55,11 +55,16 @@ reached_in seal done left earlier later deed e shorter = by (cases_lt (length ea
 text_end : (printed text more : List ℕ) → Begins printed text more → length text ≤ length printed + length more
 text_end printed text more h = omega (arith, h.within, ap length h.printed, length-append printed (take h.count more), length-take h.count more)
 
+-- what is said of a receipt of a run
+pub record IsPrinted (d : Durable) (image : List ℕ) (link : Link) (receipt : receipts.Receipt) : Type 0 where
+  pub entry : HasEntryOf receipt (entries_of (prefix_of d image link))
+  pub number : IsNumberedWithin d.number link.number receipt
+
 module _ (d : Durable) (image : List ℕ) (link : Link) (has : HasState image d) (is : IsLink d image link) where
   -- what the next image has of the run's commits is the prefix
   by_start : (s : Start) → begun_with image link ≡ Ok s → (receipt : receipts.Receipt) (earlier later : List Deed)
       → deeds_in s (bytes_done image link) ≡ earlier ++ Does (Receipt receipt) ∷ later → length (texts s.seal earlier) < length link.text
-      → IsRunCut (Unit {0}) image [] s (bytes_done image link) (last_line image link) link.image link.text → HasEntryOf receipt (entries_of (prefix_of d image link))
+      → IsRunCut (Unit {0}) image [] s (bytes_done image link) (last_line image link) link.image link.text → IsPrinted d image link receipt
   by_start s begins receipt earlier later among reached pair =
       let cut = pair.cut in
       let deeds = deeds_in s (bytes_done image link) in
@@ -82,9 +87,14 @@ module _ (d : Durable) (image : List ℕ) (link : Link) (has : HasState image d)
       omega (arith, is.number, cut.follows.number, ap (λ (x : Durable). x.number) found, ap (λ (x : Durable). x.number) opening) in
       let prefix : prefix_of d image link ≡ changes_of cut.kept =
       ap (λ (n : ℕ). take n (commits_done image link)) counted ∙ ap (take (length (changes_of cut.kept))) split ∙ take-append_seam (changes_of cut.kept) (changes_of beginning.0) in
-      subst (λ (l : List Change). HasEntryOf receipt (entries_of l)) (sym prefix) entered
+      let numbered : IsNumberedWithin s.durable.number cut.found.number receipt =
+      receipts_are_numbered_in_order-cut (tables_in s) s.seal (Unit {0}) s.durable [] (deeds ++ Prints line ∷ []) link.image link.text cut earlier within.0 receipt within.1 in
+      record {
+        entry = subst (λ (l : List Change). HasEntryOf receipt (entries_of l)) (sym prefix) entered;
+        number = (omega (arith, numbered.0, ap (λ (x : Durable). x.number) opening), omega (arith, numbered.1, is.number, ap (λ (x : Durable). x.number) found));
+      }
 
-  pub link-receipt : (receipt : receipts.Receipt) → HasByteOf image link receipt → HasEntryOf receipt (entries_of (prefix_of d image link))
+  pub link-receipt : (receipt : receipts.Receipt) → HasByteOf image link receipt → IsPrinted d image link receipt
   link-receipt receipt h =
       let e = h.begins in
       by_start h.start e receipt h.earlier h.later
@@ -94,6 +104,6 @@ module _ (d : Durable) (image : List ℕ) (link : Link) (has : HasState image d)
 -- ---- each run of a chain
 
 pub chain-receipts : (d : Durable) (image : List ℕ) (runs : List Link) (link : Link) (others : List Link) → HasState image d → IsChain d image (runs ++ link ∷ others)
-    → (receipt : receipts.Receipt) → HasByteOf (last_image image runs) link receipt → HasEntryOf receipt (entries_of (prefix_of (last_state d runs) (last_image image runs) link))
+    → (receipt : receipts.Receipt) → HasByteOf (last_image image runs) link receipt → IsPrinted (last_state d runs) (last_image image runs) link receipt
 chain-receipts d image [] link others has chain receipt h = link-receipt d image link has chain.0 receipt h
 chain-receipts d image (first ∷ runs) link others has chain receipt h = chain-receipts first.found first.image runs link others chain.0.stands chain.1 receipt h

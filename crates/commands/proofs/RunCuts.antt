@@ -89,7 +89,7 @@ module _ (tables : TableParts) (seal : Seal) (told : Type 0) (d : Durable) (prin
 
   -- all was done, and the last line may have begun
   pub last_cut : (deeds : List Deed) (line i x : List ℕ) → HasState i (after_deeds d deeds) → ForSome (after_deeds d deeds).hold (Fits tables) → Follows d (after_deeds d deeds) (changes_of deeds)
-      → HasEntries deeds → (told → Begins (printed ++ texts seal deeds) x line) → Cut (deeds ++ Prints line ∷ []) i x
+      → HasEntries d.number deeds → (told → Begins (printed ++ texts seal deeds) x line) → Cut (deeds ++ Prints line ∷ []) i x
   last_cut deeds line i x has fits follows entries text = record {
     done = deeds;
     next = Prints line ∷ [];

@@ -35,7 +35,7 @@ no_deeds : (s : Start) → deeds_in s [] ≡ []
 no_deeds s = refl
 
 -- the receipts of a run stand behind their entries
-pub run_entries : (s : Start) (bytes : List ℕ) → HasEntries (deeds_in s bytes)
+pub run_entries : (s : Start) (bytes : List ℕ) → HasEntries s.durable.number (deeds_in s bytes)
 run_entries s bytes = receipts_have_their_entries-run (setting_in s) s.durable bytes
 
 -- the bytes outside the pair of totals
@@ -72,7 +72,7 @@ module _ (told : Type 0) (image printed tariff : List ℕ) where
       record {
         cut = subst (λ (deeds : List Deed). IsCut (tables_in s) s.seal told s.durable printed (deeds ++ Prints line ∷ []) i x) (sym nothing)
             (last_cut (tables_in s) s.seal told s.durable printed [] line i x (subst (λ (l : List ℕ). HasState l s.durable) (sym is) stands.0) stands.1
-            (changes_add_up s.durable []) (subst (λ (deeds : List Deed). HasEntries deeds) nothing (run_entries s bytes))
+            (changes_add_up s.durable []) (subst (λ (deeds : List Deed). HasEntries s.durable.number deeds) nothing (run_entries s bytes))
             (λ t. subst (λ (p : List ℕ). Begins p x line) (sym (append-nil printed)) (text t)));
         seal_stays = same_outside image i is;
       }

@@ -5,7 +5,7 @@ ghost use Rattle.totaliser_store.specs.States.{entries_of};
 ghost use Rattle.totaliser_store.specs.Stored.{HasState};
 ghost use Rattle.totaliser_store.specs.Sums.{AddsUp, Follows};
 ghost use Rattle.totaliser_store.specs.declared.durable.Durable.{Durable};
-ghost use Rattle.meter_run.specs.Points.{HasEntryOf};
+ghost use Rattle.meter_run.specs.Points.{HasEntryOf, IsNumberedWithin};
 ghost use Rattle.commands.specs.Chain.{HasByteOf, IsChain, last_image, last_state, prefixes_of};
 ghost use Rattle.commands.specs.Link.{Link, prefix_of};
 
@@ -21,10 +21,15 @@ pub fn chains_add_up()
 {}
 
 /// In any chain each receipt of which a byte stands in the text that a run left has its entry in the prefix
-/// of that run.
+/// of that run, and a number above the one that the run began with, and no greater than the one that it left:
+/// so no two runs of a chain give one number to two receipts.
 pub fn receipts_are_in_their_prefix()
-    ensures { (durable : Durable) (image : List ℕ) (runs : List Link) (link : Link) (others : List Link)
+    ensures entry { (durable : Durable) (image : List ℕ) (runs : List Link) (link : Link) (others : List Link)
         → HasState image durable → IsChain durable image (runs ++ link ∷ others) → (receipt : receipts.Receipt)
         → HasByteOf (last_image image runs) link receipt
         → HasEntryOf receipt (entries_of (prefix_of (last_state durable runs) (last_image image runs) link)) }
+    ensures number { (durable : Durable) (image : List ℕ) (runs : List Link) (link : Link) (others : List Link)
+        → HasState image durable → IsChain durable image (runs ++ link ∷ others) → (receipt : receipts.Receipt)
+        → HasByteOf (last_image image runs) link receipt
+        → IsNumberedWithin (last_state durable runs).number link.number receipt }
 {}

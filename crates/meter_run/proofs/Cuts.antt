@@ -1,5 +1,5 @@
 -- What a point of a list of deeds says of an image that a cut leaves.
-use Rattle.std.proofs.Common.{◌≡◌, inl, inr, ⊎_elim, ℕ, ◌≤◌, List, [], ◌∷◌, ◌++◌, length, Option, Some, None, refl, sym, ap, subst, ◌∙◌, append_assoc, arith, length-append}
+use Rattle.std.proofs.Common.{◌≡◌, inl, inr, ⊎_elim, ℕ, ◌+◌, ◌≤◌, List, [], ◌∷◌, ◌++◌, length, Option, Some, None, refl, sym, ap, subst, ◌∙◌, append_assoc, arith, length-append}
 use Rattle.std.specs.Prelude.{◌⊎◌}
 use Rattle.std.proofs.lemmas.List.{append-nil}
 use Rattle.outside.specs.Printing.{Begins}
@@ -14,6 +14,7 @@ use Rattle.totaliser_store.specs.Reading.{reads}
 use Rattle.totaliser_store.specs.States.{after, after_all}
 use Rattle.totaliser_store.specs.Stored.{number_of}
 use Rattle.totaliser_store.specs.Sums.{Follows}
+use Rattle.totaliser_store.specs.declared.change.Change.{Change}
 use Rattle.totaliser_store.specs.declared.change.Change.TheVariants as changes
 use Rattle.totaliser_store.specs.declared.durable.Durable.{Durable}
 use Rattle.totaliser_store.specs.declared.entry.Entry.{Entry}
@@ -51,7 +52,7 @@ nothing_in [] later x is = absurd cc
 nothing_in (y ∷ earlier) later x is = absurd cc
 
 -- a beginning that isn't longer is a beginning of the beginning
-begins_in : (xs ys zs ws : List Deed) → xs ++ ys ≡ zs ++ ws → length zs ≤ length xs → (more : List Deed) × (xs ≡ zs ++ more)
+pub begins_in : (xs ys zs ws : List Deed) → xs ++ ys ≡ zs ++ ws → length zs ≤ length xs → (more : List Deed) × (xs ≡ zs ++ more)
 begins_in xs ys [] ws is le = (xs, refl)
 begins_in [] ys (z ∷ zs) ws is le = absurd (omega arith)
 begins_in (x ∷ xs) ys (z ∷ zs) ws is le =
@@ -69,49 +70,81 @@ waits Expired entry e is = cc
 same_receipt : (x r : receipts.Receipt) (acts : List Act) (later : List Deed) → Does (Receipt x) ∷ deeds_of acts ≡ Does (Receipt r) ∷ later → x ≡ r
 same_receipt x r acts later is = cc
 
-ends_later : (y : Deed) (deeds : List Deed) (r : receipts.Receipt) → EndsInEntryOf r deeds → EndsInEntryOf r (y ∷ deeds)
-ends_later y deeds r h = record { before = y ∷ h.before; entry = h.entry; last = ap (λ (l : List Deed). y ∷ l) h.last; is = h.is }
+-- a number and the commits of deeds, and of those behind one deed more
+abbrev Counts : (n m : ℕ) → (y : Deed) → List Deed → Type 0
+Counts n m y deeds = m + length (changes_of deeds) ≡ n + length (changes_of (y ∷ deeds))
+
+counts_of : (n : ℕ) (x y : Deed) (deeds : List Deed) → x ≡ y → n + length (changes_of (x ∷ deeds)) ≡ n + length (changes_of (y ∷ deeds))
+counts_of n x y deeds is = ap (λ (z : Deed). n + length (changes_of (z ∷ deeds))) is
+
+one_more : (n : ℕ) (change : Change) (changes : List Change) → n + 1 + length changes ≡ n + length (change ∷ changes)
+one_more n change changes = omega arith
+
+alone : (n : ℕ) (change : Change) → n + 1 ≡ n + length (change ∷ [])
+alone n change = omega arith
+
+ends_later : (n m : ℕ) (y : Deed) (deeds : List Deed) (r : receipts.Receipt) → Counts n m y deeds → EndsInEntryOf m r deeds → EndsInEntryOf n r (y ∷ deeds)
+ends_later n m y deeds r count h = record {
+  before = y ∷ h.before;
+  entry = h.entry;
+  last = ap (λ (l : List Deed). y ∷ l) h.last;
+  is = h.is;
+  numbered = h.numbered ∙ count;
+}
 
 -- the receipt is that of the entry that waits, or the entry is the last of the deeds before it
-abbrev Behind : Option Entry → List Deed → receipts.Receipt → Type 0
-Behind waiting earlier r = ((earlier ≡ []) × ((e : Entry) × ((waiting ≡ Some e) × IsReceiptOf e r))) ⊎ EndsInEntryOf r earlier
+abbrev Behind : ℕ → Option Entry → List Deed → receipts.Receipt → Type 0
+Behind n waiting earlier r = ((earlier ≡ []) × ((e : Entry) × ((waiting ≡ Some e) × (IsReceiptOf e r × (r.number ≡ n))))) ⊎ EndsInEntryOf n r earlier
 
-under : (y : Deed) (earlier : List Deed) (r : receipts.Receipt) → Behind None earlier r → EndsInEntryOf r (y ∷ earlier)
-under y earlier r (inl first) = absurd (let bad = first.1.1.0 in cc)
-under y earlier r (inr ends) = ends_later y earlier r ends
+under : (n m : ℕ) (y : Deed) (earlier : List Deed) (r : receipts.Receipt) → Counts n m y earlier → Behind m None earlier r → EndsInEntryOf n r (y ∷ earlier)
+under n m y earlier r count (inl first) = absurd (let bad = first.1.1.0 in cc)
+under n m y earlier r count (inr ends) = ends_later n m y earlier r count ends
 
-behind_entry : (entry : Entry) (y : Deed) (earlier : List Deed) (r : receipts.Receipt) → y ≡ Does (Enter entry) → Behind (waiting_after entry.kind entry) earlier r → EndsInEntryOf r (y ∷ earlier)
-behind_entry entry y earlier r is (inl first) = record {
+behind_entry : (n : ℕ) (entry : Entry) (y : Deed) (earlier : List Deed) (r : receipts.Receipt) → Does (Enter entry) ≡ y → Behind (n + 1) (waiting_after entry.kind entry) earlier r → EndsInEntryOf n r (y ∷ earlier)
+behind_entry n entry y earlier r is (inl first) = record {
   before = [];
   entry = entry;
-  last = ap (λ (l : List Deed). y ∷ l) first.0 ∙ ap (λ (z : Deed). z ∷ []) is;
-  is = subst (λ (e : Entry). IsReceiptOf e r) (sym (waits entry.kind entry first.1.0 first.1.1.0)) first.1.1.1;
+  last = ap (λ (l : List Deed). y ∷ l) first.0 ∙ ap (λ (z : Deed). z ∷ []) (sym is);
+  is = subst (λ (e : Entry). IsReceiptOf e r) (sym (waits entry.kind entry first.1.0 first.1.1.0)) first.1.1.1.0;
+  numbered = first.1.1.1.1 ∙ alone n (changes.Enter entry) ∙ counts_of n (Does (Enter entry)) y [] is ∙ ap (λ (l : List Deed). n + length (changes_of (y ∷ l))) (sym first.0);
 }
-behind_entry entry y earlier r is (inr ends) = ends_later y earlier r ends
+behind_entry n entry y earlier r is (inr ends) =
+    ends_later n (n + 1) y earlier r (one_more n (changes.Enter entry) (changes_of earlier) ∙ counts_of n (Does (Enter entry)) y earlier is) ends
 
-behind : (waiting : Option Entry) (acts : List Act) → ArePaired waiting acts → (earlier later : List Deed) (r : receipts.Receipt) → deeds_of acts ≡ earlier ++ Does (Receipt r) ∷ later → Behind waiting earlier r
-behind waiting [] h earlier later r is = absurd (nothing_in earlier later (Does (Receipt r)) is)
-behind None (Show display ∷ acts) h [] later r is = absurd cc
-behind None (Show display ∷ acts) h (y ∷ earlier) later r is = inr (under y earlier r (behind None acts h earlier later r (tails (Does (Show display)) y (deeds_of acts) (earlier ++ Does (Receipt r) ∷ later) is)))
-behind None (Refuse why ∷ acts) h [] later r is = absurd cc
-behind None (Refuse why ∷ acts) h (y ∷ earlier) later r is = inr (under y earlier r (behind None acts h earlier later r (tails (Does (Refuse why)) y (deeds_of acts) (earlier ++ Does (Receipt r) ∷ later) is)))
-behind None (Enter entry ∷ acts) h [] later r is = absurd cc
-behind None (Enter entry ∷ acts) h (y ∷ earlier) later r is = inr (behind_entry entry y earlier r (sym (heads (Does (Enter entry)) y (deeds_of acts) (earlier ++ Does (Receipt r) ∷ later) is))
-    (behind (waiting_after entry.kind entry) acts h earlier later r (tails (Does (Enter entry)) y (deeds_of acts) (earlier ++ Does (Receipt r) ∷ later) is)))
-behind None (Hold trip ∷ acts) h [] later r is = absurd cc
-behind None (Hold trip ∷ acts) h (y ∷ earlier) later r is = inr (under y earlier r (behind None acts h earlier later r (tails (Does (Hold trip)) y (deeds_of acts) (earlier ++ Does (Receipt r) ∷ later) is)))
-behind None (Receipt x ∷ acts) h earlier later r is = absurd h
-behind (Some e) (Show display ∷ acts) h earlier later r is = absurd h
-behind (Some e) (Refuse why ∷ acts) h earlier later r is = absurd h
-behind (Some e) (Enter entry ∷ acts) h earlier later r is = absurd h
-behind (Some e) (Hold trip ∷ acts) h earlier later r is = absurd h
-behind (Some e) (Receipt x ∷ acts) h [] later r is = inl (refl, (e, (refl, subst (IsReceiptOf e) (same_receipt x r acts later is) h.0)))
-behind (Some e) (Receipt x ∷ acts) h (y ∷ earlier) later r is = inr (under y earlier r (behind None acts h.1 earlier later r (tails (Does (Receipt x)) y (deeds_of acts) (earlier ++ Does (Receipt r) ∷ later) is)))
+behind : (n : ℕ) (waiting : Option Entry) (acts : List Act) → ArePaired n waiting acts → (earlier later : List Deed) (r : receipts.Receipt) → deeds_of acts ≡ earlier ++ Does (Receipt r) ∷ later → Behind n waiting earlier r
+behind n waiting [] h earlier later r is = absurd (nothing_in earlier later (Does (Receipt r)) is)
+behind n None (Show display ∷ acts) h [] later r is = absurd cc
+behind n None (Show display ∷ acts) h (y ∷ earlier) later r is =
+    let first = heads (Does (Show display)) y (deeds_of acts) (earlier ++ Does (Receipt r) ∷ later) is in
+    inr (under n n y earlier r (counts_of n (Does (Show display)) y earlier first) (behind n None acts h earlier later r (tails (Does (Show display)) y (deeds_of acts) (earlier ++ Does (Receipt r) ∷ later) is)))
+behind n None (Refuse why ∷ acts) h [] later r is = absurd cc
+behind n None (Refuse why ∷ acts) h (y ∷ earlier) later r is =
+    let first = heads (Does (Refuse why)) y (deeds_of acts) (earlier ++ Does (Receipt r) ∷ later) is in
+    inr (under n n y earlier r (counts_of n (Does (Refuse why)) y earlier first) (behind n None acts h earlier later r (tails (Does (Refuse why)) y (deeds_of acts) (earlier ++ Does (Receipt r) ∷ later) is)))
+behind n None (Enter entry ∷ acts) h [] later r is = absurd cc
+behind n None (Enter entry ∷ acts) h (y ∷ earlier) later r is = inr (behind_entry n entry y earlier r (heads (Does (Enter entry)) y (deeds_of acts) (earlier ++ Does (Receipt r) ∷ later) is)
+    (behind (n + 1) (waiting_after entry.kind entry) acts h earlier later r (tails (Does (Enter entry)) y (deeds_of acts) (earlier ++ Does (Receipt r) ∷ later) is)))
+behind n None (Hold trip ∷ acts) h [] later r is = absurd cc
+behind n None (Hold trip ∷ acts) h (y ∷ earlier) later r is =
+    let first = heads (Does (Hold trip)) y (deeds_of acts) (earlier ++ Does (Receipt r) ∷ later) is in
+    inr (under n (n + 1) y earlier r (one_more n (changes.Hold trip) (changes_of earlier) ∙ counts_of n (Does (Hold trip)) y earlier first)
+    (behind (n + 1) None acts h earlier later r (tails (Does (Hold trip)) y (deeds_of acts) (earlier ++ Does (Receipt r) ∷ later) is)))
+behind n None (Receipt x ∷ acts) h earlier later r is = absurd h
+behind n (Some e) (Show display ∷ acts) h earlier later r is = absurd h
+behind n (Some e) (Refuse why ∷ acts) h earlier later r is = absurd h
+behind n (Some e) (Enter entry ∷ acts) h earlier later r is = absurd h
+behind n (Some e) (Hold trip ∷ acts) h earlier later r is = absurd h
+behind n (Some e) (Receipt x ∷ acts) h [] later r is =
+    let same = same_receipt x r acts later is in
+    inl (refl, (e, (refl, (subst (IsReceiptOf e) same h.0.0, sym (ap (λ (z : receipts.Receipt). z.number) same) ∙ h.0.1))))
+behind n (Some e) (Receipt x ∷ acts) h (y ∷ earlier) later r is =
+    let first = heads (Does (Receipt x)) y (deeds_of acts) (earlier ++ Does (Receipt r) ∷ later) is in
+    inr (under n n y earlier r (counts_of n (Does (Receipt x)) y earlier first) (behind n None acts h.1 earlier later r (tails (Does (Receipt x)) y (deeds_of acts) (earlier ++ Does (Receipt r) ∷ later) is)))
 
-pub acts_have_entries : (acts : List Act) → ArePaired None acts → HasEntries (deeds_of acts)
-acts_have_entries acts h earlier later r is = by (behind None acts h earlier later r is)
+pub acts_have_entries : (n : ℕ) (acts : List Act) → ArePaired n None acts → HasEntries n (deeds_of acts)
+acts_have_entries n acts h earlier later r is = by (behind n None acts h earlier later r is)
   where
-    by : Behind None earlier r → EndsInEntryOf r earlier
+    by : Behind n None earlier r → EndsInEntryOf n r earlier
     by (inl first) = absurd (let bad = first.1.1.0 in cc)
     by (inr ends) = ends
 
@@ -125,20 +158,20 @@ not_the_line (x ∷ deeds) (y ∷ earlier) later r line is =
     let rest = not_the_line deeds earlier later r line (tails x y (deeds ++ Prints line ∷ []) (earlier ++ Does (Receipt r) ∷ later) is) in
     (rest.0, ap (λ (l : List Deed). x ∷ l) rest.1 ∙ ap (λ (z : Deed). z ∷ earlier ++ Does (Receipt r) ∷ rest.0) (heads x y (deeds ++ Prints line ∷ []) (earlier ++ Does (Receipt r) ∷ later) is))
 
-pub line_has_entries : (deeds : List Deed) (line : List ℕ) → HasEntries deeds → HasEntries (deeds ++ Prints line ∷ [])
-line_has_entries deeds line h earlier later r is =
+pub line_has_entries : (n : ℕ) (deeds : List Deed) (line : List ℕ) → HasEntries n deeds → HasEntries n (deeds ++ Prints line ∷ [])
+line_has_entries n deeds line h earlier later r is =
     let rest = not_the_line deeds earlier later r line is in
     h earlier rest.0 r rest.1
 
 -- the entry of a receipt that was begun is among what the image has
-entered_in : (deeds done next left kept : List Deed) → HasEntries deeds → deeds ≡ done ++ (next ++ left) → length next ≤ 1 → (kept ≡ done) ⊎ (kept ≡ done ++ next)
-    → (earlier later : List Deed) (r : receipts.Receipt) → done ++ next ≡ earlier ++ Does (Receipt r) ∷ later → IsEntered kept earlier r
-entered_in deeds done next left kept h split one kept_is earlier later r is =
+entered_in : (n : ℕ) (deeds done next left kept : List Deed) → HasEntries n deeds → deeds ≡ done ++ (next ++ left) → length next ≤ 1 → (kept ≡ done) ⊎ (kept ≡ done ++ next)
+    → (earlier later : List Deed) (r : receipts.Receipt) → done ++ next ≡ earlier ++ Does (Receipt r) ∷ later → IsEntered n kept earlier r
+entered_in n deeds done next left kept h split one kept_is earlier later r is =
     let entry = h earlier (later ++ left) r (split ∙ sym (append_assoc done next left) ∙ ap (λ (l : List Deed). l ++ left) is ∙ append_assoc earlier (Does (Receipt r) ∷ later) left) in
     let within = begins_in done next earlier (Does (Receipt r) ∷ later) is (omega (arith, one, ap length is, length-append done next, length-append earlier (Does (Receipt r) ∷ later))) in
     by entry within kept_is
   where
-    by : EndsInEntryOf r earlier → (more : List Deed) × (done ≡ earlier ++ more) → (kept ≡ done) ⊎ (kept ≡ done ++ next) → IsEntered kept earlier r
+    by : EndsInEntryOf n r earlier → (more : List Deed) × (done ≡ earlier ++ more) → (kept ≡ done) ⊎ (kept ≡ done ++ next) → IsEntered n kept earlier r
     by entry within (inl same) = record { entry = entry; more = within.0; has = same ∙ within.1 }
     by entry within (inr same) = record { entry = entry; more = Does (Receipt r) ∷ later; has = same ∙ is }
 
@@ -203,7 +236,7 @@ module _ (tables : TableParts) (seal : Seal) (told : Type 0) where
       }
 
   -- for readers
-  pub cut_of : (d : Durable) (p : List ℕ) (deeds : List Deed) (i x : List ℕ) → HasEntries deeds → AtPoint tables seal told d p deeds i x → IsCut tables seal told d p deeds i x
+  pub cut_of : (d : Durable) (p : List ℕ) (deeds : List Deed) (i x : List ℕ) → HasEntries d.number deeds → AtPoint tables seal told d p deeds i x → IsCut tables seal told d p deeds i x
   cut_of d p deeds i x entries at =
       let r = reaches d p deeds i x at in
       record {
@@ -220,7 +253,7 @@ module _ (tables : TableParts) (seal : Seal) (told : Type 0) where
         scanned = body_found reads number_of 0 i (after_deeds d r.kept) r.holds.has;
         fits = r.holds.fits;
         follows = deeds_follow d r.kept;
-        receipts = entered_in deeds r.done r.next r.left r.kept entries r.split r.one r.kept_is;
+        receipts = entered_in d.number deeds r.done r.next r.left r.kept entries r.split r.one r.kept_is;
       }
 
   -- with more deeds behind it
@@ -243,7 +276,7 @@ module _ (tables : TableParts) (seal : Seal) (told : Type 0) where
   }
 
   -- amid a line behind all of them
-  pub cut_in_line : (d : Durable) (p : List ℕ) (deeds : List Deed) (line : List ℕ) (i x : List ℕ) → HasEntries deeds → Holds tables i (after_deeds d deeds) → (told → Begins (p ++ texts seal deeds) x line)
+  pub cut_in_line : (d : Durable) (p : List ℕ) (deeds : List Deed) (line : List ℕ) (i x : List ℕ) → HasEntries d.number deeds → Holds tables i (after_deeds d deeds) → (told → Begins (p ++ texts seal deeds) x line)
       → IsCut tables seal told d p (deeds ++ Prints line ∷ []) i x
   cut_in_line d p deeds line i x entries holds begun = record {
     done = deeds;
@@ -259,5 +292,5 @@ module _ (tables : TableParts) (seal : Seal) (told : Type 0) where
     scanned = body_found reads number_of 0 i (after_deeds d deeds) holds.has;
     fits = holds.fits;
     follows = deeds_follow d deeds;
-    receipts = entered_in (deeds ++ Prints line ∷ []) deeds (Prints line ∷ []) [] deeds (line_has_entries deeds line entries) refl (omega arith) (inl refl);
+    receipts = entered_in d.number (deeds ++ Prints line ∷ []) deeds (Prints line ∷ []) [] deeds (line_has_entries d.number deeds line entries) refl (omega arith) (inl refl);
   }

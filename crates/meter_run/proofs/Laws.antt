@@ -1,5 +1,5 @@
 -- The laws of the public empty functions.
-use Rattle.std.proofs.Common.{◌≡◌, ℕ, ◌+◌, ◌≤◌, List, [], ◌∷◌, ◌++◌, length}
+use Rattle.std.proofs.Common.{◌≡◌, ℕ, ◌+◌, ◌<◌, ◌≤◌, List, [], ◌∷◌, ◌++◌, length}
 use Rattle.std.specs.Prelude.{get_or}
 use Rattle.outside.specs.Disk.{MayLeaveAmid}
 use Rattle.outside.specs.Printing.{Begins}
@@ -21,11 +21,11 @@ use Rattle.drive_text.specs.Ending.{events_of}
 use Rattle.meter_run.specs.Deeds.{Deed, Does, Prints, changes_of}
 use Rattle.meter_run.specs.OnStore.{HasBeside, WritesTotals}
 pub use Rattle.meter_run.specs.PointLaws.{left_has, settled_has, texts_joined}
-use Rattle.meter_run.specs.Points.{HasEntries, HasEntryOf, IsCut}
+use Rattle.meter_run.specs.Points.{HasEntries, HasEntryOf, IsCut, IsNumberedWithin}
 use Rattle.meter_run.specs.Runs.{HasDone, HasStopped, OpensWith, run_deeds}
 use Rattle.meter_run.proofs.Cuts.{acts_have_entries, line_has_entries}
 use Rattle.meter_run.proofs.LastLines.{line_begun, line_whole}
-use Rattle.meter_run.proofs.Leavings.{beside_bytes, kept_begins, next_opens, receipt_entered, seal_kept, seal_left}
+use Rattle.meter_run.proofs.Leavings.{beside_bytes, kept_begins, next_opens, numbers_rise, receipt_entered, receipt_numbered, seal_kept, seal_left}
 
 module _ (tables : TableParts) (seal : Seal) (told : Type 0) (opening : Durable) (printed : List ℕ) (deeds : List Deed) (image text : List ℕ) (cut : IsCut tables seal told opening printed deeds image text) where
   pub the_number_tells_the_commits-beginning : (more : List Deed) × (deeds ≡ cut.kept ++ more)
@@ -43,14 +43,21 @@ module _ (tables : TableParts) (seal : Seal) (told : Type 0) (opening : Durable)
   pub receipts_have_their_entries-cut : (earlier later : List Deed) (receipt : receipts.Receipt) → cut.done ++ cut.next ≡ earlier ++ Does (Receipt receipt) ∷ later → HasEntryOf receipt (entries_of (changes_of cut.kept))
   receipts_have_their_entries-cut = receipt_entered tables seal told opening printed deeds image text cut
 
+  pub receipts_are_numbered_in_order-cut : (earlier later : List Deed) (receipt : receipts.Receipt) → cut.done ++ cut.next ≡ earlier ++ Does (Receipt receipt) ∷ later → IsNumberedWithin opening.number cut.found.number receipt
+  receipts_are_numbered_in_order-cut = receipt_numbered tables seal told opening printed deeds image text cut
+
   pub cuts_open_the_next_run : {D L : Type 0} (B : Ghosts D L) (board : D) → B.image board ≡ image → IsSettled B board → OpensWith B tables board cut.found
   cuts_open_the_next_run B board is settled = next_opens tables seal told opening printed deeds image text cut B board is settled
 
-pub receipts_have_their_entries-run : (s : Setting) (opening : Durable) (drive : List ℕ) → HasEntries (run_deeds s opening drive)
-receipts_have_their_entries-run s opening drive = acts_have_entries (actions_of s opening (events_of drive)) (receipts_follow_their_entries-run s opening (events_of drive))
+pub receipts_have_their_entries-run : (s : Setting) (opening : Durable) (drive : List ℕ) → HasEntries opening.number (run_deeds s opening drive)
+receipts_have_their_entries-run s opening drive = acts_have_entries opening.number (actions_of s opening (events_of drive)) (receipts_follow_their_entries-run s opening (events_of drive))
+
+pub receipts_are_numbered_in_order-rise : (number : ℕ) (earlier between later : List Deed) (first next : receipts.Receipt)
+    → HasEntries number (earlier ++ Does (Receipt first) ∷ (between ++ Does (Receipt next) ∷ later)) → first.number < next.number
+receipts_are_numbered_in_order-rise = numbers_rise
 
 -- and with a line behind them
-pub receipts_have_their_entries-line : (deeds : List Deed) (line : List ℕ) → HasEntries deeds → HasEntries (deeds ++ Prints line ∷ [])
+pub receipts_have_their_entries-line : (number : ℕ) (deeds : List Deed) (line : List ℕ) → HasEntries number deeds → HasEntries number (deeds ++ Prints line ∷ [])
 receipts_have_their_entries-line = line_has_entries
 
 module _ {D L : Type 0} (B : Ghosts D L) where
@@ -63,12 +70,12 @@ module _ {D L : Type 0} (B : Ghosts D L) where
   pub runs_leave_the_seals-kept : (old new : D) (place : Place) (seal : Seal) → WritesTotals B old new → KeepsSeal B place old seal → KeepsSeal B place new seal
   runs_leave_the_seals-kept = seal_kept B
 
-  pub lines_follow_a_run-whole : (tables : TableParts) (seal : Seal) (old mid new : D) (opening : Durable) (deeds : List Deed) (line : List ℕ) → HasEntries deeds → HasDone B tables seal old mid opening deeds
+  pub lines_follow_a_run-whole : (tables : TableParts) (seal : Seal) (old mid new : D) (opening : Durable) (deeds : List Deed) (line : List ℕ) → HasEntries opening.number deeds → HasDone B tables seal old mid opening deeds
       → WritesTotals B old mid → KeepsStore B mid new → LeavesOnly B mid new (MayLeaveAmid (B.image mid) (B.in_flight mid) (B.printed mid) line)
       → (B.tells_text → B.printed new ≡ B.printed mid ++ line) → HasDone B tables seal old new opening (deeds ++ Prints line ∷ [])
   lines_follow_a_run-whole = line_whole B
 
-  pub lines_follow_a_run-begun : (tables : TableParts) (seal : Seal) (old mid new : D) (opening : Durable) (deeds : List Deed) (line : List ℕ) → HasEntries deeds → HasDone B tables seal old mid opening deeds
+  pub lines_follow_a_run-begun : (tables : TableParts) (seal : Seal) (old mid new : D) (opening : Durable) (deeds : List Deed) (line : List ℕ) → HasEntries opening.number deeds → HasDone B tables seal old mid opening deeds
       → WritesTotals B old mid → KeepsStore B mid new → LeavesOnly B mid new (MayLeaveAmid (B.image mid) (B.in_flight mid) (B.printed mid) line)
       → (B.tells_text → Begins (B.printed mid) (B.printed new) line) → HasStopped B tables seal old new opening (deeds ++ Prints line ∷ [])
   lines_follow_a_run-begun = line_begun B

@@ -1,5 +1,5 @@
 -- What an image that a cut left has.
-use Rattle.std.proofs.Common.{◌≡◌, ◌⊎◌, inl, inr, ⊎_elim, ℕ, ◌≤◌, List, [], ◌∷◌, ◌++◌, refl, sym, ap, subst, ◌∙◌, append_assoc, arith}
+use Rattle.std.proofs.Common.{◌≡◌, ◌⊎◌, inl, inr, ⊎_elim, ℕ, ◌+◌, ◌<◌, ◌≤◌, List, [], ◌∷◌, ◌++◌, length, refl, sym, ap, subst, ◌∙◌, append_assoc, arith, length-append}
 use Rattle.std.specs.Prelude.{get_or, Contains}
 use Rattle.std.proofs.lemmas.List.Elements.{Contains-append_left, Contains-push}
 use Rattle.outside.specs.Runs.{IsSettled}
@@ -22,8 +22,9 @@ use Rattle.totaliser_store.specs.declared.entry.Entry.{Entry}
 use Rattle.meter_states.specs.declared.act.Act.TheVariants.{Enter, Receipt}
 use Rattle.meter_run.specs.Deeds.{Deed, Does, changes_in, changes_of}
 use Rattle.meter_run.specs.OnStore.{HasBeside, WritesTotals}
-use Rattle.meter_run.specs.Points.{HasEntryOf, IsCut, IsEntered}
+use Rattle.meter_run.specs.Points.{HasEntries, HasEntryOf, IsCut, IsEntered, IsNumberedWithin}
 use Rattle.meter_run.specs.Runs.{OpensWith}
+use Rattle.meter_run.proofs.Cuts.{begins_in}
 
 -- ---- what deeds commit
 
@@ -39,8 +40,8 @@ entries_joined (changes.Hold trip ∷ xs) ys = entries_joined xs ys
 entries_of_joined : (xs ys : List Deed) → entries_of (changes_of (xs ++ ys)) ≡ entries_of (changes_of xs) ++ entries_of (changes_of ys)
 entries_of_joined xs ys = ap entries_of (changes_joined xs ys) ∙ entries_joined (changes_of xs) (changes_of ys)
 
-entered_among : (kept earlier : List Deed) (receipt : receipts.Receipt) → IsEntered kept earlier receipt → HasEntryOf receipt (entries_of (changes_of kept))
-entered_among kept earlier receipt h =
+entered_among : (number : ℕ) (kept earlier : List Deed) (receipt : receipts.Receipt) → IsEntered number kept earlier receipt → HasEntryOf receipt (entries_of (changes_of kept))
+entered_among number kept earlier receipt h =
     let entry = h.entry.entry in
     let before = h.entry.before in
     let here : Contains (entries_of (changes_of (before ++ Does (Enter entry) ∷ []))) entry = subst (λ (l : List Entry). Contains l entry) (sym (entries_of_joined before (Does (Enter entry) ∷ [])))
@@ -53,6 +54,29 @@ entered_among kept earlier receipt h =
       is = h.entry.is;
     }
 
+-- the number of a receipt
+changes_before : (before : List Deed) (entry : Entry) → length (changes_of (before ++ Does (Enter entry) ∷ [])) ≡ length (changes_of before) + 1
+changes_before before entry = ap length (changes_joined before (Does (Enter entry) ∷ [])) ∙ length-append (changes_of before) (changes.Enter entry ∷ [])
+
+more_changes : (before earlier more : List Deed) → before ≡ earlier ++ more → length (changes_of earlier) ≤ length (changes_of before)
+more_changes before earlier more is =
+    omega (arith, ap (λ (l : List Deed). length (changes_of l)) is, ap length (changes_joined earlier more), length-append (changes_of earlier) (changes_of more))
+
+pub numbers_rise : (number : ℕ) (earlier between later : List Deed) (first next : receipts.Receipt)
+    → HasEntries number (earlier ++ Does (Receipt first) ∷ (between ++ Does (Receipt next) ∷ later)) → first.number < next.number
+numbers_rise number earlier between later first next entries =
+    let one = entries earlier (between ++ Does (Receipt next) ∷ later) first refl in
+    let two = entries (earlier ++ Does (Receipt first) ∷ between) later next (sym (append_assoc earlier (Does (Receipt first) ∷ between) (Does (Receipt next) ∷ later))) in
+    let within = begins_in two.before (Does (Enter two.entry) ∷ []) earlier (Does (Receipt first) ∷ between) (sym two.last)
+    (omega (arith, ap length two.last, length-append earlier (Does (Receipt first) ∷ between), length-append two.before (Does (Enter two.entry) ∷ []))) in
+    omega (arith, one.numbered, two.numbered, ap (λ (l : List Deed). length (changes_of l)) two.last, changes_before two.before two.entry, more_changes two.before earlier within.0 within.1)
+
+numbered_within : (number most : ℕ) (kept earlier : List Deed) (receipt : receipts.Receipt) → most ≡ number + length (changes_of kept) → IsEntered number kept earlier receipt
+    → IsNumberedWithin number most receipt
+numbered_within number most kept earlier receipt found h =
+    let above : number < receipt.number = omega (arith, h.entry.numbered, ap (λ (l : List Deed). length (changes_of l)) h.entry.last, changes_before h.entry.before h.entry.entry) in
+    (above, omega (arith, h.entry.numbered, found, more_changes kept earlier h.more h.has))
+
 module _ (tables : TableParts) (seal : Seal) (told : Type 0) (d : Durable) (p : List ℕ) (deeds : List Deed) (i x : List ℕ) (cut : IsCut tables seal told d p deeds i x) where
   pub kept_begins : (more : List Deed) × (deeds ≡ cut.kept ++ more)
   kept_begins = by cut.kept_is
@@ -62,7 +86,10 @@ module _ (tables : TableParts) (seal : Seal) (told : Type 0) (d : Durable) (p : 
       by (inr same) = (cut.left, cut.split ∙ sym (append_assoc cut.done cut.next cut.left) ∙ ap (λ (l : List Deed). l ++ cut.left) (sym same))
 
   pub receipt_entered : (earlier later : List Deed) (receipt : receipts.Receipt) → cut.done ++ cut.next ≡ earlier ++ Does (Receipt receipt) ∷ later → HasEntryOf receipt (entries_of (changes_of cut.kept))
-  receipt_entered earlier later receipt is = entered_among cut.kept earlier receipt (cut.receipts earlier later receipt is)
+  receipt_entered earlier later receipt is = entered_among d.number cut.kept earlier receipt (cut.receipts earlier later receipt is)
+
+  pub receipt_numbered : (earlier later : List Deed) (receipt : receipts.Receipt) → cut.done ++ cut.next ≡ earlier ++ Does (Receipt receipt) ∷ later → IsNumberedWithin d.number cut.found.number receipt
+  receipt_numbered earlier later receipt is = numbered_within d.number cut.found.number cut.kept earlier receipt cut.follows.number (cut.receipts earlier later receipt is)
 
   -- the next run may open with it
   pub next_opens : {D L : Type 0} (B : Ghosts D L) (board : D) → B.image board ≡ i → IsSettled B board → OpensWith B tables board cut.found

@@ -147,7 +147,7 @@ module _ {D L : Type 0} (B : Ghosts D L) (tables : TableParts) (seal : Seal) whe
   cuts_of : (a c : D) (s : Setting) (d : Durable) (events : List Event) → KeepsTo B tables seal a c d (all_deeds s d events) → WritesTotals B a c → CutsLeave B tables seal a c d (all_deeds s d events)
   cuts_of a c s d events h beside = leaves_both B a c (IsCut tables seal B.tells_text d (B.printed a) (all_deeds s d events)) (λ i x. HasBeside B a i)
       (leaves_wider B (AtPoint tables seal B.tells_text d (B.printed a) (all_deeds s d events)) (IsCut tables seal B.tells_text d (B.printed a) (all_deeds s d events)) a c
-      (λ i x at. cut_of tables seal B.tells_text d (B.printed a) (all_deeds s d events) i x (acts_have_entries (actions_of s d events) (receipts_follow_their_entries-run s d events)) at) h.leaves) beside.leaves
+      (λ i x at. cut_of tables seal B.tells_text d (B.printed a) (all_deeds s d events) i x (acts_have_entries d.number (actions_of s d events) (receipts_follow_their_entries-run s d events)) at) h.leaves) beside.leaves
 
   module _ (x : StoreMeter) (a : D) (off : x.core.plain.operating ≡ Off) (unknown : x.known ≡ None) (events : List Event) where
     -- the board failed amid the events
@@ -170,7 +170,7 @@ module _ {D L : Type 0} (B : Ghosts D L) (tables : TableParts) (seal : Seal) whe
     stopped_of : (c : D) → (B.tells_image → (s : Setting) (d : Durable) → IsSettingOf s tables seal → OpensWith B tables a d → KeepsTo B tables seal a c d (all_deeds s d events)) → (B.tells_image → WritesTotals B a c)
         → FromOpening B tables seal a c (λ s d. HasStopped B tables seal a c d (all_deeds s d events))
     stopped_of c points beside told s d is opens = let h = points told s d is opens in record {
-      stops = cut_of tables seal B.tells_text d (B.printed a) (all_deeds s d events) (B.image c) (B.printed c) (acts_have_entries (actions_of s d events) (receipts_follow_their_entries-run s d events)) h.stops;
+      stops = cut_of tables seal B.tells_text d (B.printed a) (all_deeds s d events) (B.image c) (B.printed c) (acts_have_entries d.number (actions_of s d events) (receipts_follow_their_entries-run s d events)) h.stops;
       cuts = cuts_of a c s d events h (beside told);
     }
 

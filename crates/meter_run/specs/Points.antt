@@ -1,5 +1,5 @@
 -- Rules: what a cut of the power may leave of a list of deeds, in the store and of the printed text.
-use Rattle.std.specs.Prelude.{◌≡◌, ◌⊎◌, ℕ, ◌≤◌, List, [], ◌∷◌, ◌++◌, length, Contains, Ok}
+use Rattle.std.specs.Prelude.{◌≡◌, ◌⊎◌, ℕ, ◌+◌, ◌<◌, ◌≤◌, List, [], ◌∷◌, ◌++◌, length, Contains, Ok}
 use Rattle.std.specs.Option.{ForSome}
 use Rattle.outside.specs.Printing.{Begins}
 use Rattle.seal_store.specs.declared.seal.Seal.{Seal}
@@ -24,18 +24,21 @@ pub use Rattle.meter_run.specs.DeedPoints.{Holds, IsAmid, AtPoint, KeepsTo}
 abbrev pub ScanAnswers : (image : List ℕ) → Durable → Type 0
 ScanAnswers image durable = (place : Place) × (found_at reads number_of 0 image ≡ Ok (Latest place durable))
 
--- deeds end in the entry of a receipt where their last deed is that entry
-pub record EndsInEntryOf (receipt : receipts.Receipt) (deeds : List Deed) : Type 0 where
+-- deeds that begin at a number of the store end in the entry of a receipt where their last deed is that entry, and the
+-- receipt has the number that the store has behind them: one more for each of their commits
+pub record EndsInEntryOf (number : ℕ) (receipt : receipts.Receipt) (deeds : List Deed) : Type 0 where
   pub before : List Deed
   pub entry : Entry
   pub last : deeds ≡ before ++ Does (Enter entry) ∷ []
   pub is : IsReceiptOf entry receipt
+  pub numbered : receipt.number ≡ number + length (changes_of deeds)
 
--- deeds have their entries where each receipt among them stands directly behind its entry
-abbrev pub HasEntries : List Deed → Type 0
-HasEntries deeds =
+-- deeds that begin at a number of the store have their entries where each receipt among them stands directly behind its
+-- entry, with the number that the store has then
+abbrev pub HasEntries : (number : ℕ) → List Deed → Type 0
+HasEntries number deeds =
     (earlier later : List Deed) (receipt : receipts.Receipt) → deeds ≡ earlier ++ Does (Receipt receipt) ∷ later
-    → EndsInEntryOf receipt earlier
+    → EndsInEntryOf number receipt earlier
 
 -- entries have that of a receipt where one of them is the receipt's
 pub record HasEntryOf (receipt : receipts.Receipt) (entries : List Entry) : Type 0 where
@@ -43,9 +46,13 @@ pub record HasEntryOf (receipt : receipts.Receipt) (entries : List Entry) : Type
   pub among : Contains entries entry
   pub is : IsReceiptOf entry receipt
 
+-- a receipt has a number within two numbers of the store where it is above the first and no greater than the second
+abbrev pub IsNumberedWithin : (above most : ℕ) → receipts.Receipt → Type 0
+IsNumberedWithin above most receipt = (above < receipt.number) × (receipt.number ≤ most)
+
 -- a receipt is entered where its entry, which stands directly before it, is among the deeds that the store has
-pub record IsEntered (kept earlier : List Deed) (receipt : receipts.Receipt) : Type 0 where
-  pub entry : EndsInEntryOf receipt earlier
+pub record IsEntered (number : ℕ) (kept earlier : List Deed) (receipt : receipts.Receipt) : Type 0 where
+  pub entry : EndsInEntryOf number receipt earlier
   pub more : List Deed
   pub has : kept ≡ earlier ++ more
 
@@ -72,6 +79,7 @@ pub record IsCut (tables : TableParts) (seal : Seal) (told : Type 0) (durable : 
   pub scanned : ScanAnswers image found
   pub fits : ForSome found.hold (Fits tables)
   pub follows : Follows durable found (changes_of kept)
-  -- of each receipt of which a byte may have been printed, the entry directly before it is among what the image has
+  -- of each receipt of which a byte may have been printed, the entry directly before it is among what the image has,
+  -- and the receipt has the number of the store behind that entry
   pub receipts : (earlier later : List Deed) (receipt : receipts.Receipt)
-      → done ++ next ≡ earlier ++ Does (Receipt receipt) ∷ later → IsEntered kept earlier receipt
+      → done ++ next ≡ earlier ++ Does (Receipt receipt) ∷ later → IsEntered durable.number kept earlier receipt

@@ -1,5 +1,5 @@
 //! What a run on the store and a cut of the power in it mean, in words that share nothing with how the code works.
-ghost use Rattle.std.specs.Prelude.{◌≡◌, ℕ, ◌+◌, ◌≤◌, List, [], ◌∷◌, ◌++◌, length, get_or};
+ghost use Rattle.std.specs.Prelude.{◌≡◌, ℕ, ◌+◌, ◌<◌, ◌≤◌, List, [], ◌∷◌, ◌++◌, length, get_or};
 ghost use Rattle.outside.specs.Disk.{MayLeaveAmid};
 ghost use Rattle.outside.specs.Printing.{Begins};
 ghost use Rattle.outside.specs.Runs.{IsSettled, KeepsStore, LeavesOnly};
@@ -15,7 +15,7 @@ ghost use Rattle.meter_states.specs.Setting.{Setting};
 ghost use Rattle.meter_states.specs.declared.act.Act.TheVariants.{Receipt};
 ghost use Rattle.meter_run.specs.Deeds.{Deed, Does, Prints, changes_of};
 ghost use Rattle.meter_run.specs.OnStore.{HasBeside, WritesTotals};
-ghost use Rattle.meter_run.specs.Points.{HasEntries, HasEntryOf, IsCut};
+ghost use Rattle.meter_run.specs.Points.{HasEntries, HasEntryOf, IsCut, IsNumberedWithin};
 ghost use Rattle.meter_run.specs.Runs.{HasDone, HasStopped, OpensWith, run_deeds};
 
 use outside::Board;
@@ -39,15 +39,31 @@ pub fn the_number_tells_the_commits<B: Board<L>, L: Ledger>()
         → IsHeldAfter opening.hold (changes_of cut.kept) cut.found.hold }
 {}
 
-/// In what a run does each receipt stands directly behind its entry. So of a receipt of which a byte may
-/// have been printed when the power was cut, the entry is among those whose sums the store has.
+/// In what a run does each receipt stands directly behind its entry, with the number that the store has
+/// then. So of a receipt of which a byte may have been printed when the power was cut, the entry is among
+/// those whose sums the store has.
 pub fn receipts_have_their_entries<B: Board<L>, L: Ledger>()
-    ensures run { (s : Setting) (opening : Durable) (drive : List ℕ) → HasEntries (run_deeds s opening drive) }
+    ensures run { (s : Setting) (opening : Durable) (drive : List ℕ)
+        → HasEntries opening.number (run_deeds s opening drive) }
     ensures cut { (tables : TableParts) (seal : Seal) (opening : Durable) (printed : List ℕ) (deeds : List Deed)
         (image text : List ℕ) → (cut : IsCut tables seal B.tells_text opening printed deeds image text)
         → (earlier later : List Deed) (receipt : receipts.Receipt)
         → cut.done ++ cut.next ≡ earlier ++ Does (Receipt receipt) ∷ later
         → HasEntryOf receipt (entries_of (changes_of cut.kept)) }
+{}
+
+/// No two receipts have one number: of two receipts of a run the later one has the greater number. And a receipt
+/// of which a byte may have been printed when the power was cut has a number above the opening one, and no greater
+/// than the one found.
+pub fn receipts_are_numbered_in_order<B: Board<L>, L: Ledger>()
+    ensures rise { (number : ℕ) (earlier between later : List Deed) (first next : receipts.Receipt)
+        → HasEntries number (earlier ++ Does (Receipt first) ∷ (between ++ Does (Receipt next) ∷ later))
+        → first.number < next.number }
+    ensures cut { (tables : TableParts) (seal : Seal) (opening : Durable) (printed : List ℕ) (deeds : List Deed)
+        (image text : List ℕ) → (cut : IsCut tables seal B.tells_text opening printed deeds image text)
+        → (earlier later : List Deed) (receipt : receipts.Receipt)
+        → cut.done ++ cut.next ≡ earlier ++ Does (Receipt receipt) ∷ later
+        → IsNumberedWithin opening.number cut.found.number receipt }
 {}
 
 /// A board whose image a cut left, with nothing in flight, opens the next run: with the state found.
@@ -72,13 +88,13 @@ pub fn runs_leave_the_seals<B: Board<L>, L: Ledger>()
 /// A line that is printed behind a run, whole or in part, is one deed more of it.
 pub fn lines_follow_a_run<B: Board<L>, L: Ledger>()
     ensures whole { (tables : TableParts) (seal : Seal) (old mid new : B) (opening : Durable) (deeds : List Deed)
-        (line : List ℕ) → HasEntries deeds → HasDone B.Board tables seal old mid opening deeds
+        (line : List ℕ) → HasEntries opening.number deeds → HasDone B.Board tables seal old mid opening deeds
         → WritesTotals B.Board old mid → KeepsStore B.Board mid new
         → LeavesOnly B.Board mid new (MayLeaveAmid (B.image mid) (B.in_flight mid) (B.printed mid) line)
         → (B.tells_text → B.printed new ≡ B.printed mid ++ line)
         → HasDone B.Board tables seal old new opening (deeds ++ Prints line ∷ []) }
     ensures begun { (tables : TableParts) (seal : Seal) (old mid new : B) (opening : Durable) (deeds : List Deed)
-        (line : List ℕ) → HasEntries deeds → HasDone B.Board tables seal old mid opening deeds
+        (line : List ℕ) → HasEntries opening.number deeds → HasDone B.Board tables seal old mid opening deeds
         → WritesTotals B.Board old mid → KeepsStore B.Board mid new
         → LeavesOnly B.Board mid new (MayLeaveAmid (B.image mid) (B.in_flight mid) (B.printed mid) line)
         → (B.tells_text → Begins (B.printed mid) (B.printed new) line)

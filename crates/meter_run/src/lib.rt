@@ -19,8 +19,8 @@ mod stored;
 mod storing;
 
 pub use cut_laws::{
-    cuts_open_the_next_run, lines_follow_a_run, receipts_have_their_entries, runs_leave_the_seals,
-    the_number_tells_the_commits,
+    cuts_open_the_next_run, lines_follow_a_run, receipts_are_numbered_in_order,
+    receipts_have_their_entries, runs_leave_the_seals, the_number_tells_the_commits,
 };
 pub use dry_drive::dry_run;
 pub use fault::RunFault;

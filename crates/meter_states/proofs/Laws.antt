@@ -48,10 +48,10 @@ pub keys_act_after_their_interval-interval : (s : Setting) (m : Meter) (t : Trip
     → ticks_of (with_part (InHired (sum m.taken) (context_of s m)) t) < longest_trip → (ticked s m).next.trip ≡ Some (with_part (InHired (sum m.taken) (context_of s m)) t)
 keys_act_after_their_interval-interval = refused.interval-charged
 
-pub receipts_follow_their_entries-event : (s : Setting) (event : Event) (m : Meter) → ArePaired None (step s event m).acts
+pub receipts_follow_their_entries-event : (s : Setting) (event : Event) (m : Meter) → ArePaired m.durable.number None (step s event m).acts
 receipts_follow_their_entries-event s event m = (commits-step s event m).pairs
 
-pub receipts_follow_their_entries-run : (s : Setting) (durable : Durable) (events : List Event) → ArePaired None (actions_of s durable events)
+pub receipts_follow_their_entries-run : (s : Setting) (durable : Durable) (events : List Event) → ArePaired durable.number None (actions_of s durable events)
 receipts_follow_their_entries-run s durable events = (commits-whole s durable events).pairs
 
 pub the_store_has_what_the_acts_commit-event : (s : Setting) (event : Event) (m : Meter) → (step s event m).next.durable ≡ after_all m.durable (commits_of (step s event m).acts)

@@ -1,5 +1,5 @@
 -- Each stage of an event commits what its acts say, and puts a receipt directly behind its entry.
-use Rattle.std.proofs.Common.{◌≡◌, ℕ, List, [], ◌∷◌, ◌++◌, Option, Some, None, refl, ap, sym, ◌∙◌, arith}
+use Rattle.std.proofs.Common.{◌≡◌, ℕ, ◌+◌, List, [], ◌∷◌, ◌++◌, length, Option, Some, None, refl, ap, subst, sym, ◌∙◌, arith}
 use Rattle.std.proofs.lemmas.Grind.{common_steps}
 use Rattle.taxi_units.specs.declared.event.Event.{Event}
 use Rattle.taxi_units.specs.declared.event.Event.TheVariants as events
@@ -11,6 +11,7 @@ use Rattle.totaliser_store.specs.declared.change.Change.TheVariants as changes
 use Rattle.totaliser_store.specs.declared.durable.Durable.{Durable}
 use Rattle.totaliser_store.specs.declared.entry.Entry.{Entry}
 use Rattle.totaliser_store.specs.declared.trip.Trip as store
+use Rattle.totaliser_store.proofs.Laws.{changes_add_up}
 use Rattle.meter_states.specs.Closing.{roaming_checked}
 use Rattle.meter_states.specs.Display.{shown}
 use Rattle.meter_states.specs.Interval.{interval_begun, interval_counted, interval_left}
@@ -27,7 +28,7 @@ use Rattle.meter_states.specs.declared.act.Act.TheVariants.{Show, Refuse, Enter,
 -- the store has what the acts commit, and receipts follow their entries
 pub record Commits (m : Meter) (o : Outcome) : Type 0 where
   pub store : o.next.durable ≡ after_all m.durable (commits_of o.acts)
-  pub pairs : ArePaired None o.acts
+  pub pairs : ArePaired m.durable.number None o.acts
 
 commits_of-append : (xs ys : List Act) → commits_of (xs ++ ys) ≡ commits_of xs ++ commits_of ys
 commits_of-append [] ys = refl
@@ -37,19 +38,25 @@ commits_of-append (Enter e ∷ xs) ys = ap (λ (cs : List Change). changes.Enter
 commits_of-append (Hold t ∷ xs) ys = ap (λ (cs : List Change). changes.Hold t ∷ cs) (commits_of-append xs ys)
 commits_of-append (Receipt r ∷ xs) ys = commits_of-append xs ys
 
-paired-append : (waiting : Option Entry) (xs ys : List Act) → ArePaired waiting xs → ArePaired None ys → ArePaired waiting (xs ++ ys)
-paired-append None [] ys p q = q
-paired-append None (Show d ∷ xs) ys p q = paired-append None xs ys p q
-paired-append None (Refuse why ∷ xs) ys p q = paired-append None xs ys p q
-paired-append None (Enter e ∷ xs) ys p q = paired-append (waiting_after e.kind e) xs ys p q
-paired-append None (Hold t ∷ xs) ys p q = paired-append None xs ys p q
-paired-append None (Receipt r ∷ xs) ys p q = absurd p
-paired-append (Some e) [] ys p q = absurd p
-paired-append (Some e) (Show d ∷ xs) ys p q = absurd p
-paired-append (Some e) (Refuse why ∷ xs) ys p q = absurd p
-paired-append (Some e) (Enter f ∷ xs) ys p q = absurd p
-paired-append (Some e) (Hold t ∷ xs) ys p q = absurd p
-paired-append (Some e) (Receipt r ∷ xs) ys p q = (p.0, paired-append None xs ys p.1 q)
+from : (n m : ℕ) (ys : List Act) → m ≡ n → ArePaired m None ys → ArePaired n None ys
+from n m ys is q = subst (λ (k : ℕ). ArePaired k None ys) is q
+
+-- acts behind others begin at the number that the others leave
+paired-append : (n : ℕ) (waiting : Option Entry) (xs ys : List Act) → ArePaired n waiting xs → ArePaired (n + length (commits_of xs)) None ys → ArePaired n waiting (xs ++ ys)
+paired-append n None [] ys p q = from n (n + length (commits_of [])) ys (omega arith) q
+paired-append n None (Show d ∷ xs) ys p q = paired-append n None xs ys p q
+paired-append n None (Refuse why ∷ xs) ys p q = paired-append n None xs ys p q
+paired-append n None (Enter e ∷ xs) ys p q =
+    paired-append (n + 1) (waiting_after e.kind e) xs ys p (from (n + 1 + length (commits_of xs)) (n + length (commits_of (Enter e ∷ xs))) ys (omega arith) q)
+paired-append n None (Hold t ∷ xs) ys p q =
+    paired-append (n + 1) None xs ys p (from (n + 1 + length (commits_of xs)) (n + length (commits_of (Hold t ∷ xs))) ys (omega arith) q)
+paired-append n None (Receipt r ∷ xs) ys p q = absurd p
+paired-append n (Some e) [] ys p q = absurd p
+paired-append n (Some e) (Show d ∷ xs) ys p q = absurd p
+paired-append n (Some e) (Refuse why ∷ xs) ys p q = absurd p
+paired-append n (Some e) (Enter f ∷ xs) ys p q = absurd p
+paired-append n (Some e) (Hold t ∷ xs) ys p q = absurd p
+paired-append n (Some e) (Receipt r ∷ xs) ys p q = (p.0, paired-append n None xs ys p.1 q)
 
 after_all-append : (d : Durable) (xs ys : List Change) → after_all d (xs ++ ys) ≡ after_all (after_all d xs) ys
 after_all-append d [] ys = refl
@@ -60,7 +67,9 @@ pub commits-then : (m : Meter) (o : Outcome) (f : Meter → Outcome) → Commits
 commits-then m o f x y = record {
   store = y.store ∙ ap (λ (d : Durable). after_all d (commits_of (f o.next).acts)) x.store ∙ sym (after_all-append m.durable (commits_of o.acts) (commits_of (f o.next).acts))
       ∙ ap (after_all m.durable) (sym (commits_of-append o.acts (f o.next).acts));
-  pairs = paired-append None o.acts (f o.next).acts x.pairs y.pairs;
+  pairs = paired-append m.durable.number None o.acts (f o.next).acts x.pairs
+      (from (m.durable.number + length (commits_of o.acts)) o.next.durable.number (f o.next).acts
+      (ap (λ (d : Durable). d.number) x.store ∙ (changes_add_up m.durable (commits_of o.acts)).number) y.pairs);
 }
 
 commits-counted : (s : Setting) (m : Meter) → Commits m (interval_counted s m)

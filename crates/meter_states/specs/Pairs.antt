@@ -1,5 +1,5 @@
 -- Rules: receipts and their entries, and what of a list of acts is committed.
-use Rattle.std.specs.Prelude.{◌≡◌, List, [], ◌∷◌, Option, Some, None}
+use Rattle.std.specs.Prelude.{◌≡◌, ℕ, ◌+◌, List, [], ◌∷◌, Option, Some, None}
 use Rattle.taxi_units.specs.declared.receipt.Kind.{Kind}
 use Rattle.taxi_units.specs.declared.receipt.Kind.TheVariants.{Roam}
 use Rattle.taxi_units.specs.declared.receipt.Receipt as receipts
@@ -23,14 +23,17 @@ waiting_after Roam entry = None
 waiting_after kind entry = Some entry
 
 -- acts are paired where each entry of a hiring stands directly before its receipt, and each receipt directly behind its
--- entry; `waiting` is the entry directly before the acts whose receipt is still to come
-abbrev pub ArePaired : (waiting : Option Entry) → List Act → Type 0
-ArePaired None [] = Unit {0}
-ArePaired None (Enter entry ∷ acts) = ArePaired (waiting_after entry.kind entry) acts
-ArePaired None (Receipt receipt ∷ acts) = ⊥
-ArePaired None (act ∷ acts) = ArePaired None acts
-ArePaired (Some entry) (Receipt receipt ∷ acts) = IsReceiptOf entry receipt × ArePaired None acts
-ArePaired (Some entry) acts = ⊥
+-- entry, with the number that the store has then; `number` is the store's before the acts, and `waiting` is the entry
+-- directly before them whose receipt is still to come
+abbrev pub ArePaired : (number : ℕ) → (waiting : Option Entry) → List Act → Type 0
+ArePaired number None [] = Unit {0}
+ArePaired number None (Enter entry ∷ acts) = ArePaired (number + 1) (waiting_after entry.kind entry) acts
+ArePaired number None (Hold trip ∷ acts) = ArePaired (number + 1) None acts
+ArePaired number None (Receipt receipt ∷ acts) = ⊥
+ArePaired number None (act ∷ acts) = ArePaired number None acts
+ArePaired number (Some entry) (Receipt receipt ∷ acts) =
+    (IsReceiptOf entry receipt × (receipt.number ≡ number)) × ArePaired number None acts
+ArePaired number (Some entry) acts = ⊥
 
 -- the commits of acts are their entries and held trips, in order
 abbrev pub commits_of : List Act → List Change

@@ -10,11 +10,11 @@ ghost use Rattle.meter_states.specs.Setting.{Setting};
 ghost use Rattle.meter_states.specs.Step.{step};
 
 /// In the acts of an event, and in those of a whole run, each entry of a hiring stands directly before its
-/// receipt, and each receipt directly behind its entry.
+/// receipt, and each receipt directly behind its entry, with the number that the store has then.
 pub fn receipts_follow_their_entries()
-    ensures event { (s : Setting) (event : Event) (m : Meter) → ArePaired None (step s event m).acts }
+    ensures event { (s : Setting) (event : Event) (m : Meter) → ArePaired m.durable.number None (step s event m).acts }
     ensures run { (s : Setting) (durable : Durable) (events : List Event)
-        → ArePaired None (actions_of s durable events) }
+        → ArePaired durable.number None (actions_of s durable events) }
 {}
 
 /// After an event the store has the state before it with the commits of the event's acts, in order, and
