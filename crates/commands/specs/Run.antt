@@ -3,6 +3,7 @@ use Rattle.std.specs.Cmp.Lexicographic.{pointwise}
 use Rattle.std.specs.Prelude.{◌≡◌, ◌≢◌, ◌⊎◌, ℕ, ◌+◌, ◌*◌, ◌==◌, ◌&&◌, nat_eq, nat_le, nat_lt, if◌then◌else◌, Bool, true, List, [], ◌∷◌, ◌++◌, length, Option, None, Some, Result, Ok, Err}
 use Rattle.sha2.specs.Sha256.{sha256}
 use Rattle.drive_text.specs.Ending.{IsGoing, drive_end}
+use Rattle.taxi_units.specs.Money.{largest_amount}
 use Rattle.outside.specs.Disk.{IsWithin, SameBut}
 use Rattle.outside.specs.Printing.{Begins}
 use Rattle.outside.specs.Runs.{IsSettled, LeavesOnly}
@@ -69,7 +70,7 @@ does_fit tables trip =
     && (nat_le 1 trip.zone
     && (nat_le trip.zone tables.zones
     && (nat_lt trip.meterage.rest (tables.step * tables.measure)
-    && (nat_le trip.meterage.cover_left (99999999 * tables.measure)
+    && (nat_le trip.meterage.cover_left (largest_amount * tables.measure)
     && (are_allowed (supplement_in tables) 1 trip.extras
     && trip.extras_sum == amounts_from (supplement_in tables) 1 trip.extras))))))
 

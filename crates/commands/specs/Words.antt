@@ -4,6 +4,7 @@ use Rattle.std.specs.Cmp.Lexicographic.{pointwise}
 use Rattle.std.specs.Option.{option_map}
 use Rattle.std.specs.Str.Parse.{digits_value}
 use Rattle.taxi_units.specs.Number.{digits_at_front, number_at}
+use Rattle.pulse_input.specs.Constant.{least_constant, greatest_constant}
 use Rattle.shift_book.specs.Reading.{driver_of}
 use Rattle.commands.specs.Years.{years_of}
 use Rattle.commands.specs.declared.words.Row.{Row}
@@ -14,7 +15,8 @@ use Rattle.commands.specs.declared.words.Row.TheVariants.{Port, Offsets, Mark, S
 abbrev pub constant_in : List ℕ → Option (ℕ × List ℕ) → Option ℕ
 constant_in word None = None
 constant_in word (Some (k, rest)) =
-    if (length rest == 0 && (nat_le (length word) 6 && (nat_le 500 k && nat_le k 200000))) then Some k else None
+    if (length rest == 0 && (nat_le (length word) 6 && (nat_le least_constant k && nat_le k greatest_constant)))
+    then Some k else None
 
 -- a word is a constant where it is a number of at most 6 digits and of 500 to 200,000, and else none; `number_at` gives
 -- the number and what stands after it, as the law numbers_are_read_by_their_digits of taxi_units says

@@ -8,7 +8,7 @@ use arrayvec::ArrayVec;
 use drive_modes::Mode;
 use interval_clock::Offsets;
 use pulse_input::Constant;
-use seal_store::{Params, Seal};
+use seal_store::{FIRST_DAY, Params, Seal};
 use taxi_units::FIRST_SECOND;
 
 /// The seal of a meter without a store: in mode S, with a hold of a minute, and local time that is UTC.
@@ -32,7 +32,7 @@ pub fn fare_seal(constant: Constant, decimals: u8) -> Seal
             mode: Mode::Single,
             hold: 60,
             offsets: utc(),
-            secured: 10_957,
+            secured: FIRST_DAY,
         },
         digest: [0; 32],
         decimals,

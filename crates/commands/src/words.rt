@@ -10,7 +10,7 @@ ghost use Rattle.commands.specs.Words as spec;
 
 use crate::years::Years;
 use arrayvec::ArrayVec;
-use pulse_input::Constant;
+use pulse_input::{Constant, GREATEST_CONSTANT, LEAST_CONSTANT};
 use shift_book::read_driver;
 use std::marker::Model;
 use taxi_units::number_at;
@@ -78,7 +78,11 @@ fn constant(word: &[u8]) -> Option<Constant>
     ensures { GivesSame result (constant_of word.now) }
 {
     let (k, rest) = number_at(word)?;
-    if rest.is_empty() && word.len() <= 6 && 500 <= k && k <= 200_000 {
+    if rest.is_empty()
+        && word.len() <= 6
+        && LEAST_CONSTANT as u64 <= k
+        && k <= GREATEST_CONSTANT as u64
+    {
         Constant::new(k as u32).ok()
     } else {
         None

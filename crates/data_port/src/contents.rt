@@ -3,6 +3,7 @@ ghost use Rattle.std.specs.Prelude.{◌≡◌, [], ◌∷◌, ◌++◌, ◌+◌,
 ghost use Rattle.std.specs.List.{flat_map};
 ghost use Rattle.arrayvec.specs.ArrayVec.{array_vec_len};
 ghost use Rattle.taxi_units.specs.Line.{line_size};
+ghost use Rattle.taxi_units.specs.Money.{largest_amount};
 ghost use Rattle.seal_store.specs.Ranges.{IsSeal};
 ghost use Rattle.seal_store.specs.Spelling.{padded, signed_bytes};
 ghost use Rattle.totaliser_store.specs.Bytes.{four, eight, sixteen};
@@ -71,7 +72,7 @@ fn put_taxi(line: &mut Line, taxi: &[u8])
 /// Appends what is told of a held trip.
 fn put_trip(line: &mut Line, constant: Constant, trip: &Trip)
     requires room { array_vec_len line.old + 56 ≤ line_size }
-    requires initial { trip.now.initial ≤ 99999999 }
+    requires initial { trip.now.initial ≤ largest_amount }
     ensures items { line.new.items ≡ line.old.items ++ trip_content (held_trip constant trip.now) }
     ensures len { array_vec_len line.new ≡ array_vec_len line.old + 56 }
 {

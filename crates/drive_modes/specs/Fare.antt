@@ -52,7 +52,11 @@ abbrev pub steps_of : Rounding → Meterage → ℕ
 steps_of Behind m = m.steps_full
 steps_of Ahead m = if m.rest == 0 then m.steps_full else m.steps_full + 1
 
+-- the largest fare that is shown is 99,999,999 of the smallest unit of money
+abbrev pub largest_fare : ℕ
+largest_fare = 99999999
+
 -- the fare that is shown after n display steps is the initial hire fee and a step for each of them, or the minimum
 -- where that is more, and at most 99,999,999
 abbrev pub shown_fare : (initial minimum step n : ℕ) → ℕ
-shown_fare initial minimum step n = min 99999999 (max minimum (initial + step * n))
+shown_fare initial minimum step n = min largest_fare (max minimum (initial + step * n))

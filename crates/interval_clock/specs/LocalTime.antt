@@ -2,7 +2,7 @@
 use Rattle.std.specs.Prelude.{ℕ, ◌+◌, ◌/◌, ◌≤◌, ℤ, pos, ◌+ℤ◌, ◌≤ℤ◌, unsigned_abs, List}
 use Rattle.std.specs.Int.{int_div_euclid, int_rem_euclid}
 use Rattle.interval_clock.specs.Calendar.{date_after, date_place, weekday_of}
-use Rattle.interval_clock.specs.Offsets.{offset_at}
+use Rattle.interval_clock.specs.Offsets.{greatest_offset, offset_at}
 use Rattle.taxi_units.specs.Time.{first_second, last_second}
 use Rattle.interval_clock.specs.declared.local_time.LocalTime.{LocalTime}
 
@@ -13,7 +13,7 @@ local_second pairs second = pos second +ℤ offset_at pairs second
 -- a local second of the meter lies at most 14 hours before the meter's first second, and at most 14 hours after its
 -- last
 abbrev pub IsLocalSecond : ℕ → Type 0
-IsLocalSecond local = (first_second ≤ local + 50400) × (local ≤ last_second + 50400)
+IsLocalSecond local = (first_second ≤ local + greatest_offset) × (local ≤ last_second + greatest_offset)
 
 -- a local day of the meter is one of 1999-12-31 to 2200-01-01, as a day number
 abbrev pub IsLocalDay : ℤ → Type 0

@@ -5,9 +5,13 @@ use Rattle.interval_clock.specs.declared.offsets.OffsetFault.TheVariants.{Empty,
 use Rattle.taxi_units.specs.Time.{first_second}
 pub use Rattle.taxi_units.specs.Time.{IsSecond}
 
+-- an offset is at most 50,400 seconds, which are 14 hours, to either side
+abbrev pub greatest_offset : ℕ
+greatest_offset = 50400
+
 -- an offset is at most 14 hours, counted in seconds, before or after UTC
 abbrev pub IsOffset : ℤ → Type 0
-IsOffset offset = (neg_ℤ (pos 50400) ≤ℤ offset) × (offset ≤ℤ pos 50400)
+IsOffset offset = (neg_ℤ (pos greatest_offset) ≤ℤ offset) × (offset ≤ℤ pos greatest_offset)
 
 -- the second of a pair is its first part, at a place of the list counted from 0
 abbrev pub second_at : List (ℕ × ℤ) → ℕ → ℕ

@@ -7,6 +7,9 @@ use std::marker::Model;
 use std::sync::ledger::Ledger;
 use taxi_units::{Counted, FIRST_SECOND, LAST_SECOND, Steps};
 
+/// The greatest offset to either side, in seconds: 14 hours.
+pub const GREATEST_OFFSET: i32 = 50_400;
+
 /// Why a list of offsets was refused. A place counts from 0.
 #[derive(Clone, Copy, Debug, PartialEq, Eq)]
 pub enum OffsetFault {
@@ -118,8 +121,6 @@ fn fault_of(pairs: &[(u64, i32)]) -> Option<OffsetFault>
     None
 }
 
-const MOST_SECONDS: i32 = 50_400;
-
 /// The first place whose second or offset is out of range.
 fn first_out_of_range(pairs: &[(u64, i32)]) -> Option<usize>
     ensures { MatchOption result
@@ -131,7 +132,7 @@ fn first_out_of_range(pairs: &[(u64, i32)]) -> Option<usize>
         if second < FIRST_SECOND || second > LAST_SECOND {
             return Some(place);
         }
-        if offset < -MOST_SECONDS || offset > MOST_SECONDS {
+        if offset < -GREATEST_OFFSET || offset > GREATEST_OFFSET {
             return Some(place);
         }
     }

@@ -1,6 +1,7 @@
 -- Rules: which saved trips fit the tables.
 use Rattle.std.specs.Prelude.{◌≡◌, ◌*◌, ◌<◌, ◌≤◌}
 use Rattle.tariff_compile.specs.Tables.{TableParts}
+use Rattle.taxi_units.specs.Money.{largest_amount}
 use Rattle.totaliser_store.specs.declared.trip.Trip.{Trip}
 use Rattle.meter_states.specs.Supplements.{AreAllowed, amounts_from, supplement_in}
 
@@ -10,6 +11,6 @@ pub record Fits (tables : TableParts) (trip : Trip) : Type 0 where
   pub position : (1 ≤ trip.position) × (trip.position ≤ tables.positions)
   pub zone : (1 ≤ trip.zone) × (trip.zone ≤ tables.zones)
   pub rest : trip.meterage.rest < tables.step * tables.measure
-  pub cover : trip.meterage.cover_left ≤ 99999999 * tables.measure
+  pub cover : trip.meterage.cover_left ≤ largest_amount * tables.measure
   pub counts : AreAllowed (supplement_in tables) 1 trip.extras
   pub extras_sum : trip.extras_sum ≡ amounts_from (supplement_in tables) 1 trip.extras

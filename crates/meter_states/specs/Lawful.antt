@@ -1,6 +1,7 @@
 -- Rules: which cores are lawful.
 use Rattle.std.specs.Prelude.{◌≡◌, ◌≢◌, ◌⊎◌, Bool, true, false, ℕ, ◌+◌, ◌*◌, ◌<◌, ◌≤◌, Option, Some, None, length}
 use Rattle.tariff_compile.specs.Tables.{TableParts}
+use Rattle.taxi_units.specs.Money.{largest_amount}
 use Rattle.taxi_units.specs.Time.{IsSecond, last_tick}
 use Rattle.taxi_units.specs.declared.event.Event.{Event}
 use Rattle.taxi_units.specs.declared.event.Event.TheVariants as events
@@ -24,9 +25,9 @@ pub record IsTrip (tables : TableParts) (most : ℕ) (trip : Trip) : Type 0 wher
   pub started : IsSecond trip.started
   pub roam : trip.roam ≤ roaming_amid
   pub ticks : trip.ticks ≤ most
-  pub initial : trip.initial ≤ 99999999
-  pub minimum : trip.minimum ≤ 99999999
-  pub cover : trip.meterage.cover_left ≤ 99999999 * tables.measure
+  pub initial : trip.initial ≤ largest_amount
+  pub minimum : trip.minimum ≤ largest_amount
+  pub cover : trip.meterage.cover_left ≤ largest_amount * tables.measure
   pub steps : trip.meterage.steps_full ≤ 41000000000 * trip.ticks
   pub rest : trip.meterage.rest < tables.step * tables.measure
   pub extras : length trip.extras ≡ 16

@@ -6,7 +6,7 @@ ghost use Rattle.meter_states.specs.Supplements.{AreAllowed, amount_in, amounts_
 use crate::lookups::{find_supplement, modulus};
 use std::sync::ledger::Ledger;
 use tariff_compile::Tables;
-use taxi_units::Steps;
+use taxi_units::{LARGEST_AMOUNT, Steps};
 use totaliser_store::Trip;
 
 /// Whether a saved trip fits the tables: its position and zone are among the tariff's, its rest is less
@@ -22,7 +22,7 @@ pub fn fits<L: Ledger>(trip: &Trip, tables: &Tables, steps: &mut Steps<L>) -> bo
         && 1 <= trip.zone
         && trip.zone <= tables.zones()
         && trip.meterage.rest < modulus(tables)
-        && trip.meterage.cover_left <= 99_999_999 * tables.measure()
+        && trip.meterage.cover_left <= LARGEST_AMOUNT as u128 * tables.measure()
         && extras_fit(trip, tables, steps)
 }
 

@@ -3,6 +3,7 @@ ghost use Rattle.std.specs.Prelude.{◌≡◌, ◌≢◌, ℕ, ◌+◌, ◌-◌,
 ghost use Rattle.drive_modes.specs.Fare.{shown_fare, steps_of};
 ghost use Rattle.tariff_compile.specs.Tables.{AreFit, IsFitInitial, rate_by};
 ghost use Rattle.tariff_syntax.specs.declared.context.Context.{Context};
+ghost use Rattle.taxi_units.specs.Money.{largest_amount};
 ghost use Rattle.taxi_units.specs.Time.{IsSecond, last_tick, longest_trip};
 ghost use Rattle.totaliser_store.specs.declared.trip.Trip as store;
 ghost use Rattle.meter_states.specs.Closing.{roaming_amid};
@@ -134,7 +135,7 @@ pub(crate) fn fare(trip: &Trip, tables: &Tables) -> u64
         → result ≡ model.fare_of s t }
     ensures exact { result ≡ shown_fare trip.now.initial trip.now.minimum tables.now.step
         (steps_of tables.now.rounding trip.now.meterage) }
-    ensures most { result ≤ 99999999 }
+    ensures most { result ≤ largest_amount }
 {
     trip.meterage.shown(trip.initial, trip.minimum, tables.step(), tables.rounding())
 }

@@ -1,6 +1,7 @@
 -- Rules: the forms of the four lines of a text of rules.
 use Rattle.std.specs.Prelude.{◌≡◌, ℕ, ◌+◌, ◌*◌, ◌≤◌, ℤ, pos, neg_ℤ, List, ◌∷◌, ◌++◌, length, codes}
 use Rattle.std.specs.Str.Parse.{IsNumeral, digits_value}
+use Rattle.interval_clock.specs.Offsets.{greatest_offset}
 use Rattle.offset_rules.specs.Names.{IsName, day_names, month_names, number_names}
 use Rattle.offset_rules.specs.Rule.{Change}
 
@@ -15,8 +16,8 @@ pub record IsFigure (fewest widest greatest : ℕ) (digits : List ℕ) (number :
 
 -- a text says an offset in seconds where it is 1 to 5 digits of a number up to 50400, or a minus and then such digits
 pub data IsSeconds : List ℕ → ℤ → Type 0 where
-  ahead : (digits : List ℕ) (n : ℕ) → IsFigure 1 5 50400 digits n → IsSeconds digits (pos n)
-  behind : (digits : List ℕ) (n : ℕ) → IsFigure 1 5 50400 digits n → IsSeconds (45 ∷ digits) (neg_ℤ (pos n))
+  ahead : (digits : List ℕ) (n : ℕ) → IsFigure 1 5 greatest_offset digits n → IsSeconds digits (pos n)
+  behind : (digits : List ℕ) (n : ℕ) → IsFigure 1 5 greatest_offset digits n → IsSeconds (45 ∷ digits) (neg_ℤ (pos n))
 
 -- a text says a minute of the day where it has the form HH:MM, with an hour up to 23 and a minute up to 59
 pub record IsTime (text : List ℕ) (minute : ℕ) : Type 0 where

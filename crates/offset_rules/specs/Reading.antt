@@ -1,6 +1,7 @@
 -- For proofs: how rules are read from the front of a text, in the stages of the code. The law
 -- texts_say_rules_line_by_line says what the answers mean.
 use Rattle.std.specs.Prelude.{ℕ, ◌+◌, ◌*◌, ◌==◌, ◌&&◌, nat_le, nat_lt, if◌then◌else◌, ℤ, pos, neg_ℤ, List, [], ◌∷◌, length, Option, Some, None, Result, Ok, Err, codes}
+use Rattle.interval_clock.specs.Offsets.{greatest_offset}
 use Rattle.taxi_units.specs.Number.{number_at}
 use Rattle.taxi_units.specs.Reading.{◌>>=◌, word_at}
 use Rattle.offset_rules.specs.Names.{day_names, month_names, number_names}
@@ -24,8 +25,8 @@ unfoldable pub seconds_at : List ℕ → Option (ℤ × List ℕ)
 seconds_at text = signed_at text (word_at (codes "-") text)
   where
     signed_at : List ℕ → Option (List ℕ) → Option (ℤ × List ℕ)
-    signed_at text (Some digits) = figure_at 1 5 50400 digits >>= (λ n. Some (neg_ℤ (pos n.0), n.1))
-    signed_at text None = figure_at 1 5 50400 text >>= (λ n. Some (pos n.0, n.1))
+    signed_at text (Some digits) = figure_at 1 5 greatest_offset digits >>= (λ n. Some (neg_ℤ (pos n.0), n.1))
+    signed_at text None = figure_at 1 5 greatest_offset text >>= (λ n. Some (pos n.0, n.1))
 
 -- the number whose name was found and the rest, and where it wasn't found what the other names give
 abbrev pub found_or : ℕ → Option (List ℕ) → Option (ℕ × List ℕ) → Option (ℕ × List ℕ)

@@ -7,6 +7,7 @@ ghost use Rattle.taxi_units.specs.Reading.{Gives};
 
 use crate::names::{month, number, weekday};
 use crate::rules::Change;
+use interval_clock::GREATEST_OFFSET;
 use taxi_units::{number_at, word};
 
 /// A number of `fewest` to `widest` digits that is at most `greatest`.
@@ -35,11 +36,11 @@ pub(crate) fn seconds(text: &[u8]) -> Option<(i32, &[u8])>
 {
     match word(text, b"-") {
         Some(digits) => {
-            let (seconds, rest) = figure(digits, 1, 5, 50_400)?;
+            let (seconds, rest) = figure(digits, 1, 5, GREATEST_OFFSET as u64)?;
             Some((-(seconds as i32), rest))
         }
         None => {
-            let (seconds, rest) = figure(text, 1, 5, 50_400)?;
+            let (seconds, rest) = figure(text, 1, 5, GREATEST_OFFSET as u64)?;
             Some((seconds as i32, rest))
         }
     }

@@ -1,2 +1,3 @@
+pub mod Constant
 pub mod Distance
 pub mod Gate

@@ -1,7 +1,14 @@
 //! The constant of the taximeter.
 ghost use Rattle.std.specs.Prelude.{◌≡◌, ℕ, ◌≤◌, ◌↔◌, IsOk, IfOk};
+ghost use Rattle.pulse_input.specs.Constant.{least_constant, greatest_constant};
 
 use std::marker::Model;
+
+/// The least constant, in pulses a kilometre.
+pub const LEAST_CONSTANT: u32 = 500;
+
+/// The greatest constant, in pulses a kilometre.
+pub const GREATEST_CONSTANT: u32 = 200_000;
 
 /// A constant of less than 500 or more than 200,000 pulses a kilometre.
 #[derive(Clone, Copy, Debug, PartialEq, Eq)]
@@ -21,16 +28,16 @@ impl Model for Constant {
 
     ghost inverse = { λ k. record { per_kilometre = k } };
 
-    ghost invariant = { λ c. (500 ≤ c.per_kilometre) × (c.per_kilometre ≤ 200000) };
+    ghost invariant = { λ c. (least_constant ≤ c.per_kilometre) × (c.per_kilometre ≤ greatest_constant) };
 }
 
 impl Constant {
     /// The constant of `k` pulses a kilometre. BadConstant exactly where `k` is out of range.
     pub fn new(k: u32) -> Result<Constant, BadConstant>
-        ensures in_range { IsOk result ↔ ((500 ≤ k) × (k ≤ 200000)) }
+        ensures in_range { IsOk result ↔ ((least_constant ≤ k) × (k ≤ greatest_constant)) }
         ensures value { IfOk result (λ constant. constant ≡ k) }
     {
-        if k < 500 || k > 200_000 {
+        if k < LEAST_CONSTANT || k > GREATEST_CONSTANT {
             return Err(BadConstant);
         }
         Ok(Constant { per_kilometre: k })
@@ -39,8 +46,8 @@ impl Constant {
     /// The pulses that make a kilometre.
     pub fn get(&self) -> u32
         ensures value { result ≡ self.now }
-        ensures least { 500 ≤ result }
-        ensures most { result ≤ 200000 }
+        ensures least { least_constant ≤ result }
+        ensures most { result ≤ greatest_constant }
     {
         self.per_kilometre
     }

@@ -6,7 +6,7 @@ mod constant;
 mod distance;
 mod gate;
 
-pub use constant::{BadConstant, Constant};
+pub use constant::{BadConstant, Constant, GREATEST_CONSTANT, LEAST_CONSTANT};
 pub use distance::{distances_are_whole_millimetres, millimetres, reached};
 pub use gate::{Gate, a_gate_counts_the_sum};
 

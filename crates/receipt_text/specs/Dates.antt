@@ -3,6 +3,7 @@
 use Rattle.std.specs.Prelude.{ℕ, ◌+◌, ◌*◌, ◌&&◌, nat_le, if◌then◌else◌, ℤ, pos, List, Option, Some, None, codes}
 use Rattle.interval_clock.specs.Calendar.{day_number_of, is_date}
 use Rattle.interval_clock.specs.declared.day_numbers.CalendarDate.{CalendarDate}
+use Rattle.seal_store.specs.Limits.{first_day, last_day}
 use Rattle.taxi_units.specs.Reading.{◌>>=◌, word_at}
 use Rattle.taxi_units.specs.declared.receipt.Stamp.{Stamp}
 use Rattle.receipt_text.specs.Figures.{number_below}
@@ -19,7 +20,7 @@ date_at text = do
 
 -- a day number is kept where it is one of the years 2000 to 2199, and is none otherwise
 abbrev pub where_secured : ℕ → Option ℤ
-where_secured day = if nat_le 10957 day && nat_le day 84005 then Some (pos day) else None
+where_secured day = if nat_le first_day day && nat_le day last_day then Some (pos day) else None
 
 -- a date has this day number, where the calendar has the date and its year is one of 2000 to 2199
 abbrev pub day_of : CalendarDate → Option ℤ

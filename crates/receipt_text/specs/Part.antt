@@ -1,6 +1,7 @@
 -- Rules: what a receipt says of the meter's seal.
 use Rattle.std.specs.Prelude.{◌≡◌, ℕ, ◌<◌, ◌≤◌, ℤ, List, length}
 use Rattle.std.specs.List.{AllByRecursion}
+use Rattle.pulse_input.specs.Constant.{least_constant, greatest_constant}
 use Rattle.seal_store.specs.Ranges.{IsDay, IsTaxi}
 
 -- a part of a seal is the taxi identifier, the constant in pulses per kilometre, the day number of the date of
@@ -19,6 +20,6 @@ pub record IsDigest (digest : List ℕ) : Type 0 where
 -- a part of a seal is in its ranges where each of its four values is; its day is one of the years 2000 to 2199
 pub record IsPart (part : Part) : Type 0 where
   pub taxi : IsTaxi part.taxi
-  pub constant : (500 ≤ part.constant) × (part.constant ≤ 200000)
+  pub constant : (least_constant ≤ part.constant) × (part.constant ≤ greatest_constant)
   pub secured : IsDay part.secured
   pub digest : IsDigest part.digest

@@ -1,5 +1,6 @@
 -- For proofs: the ranges of a receipt in two parts, as the code tests them. IsReceipt, in Shown of taxi_units, has all.
 use Rattle.std.specs.Prelude.{◌≡◌, ◌≢◌, ◌+◌, ◌*◌, ◌^◌, ◌<◌, ◌≤◌}
+use Rattle.taxi_units.specs.Money.{largest_amount}
 use Rattle.taxi_units.specs.Shown.{fare_of}
 use Rattle.taxi_units.specs.declared.receipt.Kind.TheVariants.{Roam}
 use Rattle.taxi_units.specs.declared.receipt.Receipt.{Receipt}
@@ -13,5 +14,6 @@ HasNumbers receipt =
 -- a receipt's amounts and its number of steps are in their ranges, and its fare is the one that they give
 abbrev pub HasAmounts : Receipt → Type 0
 HasAmounts receipt =
-    (receipt.initial ≤ 99999999) × (receipt.minimum ≤ 99999999) × (receipt.steps < 10 ^ 18) × (1 ≤ receipt.step)
-    × (receipt.step ≤ 1000000) × (receipt.supplements ≤ 1584000000) × (receipt.fare ≡ fare_of receipt)
+    (receipt.initial ≤ largest_amount) × (receipt.minimum ≤ largest_amount) × (receipt.steps < 10 ^ 18)
+    × (1 ≤ receipt.step) × (receipt.step ≤ 1000000) × (receipt.supplements ≤ 1584000000)
+    × (receipt.fare ≡ fare_of receipt)

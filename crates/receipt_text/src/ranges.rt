@@ -3,12 +3,15 @@ ghost use Rattle.std.specs.Prelude.{◌≡◌, ◌≢◌, ◌↔◌, ◌≤◌, 
 ghost use Rattle.std.specs.List.{AllByRecursion};
 ghost use Rattle.taxi_units.specs.Shown.{IsReceipt, IsStamp, fare_of};
 ghost use Rattle.taxi_units.specs.declared.receipt.Kind.TheVariants.{Roam};
+ghost use Rattle.pulse_input.specs.Constant.{least_constant, greatest_constant};
 ghost use Rattle.receipt_text.specs.Part.{IsDigest, IsPart};
 ghost use Rattle.receipt_text.specs.ReceiptRanges.{HasAmounts, HasNumbers};
 ghost use Rattle.seal_store.specs.Ranges.{IsDay, IsTaxi, IsTaxiCharacter};
 
 use crate::parts::{SealPart, is_taxi_character};
-use taxi_units::{Kind, Receipt, Stamp, is_date};
+use pulse_input::{GREATEST_CONSTANT, LEAST_CONSTANT};
+use seal_store::{FIRST_DAY, LAST_DAY};
+use taxi_units::{Kind, LARGEST_AMOUNT, Receipt, Stamp, is_date};
 
 /// Whether a receipt is one for a hiring, with each number in its range and the fare that it calculates.
 pub(crate) fn is_receipt(receipt: &Receipt) -> bool
@@ -44,8 +47,8 @@ fn is_hiring(kind: Kind) -> bool
 fn has_amounts(receipt: &Receipt) -> bool
     ensures { IsTrue result ↔ HasAmounts receipt.now }
 {
-    receipt.initial <= 99_999_999
-        && receipt.minimum <= 99_999_999
+    receipt.initial <= LARGEST_AMOUNT
+        && receipt.minimum <= LARGEST_AMOUNT
         && receipt.steps < 1_000_000_000_000_000_000
         && 1 <= receipt.step
         && receipt.step <= 1_000_000
@@ -58,7 +61,9 @@ fn fare_of(receipt: &Receipt) -> u128
     ensures { result ≡ fare_of receipt.now }
 {
     let calculated = receipt.initial as u128 + receipt.steps as u128 * receipt.step as u128;
-    calculated.max(receipt.minimum as u128).min(99_999_999)
+    calculated
+        .max(receipt.minimum as u128)
+        .min(LARGEST_AMOUNT as u128)
 }
 
 /// Whether a stamp is a real date of the years 1999 to 2200, and a second of a day.
@@ -90,16 +95,16 @@ fn is_digest(digest: &[u8]) -> bool
 
 /// Whether a number is a constant of a taximeter.
 fn is_constant(constant: u32) -> bool
-    ensures { IsTrue result ↔ ((500 ≤ constant) × (constant ≤ 200000)) }
+    ensures { IsTrue result ↔ ((least_constant ≤ constant) × (constant ≤ greatest_constant)) }
 {
-    500 <= constant && constant <= 200_000
+    LEAST_CONSTANT <= constant && constant <= GREATEST_CONSTANT
 }
 
 /// Whether a day is one of the years 2000 to 2199.
 fn is_day(day: i32) -> bool
     ensures { IsTrue result ↔ IsDay day }
 {
-    10_957 <= day && day <= 84_005
+    FIRST_DAY <= day && day <= LAST_DAY
 }
 
 /// Whether a text is a taxi identifier.

@@ -9,6 +9,7 @@ ghost use Rattle.receipt_text.specs.Receipts.{date_text, day_text, stamp_text, t
 
 use crate::figures::number_below;
 use interval_clock::{CalendarDate, date_of_day, day_number};
+use seal_store::{FIRST_DAY, LAST_DAY};
 use taxi_units::{Line, LineFull, Stamp, put_bytes, put_padded, word};
 
 /// Appends a date.
@@ -95,7 +96,7 @@ fn day_of(date: CalendarDate) -> Option<i32>
         return None;
     }
     let day = day_number(date.year, date.month, date.date)?;
-    if 10_957 <= day && day <= 84_005 {
+    if FIRST_DAY as u32 <= day && day <= LAST_DAY as u32 {
         Some(day as i32)
     } else {
         None

@@ -1,5 +1,7 @@
 -- Rules: the limits of parameters and seals, and where the seals stand in the store.
 use Rattle.std.specs.Prelude.{ℕ, ◌^◌}
+pub use Rattle.interval_clock.specs.Offsets.{greatest_offset}
+pub use Rattle.pulse_input.specs.Constant.{least_constant, greatest_constant}
 
 -- a text of parameters has at most 65,536 bytes
 abbrev pub longest_text : ℕ
@@ -9,21 +11,9 @@ longest_text = 65536
 abbrev pub longest_taxi : ℕ
 longest_taxi = 16
 
--- a constant is at least 500 pulses a kilometre
-abbrev pub least_constant : ℕ
-least_constant = 500
-
--- a constant is at most 200,000 pulses a kilometre
-abbrev pub greatest_constant : ℕ
-greatest_constant = 200000
-
 -- a trip is held for at most 600 seconds
 abbrev pub longest_hold : ℕ
 longest_hold = 600
-
--- an offset is at most 50,400 seconds, which are 14 hours, to either side
-abbrev pub greatest_offset : ℕ
-greatest_offset = 50400
 
 -- a list of offsets has at most 32 pairs
 abbrev pub most_offsets : ℕ

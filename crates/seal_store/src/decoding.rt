@@ -10,7 +10,7 @@ ghost use Rattle.interval_clock.specs.Offsets.{IsOffsetList};
 
 use crate::lines::before;
 use crate::offset_list::offsets_of;
-use crate::params::{LONGEST_HOLD, LONGEST_TAXI, MOST_OFFSETS};
+use crate::params::{FIRST_DAY, LAST_DAY, LONGEST_HOLD, LONGEST_TAXI, MOST_OFFSETS};
 use crate::seal::DIGEST_SIZE;
 use crate::spelling::OFFSET_SIZE;
 use crate::{Params, Seal, values};
@@ -19,12 +19,6 @@ use drive_modes::Mode;
 use interval_clock::Offsets;
 use pulse_input::Constant;
 use slot_store::{BODY_SIZE, eight_at, four_at, two_at};
-
-/// The day number of 2000-01-01, before which nothing is secured.
-const FIRST_DAY: i32 = 10_957;
-
-/// The day number of 2199-12-31, after which nothing is secured.
-const LAST_DAY: i32 = 84_005;
 
 /// The number of the last seal that a store may have.
 const LAST_SEAL_NUMBER: u64 = 1_000_000_000_000_000;

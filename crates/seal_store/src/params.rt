@@ -14,6 +14,12 @@ pub(crate) const LONGEST_HOLD: u16 = 600;
 /// How many pairs a list of offsets has at most.
 pub(crate) const MOST_OFFSETS: usize = 32;
 
+/// The day number of 2000-01-01, before which nothing is secured.
+pub const FIRST_DAY: i32 = 10_957;
+
+/// The day number of 2199-12-31, after which nothing is secured.
+pub const LAST_DAY: i32 = 84_005;
+
 /// The secured settings of a taximeter.
 #[derive(Drop)]
 pub struct Params {

@@ -9,18 +9,9 @@ use crate::names::is_text;
 use crate::params::{LONGEST_HOLD, LONGEST_TAXI};
 use arrayvec::ArrayVec;
 use drive_modes::Mode;
-use interval_clock::day_number;
-use pulse_input::Constant;
+use interval_clock::{GREATEST_OFFSET, day_number};
+use pulse_input::{Constant, GREATEST_CONSTANT, LEAST_CONSTANT};
 use taxi_units::{number_at, number_of_width, word};
-
-/// The least constant, in pulses a kilometre.
-const LEAST_CONSTANT: u64 = 500;
-
-/// The greatest constant, in pulses a kilometre.
-const GREATEST_CONSTANT: u64 = 200_000;
-
-/// The greatest offset to either side, in seconds: 14 hours.
-const GREATEST_OFFSET: u64 = 50_400;
 
 /// The first year of a date of securing.
 const FIRST_YEAR: u64 = 2000;
@@ -81,7 +72,7 @@ fn number(text: &[u8], low: u64, high: u64) -> Option<u64>
 pub(crate) fn constant(text: &[u8]) -> Option<Constant>
     ensures { GivesSame result (spec.number_in least_constant greatest_constant text.now) }
 {
-    let per_kilometre = number(text, LEAST_CONSTANT, GREATEST_CONSTANT)?;
+    let per_kilometre = number(text, LEAST_CONSTANT as u64, GREATEST_CONSTANT as u64)?;
     match Constant::new(per_kilometre as u32) {
         Ok(constant) => Some(constant),
         Err(_) => None,
@@ -117,11 +108,11 @@ fn offset(text: &[u8]) -> Option<i32>
 {
     match word(text, b"-") {
         Some(digits) => {
-            let seconds = number(digits, 0, GREATEST_OFFSET)?;
+            let seconds = number(digits, 0, GREATEST_OFFSET as u64)?;
             Some(-(seconds as i32))
         }
         None => {
-            let seconds = number(text, 0, GREATEST_OFFSET)?;
+            let seconds = number(text, 0, GREATEST_OFFSET as u64)?;
             Some(seconds as i32)
         }
     }

@@ -3,6 +3,7 @@ use Rattle.std.specs.Prelude.{◌≡◌, ℕ, ◌^◌, Bool, true, false, not, �
 use Rattle.std.specs.Prelude.{List, [], ◌∷◌, ◌++◌, Option, Some, None}
 use Rattle.std.specs.List.{list_any, count_by}
 use Rattle.taxi_units.specs.Calendar.{is_date}
+use Rattle.taxi_units.specs.Money.{largest_amount}
 use Rattle.tariff_syntax.specs.Condition as tree
 use Rattle.tariff_syntax.specs.Condition.{Condition}
 use Rattle.tariff_syntax.specs.Tree.{Line, Entry, step, positions, zones, holiday, supplement, initial, rate, minimum}
@@ -93,8 +94,8 @@ abbrev pub is_great : Entry → Bool
 is_great (step amount rounding) = nat_lt (10 ^ 6) amount
 is_great (supplement number amount most) = nat_lt (10 ^ 6) amount
 is_great (rate a b c e when) = nat_lt (10 ^ 6) a || nat_lt (10 ^ 6) c
-is_great (initial amount covers when) = nat_lt 99999999 amount || nat_lt 99999999 covers
-is_great (minimum amount when) = nat_lt 99999999 amount
+is_great (initial amount covers when) = nat_lt largest_amount amount || nat_lt largest_amount covers
+is_great (minimum amount when) = nat_lt largest_amount amount
 is_great entry = false
 
 -- the test `is_for_nothing` is true where a line is a rate with a measure of 0

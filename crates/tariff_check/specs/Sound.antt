@@ -2,6 +2,7 @@
 use Rattle.std.specs.Prelude.{◌≡◌, ℕ, ◌^◌, ◌≤◌, true, Some, length, All, IsTrue}
 use Rattle.drive_modes.specs.declared.meterage.Rounding.{Rounding}
 use Rattle.taxi_units.specs.Calendar.{is_date}
+use Rattle.taxi_units.specs.Money.{largest_amount}
 use Rattle.tariff_syntax.specs.Condition as tree
 use Rattle.tariff_syntax.specs.Condition.{Condition}
 use Rattle.tariff_syntax.specs.Parts.{rate_conditions, initial_conditions}
@@ -25,8 +26,8 @@ pub record IsSoundRate (r : RateNumbers) : Type 0 where
 
 -- an initial hire fee is sound where its amount and its cover are at most 99,999,999
 pub record IsSoundInitial (i : InitialNumbers) : Type 0 where
-  pub amount : i.amount ≤ 99999999
-  pub covers : i.covers ≤ 99999999
+  pub amount : i.amount ≤ largest_amount
+  pub covers : i.covers ≤ largest_amount
 
 -- a supplement is sound where its amount is at most 1,000,000 and it may be added 1 to 99 times
 pub record IsSoundSupplement (s : SupplementNumbers) : Type 0 where
@@ -62,7 +63,7 @@ pub record HasSoundParts (t : Tree) : Type 0 where
   pub initials : All IsSoundInitial (initials_of t.lines)
   pub initial_count : length (initials_of t.lines) ≤ 64
   pub default_initial : has_default (initial_conditions t.lines) ≡ true
-  pub minimums : All (λ amount. amount ≤ 99999999) (minimums_of t.lines)
+  pub minimums : All (λ amount. amount ≤ largest_amount) (minimums_of t.lines)
   pub minimum_count : length (minimums_of t.lines) ≤ 64
   pub supplements : (number : ℕ) (s : SupplementNumbers) → supplement_of t.lines number ≡ Some s → IsSoundSupplement s
   pub holidays : All IsSoundHoliday (holidays_of t.lines)

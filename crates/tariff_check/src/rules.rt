@@ -8,7 +8,7 @@ ghost use Rattle.tariff_syntax.specs.Tree.{entry_of, line_of};
 use crate::atoms::{AtomRule, item_breaks};
 use crate::pairs::{count_alike, most_alike, some_excludes, some_is_default_for};
 use tariff_syntax::{Item, TariffLine};
-use taxi_units::is_date;
+use taxi_units::{LARGEST_AMOUNT, is_date};
 
 /// What is asked of a line.
 #[derive(Clone, Copy)]
@@ -76,9 +76,6 @@ fn is_date_of_meter(year: u16, month: u8, date: u8) -> bool
 /// The most units of a step, of an amount of a rate and of a supplement.
 const MOST_AMOUNT: u64 = 1_000_000;
 
-/// The most units of an initial hire fee, of what it covers and of a minimum fare.
-const MOST_INITIAL: u64 = 99_999_999;
-
 /// Whether an item has an amount that is too big.
 fn is_great(item: &Item) -> bool
     ensures { result ≡ is_great (entry_of item.now) }
@@ -87,8 +84,9 @@ fn is_great(item: &Item) -> bool
         Item::Step { amount, .. } => *amount > MOST_AMOUNT,
         Item::Supplement { amount, .. } => *amount > MOST_AMOUNT,
         Item::Rate(rate) => rate.a > MOST_AMOUNT || rate.c > MOST_AMOUNT,
-        Item::Initial(initial) => initial.amount > MOST_INITIAL || initial.covers > MOST_INITIAL,
-        Item::Minimum(minimum) => minimum.amount > MOST_INITIAL,
+        Item::Initial(initial) => initial.amount > LARGEST_AMOUNT
+            || initial.covers > LARGEST_AMOUNT,
+        Item::Minimum(minimum) => minimum.amount > LARGEST_AMOUNT,
         _ => false,
     }
 }

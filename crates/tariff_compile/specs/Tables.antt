@@ -5,6 +5,8 @@ use Rattle.std.specs.Option.{unwrap_or, option_map}
 use Rattle.drive_modes.specs.declared.charges.Weights.{Weights}
 use Rattle.drive_modes.specs.declared.meterage.Rounding.{Rounding}
 use Rattle.drive_modes.specs.declared.meterage.Rounding.TheVariants.{Behind}
+use Rattle.pulse_input.specs.Constant.{least_constant, greatest_constant}
+use Rattle.taxi_units.specs.Money.{largest_amount}
 use Rattle.tariff_syntax.specs.Meaning.{rate_place, initial_place, minimum_place}
 use Rattle.tariff_syntax.specs.Tree.{Tree}
 use Rattle.tariff_syntax.specs.Writable.{IsFromTo, IsWritable}
@@ -142,7 +144,7 @@ IsInRangeFor tables x = IsInRange tables.constant tables.positions tables.zones 
 pub record IsTablesOf (t : Tree) (tables : TableParts) : Type 0 where
   pub writable : IsWritable t
   pub sound : IsSound t
-  pub constant : (500 ≤ tables.constant) × (tables.constant ≤ 200000)
+  pub constant : (least_constant ≤ tables.constant) × (tables.constant ≤ greatest_constant)
   pub parts : tables ≡ tables_of t tables.constant
 
 -- parts are compiled where they are the tables of some tariff
@@ -194,9 +196,9 @@ pub record AreFit (measure : ℕ) (w : Weights) : Type 0 where
 
 -- an initial hire fee is fit where it, its cover and its minimum fare are at most 99,999,999
 pub record IsFitInitial (i : Initial) : Type 0 where
-  pub amount : i.amount ≤ 99999999
-  pub covers : i.covers ≤ 99999999
-  pub minimum : i.minimum ≤ 99999999
+  pub amount : i.amount ≤ largest_amount
+  pub covers : i.covers ≤ largest_amount
+  pub minimum : i.minimum ≤ largest_amount
 
 -- tables are fit where their measure, step, decimals, positions and zones are within their limits
 pub record IsFit (tables : TableParts) : Type 0 where

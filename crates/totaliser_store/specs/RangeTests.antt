@@ -5,6 +5,7 @@ use Rattle.std.proofs.Common.{sym, ◌∙◌, ap, arith}
 use Rattle.std.specs.List.{All, list_all, sum_by}
 use Rattle.std.proofs.lemmas.List.Elements.{All-nil, All-cons, All-head, All-tail}
 use Rattle.std.proofs.lemmas.Bool.Decides.{nat_tests}
+use Rattle.taxi_units.specs.Money.{largest_amount}
 use Rattle.totaliser_store.specs.declared.durable.Durable.{Durable}
 use Rattle.totaliser_store.specs.declared.totals.Share.{Share}
 use Rattle.totaliser_store.specs.declared.totals.Totals.{Totals}
@@ -40,7 +41,7 @@ trip_of number trip sixteen is =
     let one = both (is_course number trip && is_meterage trip.ticks trip.meterage) (are_extras trip) is in
     let two = both (is_course number trip) (is_meterage trip.ticks trip.meterage) one.0 in
     let extras = both (are_counts trip.extras && nat_le trip.extras_sum 1584000000)
-    (nat_le trip.minimum 99999999) one.1 in
+    (nat_le trip.minimum largest_amount) one.1 in
     let counts = both (are_counts trip.extras) (nat_le trip.extras_sum 1584000000) extras.0 in
     record {
       started = (grind (arith, nat_tests, two.0), grind (arith, nat_tests, two.0));

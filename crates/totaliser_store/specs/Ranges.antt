@@ -5,6 +5,7 @@ use Rattle.totaliser_store.specs.declared.durable.Durable.{Durable}
 use Rattle.totaliser_store.specs.declared.entry.Entry.{Entry}
 use Rattle.totaliser_store.specs.declared.totals.Totals.{Totals}
 use Rattle.totaliser_store.specs.declared.trip.Trip.{Trip}
+use Rattle.taxi_units.specs.Money.{largest_amount}
 use Rattle.taxi_units.specs.Time.{IsSecond, last_second, last_tick}
 use Rattle.totaliser_store.specs.Entries.{closes, distance_of, no_share}
 
@@ -21,13 +22,13 @@ pub record IsTrip (number : ℕ) (trip : Trip) : Type 0 where
   pub roam : trip.roam ≤ 1001999
   pub pulses : trip.pulses ≤ 2000 * (trip.ticks + number)
   pub ticks : trip.ticks ≤ last_tick
-  pub initial : trip.initial ≤ 99999999
+  pub initial : trip.initial ≤ largest_amount
   pub cover_left : trip.meterage.cover_left ≤ 2 * 10 ^ 31
   pub steps_full : trip.meterage.steps_full ≤ 41000000000 * trip.ticks
   pub rest : trip.meterage.rest < 2 * 10 ^ 29
   pub extras : (length trip.extras ≡ 16) × All (λ count. count ≤ 99) trip.extras
   pub extras_sum : trip.extras_sum ≤ 1584000000
-  pub minimum : trip.minimum ≤ 99999999
+  pub minimum : trip.minimum ≤ largest_amount
 
 -- a trip may be held beside a number where the number leaves room for its closing entry, and the trip is in its ranges
 pub record IsHeld (number : ℕ) (trip : Trip) : Type 0 where
@@ -57,7 +58,7 @@ pub record IsDurable (durable : Durable) : Type 0 where
 -- an entry is in its ranges where each of its numbers is one that the meter can make
 pub record IsEntry (entry : Entry) : Type 0 where
   pub distance : distance_of entry ≤ 10 ^ 22
-  pub fare : entry.fare ≤ 99999999
+  pub fare : entry.fare ≤ largest_amount
   pub supplements : entry.supplements ≤ 1584000000
   pub position : closes entry ≡ true → (1 ≤ entry.position) × (entry.position ≤ 9)
 

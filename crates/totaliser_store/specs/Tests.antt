@@ -7,6 +7,7 @@ use Rattle.totaliser_store.specs.declared.durable.Durable.{Durable}
 use Rattle.totaliser_store.specs.declared.totals.Share.{Share}
 use Rattle.totaliser_store.specs.declared.totals.Totals.{Totals}
 use Rattle.totaliser_store.specs.declared.trip.Trip.{Trip}
+use Rattle.taxi_units.specs.Money.{largest_amount}
 use Rattle.taxi_units.specs.Time.{first_second, last_second, last_tick}
 use Rattle.totaliser_store.specs.Ranges.{last_number}
 
@@ -24,7 +25,7 @@ is_course number trip =
     && nat_le trip.roam 1001999
     && nat_le trip.pulses (2000 * (trip.ticks + number))
     && nat_le trip.ticks last_tick
-    && nat_le trip.initial 99999999
+    && nat_le trip.initial largest_amount
 
 -- a test whether what the charges of a trip of `ticks` intervals have come to is in its ranges
 abbrev pub is_meterage : ℕ → Meterage → Bool
@@ -42,7 +43,7 @@ abbrev pub are_extras : Trip → Bool
 are_extras trip =
     are_counts trip.extras
     && nat_le trip.extras_sum 1584000000
-    && nat_le trip.minimum 99999999
+    && nat_le trip.minimum largest_amount
 
 -- a test whether a trip is in its ranges, beside the number of a state
 abbrev pub is_trip : ℕ → Trip → Bool

@@ -9,13 +9,10 @@ ghost use Rattle.totaliser_store.specs.Tests.{are_shares, is_durable};
 
 use crate::{Durable, Share, Totals, Trip};
 use drive_modes::Meterage;
-use taxi_units::{FIRST_SECOND, LAST_SECOND, LONGEST_TRIP};
+use taxi_units::{FIRST_SECOND, LARGEST_AMOUNT, LAST_SECOND, LONGEST_TRIP};
 
 /// The greatest number beside which a trip may be held.
 const LAST_NUMBER: u64 = 2_000_000_000_000_000;
-
-/// The greatest hire fee and the greatest minimum fare.
-const GREATEST_FARE: u64 = 99_999_999;
 
 /// Whether each field of a state is in its range.
 pub fn is_durable(durable: &Durable) -> bool
@@ -81,7 +78,7 @@ fn is_course(number: u64, trip: &Trip) -> bool
         && trip.roam <= 1_001_999
         && trip.pulses <= 2_000 * (u64::from(trip.ticks) + number)
         && trip.ticks < LONGEST_TRIP
-        && trip.initial <= GREATEST_FARE
+        && trip.initial <= LARGEST_AMOUNT
 }
 
 /// Whether the charges of a trip of `ticks` intervals may have come to this.
@@ -98,7 +95,7 @@ fn is_meterage(ticks: u32, meterage: &Meterage) -> bool
 fn are_extras(trip: &Trip) -> bool
     ensures { result ≡ are_extras trip.now }
 {
-    are_counts(&trip.extras) && trip.extras_sum <= 1_584_000_000 && trip.minimum <= GREATEST_FARE
+    are_counts(&trip.extras) && trip.extras_sum <= 1_584_000_000 && trip.minimum <= LARGEST_AMOUNT
 }
 
 /// Whether each count of a supplement is at most 99.

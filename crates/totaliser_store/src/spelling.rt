@@ -2,6 +2,7 @@
 ghost use Rattle.std.specs.Prelude.{◌≡◌, [], ◌∷◌, ◌++◌, ◌+◌, ◌≤◌, ℕ, List, length, IfSome};
 ghost use Rattle.arrayvec.specs.ArrayVec.{array_vec_len};
 ghost use Rattle.slot_store.specs.Sizes.{body_size};
+ghost use Rattle.taxi_units.specs.Money.{largest_amount};
 ghost use Rattle.totaliser_store.specs.Ranges.{IsDurable, IsHeld};
 ghost use Rattle.totaliser_store.specs.Spelling.{head_bytes, course_bytes, meterage_bytes, trip_bytes};
 ghost use Rattle.totaliser_store.specs.Spelling.{held_bytes, share_bytes, shared_bytes, spelling};
@@ -59,7 +60,7 @@ fn put_held(out: &mut Spelled, number: u64, hold: &Option<Trip>)
 /// Appends how far a trip has come.
 fn put_course(out: &mut Spelled, trip: &Trip)
     requires room { array_vec_len out.old + 39 ≤ body_size }
-    requires initial { trip.now.initial ≤ 99999999 }
+    requires initial { trip.now.initial ≤ largest_amount }
     ensures items { out.new.items ≡ out.old.items ++ course_bytes trip.now }
     ensures len { array_vec_len out.new ≡ array_vec_len out.old + 39 }
 {
@@ -88,8 +89,8 @@ fn put_meterage(out: &mut Spelled, meterage: &Meterage)
 /// Appends a trip.
 fn put_trip(out: &mut Spelled, trip: &Trip)
     requires room { array_vec_len out.old + 107 ≤ body_size }
-    requires initial { trip.now.initial ≤ 99999999 }
-    requires minimum { trip.now.minimum ≤ 99999999 }
+    requires initial { trip.now.initial ≤ largest_amount }
+    requires minimum { trip.now.minimum ≤ largest_amount }
     ensures items { out.new.items ≡ out.old.items ++ trip_bytes trip.now }
     ensures len { array_vec_len out.new ≡ array_vec_len out.old + 107 }
 {

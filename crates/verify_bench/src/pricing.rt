@@ -19,6 +19,7 @@ use seal_store::Seal;
 use tariff_check::Checked;
 use tariff_compile::Initial;
 use tariff_syntax::{Context, Tariff, initial_of, minimum_of, rate_of};
+use taxi_units::LARGEST_AMOUNT;
 
 /// The charge of an interval of at most 2,000 pulses, in a context.
 pub(crate) fn charge(checked: &Checked, seal: &Seal, x: &Context, pulses: u32) -> u128
@@ -138,7 +139,7 @@ fn shown(fee: Initial, step: u64, steps: u128) -> u64
     requires step { (1 ≤ step) × (step ≤ 10 ^ 6) }
     ensures { result ≡ shown_fare fee.amount fee.minimum step steps }
 {
-    let few = steps.min(99_999_999) as u64;
+    let few = steps.min(LARGEST_AMOUNT as u128) as u64;
     let fare = fee.amount + step * few;
-    fare.max(fee.minimum).min(99_999_999)
+    fare.max(fee.minimum).min(LARGEST_AMOUNT)
 }

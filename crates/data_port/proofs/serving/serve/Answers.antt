@@ -1,6 +1,8 @@
-use Rattle.std.proofs.Common.{◌≡◌, is_err, ◌+◌, ◌-◌, ◌≤◌, ◌++◌, ◌∙◌, ℕ, List, [], Ok, min, length, take, sym, ap, arith, length-take}
+use Rattle.std.proofs.Common.{◌≡◌, is_err, ◌+◌, ◌-◌, ◌≤◌, ◌++◌, ◌∙◌, ℕ, List, [], Ok, min, length, take, refl, sym, ap, arith, length-take}
+use Rattle.std.proofs.lemmas.List.{append-nil}
 use Rattle.std.proofs.lemmas.Result.{err_from_is_err_and}
-use Rattle.outside.proofs.Laws.{keeps_then}
+use Rattle.outside.proofs.Laws.{keeps_none, keeps_then}
+use Rattle.data_port.specs.Reading.{Standing}
 use Rattle.data_port.proofs.Pieces.{more_steps, not_less, read_is_no_fault, rose_behind, served_end, served_err, served_long, served_more}
 use Rattle.data_port.proofs.serving.serve.Goals as goal
 
@@ -30,6 +32,24 @@ pub returns-in_err-serve_piece-clause-steps : goal.returns-in_err-serve_piece-cl
 returns-in_err-serve_piece-clause-steps g c =
     more_steps g.F.Files.tells g.B.Board.tells_text c.args.durable.now c.args.seal.now c.loop-left.port (g.F.Files.rest c.args.files.now c.args.word) (g.F.Files.rest c.loop-left.files c.args.word) (g.B.Board.printed c.args.board.now) (g.B.Board.printed c.loop-left.board) c.loop-left.left c.args.steps.now c.loop-left.steps c.loop-left.invariant.so_far
     c.front-bytes.result.now (g.F.Files.rest c.read_piece.new.files c.args.word) c.serve_piece.new.steps (λ k. c.in-Ok.ensures.taken k ∙ ap (λ (l : List ℕ). l ++ (g.F.Files.rest c.read_piece.new.files c.args.word)) (sym c.front-bytes.ensures)) c.serve_piece.ensures.steps
+
+pub loop-left-init : goal.loop-left-init
+loop-left-init g c = record {
+  so_far = record {
+    taken = [];
+    stands = c.new-port.ensures.taken;
+    going = ap (λ (s : Standing). s.failed) c.new-port.ensures.new;
+    count = ap (λ (s : Standing). s.taken) c.new-port.ensures.new;
+    room = omega arith;
+    split = λ k. refl;
+    shown = λ t. sym (append-nil (g.B.Board.printed c.args.board.now));
+    bounded = omega arith;
+  };
+  others = λ other ne. refl;
+  counts = λ other. omega arith;
+  faults = omega arith;
+  store = keeps_none g.B.Board c.args.board.now;
+}
 
 pub loop-left-preserved : goal.loop-left-preserved
 loop-left-preserved g c =
