@@ -35,7 +35,8 @@ fn put_zeros(out: &mut Spelled, count: usize)
     }
 }
 
-/// The byte of a mode.
+/// The byte of a mode, in a seal's body and in a reply of the data port: 0 for Single, 1 for Double. It is
+/// this project's own.
 pub fn mode_byte(mode: Mode) -> u8
     ensures { result ≡ mode_byte mode }
 {
