@@ -1,8 +1,6 @@
 //! The command `bench`.
-ghost use Rattle.std.specs.Prelude.{◌≡◌, ◌≢◌, ℕ, ◌+◌, ◌≤◌, length, IfOk, Err};
+ghost use Rattle.std.specs.Prelude.{◌≡◌, ◌≢◌, ℕ, ◌+◌, ◌≤◌, length, Err};
 ghost use Rattle.outside.specs.Faults.{Rose};
-ghost use Rattle.outside.specs.Printing.{Begins};
-ghost use Rattle.outside.specs.Runs.{KeepsStore};
 ghost use Rattle.commands.specs.Bench.{bench_answer, bench_command, terms_of};
 ghost use Rattle.commands.specs.Call.{HasReadFault};
 ghost use Rattle.commands.specs.Ending.{ComesOn, LooksAt, ended_with};

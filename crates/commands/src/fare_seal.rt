@@ -1,7 +1,6 @@
 //! What the command `fare` is sealed with.
 ghost use Rattle.std.specs.Prelude.{◌≡◌, ◌∷◌, [], pos};
 ghost use Rattle.drive_modes.specs.declared.charges.Mode.TheVariants.{Single};
-ghost use Rattle.interval_clock.specs.Offsets.{IsOffsetList};
 ghost use Rattle.taxi_units.specs.Time.{first_second};
 
 use arrayvec::ArrayVec;

@@ -3,7 +3,6 @@ ghost use Rattle.std.specs.Prelude.{◌≡◌, ◌≢◌, ◌+◌, ◌*◌, ◌<
 ghost use Rattle.drive_modes.specs.declared.charges.Mode.TheVariants.{Single};
 ghost use Rattle.drive_text.specs.Drive.{events_in};
 ghost use Rattle.drive_text.specs.Ending.{Whole, drive_end};
-ghost use Rattle.interval_clock.specs.Offsets.{IsOffsetList};
 ghost use Rattle.meter_states.specs.Setting.{Setting, IsSettingOf};
 ghost use Rattle.outside.specs.Faults.{Rose};
 ghost use Rattle.outside.specs.Runs.{KeepsStore};

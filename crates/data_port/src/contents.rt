@@ -1,11 +1,10 @@
 //! The contents of the items.
-ghost use Rattle.std.specs.Prelude.{◌≡◌, [], ◌∷◌, ◌++◌, ◌+◌, ◌*◌, ◌≤◌, length, replicate, IfSome};
-ghost use Rattle.std.specs.List.{flat_map};
+ghost use Rattle.std.specs.Prelude.{◌≡◌, ◌++◌, ◌+◌, ◌≤◌, length, replicate, IfSome};
 ghost use Rattle.arrayvec.specs.ArrayVec.{array_vec_len};
 ghost use Rattle.taxi_units.specs.Line.{line_size};
 ghost use Rattle.taxi_units.specs.Money.{largest_amount};
 ghost use Rattle.seal_store.specs.Ranges.{IsSeal};
-ghost use Rattle.seal_store.specs.Spelling.{padded, signed_bytes};
+ghost use Rattle.seal_store.specs.Spelling.{padded};
 ghost use Rattle.totaliser_store.specs.Bytes.{four, eight, sixteen};
 ghost use Rattle.totaliser_store.specs.Ranges.{IsDurable, IsHeld};
 ghost use Rattle.totaliser_store.specs.Spelling.{share_bytes};

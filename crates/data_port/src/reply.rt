@@ -1,5 +1,5 @@
 //! The reply to a request.
-ghost use Rattle.std.specs.Prelude.{◌≡◌, [], ◌∷◌, ◌++◌, ◌+◌, ◌≤◌};
+ghost use Rattle.std.specs.Prelude.{◌≡◌, [], ◌++◌, ◌≤◌};
 ghost use Rattle.arrayvec.specs.ArrayVec.{array_vec_len};
 ghost use Rattle.seal_store.specs.Ranges.{IsSeal};
 ghost use Rattle.totaliser_store.specs.Ranges.{IsDurable};

@@ -2,7 +2,7 @@
 ghost use Rattle.std.specs.Prelude.{◌≡◌, ◌++◌, ◌+◌, ◌-◌, ◌<◌, ◌≤◌, ◌^◌, [], length, true, false, IfErr, OnOk};
 ghost use Rattle.arrayvec.specs.ArrayVec.{array_vec_len};
 ghost use Rattle.data_port.specs.Reading.{HasSense, HasTaken, between};
-ghost use Rattle.data_port.specs.ReadingStages.{after_byte, ended_by, failed_at, follows, follows_codes, follows_start, has_all, has_codes, last_code, request_in};
+ghost use Rattle.data_port.specs.ReadingStages.{after_byte, ended_by, follows, follows_codes, follows_start, has_all, has_codes, last_code, request_in};
 
 use crate::port::BadFrame;
 use crate::reply::{END, START};

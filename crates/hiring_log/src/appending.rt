@@ -1,5 +1,5 @@
 //! One more record for the log, in three stages on the one slot of its place, each one write and its sync.
-ghost use Rattle.std.specs.Prelude.{◌≡◌, ◌⊎◌, ℕ, ◌+◌, ◌≤◌, ◌<◌, List, [], ◌∷◌, ◌++◌, nat_lt, true, OnOk};
+ghost use Rattle.std.specs.Prelude.{◌≡◌, ◌⊎◌, ◌+◌, ◌≤◌, ◌<◌, List, [], ◌∷◌, ◌++◌, nat_lt, OnOk};
 ghost use Rattle.outside.specs.Faults.{HasCause};
 ghost use Rattle.outside.specs.Runs.{LeavesOnly};
 ghost use Rattle.hiring_log.specs.Appends.{IsKept, IsReady, IsShut, IsStep, IsWritten};

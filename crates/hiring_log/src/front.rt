@@ -1,5 +1,5 @@
 //! A receipt at the front of a part of a roll.
-ghost use Rattle.std.specs.Prelude.{◌≡◌, ◌≢◌, ℕ, ◌+◌, ◌<◌, ◌≤◌, ◌++◌, length, take, drop, slice_index, IfSome, IfNone};
+ghost use Rattle.std.specs.Prelude.{◌≡◌, ◌≢◌, ℕ, ◌<◌, ◌≤◌, ◌++◌, length, drop, slice_index, IfSome, IfNone};
 ghost use Rattle.hiring_log.specs.Record.{IsRecord};
 ghost use Rattle.hiring_log.specs.Roll.{BeginsWithNone};
 

@@ -1,5 +1,5 @@
 //! A record's bytes in its slot, behind the gate.
-ghost use Rattle.std.specs.Prelude.{◌≡◌, ℕ, ◌+◌, ◌≤◌, ◌++◌, ◌↔◌, List, length, replicate, take, drop, Some, IsTrue};
+ghost use Rattle.std.specs.Prelude.{◌≡◌, ℕ, ◌+◌, ◌≤◌, ◌++◌, ◌↔◌, length, replicate, take, drop, Some, IsTrue};
 ghost use Rattle.arrayvec.specs.ArrayVec.{array_vec_len};
 ghost use Rattle.hiring_log.specs.Record.{Record, IsRecord};
 ghost use Rattle.hiring_log.specs.Slots.{Spells, IsRecordOf, spelling};

@@ -1,10 +1,10 @@
 //! The end of the log, as it is kept in memory while receipts are filed.
-ghost use Rattle.std.specs.Prelude.{◌≡◌, ◌+◌, ◌*◌, ◌^◌, ◌<◌, ◌≤◌, List, [], ◌∷◌, length, Ok, Some, IfOk, OnOk, OnErr};
+ghost use Rattle.std.specs.Prelude.{◌≡◌, ◌+◌, ◌^◌, ◌<◌, ◌≤◌, [], ◌∷◌, Ok, Some, OnOk, OnErr};
 ghost use Rattle.outside.specs.Faults.{HasCause};
 ghost use Rattle.hiring_log.specs.Boards.{board_of};
 ghost use Rattle.hiring_log.specs.Filed.{IsNewer, IsOther};
 ghost use Rattle.hiring_log.specs.Filings.{FilesTo, IsLast, LeavesSome};
-ghost use Rattle.hiring_log.specs.Record.{Record, IsRecord};
+ghost use Rattle.hiring_log.specs.Record.{IsRecord};
 
 use crate::appending::append;
 use crate::filing::{Filing, filing_of};

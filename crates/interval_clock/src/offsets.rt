@@ -1,5 +1,5 @@
 //! The list of offsets from UTC that gives local time.
-ghost use Rattle.std.specs.Prelude.{◌≡◌, ℕ, ◌+◌, ◌<◌, ◌≤◌, ◌↔◌, List, length, ℤ, pos, IsOk, IfOk, IfErr, Err, MatchOption};
+ghost use Rattle.std.specs.Prelude.{◌≡◌, ℕ, ◌+◌, ◌<◌, ◌≤◌, ◌↔◌, List, ℤ, pos, IsOk, IfOk, Err, MatchOption};
 ghost use Rattle.interval_clock.specs.Offsets.{IsSecond, IsOffset, IsInRangeAt, RisesAt, EachPlace, FirstPlace, IsFaultOf, IsOffsetList, IsInForce, offset_at, offset_of, second_at};
 
 use arrayvec::ArrayVec;

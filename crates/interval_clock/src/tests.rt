@@ -1,5 +1,5 @@
 //! Local times, lists of offsets, the clock and day numbers, by example.
-ghost use Rattle.std.specs.Prelude.{◌≡◌, ◌<◌, ◌≤◌, length};
+ghost use Rattle.std.specs.Prelude.{◌≡◌, ◌<◌};
 ghost use Rattle.interval_clock.specs.Offsets.{IsSecond};
 
 use super::*;

@@ -1,9 +1,7 @@
 //! One event on the core, beside the durable state that the store has.
 ghost use Rattle.std.specs.Prelude.{◌≡◌, [], ◌≤◌, ◌+◌, ◌↔◌, All, IsTrue};
-ghost use Rattle.std.specs.Option.{ForSome};
 ghost use Rattle.meter_states.specs.Acts.{IsLawfulAct};
 ghost use Rattle.meter_states.specs.Core.{Meets};
-ghost use Rattle.meter_states.specs.Fits.{Fits};
 ghost use Rattle.meter_states.specs.Lawful.{IsLawful, IsTimely};
 ghost use Rattle.meter_states.specs.Meter.{Meter};
 ghost use Rattle.meter_states.specs.Setting.{Setting, IsSettingOf};
@@ -11,7 +9,6 @@ ghost use Rattle.meter_states.specs.Step.{step};
 ghost use Rattle.taxi_units.specs.Time.{IsSecond};
 ghost use Rattle.taxi_units.specs.declared.event.Event.TheVariants.{Up};
 ghost use Rattle.taxi_units.specs.declared.event.Operating.TheVariants.{Off};
-ghost use Rattle.totaliser_store.specs.Ranges.{IsDurable};
 ghost use Rattle.meter_run.specs.Dry.{IsReady};
 ghost use Rattle.meter_run.specs.Kept.{StandsWith};
 

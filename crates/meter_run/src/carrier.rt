@@ -1,5 +1,5 @@
 //! What carries out events on a board.
-ghost use Rattle.std.specs.Prelude.{◌≡◌, ◌+◌, ◌≤◌, ◌++◌, List, [], ◌∷◌, OnOk, OnErr};
+ghost use Rattle.std.specs.Prelude.{◌+◌, ◌≤◌, ◌++◌, List, [], ◌∷◌, OnOk, OnErr};
 ghost use Rattle.outside.specs.Faults.{HasCause};
 ghost use Rattle.drive_text.specs.Runs.{intervals_events};
 ghost use Rattle.meter_states.specs.Lawful.{IsTimely};

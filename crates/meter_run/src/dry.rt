@@ -1,5 +1,5 @@
 //! The meter whose durable state is a value.
-ghost use Rattle.std.specs.Prelude.{◌≡◌, ℕ, ◌+◌, ◌≤◌, ◌++◌, [], ◌∷◌, length, OnOk};
+ghost use Rattle.std.specs.Prelude.{◌≡◌, ◌+◌, ◌≤◌, ◌++◌, length, OnOk};
 ghost use Rattle.outside.specs.Faults.{HasCause};
 ghost use Rattle.outside.specs.Printing.{Begins};
 ghost use Rattle.outside.specs.Runs.{KeepsStore};

@@ -1,7 +1,7 @@
 //! Reads a drive from its file, piece by piece, whatever its events are wanted for.
-ghost use Rattle.std.specs.Prelude.{◌≡◌, ◌≢◌, ℕ, ◌+◌, ◌-◌, ◌<◌, ◌≤◌, ◌++◌, [], List, All, length, take, drop, None, Some, IfSome, false};
+ghost use Rattle.std.specs.Prelude.{◌≡◌, ◌≢◌, ℕ, ◌+◌, ◌-◌, ◌<◌, ◌≤◌, [], List, All, length, take, drop, None, Some, IfSome};
 ghost use Rattle.outside.specs.Faults.{Rose};
-ghost use Rattle.drive_text.specs.Drive.{bad_at_end, first_bad, runs_after};
+ghost use Rattle.drive_text.specs.Drive.{bad_at_end};
 ghost use Rattle.drive_text.specs.Ranges.{IsRunInRange};
 ghost use Rattle.drive_text.specs.Reading.{HasTaken};
 ghost use Rattle.meter_run.specs.Source.{Fills, GivesRuns, HasGiven, StopsBy};

@@ -1,14 +1,13 @@
 //! The facts that a core keeps: the local time of a second, and what an interval weighs while no cut is
 //! passed.
 ghost use Rattle.std.specs.Prelude.{◌≡◌, ◌≤◌, ◌+◌, IfSome, IsTrue};
-ghost use Rattle.std.specs.Option.{ForSome};
 ghost use Rattle.tariff_compile.specs.Near.{IsNear};
 ghost use Rattle.tariff_compile.specs.Tables.{AreFit, IsInRangeFor, IsTablesOf, TableParts, rate_by};
 ghost use Rattle.tariff_syntax.specs.Tree.{Tree};
 ghost use Rattle.tariff_syntax.specs.declared.context.Context.{Context};
 ghost use Rattle.seal_store.specs.declared.seal.Seal.{Seal};
 ghost use Rattle.taxi_units.specs.Time.{IsSecond};
-ghost use Rattle.meter_states.specs.Facts.{AreLasting, AreLocal, AreTrue};
+ghost use Rattle.meter_states.specs.Facts.{AreLocal, AreTrue};
 
 use drive_modes::Weights;
 use interval_clock::civil;

@@ -1,5 +1,5 @@
 //! The measuring interval: its pulses, the context of its beginning, and what it becomes at its end.
-ghost use Rattle.std.specs.Prelude.{◌≡◌, ◌≤◌, ◌+◌, ◌≢◌, ℕ, [], None, sum};
+ghost use Rattle.std.specs.Prelude.{◌≡◌, ◌≤◌, ◌+◌, ◌≢◌, [], None, sum};
 ghost use Rattle.taxi_units.specs.Time.{last_tick, longest_trip};
 ghost use Rattle.taxi_units.specs.declared.event.Operating.TheVariants.{ForHire, Hired, Stopped};
 ghost use Rattle.meter_states.specs.Acts.{StayLawful};

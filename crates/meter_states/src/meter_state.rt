@@ -1,5 +1,5 @@
 //! The state of the meter, as the core keeps it.
-ghost use Rattle.std.specs.Prelude.{◌≡◌, ◌≤◌, ℕ, None};
+ghost use Rattle.std.specs.Prelude.{◌≡◌, ◌≤◌, None};
 ghost use Rattle.taxi_units.specs.Time.{longest_trip};
 ghost use Rattle.taxi_units.specs.declared.event.Operating.TheVariants.{Off};
 ghost use Rattle.meter_states.specs.Closing.{roaming_amid};

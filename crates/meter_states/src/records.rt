@@ -1,5 +1,5 @@
 //! Entries and receipts.
-ghost use Rattle.std.specs.Prelude.{◌≡◌, ◌≢◌, ◌+◌, ◌*◌, ◌≤◌};
+ghost use Rattle.std.specs.Prelude.{◌≡◌, ◌≢◌, ◌+◌, ◌≤◌};
 ghost use Rattle.taxi_units.specs.Shown.{IsReceipt};
 ghost use Rattle.taxi_units.specs.Time.{IsSecond, longest_trip};
 ghost use Rattle.taxi_units.specs.declared.receipt.Kind.TheVariants.{Roam};

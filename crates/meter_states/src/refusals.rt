@@ -1,5 +1,5 @@
 //! What a refusal leaves, and when a key acts.
-ghost use Rattle.std.specs.Prelude.{◌≡◌, ◌≢◌, ◌<◌, ℕ, [], ◌∷◌, None, Option, Some, sum};
+ghost use Rattle.std.specs.Prelude.{◌≡◌, ◌≢◌, ◌<◌, [], ◌∷◌, None, Option, Some, sum};
 ghost use Rattle.taxi_units.specs.Time.{longest_trip};
 ghost use Rattle.taxi_units.specs.declared.event.Event.{Event};
 ghost use Rattle.taxi_units.specs.declared.event.Event.TheVariants.{Tick};

@@ -1,5 +1,5 @@
 //! The saved form of a trip: what begins it, and what an interval and a supplement add.
-ghost use Rattle.std.specs.Prelude.{◌≡◌, ◌≢◌, ℕ, ◌+◌, ◌-◌, ◌*◌, ◌^◌, ◌<◌, ◌≤◌, All, Some, slice_index};
+ghost use Rattle.std.specs.Prelude.{◌≡◌, ◌+◌, ◌-◌, ◌^◌, ◌<◌, ◌≤◌, All, Some, slice_index};
 ghost use Rattle.drive_modes.specs.Fare.{shown_fare, steps_of};
 ghost use Rattle.tariff_compile.specs.Tables.{AreFit, IsFitInitial, rate_by};
 ghost use Rattle.tariff_syntax.specs.declared.context.Context.{Context};

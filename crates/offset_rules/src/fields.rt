@@ -1,5 +1,5 @@
 //! Offsets, times and changes at the front of a text, and what stands after them.
-ghost use Rattle.std.specs.Prelude.{◌≡◌, ◌+◌, ◌≤◌, IfSome};
+ghost use Rattle.std.specs.Prelude.{◌+◌, ◌≤◌, IfSome};
 ghost use Rattle.interval_clock.specs.Offsets.{IsOffset};
 ghost use Rattle.offset_rules.specs.Reading as spec;
 ghost use Rattle.offset_rules.specs.Rule.{IsChange};

@@ -1,5 +1,5 @@
 //! The words of changes at the front of a text, and what stands after them.
-ghost use Rattle.std.specs.Prelude.{◌≡◌, ◌≤◌, IfSome, length, map};
+ghost use Rattle.std.specs.Prelude.{◌≤◌, IfSome, length, map};
 ghost use Rattle.offset_rules.specs.Names.{day_names, month_names, number_names};
 ghost use Rattle.offset_rules.specs.Reading.{numbered_at};
 ghost use Rattle.taxi_units.specs.Reading.{Gives};

@@ -1,5 +1,5 @@
 //! Numbers at the front of a text.
-ghost use Rattle.std.specs.Prelude.{◌≡◌, ◌^◌, ◌<◌, ◌≤◌, IfSome};
+ghost use Rattle.std.specs.Prelude.{◌^◌, ◌<◌, ◌≤◌, IfSome};
 ghost use Rattle.taxi_units.specs.Reading.{Gives, GivesSame};
 ghost use Rattle.receipt_text.specs.Figures as spec;
 ghost use Rattle.receipt_text.specs.Figures.{AreDigits};

@@ -1,5 +1,5 @@
 //! What a receipt says of the meter's seal, and its lines.
-ghost use Rattle.std.specs.Prelude.{◌≡◌, ◌+◌, ◌≤◌, ◌++◌, ◌↔◌, codes, length, IsOk, OnOk, OnErr};
+ghost use Rattle.std.specs.Prelude.{◌≡◌, ◌+◌, ◌≤◌, ◌++◌, ◌↔◌, codes, length, IsOk, OnOk};
 ghost use Rattle.std.specs.List.{prefix_len};
 ghost use Rattle.arrayvec.specs.ArrayVec.{array_vec_len};
 ghost use Rattle.taxi_units.specs.Line.{line_size};

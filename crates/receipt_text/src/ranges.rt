@@ -1,5 +1,5 @@
 //! Whether receipts and what they say of a seal are in their ranges.
-ghost use Rattle.std.specs.Prelude.{◌≡◌, ◌≢◌, ◌↔◌, ◌≤◌, ◌<◌, ◌^◌, IsTrue};
+ghost use Rattle.std.specs.Prelude.{◌≡◌, ◌≢◌, ◌↔◌, ◌≤◌, ◌<◌, IsTrue};
 ghost use Rattle.std.specs.List.{AllByRecursion};
 ghost use Rattle.taxi_units.specs.Shown.{IsReceipt, IsStamp, fare_of};
 ghost use Rattle.taxi_units.specs.declared.receipt.Kind.TheVariants.{Roam};

@@ -1,5 +1,5 @@
 //! The fields of a seal at their places in bytes.
-ghost use Rattle.std.specs.Prelude.{◌≡◌, ◌+◌, ◌*◌, ◌≤◌, ◌∷◌, FitsSigned, drop, take, length, MatchOption};
+ghost use Rattle.std.specs.Prelude.{◌≡◌, ◌+◌, ◌*◌, ◌≤◌, FitsSigned, length, MatchOption};
 ghost use Rattle.std.specs.Int.{w32};
 ghost use Rattle.seal_store.specs.Decoding as spec;
 ghost use Rattle.seal_store.specs.Decoding.{decoded, signed_at};

@@ -1,5 +1,4 @@
 //! The seal: the parameters with the digest and the decimals of the tariff that they were sealed with.
-ghost use Rattle.std.specs.Prelude.{◌≡◌};
 
 use crate::decoding::seal_in;
 use crate::names::is_text;

@@ -1,5 +1,5 @@
 //! The bytes of a seal.
-ghost use Rattle.std.specs.Prelude.{◌≡◌, ◌+◌, ◌≤◌, ◌++◌, ◌∷◌, [], flat_map, length, replicate, ◌*◌};
+ghost use Rattle.std.specs.Prelude.{◌≡◌, ◌+◌, ◌≤◌, ◌++◌, [], flat_map, length, replicate, ◌*◌};
 ghost use Rattle.arrayvec.specs.ArrayVec.{array_vec_len};
 ghost use Rattle.interval_clock.specs.Offsets.{IsOffset, IsOffsetList};
 ghost use Rattle.slot_store.specs.Sizes.{body_size};

@@ -3,7 +3,7 @@ ghost use Rattle.std.specs.Prelude.{◌≡◌, ◌++◌, IfOk, OnOk};
 ghost use Rattle.shift_book.specs.Following.{Fit, IsNowhereLess};
 ghost use Rattle.shift_book.specs.ShareStages.{Rise};
 ghost use Rattle.shift_book.specs.Shares.{begun_by, free_behind, growth_in, grown, next_point};
-ghost use Rattle.shift_book.specs.Shares.{nothing, plus, shifts_in, unsigned_in};
+ghost use Rattle.shift_book.specs.Shares.{plus, shifts_in, unsigned_in};
 
 use crate::mark::Mark;
 use crate::numbers::Numbers;

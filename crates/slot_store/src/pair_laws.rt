@@ -1,6 +1,6 @@
 //! What the answers of a scan mean, and what stays of a pair, in words that share nothing with how
 //! the code finds it.
-ghost use Rattle.std.specs.Prelude.{◌≡◌, ◌⊎◌, ◌↔◌, ℕ, ◌+◌, ◌≤◌, List, length, take, drop, Option, Some, Result, Ok};
+ghost use Rattle.std.specs.Prelude.{◌≡◌, ◌↔◌, ℕ, ◌+◌, ◌≤◌, List, length, take, drop, Option, Some, Result, Ok};
 ghost use Rattle.outside.specs.Disk.{AreBytes, SameBut};
 ghost use Rattle.slot_store.specs.declared.pair.Pair.{Pair};
 ghost use Rattle.slot_store.specs.declared.pair.Place.{Place};

@@ -1,5 +1,5 @@
 //! The three stages in a row, for one body and for a list of them.
-ghost use Rattle.std.specs.Prelude.{◌≡◌, ◌⊎◌, ◌+◌, ◌*◌, ◌≤◌, false, ℕ, List, [], length, Option, IfOk, OnOk};
+ghost use Rattle.std.specs.Prelude.{◌≡◌, ◌+◌, ◌*◌, ◌≤◌, false, [], length, Option, IfOk, OnOk};
 ghost use Rattle.std.specs.List.{All};
 ghost use Rattle.outside.specs.Faults.{HasCause};
 ghost use Rattle.slot_store.specs.Sizes.{slot_size, pair_size};

@@ -1,7 +1,5 @@
 //! How the lists are collected.
-ghost use Rattle.std.specs.BTreeSet.{insert_key};
 ghost use Rattle.std.specs.Option.{IfSome, option_to_list};
-ghost use Rattle.std.specs.Ordering.{nat_cmp};
 ghost use Rattle.std.specs.Prelude.{◌≡◌, ◌≤◌, [], map, All, IfOk, OnOk};
 ghost use Rattle.tariff_calendar.specs.Lists.{day_of, pulses_for};
 ghost use Rattle.tariff_check.specs.Cuts.{with_each};

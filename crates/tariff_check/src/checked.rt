@@ -1,5 +1,5 @@
 //! A tariff that was found to be sound.
-ghost use Rattle.std.specs.Prelude.{◌≡◌, ◌^◌, ◌≤◌, Some};
+ghost use Rattle.std.specs.Prelude.{◌≡◌, ◌^◌, Some};
 ghost use Rattle.tariff_check.specs.Cells.{cells_of};
 ghost use Rattle.tariff_check.specs.Faults.{IsSound};
 ghost use Rattle.tariff_check.specs.Measure.{measure_of};

@@ -1,5 +1,5 @@
 //! Whether a tariff is sound.
-ghost use Rattle.std.specs.Prelude.{◌≡◌, ◌⊎◌, Some, None, IfOk, IfErr, map};
+ghost use Rattle.std.specs.Prelude.{◌≡◌, ◌⊎◌, Some, IfOk, IfErr, map};
 ghost use Rattle.tariff_check.specs.Counted.{HasNumbers};
 ghost use Rattle.tariff_check.specs.Faults.{HasNone, IsSound, faults_before_cuts, faults_of, fault_of, first_some};
 ghost use Rattle.tariff_check.specs.declared.fault.CheckFault.TheVariants.{NoMemory};

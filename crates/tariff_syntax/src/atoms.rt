@@ -1,7 +1,6 @@
 //! The atoms of a condition.
 #![tactic(auto, unfolding(crate::specs::Atom::numbered_first))]
 
-ghost use Rattle.std.specs.Prelude.{◌≡◌, ◌≤◌, IfSome};
 ghost use Rattle.taxi_units.specs.Reading.{Gives, GivesSame};
 ghost use Rattle.tariff_syntax.specs.Atom as spec;
 ghost use Rattle.tariff_syntax.specs.Condition as tree;

@@ -1,5 +1,5 @@
 //! What figures say: numbers of one or two digits, amounts, dates and minutes.
-ghost use Rattle.std.specs.Prelude.{◌≡◌, ◌≤◌, IfSome};
+ghost use Rattle.std.specs.Prelude.{◌≤◌, IfSome};
 ghost use Rattle.taxi_units.specs.Reading.{Gives, GivesSame};
 ghost use Rattle.tariff_syntax.specs.Figure as spec;
 ghost use Rattle.tariff_syntax.specs.TokenReading.{tokens_of};

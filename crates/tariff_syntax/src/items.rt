@@ -1,5 +1,5 @@
 //! Reads what a line says.
-ghost use Rattle.std.specs.Prelude.{◌≡◌, ◌≤◌, IfSome};
+ghost use Rattle.std.specs.Prelude.{◌≤◌, IfSome};
 ghost use Rattle.taxi_units.specs.Reading.{Gives, GivesSame};
 ghost use Rattle.tariff_syntax.specs.Built.{EntryHasParts};
 ghost use Rattle.tariff_syntax.specs.Faults.{GivesOrFails};

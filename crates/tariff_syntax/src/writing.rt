@@ -1,5 +1,5 @@
 //! Writes the printed form of a tariff.
-ghost use Rattle.std.specs.Prelude.{◌≡◌, ◌≤◌, ◌++◌, List, ℕ, IfOk, OnOk, codes, map};
+ghost use Rattle.std.specs.Prelude.{◌≡◌, ◌≤◌, ◌++◌, IfOk, OnOk, codes, map};
 ghost use Rattle.std.specs.Fmt.{decimal};
 ghost use Rattle.taxi_units.specs.Number.{money_text};
 ghost use Rattle.tariff_syntax.specs.Appends.{Appends};

@@ -1,5 +1,4 @@
 //! A durable state as the body of a slot.
-ghost use Rattle.std.specs.Prelude.{◌≡◌};
 ghost use Rattle.totaliser_store.specs.Ranges.{IsDurable};
 ghost use Rattle.totaliser_store.specs.Reading.{reads};
 ghost use Rattle.totaliser_store.specs.Spelling.{spelling};

@@ -1,5 +1,5 @@
 //! Numbers in bytes, the greatest byte first.
-ghost use Rattle.std.specs.Prelude.{◌≡◌, [], ◌∷◌, ◌++◌, ◌+◌, ◌<◌, ◌≤◌, ◌^◌, length, drop};
+ghost use Rattle.std.specs.Prelude.{◌≡◌, ◌++◌, ◌+◌, ◌<◌, ◌≤◌, length, drop};
 ghost use Rattle.arrayvec.specs.ArrayVec.{array_vec_len};
 ghost use Rattle.slot_store.specs.Sizes.{body_size};
 ghost use Rattle.totaliser_store.specs.Bytes.{four, eight, sixteen, bit};

@@ -1,5 +1,5 @@
 //! The fields of a durable state at their places in bytes.
-ghost use Rattle.std.specs.Prelude.{◌≡◌, ◌+◌, ◌≤◌, drop, length};
+ghost use Rattle.std.specs.Prelude.{◌≡◌, ◌+◌, ◌≤◌, length};
 ghost use Rattle.totaliser_store.specs.Reading.{decoded, held_in, before_of, share_at, shares_in, shares_of};
 ghost use Rattle.totaliser_store.specs.Reading.{totals_in, trip_in};
 

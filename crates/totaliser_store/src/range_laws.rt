@@ -1,11 +1,9 @@
 //! Commits of the meter keep the ranges.
-ghost use Rattle.std.specs.Prelude.{◌≡◌, ◌+◌, ◌≤◌};
-ghost use Rattle.totaliser_store.specs.declared.change.Change.{Change};
+ghost use Rattle.std.specs.Prelude.{◌+◌, ◌≤◌};
 ghost use Rattle.totaliser_store.specs.declared.change.Change.TheVariants.{Enter, Hold};
 ghost use Rattle.totaliser_store.specs.declared.durable.Durable.{Durable};
 ghost use Rattle.totaliser_store.specs.declared.entry.Entry.{Entry};
 ghost use Rattle.totaliser_store.specs.declared.trip.Trip.{Trip};
-ghost use Rattle.totaliser_store.specs.Entries.{closes};
 ghost use Rattle.totaliser_store.specs.Ranges.{last_number, HasRoom, IsDurable, IsEntry, IsTrip};
 ghost use Rattle.totaliser_store.specs.States.{after};
 

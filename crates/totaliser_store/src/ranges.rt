@@ -1,8 +1,8 @@
 //! The ranges of what a totals' slot holds, in the order of its table.
-ghost use Rattle.std.specs.Prelude.{◌≡◌, ℕ, ◌+◌, ◌*◌, ◌^◌, ◌≤◌, ◌↔◌, true, IsTrue, List};
+ghost use Rattle.std.specs.Prelude.{◌≡◌, ◌+◌, ◌*◌, ◌≤◌, true};
 ghost use Rattle.std.specs.List.{list_all};
 ghost use Rattle.taxi_units.specs.Time.{last_tick};
-ghost use Rattle.totaliser_store.specs.Ranges.{last_number, IsDurable};
+ghost use Rattle.totaliser_store.specs.Ranges.{last_number};
 ghost use Rattle.totaliser_store.specs.Tests.{is_digit, is_course, is_meterage, are_counts, are_extras};
 ghost use Rattle.totaliser_store.specs.Tests.{is_layout, is_trip, is_held, is_none, add_up, are_totals};
 ghost use Rattle.totaliser_store.specs.Tests.{are_shares, is_durable};

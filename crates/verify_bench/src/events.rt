@@ -1,5 +1,5 @@
 //! What the events of a drive do to the meter of the bench.
-ghost use Rattle.std.specs.Prelude.{◌≡◌, ◌≢◌, ◌≤◌, OnOk};
+ghost use Rattle.std.specs.Prelude.{OnOk};
 ghost use Rattle.meter_states.specs.Interval.{pulses_taken};
 ghost use Rattle.meter_states.specs.Setting.{Setting};
 ghost use Rattle.meter_states.specs.Step.{clock_read, powered_step, step};

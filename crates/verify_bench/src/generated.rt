@@ -1,5 +1,5 @@
 //! What a generated drive means.
-ghost use Rattle.std.specs.Prelude.{◌≡◌, ℕ, ◌<◌, ◌≤◌, ◌^◌, length, None};
+ghost use Rattle.std.specs.Prelude.{◌≡◌, ℕ, ◌<◌, ◌≤◌, length, None};
 ghost use Rattle.drive_text.specs.Drive.{bad_at_end, events_in, runs_in};
 ghost use Rattle.drive_text.specs.Ending.{drive_limit};
 ghost use Rattle.verify_bench.specs.Generated.{generated, generated_lines};

@@ -1,5 +1,5 @@
 //! A hiring, with the whole list of its intervals.
-ghost use Rattle.std.specs.Prelude.{◌≡◌, ℕ, ◌+◌, ◌*◌, ◌^◌, ◌<◌, ◌≤◌, ◌++◌, ◌∷◌, [], All, map, sum, count_by, ◌==◌, OnOk};
+ghost use Rattle.std.specs.Prelude.{◌≡◌, ◌+◌, ◌*◌, ◌^◌, ◌<◌, ◌≤◌, ◌++◌, ◌∷◌, [], map, sum, ◌==◌, OnOk};
 ghost use Rattle.meter_states.specs.Supplements.{times};
 ghost use Rattle.tariff_compile.specs.Tables.{IsFitInitial};
 ghost use Rattle.meter_states.specs.Trip.{Trip, fare_of};

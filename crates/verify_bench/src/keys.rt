@@ -1,7 +1,7 @@
 //! What keys do to the meter of the bench.
 #![tactic(auto, using(crate::proofs::Benches::looser))]
 
-ghost use Rattle.std.specs.Prelude.{◌≡◌, ◌≢◌, ◌≤◌, Some, OnOk, true};
+ghost use Rattle.std.specs.Prelude.{Some, OnOk};
 ghost use Rattle.meter_states.specs.Keys.{extra_added, hiring, key_in, latched, position_set, zone_set};
 ghost use Rattle.meter_states.specs.Setting.{Setting};
 ghost use Rattle.tariff_compile.specs.Tables.{supplement_at};

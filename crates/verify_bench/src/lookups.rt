@@ -1,5 +1,5 @@
 //! What the lines of a tariff say.
-ghost use Rattle.std.specs.Prelude.{◌≡◌, ◌∷◌, map, get_or, Option};
+ghost use Rattle.std.specs.Prelude.{◌≡◌, map, get_or, Option};
 ghost use Rattle.std.specs.Option.{option_map};
 ghost use Rattle.tariff_calendar.specs.Lists.{is_holiday};
 ghost use Rattle.tariff_check.specs.Parts.{initials_of, minimums_of, rates_of, supplement_of};

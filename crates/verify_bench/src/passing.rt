@@ -1,9 +1,8 @@
 //! Whether readings pass.
-ghost use Rattle.std.specs.Prelude.{◌≡◌, ℕ, ◌↔◌, List, max, length, true, slice_get};
+ghost use Rattle.std.specs.Prelude.{◌≡◌, ℕ, ◌↔◌, List, max, true};
 ghost use Rattle.verify_bench.specs.declared.expected.Expected.{Expected};
 ghost use Rattle.verify_bench.specs.declared.reading.Reading.{Reading};
 ghost use Rattle.verify_bench.specs.Passing.{EachRowPasses};
-ghost use Rattle.verify_bench.specs.PassingStages.{do_places_pass};
 ghost use Rattle.verify_bench.specs.PassingStages as stages;
 
 use crate::expected::Expected;

@@ -1,8 +1,7 @@
 //! The meter of the bench: it keeps each interval of a trip, and adds up at its end.
 #![tactic(auto, using(crate::proofs::Benches::looser))]
 
-ghost use Rattle.std.specs.Prelude.{◌≡◌, ◌≢◌, ℕ, ◌+◌, ◌-◌, ◌≤◌, ◌<◌, None, OnOk, true};
-ghost use Rattle.interval_clock.specs.LocalTime.{local_second, local_time_of};
+ghost use Rattle.std.specs.Prelude.{◌≡◌, ℕ, ◌+◌, ◌-◌, ◌≤◌, ◌<◌, None, OnOk, true};
 ghost use Rattle.meter_states.specs.Closing.{closed, roaming_checked, roaming_entered};
 ghost use Rattle.meter_states.specs.Interval.{context_on, interval_counted, interval_left, pulses_so_far, ticks_so_far, with_interval, with_roaming};
 ghost use Rattle.meter_states.specs.Meter.{Meter};

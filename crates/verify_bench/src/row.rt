@@ -1,5 +1,5 @@
 //! Rows of readings.
-ghost use Rattle.std.specs.Prelude.{◌≡◌, ◌≢◌, ◌↔◌, ◌∷◌, [], length, codes, IsTrue, MatchOption};
+ghost use Rattle.std.specs.Prelude.{◌≡◌, ◌≢◌, ◌↔◌, ◌∷◌, [], length, IsTrue, MatchOption};
 ghost use Rattle.csv.specs.Records.{fields_of};
 ghost use Rattle.verify_bench.specs.Readings.{header};
 ghost use Rattle.verify_bench.specs.ReadingStages.{reading_said};

@@ -1,8 +1,8 @@
 //! Writes the cross-over speeds of a tariff.
-ghost use Rattle.std.specs.Prelude.{◌≡◌, ◌+◌, ◌≤◌, ◌<◌, ◌^◌, ◌++◌, [], All, map, length, IfOk, OnOk};
+ghost use Rattle.std.specs.Prelude.{◌≡◌, ◌+◌, ◌≤◌, ◌<◌, ◌++◌, All, map, IfOk};
 ghost use Rattle.arrayvec.specs.ArrayVec.{array_vec_len};
 ghost use Rattle.taxi_units.specs.Line.{line_size};
-ghost use Rattle.tariff_check.specs.Parts.{RateNumbers, rates_of};
+ghost use Rattle.tariff_check.specs.Parts.{rates_of};
 ghost use Rattle.tariff_check.specs.Sound.{IsSoundRate};
 ghost use Rattle.tariff_syntax.specs.Tree.{line_of, tree_of};
 ghost use Rattle.verify_bench.specs.CrossOvers.{cross_over_line, cross_over_of, cross_overs_text, speed_text};

@@ -1,5 +1,5 @@
 //! What the supply does to the meter of the bench.
-ghost use Rattle.std.specs.Prelude.{◌≡◌, ◌≢◌, ◌+◌, ◌<◌, ◌≤◌, ◌&&◌, nat_le, None, Some, OnOk};
+ghost use Rattle.std.specs.Prelude.{◌≡◌, ◌+◌, ◌<◌, ◌&&◌, nat_le, None, Some, OnOk};
 ghost use Rattle.meter_states.specs.Closing.{holds_end};
 ghost use Rattle.meter_states.specs.Interval.{ticks_so_far};
 ghost use Rattle.meter_states.specs.Meter.{Meter, held};

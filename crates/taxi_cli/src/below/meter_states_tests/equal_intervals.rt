@@ -1,7 +1,7 @@
 //! Rows of equal intervals, carried out at once on one core and one by one on another beside it. The two do the same at
 //! each event, and a supply drop behind any of the rows shows that they have kept the same.
 ghost use Rattle.std.specs.Prelude.{◌≡◌, ◌<◌, ◌≤◌, ◌+◌};
-ghost use Rattle.meter_states.specs.Lawful.{IsLawful, IsTimely};
+ghost use Rattle.meter_states.specs.Lawful.{IsLawful};
 
 use super::drives::{DOUBLE, SINGLE, Secured, acts_at_first, is_timely, setting};
 use super::equal_rows::{AHEAD, BEHIND, ROWS, Row};

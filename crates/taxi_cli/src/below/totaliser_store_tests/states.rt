@@ -1,5 +1,5 @@
 //! States after the entries of worked drives, by `Durable::after`.
-ghost use Rattle.std.specs.Prelude.{◌≤◌, IfSome, IsTrue};
+ghost use Rattle.std.specs.Prelude.{IfSome, IsTrue};
 ghost use Rattle.totaliser_store.specs.Ranges.{IsDurable, IsEntry};
 
 use super::bodies::NOTHING;

@@ -1,6 +1,6 @@
 //! What drives should come to, by example, with `expect`: the rates, fares and distances are worked out by hand from
 //! the rules of a meter.
-ghost use Rattle.std.specs.Prelude.{◌+◌, ◌<◌, ◌^◌, length};
+ghost use Rattle.std.specs.Prelude.{◌<◌};
 
 use crate::run_tests::{CITY, HELD, HIRING};
 use crate::tests::A;
