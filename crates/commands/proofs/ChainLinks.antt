@@ -7,6 +7,7 @@ use Rattle.outside.specs.declared.files.Files.{Ghosts as FileGhosts}
 use Rattle.outside.specs.declared.replay.Fill.{Fill}
 use Rattle.outside.specs.Disk.{SameBut}
 use Rattle.outside.specs.Faults.{Rose}
+use Rattle.outside.specs.MemoryBoard.{BoardState, image_of, left_since_of, text_of}
 use Rattle.outside.specs.MemoryFiles.{FilesState, rest_of}
 use Rattle.outside.specs.Printing.{Begins}
 use Rattle.outside.specs.Runs.{IsSettled as NothingFlies}
@@ -24,8 +25,8 @@ use Rattle.meter_run.specs.Deeds.{Deed, Does, Prints, after_deeds, changes_in, c
 use Rattle.meter_run.proofs.Laws.{the_number_tells_the_commits-beginning}
 use Rattle.commands.specs.Call.{IsEnd, MayTake}
 use Rattle.commands.specs.Command.{command_of}
-use Rattle.commands.specs.Course.{Course, Answered, ReadFailed, NoMemory, BoardFailed, line_in, status_in}
-use Rattle.commands.specs.Link.{deeds_from}
+use Rattle.commands.specs.Course.{Course, Answered, ReadFailed, NoMemory, BoardFailed, line_in, status_in, text_in}
+use Rattle.commands.specs.Link.{IsLeftInside, call_of, deeds_from, text_before}
 use Rattle.commands.specs.ChainSteps.{HasLink}
 use Rattle.commands.specs.Opening.{opening_of}
 use Rattle.commands.specs.Run.{IsOfTotals, IsRun, MayFind, Stands, Start, bytes_in, deeds_in, run_command, start_of}
@@ -137,10 +138,15 @@ told_pair told t image printed e (Ok s) bytes line i x m = record {
 }
 
 -- what was left since moment 0 was left since a board's first moment
-pub since_first : (since : ℕ → List ℕ → List ℕ → Type 0) (moment : ℕ) → moment ≡ 0 → (i image opening : List ℕ) → opening ≡ image
-    → ((text : List ℕ) × since 0 i text) ⊎ (i ≡ image) → ((text : List ℕ) × since moment i text) ⊎ (i ≡ opening)
-since_first since moment e i image opening is (inl h) = inl (h.0, subst (λ (n : ℕ). since n i h.0) (sym e) h.1)
-since_first since moment e i image opening is (inr same) = inr (same ∙ sym is)
+pub since_first : (since : ℕ → List ℕ → List ℕ → Type 0) (moment : ℕ) → moment ≡ 0 → (i text image opening : List ℕ) → opening ≡ image
+    → since 0 i text ⊎ ((i ≡ image) × (text ≡ [])) → since moment i text ⊎ ((i ≡ opening) × (text ≡ []))
+since_first since moment e i text image opening is (inl h) = inl (subst (λ (n : ℕ). since n i text) (sym e) h)
+since_first since moment e i text image opening is (inr same) = inr (same.0 ∙ sym is, same.1)
+
+-- the text of a run that ended whole
+whole_text : (told board_failed : Type 0) (status : ℕ) (text : List ℕ) (ended : ℕ) (before now : List ℕ) → IsEnd told board_failed status text ended before now → told → before ≡ [] → ended ≢ 8 → now ≡ text
+whole_text told board_failed status text ended before now (inl whole) t silent not_8 = whole.printed t ∙ ap (λ (l : List ℕ). l ++ text) silent
+whole_text told board_failed status text ended before now (inr cut) t silent not_8 = absurd (not_8 cut.status_is)
 
 -- ---- how far a run came
 
@@ -199,50 +205,62 @@ module _ {D L : Type 0} (B : Ghosts D L) (files left : FilesState) (old new : D)
   first_pair : (i : List ℕ) → i ≡ image → IsLeft i []
   first_pair i same = found-held (Unit {0}) image [] (rest_of files 1) begun refl bytes line i [] same refl
 
-  pub pair_of : (i : List ℕ) → ((text : List ℕ) × B.left_since new (B.moment old) i text) ⊎ (i ≡ image) → (text : List ℕ) × IsLeft i text
-  pair_of i (inl h) = (h.0, left_pair i h.0 h.1)
-  pair_of i (inr same) = ([], first_pair i same)
+  pub pair_of : (i text : List ℕ) → B.left_since new (B.moment old) i text ⊎ ((i ≡ image) × (text ≡ [])) → IsLeft i text
+  pair_of i text (inl h) = left_pair i text h
+  pair_of i text (inr same) = subst (λ (x : List ℕ). IsLeft i x) (sym same.1) (first_pair i same.0)
 
-  pub linked : (d : Durable) → HasState image d → (cut : Option (ℕ × Fill)) (i : List ℕ) → ((text : List ℕ) × B.left_since new (B.moment old) i text) ⊎ (i ≡ image)
-      → (cut ≡ None → i ≡ B.image new) → ((fill : Fill) → cut ≡ Some (0, fill) → i ≡ image) → (number : ℕ) → ((e : Durable) → HasState i e → number ≡ e.number)
-      → HasLink d image files left cut ended i number
-  linked d has cut i left_so whole none number number_is =
-      let pair = pair_of i left_so in
-      let k = keeps image (rest_of files 1) d has begun refl bytes line i pair.0 pair.1 in
-      let commits : List Change = changes_of (deeds_from begun bytes) in
-      let is_number : number ≡ k.found.number = number_is k.found k.stands in
-      let more : k.found.number ≡ d.number + length k.kept = k.follows.number in
-      let few : length commits ≡ length k.kept + length k.more = ap length k.split ∙ length-append k.kept k.more in
-      let counted : number - d.number ≡ length k.kept = omega arith in
-      let prefix : take (number - d.number) commits ≡ k.kept = ap (λ (n : ℕ). take n commits) counted ∙ ap (take (length k.kept)) k.split ∙ take-append_seam k.kept k.more in
-      let how = came (rest_of files) (rest_of left) image (λ word. Rose files.failed left.failed) (Rose (B.faults old) (B.faults new)) B.tells_text _ ended (B.printed old) (B.printed new)
-      run.call.course run.call.may run.call.ends not_8 not_12 in
-      record {
-        link = record { files = files; files_left = left; cut = cut; course = run.call.course; status = ended; image = i; found = k.found; number = number; text = pair.0 };
-        is = record {
-          may = how.0;
-          status = how.1;
-          memory = not_12;
-          others = unread;
-          least = omega arith;
-          most = omega arith;
-          stands = k.stands;
-          number = is_number;
-          follows = subst (λ (l : List Change). Follows d k.found l) (sym prefix) k.follows;
-          whole = λ uncut.
-              is_number ∙ all_kept image (rest_of files 1) d has B.tells_text (B.printed old) begun refl bytes (B.image new) (run.stands not_8) k.found
-              (subst (λ (l : List ℕ). HasState l k.found) (whole uncut) k.stands);
-          none = λ fill first. (
-            none fill first,
-            is_number ∙ ap (λ (x : Durable). x.number) (one_state image k.found d (subst (λ (l : List ℕ). HasState l k.found) (none fill first) k.stands) has),
-          );
-          seal_stays = seal_same image (rest_of files 1) d has begun bytes line i pair.0 pair.1;
-          pair = pair.1;
-        };
-        files_are = refl;
-        left_are = refl;
-        cut_is = refl;
-        status_is = refl;
-        image_is = refl;
-        number_is = refl;
-      }
+  -- the board of the run, as a board in memory
+  module _ (board : BoardState) (prints : B.printed new ≡ text_of board) (since : (i x : List ℕ) → left_since_of board 0 i x → B.left_since new (B.moment old) i x) where
+    pub linked : (d : Durable) → HasState image d → (cut : Option (ℕ × Fill)) (i : List ℕ)
+        → B.left_since new (B.moment old) i (text_before cut board) ⊎ ((i ≡ image) × (text_before cut board ≡ []))
+        → B.image new ≡ image_of board → (cut ≡ None → i ≡ image_of board) → ((fill : Fill) → cut ≡ Some (0, fill) → i ≡ image)
+        → ((call : ℕ) (fill : Fill) → cut ≡ Some (call, fill) → call ≢ 0 → IsLeftInside board (call_of board call) i)
+        → (number : ℕ) → ((e : Durable) → HasState i e → number ≡ e.number) → HasLink d image files left cut ended i number
+    linked d has cut i left_so image_is uncut none inside number number_is =
+        let pair = pair_of i (text_before cut board) left_so in
+        let whole : cut ≡ None → i ≡ B.image new = λ is. uncut is ∙ sym image_is in
+        let k = keeps image (rest_of files 1) d has begun refl bytes line i (text_before cut board) pair in
+        let commits : List Change = changes_of (deeds_from begun bytes) in
+        let is_number : number ≡ k.found.number = number_is k.found k.stands in
+        let more : k.found.number ≡ d.number + length k.kept = k.follows.number in
+        let few : length commits ≡ length k.kept + length k.more = ap length k.split ∙ length-append k.kept k.more in
+        let counted : number - d.number ≡ length k.kept = omega arith in
+        let prefix : take (number - d.number) commits ≡ k.kept = ap (λ (n : ℕ). take n commits) counted ∙ ap (take (length k.kept)) k.split ∙ take-append_seam k.kept k.more in
+        let how = came (rest_of files) (rest_of left) image (λ word. Rose files.failed left.failed) (Rose (B.faults old) (B.faults new)) B.tells_text _ ended (B.printed old) (B.printed new)
+        run.call.course run.call.may run.call.ends not_8 not_12 in
+        record {
+          link = record { files = files; files_left = left; board = board; cut = cut; course = run.call.course; status = ended; image = i; found = k.found; number = number; text = text_before cut board };
+          is = record {
+            may = how.0;
+            status = how.1;
+            memory = not_12;
+            others = unread;
+            least = omega arith;
+            most = omega arith;
+            stands = k.stands;
+            number = is_number;
+            follows = subst (λ (l : List Change). Follows d k.found l) (sym prefix) k.follows;
+            whole = λ uncut.
+                is_number ∙ all_kept image (rest_of files 1) d has B.tells_text (B.printed old) begun refl bytes (B.image new) (run.stands not_8) k.found
+                (subst (λ (l : List ℕ). HasState l k.found) (whole uncut) k.stands);
+            none = λ fill first. (
+              none fill first,
+              is_number ∙ ap (λ (x : Durable). x.number) (one_state image k.found d (subst (λ (l : List ℕ). HasState l k.found) (none fill first) k.stands) has),
+            );
+            printed = sym prints
+                ∙ whole_text B.tells_text (Rose (B.faults old) (B.faults new)) (status_in run_command (rest_of files) image run.call.course) (text_in run_command (rest_of files) image run.call.course)
+                ended (B.printed old) (B.printed new) run.call.ends told silent not_8;
+            moments = λ j x h. left_pair j x (since j x h);
+            text_is = refl;
+            uncut = uncut;
+            inside = inside;
+            seal_stays = seal_same image (rest_of files 1) d has begun bytes line i (text_before cut board) pair;
+            pair = pair;
+          };
+          files_are = refl;
+          left_are = refl;
+          cut_is = refl;
+          status_is = refl;
+          image_is = refl;
+          number_is = refl;
+        }

@@ -1,7 +1,9 @@
 -- Rules: one run of a chain, and the cut of the power in it.
-use Rattle.std.specs.Prelude.{◌≡◌, ◌≢◌, ℕ, ◌+◌, ◌-◌, ◌≤◌, List, [], length, take, Option, None, Some, Result, Ok, Err}
+use Rattle.std.specs.Prelude.{◌≡◌, ◌≢◌, ℕ, ◌+◌, ◌-◌, ◌≤◌, min, List, [], length, take, Option, None, Some, Result, Ok, Err}
+use Rattle.outside.specs.Calls.{IsInSome}
 use Rattle.outside.specs.Disk.{SameBut}
 use Rattle.outside.specs.Faults.{Rose}
+use Rattle.outside.specs.MemoryBoard.{BoardState, held_inside, image_of, left_since_of, text_of}
 use Rattle.outside.specs.MemoryFiles.{FilesState, rest_of}
 use Rattle.outside.specs.declared.replay.Fill.{Fill}
 use Rattle.totaliser_store.specs.Stored.{HasState}
@@ -10,18 +12,19 @@ use Rattle.totaliser_store.specs.declared.change.Change.{Change}
 use Rattle.totaliser_store.specs.declared.durable.Durable.{Durable}
 use Rattle.meter_run.specs.Deeds.{Deed, changes_of}
 use Rattle.commands.specs.Call.{MayTake}
-use Rattle.commands.specs.Course.{Course, line_in, status_in}
+use Rattle.commands.specs.Course.{Course, line_in, status_in, text_in}
 use Rattle.commands.specs.Opening.{opening_of}
 use Rattle.commands.specs.Run.{IsOfTotals, MayFind, Start, bytes_in, deeds_in, run_command, start_of}
 use Rattle.commands.specs.declared.ending.Ended.{Ended}
 
--- A run of a chain is told by what its files held and what is left of them, how the power was cut, how far the run
--- came, its status, and what is left behind it, which is the next image, the state for which that image stands, the
--- number of that state, and what had been printed. A cut is one inside the board's call with a number, and what it
--- makes of the bytes in flight.
+-- A run of a chain is told by what its files held and what is left of them, its board as the run left it, how the power
+-- was cut, how far the run came, its status, and what is left behind it, which is the next image, the state for which
+-- that image stands, the number of that state, and what had been printed. A cut is one inside the board's call with a
+-- number, and what it makes of the bytes in flight.
 pub record Link : Type 0 where
   pub files : FilesState
   pub files_left : FilesState
+  pub board : BoardState
   pub cut : Option (ℕ × Fill)
   pub course : Course
   pub status : ℕ
@@ -29,6 +32,20 @@ pub record Link : Type 0 where
   pub found : Durable
   pub number : ℕ
   pub text : List ℕ
+
+-- a cut comes inside the call with its number, or inside the last one where the number is above that
+abbrev pub call_of : BoardState → (number : ℕ) → ℕ
+call_of board number = min number (length board.calls)
+
+-- what had been printed is all of a board's text where there is no cut, and else the text that the board holds inside
+-- the call of the cut
+abbrev pub text_before : Option (ℕ × Fill) → BoardState → List ℕ
+text_before None board = text_of board
+text_before (Some (number, fill)) board = (held_inside board (call_of board number)).text
+
+-- an image is left inside a call of a board where it has each byte that the board holds there, but those in flight
+abbrev pub IsLeftInside : BoardState → (call : ℕ) → List ℕ → Type 0
+IsLeftInside board call image = SameBut (IsInSome (held_inside board call).ranges) (held_inside board call).image image
 
 -- a run does the deeds of the bytes of its drive from its start on, and nothing where it is refused before the drive
 abbrev pub deeds_from : Result Start Ended → (bytes : List ℕ) → List Deed
@@ -57,6 +74,11 @@ module _ (image : List ℕ) (link : Link) where
   abbrev pub last_line : List ℕ
   last_line = line_in run_command (rest_of link.files) image link.course
 
+  -- a pair of an image and a text is a point of a run where a cut of the power may leave it of the run
+  abbrev pub IsPoint : (left_image left_text : List ℕ) → Type 0
+  IsPoint left_image left_text =
+      MayFind (Unit {0}) image [] begun_with bytes_done last_line left_image left_text
+
 -- the prefix of a run is the commits that the next image has, as many as its number is above that of the state before
 abbrev pub prefix_of : (durable : Durable) (image : List ℕ) → Link → List Change
 prefix_of durable image link = take (link.number - durable.number) (commits_done image link)
@@ -82,8 +104,16 @@ pub record IsLink (durable : Durable) (image : List ℕ) (link : Link) : Type 0 
   -- the commits are all those of the run where the power wasn't cut, and none where it was cut before the first call
   pub whole : link.cut ≡ None → link.number ≡ durable.number + length (commits_done image link)
   pub none : (fill : Fill) → link.cut ≡ Some (0, fill) → (link.image ≡ image) × (link.number ≡ durable.number)
+  -- the board has printed the text of the run, and at each of its moments a cut leaves a point of the run
+  pub printed : text_of link.board ≡ text_in run_command (rest_of link.files) image link.course
+  pub moments : (left_image left_text : List ℕ) → left_since_of link.board 0 left_image left_text
+      → IsPoint image link left_image left_text
+  -- the next image and what had been printed are those of the board: in the end, or inside the call of the cut
+  pub text_is : link.text ≡ text_before link.cut link.board
+  pub uncut : link.cut ≡ None → link.image ≡ image_of link.board
+  pub inside : (call : ℕ) (fill : Fill) → link.cut ≡ Some (call, fill) → call ≢ 0
+      → IsLeftInside link.board (call_of link.board call) link.image
   -- the bytes of the seal stay
   pub seal_stays : SameBut IsOfTotals image link.image
   -- the next image and what had been printed are a pair that a cut of the power leaves of the run
-  pub pair : MayFind (Unit {0}) image [] (begun_with image link) (bytes_done image link) (last_line image link)
-      link.image link.text
+  pub pair : IsPoint image link link.image link.text

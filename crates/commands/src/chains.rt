@@ -1,5 +1,5 @@
 //! Any chain of runs and cuts of the power, over boards in memory.
-ghost use Rattle.std.specs.Prelude.{◌≡◌, ◌⊎◌, ℕ, ◌↔◌, List, length, map, string_bytes, IfOk, IsTrue, None, Some};
+ghost use Rattle.std.specs.Prelude.{◌≡◌, ◌≢◌, ◌⊎◌, ℕ, ◌↔◌, List, [], length, map, string_bytes, IfOk, IsTrue, None, Some};
 ghost use Rattle.outside.specs.Disk.{SameBut};
 ghost use Rattle.outside.specs.MemoryBoard.{image_of, left_since_of};
 ghost use Rattle.outside.specs.declared.replay.Fill.{Fill};
@@ -9,6 +9,7 @@ ghost use Rattle.totaliser_store.specs.Stored.{HasState};
 ghost use Rattle.totaliser_store.specs.declared.durable.Durable.{Durable};
 ghost use Rattle.commands.specs.Chain.{HasChain, IsSealedStore};
 ghost use Rattle.commands.specs.ChainSteps.{HasLink};
+ghost use Rattle.commands.specs.Link.{IsLeftInside, call_of, text_before};
 ghost use Rattle.commands.specs.Run.{IsOfTotals};
 ghost use Rattle.commands.specs.Words.{row_of};
 ghost use Rattle.commands.specs.declared.words.Row.TheVariants.{Run};
@@ -65,9 +66,12 @@ fn left_by(
     board: &MemoryBoard,
     cut: Option<(u64, Fill)>,
 ) -> [u8; STORE_SIZE]
-    ensures left { ((text : List ℕ) × left_since_of board.now.state 0 result text) ⊎ (result ≡ image.now) }
+    ensures left { left_since_of board.now.state 0 result (text_before cut board.now.state)
+        ⊎ ((result ≡ image.now) × (text_before cut board.now.state ≡ [])) }
     ensures whole { cut ≡ None → result ≡ image_of board.now.state }
     ensures none { (fill : Fill) → cut ≡ Some (0, fill) → result ≡ image.now }
+    ensures inside { (call : ℕ) (fill : Fill) → cut ≡ Some (call, fill) → call ≢ 0
+        → IsLeftInside board.now.state (call_of board.now.state call) result }
 {
     match cut {
         None => *board.image(),
@@ -114,8 +118,8 @@ fn run_over<L: Ledger>(
 ///
 /// The answer is the image at the end, and for each run its status and the number of the totals in the
 /// image that it left. `NoMemory` comes only where there is no memory: a run that ends with 8 or 12 is
-/// answered so. Which moment a call's number names, other than 0, is shown by tests alone. All of it is
-/// this project's own.
+/// answered so. Which calls a run makes of its board, and what a fill makes of the bytes in flight, is shown
+/// by tests alone. All of it is this project's own.
 pub fn chain<L: Ledger>(
     alloc: Global,
     words: &[String],
@@ -130,7 +134,8 @@ pub fn chain<L: Ledger>(
 
     // From the first to the last each run comes to its answer's status or to 7, where a read of its files failed, and
     // leaves an image that stands for the state after some of its commits, from the first on: as many as the number
-    // says, all where there was no cut, none where the cut's call is 0.
+    // says, all where there was no cut, none where the cut's call is 0. That image is what the run's board holds inside
+    // the call of the cut, but for the bytes in flight there.
     ensures chain { (durable : Durable) → HasState image.now durable → IfOk result (λ ended.
         HasChain durable image.now files.old files.new cuts.now ended.0 ended.1.items) }
 
