@@ -1,5 +1,5 @@
 -- One run of a chain, from what holds of a call with the words of a run.
-use Rattle.std.proofs.Common.{◌≡◌, ◌≢◌, ◌⊎◌, inl, inr, ℕ, ◌+◌, ◌-◌, List, [], ◌∷◌, ◌++◌, length, take, Option, Some, None, Result, Ok, Err, refl, sym, ap, subst, ◌∙◌, arith, append_assoc, length-append}
+use Rattle.std.proofs.Common.{◌≡◌, ◌≢◌, ◌⊎◌, inl, inr, ℕ, ◌+◌, ◌-◌, List, [], ◌∷◌, ◌++◌, length, take, Option, Some, None, Result, Ok, Err, refl, sym, ap, subst, ◌∙◌, arith, length-append}
 use Rattle.std.proofs.lemmas.List.{append-nil}
 use Rattle.std.proofs.Math.Seq.{take-append_seam}
 use Rattle.outside.specs.declared.board.Board.{Ghosts}
@@ -15,14 +15,11 @@ use Rattle.slot_store.proofs.Laws.{one_body}
 use Rattle.totaliser_store.specs.Reading.{reads}
 use Rattle.totaliser_store.specs.Stored.{HasState, number_of}
 use Rattle.totaliser_store.specs.Sums.{Follows}
-use Rattle.totaliser_store.specs.States.{after}
 use Rattle.totaliser_store.specs.declared.change.Change.{Change}
-use Rattle.totaliser_store.specs.declared.change.Change.TheVariants as changes
 use Rattle.totaliser_store.specs.declared.durable.Durable.{Durable}
 use Rattle.totaliser_store.proofs.Laws.{changes_add_up}
-use Rattle.meter_states.specs.declared.act.Act.TheVariants.{Show, Refuse, Enter, Hold, Receipt}
-use Rattle.meter_run.specs.Deeds.{Deed, Does, Prints, after_deeds, changes_in, changes_of, texts}
-use Rattle.meter_run.proofs.Laws.{the_number_tells_the_commits-beginning}
+use Rattle.meter_run.specs.Deeds.{Deed, Prints, after_deeds, changes_of, texts}
+use Rattle.meter_run.proofs.Laws.{changes_joined, deeds_follow, the_number_tells_the_commits-beginning}
 use Rattle.commands.specs.Call.{IsEnd, MayTake}
 use Rattle.commands.specs.Command.{command_of}
 use Rattle.commands.specs.Course.{Course, Answered, ReadFailed, NoMemory, BoardFailed, line_in, status_in, text_in}
@@ -38,23 +35,9 @@ use Rattle.commands.proofs.Starting.{start_stands}
 
 -- ---- what deeds commit
 
-pub commits_joined : (xs ys : List Deed) → changes_of (xs ++ ys) ≡ changes_of xs ++ changes_of ys
-commits_joined [] ys = refl
-commits_joined (x ∷ xs) ys = ap (λ (l : List Change). changes_in x ++ l) (commits_joined xs ys) ∙ sym (append_assoc (changes_in x) (changes_of xs) (changes_of ys))
-
 -- a line commits nothing
 pub line_commits : (deeds : List Deed) (line : List ℕ) → changes_of (deeds ++ Prints line ∷ []) ≡ changes_of deeds
-line_commits deeds line = commits_joined deeds (Prints line ∷ []) ∙ append-nil (changes_of deeds)
-
--- each commit raises the number by one
-after_number : (d : Durable) (deeds : List Deed) → (after_deeds d deeds).number ≡ d.number + length (changes_of deeds)
-after_number d [] = omega arith
-after_number d (Prints line ∷ deeds) = after_number d deeds
-after_number d (Does (Show display) ∷ deeds) = after_number d deeds
-after_number d (Does (Refuse why) ∷ deeds) = after_number d deeds
-after_number d (Does (Enter entry) ∷ deeds) = omega (arith, after_number (after d (changes.Enter entry)) deeds)
-after_number d (Does (Hold trip) ∷ deeds) = omega (arith, after_number (after d (changes.Hold trip)) deeds)
-after_number d (Does (Receipt receipt) ∷ deeds) = after_number d deeds
+line_commits deeds line = changes_joined deeds (Prints line ∷ []) ∙ append-nil (changes_of deeds)
 
 -- an image stands for one state
 pub one_state : (image : List ℕ) (d e : Durable) → HasState image d → HasState image e → d ≡ e
@@ -94,7 +77,7 @@ module _ (image tariff : List ℕ) (d : Durable) (has : HasState image d) where
         stands = cut.stands;
         kept = changes_of cut.kept;
         more = changes_of beginning.0;
-        split = sym (line_commits (deeds_in s bytes) line) ∙ ap changes_of beginning.1 ∙ commits_joined cut.kept beginning.0;
+        split = sym (line_commits (deeds_in s bytes) line) ∙ ap changes_of beginning.1 ∙ changes_joined cut.kept beginning.0;
         follows = subst (λ (b : Durable). Follows b cut.found (changes_of cut.kept)) (begins_with s e) cut.follows;
       }
 
@@ -111,7 +94,7 @@ module _ (image tariff : List ℕ) (d : Durable) (has : HasState image d) where
       ap (λ (x : Durable). x.number) same ∙ omega arith
   all_kept told printed (Ok s) f bytes now stands e found =
       let same : e ≡ after_deeds s.durable (deeds_in s bytes) = one_state now e (after_deeds s.durable (deeds_in s bytes)) found stands.state in
-      ap (λ (x : Durable). x.number) same ∙ after_number s.durable (deeds_in s bytes) ∙ ap (λ (x : Durable). x.number + length (changes_of (deeds_in s bytes))) (begins_with s f)
+      ap (λ (x : Durable). x.number) same ∙ (deeds_follow s.durable (deeds_in s bytes)).number ∙ ap (λ (x : Durable). x.number + length (changes_of (deeds_in s bytes))) (begins_with s f)
 
 -- where the text is told, and nothing was printed before
 pub told_pair : (told : Type 0) → told → (image printed : List ℕ) → printed ≡ [] → (r : Result Start Ended) (bytes line i x : List ℕ)

@@ -1,5 +1,5 @@
 -- Receipts of a chain: where a byte of one stands in a text, its entry is in the prefix.
-use Rattle.std.proofs.Common.{◌≡◌, ◌⊎◌, inl, inr, ℕ, ◌+◌, ◌-◌, ◌<◌, ◌≤◌, List, [], ◌∷◌, ◌++◌, length, take, Result, Ok, refl, sym, ap, subst, ◌∙◌, arith, append_assoc, length-append, length-take}
+use Rattle.std.proofs.Common.{◌≡◌, ◌⊎◌, inl, inr, ℕ, ◌+◌, ◌-◌, ◌<◌, ◌≤◌, List, [], ◌∷◌, ◌++◌, length, take, Result, Ok, sym, ap, subst, ◌∙◌, arith, append_assoc, length-append, length-take}
 use Rattle.std.proofs.lemmas.Bool.{cases_lt}
 use Rattle.std.proofs.Math.Seq.{take-append_seam}
 use Rattle.outside.specs.Printing.{Begins}
@@ -12,26 +12,16 @@ use Rattle.totaliser_store.specs.declared.durable.Durable.{Durable}
 use Rattle.meter_states.specs.declared.act.Act.TheVariants.{Receipt}
 use Rattle.meter_run.specs.Deeds.{Deed, Does, Prints, changes_of, texts}
 use Rattle.meter_run.specs.Points.{HasEntryOf, IsNumberedWithin}
-use Rattle.meter_run.proofs.Laws.{receipts_are_numbered_in_order-cut, receipts_have_their_entries-cut, texts_joined, the_number_tells_the_commits-beginning}
+use Rattle.meter_run.proofs.Laws.{begins_in, changes_joined, receipts_are_numbered_in_order-cut, receipts_have_their_entries-cut, texts_joined, the_number_tells_the_commits-beginning}
 use Rattle.commands.specs.Chain.{HasByteOf, IsChain, last_image, last_state}
 use Rattle.commands.specs.Link.{IsLink, Link, begun_with, bytes_done, commits_done, deeds_from, last_line, prefix_of}
 use Rattle.commands.specs.Run.{IsRunCut, MayFind, Start, deeds_in, tables_in}
 use Rattle.commands.specs.declared.ending.Ended.{Ended}
-use Rattle.commands.proofs.ChainLinks.{begins_with, commits_joined, line_commits, one_state}
+use Rattle.commands.proofs.ChainLinks.{begins_with, line_commits, one_state}
 
--- ---- lists
+-- ---- texts
 
--- of two beginnings of a list the one that isn't longer begins the other
-begins_in : (xs ys zs ws : List Deed) → xs ++ ys ≡ zs ++ ws → length zs ≤ length xs → (more : List Deed) × (xs ≡ zs ++ more)
-begins_in xs ys [] ws is le = (xs, refl)
-begins_in [] ys (z ∷ zs) ws is le = absurd (omega arith)
-begins_in (x ∷ xs) ys (z ∷ zs) ws is le =
-    let tails : xs ++ ys ≡ zs ++ ws = cc in
-    let heads : x ≡ z = cc in
-    let rest = begins_in xs ys zs ws tails (omega (arith, le)) in
-    (rest.0, ap (λ (l : List Deed). x ∷ l) rest.1 ∙ ap (λ (y : Deed). y ∷ zs ++ rest.0) heads)
-
--- and then its text isn't longer
+-- the text of a beginning isn't longer
 text_begins : (seal : Seal) (xs zs more : List Deed) → xs ≡ zs ++ more → length (texts seal zs) ≤ length (texts seal xs)
 text_begins seal xs zs more e =
     omega (arith, ap (λ (l : List Deed). length (texts seal l)) e, ap length (texts_joined seal zs more), length-append (texts seal zs) (texts seal more))
@@ -80,7 +70,7 @@ module _ (d : Durable) (image : List ℕ) (link : Link) (has : HasState image d)
       let beginning = the_number_tells_the_commits-beginning (tables_in s) s.seal (Unit {0}) s.durable [] (deeds ++ Prints line ∷ []) link.image link.text cut in
       let commits : commits_done image link ≡ changes_of deeds = ap (λ (r : Result Start Ended). changes_of (deeds_from r (bytes_done image link))) begins in
       let split : commits_done image link ≡ changes_of cut.kept ++ changes_of beginning.0 =
-      commits ∙ sym (line_commits deeds line) ∙ ap changes_of beginning.1 ∙ commits_joined cut.kept beginning.0 in
+      commits ∙ sym (line_commits deeds line) ∙ ap changes_of beginning.1 ∙ changes_joined cut.kept beginning.0 in
       let found : cut.found ≡ link.found = one_state link.image cut.found link.found cut.stands is.stands in
       let opening : s.durable ≡ d = begins_with image _ d has s begins in
       let counted : link.number - d.number ≡ length (changes_of cut.kept) =

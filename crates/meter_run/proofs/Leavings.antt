@@ -28,7 +28,7 @@ use Rattle.meter_run.proofs.Cuts.{begins_in}
 
 -- ---- what deeds commit
 
-changes_joined : (xs ys : List Deed) → changes_of (xs ++ ys) ≡ changes_of xs ++ changes_of ys
+pub changes_joined : (xs ys : List Deed) → changes_of (xs ++ ys) ≡ changes_of xs ++ changes_of ys
 changes_joined [] ys = refl
 changes_joined (x ∷ xs) ys = ap (λ (l : List Change). changes_in x ++ l) (changes_joined xs ys) ∙ sym (append_assoc (changes_in x) (changes_of xs) (changes_of ys))
 
