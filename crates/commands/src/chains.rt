@@ -1,5 +1,5 @@
 //! Any chain of runs and cuts of the power, over boards in memory.
-ghost use Rattle.std.specs.Prelude.{◌≡◌, ◌≢◌, ◌⊎◌, ℕ, ◌↔◌, List, [], length, map, string_bytes, IfOk, IsTrue, None, Some};
+ghost use Rattle.std.specs.Prelude.{◌≡◌, ◌≢◌, ◌⊎◌, ℕ, ◌↔◌, [], length, map, string_bytes, IfOk, IsTrue, None, Some};
 ghost use Rattle.outside.specs.Disk.{SameBut};
 ghost use Rattle.outside.specs.MemoryBoard.{image_of, left_since_of};
 ghost use Rattle.outside.specs.declared.replay.Fill.{Fill};
