@@ -99,7 +99,7 @@ fn must_make(rt: HostRuntime, log: &mut FileLog<HostRuntime>) -> Result<(), Fail
 
 /// The status of a showing over another log, while a first one has the file, and that over the first.
 fn shown_by_two(rt: HostRuntime, first: &mut FileLog<HostRuntime>) -> Result<(u8, u8), Fail> {
-    let mut second = FileLog::new(rt, rt.alloc());
+    let mut second = FileLog::to_read(rt, rt.alloc());
     let refused = called(rt, &["show"], &mut second)?;
     let shown = called(rt, &["show"], first)?;
     Ok((refused, shown))
@@ -107,7 +107,7 @@ fn shown_by_two(rt: HostRuntime, first: &mut FileLog<HostRuntime>) -> Result<(u8
 
 /// Makes the file by the calls of one log, which is then let go.
 fn make(rt: HostRuntime) -> Result<(), Fail> {
-    let mut log = FileLog::new(rt, rt.alloc());
+    let mut log = FileLog::to_write(rt, rt.alloc());
     must_make(rt, &mut log)?;
     let found = shown_by_two(rt, &mut log)?;
     must(found == (8, 0), "another end", "a log beside the first")
@@ -120,24 +120,25 @@ fn must_have_a_record(rt: HostRuntime) -> Result<(), Fail> {
     must(kept.len() == 131_072 && is_begun, "another file", LOG)
 }
 
-/// A file that is no log.
-const NO_LOG: &[u8] = &[0xA5; 600];
+/// Files that are no logs: how many bytes of A5 they have, and the status of a filing.
+const NO_LOGS: &[(usize, u8)] = &[(131_072, 2), (131_071, 8), (600, 8), (0, 8)];
 
 /// The status of a filing in a log of its own.
 fn filed(rt: HostRuntime) -> Result<u8, Fail> {
-    let mut log = FileLog::new(rt, rt.alloc());
+    let mut log = FileLog::to_write(rt, rt.alloc());
     called(rt, &["file", "roll"], &mut log)
 }
 
-/// Fails unless a file that is no log is refused and stays as it is.
-fn must_leave_alone(rt: HostRuntime) -> Result<(), Fail> {
-    fs::write(&rt, LOG, NO_LOG)?;
+/// Fails unless a file of this many bytes that is no log is refused so, and stays as it is.
+fn must_leave_alone(rt: HostRuntime, count: usize, want: u8) -> Result<(), Fail> {
+    let bytes = vec![in rt.alloc(); 0xA5u8; count]?;
+    fs::write(&rt, LOG, bytes.as_slice())?;
     let status = filed(rt)?;
     let kept = fs::read(&rt, LOG)?;
-    must(
-        status == 2 && kept.as_slice() == NO_LOG,
-        "another end",
-        "no log",
+    must_at(
+        status == want && kept.as_slice() == bytes.as_slice(),
+        "another end than",
+        want as u64,
     )
 }
 
@@ -150,14 +151,16 @@ fn write_roll(rt: HostRuntime) -> Result<(), Fail> {
 }
 
 /// There is no file, and `show` makes none; the first filing makes it whole. While one log has the file, the calls of
-/// another fail. A file that is no log is refused and stays as it is.
+/// another fail. A file that is no log, by its bytes or its length, is refused and stays as it is.
 #[test]
 fn the_log_of_the_system(rt: HostRuntime) -> Result<(), Fail> {
     let folder = enter(rt)?;
     write_roll(rt)?;
     make(rt)?;
     must_have_a_record(rt)?;
-    must_leave_alone(rt)?;
+    for (count, want) in NO_LOGS {
+        must_leave_alone(rt, *count, *want)?;
+    }
     leave(rt, folder.as_str())?;
     Ok(())
 }

@@ -50,6 +50,7 @@ use std::marker::Brand;
 use std::process::ExitCode;
 use std::sync::ledger::{Blank, Ledger};
 use taxi_units::Steps;
+use words::{Call, call_in};
 
 /// Files a roll or shows the log, as the words of the program say, under its one counter of steps.
 fn status<L: Ledger>(rt: HostRuntime, blank: Blank) -> u8
@@ -57,13 +58,16 @@ fn status<L: Ledger>(rt: HostRuntime, blank: Blank) -> u8
     requires parts { blank.parts ≡ L.parts }
     requires some { 0 < blank.parts }
 {
-    let mut log = FileLog::new(rt, rt.alloc());
     let mut steps: Steps<L> = Steps::open(blank);
     let words = match program_words(&rt) {
         Ok(words) => words,
         Err(status) => return status,
     };
     let mut files = HostFiles::new(rt, rt.alloc(), words.as_slice());
+    let mut log = match call_in(words.as_slice()) {
+        Some(Call::File) => FileLog::to_write(rt, rt.alloc()),
+        _ => FileLog::to_read(rt, rt.alloc()),
+    };
     keep_log::keep_log(words.as_slice(), &mut files, &mut log, &mut steps)
 }
 

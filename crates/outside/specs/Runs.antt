@@ -3,18 +3,18 @@ use Rattle.std.specs.Prelude.{◌≡◌, ◌⊎◌, ℕ, ◌≤◌, List}
 use Rattle.outside.specs.declared.board.Board.{Ghosts}
 use Rattle.outside.specs.Disk.{AreBytes, Elapses, MayLeave, MayLeaveAmid, SameBut}
 
--- a store may hold an image after a cut where it has any bytes at the places in flight and all others as a read gives
+-- a store may hold an image after a cut if it has any bytes at the places in flight and all others as a read gives
 -- them
 pub record MayHold (image : List ℕ) (in_flight : ℕ → Type 0) (left_image : List ℕ) : Type 0 where
   pub bytes : SameBut in_flight image left_image
   pub small : AreBytes left_image
 
 module _ {D L : Type 0} (B : Ghosts D L) where
-  -- a board is settled where no place is in flight, so that a cut leaves what a read gives
+  -- a board is settled if no place is in flight, so that a cut leaves what a read gives
   abbrev pub IsSettled : D → Type 0
   IsSettled board = (place : ℕ) → ¬ B.in_flight board place
 
-  -- a run leaves only a kind of image and text where whatever a cut at any moment since its beginning might have left
+  -- a run leaves only a kind of image and text if whatever a cut at any moment since its beginning might have left
   -- is of that kind, and a cut since an earlier moment might have left beside that only what it might have left before
   -- the run
   pub record LeavesOnly (old new : D) (kind : List ℕ → List ℕ → Type 0) : Type 0 where
@@ -25,7 +25,7 @@ module _ {D L : Type 0} (B : Ghosts D L) where
         → B.left_since new start left_image left_text → B.left_since old start left_image left_text
         ⊎ kind left_image left_text
 
-  -- a run keeps the store where a read gives what it gave, nothing more is in flight, and a cut since any earlier
+  -- a run keeps the store if a read gives what it gave, nothing more is in flight, and a cut since any earlier
   -- moment might have left only what it might have left before, or an image that it might have left of the board before
   -- the run
   pub record KeepsStore (old new : D) : Type 0 where
@@ -36,13 +36,13 @@ module _ {D L : Type 0} (B : Ghosts D L) where
         → B.left_since new start left_image left_text → B.left_since old start left_image left_text
         ⊎ MayHold (B.image old) (B.in_flight old) left_image
 
-  -- a print of a piece takes the time between two states where a cut in it might leave only a beginning of the piece
+  -- a print of a piece takes the time between two states if a cut in it might leave only a beginning of the piece
   -- more
   abbrev pub PrintTakes : D → D → List ℕ → Type 0
   PrintTakes old new piece = Elapses (B.moment old) (B.moment new) (B.left_since old) (B.left_since new)
       (MayLeaveAmid (B.image new) (B.in_flight new) (B.printed old) piece)
 
-  -- a board leaves what it holds now where a cut at its moment might have left only what it may leave of the board as
+  -- a board leaves what it holds now if a cut at its moment might have left only what it may leave of the board as
   -- it is
   abbrev pub LeavesNow : D → Type 0
   LeavesNow board = (left_image left_text : List ℕ) → B.left_since board (B.moment board) left_image left_text

@@ -18,7 +18,9 @@ pub const STORE_SIZE: usize = 2048;
 ///
 /// What is said of the places in flight and of what a cut might have left is an upper bound: a call
 /// says what may have come to them, and a board may have less in flight, and leave less, than its
-/// calls allow. Only `counts_now` bounds it from below, where image and text are told.
+/// calls allow. From below it is bounded twice: what a cut might have left since a moment counts from then
+/// on (`keeps` of each call's `time`), and what it may leave now counts where image and text are told
+/// (`counts_now`).
 pub trait Board<L: Ledger> {
     /// Whether the board tells what its store holds. It belongs to the type, so it never changes.
     ghost tells_image: { Type 0 };

@@ -1,9 +1,12 @@
 //! The board of the system.
-ghost use Rattle.std.specs.Prelude.{◌≡◌, ℕ, []};
+ghost use Rattle.std.specs.Prelude.{◌≡◌, ◌+◌, [], false, IsTrue, OnErr};
+ghost use Rattle.outside.specs.Faults.{HasCause};
+ghost use Rattle.outside.specs.FileState.{DeviceState, StaysLost};
 
 use crate::board::{Board, STORE_SIZE};
 use crate::fault::Failed;
 use crate::file_device::FileDevice;
+use crate::new_store::StoreNames;
 use std::alloc::Global;
 use std::fs::File;
 use std::marker::Model;
@@ -11,8 +14,11 @@ use std::rt::Files as HostSystem;
 use std::sync::ledger::Ledger;
 use taxi_units::Steps;
 
-/// The name of the store's file, in the working folder.
-const NAME: &str = "taxi.store";
+/// The names of the store's file, in the working folder.
+const NAMES: StoreNames = StoreNames {
+    store: "taxi.store",
+    unfinished: "taxi.store.new",
+};
 
 /// The board of the system. It prints on the standard output, and its store is the file `taxi.store` in
 /// the working folder, of which it uses the first 2,048 bytes. Nothing is told of what the file holds or
@@ -24,19 +30,28 @@ pub struct FileBoard<R: HostSystem<File = File> + Print + Drop> {
 }
 
 impl<R: HostSystem<File = File> + Print + Drop> Model for FileBoard<R> {
-    ghost Value = { ℕ };
+    ghost Value = { DeviceState };
 
     ghost view = { λ b. b.device };
 }
 
 impl<R: HostSystem<File = File> + Print + Drop> FileBoard<R> {
-    /// The board of this runtime. Nothing is opened yet. The allocator is used only by a sync, to find the
-    /// folder of a file at the end of a symbolic link.
-    pub fn new(rt: R, alloc: Global) -> FileBoard<R>
-        ensures { result ≡ 0 }
+    /// The board of this runtime to read the store: each write of it fails. Nothing is opened yet. The
+    /// allocator is used only by an opening, to find the folder of a file at the end of a symbolic link.
+    pub fn to_read(rt: R, alloc: Global) -> FileBoard<R>
+        ensures { result ≡ record { failed = 0; lost = false } }
     {
         FileBoard {
-            device: FileDevice::new(rt, alloc, NAME, STORE_SIZE as u64),
+            device: FileDevice::to_read(rt, alloc, NAMES, STORE_SIZE as u64),
+        }
+    }
+
+    /// The board to read and write it, whose opening fails where the store may not be written.
+    pub fn to_write(rt: R, alloc: Global) -> FileBoard<R>
+        ensures { result ≡ record { failed = 0; lost = false } }
+    {
+        FileBoard {
+            device: FileDevice::to_write(rt, alloc, NAMES, STORE_SIZE as u64),
         }
     }
 }
@@ -56,7 +71,7 @@ impl<R: HostSystem<File = File> + Print + Drop, L: Ledger> Board<L> for FileBoar
 
     ghost left_since = { λ _ _ _ _. ⊥ };
 
-    ghost faults = { λ b. b };
+    ghost faults = { λ b. b.failed };
 
     ghost store = { λ _ told. absurd told };
 
@@ -64,22 +79,39 @@ impl<R: HostSystem<File = File> + Print + Drop, L: Ledger> Board<L> for FileBoar
 
     ghost only_now = { λ _ _ _ left. absurd left };
 
-    fn read(&mut self, at: u16, buf: &mut [u8], steps: &mut Steps<L>) -> Result<(), Failed> {
+    fn read(&mut self, at: u16, buf: &mut [u8], steps: &mut Steps<L>) -> Result<(), Failed>
+        ensures cause { HasCause self.old.failed self.new.failed result }
+        ensures stays { StaysLost self.old.lost self.new.lost result }
+        ensures step { steps.new ≡ steps.old + 1 }
+    {
         steps.spend();
         self.device.read(u32::from(at), buf)
     }
 
-    fn write_at(&mut self, at: u16, bytes: &[u8], steps: &mut Steps<L>) -> Result<(), Failed> {
+    fn write_at(&mut self, at: u16, bytes: &[u8], steps: &mut Steps<L>) -> Result<(), Failed>
+        ensures cause { HasCause self.old.failed self.new.failed result }
+        ensures stays { StaysLost self.old.lost self.new.lost result }
+        ensures step { steps.new ≡ steps.old + 1 }
+    {
         steps.spend();
         self.device.write_at(u32::from(at), bytes)
     }
 
-    fn sync(&mut self, steps: &mut Steps<L>) -> Result<(), Failed> {
+    fn sync(&mut self, steps: &mut Steps<L>) -> Result<(), Failed>
+        ensures cause { HasCause self.old.failed self.new.failed result }
+        ensures stays { StaysLost self.old.lost self.new.lost result }
+        ensures lost { OnErr result (IsTrue self.new.lost) }
+        ensures step { steps.new ≡ steps.old + 1 }
+    {
         steps.spend();
         self.device.sync()
     }
 
-    fn print(&mut self, bytes: &[u8], steps: &mut Steps<L>) -> Result<(), Failed> {
+    fn print(&mut self, bytes: &[u8], steps: &mut Steps<L>) -> Result<(), Failed>
+        ensures cause { HasCause self.old.failed self.new.failed result }
+        ensures stays { StaysLost self.old.lost self.new.lost result }
+        ensures step { steps.new ≡ steps.old + 1 }
+    {
         steps.spend();
         self.device.print(bytes)
     }

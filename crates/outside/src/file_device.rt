@@ -1,12 +1,16 @@
 //! The device of the system behind each real board: a file of a name and a size, and the standard output.
-ghost use Rattle.std.specs.Prelude.{◌≡◌, ℕ};
+ghost use Rattle.std.specs.Prelude.{◌≡◌, false, IsTrue, OnErr};
 ghost use Rattle.outside.specs.Faults.{HasCause};
+ghost use Rattle.outside.specs.FileState.{DeviceState, StaysLost, is_lost};
 
 use crate::failures::counted;
 use crate::fault::Failed;
 use crate::file_store::FileStore;
+use crate::held_file::HeldFile;
+use crate::new_store::StoreNames;
+use crate::store_file::Access;
 use std::alloc::Global;
-use std::fs::File;
+use std::io;
 use std::marker::Model;
 use std::rt::Files as HostSystem;
 
@@ -16,66 +20,96 @@ use std::rt::Files as HostSystem;
 /// of a `u64`: a call is Ok exactly where the system answered no error. A call that a signal interrupts is
 /// made again, a bounded number of times. All of it is this project's own.
 ///
-/// - The file is opened at the first call that finds it, and is under the system's lock from then on, also
-///   where it is only read. While another has the lock, each call fails and nothing is written.
-/// - A file that is shorter than the store reads as zeros behind its end, and the first write gives it its
-///   whole length. What stands behind the store's bytes is left as it is.
-/// - Where there is no file, the store reads as zeros, and the first write makes it. Where it was absent
-///   and another made it since, each call fails.
-/// - A file that may not be written can be read; a write then fails. What isn't a plain file is refused.
-/// - A sync that succeeds has settled the file's bytes, its length, and, where this device made it, its
-///   name in the folder. The folder of a file that was there already is synced as well, at the end of a
-///   symbolic link the file's own; but that this can't be done is no fault, since whoever made the file
-///   settled its name. A sync fails where the name leads to this file no more.
-/// - After a sync that failed each later sync fails, since the system may forget what it could not write.
+/// - At the first call, a print too, the file is looked for. Where the standard output or the standard error
+///   is that file, each call fails.
+/// - A file that was found is opened at the first call of the store, and is under the system's lock from then
+///   on, also where it is only read. While another has the lock, the call fails. What isn't a plain file is
+///   refused, and so is a file that is shorter than the store: nothing is ever written to it.
+/// - An opening syncs the file, and its folder, at the end of a symbolic link the file's own. That the system
+///   then reads the medium, and no copy of its own, can't be asked for here: docs/STORE.md says when it matters.
+/// - Where there was no file, the store reads as zeros, and the first write makes it: whole, on the medium,
+///   for its owner alone, and only then under its name. Where it was absent and another made it since, each
+///   call of the store fails.
+/// - A device to read fails at each write. It opens a file that may not be written as well; a device to
+///   write refuses that at its opening. What stands behind the store's bytes is left as it is.
+/// - A sync fails where the name leads to this file no more.
+/// - After an opening, a making or a sync that failed the device is lost: each later call fails, since the
+///   system may forget what it could not write.
 #[derive(Drop)]
-pub struct FileDevice<R: HostSystem<File = File> + Print + Drop> {
+pub struct FileDevice<R: HostSystem + Print + Drop>
+where
+    R::File: HeldFile,
+{
     rt: R,
     alloc: Global,
-    store: FileStore,
+    store: FileStore<R::File>,
     failures: u64,
 }
 
-impl<R: HostSystem<File = File> + Print + Drop> Model for FileDevice<R> {
-    ghost Value = { ℕ };
+impl<R: HostSystem + Print + Drop> Model for FileDevice<R>
+where
+    R::File: HeldFile,
+{
+    ghost Value = { DeviceState };
 
-    ghost view = { λ d. d.failures };
+    ghost view = { λ d. record { failed = d.failures; lost = is_lost d.store.state } };
 }
 
-impl<R: HostSystem<File = File> + Print + Drop> FileDevice<R> {
-    /// The device of this runtime, with a store of this number of bytes in the file of this name. Nothing is
-    /// opened yet. The allocator is used only by a sync, to find the folder of a file at the end of a
-    /// symbolic link.
-    pub fn new(rt: R, alloc: Global, name: &'static str, size: u64) -> FileDevice<R>
-        ensures { result ≡ 0 }
+impl<R: HostSystem + Print + Drop> FileDevice<R>
+where
+    R::File: HeldFile,
+{
+    /// The device of this runtime to read a store of this number of bytes in the file of these names.
+    /// Nothing is asked of the system yet. The allocator is used only by an opening, to find the folder of a
+    /// file at the end of a symbolic link.
+    pub fn to_read(rt: R, alloc: Global, names: StoreNames, size: u64) -> FileDevice<R>
+        ensures { result ≡ record { failed = 0; lost = false } }
+    {
+        FileDevice::open_for(rt, alloc, FileStore::new(names, size, Access::Read))
+    }
+
+    /// The device to read and write one. It is made for the words of a command that may write.
+    pub fn to_write(rt: R, alloc: Global, names: StoreNames, size: u64) -> FileDevice<R>
+        ensures { result ≡ record { failed = 0; lost = false } }
+    {
+        FileDevice::open_for(rt, alloc, FileStore::new(names, size, Access::Write))
+    }
+
+    /// The device over a store, with no failures.
+    fn open_for(rt: R, alloc: Global, store: FileStore<R::File>) -> FileDevice<R>
+        ensures { result ≡ record { failed = 0; lost = is_lost store.state } }
     {
         FileDevice {
             rt,
             alloc,
-            store: FileStore::new(name, size),
+            store,
             failures: 0,
         }
     }
 
     /// Reads from a place on into the whole of `buf`.
     pub fn read(&mut self, at: u32, buf: &mut [u8]) -> Result<(), Failed>
-        ensures { HasCause self.old self.new result }
+        ensures cause { HasCause self.old.failed self.new.failed result }
+        ensures stays { StaysLost self.old.lost self.new.lost result }
     {
-        let answer = self.store.read(&self.rt, at, buf);
+        let answer = self.store.read(&self.rt, self.alloc, at, buf);
         counted(&mut self.failures, answer)
     }
 
     /// Writes from a place on.
     pub fn write_at(&mut self, at: u32, bytes: &[u8]) -> Result<(), Failed>
-        ensures { HasCause self.old self.new result }
+        ensures cause { HasCause self.old.failed self.new.failed result }
+        ensures stays { StaysLost self.old.lost self.new.lost result }
     {
-        let answer = self.store.write_at(&self.rt, at, bytes);
+        let answer = self.store.write_at(&self.rt, self.alloc, at, bytes);
         counted(&mut self.failures, answer)
     }
 
     /// Waits until the medium has what was written.
     pub fn sync(&mut self) -> Result<(), Failed>
-        ensures { HasCause self.old self.new result }
+        ensures cause { HasCause self.old.failed self.new.failed result }
+        ensures stays { StaysLost self.old.lost self.new.lost result }
+        ensures lost { OnErr result (IsTrue self.new.lost) }
     {
         let answer = self.store.sync(&self.rt, self.alloc);
         counted(&mut self.failures, answer)
@@ -83,9 +117,19 @@ impl<R: HostSystem<File = File> + Print + Drop> FileDevice<R> {
 
     /// Prints on the standard output.
     pub fn print(&mut self, bytes: &[u8]) -> Result<(), Failed>
-        ensures { HasCause self.old self.new result }
+        ensures cause { HasCause self.old.failed self.new.failed result }
+        ensures stays { StaysLost self.old.lost self.new.lost result }
     {
-        let answer = self.rt.write_all(bytes);
+        let answer = self.attempt_print(bytes);
         counted(&mut self.failures, answer)
+    }
+
+    /// Prints, where no output is the store.
+    fn attempt_print(&mut self, bytes: &[u8]) -> io::Result<()>
+        ensures stays { StaysLost self.old.lost self.new.lost result }
+        ensures same { self.new.failed ≡ self.old.failed }
+    {
+        self.store.look(&self.rt)?;
+        self.rt.write_all(bytes)
     }
 }

@@ -10,6 +10,7 @@ mod file_board;
 mod file_device;
 mod file_store;
 mod files;
+mod held_file;
 mod host_files;
 mod image;
 mod kept_call;
@@ -19,6 +20,7 @@ mod memory_device;
 mod memory_file;
 mod memory_files;
 mod memory_state;
+mod new_store;
 mod program;
 mod quiet_board;
 mod replay;
@@ -37,6 +39,7 @@ pub use list_laws::{Places, a_slice_of_bytes, a_slice_that_is_not_touched, what_
 pub use memory_board::MemoryBoard;
 pub use memory_device::MemoryDevice;
 pub use memory_files::MemoryFiles;
+pub use new_store::StoreNames;
 pub use program::program_words;
 pub use quiet_board::QuietBoard;
 pub use replay::Fill;
@@ -48,6 +51,10 @@ pub use text::{RoomFault, TextFault, read_text, read_whole};
 
 #[cfg(test)]
 mod board_tests;
+#[cfg(test)]
+mod faulty_system;
+#[cfg(test)]
+mod faulty_tests;
 #[cfg(test)]
 mod file_tests;
 #[cfg(test)]

@@ -15,8 +15,8 @@ use std::marker::Model;
 use std::sync::ledger::Ledger;
 use taxi_units::{NoMemory, Steps};
 
-/// A board in memory, a `MemoryDevice` of 2,048 bytes: it tells its image and what was printed, and calls
-/// of it fail as that says.
+/// A board in memory: a `MemoryDevice` of 2,048 bytes. It tells its image and what was printed, and its calls
+/// fail where those of the device do.
 #[derive(Drop)]
 pub struct MemoryBoard {
     device: MemoryDevice<STORE_SIZE>,

@@ -1,0 +1,658 @@
+//! The real device over a system of which chosen calls fail. Each case is played in a new folder of its own, once
+//! for each error that is tried.
+use crate::faulty_system::{Call, Fault, FaultySystem, Trial};
+use crate::file_device::FileDevice;
+use crate::file_tests::{Change, STORE, Sight, UNFINISHED, enter, is_seen, leave, make};
+use crate::new_store::StoreNames;
+use crate::store_file::Access;
+use crate::tests::must;
+use std::io::ErrorKind;
+use std::test::Fail;
+
+/// The names of the store.
+const NAMES: StoreNames = StoreNames {
+    store: STORE,
+    unfinished: UNFINISHED,
+};
+
+/// What is asked of the device.
+#[derive(Clone, Copy)]
+enum Ask {
+    /// A read of the first byte. One that is Ok has to give this byte.
+    Read(u8),
+
+    /// A write of a 1 at the front.
+    Write,
+
+    Sync,
+
+    Print,
+}
+
+use Ask::{Print, Read, Sync, Write};
+
+/// A case, by what it tells.
+#[derive(Clone, Copy)]
+struct Case {
+    name: &'static str,
+    folder: &'static [Change],
+    access: Access,
+    faults: &'static [Fault],
+
+    /// The errors that are tried.
+    kinds: &'static [ErrorKind],
+
+    /// What is asked before the faults begin. Each is Ok.
+    before: &'static [Ask],
+
+    /// What is asked behind that, and whether it is Ok.
+    calls: &'static [(Ask, bool)],
+
+    left: &'static [Sight],
+}
+
+/// The errors that most calls are tried with.
+const ALL: &[ErrorKind] = &[
+    ErrorKind::Other,
+    ErrorKind::StorageFull,
+    ErrorKind::Interrupted,
+    ErrorKind::ReadOnlyFilesystem,
+    ErrorKind::PermissionDenied,
+    ErrorKind::InvalidInput,
+    ErrorKind::Unsupported,
+    ErrorKind::WouldBlock,
+];
+
+/// Those that never mean that a thing can't be done by us.
+const HARD: &[ErrorKind] = &[
+    ErrorKind::Other,
+    ErrorKind::StorageFull,
+    ErrorKind::Interrupted,
+    ErrorKind::WouldBlock,
+];
+
+/// One of any kind.
+const ONE: &[ErrorKind] = &[ErrorKind::Other];
+
+/// A folder with a store of sevens, and a longer file.
+const FOUND: &[Change] = &[Change::File(STORE, 7, 2050)];
+
+/// That store, untouched.
+const UNTOUCHED: &[Sight] = &[Sight::Holds(STORE, &[], 7, 2050, &[])];
+
+/// That store with one byte written.
+const WRITTEN: &[Sight] = &[Sight::Holds(STORE, &[1], 7, 2049, &[])];
+
+/// A new store with one byte written, under its name alone.
+const MADE: &[Sight] = &[
+    Sight::Holds(STORE, &[1], 0, 2047, &[]),
+    Sight::IsAbsent(UNFINISHED),
+];
+
+/// No store.
+const NOTHING: &[Sight] = &[Sight::IsAbsent(STORE)];
+
+/// Each call of a store of sevens fails.
+const NO_CALL: &[(Ask, bool)] = &[
+    (Read(7), false),
+    (Sync, false),
+    (Write, false),
+    (Print, false),
+];
+
+/// Likewise, a print being the first.
+const NO_PRINT: &[(Ask, bool)] = &[
+    (Print, false),
+    (Read(7), false),
+    (Write, false),
+    (Sync, false),
+    (Print, false),
+];
+
+/// A making fails, and then each call.
+const NO_MAKING: &[(Ask, bool)] = &[
+    (Read(0), true),
+    (Write, false),
+    (Write, false),
+    (Sync, false),
+    (Read(0), false),
+    (Print, false),
+];
+
+/// The store is read, written and synced.
+const EACH_CALL: &[(Ask, bool)] = &[
+    (Print, true),
+    (Read(7), true),
+    (Write, true),
+    (Sync, true),
+    (Read(1), true),
+];
+
+/// A new store is made and synced.
+const A_MAKING: &[(Ask, bool)] = &[
+    (Read(0), true),
+    (Write, true),
+    (Sync, true),
+    (Read(1), true),
+];
+
+/// What holds of most cases, which change it.
+const FOUND_CASE: Case = Case {
+    name: "a found store",
+    folder: FOUND,
+    access: Access::Write,
+    faults: &[],
+    kinds: ONE,
+    before: &[],
+    calls: EACH_CALL,
+    left: WRITTEN,
+};
+
+/// Likewise, of a new store.
+const NEW_CASE: Case = Case {
+    name: "a new store",
+    folder: &[],
+    access: Access::Write,
+    faults: &[],
+    kinds: ONE,
+    before: &[],
+    calls: A_MAKING,
+    left: MADE,
+};
+
+/// A store that was found, and is opened.
+const OPENINGS: &[Case] = &[
+    FOUND_CASE,
+    Case {
+        name: "the sync of an opening fails",
+        faults: &[Fault::Fails(Call::Sync(STORE))],
+        kinds: ALL,
+        calls: NO_CALL,
+        left: UNTOUCHED,
+        ..FOUND_CASE
+    },
+    Case {
+        name: "a store can't be locked",
+        faults: &[Fault::Fails(Call::Lock(STORE))],
+        kinds: ALL,
+        calls: NO_CALL,
+        left: UNTOUCHED,
+        ..FOUND_CASE
+    },
+];
+
+/// The folder of a store that was found.
+const FOLDERS: &[Case] = &[
+    Case {
+        name: "the folder of a found store can't be synced by us",
+        faults: &[Fault::Fails(Call::Sync("."))],
+        kinds: &[ErrorKind::InvalidInput, ErrorKind::Unsupported],
+        ..FOUND_CASE
+    },
+    Case {
+        name: "the sync of the folder of a found store fails",
+        faults: &[Fault::Fails(Call::Sync("."))],
+        kinds: &[
+            ErrorKind::Other,
+            ErrorKind::StorageFull,
+            ErrorKind::Interrupted,
+            ErrorKind::ReadOnlyFilesystem,
+            ErrorKind::PermissionDenied,
+        ],
+        calls: NO_CALL,
+        left: UNTOUCHED,
+        ..FOUND_CASE
+    },
+    Case {
+        name: "the folder of a found store can't be opened by us",
+        faults: &[Fault::Fails(Call::Open("."))],
+        kinds: &[ErrorKind::PermissionDenied],
+        ..FOUND_CASE
+    },
+    Case {
+        name: "the folder of a found store can't be opened",
+        faults: &[Fault::Fails(Call::Open("."))],
+        kinds: &[
+            ErrorKind::Other,
+            ErrorKind::NotFound,
+            ErrorKind::ReadOnlyFilesystem,
+            ErrorKind::InvalidInput,
+            ErrorKind::Unsupported,
+        ],
+        calls: NO_CALL,
+        left: UNTOUCHED,
+        ..FOUND_CASE
+    },
+    Case {
+        name: "the folder of a store that may only be read can't be synced",
+        access: Access::Read,
+        faults: &[
+            Fault::FailsSo(Call::OpenToWrite(STORE), ErrorKind::PermissionDenied),
+            Fault::Fails(Call::Sync(".")),
+        ],
+        kinds: &[
+            ErrorKind::ReadOnlyFilesystem,
+            ErrorKind::InvalidInput,
+            ErrorKind::Unsupported,
+        ],
+        calls: &[
+            (Print, true),
+            (Sync, true),
+            (Read(7), true),
+            (Write, false),
+            (Read(7), true),
+        ],
+        left: UNTOUCHED,
+        ..FOUND_CASE
+    },
+    Case {
+        name: "the sync of the folder of a store that may only be read fails",
+        access: Access::Read,
+        faults: &[
+            Fault::FailsSo(Call::OpenToWrite(STORE), ErrorKind::PermissionDenied),
+            Fault::Fails(Call::Sync(".")),
+        ],
+        kinds: HARD,
+        calls: NO_CALL,
+        left: UNTOUCHED,
+        ..FOUND_CASE
+    },
+];
+
+/// What may be done with the file, and what it is opened for.
+const ACCESSES: &[Case] = &[
+    Case {
+        name: "a store may only be read, and is opened to be written",
+        faults: &[Fault::Fails(Call::OpenToWrite(STORE))],
+        kinds: ALL,
+        calls: &[
+            (Print, true),
+            (Sync, false),
+            (Read(7), false),
+            (Print, false),
+        ],
+        left: UNTOUCHED,
+        ..FOUND_CASE
+    },
+    Case {
+        name: "a store may only be read, and is opened to be read",
+        access: Access::Read,
+        faults: &[Fault::Fails(Call::OpenToWrite(STORE))],
+        kinds: &[ErrorKind::PermissionDenied, ErrorKind::ReadOnlyFilesystem],
+        calls: &[(Read(7), true), (Sync, true), (Write, false), (Print, true)],
+        left: UNTOUCHED,
+        ..FOUND_CASE
+    },
+    Case {
+        name: "a store can't be opened",
+        access: Access::Read,
+        faults: &[Fault::Fails(Call::OpenToWrite(STORE))],
+        kinds: HARD,
+        calls: NO_CALL,
+        left: UNTOUCHED,
+        ..FOUND_CASE
+    },
+    Case {
+        name: "a store that may be written is opened to be read",
+        access: Access::Read,
+        calls: &[
+            (Write, false),
+            (Read(7), true),
+            (Write, false),
+            (Sync, true),
+        ],
+        left: UNTOUCHED,
+        ..FOUND_CASE
+    },
+    Case {
+        name: "no store is made where it is only to be read",
+        access: Access::Read,
+        calls: &[(Read(0), true), (Write, false), (Sync, true), (Print, true)],
+        left: NOTHING,
+        ..NEW_CASE
+    },
+];
+
+/// What the outputs of the process are.
+const OUTPUTS: &[Case] = &[
+    Case {
+        name: "an output is closed",
+        faults: &[Fault::Fails(Call::Metadata("/proc/self/fd/1"))],
+        kinds: &[ErrorKind::NotFound],
+        ..FOUND_CASE
+    },
+    Case {
+        name: "nobody tells what an output is",
+        faults: &[Fault::Fails(Call::Metadata("/proc/self/fd/2"))],
+        kinds: ALL,
+        calls: NO_PRINT,
+        left: UNTOUCHED,
+        ..FOUND_CASE
+    },
+    Case {
+        name: "the system has no names of streams",
+        faults: &[
+            Fault::Fails(Call::Metadata("/proc/self/fd/1")),
+            Fault::Fails(Call::Metadata("/proc/self/fd")),
+        ],
+        kinds: &[ErrorKind::NotFound],
+        calls: NO_PRINT,
+        left: UNTOUCHED,
+        ..FOUND_CASE
+    },
+    Case {
+        name: "the system has no names of streams, and there is no store",
+        faults: &[
+            Fault::Fails(Call::Metadata("/proc/self/fd/1")),
+            Fault::Fails(Call::Metadata("/proc/self/fd")),
+        ],
+        kinds: &[ErrorKind::NotFound],
+        ..NEW_CASE
+    },
+    Case {
+        name: "the standard output is the store",
+        faults: &[Fault::Leads("/proc/self/fd/1", STORE)],
+        calls: NO_PRINT,
+        left: UNTOUCHED,
+        ..FOUND_CASE
+    },
+    Case {
+        name: "the standard error is the store",
+        faults: &[Fault::Leads("/proc/self/fd/2", STORE)],
+        calls: NO_CALL,
+        left: UNTOUCHED,
+        ..FOUND_CASE
+    },
+    Case {
+        name: "the standard output is the store at the end of a link",
+        folder: &[
+            Change::Folder("kept"),
+            Change::File("kept/store", 7, 2048),
+            Change::Link("kept/store", STORE),
+        ],
+        faults: &[Fault::Leads("/proc/self/fd/1", "kept/store")],
+        calls: NO_PRINT,
+        left: &[Sight::Holds("kept/store", &[], 7, 2048, &[])],
+        ..FOUND_CASE
+    },
+    Case {
+        name: "the standard output is another file",
+        folder: &[Change::File(STORE, 7, 2050), Change::File("kept", 7, 2050)],
+        faults: &[Fault::Leads("/proc/self/fd/1", "kept")],
+        ..FOUND_CASE
+    },
+    Case {
+        name: "nobody tells whether there is a store",
+        faults: &[Fault::Fails(Call::Metadata(STORE))],
+        kinds: ALL,
+        calls: NO_PRINT,
+        left: UNTOUCHED,
+        ..FOUND_CASE
+    },
+];
+
+/// A store that is open.
+const LATER: &[Case] = &[
+    Case {
+        name: "a later sync fails",
+        faults: &[Fault::Fails(Call::Sync(STORE))],
+        kinds: ALL,
+        before: &[Read(7), Write],
+        calls: &[
+            (Write, true),
+            (Sync, false),
+            (Sync, false),
+            (Read(1), false),
+            (Write, false),
+            (Print, false),
+        ],
+        ..FOUND_CASE
+    },
+    Case {
+        name: "a later sync of a new store fails",
+        faults: &[Fault::Fails(Call::Sync(UNFINISHED))],
+        kinds: ALL,
+        before: &[Write, Sync],
+        calls: &[
+            (Write, true),
+            (Sync, false),
+            (Sync, false),
+            (Read(1), false),
+        ],
+        ..NEW_CASE
+    },
+    Case {
+        name: "a read fails",
+        faults: &[Fault::Fails(Call::Read(STORE))],
+        kinds: ALL,
+        before: &[Sync],
+        calls: &[(Read(7), false), (Write, true), (Sync, true)],
+        ..FOUND_CASE
+    },
+    Case {
+        name: "a write fails",
+        faults: &[Fault::Fails(Call::Write(STORE))],
+        kinds: ALL,
+        before: &[Read(7)],
+        calls: &[(Write, false), (Sync, true), (Read(7), true)],
+        left: UNTOUCHED,
+        ..FOUND_CASE
+    },
+];
+
+/// A new store, by what becomes of its names.
+const NAMINGS: &[Case] = &[
+    NEW_CASE,
+    Case {
+        name: "the file system has no second names",
+        faults: &[Fault::Fails(Call::Link(STORE))],
+        kinds: &[
+            ErrorKind::PermissionDenied,
+            ErrorKind::Unsupported,
+            ErrorKind::TooManyLinks,
+        ],
+        ..NEW_CASE
+    },
+    Case {
+        name: "a new store gets no name",
+        faults: &[Fault::Fails(Call::Link(STORE))],
+        kinds: &[
+            ErrorKind::Other,
+            ErrorKind::StorageFull,
+            ErrorKind::AlreadyExists,
+            ErrorKind::ReadOnlyFilesystem,
+        ],
+        calls: NO_MAKING,
+        left: &[Sight::IsAbsent(STORE), Sight::IsAbsent(UNFINISHED)],
+        ..NEW_CASE
+    },
+    Case {
+        name: "the other name of a new store doesn't go",
+        faults: &[Fault::Fails(Call::Remove(UNFINISHED))],
+        kinds: ALL,
+        calls: NO_MAKING,
+        left: &[Sight::Holds(STORE, &[], 0, 2048, &[])],
+        ..NEW_CASE
+    },
+    Case {
+        name: "what was left of a making doesn't go",
+        folder: &[Change::File(UNFINISHED, 9, 700)],
+        faults: &[Fault::Fails(Call::Remove(UNFINISHED))],
+        kinds: ALL,
+        calls: NO_MAKING,
+        left: &[
+            Sight::IsAbsent(STORE),
+            Sight::Holds(UNFINISHED, &[], 9, 700, &[]),
+        ],
+        ..NEW_CASE
+    },
+    Case {
+        name: "without second names the sync of a new store fails",
+        faults: &[
+            Fault::FailsSo(Call::Link(STORE), ErrorKind::PermissionDenied),
+            Fault::Fails(Call::Sync(STORE)),
+        ],
+        kinds: ALL,
+        calls: NO_MAKING,
+        left: &[Sight::IsAbsent(UNFINISHED)],
+        ..NEW_CASE
+    },
+    Case {
+        name: "without second names the sync of the folder of a new store fails",
+        faults: &[
+            Fault::FailsSo(Call::Link(STORE), ErrorKind::PermissionDenied),
+            Fault::Fails(Call::Sync(".")),
+        ],
+        kinds: ALL,
+        calls: NO_MAKING,
+        left: &[Sight::IsAbsent(UNFINISHED)],
+        ..NEW_CASE
+    },
+];
+
+/// A new store, by what becomes of its bytes and its folder.
+const MAKINGS: &[Case] = &[
+    Case {
+        name: "the zeros of a new store can't be synced",
+        faults: &[Fault::Fails(Call::Sync(UNFINISHED))],
+        kinds: ALL,
+        calls: NO_MAKING,
+        left: NOTHING,
+        ..NEW_CASE
+    },
+    Case {
+        name: "the zeros of a new store can't be written",
+        faults: &[Fault::Fails(Call::Write(UNFINISHED))],
+        kinds: ALL,
+        calls: NO_MAKING,
+        left: NOTHING,
+        ..NEW_CASE
+    },
+    Case {
+        name: "a new store can't be locked",
+        faults: &[Fault::Fails(Call::Lock(UNFINISHED))],
+        kinds: ALL,
+        calls: NO_MAKING,
+        left: NOTHING,
+        ..NEW_CASE
+    },
+    Case {
+        name: "the folder of a new store can't be opened",
+        faults: &[Fault::Fails(Call::Open("."))],
+        kinds: ALL,
+        calls: NO_MAKING,
+        left: &[Sight::Holds(STORE, &[], 0, 2048, &[])],
+        ..NEW_CASE
+    },
+    Case {
+        name: "the sync of the folder of a new store fails",
+        faults: &[Fault::Fails(Call::Sync("."))],
+        kinds: ALL,
+        calls: NO_MAKING,
+        left: &[Sight::Holds(STORE, &[], 0, 2048, &[])],
+        ..NEW_CASE
+    },
+];
+
+/// Whether a call is Ok, and a read gives what it should.
+fn is_ok<'a>(device: &mut FileDevice<FaultySystem<'a>>, ask: &Ask) -> bool {
+    match ask {
+        Ask::Read(want) => {
+            let mut buf = [99];
+            device.read(0, &mut buf).is_ok() && buf[0] == *want
+        }
+        Ask::Write => device.write_at(0, &[1]).is_ok(),
+        Ask::Sync => device.sync().is_ok(),
+        Ask::Print => device.print(b"FOR HIRE\n").is_ok(),
+    }
+}
+
+/// The device of a case.
+fn device_of<'a>(case: &Case, system: FaultySystem<'a>) -> FileDevice<FaultySystem<'a>> {
+    let alloc = system.rt.alloc();
+    match case.access {
+        Access::Read => FileDevice::to_read(system, alloc, NAMES, 2048),
+        Access::Write => FileDevice::to_write(system, alloc, NAMES, 2048),
+    }
+}
+
+/// Asks what a case says, each of which must come as it says.
+fn must_come(rt: HostRuntime, case: &Case, kind: ErrorKind) -> Result<(), Fail> {
+    let trial = Trial::new(case.faults, kind);
+    let mut device = device_of(case, FaultySystem { rt, trial: &trial });
+    for ask in case.before {
+        must(is_ok(&mut device, ask), case.name, 0)?;
+    }
+    trial.begin();
+    for number in 0..case.calls.len() {
+        let (ask, want) = &case.calls[number];
+        let came = is_ok(&mut device, ask) == *want;
+        must(came, case.name, number as u64 + 1)?;
+    }
+    Ok(())
+}
+
+/// Plays a case in the folder of now.
+fn play(rt: HostRuntime, case: &Case, kind: ErrorKind) -> Result<(), Fail> {
+    for change in case.folder {
+        make(rt, change)?;
+    }
+    must_come(rt, case, kind)?;
+    for sight in case.left {
+        must(is_seen(rt, sight)?, case.name, 100)?;
+    }
+    Ok(())
+}
+
+/// Plays a case in a new folder.
+fn play_apart(rt: HostRuntime, case: &Case, kind: ErrorKind) -> Result<(), Fail> {
+    let folder = enter(rt)?;
+    play(rt, case, kind)?;
+    leave(rt, folder.as_str())?;
+    Ok(())
+}
+
+/// Plays each case, with each error that it tries.
+fn play_all(rt: HostRuntime, cases: &[Case]) -> Result<(), Fail> {
+    for case in cases {
+        for kind in case.kinds {
+            play_apart(rt, case, *kind)?;
+        }
+    }
+    Ok(())
+}
+
+#[test]
+fn openings_that_fail(rt: HostRuntime) -> Result<(), Fail> {
+    play_all(rt, OPENINGS)
+}
+
+#[test]
+fn folders_that_are_not_synced(rt: HostRuntime) -> Result<(), Fail> {
+    play_all(rt, FOLDERS)
+}
+
+#[test]
+fn stores_to_read_and_to_write(rt: HostRuntime) -> Result<(), Fail> {
+    play_all(rt, ACCESSES)
+}
+
+#[test]
+fn outputs_that_are_the_store(rt: HostRuntime) -> Result<(), Fail> {
+    play_all(rt, OUTPUTS)
+}
+
+#[test]
+fn calls_of_an_open_store_that_fail(rt: HostRuntime) -> Result<(), Fail> {
+    play_all(rt, LATER)
+}
+
+#[test]
+fn namings_that_fail(rt: HostRuntime) -> Result<(), Fail> {
+    play_all(rt, NAMINGS)
+}
+
+#[test]
+fn makings_that_fail(rt: HostRuntime) -> Result<(), Fail> {
+    play_all(rt, MAKINGS)
+}

@@ -1,0 +1,34 @@
+//! What the store asks of its open file.
+use std::fs::{File, OpenFile};
+use std::io;
+use std::io::{Read, Seek, Write};
+use std::os::fd::AsRawFd;
+
+/// The last number of a standard stream.
+const LAST_STREAM: i32 = 2;
+
+/// An open file of a system, with what the store asks of it beside reading, writing and `OpenFile`.
+pub trait HeldFile: OpenFile + Read + Write + Seek + Drop {
+    /// Takes the system's lock on the file, which no other opening may have. It doesn't wait for it.
+    fn lock_alone(&self) -> io::Result<()>;
+
+    /// The file under a number above those of the standard streams: what is meant for a stream that was
+    /// closed at the start must not come into the store.
+    fn above_streams(self) -> io::Result<Self>
+    where
+        Self: Sized;
+}
+
+impl HeldFile for File {
+    fn lock_alone(&self) -> io::Result<()> {
+        Ok(self.try_lock()?)
+    }
+
+    fn above_streams(self) -> io::Result<File> {
+        if self.as_raw_fd() <= LAST_STREAM {
+            self.try_clone()
+        } else {
+            Ok(self)
+        }
+    }
+}

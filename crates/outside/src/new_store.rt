@@ -1,0 +1,116 @@
+//! A new store, which is whole before it has its name.
+use crate::held_file::HeldFile;
+use crate::retried::write_whole;
+use crate::store_file::{is_same, locked, require_named, sync_folder};
+use std::fs::{OpenFile, OpenOptions};
+use std::io::ErrorKind;
+use std::os::unix::fs::{MetadataExt, OpenOptionsExt};
+use std::rt::Files as HostSystem;
+use std::{fs, io};
+
+/// The names of a store's file, in the working folder.
+#[derive(Clone, Copy, Debug)]
+pub struct StoreNames {
+    /// The file that is the store.
+    pub store: &'static str,
+
+    /// The file that a new store is until it is whole.
+    pub unfinished: &'static str,
+}
+
+/// A new store belongs to its owner alone.
+const OWNER_ALONE: u32 = 0o600;
+
+/// What the system keeps of this process, which belongs to its user.
+const PROCESS: &str = "/proc/self";
+
+/// How many zeros are written at once.
+const PIECE: usize = 512;
+
+/// Makes a store of this number of zeros, under the system's lock. It fails where the store's name is there.
+/// The file has its zeros on the medium before it has the store's name, and the name is on the medium when
+/// this is done. Where the file system has no second names, it has the store's name from the first.
+pub(crate) fn make<R: HostSystem>(rt: &R, names: StoreNames, size: u64) -> io::Result<R::File>
+where
+    R::File: HeldFile,
+{
+    remove_unfinished(rt, names.unfinished)?;
+    let file = made(rt, names.unfinished, size)?;
+    let answer = name_store(rt, names, &file);
+    rt.remove_file(names.unfinished)?;
+    if answer? {
+        return Ok(file);
+    }
+    let file = made(rt, names.store, size)?;
+    sync_folder(rt)?;
+    Ok(file)
+}
+
+/// Gives a whole file the store's name, and syncs the folder. The answer is false where the file system has
+/// no second names.
+fn name_store<R: HostSystem>(rt: &R, names: StoreNames, file: &R::File) -> io::Result<bool> {
+    match rt.hard_link(names.unfinished, names.store) {
+        Ok(()) => {
+            require_named(rt, names.store, file)?;
+            sync_folder(rt)?;
+            Ok(true)
+        }
+        Err(error) => match error.kind() {
+            ErrorKind::PermissionDenied | ErrorKind::Unsupported | ErrorKind::TooManyLinks => {
+                Ok(false)
+            }
+            _ => Err(error),
+        },
+    }
+}
+
+/// A new file of this number of zeros, which are on the medium. It fails where anything of the name is there.
+fn made<R: HostSystem>(rt: &R, name: &str, size: u64) -> io::Result<R::File>
+where
+    R::File: HeldFile,
+{
+    let file = OpenOptions::new()
+        .read(true)
+        .write(true)
+        .create_new(true)
+        .mode(OWNER_ALONE)
+        .open(rt, name)?;
+    let mut file = locked(rt, name, file)?;
+    write_zeros(&mut file, size)?;
+    file.sync_all()?;
+    Ok(file)
+}
+
+/// Writes this number of zeros.
+fn write_zeros<F: HeldFile>(file: &mut F, size: u64) -> io::Result<()> {
+    let zeros = [0; PIECE];
+    let mut left = size;
+    while left > 0 {
+        let count = left.min(PIECE as u64);
+        write_whole(file, &zeros[..count as usize])?;
+        left -= count;
+    }
+    Ok(())
+}
+
+/// Removes what a cut has left of a store in the making. It is never read. It fails where the name isn't a
+/// plain file of this user, and where another makes its store in it.
+fn remove_unfinished<R: HostSystem>(rt: &R, name: &str) -> io::Result<()>
+where
+    R::File: HeldFile,
+{
+    let found = match fs::symlink_metadata(rt, name) {
+        Ok(found) => found,
+        Err(error) if error.kind() == ErrorKind::NotFound => return Ok(()),
+        Err(error) => return Err(error),
+    };
+    if !found.is_file() || found.uid() != fs::metadata(rt, PROCESS)?.uid() {
+        return Err(io::Error::from(ErrorKind::AlreadyExists));
+    }
+    let file = OpenOptions::new().read(true).write(true).open(rt, name)?;
+    let file = locked(rt, name, file)?;
+    if !is_same(&found, &file.metadata()?) {
+        return Err(io::Error::from(ErrorKind::AlreadyExists));
+    }
+    rt.remove_file(name)
+}
