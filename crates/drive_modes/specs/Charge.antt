@@ -4,7 +4,7 @@ use Rattle.drive_modes.specs.declared.charges.Mode.{Mode}
 use Rattle.drive_modes.specs.declared.charges.Mode.TheVariants.{Single, Double}
 use Rattle.drive_modes.specs.declared.charges.Weights.{Weights}
 
--- the charge of a measuring interval of p pulses is, in mode S, the charge of its time where its distance costs less,
+-- the charge of a measuring interval of p pulses is, in mode S, the charge of its time if its distance costs less,
 -- and else the charge of its distance; in mode D it is the charge of both together
 abbrev pub charge_of : Mode → Weights → ℕ → ℕ
 charge_of Single w p = if nat_lt (p * w.per_pulse) w.per_tick then w.per_tick else p * w.per_pulse

@@ -4,7 +4,7 @@ use Rattle.drive_modes.specs.declared.meterage.Meterage.{Meterage}
 use Rattle.drive_modes.specs.declared.meterage.Rounding.{Rounding}
 use Rattle.drive_modes.specs.declared.meterage.Rounding.TheVariants.{Behind, Ahead}
 
--- the quotient x / y is rounded down where the fare is shown behind what was driven, and up where it is shown ahead
+-- the quotient x / y is rounded down if the fare is shown behind what was driven, and up if it is shown ahead
 abbrev pub quotient : Rounding → ℕ → ℕ → ℕ
 quotient Behind x y = x / y
 quotient Ahead x y = (x + (y - 1)) / y
@@ -47,7 +47,7 @@ added modulus m charge = record {
   rest = (m.rest + (charge - m.cover_left)) % modulus;
 }
 
--- a meterage shows its full display steps, and ahead one more where it has a rest
+-- a meterage shows its full display steps, and ahead one more if it has a rest
 abbrev pub steps_of : Rounding → Meterage → ℕ
 steps_of Behind m = m.steps_full
 steps_of Ahead m = if m.rest == 0 then m.steps_full else m.steps_full + 1
@@ -57,6 +57,6 @@ abbrev pub largest_fare : ℕ
 largest_fare = 99999999
 
 -- the fare that is shown after n display steps is the initial hire fee and a step for each of them, or the minimum
--- where that is more, and at most 99,999,999
+-- if that is more, and at most 99,999,999
 abbrev pub shown_fare : (initial minimum step n : ℕ) → ℕ
 shown_fare initial minimum step n = min largest_fare (max minimum (initial + step * n))

@@ -20,6 +20,17 @@ pub struct Weights {
     pub per_tick: u128,
 }
 
+impl Weights {
+    /// Takes weights apart. It compiles only while weights are two numbers and nothing else.
+    fn take_apart(self) -> (u128, u128) {
+        let Weights {
+            per_pulse,
+            per_tick,
+        } = self;
+        (per_pulse, per_tick)
+    }
+}
+
 /// The charge of a measuring interval that counted `pulses` pulses, at most 2,000, in units of charge.
 /// That each interval is charged by its own speed, and by the distance at the cross-over speed itself,
 /// is this project's own rule.

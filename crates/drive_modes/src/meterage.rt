@@ -14,6 +14,16 @@ pub enum Rounding {
     Ahead,
 }
 
+impl Rounding {
+    /// Takes a rounding apart. It compiles only while a rounding is one of two words and nothing else.
+    fn take_apart(self) -> bool {
+        match self {
+            Rounding::Behind => false,
+            Rounding::Ahead => true,
+        }
+    }
+}
+
 /// What the charges of a trip have come to, with no list of them: what the initial hire fee still
 /// covers, the full display steps above that, and what has begun the next one. `cover_left` and `rest`
 /// are in units of charge, and `rest` is less than a display step.

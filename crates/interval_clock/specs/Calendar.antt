@@ -4,7 +4,7 @@ use Rattle.std.specs.Int.{int_rem_euclid}
 pub use Rattle.interval_clock.specs.declared.day_numbers.CalendarDate.{CalendarDate}
 pub use Rattle.taxi_units.specs.Calendar.{IsDate, date_place, days_of_month, is_date, is_leap_year, month_lengths}
 
--- a year has 366 days where it is a leap year, and else 365
+-- a year has 366 days if it is a leap year, and else 365
 abbrev pub days_of_year : ℕ → ℕ
 days_of_year year = if is_leap_year year then 366 else 365
 
@@ -21,7 +21,7 @@ days_of_months year months = sum (take months (month_lengths (is_leap_year year)
 abbrev pub place_in_year : (year month date : ℕ) → ℕ
 place_in_year year month date = days_of_months year (month - 1) + (date - 1)
 
--- a day number is that of a date where the calendar has the date, and the day number, counted in days from 1970-01-01,
+-- a day number is that of a date if the calendar has the date, and the day number, counted in days from 1970-01-01,
 -- and the days of the years before 1970 add up to the days of the years before the date's year and its place in its
 -- year
 pub record IsDateOf (day : ℤ) (year month date : ℕ) : Type 0 where

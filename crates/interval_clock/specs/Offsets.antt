@@ -21,19 +21,19 @@ second_at pairs place = (slice_index_or pairs place (0, pos 0)).0
 abbrev pub offset_of : List (ℕ × ℤ) → ℕ → ℤ
 offset_of pairs place = (slice_index_or pairs place (0, pos 0)).1
 
--- the pair at a place is in range where its second is one of the meter's and its offset is at most 14 hours
+-- the pair at a place is in range if its second is one of the meter's and its offset is at most 14 hours
 abbrev pub IsInRangeAt : List (ℕ × ℤ) → ℕ → Type 0
 IsInRangeAt pairs place = IsSecond (second_at pairs place) × IsOffset (offset_of pairs place)
 
--- a list of pairs rises at a place where the second there is greater than the one before, or where none is before
+-- a list of pairs rises at a place if the second there is greater than the one before, or if none is before
 abbrev pub RisesAt : List (ℕ × ℤ) → ℕ → Type 0
 RisesAt pairs place = 0 < place → second_at pairs (place - 1) < second_at pairs place
 
--- a property of places holds for a list where it holds at each place of the list
+-- a property of places holds for a list if it holds at each place of the list
 abbrev pub EachPlace : List (ℕ × ℤ) → (ℕ → Type 0) → Type 0
 EachPlace pairs Holds = (place : ℕ) → place < length pairs → Holds place
 
--- a place is the first at which a property fails where it fails there and holds at each place before
+-- a place is the first at which a property fails if it fails there and holds at each place before
 pub record FirstPlace (pairs : List (ℕ × ℤ)) (Holds : ℕ → Type 0) (place : ℕ) : Type 0 where
   pub within : place < length pairs
   pub fails : ¬ (Holds place)
@@ -47,7 +47,7 @@ pub record IsOffsetList (pairs : List (ℕ × ℤ)) : Type 0 where
   pub in_range : EachPlace pairs (IsInRangeAt pairs)
   pub rising : EachPlace pairs (RisesAt pairs)
 
--- a list is of a good length where it has 1 to 32 pairs
+-- a list is of a good length if it has 1 to 32 pairs
 abbrev pub IsOfLength : List (ℕ × ℤ) → Type 0
 IsOfLength pairs = (1 ≤ length pairs) × (length pairs ≤ 32)
 
@@ -69,12 +69,12 @@ pub record IsInForce (pairs : List (ℕ × ℤ)) (second place : ℕ) : Type 0 w
   pub begun : second_at pairs place ≤ second
   pub last : (later : ℕ) → place < later → later < length pairs → second < second_at pairs later
 
--- the offset at a second is that of the last pair that begins at or before it, and `before` where none does
+-- the offset at a second is that of the last pair that begins at or before it, and `before` if none does
 abbrev pub offset_from : (before : ℤ) → List (ℕ × ℤ) → (second : ℕ) → ℤ
 offset_from before [] second = before
 offset_from before (pair ∷ pairs) second =
     offset_from (if nat_le pair.0 second then pair.1 else before) pairs second
 
--- the offset at a second is that of the last pair that begins at or before it, and 0 where none does
+-- the offset at a second is that of the last pair that begins at or before it, and 0 if none does
 abbrev pub offset_at : List (ℕ × ℤ) → (second : ℕ) → ℤ
 offset_at pairs second = offset_from (pos 0) pairs second

@@ -1,4 +1,4 @@
-//! The clock of the meter: the reading that it accepted last.
+//! A clock: the reading that it accepted last.
 ghost use Rattle.std.specs.Prelude.{◌≡◌, ℕ, ◌<◌, ◌↔◌, IsTrue, IsErr, IfErr, OnErr, OnOk};
 
 use std::marker::Model;
@@ -10,8 +10,8 @@ pub struct ClockBack {
     pub given: u64,
 }
 
-/// The clock of a meter: the last second that it accepted. It does not advance by itself, and how it
-/// is set is this project's own rule.
+/// A clock that holds the last second that it accepted. It does not advance by itself, and how it is
+/// set is this project's own rule.
 #[derive(Clone, Copy, Debug, PartialEq, Eq)]
 pub struct Clock {
     second: u64,

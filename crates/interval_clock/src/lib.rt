@@ -1,6 +1,6 @@
-//! The clock of the taximeter and local time: a list of offsets from UTC that is sealed with the
-//! meter, the date and the time of the day that it gives a second, and the last accepted reading of
-//! the clock. Seconds are counted from 1970-01-01T00:00Z.
+//! Local time, and a clock that keeps the reading that it accepted last. Local time is that of a list of
+//! offsets from UTC, which is sealed in a taximeter: the list gives each second a date and a time of the
+//! day. Seconds are counted from 1970-01-01T00:00Z.
 #![tactic(auto)]
 
 mod calendar;

@@ -13,7 +13,7 @@ unfoldable pub times_before : (year month weekday date : ℕ) → ℕ
 times_before year month weekday date =
     length (filter (λ earlier. weekday_on year month earlier == weekday) (range_with_len 1 (date - 1)))
 
--- a weekday comes no more in a month after a date where each later date of the month has another weekday
+-- a weekday comes no more in a month after a date if each later date of the month has another weekday
 abbrev pub ComesNoMore : (year month weekday date : ℕ) → Type 0
 ComesNoMore year month weekday date =
     (later : ℕ) → date < later → IsDate year month later → weekday_on year month later ≢ weekday

@@ -5,7 +5,7 @@ use Rattle.interval_clock.specs.Offsets.{greatest_offset}
 use Rattle.offset_rules.specs.Names.{IsName, day_names, month_names, number_names}
 use Rattle.offset_rules.specs.Rule.{Change}
 
--- digits are a figure of a number where they are at least `fewest` and at most `widest` decimal digits that have its
+-- digits are a figure of a number if they are at least `fewest` and at most `widest` decimal digits that have its
 -- value, and it is at most `greatest`
 pub record IsFigure (fewest widest greatest : ℕ) (digits : List ℕ) (number : ℕ) : Type 0 where
   pub numeral : IsNumeral 10 digits
@@ -14,12 +14,12 @@ pub record IsFigure (fewest widest greatest : ℕ) (digits : List ℕ) (number :
   pub value : digits_value 10 digits ≡ number
   pub small : number ≤ greatest
 
--- a text says an offset in seconds where it is 1 to 5 digits of a number up to 50400, or a minus and then such digits
+-- a text says an offset in seconds if it is 1 to 5 digits of a number up to 50400, or a minus and then such digits
 pub data IsSeconds : List ℕ → ℤ → Type 0 where
   ahead : (digits : List ℕ) (n : ℕ) → IsFigure 1 5 greatest_offset digits n → IsSeconds digits (pos n)
   behind : (digits : List ℕ) (n : ℕ) → IsFigure 1 5 greatest_offset digits n → IsSeconds (45 ∷ digits) (neg_ℤ (pos n))
 
--- a text says a minute of the day where it has the form HH:MM, with an hour up to 23 and a minute up to 59
+-- a text says a minute of the day if it has the form HH:MM, with an hour up to 23 and a minute up to 59
 pub record IsTime (text : List ℕ) (minute : ℕ) : Type 0 where
   pub hours : List ℕ
   pub minutes : List ℕ
@@ -43,13 +43,13 @@ pub record IsChangeText (text : List ℕ) (change : Change) : Type 0 where
   pub month_is : IsName month_names change.month month
   pub time_is : IsTime time change.minute
 
--- a line says an offset where it is the name, which ends in a blank, and then the offset
+-- a line says an offset if it is the name, which ends in a blank, and then the offset
 pub record IsOffsetLine (name line : List ℕ) (offset : ℤ) : Type 0 where
   pub value : List ℕ
   pub line_is : line ≡ name ++ value
   pub value_is : IsSeconds value offset
 
--- a line says a change where it is the name, which ends in a blank, and then the change
+-- a line says a change if it is the name, which ends in a blank, and then the change
 pub record IsChangeLine (name line : List ℕ) (change : Change) : Type 0 where
   pub value : List ℕ
   pub line_is : line ≡ name ++ value

@@ -20,6 +20,6 @@ month_names =
 abbrev pub name_of : (names : List (List ℕ)) → (number : ℕ) → List ℕ
 name_of names number = slice_index_or names (number - 1) []
 
--- a text is the name of a number where the list has a name for the number, and that is the text
+-- a text is the name of a number if the list has a name for the number, and that is the text
 abbrev pub IsName : (names : List (List ℕ)) → (number : ℕ) → (text : List ℕ) → Type 0
 IsName names number text = (1 ≤ number) × (number ≤ length names) × (text ≡ name_of names number)

@@ -26,7 +26,7 @@ changes_of_year rule year =
 abbrev pub changes_of_years : Rule → (from to : ℕ) → List (ℕ × ℤ)
 changes_of_years rule from to = flat_map (changes_of_year rule) (range_with_len from (to + 1 - from))
 
--- the test `is_later` is true where a change comes at another second than the meter's first
+-- the test `is_later` is true if a change comes at another second than the meter's first
 abbrev pub is_later : ℕ × ℤ → Bool
 is_later pair = not (pair.0 == first_second)
 
@@ -36,7 +36,7 @@ unfoldable pub pairs_of : Rule → (from to : ℕ) → List (ℕ × ℤ)
 pairs_of rule from to =
     (first_second, offset_by rule (first_second_of from)) ∷ filter is_later (changes_of_years rule from to)
 
--- a pair is a change in some years where its second is the one at which summer time begins or ends in one of them, and
+-- a pair is a change in some years if its second is the one at which summer time begins or ends in one of them, and
 -- its offset is the one that begins there
 pub data IsChangeIn (rule : Rule) (from to : ℕ) : ℕ × ℤ → Type 0 where
   begins : (year : ℕ) → from ≤ year → year ≤ to
@@ -44,7 +44,7 @@ pub data IsChangeIn (rule : Rule) (from to : ℕ) : ℕ × ℤ → Type 0 where
   ends : (year : ℕ) → from ≤ year → year ≤ to
       → IsChangeIn rule from to (second_of_change year rule.end, rule.standard)
 
--- a list of pairs is that of a rule for some years where it begins with the meter's first second and the offset at the
+-- a list of pairs is that of a rule for some years if it begins with the meter's first second and the offset at the
 -- beginning of the first year, then has exactly the changes of the years at other seconds, and its seconds rise
 pub record IsListOf (rule : Rule) (from to : ℕ) (pairs : List (ℕ × ℤ)) : Type 0 where
   pub later : List (ℕ × ℤ)

@@ -9,14 +9,14 @@ use Rattle.offset_rules.specs.Rule.{Change, Rule}
 use Rattle.offset_rules.specs.declared.fault.RuleFault.{RuleFault}
 use Rattle.offset_rules.specs.declared.fault.RuleFault.TheVariants.{TooLong, BadLine, SameMonth}
 
--- a number that was found and the rest after it, where it has `fewest` to `widest` digits and is at most `greatest`
+-- a number that was found and the rest after it, if it has `fewest` to `widest` digits and is at most `greatest`
 abbrev pub where_fits : (fewest widest greatest : ℕ) → (text : List ℕ) → ℕ × List ℕ → Option (ℕ × List ℕ)
 where_fits fewest widest greatest text x =
     if (nat_le (length x.1 + fewest) (length text)
     && (nat_le (length text) (length x.1 + widest) && nat_le x.0 greatest))
     then Some x else None
 
--- the number at the front of a text, where it has `fewest` to `widest` digits and is at most `greatest`, and the rest
+-- the number at the front of a text, if it has `fewest` to `widest` digits and is at most `greatest`, and the rest
 unfoldable pub figure_at : (fewest widest greatest : ℕ) → List ℕ → Option (ℕ × List ℕ)
 figure_at fewest widest greatest text = number_at text >>= where_fits fewest widest greatest text
 
@@ -28,7 +28,7 @@ seconds_at text = signed_at text (word_at (codes "-") text)
     signed_at text (Some digits) = figure_at 1 5 greatest_offset digits >>= (λ n. Some (neg_ℤ (pos n.0), n.1))
     signed_at text None = figure_at 1 5 greatest_offset text >>= (λ n. Some (pos n.0, n.1))
 
--- the number whose name was found and the rest, and where it wasn't found what the other names give
+-- the number whose name was found and the rest, and if it wasn't found what the other names give
 abbrev pub found_or : ℕ → Option (List ℕ) → Option (ℕ × List ℕ) → Option (ℕ × List ℕ)
 found_or number (Some rest) others = Some (number, rest)
 found_or number None others = others
@@ -75,7 +75,7 @@ change_line_at name text = do
   rest ← word_at (codes "\n") change.1
   Some (change.0, rest)
 
--- reading goes on with what was found in a line, and names the line where nothing was found
+-- reading goes on with what was found in a line, and names the line if nothing was found
 abbrev pub or_bad : {A : Type 0} → (line : ℕ) → Option A → (A → Result Rule RuleFault) → Result Rule RuleFault
 or_bad line (Some x) on = on x
 or_bad line None on = Err (BadLine line)

@@ -19,7 +19,7 @@ pub record Rule : Type 0 where
   pub begin : Change
   pub end : Change
 
--- a rule is lawful where its offsets are at most 14 hours and its changes are in range and in two different months
+-- a rule is lawful if its offsets are at most 14 hours and its changes are in range and in two different months
 pub record IsRule (rule : Rule) : Type 0 where
   pub standard : IsOffset rule.standard
   pub summer : IsOffset rule.summer

@@ -4,14 +4,14 @@ use Rattle.interval_clock.specs.Calendar.{date_after, day_number_of}
 use Rattle.offset_rules.specs.Changes.{second_of_change}
 use Rattle.offset_rules.specs.Rule.{Rule}
 
--- within a year, summer time is from the second at which it begins up to the one at which it ends; where it ends
+-- within a year, summer time is from the second at which it begins up to the one at which it ends; if it ends
 -- earlier in the year than it begins, it is before its end and from its beginning on
 abbrev pub is_summer : (begins ends second : ℕ) → Bool
 is_summer begins ends second =
     if nat_lt begins ends then nat_le begins second && nat_lt second ends
     else nat_lt second ends || nat_le begins second
 
--- the offset at a second of a year is that of summer time where the year's two changes make it summer time, and else
+-- the offset at a second of a year is that of summer time if the year's two changes make it summer time, and else
 -- that of standard time
 abbrev pub offset_in_year : Rule → (year second : ℕ) → ℤ
 offset_in_year rule year second =

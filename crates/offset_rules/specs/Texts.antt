@@ -5,7 +5,7 @@ use Rattle.taxi_units.specs.Number.{padded_text}
 use Rattle.offset_rules.specs.Names.{day_names, month_names, name_of, number_names}
 use Rattle.offset_rules.specs.Rule.{Change, Rule}
 
--- an offset is written in decimal seconds, with a minus before them where it is below zero
+-- an offset is written in decimal seconds, with a minus before them if it is below zero
 abbrev pub offset_text : ℤ → List ℕ
 offset_text (pos n) = decimal n
 offset_text (negsuc n) = 45 ∷ decimal (suc n)

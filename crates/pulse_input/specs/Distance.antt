@@ -5,7 +5,7 @@ use Rattle.std.specs.Prelude.{ℕ, ◌*◌, ◌/◌, ◌≤◌}
 abbrev pub millimetres_of : (k p : ℕ) → ℕ
 millimetres_of k p = 1000000 * p / k
 
--- p pulses have reached dm decimetres where k * dm is at most 10000 * p: k pulses make a kilometre, which has 10,000
+-- p pulses have reached dm decimetres if k * dm is at most 10000 * p: k pulses make a kilometre, which has 10,000
 -- decimetres
 abbrev pub HasReached : (k p dm : ℕ) → Type 0
 HasReached k p dm = k * dm ≤ 10000 * p

@@ -2,6 +2,6 @@
 use Rattle.std.specs.Prelude.{ℕ, ◌+◌, min}
 
 -- a pulse gate that has counted `pulses` pulses of a measuring interval has counted, when n more have come, their sum,
--- and 2,000 where the sum is greater
+-- and 2,000 if the sum is greater
 abbrev pub counted : (pulses n : ℕ) → ℕ
 counted pulses n = min 2000 (pulses + n)

@@ -51,4 +51,10 @@ impl Constant {
     {
         self.per_kilometre
     }
+
+    /// Takes a constant apart. It compiles only while a constant is one number and nothing else.
+    fn take_apart(self) -> u32 {
+        let Constant { per_kilometre } = self;
+        per_kilometre
+    }
 }

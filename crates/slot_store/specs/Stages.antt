@@ -24,34 +24,34 @@ spare_slot latest = 1 - kept_slot latest
 abbrev pub spare_at : Pair → ℕ
 spare_at pair = slot_at pair.at (spare_slot pair.latest)
 
--- the test `is_spare_open` is true where the gate of the slot that is written next is open, which it isn't in a blank
+-- the test `is_spare_open` is true if the gate of the slot that is written next is open, which it isn't in a blank
 -- pair
 abbrev pub is_spare_open : Option Place → Bool
 is_spare_open None = false
 is_spare_open (Some place) = place.other_open
 
--- the place of a new body, once its gate is open, is in the slot that is written next, beside an open one where the
+-- the place of a new body, once its gate is open, is in the slot that is written next, beside an open one if the
 -- pair had a body before
 abbrev pub new_place : Pair → Place
 new_place pair = record { slot = spare_slot pair.latest; other_open = is_some pair.latest }
 
--- a pair lies in the store where it begins at 1,024 at most, and the slot that is kept is slot 0 or 1
+-- a pair lies in the store if it begins at 1,024 at most, and the slot that is kept is slot 0 or 1
 pub record IsPair (pair : Pair) : Type 0 where
   pub at_in : pair.at ≤ last_pair
   pub slot_in : kept_slot pair.latest ≤ 1
 
--- the latest body is before a number where its own number is below it; where there is no body, that holds too
+-- the latest body is before a number if its own number is below it; if there is no body, that holds too
 abbrev pub IsBefore : {T : Type 0} → (T → ℕ) → Option T → ℕ → Type 0
 IsBefore number_of None number = Unit {0}
 IsBefore number_of (Some body) number = number_of body < number
 
 module _ {T : Type 0} (reads : List ℕ → Option T) where
-  -- the slot that begins at `start` keeps the latest body where it is open with it, and keeps none where it is closed
+  -- the slot that begins at `start` keeps the latest body if it is open with it, and keeps none if it is closed
   abbrev pub Keeps : ℕ → List ℕ → Option T → Type 0
   Keeps start image None = IsClosed start image
   Keeps start image (Some body) = IsOpen reads start image (Some body)
 
-  -- a pair is shut, before the second stage, where nothing of it is in flight, the slot that is written next is closed,
+  -- a pair is shut, before the second stage, if nothing of it is in flight, the slot that is written next is closed,
   -- and the other one keeps the latest body
   pub record IsShut (pair : Pair) (image : List ℕ) (in_flight : ℕ → Type 0) (latest : Option T) : Type 0 where
     pub known : is_some latest ≡ is_some pair.latest
@@ -60,19 +60,19 @@ module _ {T : Type 0} (reads : List ℕ → Option T) where
     pub kept : Keeps (kept_at pair) image latest
 
 module _ {T : Type 0} (reads : List ℕ → Option T) (number_of : T → ℕ) where
-  -- a pair at `at` is ready with no body where it is blank and nothing of it is in flight, and with the latest body
-  -- where it is settled with it at its place
+  -- a pair at `at` is ready with no body if it is blank and nothing of it is in flight, and with the latest body
+  -- if it is settled with it at its place
   abbrev pub IsReadyAt : ℕ → Option Place → List ℕ → (ℕ → Type 0) → Option T → Type 0
   IsReadyAt at None image in_flight None = IsBlank at image × IsQuiet at in_flight
   IsReadyAt at None image in_flight (Some body) = ⊥
   IsReadyAt at (Some place) image in_flight None = ⊥
   IsReadyAt at (Some place) image in_flight (Some body) = IsSettled reads number_of at place image in_flight body
 
-  -- a pair is ready, before the first stage, where it is blank or settled with the latest body, as its place says
+  -- a pair is ready, before the first stage, if it is blank or settled with the latest body, as its place says
   abbrev pub IsReady : Pair → List ℕ → (ℕ → Type 0) → Option T → Type 0
   IsReady pair image in_flight latest = IsReadyAt pair.at pair.latest image in_flight latest
 
-  -- a pair is written, before the third stage, where it is shut, and the closed slot has the new body, whose number is
+  -- a pair is written, before the third stage, if it is shut, and the closed slot has the new body, whose number is
   -- greater than that of the latest
   pub record IsWritten (pair : Pair) (image : List ℕ) (in_flight : ℕ → Type 0) (latest : Option T)
       (body : T) : Type 0 where
@@ -82,21 +82,21 @@ module _ {T : Type 0} (reads : List ℕ → Option T) (number_of : T → ℕ) wh
 
 -- what holds of a pair on a board, over the meanings of a type of bodies and of a type of boards
 module _ {T : Type 0} (meanings : BodyGhosts T) {D L : Type 0} (B : Ghosts D L) where
-  -- a pair is ready on a board where it is ready in the board's image, with what is in flight there
+  -- a pair is ready on a board if it is ready in the board's image, with what is in flight there
   abbrev pub IsReadyOn : Pair → D → Option T → Type 0
   IsReadyOn pair board latest =
       IsReady meanings.reads meanings.number_of pair (B.image board) (B.in_flight board) latest
 
-  -- a pair is shut on a board where it is shut in the board's image, with what is in flight there
+  -- a pair is shut on a board if it is shut in the board's image, with what is in flight there
   abbrev pub IsShutOn : Pair → D → Option T → Type 0
   IsShutOn pair board latest = IsShut meanings.reads pair (B.image board) (B.in_flight board) latest
 
-  -- a pair is written on a board where it is written in the board's image, with what is in flight there
+  -- a pair is written on a board if it is written in the board's image, with what is in flight there
   abbrev pub IsWrittenOn : Pair → D → Option T → T → Type 0
   IsWrittenOn pair board latest body =
       IsWritten meanings.reads meanings.number_of pair (B.image board) (B.in_flight board) latest body
 
-  -- a pair is settled on a board where it is settled in the board's image, with what is in flight there
+  -- a pair is settled on a board if it is settled in the board's image, with what is in flight there
   abbrev pub IsSettledOn : ℕ → Place → D → T → Type 0
   IsSettledOn at place board body =
       IsSettled meanings.reads meanings.number_of at place (B.image board) (B.in_flight board) body

@@ -5,7 +5,7 @@ use Rattle.outside.specs.Disk.{MayLeave, SameBut}
 use Rattle.outside.specs.Runs.{IsSettled, LeavesOnly}
 
 module _ {D L : Type 0} (B : Ghosts D L) where
-  -- a run only reads where bytes changed at most where some were in flight, no more is in flight, nothing was printed,
+  -- a run only reads if bytes changed at most where some were in flight, no more is in flight, nothing was printed,
   -- and a cut leaves what it might have left at the old board
   pub record ReadsOnly (old new : D) : Type 0 where
     pub leaves : LeavesOnly B old new (MayLeave (B.image old) (B.in_flight old) (B.printed old))
@@ -13,21 +13,21 @@ module _ {D L : Type 0} (B : Ghosts D L) where
     pub flight : (place : ℕ) → B.in_flight new place → B.in_flight old place
     pub text : B.printed new ≡ B.printed old
 
-  -- a board is synced, behind the opening sync of a call, where nothing was written before, the image is as it was, and
+  -- a board is synced, behind the opening sync of a call, if nothing was written before, the image is as it was, and
   -- nothing is in flight any more
   pub record IsSynced (old synced : D) : Type 0 where
     pub reads : ReadsOnly old synced
     pub same : B.image synced ≡ B.image old
     pub settled : IsSettled B synced
 
-  -- a call leaves a kind of image and text from its opening sync on where a cut behind that sync leaves only what is of
-  -- that kind, and a cut before it leaves what it might have left before the call; where the sync fails, nothing is
+  -- a call leaves a kind of image and text from its opening sync on if a cut behind that sync leaves only what is of
+  -- that kind, and a cut before it leaves what it might have left before the call; if the sync fails, nothing is
   -- written
   abbrev pub LeavesFromSync : (fails : Type 0) (old new : D) (kind : List ℕ → List ℕ → Type 0) → Type 0
   LeavesFromSync fails old new kind =
       (fails × ReadsOnly old new) ⊎ ((synced : D) × IsSynced old synced × LeavesOnly B synced new kind)
 
-  -- an image and a text are as held where they are those that a board holds
+  -- an image and a text are as held if they are those that a board holds
   pub record IsAsHeld (board : D) (left_image left_text : List ℕ) : Type 0 where
     pub image : left_image ≡ B.image board
     pub text : left_text ≡ B.printed board

@@ -5,12 +5,12 @@ use Rattle.outside.specs.Disk.{IsWithin, SameBut, MayLeave}
 use Rattle.outside.specs.Runs.{LeavesOnly}
 use Rattle.slot_store.specs.Sizes.{pair_size}
 
--- a place is among some places or within a piece where it is one of those places, or one of the `count` places from
+-- a place is among some places or within a piece if it is one of those places, or one of the `count` places from
 -- `at` on
 abbrev pub OrWithin : (ℕ → Type 0) → ℕ → ℕ → ℕ → Type 0
 OrWithin places at count place = places place ⊎ IsWithin at count place
 
--- a pair of slots that begins at `at` is apart from a part where the part ends before the pair, or begins behind it
+-- a pair of slots that begins at `at` is apart from a part if the part ends before the pair, or begins behind it
 abbrev pub IsApart : ℕ → ℕ → ℕ → Type 0
 IsApart at start count = (start + count ≤ at) ⊎ (at + pair_size ≤ start)
 
@@ -22,14 +22,14 @@ pub record LeavesBeside (image : List ℕ) (in_flight : ℕ → Type 0) (printed
   pub beside : MayLeave image (OrWithin in_flight start count) printed left_image left_text
 
 module _ {D L : Type 0} (B : Ghosts D L) where
-  -- writes lie in a part where outside it the image is as it was, but for what was in flight, no more is in flight, and
+  -- writes lie in a part if outside it the image is as it was, but for what was in flight, no more is in flight, and
   -- nothing was printed
   pub record WritesIn (start count : ℕ) (old new : D) : Type 0 where
     pub rest : SameBut (OrWithin (B.in_flight old) start count) (B.image old) (B.image new)
     pub flight : (place : ℕ) → B.in_flight new place → OrWithin (B.in_flight old) start count place
     pub text : B.printed new ≡ B.printed old
 
-  -- a run leaves a kind of image throughout where a cut at each of its moments leaves an image of that kind, and
+  -- a run leaves a kind of image throughout if a cut at each of its moments leaves an image of that kind, and
   -- outside a part what it might have left at the old board, and the new board has an image of that kind
   pub record LeavesThroughout (start count : ℕ) (kind : List ℕ → Type 0) (old new : D) : Type 0 where
     pub leaves : LeavesOnly B old new (LeavesBeside (B.image old) (B.in_flight old) (B.printed old) start count kind)

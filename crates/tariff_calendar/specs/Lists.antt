@@ -50,11 +50,11 @@ list_in lists Time = lists.times
 abbrev pub count_at_most : (value : ℕ) → List ℕ → ℕ
 count_at_most value cuts = count_by (λ cut. nat_le cut value) cuts
 
--- numbers don't fall where none is less than one before it
+-- numbers don't fall if none is less than one before it
 abbrev pub IsNotFalling : List ℕ → Type 0
 IsNotFalling xs = (i j : ℕ) → i < j → j < length xs → get_or xs i 0 ≤ get_or xs j 0
 
--- numbers are ordered where they don't fall and are at most `most`
+-- numbers are ordered if they don't fall and are at most `most`
 pub record IsOrdered (most : ℕ) (xs : List ℕ) : Type 0 where
   pub few : length xs ≤ most
   pub not_falling : IsNotFalling xs
@@ -74,15 +74,15 @@ most_reads Minute = 6
 most_reads Distance = 4
 most_reads Time = 4
 
--- the test `has_day` is true where a day number is that of a holiday
+-- the test `has_day` is true if a day number is that of a holiday
 abbrev pub has_day : List ℕ → ℤ → Bool
 has_day holidays day = list_any (λ holiday. int_eq (pos holiday) day) holidays
 
--- the test `has_days` is true where the lists have a holiday
+-- the test `has_days` is true if the lists have a holiday
 abbrev pub has_days : CutLists → Bool
 has_days lists = nat_lt 0 (length lists.holidays)
 
--- the test `is_holiday` is true where a date stands in a holiday line
+-- the test `is_holiday` is true if a date stands in a holiday line
 abbrev pub is_holiday : List Line → (year month date : ℕ) → Bool
 is_holiday lines year month date =
     list_any (λ (d : DateNumbers). (d.year == year) && ((d.month == month) && (d.date == date))) (holidays_of lines)

@@ -134,4 +134,16 @@ impl Cuts {
             Dimension::Time => self.times.as_slice(),
         }
     }
+
+    /// Takes lists of cuts apart. It compiles only while they are five lists of numbers and nothing else.
+    fn take_apart(self) -> [Vec<u64>; 5] {
+        let Cuts {
+            month_days,
+            minutes,
+            distances,
+            times,
+            holidays,
+        } = self;
+        [month_days, minutes, distances, times, holidays]
+    }
 }

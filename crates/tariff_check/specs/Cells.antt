@@ -5,7 +5,7 @@ use Rattle.tariff_check.specs.Cuts.{count_of}
 use Rattle.tariff_check.specs.Parts.{positions_of, zones_of, has_holidays}
 use Rattle.tariff_check.specs.declared.fault.Dimension.TheVariants.{MonthDay, Minute, Distance, Time}
 
--- the kinds of days of a tariff are two where it has a holiday, holidays and others, and one where it has none
+-- the kinds of days of a tariff are two if it has a holiday, holidays and others, and one if it has none
 abbrev pub day_kinds : List Line → ℕ
 day_kinds lines = if has_holidays lines then 2 else 1
 

@@ -54,11 +54,11 @@ most_cuts Minute = 63
 most_cuts Distance = 15
 most_cuts Time = 15
 
--- numbers rise where each is greater than those before it
+-- numbers rise if each is greater than those before it
 abbrev pub IsRising : List ℕ → Type 0
 IsRising xs = (i j : ℕ) → i < j → j < length xs → get_or xs i 0 < get_or xs j 0
 
--- a list is some numbers in order where it rises and has just the same numbers
+-- a list is some numbers in order if it rises and has just the same numbers
 pub record IsInOrder (numbers ordered : List ℕ) : Type 0 where
   pub rising : IsRising ordered
   pub same : (n : ℕ) → Contains numbers n ↔ Contains ordered n

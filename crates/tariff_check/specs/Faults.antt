@@ -22,28 +22,28 @@ use Rattle.tariff_check.specs.declared.fault.CheckFault.TheVariants.{LineAfterDe
 use Rattle.tariff_check.specs.declared.fault.CheckFault.TheVariants.{MeasureZero, NoCommonMeasure, TooManyCuts}
 use Rattle.tariff_check.specs.declared.fault.CheckFault.TheVariants.{TooManyCells}
 
--- a fault is there where its test is true
+-- a fault is there if its test is true
 abbrev pub fault_if : Bool → CheckFault → Option CheckFault
 fault_if true fault = Some fault
 fault_if false fault = None
 
--- a fault is there with the number of a line, where there is such a line
+-- a fault is there with the number of a line, if there is such a line
 abbrev pub fault_at : (ℕ → CheckFault) → Option ℕ → Option CheckFault
 fault_at fault None = None
 fault_at fault (Some line) = Some (fault line)
 
--- the test `is_step_zero` is true where there is a display step, and it is 0
+-- the test `is_step_zero` is true if there is a display step, and it is 0
 abbrev pub is_step_zero : Option (ℕ × Rounding) → Bool
 is_step_zero None = false
 is_step_zero (Some s) = s.0 == 0
 
--- the fault TooManyCuts is there where a dimension has more cuts than it may have
+-- the fault TooManyCuts is there if a dimension has more cuts than it may have
 abbrev pub cuts_fault : List Line → Dimension → Option CheckFault
 cuts_fault lines dimension =
     fault_if (nat_lt (most_cuts dimension) (count_of dimension lines))
     (TooManyCuts dimension (count_of dimension lines))
 
--- the test `has_default` is true where one of some lines has no condition
+-- the test `has_default` is true if one of some lines has no condition
 abbrev pub has_default : List (Option Condition) → Bool
 has_default conditions = list_any is_none conditions
 
@@ -91,6 +91,6 @@ first_some (x ∷ xs) = option_or x (first_some xs)
 abbrev pub fault_of : Tree → Option CheckFault
 fault_of t = first_some (faults_of t.lines)
 
--- a tariff is sound where none of the faults is there
+-- a tariff is sound if none of the faults is there
 abbrev pub IsSound : Tree → Type 0
 IsSound t = HasNone (faults_of t.lines)

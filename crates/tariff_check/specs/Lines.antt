@@ -32,7 +32,7 @@ atoms_if (Some when) = atoms_of when
 abbrev pub atoms_in : Entry → List Condition
 atoms_in entry = atoms_if (when_part entry)
 
--- the test `excludes` is true where a tariff may have only one of two lines: two steps, two numbers of positions, two
+-- the test `excludes` is true if a tariff may have only one of two lines: two steps, two numbers of positions, two
 -- of zones, two supplements of one number, or one holiday twice
 abbrev pub excludes : Entry → Entry → Bool
 excludes (step amount rounding) (step other also) = true
@@ -43,7 +43,7 @@ excludes (holiday year month date) (holiday year₂ month₂ date₂) =
     (year == year₂) && ((month == month₂) && (date == date₂))
 excludes entry other = false
 
--- the test `is_alike` is true where two lines are both rates, both initial hire fees, both minimum fares or both
+-- the test `is_alike` is true if two lines are both rates, both initial hire fees, both minimum fares or both
 -- holidays
 abbrev pub is_alike : Entry → Entry → Bool
 is_alike (rate a b c e when) (rate a₂ b₂ c₂ e₂ when₂) = true
@@ -57,7 +57,7 @@ abbrev pub most_alike : Entry → ℕ
 most_alike (holiday year month date) = 255
 most_alike entry = 64
 
--- the test `is_default_for` is true where the second line is the default for the first: it is of the same kind and has
+-- the test `is_default_for` is true if the second line is the default for the first: it is of the same kind and has
 -- no condition
 abbrev pub is_default_for : Entry → Entry → Bool
 is_default_for (rate a b c e when) (rate a₂ b₂ c₂ e₂ None) = true
@@ -65,30 +65,30 @@ is_default_for (initial amount covers when) (initial amount₂ covers₂ None) =
 is_default_for (minimum amount when) (minimum amount₂ None) = true
 is_default_for entry other = false
 
--- the test `is_unknown` is true where an atom names a position or a zone above the highest
+-- the test `is_unknown` is true if an atom names a position or a zone above the highest
 abbrev pub is_unknown : (highest_position highest_zone : ℕ) → Condition → Bool
 is_unknown highest_position highest_zone (tree.position number) = nat_lt highest_position number
 is_unknown highest_position highest_zone (tree.zone number) = nat_lt highest_zone number
 is_unknown highest_position highest_zone atom = false
 
--- the test `is_undated` is true where an atom has a month and date that no leap year has
+-- the test `is_undated` is true if an atom has a month and date that no leap year has
 abbrev pub is_undated : Condition → Bool
 is_undated (tree.date from_month from_date to_month to_date) =
     not (is_date 2000 from_month from_date && is_date 2000 to_month to_date)
 is_undated atom = false
 
--- the test `is_after_nothing` is true where an atom is an `after` of 0
+-- the test `is_after_nothing` is true if an atom is an `after` of 0
 abbrev pub is_after_nothing : Condition → Bool
 is_after_nothing (tree.after_distance decimetres) = decimetres == 0
 is_after_nothing (tree.after_time tenths) = tenths == 0
 is_after_nothing atom = false
 
--- the test `is_no_holiday` is true where a line is a holiday that is no date of the years 2000 to 2199
+-- the test `is_no_holiday` is true if a line is a holiday that is no date of the years 2000 to 2199
 abbrev pub is_no_holiday : Entry → Bool
 is_no_holiday (holiday year month date) = not (nat_le 2000 year && (nat_le year 2199 && is_date year month date))
 is_no_holiday entry = false
 
--- the test `is_great` is true where a line has an amount that is too great: a step, an amount of a rate or a supplement
+-- the test `is_great` is true if a line has an amount that is too great: a step, an amount of a rate or a supplement
 -- above 1,000,000, or an initial hire fee, its cover or a minimum fare above 99,999,999
 abbrev pub is_great : Entry → Bool
 is_great (step amount rounding) = nat_lt (10 ^ 6) amount
@@ -98,7 +98,7 @@ is_great (initial amount covers when) = nat_lt largest_amount amount || nat_lt l
 is_great (minimum amount when) = nat_lt largest_amount amount
 is_great entry = false
 
--- the test `is_for_nothing` is true where a line is a rate with a measure of 0
+-- the test `is_for_nothing` is true if a line is a rate with a measure of 0
 abbrev pub is_for_nothing : Entry → Bool
 is_for_nothing (rate a b c e when) = (b == 0) || (e == 0)
 is_for_nothing entry = false
@@ -107,32 +107,32 @@ is_for_nothing entry = false
 abbrev pub LineTest : Type 0
 LineTest = List Line → Entry → Bool
 
--- a line is a duplicate where an earlier line excludes it
+-- a line is a duplicate if an earlier line excludes it
 abbrev pub is_duplicate : LineTest
 is_duplicate before entry = list_any (λ (l : Line). excludes entry l.entry) before
 
--- a line is one too many where as many lines of its kind as there may be stand before it
+-- a line is one too many if as many lines of its kind as there may be stand before it
 abbrev pub is_one_too_many : LineTest
 is_one_too_many before entry = nat_le (most_alike entry) (count_by (λ (l : Line). is_alike entry l.entry) before)
 
--- a line names something unknown where its condition names a position or a zone above the highest
+-- a line names something unknown if its condition names a position or a zone above the highest
 abbrev pub names_unknown : (highest_position highest_zone : ℕ) → LineTest
 names_unknown highest_position highest_zone before entry =
     list_any (is_unknown highest_position highest_zone) (atoms_in entry)
 
--- a line is after its default where a line of its kind without a condition stands before it
+-- a line is after its default if a line of its kind without a condition stands before it
 abbrev pub is_after_default : LineTest
 is_after_default before entry = list_any (λ (l : Line). is_default_for entry l.entry) before
 
--- a line has a bad date where it is a holiday out of range or its condition has a date that no leap year has
+-- a line has a bad date if it is a holiday out of range or its condition has a date that no leap year has
 abbrev pub has_bad_date : LineTest
 has_bad_date before entry = is_no_holiday entry || list_any is_undated (atoms_in entry)
 
--- a line has a great amount where one of its amounts is above its limit
+-- a line has a great amount if one of its amounts is above its limit
 abbrev pub has_great_amount : LineTest
 has_great_amount before entry = is_great entry
 
--- a line has a measure of 0 where it is a rate for 0, or its condition has an `after` of 0
+-- a line has a measure of 0 if it is a rate for 0, or its condition has an `after` of 0
 abbrev pub has_measure_zero : LineTest
 has_measure_zero before entry = is_for_nothing entry || list_any is_after_nothing (atoms_in entry)
 
@@ -145,12 +145,12 @@ first_after test before (l ∷ ls) = if test before l.entry then Some l.line els
 abbrev pub first_line : LineTest → List Line → Option ℕ
 first_line test lines = first_after test [] lines
 
--- a test is passed nowhere where no line passes it with the lines before it
+-- a test is passed nowhere if no line passes it with the lines before it
 abbrev pub IsNowhere : LineTest → List Line → Type 0
 IsNowhere test lines =
     (before after : List Line) (line : Line) → lines ≡ before ++ line ∷ after → test before line.entry ≡ false
 
--- a number is that of the first line that passes a test where a line has the number and passes, and no line before it
+-- a number is that of the first line that passes a test if a line has the number and passes, and no line before it
 -- does
 pub record IsFirstLine (test : LineTest) (lines : List Line) (number : ℕ) : Type 0 where
   pub before : List Line

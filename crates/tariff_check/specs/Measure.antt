@@ -31,11 +31,11 @@ common_with first (n ∷ ns) = common_with (lcm_of first n) ns
 abbrev pub measure_of : List Line → ℕ
 measure_of lines = common_with 1 (measures_of lines)
 
--- a number is a multiple of all where it is a whole multiple of each
+-- a number is a multiple of all if it is a whole multiple of each
 abbrev pub IsMultipleOfAll : List ℕ → ℕ → Type 0
 IsMultipleOfAll ns m = All (λ n. m / n * n ≡ m) ns
 
--- a number is the least common multiple of some where it is above 0 and a multiple of all, and no smaller such number
+-- a number is the least common multiple of some if it is above 0 and a multiple of all, and no smaller such number
 -- is
 pub record IsLeastCommonMultiple (ns : List ℕ) (m : ℕ) : Type 0 where
   pub positive : 0 < m

@@ -34,64 +34,64 @@ pub record DateNumbers : Type 0 where
   pub month : ℕ
   pub date : ℕ
 
--- the step part of an entry is its amount and its rounding where it is a step, and none otherwise
+-- the step part of an entry is its amount and its rounding if it is a step, and none otherwise
 abbrev pub step_part : Entry → Option (ℕ × Rounding)
 step_part (step amount rounding) = Some (amount, rounding)
 step_part _ = None
 
--- the positions part of an entry is its number where it says how many positions there are, and none otherwise
+-- the positions part of an entry is its number if it says how many positions there are, and none otherwise
 abbrev pub positions_part : Entry → Option ℕ
 positions_part (positions number) = Some number
 positions_part _ = None
 
--- the zones part of an entry is its number where it says how many zones there are, and none otherwise
+-- the zones part of an entry is its number if it says how many zones there are, and none otherwise
 abbrev pub zones_part : Entry → Option ℕ
 zones_part (zones number) = Some number
 zones_part _ = None
 
--- the holiday part of an entry is its date where it is a holiday, and none otherwise
+-- the holiday part of an entry is its date if it is a holiday, and none otherwise
 abbrev pub holiday_part : Entry → Option DateNumbers
 holiday_part (holiday year month date) = Some (record { year = year; month = month; date = date })
 holiday_part _ = None
 
--- the supplement part of an entry is its amount and how often it may be added where it is the supplement of the number,
+-- the supplement part of an entry is its amount and how often it may be added if it is the supplement of the number,
 -- and none otherwise
 abbrev pub supplement_part : (number : ℕ) → Entry → Option SupplementNumbers
 supplement_part n (supplement number amount most) =
     if n == number then Some (record { amount = amount; most = most }) else None
 supplement_part n _ = None
 
--- the initial part of an entry is its amount and its cover where it is an initial hire fee, and none otherwise
+-- the initial part of an entry is its amount and its cover if it is an initial hire fee, and none otherwise
 abbrev pub initial_part : Entry → Option InitialNumbers
 initial_part (initial amount covers when) = Some (record { amount = amount; covers = covers })
 initial_part _ = None
 
--- the rate part of an entry is its amounts and its measures where it is a rate, and none otherwise
+-- the rate part of an entry is its amounts and its measures if it is a rate, and none otherwise
 abbrev pub rate_part : Entry → Option RateNumbers
 rate_part (rate a b c e when) = Some (record { a = a; b = b; c = c; e = e })
 rate_part _ = None
 
--- the minimum part of an entry is its amount where it is a minimum fare, and none otherwise
+-- the minimum part of an entry is its amount if it is a minimum fare, and none otherwise
 abbrev pub minimum_part : Entry → Option ℕ
 minimum_part (minimum amount when) = Some amount
 minimum_part _ = None
 
--- the condition of an entry is the one that it has, where its kind may have one and it has one
+-- the condition of an entry is the one that it has, if its kind may have one and it has one
 abbrev pub when_part : Entry → Option Condition
 when_part (initial amount covers when) = when
 when_part (rate a b c e when) = when
 when_part (minimum amount when) = when
 when_part _ = None
 
--- the display step of lines, with the rounding to it, is that of the first `step` line, where there is one
+-- the display step of lines, with the rounding to it, is that of the first `step` line, if there is one
 abbrev pub step_of : List Line → Option (ℕ × Rounding)
 step_of lines = first_part step_part lines
 
--- the tariff positions of lines are as many as a line says, and 1 where none does
+-- the tariff positions of lines are as many as a line says, and 1 if none does
 abbrev pub positions_of : List Line → ℕ
 positions_of lines = unwrap_or (first_part positions_part lines) 1
 
--- the zones of lines are as many as a line says, and 1 where none does
+-- the zones of lines are as many as a line says, and 1 if none does
 abbrev pub zones_of : List Line → ℕ
 zones_of lines = unwrap_or (first_part zones_part lines) 1
 
@@ -99,11 +99,11 @@ zones_of lines = unwrap_or (first_part zones_part lines) 1
 abbrev pub holidays_of : List Line → List DateNumbers
 holidays_of lines = parts holiday_part lines
 
--- the test `has_holidays` is true where lines have a holiday
+-- the test `has_holidays` is true if lines have a holiday
 abbrev pub has_holidays : List Line → Bool
 has_holidays lines = list_any (λ (d : DateNumbers). true) (holidays_of lines)
 
--- the supplement of a number in lines is that of the line with the number, where there is one
+-- the supplement of a number in lines is that of the line with the number, if there is one
 abbrev pub supplement_of : List Line → (number : ℕ) → Option SupplementNumbers
 supplement_of lines number = first_part (supplement_part number) lines
 

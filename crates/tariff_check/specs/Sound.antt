@@ -17,29 +17,29 @@ use Rattle.tariff_check.specs.Parts.{RateNumbers, InitialNumbers, SupplementNumb
 use Rattle.tariff_check.specs.Parts.{zones_of, holidays_of, supplement_of, initials_of, minimums_of, rates_of}
 use Rattle.tariff_check.specs.declared.fault.Dimension.{Dimension}
 
--- a rate is sound where its amounts are at most 1,000,000 and its measures 1 to 10^12
+-- a rate is sound if its amounts are at most 1,000,000 and its measures 1 to 10^12
 pub record IsSoundRate (r : RateNumbers) : Type 0 where
   pub distance_amount : r.a ≤ 10 ^ 6
   pub distance : IsFromTo 1 (10 ^ 12) r.b
   pub time_amount : r.c ≤ 10 ^ 6
   pub time : IsFromTo 1 (10 ^ 12) r.e
 
--- an initial hire fee is sound where its amount and its cover are at most 99,999,999
+-- an initial hire fee is sound if its amount and its cover are at most 99,999,999
 pub record IsSoundInitial (i : InitialNumbers) : Type 0 where
   pub amount : i.amount ≤ largest_amount
   pub covers : i.covers ≤ largest_amount
 
--- a supplement is sound where its amount is at most 1,000,000 and it may be added 1 to 99 times
+-- a supplement is sound if its amount is at most 1,000,000 and it may be added 1 to 99 times
 pub record IsSoundSupplement (s : SupplementNumbers) : Type 0 where
   pub amount : s.amount ≤ 10 ^ 6
   pub most : IsFromTo 1 99 s.most
 
--- a holiday is sound where it is a date of the years 2000 to 2199
+-- a holiday is sound if it is a date of the years 2000 to 2199
 pub record IsSoundHoliday (d : DateNumbers) : Type 0 where
   pub year : IsFromTo 2000 2199 d.year
   pub date : IsTrue (is_date d.year d.month d.date)
 
--- an atom is sound where its dates are ones that a leap year has, and where its `after` is more than 0
+-- an atom is sound if its dates are ones that a leap year has, and its `after` is more than 0
 abbrev pub IsSoundAtom : Condition → Type 0
 IsSoundAtom (tree.date from_month from_date to_month to_date) =
     IsTrue (is_date 2000 from_month from_date) × IsTrue (is_date 2000 to_month to_date)
@@ -47,11 +47,11 @@ IsSoundAtom (tree.after_distance decimetres) = 1 ≤ decimetres
 IsSoundAtom (tree.after_time tenths) = 1 ≤ tenths
 IsSoundAtom atom = Unit {0}
 
--- an atom is good where it is sound and a text can have its numbers
+-- an atom is good if it is sound and a text can have its numbers
 abbrev pub IsGoodAtom : Condition → Type 0
 IsGoodAtom atom = IsWritableCondition atom × IsSoundAtom atom
 
--- a tariff has sound parts where each of them is sound and there are no more of them than there may be
+-- a tariff has sound parts if each of them is sound and there are no more of them than there may be
 pub record HasSoundParts (t : Tree) : Type 0 where
   pub decimals : t.decimals ≤ 3
   pub step : (s : ℕ × Rounding) × (step_of t.lines ≡ Some s) × IsFromTo 1 (10 ^ 6) s.0

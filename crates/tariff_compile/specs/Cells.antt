@@ -36,7 +36,7 @@ abbrev pub places_of : Bands → List ℕ
 places_of b =
     b.position ∷ b.zone ∷ b.weekday ∷ b.holiday ∷ b.month_day ∷ b.minute ∷ b.distance ∷ b.time ∷ []
 
--- numbers come before others where, at the first place at which they differ, the former have the lower one
+-- numbers come before others if, at the first place at which they differ, the former have the lower one
 abbrev pub IsBefore : List ℕ → List ℕ → Type 0
 IsBefore (x ∷ xs) (y ∷ ys) = (x < y) ⊎ ((x ≡ y) × IsBefore xs ys)
 IsBefore xs ys = ⊥
@@ -106,13 +106,13 @@ context_in k lists b =
       ticks = min longest_trip (beginning lists.times b.time);
     }
 
--- the numbers of a cell are narrow where its position, zone and weekday are ones that a tariff may have
+-- the numbers of a cell are narrow if its position, zone and weekday are ones that a tariff may have
 pub record IsNarrow (b : Bands) : Type 0 where
   pub position : b.position < 9
   pub zone : b.zone < 9
   pub weekday : b.weekday < 7
 
--- lists have low cuts where the places of days and the minutes are below 2^16
+-- lists have low cuts if the places of days and the minutes are below 2^16
 pub record HasLowCuts (lists : CutLists) : Type 0 where
   pub month_days : All (λ cut. cut < 2 ^ 16) lists.month_days
   pub minutes : All (λ cut. cut < 2 ^ 16) lists.minutes

@@ -14,7 +14,7 @@ use Rattle.tariff_compile.specs.declared.marks.Marks.{Marks}
 abbrev pub is_marked : Marks → (place : ℕ) → Bool
 is_marked marks place = bit_at marks.bits place == 1
 
--- marks are those of a test where exactly the contexts that pass it are marked
+-- marks are those of a test if exactly the contexts that pass it are marked
 abbrev pub MarksThose : (Context → Bool) → List Context → Marks → Type 0
 MarksThose passes xs marks = (place : ℕ) (x : Context) → slice_get xs place ≡ Some x → is_marked marks place ≡ passes x
 
@@ -22,7 +22,7 @@ MarksThose passes xs marks = (place : ℕ) (x : Context) → slice_get xs place 
 abbrev pub conditions_of : LineKind → List Line → List (Option Condition)
 conditions_of kind lines = parts (when_of kind) lines
 
--- lists of marks are those of conditions, in order, where each context has the marks of the conditions that hold in it
+-- lists of marks are those of conditions, in order, if each context has the marks of the conditions that hold in it
 abbrev pub MarkEach : List (Option Condition) → List Context → List Marks → Type 0
 MarkEach conditions xs all =
     (place : ℕ) (x : Context) → slice_get xs place ≡ Some x → map (λ (marks : Marks). is_marked marks place) all

@@ -2,7 +2,7 @@
 use Rattle.std.specs.Prelude.{◌≡◌, ℕ, ◌+◌, ◌≤◌}
 use Rattle.tariff_syntax.specs.declared.context.Context.{Context}
 
--- the second context is near the first where it has at most `further` more pulses and at most `longer` more ticks, and
+-- the second context is near the first if it has at most `further` more pulses and at most `longer` more ticks, and
 -- is the same otherwise
 pub record IsNear (further longer : ℕ) (x y : Context) : Type 0 where
   pub position : y.position ≡ x.position

@@ -30,7 +30,7 @@ abbrev pub minimum_row : (decimals number amount : ℕ) → List ℕ
 minimum_row decimals number amount =
     codes "MINIMUM " ++ (decimal number ++ (codes " " ++ (money_text decimals amount ++ codes "\n")))
 
--- the row of a cell ends with the number of its minimum fare, where the tariff has minimum fares
+-- the row of a cell ends with the number of its minimum fare, if the tariff has minimum fares
 abbrev pub minimum_field : (minimums : Bool) (number : ℕ) → List ℕ
 minimum_field minimums number = if minimums then codes " " ++ (decimal number ++ codes "\n") else codes "\n"
 
@@ -48,7 +48,7 @@ abbrev pub numbered : {A : Type 0} → (row : ℕ → A → List ℕ) → (first
 numbered row first [] = []
 numbered row first (x ∷ xs) = row first x ∷ numbered row (first + 1) xs
 
--- the test `has_minimums` is true where the tariff has minimum fares
+-- the test `has_minimums` is true if the tariff has minimum fares
 abbrev pub has_minimums : TableParts → Bool
 has_minimums tables = nat_lt 0 (length tables.minimums)
 

@@ -63,7 +63,7 @@ all_weights t k = map (weights_of k (measure_of t.lines)) (rates_of t.lines)
 abbrev pub all_initials : Tree → List Fee
 all_initials t = map fee_of (initials_of t.lines)
 
--- the supplement of a number in the tables of a tariff is its amount and how often a hiring may have it, where the
+-- the supplement of a number in the tables of a tariff is its amount and how often a hiring may have it, if the
 -- tariff has one
 abbrev pub supplement_at : Tree → (number : ℕ) → Option Supplement
 supplement_at t number = option_map supplement_in (supplement_of t.lines number)
@@ -95,7 +95,7 @@ context_of t k cell = context_in k (lists_of t k) (bands_of (sizes_in t k) cell)
 abbrev pub cell_of : Tree → (k : ℕ) → Context → ℕ
 cell_of t k x = cell_number (sizes_in t k) (bands_at (lists_of t k) x)
 
--- the lines of a cell are those of a context where they are the rate that holds first in it, and the initial hire fee
+-- the lines of a cell are those of a context if they are the rate that holds first in it, and the initial hire fee
 -- and the minimum fare that hold first at its hiring
 pub record HasLinesOf (t : Tree) (x : Context) (lines : CellLines) : Type 0 where
   pub rate : rate_place t x ≡ Some lines.rate
@@ -134,12 +134,12 @@ tables_of t k =
 abbrev pub sizes_for : TableParts → Bands
 sizes_for tables = sizes_of tables.positions tables.zones (if has_days tables.cuts then 2 else 1) tables.cuts
 
--- a context is one that a trip under the tables may have where its position, its zone and its kind of day are among the
+-- a context is one that a trip under the tables may have if its position, its zone and its kind of day are among the
 -- tables', and its numbers in their ranges
 abbrev pub IsInRangeFor : TableParts → Context → Type 0
 IsInRangeFor tables x = IsInRange tables.constant tables.positions tables.zones (has_days tables.cuts) x
 
--- tables are those of a tariff where the tariff is sound, a text can have its numbers, the constant is 500 to 200,000,
+-- tables are those of a tariff if the tariff is sound, a text can have its numbers, the constant is 500 to 200,000,
 -- and the parts are the tariff's
 pub record IsTablesOf (t : Tree) (tables : TableParts) : Type 0 where
   pub writable : IsWritable t
@@ -147,7 +147,7 @@ pub record IsTablesOf (t : Tree) (tables : TableParts) : Type 0 where
   pub constant : (least_constant ≤ tables.constant) × (tables.constant ≤ greatest_constant)
   pub parts : tables ≡ tables_of t tables.constant
 
--- parts are compiled where they are the tables of some tariff
+-- parts are compiled if they are the tables of some tariff
 abbrev pub IsCompiled : TableParts → Type 0
 IsCompiled tables = (t : Tree) × IsTablesOf t tables
 
@@ -160,13 +160,13 @@ abbrev pub initial_with : Fee → (minimum : ℕ) → Initial
 initial_with fee minimum = record { amount = fee.amount; covers = fee.covers; minimum = minimum }
 
 -- the initial hire fee of a context by the tree is the one that holds first at its hiring, with the minimum fare that
--- does, or 0 where none does
+-- does, or 0 if none does
 abbrev pub initial_by : Tree → Context → Initial
 initial_by t x =
     initial_with (get_or (all_initials t) (unwrap_or (initial_place t x) 0) (record { amount = 0; covers = 0 }))
     (get_or (0 ∷ minimums_of t.lines) (number_of (minimum_place t x)) 0)
 
--- weights are those of a context where they are made of the numbers of the rate that holds first in it
+-- weights are those of a context if they are made of the numbers of the rate that holds first in it
 pub record HasWeightsOf (t : Tree) (k : ℕ) (x : Context) (w : Weights) : Type 0 where
   pub place : ℕ
   pub rate : RateNumbers
@@ -174,8 +174,8 @@ pub record HasWeightsOf (t : Tree) (k : ℕ) (x : Context) (w : Weights) : Type 
   pub there : slice_get (rates_of t.lines) place ≡ Some rate
   pub weights : w ≡ weights_of k (measure_of t.lines) rate
 
--- amounts are those of a context where they are the ones of the initial hire fee that holds first at its hiring, and of
--- the minimum fare that does, or 0 where none holds
+-- amounts are those of a context if they are the ones of the initial hire fee that holds first at its hiring, and of
+-- the minimum fare that does, or 0 if none holds
 pub record HasAmountsOf (t : Tree) (x : Context) (i : Initial) : Type 0 where
   pub place : ℕ
   pub fee : InitialNumbers
@@ -186,7 +186,7 @@ pub record HasAmountsOf (t : Tree) (x : Context) (i : Initial) : Type 0 where
   pub minimum : MatchOption (minimum_place t x) (i.minimum ≡ 0)
       (λ n. slice_get (minimums_of t.lines) n ≡ Some i.minimum)
 
--- weights are fit where they are within the limits of charges, and a pulse is at most 20,000,000 of the smallest units
+-- weights are fit if they are within the limits of charges, and a pulse is at most 20,000,000 of the smallest units
 -- of money and a tick at most 1,000,000
 pub record AreFit (measure : ℕ) (w : Weights) : Type 0 where
   pub per_pulse : w.per_pulse ≤ 10 ^ 28
@@ -194,13 +194,13 @@ pub record AreFit (measure : ℕ) (w : Weights) : Type 0 where
   pub pulse_units : w.per_pulse ≤ 2 * 10 ^ 7 * measure
   pub tick_units : w.per_tick ≤ 10 ^ 6 * measure
 
--- an initial hire fee is fit where it, its cover and its minimum fare are at most 99,999,999
+-- an initial hire fee is fit if it, its cover and its minimum fare are at most 99,999,999
 pub record IsFitInitial (i : Initial) : Type 0 where
   pub amount : i.amount ≤ largest_amount
   pub covers : i.covers ≤ largest_amount
   pub minimum : i.minimum ≤ largest_amount
 
--- tables are fit where their measure, step, decimals, positions and zones are within their limits
+-- tables are fit if their measure, step, decimals, positions and zones are within their limits
 pub record IsFit (tables : TableParts) : Type 0 where
   pub measure : (0 < tables.measure) × (tables.measure ≤ 2 * 10 ^ 23)
   pub step : IsFromTo 1 (10 ^ 6) tables.step

@@ -27,12 +27,28 @@ pub(crate) struct Fee {
     pub(crate) covers: u64,
 }
 
+impl Fee {
+    /// Takes a fee apart. It compiles only while a fee is two numbers and nothing else.
+    fn take_apart(self) -> (u64, u64) {
+        let Fee { amount, covers } = self;
+        (amount, covers)
+    }
+}
+
 /// A supplement, in units of the last decimal, and how often a hiring may have it: at most 1,000,000, and
 /// 1 to 99.
 #[derive(Clone, Copy, PartialEq, Eq)]
 pub struct Supplement {
     pub amount: u64,
     pub max: u8,
+}
+
+impl Supplement {
+    /// Takes a supplement apart. It compiles only while a supplement is two numbers and nothing else.
+    fn take_apart(self) -> (u64, u8) {
+        let Supplement { amount, max } = self;
+        (amount, max)
+    }
 }
 
 /// The lines of a cell: by their places from 0 the rate and the initial hire fee, and by its number from
@@ -42,6 +58,18 @@ pub(crate) struct CellLines {
     pub(crate) rate: u8,
     pub(crate) initial: u8,
     pub(crate) minimum: u8,
+}
+
+impl CellLines {
+    /// Takes the lines of a cell apart. It compiles only while they are three numbers and nothing else.
+    fn take_apart(self) -> (u8, u8, u8) {
+        let CellLines {
+            rate,
+            initial,
+            minimum,
+        } = self;
+        (rate, initial, minimum)
+    }
 }
 
 /// The number of a cell in each dimension, from 0; or how many numbers each dimension has.

@@ -44,6 +44,19 @@ pub struct Tables {
     pub(crate) zones: u8,
 }
 
+/// The lists that tables are made of.
+type Lists = (
+    Cuts,
+    Vec<Weights>,
+    Vec<Fee>,
+    Vec<u64>,
+    Vec<CellLines>,
+    Vec<Option<Supplement>>,
+);
+
+/// The numbers that tables are made of.
+type Numbers = (Constant, u128, u64, Rounding, u8, u8, u8);
+
 impl Model for Tables {
     ghost use Rattle.tariff_compile.specs.Tables.{IsCompiled, TableParts};
 
@@ -57,6 +70,32 @@ impl Model for Tables {
 }
 
 impl Tables {
+    /// Takes tables apart. It compiles only while they are cuts, lists of plain parts and plain numbers,
+    /// and nothing else; each of these types is taken apart where it stands.
+    fn take_apart(self) -> (Lists, Numbers) {
+        let Tables {
+            cuts,
+            weights,
+            initials,
+            minimums,
+            cells,
+            supplements,
+            constant,
+            measure,
+            step,
+            rounding,
+            decimals,
+            positions,
+            zones,
+        } = self;
+        (
+            (cuts, weights, initials, minimums, cells, supplements),
+            (
+                constant, measure, step, rounding, decimals, positions, zones,
+            ),
+        )
+    }
+
     /// The weights of the rate that holds first in a context, which a trip may have and which has the
     /// tables' constant. A step is the read of a cut, of a cell or of the weights: they are at least 2 and
     /// at most 22.

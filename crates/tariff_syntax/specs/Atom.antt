@@ -42,7 +42,7 @@ time_first ts = do
   to ← minute_first rest
   Some (time from.0 to.0, to.1)
 
--- the range of weekdays from the first one to the one behind `..`, or that one day where no `..` follows
+-- the range of weekdays from the first one to the one behind `..`, or that one day if no `..` follows
 abbrev pub until_weekday : ℕ → List Token → Option (List Token) → Option (Condition × List Token)
 until_weekday from ts None = Some (day from from, ts)
 until_weekday from ts (Some rest) = do

@@ -6,19 +6,19 @@ use Rattle.tariff_syntax.specs.Tree.{Entry, initial, rate, minimum}
 use Rattle.tariff_syntax.specs.declared.condition.Cond.{Cond}
 use Rattle.taxi_units.specs.declared.NoMemory.{NoMemory}
 
--- a condition has parts, which take memory of their own, where it is no atom
+-- a condition has parts, which take memory of their own, if it is no atom
 abbrev pub HasParts : Condition → Type 0
 HasParts (and left right) = ⊤
 HasParts (or left right) = ⊤
 HasParts (not inner) = ⊤
 HasParts _ = ⊥
 
--- the condition of a line that may have none has parts where there is one and it is no atom
+-- the condition of a line that may have none has parts if there is one and it is no atom
 abbrev pub HasPartsIf : Option Condition → Type 0
 HasPartsIf None = ⊥
 HasPartsIf (Some c) = HasParts c
 
--- an entry has a condition with parts where its kind has a condition and that is no atom
+-- an entry has a condition with parts if its kind has a condition and that is no atom
 abbrev pub EntryHasParts : Entry → Type 0
 EntryHasParts (initial amount covers when) = HasPartsIf when
 EntryHasParts (rate a b c e when) = HasPartsIf when
@@ -39,7 +39,7 @@ abbrev pub IsFront : Built × List Token → Option (Condition × List Token) �
 IsFront found None = ⊥
 IsFront found (Some read) = IsBuilt found.0 read.0 × (found.1 ≡ read.1)
 
--- a function built what reading gives, seen through `view`, and returned None exactly where reading gives nothing
+-- a function built what reading gives, seen through `view`, and returned None exactly if reading gives nothing
 abbrev pub Builds : {X : Type 0} → (X → Built × List Token) → Option X → Option (Condition × List Token) → Type 0
 Builds view None read = read ≡ None
 Builds view (Some found) read = IsFront (view found) read

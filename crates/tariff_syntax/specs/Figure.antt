@@ -8,13 +8,13 @@ use Rattle.taxi_units.specs.declared.decimal.NumberFault.{NumberFault}
 use Rattle.tariff_syntax.specs.Token.{Token}
 use Rattle.tariff_syntax.specs.Words.{figure_first, ended}
 
--- the number that was found in front of a rest, where the rest is empty, the text has at most two digits, and the
+-- the number that was found in front of a rest, if the rest is empty, the text has at most two digits, and the
 -- number is of `least` to `most`
 abbrev pub where_small : (least most : ℕ) → (text : List ℕ) → ℕ × List ℕ → Option ℕ
 where_small least most text x =
     if (length x.1 == 0 && (nat_le (length text) 2 && (nat_le least x.0 && nat_le x.0 most))) then Some x.0 else None
 
--- the number of a text of one or two digits, where it is of `least` to `most`
+-- the number of a text of one or two digits, if it is of `least` to `most`
 unfoldable pub small_number : (least most : ℕ) → List ℕ → Option ℕ
 small_number least most text = number_at text >>= where_small least most text
 
@@ -38,7 +38,7 @@ year_date_read text = do
   date ← date_read rest
   Some (year.0, date.0, date.1)
 
--- the minute of the day of hours and minutes, where the hours are below 24 and the minutes below 60
+-- the minute of the day of hours and minutes, if the hours are below 24 and the minutes below 60
 abbrev pub where_of_a_day : ℕ × ℕ → Option ℕ
 where_of_a_day x = if (nat_le x.0 23 && nat_le x.1 59) then Some (60 * x.0 + x.1) else None
 
@@ -46,7 +46,7 @@ where_of_a_day x = if (nat_le x.0 23 && nat_le x.1 59) then Some (60 * x.0 + x.1
 unfoldable pub minute_read : List ℕ → Option ℕ
 minute_read text = pair_read (codes ":") text >>= where_of_a_day
 
--- the amount, where one was read
+-- the amount, if one was read
 abbrev pub amount_or_none : Result ℕ NumberFault → Option ℕ
 amount_or_none (Ok n) = Some n
 amount_or_none (Err fault) = None

@@ -7,51 +7,51 @@ use Rattle.tariff_syntax.specs.Condition.{after_distance, after_time}
 use Rattle.tariff_syntax.specs.Token.{Token, word, figure, sign}
 use Rattle.tariff_syntax.specs.Weekdays.{day_word}
 
--- a text is a number of a range where it is one or two digits with its value, and it is of `least` to `most`
+-- a text is a number of a range if it is one or two digits with its value, and it is of `least` to `most`
 abbrev pub IsNumber : (least most : ℕ) → List ℕ → ℕ → Type 0
 IsNumber least most text n =
     IsNumeral 10 text × (length text ≤ 2) × (n ≡ digits_value 10 text) × (least ≤ n) × (n ≤ most)
 
--- a text is a number in a width where it is exactly `width` digits with its value
+-- a text is a number in a width if it is exactly `width` digits with its value
 abbrev pub IsDigits : (width : ℕ) → List ℕ → ℕ → Type 0
 IsDigits width text n = IsNumeral 10 text × (length text ≡ width) × (n ≡ digits_value 10 text)
 
--- a text is a pair of numbers where it is two digits with the first value, `between`, and two digits with the second
+-- a text is a pair of numbers if it is two digits with the first value, `between`, and two digits with the second
 abbrev pub IsPair : (between : List ℕ) → List ℕ → ℕ → ℕ → Type 0
 IsPair between text first second =
     (x : List ℕ) × (y : List ℕ) × (text ≡ x ++ (between ++ y)) × IsDigits 2 x first × IsDigits 2 y second
 
--- a text is a date of any year where it is the month and the date, of two digits each, with a `-` between them
+-- a text is a date of any year if it is the month and the date, of two digits each, with a `-` between them
 abbrev pub IsDate : List ℕ → ℕ → ℕ → Type 0
 IsDate text month number = IsPair (codes "-") text month number
 
--- a text is a date of a year where it is the year of four digits, a `-`, and a date of any year
+-- a text is a date of a year if it is the year of four digits, a `-`, and a date of any year
 abbrev pub IsYearDate : List ℕ → ℕ → ℕ → ℕ → Type 0
 IsYearDate text year month number =
     (x : List ℕ) × (rest : List ℕ) × (text ≡ x ++ (codes "-" ++ rest)) × IsDigits 4 x year × IsDate rest month number
 
--- a text is a minute of the day where it is hours up to 23 and minutes up to 59, of two digits each, with a `:` between
+-- a text is a minute of the day if it is hours up to 23 and minutes up to 59, of two digits each, with a `:` between
 abbrev pub IsMinute : List ℕ → ℕ → Type 0
 IsMinute text minute =
     (hours : ℕ) × (minutes : ℕ) × IsPair (codes ":") text hours minutes × (hours ≤ 23) × (minutes ≤ 59)
     × (minute ≡ 60 * hours + minutes)
 
--- a text is an amount of units where it is a decimal text of at most `decimals` decimals that has just as many units
+-- a text is an amount of units if it is a decimal text of at most `decimals` decimals that has just as many units
 abbrev pub IsAmount : (decimals : ℕ) → List ℕ → ℕ → Type 0
 IsAmount decimals text n = IsReadAs decimals text (Ok n)
 
--- a word is a weekday of 1 to 7 where it is that day's short name
+-- a word is a weekday of 1 to 7 if it is that day's short name
 abbrev pub IsWeekday : List ℕ → ℕ → Type 0
 IsWeekday name n = (1 ≤ n) × (n ≤ 7) × (name ≡ day_word n)
 
--- tokens are weekdays where they are one short name, or two with `..` between them
+-- tokens are weekdays if they are one short name, or two with `..` between them
 abbrev pub AreWeekdays : List Token → ℕ → ℕ → Type 0
 AreWeekdays ts from to =
     ((name : List ℕ) × (ts ≡ word name ∷ []) × IsWeekday name from × (to ≡ from))
     ⊎ ((first : List ℕ) × (second : List ℕ) × (ts ≡ word first ∷ sign (codes "..") ∷ word second ∷ [])
     × IsWeekday first from × IsWeekday second to)
 
--- tokens are an atom where they are its word and what belongs to it: a number, a range of minutes, weekdays or dates,
+-- tokens are an atom if they are its word and what belongs to it: a number, a range of minutes, weekdays or dates,
 -- nothing, or an amount and its unit
 abbrev pub IsAtom : List Token → Condition → Type 0
 IsAtom ts (position n) = (f : List ℕ) × (ts ≡ word (codes "position") ∷ figure f ∷ []) × IsNumber 1 9 f n

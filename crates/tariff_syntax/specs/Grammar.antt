@@ -18,7 +18,7 @@ Reader = List Token → Option (Condition × List Token)
 abbrev pub negated : Option (Condition × List Token) → Option (Condition × List Token)
 negated inner = inner >>= λ x. Some (tree.not x.0, x.1)
 
--- what was read, where a closing parenthesis follows it, and the tokens after that
+-- what was read, if a closing parenthesis follows it, and the tokens after that
 abbrev pub closed_after : Option (Condition × List Token) → Option (Condition × List Token)
 closed_after inner = inner >>= λ x. (after_sign (codes ")") x.1 >>= λ rest. Some (x.0, rest))
 
@@ -55,7 +55,7 @@ or_joined factors left ts = term_by factors ts >>= λ x. Some (tree.or left x.0,
 unfoldable pub condition_by : (factors : Reader) → Reader
 condition_by factors ts = term_by factors ts >>= λ x. chain_on (codes "or") (or_joined factors) 64 x.0 x.1
 
--- the factor that stands first, where fewer than `depth` `not` and `(` are around each of its atoms
+-- the factor that stands first, if fewer than `depth` `not` and `(` are around each of its atoms
 unfoldable pub factor_first : (depth : ℕ) → Reader
 factor_first zero ts = None
 factor_first (suc depth) ts = factor_by (factor_first depth) (condition_by (factor_first depth)) ts
@@ -64,11 +64,11 @@ factor_first (suc depth) ts = factor_by (factor_first depth) (condition_by (fact
 abbrev pub condition_alone : List Token → Option Condition
 condition_alone ts = condition_by (factor_first 64) ts >>= λ x. ended x.1 x.0
 
--- the condition that all of the tokens are, where they have at most 64 atoms, `not` and `(` together
+-- the condition that all of the tokens are, if they have at most 64 atoms, `not` and `(` together
 unfoldable pub bounded_condition : List Token → Option Condition
 bounded_condition ts = if nat_le (weight ts) 64 then condition_alone ts else None
 
--- the condition at the end of a line: none where the line ends, or the one behind `when`
+-- the condition at the end of a line: none if the line ends, or the one behind `when`
 unfoldable pub when_read : List Token → Option (Option Condition)
 when_read [] = Some None
 when_read (t ∷ ts) = after_word (codes "when") (t ∷ ts) >>= λ rest. (bounded_condition rest >>= λ c. Some (Some c))

@@ -16,7 +16,7 @@ rounding_read name =
     if bytes_eq name (codes "behind") then Some Behind
     else (if bytes_eq name (codes "ahead") then Some Ahead else None)
 
--- the rounding at the end of a line: `behind` where the line ends, and else the one that its last word names
+-- the rounding at the end of a line: `behind` if the line ends, and else the one that its last word names
 unfoldable pub rounding_end : List Token → Option Rounding
 rounding_end [] = Some Behind
 rounding_end (t ∷ ts) = do
@@ -60,7 +60,7 @@ supplement_read decimals ts = do
   most ← number_first 1 99 rest
   ended most.1 (supplement number.0 amount.0 most.0)
 
--- the covered amount: 0 where `covers` doesn't follow, and else the amount behind it, and the tokens after it
+-- the covered amount: 0 if `covers` doesn't follow, and else the amount behind it, and the tokens after it
 abbrev pub covers_after : (decimals : ℕ) → List Token → Option (List Token) → Option (ℕ × List Token)
 covers_after decimals ts None = Some (0, ts)
 covers_after decimals ts (Some rest) = amount_first decimals rest

@@ -6,7 +6,7 @@ use Rattle.tariff_syntax.specs.Grammar.{Reader, and_joined, or_joined}
 use Rattle.tariff_syntax.specs.declared.conditions.Joint.{Joint}
 use Rattle.tariff_syntax.specs.declared.conditions.Joint.TheVariants.{Or, And}
 
--- parts are joined by `or` where they are terms, and by `and` where they are factors
+-- parts are joined by `or` if they are terms, and by `and` if they are factors
 abbrev pub word_of : Joint → List ℕ
 word_of Or = codes "or"
 word_of And = codes "and"

@@ -9,33 +9,33 @@ use Rattle.tariff_syntax.specs.Parts.{rate_conditions, initial_conditions, minim
 use Rattle.tariff_syntax.specs.Tree.{Tree}
 use Rattle.tariff_syntax.specs.declared.context.Context.{Context}
 
--- a number is within a range where it is from the first end to the second, both included, or, where the first is the
+-- a number is within a range if it is from the first end to the second, both included, or, if the first is the
 -- greater one, from the first end on or up to the second
 abbrev pub is_within : (from to n : ℕ) → Bool
 is_within from to n = if nat_le from to then nat_le from n && nat_le n to else nat_le from n || nat_le n to
 
--- a minute is in a range of times where it is from the first on and before the second, or, where the first is the later
+-- a minute is in a range of times if it is from the first on and before the second, or, if the first is the later
 -- one, from the first on or before the second, over midnight
 abbrev pub is_in_time : (from to minute : ℕ) → Bool
 is_in_time from to minute =
     if nat_le from to then nat_le from minute && nat_lt minute to else nat_le from minute || nat_lt minute to
 
--- a month and date is by another where it comes before it in the year or is the same
+-- a month and date is by another if it comes before it in the year or is the same
 abbrev pub is_by : (first second : ℕ × ℕ) → Bool
 is_by first second = nat_lt first.0 second.0 || (first.0 == second.0 && nat_le first.1 second.1)
 
--- a month and date is in a range of dates where it is from the first to the second, both included, or, where the first
+-- a month and date is in a range of dates if it is from the first to the second, both included, or, if the first
 -- is the later one, from the first on or up to the second, over the year's end
 abbrev pub is_in_dates : (from to date : ℕ × ℕ) → Bool
 is_in_dates from to date = if is_by from to then is_by from date && is_by date to else is_by from date || is_by date to
 
--- a date that may be none is on a range of dates where there is one and it is in the range
+-- a date that may be none is on a range of dates if there is one and it is in the range
 abbrev pub is_on : (from to : ℕ × ℕ) → Option (ℕ × ℕ) → Bool
 is_on from to None = false
 is_on from to (Some date) = is_in_dates from to date
 
--- a condition holds in a context by its parts; a distance of X decimetres has passed where the constant times X is at
--- most 10,000 times the pulses, and a time where the ticks are at least its tenths of a second
+-- a condition holds in a context by its parts; a distance of X decimetres has passed if the constant times X is at
+-- most 10,000 times the pulses, and a time if the ticks are at least its tenths of a second
 abbrev pub holds : Condition → Context → Bool
 holds (tree.and left right) x = holds left x && holds right x
 holds (tree.or left right) x = holds left x || holds right x
@@ -50,13 +50,13 @@ holds tree.holiday x = x.holiday
 holds (tree.after_distance decimetres) x = nat_le (x.constant * decimetres) (10000 * x.pulses)
 holds (tree.after_time tenths) x = nat_le tenths x.ticks
 
--- a line holds in a context where it has no condition or its condition holds
+-- a line holds in a context if it has no condition or its condition holds
 abbrev pub holds_if : Context → Option Condition → Bool
 holds_if x None = true
 holds_if x (Some when) = holds when x
 
--- a place, counted from 0, is that of the first that passes a test where the one there passes and none before it does;
--- none is the answer where none passes
+-- a place, counted from 0, is that of the first that passes a test if the one there passes and none before it does;
+-- none is the answer if none passes
 abbrev pub IsFirstPlace : {A : Type 0} → (A → Bool) → List A → Option ℕ → Type 0
 IsFirstPlace {A} passes xs None = All (λ (x : A). passes x ≡ false) xs
 IsFirstPlace {A} passes xs (Some place) =

@@ -7,15 +7,15 @@ use Rattle.tariff_syntax.specs.Spelled.{IsSpelled}
 use Rattle.tariff_syntax.specs.TextLines.{lines_of}
 use Rattle.tariff_syntax.specs.Token.{Token, sign}
 
--- a line is a condition's printed form where it is the one line that the condition is printed as
+-- a line is a condition's printed form if it is the one line that the condition is printed as
 abbrev pub IsPrinted : Condition → (line : List ℕ) → Type 0
 IsPrinted c line = lines_of (condition_text c (codes "\n")) ≡ line ∷ []
 
--- tokens have a pair of parentheses where they are some tokens, `(`, some tokens, `)`, and some tokens
+-- tokens have a pair of parentheses if they are some tokens, `(`, some tokens, `)`, and some tokens
 abbrev pub with_pair : (before inside behind : List Token) → List Token
 with_pair before inside behind = before ++ sign (codes "(") ∷ (inside ++ sign (codes ")") ∷ behind)
 
--- a condition needs its parentheses where no pair of them could go from its printed form: the tokens without that pair
+-- a condition needs its parentheses if no pair of them could go from its printed form: the tokens without that pair
 -- don't read as the condition
 abbrev pub NeedsParentheses : Condition → Type 0
 NeedsParentheses c =

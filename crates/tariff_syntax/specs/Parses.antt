@@ -21,7 +21,7 @@ HasLines (Ok []) = ⊥
 HasLines (Ok (line ∷ lines)) = ⊤
 HasLines (Err bad) = ⊥
 
--- the number of the bad line, where one is bad
+-- the number of the bad line, if one is bad
 abbrev pub bad_in : Result (List Line) ℕ → Option ℕ
 bad_in (Ok lines) = None
 bad_in (Err bad) = Some bad
@@ -32,13 +32,13 @@ IsFaultBelow read TooLong = ⊥
 IsFaultBelow read (Syntax line) = bad_in read ≡ Some line
 IsFaultBelow read NoMemory = bad_in read ≡ None
 
--- a fault is that of lines where it names the first bad one, or none is bad and memory ran out for them
+-- a fault is that of lines if it names the first bad one, or none is bad and memory ran out for them
 abbrev pub IsBadLine : Result (List Line) ℕ → ParseFault → Type 0
 IsBadLine read TooLong = ⊥
 IsBadLine read (Syntax line) = read ≡ Err line
 IsBadLine read NoMemory = HasLines read
 
--- an answer is that of lines where it has the lines that were read, or their fault
+-- an answer is that of lines if it has the lines that were read, or their fault
 abbrev pub AreRead : Result (List Line) ℕ → Result (List TariffLine) ParseFault → Type 0
 AreRead read (Ok lines) = read ≡ Ok (map line_of lines)
 AreRead read (Err fault) = IsBadLine read fault
@@ -48,14 +48,14 @@ abbrev pub IsFilled : Result Tree ℕ → Type 0
 IsFilled (Ok t) = HasLines (Ok t.lines)
 IsFilled (Err bad) = ⊥
 
--- a text is refused as too long above 65,536 bytes, as bad with its first bad line, or for want of memory where it has
+-- a text is refused as too long above 65,536 bytes, as bad with its first bad line, or for want of memory if it has
 -- a tariff of at least one line
 abbrev pub IsRefusal : List ℕ → ParseFault → Type 0
 IsRefusal text TooLong = 65536 < length text
 IsRefusal text (Syntax line) = (length text ≤ 65536) × (tree_parsed text ≡ Err line)
 IsRefusal text NoMemory = (length text ≤ 65536) × IsFilled (tree_parsed text)
 
--- an answer is that of a text where it is the text's tariff, or the reason why it is refused
+-- an answer is that of a text if it is the text's tariff, or the reason why it is refused
 abbrev pub IsAnswer : List ℕ → Result Tariff ParseFault → Type 0
 IsAnswer text (Ok t) = (length text ≤ 65536) × (tree_parsed text ≡ Ok (tree_of t))
 IsAnswer text (Err fault) = IsRefusal text fault

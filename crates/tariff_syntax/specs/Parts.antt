@@ -31,15 +31,15 @@ when_of Rate x = rate_when x
 when_of Initial x = initial_when x
 when_of Minimum x = minimum_when x
 
--- the conditions of the rates among some lines are that of each rate, or none where it has none, in order
+-- the conditions of the rates among some lines are that of each rate, or none if it has none, in order
 abbrev pub rate_conditions : List Line → List (Option Condition)
 rate_conditions lines = parts rate_when lines
 
--- the conditions of the initial hire fees among some lines are that of each fee, or none where it has none, in order
+-- the conditions of the initial hire fees among some lines are that of each fee, or none if it has none, in order
 abbrev pub initial_conditions : List Line → List (Option Condition)
 initial_conditions lines = parts initial_when lines
 
--- the conditions of the minimum fares among some lines are that of each minimum fare, or none where it has none, in
+-- the conditions of the minimum fares among some lines are that of each minimum fare, or none if it has none, in
 -- order
 abbrev pub minimum_conditions : List Line → List (Option Condition)
 minimum_conditions lines = parts minimum_when lines

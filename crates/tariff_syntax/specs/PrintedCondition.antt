@@ -6,7 +6,7 @@ use Rattle.tariff_syntax.specs.Condition.{Condition, and, or, not, position, zon
 use Rattle.tariff_syntax.specs.Condition.{after_distance, after_time}
 use Rattle.tariff_syntax.specs.Weekdays.{day_word}
 
--- weekdays are printed as the first one's short name, and where the last one is another, `..` and its short name
+-- weekdays are printed as the first one's short name, and if the last one is another, `..` and its short name
 abbrev pub days_text : (from to : ℕ) → List ℕ → List ℕ
 days_text from to rest =
     day_word from ++ (if from == to then rest else codes ".." ++ (day_word to ++ rest))
@@ -26,24 +26,24 @@ pub data Level : Type 0 where
   term : Level
   factor : Level
 
--- an `or` has parentheses where it doesn't stand whole
+-- an `or` has parentheses if it doesn't stand whole
 abbrev pub or_is_closed : Level → Bool
 or_is_closed whole = false
 or_is_closed term = true
 or_is_closed factor = true
 
--- an `and` has parentheses where it stands as a factor
+-- an `and` has parentheses if it stands as a factor
 abbrev pub and_is_closed : Level → Bool
 and_is_closed whole = false
 and_is_closed term = false
 and_is_closed factor = true
 
--- a text is in parentheses where it is to have them, and else stands as it is
+-- a text is in parentheses if it is to have them, and else stands as it is
 abbrev pub closed : Bool → (List ℕ → List ℕ) → List ℕ → List ℕ
 closed false text rest = text rest
 closed true text rest = codes "(" ++ text (codes ")" ++ rest)
 
--- a condition is printed by its parts, each at its level, in parentheses where the level asks for them
+-- a condition is printed by its parts, each at its level, in parentheses if the level asks for them
 abbrev pub condition_at : Level → Condition → List ℕ → List ℕ
 condition_at level (or left right) rest =
     closed (or_is_closed level) (λ end. condition_at whole left (codes " or " ++ condition_at term right end)) rest

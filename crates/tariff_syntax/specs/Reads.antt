@@ -11,19 +11,19 @@ use Rattle.tariff_syntax.specs.declared.parsing.ParseFault.{ParseFault}
 use Rattle.tariff_syntax.specs.declared.parsing.ParseFault.TheVariants.{TooLong, Syntax, NoMemory}
 use Rattle.tariff_syntax.specs.declared.tariff.Tariff.{Tariff}
 
--- a line is empty where it has nothing but blanks and perhaps a comment
+-- a line is empty if it has nothing but blanks and perhaps a comment
 abbrev pub IsEmpty : List ℕ → Type 0
 IsEmpty text = IsSpelled text []
 
--- a line says the decimals where its tokens do
+-- a line says the decimals if its tokens do
 abbrev pub SaysDecimals : List ℕ → ℕ → Type 0
 SaysDecimals text n = (ts : List Token) × IsSpelled text ts × IsDecimals ts n
 
--- a line says an entry where its tokens do
+-- a line says an entry if its tokens do
 abbrev pub Says : (decimals : ℕ) → List ℕ → Entry → Type 0
 Says decimals text entry = (ts : List Token) × IsSpelled text ts × IsItem decimals ts entry
 
--- texts that are numbered from `number` on say lines where each says the next line's entry, and is numbered as that
+-- texts that are numbered from `number` on say lines if each says the next line's entry, and is numbered as that
 -- line is, or is empty and passed over
 abbrev pub SayLines : (decimals number : ℕ) → List (List ℕ) → List Line → Type 0
 SayLines decimals number [] lines = lines ≡ []
@@ -32,8 +32,8 @@ SayLines decimals number (text ∷ texts) lines =
     ⊎ ((entry : Entry) × (more : List Line) × (lines ≡ record { line = number; entry = entry } ∷ more)
     × Says decimals text entry × SayLines decimals (number + 1) texts more)
 
--- texts that are numbered from `number` on say a tariff where the first that isn't empty says its decimals and the
--- others say its lines, or where all of them say its lines and its decimals are 2
+-- texts that are numbered from `number` on say a tariff if the first that isn't empty says its decimals and the
+-- others say its lines, or if all of them say its lines and its decimals are 2
 abbrev pub SayTariff : (number : ℕ) → List (List ℕ) → Tree → Type 0
 SayTariff number [] t = (t.decimals ≡ 2) × (t.lines ≡ [])
 SayTariff number (text ∷ texts) t =
@@ -41,7 +41,7 @@ SayTariff number (text ∷ texts) t =
     ⊎ ((SaysDecimals text t.decimals × SayLines t.decimals (number + 1) texts t.lines)
     ⊎ (¬ (IsEmpty text) × (t.decimals ≡ 2) × SayLines 2 number (text ∷ texts) t.lines))
 
--- a text reads as a tariff where its lines, numbered from 1 on, say the tariff
+-- a text reads as a tariff if its lines, numbered from 1 on, say the tariff
 abbrev pub Reads : List ℕ → Tree → Type 0
 Reads text t = SayTariff 1 (lines_of text) t
 
@@ -54,7 +54,7 @@ FirstBad decimals number (text ∷ texts) bad =
     ⊎ ((IsEmpty text ⊎ ((entry : Entry) × Says decimals text entry)) × FirstBad decimals (number + 1) texts bad)
 
 -- the first bad one of texts that are numbered from `number` on has the number `bad`, under the decimals that the first
--- text that isn't empty says, or under 2 where it says none
+-- text that isn't empty says, or under 2 if it says none
 abbrev pub FirstBadBelow : (number : ℕ) → List (List ℕ) → (bad : ℕ) → Type 0
 FirstBadBelow number [] bad = ⊥
 FirstBadBelow number (text ∷ texts) bad =
@@ -66,18 +66,18 @@ FirstBadBelow number (text ∷ texts) bad =
 abbrev pub IsFirstBadLine : List ℕ → (bad : ℕ) → Type 0
 IsFirstBadLine text bad = FirstBadBelow 1 (lines_of text) bad
 
--- lines rise in number where each has a greater number than those above it
+-- lines rise in number if each has a greater number than those above it
 abbrev pub RiseInNumber : List Line → Type 0
 RiseInNumber lines = AllPairs (λ (above below : Line). above.line < below.line) lines
 
--- a text is refused as too long above 65,536 bytes, as bad with its first bad line, or for want of memory where it
+-- a text is refused as too long above 65,536 bytes, as bad with its first bad line, or for want of memory if it
 -- reads as a tariff of at least one line
 abbrev pub IsRefused : List ℕ → ParseFault → Type 0
 IsRefused text TooLong = 65536 < length text
 IsRefused text (Syntax line) = (length text ≤ 65536) × IsFirstBadLine text line
 IsRefused text NoMemory = (length text ≤ 65536) × ((t : Tree) × Reads text t × (0 < length t.lines))
 
--- a text is parsed as the tariff that it reads as, where it has at most 65,536 bytes, or refused
+-- a text is parsed as the tariff that it reads as, if it has at most 65,536 bytes, or refused
 abbrev pub IsParsed : List ℕ → Result Tariff ParseFault → Type 0
 IsParsed text (Ok t) = (length text ≤ 65536) × Reads text (tree_of t)
 IsParsed text (Err fault) = IsRefused text fault

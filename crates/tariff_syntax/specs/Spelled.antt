@@ -3,7 +3,7 @@ use Rattle.std.specs.Prelude.{◌≡◌, ℕ, ◌<◌, List, [], ◌∷◌, ◌+
 use Rattle.std.specs.Char.{is_ascii_digit}
 use Rattle.tariff_syntax.specs.Token.{Token, word, figure, sign, is_blank, is_letter, begins_with_digit, goes_on}
 
--- a text before a rest is a run of a test where each of its bytes passes the test, which also sees what stands after
+-- a text before a rest is a run of a test if each of its bytes passes the test, which also sees what stands after
 -- the byte, and the first byte of the rest doesn't pass
 abbrev pub IsRun : (ℕ → List ℕ → Bool) → (text rest : List ℕ) → Type 0
 IsRun test [] [] = ⊤
@@ -15,7 +15,7 @@ abbrev pub NoDots : ℕ → List ℕ → Type 0
 NoDots c [] = ⊤
 NoDots c (d ∷ rest) = (c == 46 && d == 46) ≡ false
 
--- a text before a rest is a sign where it is `..`, or one byte that is no blank, letter or digit, no `#`, and doesn't
+-- a text before a rest is a sign if it is `..`, or one byte that is no blank, letter or digit, no `#`, and doesn't
 -- begin `..`
 abbrev pub IsSign : (text rest : List ℕ) → Type 0
 IsSign [] rest = ⊥
@@ -37,12 +37,12 @@ IsToken (word text) rest = (0 < length text) × IsRun is_letter text rest
 IsToken (figure text) rest = (begins_with_digit text ≡ true) × IsRun goes_on text rest
 IsToken (sign text) rest = IsSign text rest
 
--- a text is the end of a line where it is empty or a comment
+-- a text is the end of a line if it is empty or a comment
 abbrev pub IsEnd : List ℕ → Type 0
 IsEnd [] = ⊤
 IsEnd (c ∷ rest) = c ≡ 35
 
--- a line is spelled by tokens where it is the tokens one after another, with any blanks before each and behind the
+-- a line is spelled by tokens if it is the tokens one after another, with any blanks before each and behind the
 -- last, and perhaps a comment at its end
 abbrev pub IsSpelled : List ℕ → List Token → Type 0
 IsSpelled text [] =

@@ -16,15 +16,15 @@ token_of (Word text) = word text.now
 token_of (Figure text) = figure text.now
 token_of (Sign text) = sign text.now
 
--- a byte is a blank where it is a space, a tab or a carriage return
+-- a byte is a blank if it is a space, a tab or a carriage return
 abbrev pub is_blank : ℕ → List ℕ → Bool
 is_blank c rest = c == 32 || (c == 9 || c == 13)
 
--- a byte is a letter where it is a to z
+-- a byte is a letter if it is a to z
 abbrev pub is_letter : ℕ → List ℕ → Bool
 is_letter c rest = is_ascii_lowercase c
 
--- a text begins with a digit where its first byte is one
+-- a text begins with a digit if its first byte is one
 abbrev pub begins_with_digit : List ℕ → Bool
 begins_with_digit [] = false
 begins_with_digit (c ∷ cs) = is_ascii_digit c

@@ -32,7 +32,7 @@ token_here (c ∷ cs) =
 unfoldable pub token_at : List ℕ → Option (Token × List ℕ)
 token_at text = token_here (drop (run_end is_blank text) text)
 
--- the first token and those that `more` gives of the rest, or none where there is no first
+-- the first token and those that `more` gives of the rest, or none if there is no first
 abbrev pub token_before : (List ℕ → List Token) → Option (Token × List ℕ) → List Token
 token_before more None = []
 token_before more (Some first) = first.0 ∷ more first.1

@@ -11,7 +11,7 @@ is_counted name =
     || (bytes_eq name (codes "day")
     || (bytes_eq name (codes "date") || (bytes_eq name (codes "holiday") || bytes_eq name (codes "after")))))))
 
--- the count of a token, which is 1 where an atom, a `not` or a `(` begins with it, and else 0
+-- the count of a token, which is 1 if an atom, a `not` or a `(` begins with it, and else 0
 abbrev pub token_weight : Token → ℕ
 token_weight (word name) = if is_counted name then 1 else 0
 token_weight (figure text) = 0

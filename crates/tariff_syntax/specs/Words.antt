@@ -4,14 +4,14 @@ use Rattle.std.specs.Prelude.{ℕ, List, [], ◌∷◌, Option, Some, None, if�
 use Rattle.std.specs.Str.{bytes_eq}
 use Rattle.tariff_syntax.specs.Token.{Token, word, figure, sign}
 
--- the tokens after the word, where it stands first
+-- the tokens after the word, if it stands first
 unfoldable pub after_word : (text : List ℕ) → List Token → Option (List Token)
 after_word text [] = None
 after_word text (word w ∷ ts) = if bytes_eq w text then Some ts else None
 after_word text (figure f ∷ ts) = None
 after_word text (sign s ∷ ts) = None
 
--- the tokens after the sign, where it stands first
+-- the tokens after the sign, if it stands first
 unfoldable pub after_sign : (text : List ℕ) → List Token → Option (List Token)
 after_sign text [] = None
 after_sign text (word w ∷ ts) = None
@@ -32,7 +32,7 @@ figure_first (word w ∷ ts) = None
 figure_first (figure f ∷ ts) = Some (f, ts)
 figure_first (sign s ∷ ts) = None
 
--- what was found, where no token stands after it
+-- what was found, if no token stands after it
 abbrev pub ended : {A B : Type 0} → List B → A → Option A
 ended [] x = Some x
 ended (t ∷ ts) x = None

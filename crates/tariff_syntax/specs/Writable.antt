@@ -5,7 +5,7 @@ use Rattle.tariff_syntax.specs.Condition.{Condition}
 use Rattle.tariff_syntax.specs.Tree.{Tree, Line, Entry, step, positions, zones, holiday, supplement, initial, rate}
 use Rattle.tariff_syntax.specs.Tree.{minimum}
 
--- a number is from one to another where it is neither below the least nor above the most
+-- a number is from one to another if it is neither below the least nor above the most
 abbrev pub IsFromTo : (least most n : ℕ) → Type 0
 IsFromTo least most n = (least ≤ n) × (n ≤ most)
 
@@ -13,7 +13,7 @@ IsFromTo least most n = (least ≤ n) × (n ≤ most)
 abbrev pub greatest : ℕ
 greatest = 10 ^ 12
 
--- a condition is writable where a text can have its numbers
+-- a condition is writable if a text can have its numbers
 abbrev pub IsWritableCondition : Condition → Type 0
 IsWritableCondition (tree.and left right) = IsWritableCondition left × IsWritableCondition right
 IsWritableCondition (tree.or left right) = IsWritableCondition left × IsWritableCondition right
@@ -28,12 +28,12 @@ IsWritableCondition tree.holiday = Unit {0}
 IsWritableCondition (tree.after_distance decimetres) = decimetres ≤ greatest
 IsWritableCondition (tree.after_time tenths) = tenths ≤ greatest
 
--- the condition of a line is writable where there is none or a text can have its numbers
+-- the condition of a line is writable if there is none or a text can have its numbers
 abbrev pub IsWritableIf : Option Condition → Type 0
 IsWritableIf None = Unit {0}
 IsWritableIf (Some when) = IsWritableCondition when
 
--- an entry is writable where a text can have its numbers
+-- an entry is writable if a text can have its numbers
 abbrev pub IsWritableEntry : Entry → Type 0
 IsWritableEntry (step amount rounding) = amount ≤ greatest
 IsWritableEntry (positions number) = IsFromTo 1 9 number
@@ -45,7 +45,7 @@ IsWritableEntry (rate a b c e when) =
     (a ≤ greatest) × (b ≤ greatest) × (c ≤ greatest) × (e ≤ greatest) × IsWritableIf when
 IsWritableEntry (minimum amount when) = (amount ≤ greatest) × IsWritableIf when
 
--- a tariff is writable where a text can have all of its numbers
+-- a tariff is writable if a text can have all of its numbers
 pub record IsWritable (t : Tree) : Type 0 where
   pub decimals : t.decimals ≤ 3
   pub lines : All (λ (l : Line). IsWritableEntry l.entry) t.lines

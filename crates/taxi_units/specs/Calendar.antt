@@ -2,7 +2,7 @@
 -- year.
 use Rattle.std.specs.Prelude.{ℕ, ◌+◌, ◌-◌, ◌%◌, ◌≤◌, Bool, true, not, ◌&&◌, ◌||◌, ◌==◌, nat_le, nat_lt, if◌then◌else◌, List, [], ◌∷◌, sum, take, slice_index, Option, Some, None}
 
--- a year is a leap year where 4 divides it, except where 100 divides it and 400 doesn't
+-- a year is a leap year if 4 divides it, except if 100 divides it and 400 doesn't
 abbrev pub is_leap_year : ℕ → Bool
 is_leap_year year = (year % 4 == 0) && (not (year % 100 == 0) || (year % 400 == 0))
 
@@ -20,16 +20,16 @@ IsMonth month = (1 ≤ month) × (month ≤ 12)
 abbrev pub days_of_month : (year month : ℕ) → ℕ
 days_of_month year month = slice_index (month_lengths (is_leap_year year)) (month - 1)
 
--- the calendar has a date where its month is 1 to 12, and its day 1 to the number of days of that month in that year
+-- the calendar has a date if its month is 1 to 12, and its day 1 to the number of days of that month in that year
 abbrev pub IsDate : (year month date : ℕ) → Type 0
 IsDate year month date = IsMonth month × (1 ≤ date) × (date ≤ days_of_month year month)
 
--- the test `is_date` is true where the calendar has a date
+-- the test `is_date` is true if the calendar has a date
 abbrev pub is_date : (year month date : ℕ) → Bool
 is_date year month date =
     nat_le 1 month && (nat_le month 12 && (nat_le 1 date && nat_le date (days_of_month year month)))
 
--- a leap year has a month and date where the leap year 2000 has them
+-- a leap year has a month and date if the leap year 2000 has them
 abbrev pub IsLeapYearDate : (month date : ℕ) → Type 0
 IsLeapYearDate month date = IsDate 2000 month date
 
@@ -38,7 +38,7 @@ abbrev pub date_place : (month date : ℕ) → ℕ
 date_place month date = sum (take (month - 1) (month_lengths true)) + (date - 1)
 
 -- the date that comes a number of days after the first of a month is told by its month and its day, where the lengths
--- of the months from that one on are listed, and there is none where the listed months have no more days than that
+-- of the months from that one on are listed, and there is none if the listed months have no more days than that
 -- number
 abbrev pub date_from : (month : ℕ) → List ℕ → (days : ℕ) → Option (ℕ × ℕ)
 date_from month [] days = None

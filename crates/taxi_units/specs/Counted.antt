@@ -9,7 +9,7 @@ IsElement {T} list place element = (other : T) → element ≡ slice_index_or li
 abbrev pub IsLastOf : {T : Type 0} → List T → (count : ℕ) → T → Type 0
 IsLastOf list count element = (0 < count) × IsElement list (count - 1) element
 
--- a look-up in a list of a length takes no more steps than the length has binary digits, and at least one where the
+-- a look-up in a list of a length takes no more steps than the length has binary digits, and at least one if the
 -- list has an element; the counter went from `old` to `new`
 pub record HalvesIn (length old new : ℕ) : Type 0 where
   pub kept : old ≤ new

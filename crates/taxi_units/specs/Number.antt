@@ -8,7 +8,7 @@ pub use Rattle.taxi_units.specs.Decimal.{units_of}
 pub use Rattle.taxi_units.specs.NumberStages.{digits_at_front, units_read, counted_parts_read, parts_read, whole_read, decimal_read}
 use Rattle.taxi_units.specs.Reading.{◌>>=◌}
 
--- a number is padded with zeros in front up to a width, and is written whole where it is longer
+-- a number is padded with zeros in front up to a width, and is written whole if it is longer
 abbrev pub padded_text : ℕ → ℕ → List ℕ
 padded_text width value = replicate (width - length (decimal value)) 48 ++ decimal value
 
@@ -18,46 +18,46 @@ abbrev pub money_text : ℕ → ℕ → List ℕ
 money_text zero units = decimal units
 money_text (suc more) units = decimal (units / 10 ^ suc more) ++ 46 ∷ padded_text (suc more) (units % 10 ^ suc more)
 
--- digits give the number that they make, with the rest behind them, where they are 1 to 12, and nothing otherwise
+-- digits give the number that they make, with the rest behind them, if they are 1 to 12, and nothing otherwise
 abbrev pub number_of : List ℕ → List ℕ → Option (ℕ × List ℕ)
 number_of digits rest =
     if (length digits == 0) || nat_lt 12 (length digits) then None else Some (digits_value 10 digits, rest)
 
--- bytes begin with the number that all digits at their front make, and what stands after it, where the digits are 1 to
+-- bytes begin with the number that all digits at their front make, and what stands after it, if the digits are 1 to
 -- 12; the law numbers_are_read_by_their_digits says which texts begin with which number
 unfoldable pub number_at : List ℕ → Option (ℕ × List ℕ)
 number_at bytes = number_of (take (digits_at_front bytes) bytes) (drop (digits_at_front bytes) bytes)
 
--- a number that was found at the front of a text, with the rest after it, counts where exactly `width` bytes of the
+-- a number that was found at the front of a text, with the rest after it, counts if exactly `width` bytes of the
 -- text stand before that rest
 abbrev pub where_wide : (width : ℕ) → (text : List ℕ) → ℕ × List ℕ → Option (ℕ × List ℕ)
 where_wide width text found = if length text == width + length found.1 then Some found else None
 
--- a text begins with the number of a width that all digits at its front make, and what stands after it, where the
+-- a text begins with the number of a width that all digits at its front make, and what stands after it, if the
 -- digits are exactly `width`; the law numbers_are_read_by_their_digits says which texts begin with which number
 unfoldable pub number_of_width : (width : ℕ) → List ℕ → Option (ℕ × List ℕ)
 number_of_width width text = number_at text >>= where_wide width text
 
--- a text begins with no digit where it is empty or its first byte is no digit
+-- a text begins with no digit if it is empty or its first byte is no digit
 abbrev pub NoDigitFirst : List ℕ → Type 0
 NoDigitFirst [] = ⊤
 NoDigitFirst (c ∷ cs) = 10 ≤ digit_value c
 
--- a text begins with a number where it begins with 1 to 12 digits that have the number as their value, and the rest
+-- a text begins with a number if it begins with 1 to 12 digits that have the number as their value, and the rest
 -- after them doesn't begin with a digit
 abbrev pub IsNumberAt : List ℕ → ℕ → List ℕ → Type 0
 IsNumberAt text value rest =
     (digits : List ℕ) × (text ≡ digits ++ rest) × IsNumeral 10 digits × (length digits ≤ 12)
     × (value ≡ digits_value 10 digits) × NoDigitFirst rest
 
--- a text begins with a number of a width where it begins with exactly `width` digits that have the number as their
+-- a text begins with a number of a width if it begins with exactly `width` digits that have the number as their
 -- value, and the rest after them doesn't begin with a digit
 abbrev pub IsNumberOfWidth : (width : ℕ) → List ℕ → ℕ → List ℕ → Type 0
 IsNumberOfWidth width text value rest =
     (digits : List ℕ) × (text ≡ digits ++ rest) × IsNumeral 10 digits × (length digits ≡ width)
     × (value ≡ digits_value 10 digits) × NoDigitFirst rest
 
--- a text has `count` digits at its front where its first `count` bytes are digits, and what stands after them doesn't
+-- a text has `count` digits at its front if its first `count` bytes are digits, and what stands after them doesn't
 -- begin with a digit
 abbrev pub HasDigitsInFront : List ℕ → (count : ℕ) → Type 0
 HasDigitsInFront text count =

@@ -3,13 +3,13 @@
 use Rattle.std.specs.Prelude.{◌≡◌, ℕ, List, length, take, drop, Option, Some, None, if◌then◌else◌}
 use Rattle.std.specs.Str.{bytes_eq}
 
--- reading goes on with what was found, and finds nothing where nothing was found before
+-- reading goes on with what was found, and finds nothing if nothing was found before
 infixl 10 ◌>>=◌
 abbrev pub ◌>>=◌ : {A B : Type 0} → Option A → (A → Option B) → Option B
 (Some x) >>= f = f x
 None >>= f = None
 
--- a result gives what reading does where it is the same as what was read, seen through `view`, and None exactly where
+-- a result gives what reading does if it is the same as what was read, seen through `view`, and None exactly if
 -- reading finds nothing
 abbrev pub Gives : {X Y : Type 0} → (X → Y) → Option X → Option Y → Type 0
 Gives view (Some x) read = read ≡ Some (view x)

@@ -8,28 +8,28 @@ use Rattle.taxi_units.specs.declared.receipt.Stamp.{Stamp}
 use Rattle.taxi_units.specs.Calendar.{IsDate}
 use Rattle.taxi_units.specs.Money.{largest_amount}
 
--- decimals are those of an amount of money where they are 0 to 3
+-- decimals are those of an amount of money if they are 0 to 3
 abbrev pub AreDecimals : ℕ → Type 0
 AreDecimals decimals = decimals ≤ 3
 
--- a display may be shown where its meter isn't off, and its amounts have 0 to 3 decimals
+-- a display may be shown if its meter isn't off, and its amounts have 0 to 3 decimals
 pub record IsShown (display : Display) : Type 0 where
   pub operating : display.operating ≢ Off
   pub decimals : AreDecimals display.decimals
 
--- a stamp is in its ranges where it has a date that the calendar has, of the years 1999 to 2200, and a second of a day,
+-- a stamp is in its ranges if it has a date that the calendar has, of the years 1999 to 2200, and a second of a day,
 -- 0 to 86,399
 pub record IsStamp (stamp : Stamp) : Type 0 where
   pub year : (1999 ≤ stamp.year) × (stamp.year ≤ 2200)
   pub date : IsDate stamp.year stamp.month stamp.date
   pub second : stamp.second ≤ 86399
 
--- the fare of a receipt is its initial hire fee and its step for each display step, or its minimum where that is more,
+-- the fare of a receipt is its initial hire fee and its step for each display step, or its minimum if that is more,
 -- and at most 99,999,999
 abbrev pub fare_of : Receipt → ℕ
 fare_of receipt = min largest_amount (max receipt.minimum (receipt.initial + receipt.steps * receipt.step))
 
--- a receipt is in its ranges where it is for a hiring and not for roaming, has each number in its range, and the fare
+-- a receipt is in its ranges if it is for a hiring and not for roaming, has each number in its range, and the fare
 -- that its parts make
 pub record IsReceipt (receipt : Receipt) : Type 0 where
   pub kind : receipt.kind ≢ Roam

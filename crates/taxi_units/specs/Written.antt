@@ -15,7 +15,7 @@ pub record IsNumberText (value : ℕ) (text : List ℕ) : Type 0 where
   pub value_is : digits_value 10 text ≡ value
   pub front : HasNoZeroInFront text
 
--- the text of a number in a width is decimal digits with that value, as many as the width, or as the number has where
+-- the text of a number in a width is decimal digits with that value, as many as the width, or as the number has if
 -- it has more
 pub record IsPaddedText (width value : ℕ) (text : List ℕ) : Type 0 where
   pub digits : IsNumeral 10 text

@@ -15,7 +15,7 @@ lines_events lines = length (flat_map run_events lines)
 abbrev pub place_of : Writing → Place
 place_of writing = record { state = writing.state; tenths = writing.tenths }
 
--- a writing adds lines where it then stands behind them, and its text and its events have grown by those of the lines,
+-- a writing adds lines if it then stands behind them, and its text and its events have grown by those of the lines,
 -- by no more than the given bytes and events, in no more than the given tenths of a second
 pub record Adds (old new : Writing) (bytes tenths events : ℕ) (written : Written) : Type 0 where
   pub place : place_of new ≡ written.next
@@ -25,7 +25,7 @@ pub record Adds (old new : Writing) (bytes tenths events : ℕ) (written : Writt
   pub few_tenths : new.tenths ≤ old.tenths + tenths
   pub few_events : new.events ≤ old.events + events
 
--- a writing has room for bytes, tenths of a second and events where with them its text has at most 512 bytes, its time
+-- a writing has room for bytes, tenths of a second and events if with them its text has at most 512 bytes, its time
 -- is at most 10^9 tenths, and its events are at most 10^12
 abbrev pub HasRoom : Writing → (bytes tenths events : ℕ) → Type 0
 HasRoom writing bytes tenths events =

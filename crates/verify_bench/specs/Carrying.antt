@@ -8,7 +8,7 @@ use Rattle.verify_bench.specs.Expecting.{hirings_from}
 use Rattle.verify_bench.specs.declared.expected.Expected.{Expected}
 use Rattle.verify_bench.specs.declared.plain_meter.PlainMeter.{PlainMeter}
 
--- a meter of the bench is amid a drive where what was found, and behind it the hirings that the events that are left
+-- a meter of the bench is amid a drive if what was found, and behind it the hirings that the events that are left
 -- come to from the state that it stands for, is all that the drive should come to
 pub record IsAmid (s : Setting) (all : List Expected) (left : List Event) (meter : PlainMeter) (found : List Expected)
     : Type 0 where
@@ -16,7 +16,7 @@ pub record IsAmid (s : Setting) (all : List Expected) (left : List Event) (meter
   pub stands : Stands s meter m
   pub split : found ++ hirings_from s left m ≡ all
 
--- events were carried out between two meters of the bench where in each drive that goes on with these events the first
+-- events were carried out between two meters of the bench if in each drive that goes on with these events the first
 -- is amid it before them, and the second behind them
 abbrev pub Carries : Setting → List Event → (old new : PlainMeter) → (before after : List Expected) → Type 0
 Carries s events old new before after =

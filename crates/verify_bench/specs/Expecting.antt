@@ -24,7 +24,7 @@ hirings_in ticks (Receipt receipt ∷ acts) =
     record { kind = receipt.kind; fare = receipt.fare; hired_mm = receipt.hired_mm; ticks = ticks }
     ∷ hirings_in ticks acts
 
--- a trip that an event closes has the ticks that it had before; where the event is a tick, the interval that it ends
+-- a trip that an event closes has the ticks that it had before; if the event is a tick, the interval that it ends
 -- counts too
 abbrev pub ticks_at : Setting → Event → Meter → ℕ
 ticks_at s events.Tick m = ticks_so_far (interval_counted s m).next.trip
@@ -44,6 +44,6 @@ hirings_from s (event ∷ events) m =
 abbrev pub expected_of : Setting → List Event → List Expected
 expected_of s events = hirings_from s events (opened s first_state)
 
--- a hiring is untimed where its ticks are set to 0, as a receipt has none
+-- a hiring is untimed if its ticks are set to 0, as a receipt has none
 abbrev pub untimed : Expected → Expected
 untimed expected = record expected { ticks = 0 }

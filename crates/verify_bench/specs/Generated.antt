@@ -23,11 +23,11 @@ abbrev pub and_then : Written → (Place → Written) → Written
 and_then written more =
     record { next = (more written.next).next; lines = written.lines ++ (more written.next).lines }
 
--- nothing is written where there are no lines and the generator stays at its place
+-- nothing is written if there are no lines and the generator stays at its place
 abbrev pub nothing : Place → Written
 nothing place = record { next = place; lines = [] }
 
--- parts are written in turn where each begins at the place at which the one before it ended
+-- parts are written in turn if each begins at the place at which the one before it ended
 unfoldable pub in_turn : List (Place → Written) → Place → Written
 in_turn [] place = nothing place
 in_turn (part ∷ parts) place = and_then (part place) (in_turn parts)

@@ -27,7 +27,7 @@ part_ticks part = ticks_in (part_of part)
 abbrev pub part_charge : Setting → Part → ℕ
 part_charge s part = charge_in s (part_of part)
 
--- a hiring of the bench is a trip of the meter that began with it where both have the same fees, intervals and
+-- a hiring of the bench is a trip of the meter that began with it if both have the same fees, intervals and
 -- supplements
 pub record IsTrip (s : Setting) (hiring : Hiring) (trip : Trip) : Type 0 where
   pub initial : trip.initial ≡ hiring.fee.amount
@@ -36,7 +36,7 @@ pub record IsTrip (s : Setting) (hiring : Hiring) (trip : Trip) : Type 0 where
   pub parts : trip.parts ≡ map part_of hiring.parts.items
   pub extras : trip.extras ≡ hiring.extras.items
 
--- a hiring is whole where its counts of pulses and ticks are those of its intervals, each of at most 2,000 pulses, and
+-- a hiring is whole if its counts of pulses and ticks are those of its intervals, each of at most 2,000 pulses, and
 -- its fees are in their ranges
 pub record IsWhole (hiring : Hiring) : Type 0 where
   pub fee : IsFitInitial hiring.fee

@@ -8,12 +8,12 @@ use Rattle.csv.specs.declared.parser.State.TheVariants as states
 abbrev pub Row : Type 0
 Row = List (List ℕ)
 
--- rows are all the rows of a text where csv reads them to the text's end, with its default settings, behind a byte
+-- rows are all the rows of a text if csv reads them to the text's end, with its default settings, behind a byte
 -- order mark if there is one
 abbrev pub AreRows : (text : List ℕ) → List Row → Type 0
 AreRows text rows = AreRecords default_config states.StartRecord (strip_bom text) rows
 
--- rows are the first rows of a text where csv reads them from its beginning, and some state and rest are left
+-- rows are the first rows of a text if csv reads them from its beginning, and some state and rest are left
 abbrev pub AreFirstRows : (text : List ℕ) → List Row → Type 0
 AreFirstRows text rows =
     (state : State) × (rest : List ℕ) × Reached default_config states.StartRecord (strip_bom text) rows state rest

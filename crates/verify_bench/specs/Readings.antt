@@ -8,7 +8,7 @@ use Rattle.verify_bench.specs.declared.reading.ReadingsFault.TheVariants.{TooLon
 pub use Rattle.verify_bench.specs.ReadingRows.{Row, AreRows, AreFirstRows, header, readings_limit}
 pub use Rattle.verify_bench.specs.ReadingStages.{readings_in}
 
--- a row says a reading where its three fields are read as the reading's fare, with the tariff's decimals, its distance
+-- a row says a reading if its three fields are read as the reading's fare, with the tariff's decimals, its distance
 -- in metres, with three decimals, and its time in seconds, with one; `decimal_read` gives the number of a text, as the
 -- law decimals_are_read_by_their_form of taxi_units says
 pub record Says (decimals : ℕ) (row : Row) (reading : Reading) : Type 0 where
@@ -20,20 +20,20 @@ pub record Says (decimals : ℕ) (row : Row) (reading : Reading) : Type 0 where
   pub distance_is : decimal_read 3 distance ≡ Ok reading.distance_mm
   pub time_is : decimal_read 1 time ≡ Ok reading.tenths
 
--- rows say readings where there are as many rows as readings, and each row says the reading at its place
+-- rows say readings if there are as many rows as readings, and each row says the reading at its place
 abbrev pub SayAll : (decimals : ℕ) → List Row → List Reading → Type 0
 SayAll decimals [] [] = Unit {0}
 SayAll decimals [] (reading ∷ readings) = ⊥
 SayAll decimals (row ∷ rows) [] = ⊥
 SayAll decimals (row ∷ rows) (reading ∷ readings) = Says decimals row reading × SayAll decimals rows readings
 
--- rows are good where the first is the header, and the others say the readings
+-- rows are good if the first is the header, and the others say the readings
 pub record AreGood (decimals : ℕ) (rows : List Row) (readings : List Reading) : Type 0 where
   pub others : List Row
   pub begins : rows ≡ header ∷ others
   pub say : SayAll decimals others readings
 
--- a row is bad behind other rows where it is the first and isn't the header, or where the others are good and it says
+-- a row is bad behind other rows if it is the first and isn't the header, or if the others are good and it says
 -- no reading
 abbrev pub IsBadBehind : (decimals : ℕ) → List Row → Row → Type 0
 IsBadBehind decimals [] row = row ≢ header
@@ -47,7 +47,7 @@ pub data IsFirstBad (decimals : ℕ) (text : List ℕ) : (number : ℕ) → Type
       → IsFirstBad decimals text (length before + 1)
   empty : AreRows text [] → IsFirstBad decimals text 1
 
--- a text is read as its readings where it is within the limit and all its rows are good, as too long above the limit,
+-- a text is read as its readings if it is within the limit and all its rows are good, as too long above the limit,
 -- and as bad at its first bad row; want of memory may come with any text
 abbrev pub IsReadAs : (decimals : ℕ) → (text : List ℕ) → Result (List Reading) ReadingsFault → Type 0
 IsReadAs decimals text (Ok readings) =

@@ -29,17 +29,17 @@ verdict_word verdicts.Fare = codes "FARE"
 verdict_word verdicts.Distance = codes "DISTANCE"
 verdict_word verdicts.Time = codes "TIME"
 
--- the kind is left empty where nothing is expected
+-- the kind is left empty if nothing is expected
 abbrev pub kind_or_none : Option Expected → List ℕ
 kind_or_none None = []
 kind_or_none (Some expected) = kind_word expected.kind
 
--- an amount is written with its decimals, and left empty where there is none
+-- an amount is written with its decimals, and left empty if there is none
 abbrev pub amount_or_none : (decimals : ℕ) → Option ℕ → List ℕ
 amount_or_none decimals None = []
 amount_or_none decimals (Some units) = money_text decimals units
 
--- the last field of a row is the verdict where there is a hiring and a reading, and else says which of them is missing
+-- the last field of a row is the verdict if there is a hiring and a reading, and else says which of them is missing
 abbrev pub finding : (step : ℕ) → Option Expected → Option Reading → List ℕ
 finding step None None = []
 finding step None (Some reading) = codes "EXTRA"

@@ -5,12 +5,12 @@ use Rattle.verify_bench.specs.declared.reading.Reading.{Reading}
 use Rattle.verify_bench.specs.declared.reading.ReadingsFault.{ReadingsFault}
 use Rattle.verify_bench.specs.declared.reading.ReadingsFault.TheVariants.{TooLong, BadRow, NoMemory}
 
--- rows that were taken have given readings where none were taken yet, or where they are good and say these readings
+-- rows that were taken have given readings if none were taken yet, or if they are good and say these readings
 abbrev pub HaveGiven : (decimals : ℕ) → List Row → (headed : Bool) → List Reading → Type 0
 HaveGiven decimals rows false readings = (rows ≡ []) × (readings ≡ [])
 HaveGiven decimals rows true readings = AreGood decimals rows readings
 
--- a row isn't taken behind other rows where it is bad, which its number tells, or where memory ran out
+-- a row isn't taken behind other rows if it is bad, which its number tells, or if memory ran out
 abbrev pub IsRowFault : (decimals : ℕ) → List Row → Row → ReadingsFault → Type 0
 IsRowFault decimals rows row TooLong = ⊥
 IsRowFault decimals rows row (BadRow number) = (number ≡ length rows + 1) × IsBadBehind decimals rows row

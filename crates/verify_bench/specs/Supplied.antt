@@ -5,6 +5,6 @@ use Rattle.meter_states.specs.Meter.{Meter}
 use Rattle.meter_states.specs.Supply.{powered}
 use Rattle.std.specs.Prelude.{ℕ}
 
--- a meter is waking at a second where it is as the coming supply makes it, but still in Off
+-- a meter is waking at a second if it is as the coming supply makes it, but still in Off
 abbrev pub waking : (second : ℕ) → Meter → Meter
 waking second m = record (powered second m) { operating = Off }

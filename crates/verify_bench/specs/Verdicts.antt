@@ -8,24 +8,24 @@ use Rattle.verify_bench.specs.declared.judging.Verdict.TheVariants as verdicts
 use Rattle.verify_bench.specs.declared.reading.Reading.{Reading}
 pub use Rattle.verify_bench.specs.VerdictStages.{verdict_of}
 
--- a reading is within its permissible error where it is off by at most one part in `parts` of what is expected, or by
+-- a reading is within its permissible error if it is off by at most one part in `parts` of what is expected, or by
 -- at most the least error
 abbrev pub IsWithin : (parts least expected read : ℕ) → Type 0
 IsWithin parts least expected read = (parts * abs_diff expected read ≤ expected) ⊎ (abs_diff expected read ≤ least)
 
--- a fare passes where it is off by at most a thousandth, or by at most a display step
+-- a fare passes if it is off by at most a thousandth, or by at most a display step
 abbrev pub FarePasses : Expected → Reading → (step : ℕ) → Type 0
 FarePasses expected reading step = IsWithin 1000 step expected.fare reading.fare
 
--- a distance passes where it is off by at most a five-hundredth, or by at most 4,000 mm
+-- a distance passes if it is off by at most a five-hundredth, or by at most 4,000 mm
 abbrev pub DistancePasses : Expected → Reading → Type 0
 DistancePasses expected reading = IsWithin 500 4000 expected.hired_mm reading.distance_mm
 
--- a time passes where it is off by at most a thousandth, or by at most 2 tenths of a second
+-- a time passes if it is off by at most a thousandth, or by at most 2 tenths of a second
 abbrev pub TimePasses : Expected → Reading → Type 0
 TimePasses expected reading = IsWithin 1000 2 expected.ticks reading.tenths
 
--- a verdict on a reading names the first of fare, distance and time that doesn't pass, and is a pass where all three do
+-- a verdict on a reading names the first of fare, distance and time that doesn't pass, and is a pass if all three do
 abbrev pub IsVerdict : Expected → Reading → (step : ℕ) → Verdict → Type 0
 IsVerdict expected reading step verdicts.Pass =
     FarePasses expected reading step × DistancePasses expected reading × TimePasses expected reading
