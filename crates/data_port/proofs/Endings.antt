@@ -1,10 +1,10 @@
 -- How streams end.
-use Rattle.std.proofs.Common.{◌≡◌, ◌⊎◌, inl, inr, ℕ, zero, suc, ◌-◌, ◌<◌, ◌≤◌, cond, nat_lt, ◌==◌, List, [], ◌∷◌, ◌++◌, length, take, Option, Some, None, sym, ap, subst, ◌∙◌, arith, length-append}
+use Rattle.std.proofs.Common.{◌≡◌, ◌⊎◌, inl, inr, ℕ, zero, suc, ◌-◌, ◌<◌, ◌≤◌, nat_lt, List, [], ◌∷◌, ◌++◌, length, take, Option, Some, None, sym, ap, subst, ◌∙◌, arith, length-append}
 use Rattle.std.proofs.lemmas.Bool.{cases_lt, cond-false, cond-true, le-ltb, lt-ltb}
 use Rattle.std.proofs.lemmas.List.{append-nil, take_all, take_at}
-use Rattle.data_port.specs.Reading.{bad_at_end, first_bad, requests_in, standing_after}
+use Rattle.data_port.specs.Reading.{bad_at_end, first_bad, requests_in}
 use Rattle.data_port.specs.Serving.{BadAt, Endless, ReachesEnd, ShowsEnd, StreamEnd, Whole, end_by, stream_end, stream_limit}
-use Rattle.data_port.proofs.Streams.{bad_ends_requests, bad_failed, bad_some, bad_stays}
+use Rattle.data_port.proofs.Streams.{bad_end, bad_ends_requests, bad_stays}
 
 take_past : (n : ℕ) (xs ys : List ℕ) → length xs ≤ n → take n (xs ++ ys) ≡ xs ++ take (n - length xs) ys
 take_past n [] ys h =
@@ -14,13 +14,6 @@ take_past zero (x ∷ xs) ys h = absurd (omega arith)
 take_past (suc n) (x ∷ xs) ys h =
     let less : n - length xs ≡ suc n - length (x ∷ xs) = omega arith in
     ap (λ (zs : List ℕ). x ∷ zs) (take_past n xs ys (omega arith) ∙ ap (λ (k : ℕ). xs ++ take k ys) less)
-
--- a first bad place is bad at the end too
-bad_end_first : (bytes : List ℕ) (place : ℕ) → first_bad bytes ≡ Some place → bad_at_end bytes ≡ Some place
-bad_end_first bytes place bad =
-    let s = standing_after bytes in
-    let failed = bad_failed bytes place bad in
-    cond-true s.failed (Some s.taken) (cond (length s.part == 0) None (Some s.taken)) failed ∙ (sym (bad_some bytes failed) ∙ bad)
 
 short_end : (stream : List ℕ) → length stream < stream_limit → stream_end stream ≡ end_by (bad_at_end stream) Whole
 short_end stream few = cond-true (nat_lt (length stream) stream_limit) (end_by (bad_at_end stream) Whole) (end_by (first_bad (take stream_limit stream)) Endless) (lt-ltb (length stream) stream_limit few)
@@ -38,7 +31,7 @@ reaches stream taken left reached split is shows requests = record {
 
 bad_end_is : (taken left : List ℕ) (place : ℕ) → length taken ≤ stream_limit → first_bad taken ≡ Some place → (length (taken ++ left) < stream_limit) ⊎ (stream_limit ≤ length (taken ++ left)) → stream_end (taken ++ left) ≡ BadAt place
 bad_end_is taken left place few bad (inl short) =
-    short_end (taken ++ left) short ∙ ap (λ (o : Option ℕ). end_by o Whole) (bad_end_first (taken ++ left) place (bad_stays taken left place bad))
+    short_end (taken ++ left) short ∙ ap (λ (o : Option ℕ). end_by o Whole) (bad_end (taken ++ left) place (bad_stays taken left place bad))
 bad_end_is taken left place few bad (inr long) =
     long_end (taken ++ left) long
     ∙ ap (λ (o : Option ℕ). end_by o Endless) (ap first_bad (take_past stream_limit taken left few) ∙ bad_stays taken (take (stream_limit - length taken) left) place bad)

@@ -85,6 +85,9 @@ stream_so_far = streams.so_far
 pub stream_at_end : (bytes : List ℕ) (requests : List Request) → ((bad_at_end bytes ≡ None) × (requests_in bytes ≡ requests)) ↔ EndsWhole bytes requests
 stream_at_end = streams.at_end
 
+pub bad_streams : (bytes : List ℕ) (place : ℕ) → first_bad bytes ≡ Some place → bad_at_end bytes ≡ Some place
+bad_streams = streams.bad_end
+
 pub unfinished_streams : (bytes : List ℕ) (place : ℕ) → first_bad bytes ≡ None → bad_at_end bytes ≡ Some place → place ≡ length bytes
 unfinished_streams = streams.unfinished_end
 

@@ -263,6 +263,14 @@ unfinished_end bytes place good bad = either (cases_Bool (standing_after bytes).
 pub bad_failed : (bytes : List ℕ) (place : ℕ) → first_bad bytes ≡ Some place → (standing_after bytes).failed ≡ true
 bad_failed bytes place bad = true_from_ne_false (standing_after bytes).failed (λ going. cc (bad_none bytes going, bad))
 
+-- and it is bad at the end too
+pub bad_end : (bytes : List ℕ) (place : ℕ) → first_bad bytes ≡ Some place → bad_at_end bytes ≡ Some place
+bad_end bytes place bad =
+    let s = standing_after bytes in
+    let failed = bad_failed bytes place bad in
+    cond-true s.failed (Some s.taken) (cond (length s.part == 0) None (Some s.taken)) failed
+    ∙ (sym (bad_some bytes failed) ∙ bad)
+
 pub bad_stays : (b c : List ℕ) (place : ℕ) → first_bad b ≡ Some place → first_bad (b ++ c) ≡ Some place
 bad_stays b c place bad = ap bad_of (after-append (between 0) b c ∙ (stuck (standing_after b) c (bad_failed b place bad)).after) ∙ bad
 

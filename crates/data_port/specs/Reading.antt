@@ -28,7 +28,7 @@ abbrev pub first_bad : List ℕ → Option ℕ
 first_bad bytes = bad_of (standing_after bytes)
 
 -- the first bad place of a stream that is at its end is the first bad one of its bytes, or else the place behind the
--- last byte where a request is unfinished; `bad_end_of` gives it as the port keeps it, as the law
+-- last byte if a request is unfinished; `bad_end_of` gives it as the port keeps it, as the law
 -- streams_are_read_by_their_frames says
 abbrev pub bad_at_end : List ℕ → Option ℕ
 bad_at_end bytes = bad_end_of (standing_after bytes)
@@ -41,15 +41,15 @@ given_by before (piece ∷ pieces) = requests_after before piece ++ given_by (be
 
 -- ---- a port
 
--- a port has taken bytes, in whatever pieces they came, where it stands as a new port does after them
+-- a port has taken bytes, in whatever pieces they came, if it stands as a new port does after them
 abbrev pub HasTaken : Standing → List ℕ → Type 0
 HasTaken s bytes = s ≡ standing_after bytes
 
--- a port makes sense where it stands as a port does that has taken some bytes
+-- a port makes sense if it stands as a port does that has taken some bytes
 abbrev pub HasSense : Standing → Type 0
 HasSense s = (bytes : List ℕ) × HasTaken s bytes
 
--- a port takes a piece, behind the bytes before it, up to a place where none of the bytes up to there is bad, their
+-- a port takes a piece, behind the bytes before it, up to a place if none of the bytes up to there is bad, their
 -- requests are appended to the list, and that place is the first at which the list has 64 requests, or else the end of
 -- the piece
 pub record TakesTo (before piece : List ℕ) (old new : List Request) (place : ℕ) : Type 0 where
@@ -59,7 +59,7 @@ pub record TakesTo (before piece : List ℕ) (old new : List Request) (place : �
   pub ends : (place ≡ length piece) ⊎ (length new ≡ 64)
   pub not_before : (sooner : ℕ) → sooner < place → length (old ++ requests_after before (take sooner piece)) < 64
 
--- a port finds a bad place in a piece, behind the bytes before it, where the requests before that place are appended to
+-- a port finds a bad place in a piece, behind the bytes before it, if the requests before that place are appended to
 -- the list and leave it with fewer than 64
 pub record BreaksIn (before piece : List ℕ) (old new : List Request) (place : ℕ) : Type 0 where
   pub bad : first_bad (before ++ piece) ≡ Some place

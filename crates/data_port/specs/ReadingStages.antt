@@ -13,7 +13,7 @@ failed_at place = record { taken = place; part = []; failed = true }
 abbrev pub last_code : List ℕ → ℕ
 last_code codes = get_or codes (length codes - 1) 0
 
--- a byte may follow a count and these codes: 0x03 where all have come, and otherwise a greater code, with as many codes
+-- a byte may follow a count and these codes: 0x03 if all have come, and otherwise a greater code, with as many codes
 -- left above it as have still to come
 abbrev pub follows_codes : (count : ℕ) → List ℕ → (byte : ℕ) → Bool
 follows_codes count codes byte =
@@ -74,7 +74,7 @@ ended_in s (byte ∷ bytes) = ended_by s byte ++ ended_in (after_byte s byte) by
 abbrev pub bad_of : Standing → Option ℕ
 bad_of s = if s.failed then Some s.taken else None
 
--- a stream that ends here has this first bad place: one that has come, or the place behind the last byte where a
+-- a stream that ends here has this first bad place: one that has come, or the place behind the last byte if a
 -- request is unfinished
 abbrev pub bad_end_of : Standing → Option ℕ
 bad_end_of s = if s.failed then Some s.taken else (if length s.part == 0 then None else Some s.taken)

@@ -38,7 +38,7 @@ sizes = 16 ∷ (4 ∷ (4 ∷ (32 ∷ (1 ∷ (8 ∷ (16 ∷ (16 ∷ (8 ∷ (16 �
 abbrev pub size_of : (code : ℕ) → ℕ
 size_of code = get_or sizes (code - 1) 0
 
--- bytes are read as items, at most `most` of them, where each item is a code and as many bytes of content as the item
+-- bytes are read as items, at most `most` of them, if each item is a code and as many bytes of content as the item
 -- with that code has
 abbrev pub items_in : (most : ℕ) → List ℕ → List (ℕ × List ℕ)
 items_in zero bytes = []

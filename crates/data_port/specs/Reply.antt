@@ -36,7 +36,7 @@ held_trip constant trip = record {
   steps_full = trip.meterage.steps_full;
 }
 
--- a reply tells the values of the held trip, and none where no trip is held
+-- a reply tells the values of the held trip, and none if no trip is held
 abbrev pub held_values : (constant : ℕ) → Option Trip → Option HeldTrip
 held_values constant None = None
 held_values constant (Some trip) = Some (held_trip constant trip)
@@ -52,7 +52,7 @@ trip_content held =
     ++ (four held.initial
     ++ eight held.steps_full)))))
 
--- a held trip has 57 bytes: 1 and its values, or zeros where none is held
+-- a held trip has 57 bytes: 1 and its values, or zeros if none is held
 abbrev pub held_content : Option HeldTrip → List ℕ
 held_content None = replicate 57 0
 held_content (Some held) = 1 ∷ trip_content held

@@ -3,7 +3,7 @@ use Rattle.std.specs.Prelude.{ℕ, ◌<◌, ◌≤◌, List, [], ◌∷◌, ◌+
 use Rattle.std.specs.List.{flat_map}
 use Rattle.data_port.specs.declared.request.Request.{Request}
 
--- codes rise where each is above the one before it; the first is above `above`, and none is above 13
+-- codes rise if each is above the one before it; the first is above `above`, and none is above 13
 abbrev pub Rise : (above : ℕ) → List ℕ → Type 0
 Rise above [] = Unit {0}
 Rise above (code ∷ codes) = (above < code) × ((code ≤ 13) × Rise code codes)

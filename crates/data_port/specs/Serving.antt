@@ -21,13 +21,13 @@ pub data StreamEnd : Type 0 where
   BadAt : (place : ℕ) → StreamEnd
   Endless : StreamEnd
 
--- a stream ends at its first bad place where it has one, and otherwise as `other` says
+-- a stream ends at its first bad place if it has one, and otherwise as `other` says
 abbrev pub end_by : Option ℕ → StreamEnd → StreamEnd
 end_by (Some place) other = BadAt place
 end_by None other = other
 
 -- a stream below the limit ends whole or at its first bad place, which may be its end; of a longer one only the bytes
--- up to the limit count, and it is too long where none of them is bad
+-- up to the limit count, and it is too long if none of them is bad
 abbrev pub stream_end : List ℕ → StreamEnd
 stream_end stream =
     if nat_lt (length stream) stream_limit
@@ -42,13 +42,13 @@ requests_of stream = requests_in (take stream_limit stream)
 pub record IsSplit (stream taken left : List ℕ) : Type 0 where
   pub bytes : stream ≡ taken ++ left
 
--- a stream goes on after the bytes that were taken where none of their places is bad and they are fewer than the limit
+-- a stream goes on after the bytes that were taken if none of their places is bad and they are fewer than the limit
 pub record IsGoing (taken : List ℕ) : Type 0 where
   pub good : first_bad taken ≡ None
   pub few : length taken < stream_limit
 
 -- bytes that were taken, with those left behind them, show an end: a whole stream has nothing left, a bad place is
--- among the bytes taken or at the end of the stream, and a stream is too long where the limit was taken
+-- among the bytes taken or at the end of the stream, and a stream is too long if the limit was taken
 abbrev pub ShowsEnd : StreamEnd → (taken left : List ℕ) → Type 0
 ShowsEnd Whole taken left = left ≡ []
 ShowsEnd (BadAt place) taken left =
@@ -65,7 +65,7 @@ pub record TellsEnd (stream left : List ℕ) : Type 0 where
 abbrev pub replies : Durable → Seal → List Request → List ℕ
 replies durable seal requests = flat_map (reply_to durable seal) requests
 
--- steps are bounded by a stream where at most one was counted for each request in the bytes that were taken
+-- steps are bounded by a stream if at most one was counted for each request in the bytes that were taken
 pub record IsBoundedBy (stream left : List ℕ) (before now : ℕ) : Type 0 where
   pub taken : List ℕ
   pub split : IsSplit stream taken left
@@ -79,7 +79,7 @@ pub record StopsAfter (stream left : List ℕ) (state shown : List ℕ → Type 
   pub stands : state taken
   pub printed : shown taken
 
--- a stream was served to an end where the bytes that were taken show that end, and all requests of the stream are in
+-- a stream was served to an end if the bytes that were taken show that end, and all requests of the stream are in
 -- the bytes taken
 pub record ReachesEnd (stream taken left : List ℕ) (reached : StreamEnd) : Type 0 where
   pub end_is : stream_end stream ≡ reached
@@ -88,11 +88,11 @@ pub record ReachesEnd (stream taken left : List ℕ) (reached : StreamEnd) : Typ
   pub requests_are : requests_of stream ≡ requests_in taken
 
 module _ (told : Type 0) (durable : Durable) (seal : Seal) (stream left before now : List ℕ) where
-  -- the replies to the requests in the bytes that were taken were printed, where the text is told
+  -- the replies to the requests in the bytes that were taken were printed, if the text is told
   abbrev pub Printed : (taken : List ℕ) → Type 0
   Printed taken = told → now ≡ before ++ replies durable seal (requests_in taken)
 
-  -- a beginning of the replies to the requests in the bytes that were taken was printed, where the text is told
+  -- a beginning of the replies to the requests in the bytes that were taken was printed, if the text is told
   abbrev pub PrintedSome : (taken : List ℕ) → Type 0
   PrintedSome taken = told → Begins before now (replies durable seal (requests_in taken))
 

@@ -8,6 +8,6 @@ pub record Standing : Type 0 where
   pub part : List ℕ
   pub failed : Bool
 
--- a port is between two requests where it has taken `taken` bytes and no request is unfinished
+-- a port is between two requests if it has taken `taken` bytes and no request is unfinished
 abbrev pub between : ℕ → Standing
 between taken = record { taken = taken; part = []; failed = false }

@@ -4,7 +4,7 @@ use Rattle.std.specs.List.{All, flat_map}
 use Rattle.data_port.specs.declared.request.Request.{Request}
 use Rattle.data_port.specs.Requests.{IsRequest, request_bytes, stream_bytes}
 
--- bytes begin a stream where they are the front of some stream of requests
+-- bytes begin a stream if they are the front of some stream of requests
 pub record BeginsStream (bytes : List ℕ) : Type 0 where
   pub requests : List Request
   pub rest : List ℕ
@@ -17,7 +17,7 @@ pub record IsFirstBad (bytes : List ℕ) (place : ℕ) : Type 0 where
   pub good : BeginsStream (take place bytes)
   pub bad : ¬ (BeginsStream (take (place + 1) bytes))
 
--- a part of a request is unfinished where it begins some request and is not the whole of it; it may be empty
+-- a part of a request is unfinished if it begins some request and is not the whole of it; it may be empty
 pub record IsUnfinished (part : List ℕ) : Type 0 where
   pub request : Request
   pub rest : List ℕ
@@ -25,20 +25,20 @@ pub record IsUnfinished (part : List ℕ) : Type 0 where
   pub some : 0 < length rest
   pub bytes_are : part ++ rest ≡ request_bytes request
 
--- bytes are good where they are some requests, and perhaps an unfinished one behind them
+-- bytes are good if they are some requests, and perhaps an unfinished one behind them
 pub record IsGood (bytes : List ℕ) (requests : List Request) : Type 0 where
   pub part : List ℕ
   pub good : All IsRequest requests
   pub unfinished : IsUnfinished part
   pub bytes_are : bytes ≡ stream_bytes requests ++ part
 
--- bytes are read as requests with no bad place where they are good, and else as their first bad place and the requests
+-- bytes are read as requests with no bad place if they are good, and else as their first bad place and the requests
 -- that are whole before it
 abbrev pub IsReadAs : List ℕ → Option ℕ → List Request → Type 0
 IsReadAs bytes None requests = IsGood bytes requests
 IsReadAs bytes (Some place) requests = IsFirstBad bytes place × IsGood (take place bytes) requests
 
--- bytes end whole where they are some requests and nothing else
+-- bytes end whole if they are some requests and nothing else
 pub record EndsWhole (bytes : List ℕ) (requests : List Request) : Type 0 where
   pub good : All IsRequest requests
   pub bytes_are : bytes ≡ stream_bytes requests

@@ -7,12 +7,14 @@ ghost use Rattle.data_port.specs.Streams.{EndsWhole, IsReadAs, bytes_of};
 /// The first bad place of bytes and their requests are told by the streams that there are: the place is
 /// the first whose byte no stream of requests has there, the requests are those that are whole before it,
 /// and nothing else is said. At the end of a stream nothing is bad exactly where the bytes are whole
-/// requests; where no place before is bad, an unfinished request is bad behind the last byte.
+/// requests; a place that was bad before is the bad one at the end too, and where none was, an
+/// unfinished request is bad behind the last byte.
 pub fn streams_are_read_by_their_frames()
     ensures so_far { (bytes : List ℕ) (bad : Option ℕ) (requests : List Request) → ((first_bad bytes ≡ bad)
         × (requests_in bytes ≡ requests)) ↔ IsReadAs bytes bad requests }
     ensures at_end { (bytes : List ℕ) (requests : List Request) → ((bad_at_end bytes ≡ None)
         × (requests_in bytes ≡ requests)) ↔ EndsWhole bytes requests }
+    ensures bad { (bytes : List ℕ) (place : ℕ) → first_bad bytes ≡ Some place → bad_at_end bytes ≡ Some place }
     ensures unfinished { (bytes : List ℕ) (place : ℕ) → first_bad bytes ≡ None → bad_at_end bytes ≡ Some place
         → place ≡ length bytes }
 {}

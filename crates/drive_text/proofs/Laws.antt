@@ -71,7 +71,7 @@ failed_reader_stays = standing.failed_stays
 pub same_reader : (reading other : Reading) (b : List ℕ) → HasTaken reading b → HasTaken other b → reading ≡ other
 same_reader = standing.same_bytes
 
-pub few_lines : (reading : Reading) (b : List ℕ) → HasTaken reading b → reading.failed ≡ false → reading.begun ≤ length b
+pub few_lines : (reading : Reading) (b : List ℕ) → HasTaken reading b → reading.begun ≤ length b
 few_lines = standing.begun_fits
 
 -- of written_lines_read_back

@@ -1,5 +1,6 @@
 -- Where a reader stands after a part of a piece.
-use Rattle.std.proofs.Common.{◌≡◌, ℕ, ◌+◌, ◌<◌, ◌≤◌, Bool, true, false, cond, List, [], ◌∷◌, ◌++◌, length, refl, ap, sym, ◌∙◌, subst, arith, eqb, length-append, Option, Some, None, MatchOption}
+use Rattle.std.proofs.Common.{◌≡◌, ◌⊎◌, inl, inr, ℕ, suc, ◌+◌, ◌<◌, ◌≤◌, Bool, true, false, cond, List, [], ◌∷◌, ◌++◌, length, refl, ap, sym, ◌∙◌, subst, arith, eqb, length-append, Option, Some, None, MatchOption, is_none}
+use Rattle.std.specs.List.{position_from}
 use Rattle.std.proofs.lemmas.Bool.{ne_eqb}
 use Rattle.std.proofs.lemmas.List.{append-nil}
 use Rattle.drive_text.specs.declared.run.Run.{Run}
@@ -117,11 +118,48 @@ count_by : (n : ℕ) (t : List ℕ) → cond (eqb (length t) 0) n (n + 1) ≤ n 
 count_by n [] = omega arith
 count_by n (x ∷ xs) = omega (arith, counted n (x ∷ xs) (omega arith))
 
--- no more lines were begun than bytes were taken
-pub begun_fits : (r : Reading) (b : List ℕ) → HasTaken r b → r.failed ≡ false → r.begun ≤ length b
-begun_fits r b h going =
+one_more : (first n count : ℕ) (bad : Bool) (later : Option ℕ) → (later ≡ Some n → n < first + 1 + count)
+    → cond bad (Some first) later ≡ Some n → n < first + suc count
+one_more first n count true later rest e = let here : first ≡ n = cc in omega (arith, here)
+one_more first n count false later rest e = omega (arith, rest e)
+
+-- a bad ended line is one of the lines
+bad_within : (lines : List (List ℕ)) (first n : ℕ) → position_from (λ line. is_none (line_runs line)) first lines ≡ Some n
+    → n < first + length lines
+bad_within [] first n e = cc
+bad_within (line ∷ lines) first n e =
+    one_more first n (length lines) (is_none (line_runs line))
+    (position_from (λ l. is_none (line_runs l)) (first + 1) lines) (bad_within lines (first + 1) n) e
+
+bad_by : (o : Option ℕ) (long : Bool) (k n : ℕ) → or_else o (cond long (Some k) None) ≡ Some n
+    → (o ≡ Some n) ⊎ ((long ≡ true) × (k ≡ n))
+bad_by (Some m) long k n e = inl e
+bad_by None true k n e = inr (refl, cc)
+bad_by None false k n e = cc
+
+long_some : (t : List ℕ) → is_too_long t ≡ true → 0 < length t
+long_some [] long = cc
+long_some (x ∷ xs) long = omega arith
+
+bad_fits : (b : List ℕ) (n : ℕ) → first_bad b ≡ Some n → n ≤ length b
+bad_fits b n bad =
+    elim (bad_by (first_bad_line (ended_lines b)) (is_too_long (unfinished_line b)) (length (ended_lines b) + 1) n bad) [
+      | inl ended ↦ omega (arith, bad_within (ended_lines b) 1 n ended, lines_fit b)
+      | inr long ↦ omega (arith, long.1, long_some (unfinished_line b) long.0, lines_fit b)
+    ]
+
+going_fits : (r : Reading) (b : List ℕ) → HasTaken r b → r.failed ≡ false → r.begun ≤ length b
+going_fits r b h going =
     let begun = (goes r b h going).stands.begun in
     omega (arith, count_by (length (ended_lines b)) (unfinished_line b), lines_fit b, begun)
+
+-- no more lines were begun than bytes were taken
+pub begun_fits : (r : Reading) (b : List ℕ) → HasTaken r b → r.begun ≤ length b
+begun_fits r b h = by r.failed refl
+  where
+    by : (failed : Bool) → r.failed ≡ failed → r.begun ≤ length b
+    by true failed = bad_fits b r.begun (failed_at r b h failed)
+    by false going = going_fits r b h going
 
 number_by_test : (none : Bool) (n : ℕ) → cond none (n + 1) n ≤ n + 1
 number_by_test true n = omega arith

@@ -7,13 +7,13 @@ use Rattle.drive_text.specs.Runs.{run_events}
 use Rattle.drive_text.specs.Lines.{ended_lines, unfinished_line, is_too_long}
 use Rattle.drive_text.specs.Fields.{line_runs}
 
--- one answer or else another is the first where there is one, and else the second
+-- one answer or else another is the first if there is one, and else the second
 abbrev pub or_else : Option ℕ → Option ℕ → Option ℕ
 or_else (Some n) other = Some n
 or_else None other = other
 
 -- the first bad line of some lines is the first that is no line of a drive, told by its number from 1 on, and there is
--- none where all are good; `line_runs` gives what a line says, as the law lines_give_what_the_table_says has it
+-- none if all are good; `line_runs` gives what a line says, as the law lines_give_what_the_table_says has it
 abbrev pub first_bad_line : List (List ℕ) → Option ℕ
 first_bad_line lines = position_from (λ line. is_none (line_runs line)) 1 lines
 
@@ -24,7 +24,7 @@ runs_of_lines lines =
     flat_map (λ line. unwrap_or (line_runs line) []) (take_while (λ line. is_some (line_runs line)) lines)
 
 -- the first bad line of ended lines and an unfinished one is the first bad ended line, or else the unfinished one, with
--- its number, where it is too long
+-- its number, if it is too long
 abbrev pub first_bad_of : List (List ℕ) → List ℕ → Option ℕ
 first_bad_of lines unfinished =
     or_else (first_bad_line lines) (if is_too_long unfinished then Some (length lines + 1) else None)
@@ -33,13 +33,13 @@ first_bad_of lines unfinished =
 abbrev pub first_bad : List ℕ → Option ℕ
 first_bad bytes = first_bad_of (ended_lines bytes) (unfinished_line bytes)
 
--- the first bad line of a whole drive is that of its bytes, or else its last line where bytes stand behind the last LF
+-- the first bad line of a whole drive is that of its bytes, or else its last line if bytes stand behind the last LF
 abbrev pub bad_at_end : List ℕ → Option ℕ
 bad_at_end bytes =
     or_else (first_bad bytes)
     (if length (unfinished_line bytes) == 0 then None else Some (length (ended_lines bytes) + 1))
 
--- the runs in bytes are those of their ended lines before the first bad one, and of all of them where none is bad
+-- the runs in bytes are those of their ended lines before the first bad one, and of all of them if none is bad
 abbrev pub runs_in : List ℕ → List Run
 runs_in bytes = runs_of_lines (ended_lines bytes)
 

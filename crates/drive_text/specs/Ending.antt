@@ -13,7 +13,7 @@ pub data DriveEnd : Type 0 where
   BadAt : (line : ℕ) → DriveEnd
   Endless : DriveEnd
 
--- a drive ends at its first bad line where it has one, and else as the other answer says
+-- a drive ends at its first bad line if it has one, and else as the other answer says
 abbrev pub end_by : Option ℕ → DriveEnd → DriveEnd
 end_by (Some line) other = BadAt line
 end_by None other = other
@@ -34,7 +34,7 @@ events_of drive = events_in (take drive_limit drive)
 pub record IsSplit (drive taken left : List ℕ) : Type 0 where
   pub bytes : drive ≡ taken ++ left
 
--- a drive goes on after the bytes that were taken where none of their lines is bad and they are fewer than the limit
+-- a drive goes on after the bytes that were taken if none of their lines is bad and they are fewer than the limit
 pub record IsGoing (taken : List ℕ) : Type 0 where
   pub good : first_bad taken ≡ None
   pub few : length taken < drive_limit
@@ -47,13 +47,13 @@ ShowsEnd Whole taken left = left ≡ []
 ShowsEnd (BadAt line) taken left = (first_bad taken ≡ Some line) ⊎ ((left ≡ []) × (bad_at_end taken ≡ Some line))
 ShowsEnd Endless taken left = length taken ≡ drive_limit
 
--- what is left of a drive tells its end where the bytes taken before it show how the drive ends
+-- what is left of a drive tells its end if the bytes taken before it show how the drive ends
 pub record TellsEnd (drive left : List ℕ) : Type 0 where
   pub taken : List ℕ
   pub split : IsSplit drive taken left
   pub shows : ShowsEnd (drive_end drive) taken left
 
--- a reading reaches the end of a drive where it says how the drive ends, the bytes taken tell that end, and the events
+-- a reading reaches the end of a drive if it says how the drive ends, the bytes taken tell that end, and the events
 -- that it gave are the drive's
 pub record ReachesEnd (drive left : List ℕ) (reached : DriveEnd) (events : List Event) : Type 0 where
   pub end_is : drive_end drive ≡ reached

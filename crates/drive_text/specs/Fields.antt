@@ -25,14 +25,14 @@ is_word word field = pointwise nat_eq field word
 abbrev pub is_number : List ℕ → Bool
 is_number field = list_all is_ascii_digit field && nat_le 1 (length field) && nat_le (length field) 12
 
--- the number of a field, where the field is one of `low` to `high`
+-- the number of a field, if the field is one of `low` to `high`
 unfoldable pub number_in : ℕ → ℕ → List ℕ → Option ℕ
 number_in low high field =
     if is_number field && nat_le low (digits_value 10 field) && nat_le (digits_value 10 field) high
     then Some (digits_value 10 field)
     else None
 
--- the second of a field, where the field is a number of the meter's seconds
+-- the second of a field, if the field is a number of the meter's seconds
 abbrev pub second_in : List ℕ → Option ℕ
 second_in field = number_in first_second last_second field
 
@@ -94,7 +94,7 @@ run_of_fields (name ∷ first ∷ []) = run_of_two_fields name first
 run_of_fields (name ∷ first ∷ second ∷ []) = run_of_three_fields name first second
 run_of_fields (name ∷ first ∷ second ∷ third ∷ more) = None
 
--- the runs of a line without its CR: none where it is empty or a comment, and else the one of its fields, which a blank
+-- the runs of a line without its CR: none if it is empty or a comment, and else the one of its fields, which a blank
 -- parts and which have at most 80 bytes together
 unfoldable pub text_runs : List ℕ → Option (List Run)
 text_runs [] = Some []
@@ -103,6 +103,6 @@ text_runs (c ∷ cs) =
     else if nat_lt 80 (length (c ∷ cs)) then None
     else option_map (λ run. run ∷ []) (run_of_fields (slice_split (λ b. b == 32) (c ∷ cs)))
 
--- the runs of a line without its LF, where it is a line of a drive
+-- the runs of a line without its LF, if it is a line of a drive
 abbrev pub line_runs : List ℕ → Option (List Run)
 line_runs line = text_runs (strip_carriage_return line)

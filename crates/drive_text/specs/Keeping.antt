@@ -26,16 +26,16 @@ pub record HasFailed (reading : Reading) (line : ℕ) : Type 0 where
   pub kept : reading.kept ≡ []
   pub comment : reading.comment ≡ false
 
--- a reader has taken some ended lines and an unfinished one where it stands in the unfinished one, or has failed at the
+-- a reader has taken some ended lines and an unfinished one if it stands in the unfinished one, or has failed at the
 -- first bad line
 abbrev pub HasTakenLines : Reading → List (List ℕ) → List ℕ → Type 0
 HasTakenLines reading lines unfinished =
     MatchOption (first_bad_of lines unfinished) (StandsIn reading lines unfinished) (HasFailed reading)
 
--- a reader has taken some bytes where it has taken their lines, in whatever pieces they came
+-- a reader has taken some bytes if it has taken their lines, in whatever pieces they came
 abbrev pub HasTaken : Reading → List ℕ → Type 0
 HasTaken reading bytes = HasTakenLines reading (ended_lines bytes) (unfinished_line bytes)
 
--- a reader has sense where it has taken some bytes, whichever they are
+-- a reader has sense if it has taken some bytes, whichever they are
 abbrev pub HasSense : Reading → Type 0
 HasSense reading = (bytes : List ℕ) × HasTaken reading bytes

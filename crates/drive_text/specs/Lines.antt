@@ -4,13 +4,13 @@ use Rattle.std.specs.List.{slice_split}
 use Rattle.std.specs.Str.Lines.{strip_carriage_return}
 pub use Rattle.taxi_units.specs.Parting.{HasNone}
 
--- all but the last of a list of parts are its parts without the last one, and nothing where there is none
+-- all but the last of a list of parts are its parts without the last one, and nothing if there is none
 abbrev pub all_but_last : List (List ℕ) → List (List ℕ)
 all_but_last [] = []
 all_but_last (part ∷ []) = []
 all_but_last (part ∷ next ∷ parts) = part ∷ all_but_last (next ∷ parts)
 
--- the last of a list of parts is its last part, and is empty where there is none
+-- the last of a list of parts is its last part, and is empty if there is none
 abbrev pub last_of : List (List ℕ) → List ℕ
 last_of [] = []
 last_of (part ∷ []) = part
@@ -24,12 +24,12 @@ ended_lines bytes = all_but_last (slice_split (λ b. b == 10) bytes)
 abbrev pub unfinished_line : List ℕ → List ℕ
 unfinished_line bytes = last_of (slice_split (λ b. b == 10) bytes)
 
--- a line is a comment where it begins with #
+-- a line is a comment if it begins with #
 abbrev pub is_comment : List ℕ → Bool
 is_comment [] = false
 is_comment (c ∷ cs) = c == 35
 
--- a line is too long where it is no comment and has more than 80 bytes, not counting a CR at its end
+-- a line is too long if it is no comment and has more than 80 bytes, not counting a CR at its end
 abbrev pub is_too_long : List ℕ → Bool
 is_too_long line = nat_lt 80 (length (strip_carriage_return line)) && not (is_comment line)
 
@@ -38,6 +38,6 @@ is_too_long line = nat_lt 80 (length (strip_carriage_return line)) && not (is_co
 abbrev pub text_of : List (List ℕ) → List ℕ → List ℕ
 text_of lines unfinished = flat_map (λ line. line ++ 10 ∷ []) lines ++ unfinished
 
--- bytes are one line where they have no LF
+-- bytes are one line if they have no LF
 abbrev pub IsOneLine : List ℕ → Type 0
 IsOneLine line = HasNone 10 line

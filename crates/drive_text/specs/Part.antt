@@ -1,4 +1,4 @@
--- For proofs: what becomes of one part of a piece, which is a line with its LF, or what is left of the piece where no
+-- For proofs: what becomes of one part of a piece, which is a line with its LF, or what is left of the piece if no
 -- LF comes.
 use Rattle.std.specs.Prelude.{◌≡◌, ℕ, ◌+◌, ◌<◌, ◌≤◌, List, ◌++◌, length, take, true, false, All}
 use Rattle.drive_text.specs.declared.run.Run.{Run}

@@ -8,7 +8,7 @@ use Rattle.taxi_units.specs.declared.event.Key.TheVariants.{Hire, Stop, Clear, P
 use Rattle.drive_text.specs.declared.run.Run.{Run}
 use Rattle.drive_text.specs.declared.run.Run.TheVariants.{One, Many}
 
--- a key is in range where its number, if it has one, is at most 99
+-- a key is in range if its number, if it has one, is at most 99
 abbrev pub IsKeyInRange : keys.Key → Type 0
 IsKeyInRange Hire = ⊤
 IsKeyInRange Stop = ⊤
@@ -17,7 +17,7 @@ IsKeyInRange (Position number) = number ≤ 99
 IsKeyInRange (Zone number) = number ≤ 99
 IsKeyInRange (Extra number) = number ≤ 99
 
--- an event is in range where a line of a drive can say it: its second is one of the meter's, its pulses are 1 to
+-- an event is in range if a line of a drive can say it: its second is one of the meter's, its pulses are 1 to
 -- 65,535, its key is in range
 abbrev pub IsInRange : Event → Type 0
 IsInRange (Up second) = IsSecond second
@@ -27,7 +27,7 @@ IsInRange Tick = ⊤
 IsInRange (Clock second) = IsSecond second
 IsInRange (Key key) = IsKeyInRange key
 
--- a run is in range where a line of a drive can say it: its event is in range, or its intervals are 1 to 36,000 with at
+-- a run is in range if a line of a drive can say it: its event is in range, or its intervals are 1 to 36,000 with at
 -- most 65,535 pulses each
 abbrev pub IsRunInRange : Run → Type 0
 IsRunInRange (One event) = IsInRange event

@@ -8,7 +8,7 @@ use Rattle.taxi_units.specs.declared.event.Key.TheVariants.{Hire, Stop, Clear, P
 use Rattle.drive_text.specs.declared.run.Run.{Run}
 use Rattle.drive_text.specs.declared.run.Run.TheVariants.{One, Many}
 
--- digits write a number of a range where they are 1 to 12 decimal digits that have its value, and it lies in the range
+-- digits write a number of a range if they are 1 to 12 decimal digits that have its value, and it lies in the range
 pub record IsNumberIn (low high : ℕ) (digits : List ℕ) (number : ℕ) : Type 0 where
   pub numeral : IsNumeral 10 digits
   pub few : length digits ≤ 12
@@ -16,7 +16,7 @@ pub record IsNumberIn (low high : ℕ) (digits : List ℕ) (number : ℕ) : Type
   pub above : low ≤ number
   pub below : number ≤ high
 
--- a line without its line end means no run where it is empty or a comment, and else the one run that its word and its
+-- a line without its line end means no run if it is empty or a comment, and else the one run that its word and its
 -- numbers say
 pub data Means : List ℕ → List Run → Type 0 where
   empty : Means [] []

@@ -6,18 +6,18 @@ use Rattle.drive_text.specs.Drive.{runs_after}
 use Rattle.drive_text.specs.Lines.{text_of, is_too_long, IsOneLine}
 use Rattle.drive_text.specs.Table.{Means}
 
--- lines give runs where each line gives what the table says of it, after one CR at its end is dropped, one after
+-- lines give runs if each line gives what the table says of it, after one CR at its end is dropped, one after
 -- another
 pub data GiveAll : List (List ℕ) → List Run → Type 0 where
   no_line : GiveAll [] []
   one_more : (line : List ℕ) (lines : List (List ℕ)) (these others : List Run)
       → Means (strip_carriage_return line) these → GiveAll lines others → GiveAll (line ∷ lines) (these ++ others)
 
--- a line is bad where the table has no meaning for it, after one CR at its end is dropped
+-- a line is bad if the table has no meaning for it, after one CR at its end is dropped
 abbrev pub IsBad : List ℕ → Type 0
 IsBad line = (runs : List Run) → ¬ (Means (strip_carriage_return line) runs)
 
--- bytes are good and give runs where their ended lines give the runs, and their unfinished line isn't too long so far
+-- bytes are good and give runs if their ended lines give the runs, and their unfinished line isn't too long so far
 pub record IsGood (bytes : List ℕ) (runs : List Run) : Type 0 where
   pub lines : List (List ℕ)
   pub unfinished : List ℕ
@@ -27,14 +27,14 @@ pub record IsGood (bytes : List ℕ) (runs : List Run) : Type 0 where
   pub give : GiveAll lines runs
   pub short : is_too_long unfinished ≡ false
 
--- bytes have a bad line behind some good lines where the line is bad and an LF ends it, or no LF does and it is too
+-- bytes have a bad line behind some good lines if the line is bad and an LF ends it, or no LF does and it is too
 -- long
 abbrev pub HasBadLine : List ℕ → List (List ℕ) → List ℕ → Type 0
 HasBadLine bytes lines line =
     ((behind : List ℕ) × (bytes ≡ text_of lines (line ++ 10 ∷ behind)) × IsBad line)
     ⊎ ((bytes ≡ text_of lines line) × (is_too_long line ≡ true))
 
--- bytes break at the line of a number where that line is bad and the lines before it are good and give the runs
+-- bytes break at the line of a number if that line is bad and the lines before it are good and give the runs
 pub record BreaksAt (bytes : List ℕ) (number : ℕ) (runs : List Run) : Type 0 where
   pub lines : List (List ℕ)
   pub line : List ℕ
@@ -44,13 +44,13 @@ pub record BreaksAt (bytes : List ℕ) (number : ℕ) (runs : List Run) : Type 0
   pub number_is : number ≡ length lines + 1
   pub bad : HasBadLine bytes lines line
 
--- bytes are read as good with their runs where no line is bad, and else as the number of their first bad line and the
+-- bytes are read as good with their runs if no line is bad, and else as the number of their first bad line and the
 -- runs before it
 abbrev pub IsReadAs : List ℕ → Option ℕ → List Run → Type 0
 IsReadAs bytes None runs = IsGood bytes runs
 IsReadAs bytes (Some number) runs = BreaksAt bytes number runs
 
--- bytes end whole with runs where all their lines are ended and give the runs
+-- bytes end whole with runs if all their lines are ended and give the runs
 pub record EndsWhole (bytes : List ℕ) (runs : List Run) : Type 0 where
   pub lines : List (List ℕ)
   pub text : bytes ≡ text_of lines []

@@ -6,7 +6,7 @@ use Rattle.taxi_units.specs.declared.event.Event.TheVariants as events
 use Rattle.taxi_units.specs.declared.event.Key.{Key}
 use Rattle.taxi_units.specs.declared.event.Key.TheVariants.{Hire, Stop, Clear, Position, Zone, Extra}
 
--- a key is written by its letter, and by its number in decimal where it has one
+-- a key is written by its letter, and by its number in decimal if it has one
 unfoldable pub key_text : Key → List ℕ
 key_text Hire = codes "H"
 key_text Stop = codes "S"

@@ -67,8 +67,7 @@ pub fn a_reader_is_known_by_its_bytes()
     ensures stays { (reading : Reading) (b c : List ℕ) → HasTaken reading b → reading.failed ≡ true
         → HasTaken reading (b ++ c) }
     ensures same { (reading other : Reading) (b : List ℕ) → HasTaken reading b → HasTaken other b → reading ≡ other }
-    ensures few { (reading : Reading) (b : List ℕ) → HasTaken reading b → reading.failed ≡ false
-        → reading.begun ≤ length b }
+    ensures few { (reading : Reading) (b : List ℕ) → HasTaken reading b → reading.begun ≤ length b }
 {}
 
 /// The line of an event, after ended lines of which none is bad, adds this event alone, and is not

@@ -1,16 +1,17 @@
 -- Which ends and statuses the finding of the log's end and the filing of a roll come to.
-use Rattle.std.proofs.Common.{◌≡◌, ◌≢◌, inl, inr, ℕ, ◌≤◌, List, Some, Result, Ok, Err, refl, sym, ◌∙◌, arith}
+use Rattle.std.proofs.Common.{◌≡◌, ◌≢◌, inl, inr, ℕ, ◌≤◌, List, Option, Some, None, Result, Ok, Err, refl, sym, ◌∙◌, arith}
 use Rattle.outside.specs.declared.board.Board.{Ghosts}
 use Rattle.slot_store.specs.Syncs.{LeavesFromSync}
 use Rattle.slot_store.proofs.Laws.{from_sync_as}
-use Rattle.hiring_log.specs.Calls.{WritesNothing}
+use Rattle.hiring_log.specs.Calls.{AreFew, MayHave, WritesNothing}
 use Rattle.hiring_log.specs.Endings.{filing_end, status_of, unread_end}
 use Rattle.hiring_log.specs.declared.ending.Ended.TheVariants.{ReadFault, BoardFault}
 use Rattle.hiring_log.specs.declared.file_roll.FileEnd.{FileEnd}
 use Rattle.hiring_log.specs.declared.file_roll.FileEnd.TheVariants as ends
 use Rattle.hiring_log.specs.declared.finding.FindFault.{FindFault}
 use Rattle.hiring_log.specs.declared.finding.FindFault.TheVariants as faults
-use Rattle.hiring_log.specs.declared.words.Call.TheVariants.{File}
+use Rattle.hiring_log.specs.declared.words.Call.{Call}
+use Rattle.hiring_log.specs.declared.words.Call.TheVariants.{File, Show}
 use Rattle.hiring_log.proofs.NewestFound.{same_fault}
 
 pub unread_no_read : (fault : FindFault) → unread_end fault ≡ ReadFault → ⊥
@@ -49,6 +50,36 @@ filing_writes end status is (inr range) = in_range end (omega (arith, is, range.
 pub fault_writes : WritesNothing (Some File) 8 → ⊥
 fault_writes (inl not) = not refl
 fault_writes (inr range) = omega (arith, range.1)
+
+-- ---- the statuses that a call may have
+
+pub unread_shows : (fault : FindFault) → MayHave (Some Show) (status_of (unread_end fault))
+unread_shows (faults.BadSlot slot) = inr (inl refl)
+unread_shows faults.Broken = inr (inr (inl refl))
+unread_shows faults.LogFault = inr (inr (inr refl))
+
+pub unread_files : (fault : FindFault) → MayHave (Some File) (status_of (unread_end fault))
+unread_files (faults.BadSlot slot) = (omega arith, (omega arith, omega arith))
+unread_files faults.Broken = (omega arith, (omega arith, omega arith))
+unread_files faults.LogFault = (omega arith, (omega arith, omega arith))
+
+pub filing_files : (end : FileEnd) → MayHave (Some File) (status_of (filing_end end))
+filing_files (ends.Filed count) = (omega arith, (omega arith, omega arith))
+filing_files (ends.OtherTaxi place) = (omega arith, (omega arith, omega arith))
+filing_files ends.TooLong = (omega arith, (omega arith, omega arith))
+filing_files ends.ReadFault = (omega arith, (omega arith, omega arith))
+
+-- each call may end with 8
+pub fault_has : (call : Option Call) (status : ℕ) → status ≡ 8 → MayHave call status
+fault_has None status is = inr is
+fault_has (Some Show) status is = inr (inr (inr is))
+fault_has (Some File) status is = (omega (arith, is), (omega (arith, is), omega (arith, is)))
+
+-- a bound of steps holds of fewer
+pub few_are_fewer : (call : Option Call) (before more now : ℕ) → AreFew call before more → now ≤ more → AreFew call before now
+few_are_fewer None before more now few fewer = omega (arith, few, fewer)
+few_are_fewer (Some Show) before more now few fewer = omega (arith, few, fewer)
+few_are_fewer (Some File) before more now few fewer = tt
 
 module _ {D L T : Type 0} (B : Ghosts D L) (kind : List ℕ → List ℕ → Type 0) (old new : D) (r : Result T FindFault) where
   -- where no end is found, a sync that fails is the fault

@@ -10,7 +10,8 @@ use Rattle.outside.specs.declared.board.Board.{Ghosts}
 use Rattle.outside.specs.declared.files.Files.{Ghosts as FileGhosts}
 use Rattle.outside.proofs.Laws.{begins_after, begins_more, leaves_kept, leaves_then, leaves_wider}
 use Rattle.slot_store.specs.Syncs.{LeavesFromSync, ReadsOnly}
-use Rattle.hiring_log.specs.Calls.{AppendsNothing, IsCall, IsCutShort, IsNewestOf, IsOfTaxi, IsOneTaxi, IsWhole, LeavesLog, MayEnd, OnlyLooks, shown_of}
+use Rattle.hiring_log.specs.Calls.{AppendsNothing, IsCall, IsCutShort, IsFit, IsNewestOf, IsOfTaxi, IsOneTaxi, IsWhole, LeavesLog, MayEnd, MayHave, OnlyLooks, shown_of}
+use Rattle.hiring_log.proofs.EndCases.{fault_has}
 use Rattle.hiring_log.specs.Comes.{Comes, IsBrokenOff, IsDue, IsTold}
 use Rattle.hiring_log.specs.Endings.{line_of, status_of}
 use Rattle.hiring_log.specs.Filed.{EndsAt, Files, IsOther}
@@ -151,6 +152,11 @@ module _ {D L : Type 0} (B : Ghosts D L) where
             (subst (λ (d : D). Begins (B.printed log) (B.printed d) (shown_of course found)) (sym quiet.0) (broken.begun tells));
       })
 
+  pub has_finished : (call : Option Call) (ended : Ended) (log log' : D) (status : ℕ) → MayHave call (status_of ended)
+      → IsTold B ended log log' status → MayHave call status
+  has_finished call ended log log' status has (inl whole) = subst (MayHave call) (sym whole.0) has
+  has_finished call ended log log' status has (inr cut) = fault_has call status cut.0
+
 module _ {E D L : Type 0} (F : FileGhosts E) (B : Ghosts D L) where
   -- a call
   pub call_told : (call : Option Call) (files files' : E) (log mid log' : D) (steps steps' steps'' : ℕ) (ended : Ended) (status' : ℕ) → LeavesNow B mid → Comes F B call files files' log mid steps steps' ended
@@ -218,24 +224,33 @@ module _ {E D L : Type 0} (F : FileGhosts E) (B : Ghosts D L) where
       let all = of_taxi_first one.taxi h.before (h.other ∷ []) (one.receipts (h.before ++ h.other ∷ []) h.rest h.reads) in
       not_other one.taxi last h.other (newest_taxi one.taxi newest last h.before filed h.files one.newest_is all.0) all.1.0 h.differs
 
-  module _ (files files' : E) (log log' : D) (status : ℕ) (records : List Record) (stands : StandsFor records (B.image log)) (short : length (F.rest files 1) < roll_limit) (one : IsOneTaxi (F.rest files 1) (newest_of records))
-      (read : ¬ Rose (F.faults files 1) (F.faults files' 1)) (board : ¬ Rose (B.faults log) (B.faults log')) where
-    whole_end : (call : Option Call) (command : Call) (ended : Ended) (found filed : List Record) → call ≡ Some command
-        → MayEnd call (B.image log) (F.rest files 1) (F.rest files' 1) (Rose (F.faults files 1) (F.faults files' 1)) (Rose (B.faults log) (B.faults log')) ended found filed → status ≡ status_of ended → status ≡ 0
-    whole_end call command (Filed count) found filed calls may is = is
-    whole_end call command Shown found filed calls may is = is
-    whole_end call command BadWords found filed calls may is = absurd (none_no_some call command may calls)
-    whole_end call command (BadLog slot) found filed calls may is = absurd (none_bad (B.image log) records slot may.1.small stands may.1.bad)
-    whole_end call command BrokenLog found filed calls may is = absurd (may.1.no_list records stands)
-    whole_end call command (OtherTaxi place) found filed calls (up, (last, h)) is =
-        absurd (one_taxi_ends (F.rest files 1) (newest_of records) last filed place one (subst (λ (l : List Record). EndsAt (newest_of l) (F.rest files 1) filed last place) (one_list (B.image log) found records up.stands stands) h))
-    whole_end call command TooLong found filed calls up is =
-        absurd (omega (arith, short, up.ends.3, ap length up.ends.2, length-append up.ends.0 (F.rest files' 1)))
-    whole_end call command ReadFault found filed calls may is = absurd (read may.1)
-    whole_end call command BoardFault found filed calls may is = absurd (board may.1)
+  -- a roll that is filed is a fit one
+  fit_file : (call : Option Call) (command : Call) (roll : List ℕ) (newest : Option Record) → call ≡ Some command → call ≡ Some File
+      → IsFit command roll newest → (length roll < roll_limit) × IsOneTaxi roll newest
+  fit_file call File roll newest calls file fit = fit
+  fit_file call Show roll newest calls file fit = absurd (show_no_file (sym calls ∙ file))
 
-    pub call_whole : (call : Option Call) (command : Call) (steps steps' : ℕ) → IsCall F B call files files' log log' steps steps' status → call ≡ Some command → status ≡ 0
-    call_whole call command steps steps' is calls = elim is.ends [
-      | inl whole ↦ whole_end call command is.ended is.found is.filed calls is.may whole.status_is
+  module _ (files files' : E) (log log' : D) (status : ℕ) (records : List Record) (stands : StandsFor records (B.image log))
+      (command : Call) (fit : IsFit command (F.rest files 1) (newest_of records))
+      (read : ¬ Rose (F.faults files 1) (F.faults files' 1)) (board : ¬ Rose (B.faults log) (B.faults log')) where
+    whole_end : (call : Option Call) (ended : Ended) (found filed : List Record) → call ≡ Some command
+        → MayEnd call (B.image log) (F.rest files 1) (F.rest files' 1) (Rose (F.faults files 1) (F.faults files' 1)) (Rose (B.faults log) (B.faults log')) ended found filed → status ≡ status_of ended → status ≡ 0
+    whole_end call (Filed count) found filed calls may is = is
+    whole_end call Shown found filed calls may is = is
+    whole_end call BadWords found filed calls may is = absurd (none_no_some call command may calls)
+    whole_end call (BadLog slot) found filed calls may is = absurd (none_bad (B.image log) records slot may.1.small stands may.1.bad)
+    whole_end call BrokenLog found filed calls may is = absurd (may.1.no_list records stands)
+    whole_end call (OtherTaxi place) found filed calls (up, (last, h)) is =
+        let fits = fit_file call command (F.rest files 1) (newest_of records) calls up.command fit in
+        absurd (one_taxi_ends (F.rest files 1) (newest_of records) last filed place fits.1 (subst (λ (l : List Record). EndsAt (newest_of l) (F.rest files 1) filed last place) (one_list (B.image log) found records up.stands stands) h))
+    whole_end call TooLong found filed calls up is =
+        let fits = fit_file call command (F.rest files 1) (newest_of records) calls up.command fit in
+        absurd (omega (arith, fits.0, up.ends.3, ap length up.ends.2, length-append up.ends.0 (F.rest files' 1)))
+    whole_end call ReadFault found filed calls may is = absurd (read may.1)
+    whole_end call BoardFault found filed calls may is = absurd (board may.1)
+
+    pub call_whole : (call : Option Call) (steps steps' : ℕ) → IsCall F B call files files' log log' steps steps' status → call ≡ Some command → status ≡ 0
+    call_whole call steps steps' is calls = elim is.ends [
+      | inl whole ↦ whole_end call is.ended is.found is.filed calls is.may whole.status_is
       | inr cut ↦ absurd (board cut.failed)
     ]

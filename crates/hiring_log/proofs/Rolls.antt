@@ -1,5 +1,5 @@
 -- How the reader of a roll goes on.
-use Rattle.std.proofs.Common.{◌≡◌, ℕ, ◌+◌, ◌-◌, ◌<◌, ◌≤◌, Bool, true, false, List, [], ◌∷◌, ◌++◌, length, take, drop, Option, Some, None, is_some, IfSome, option_to_list, refl, ap, sym, ◌∙◌, subst, arith, append_assoc, length-append}
+use Rattle.std.proofs.Common.{◌≡◌, ℕ, ◌+◌, ◌-◌, ◌<◌, ◌≤◌, Bool, true, false, zero, suc, List, [], ◌∷◌, ◌++◌, length, take, drop, Option, Some, None, is_some, IfSome, option_to_list, refl, ap, sym, ◌∙◌, subst, arith, append_assoc, length-append}
 use Rattle.std.proofs.lemmas.List.{append-nil, drop-drop, drop-take}
 use Rattle.hiring_log.specs.Looking.{LooksTo, MayFollow}
 use Rattle.hiring_log.specs.Reading.{EndsBy, GoesOn, HasRead, Place, roll_limit}
@@ -77,6 +77,23 @@ pub fewer_looked : (ended : Bool) (ahead left : List ℕ) (count : ℕ) (receipt
     → IfSome receipt (λ x. length left < length ahead)
 fewer_looked ended ahead left count None looks is = tt
 fewer_looked ended ahead left count (Some r) looks is = omega (arith, fewer_ahead ended ahead count r looks, ap length is)
+
+none_there : (receipt : Option Record) (n : ℕ) (bytes : List ℕ) → bytes ≡ [] → IfSome receipt (λ x. n < length bytes) → receipt ≡ None
+none_there None n bytes none fewer = refl
+none_there (Some r) n bytes none fewer = absurd (omega (arith, ap length none, fewer))
+
+drop_none : (n : ℕ) → drop {A = ℕ} n [] ≡ []
+drop_none zero = refl
+drop_none (suc n) = refl
+
+-- where nothing is ahead, looking finds none, and the reader stays where it is
+pub nothing_looked : (ended : Bool) (old new : Place) (count : ℕ) (receipt : Option Record) → LooksTo ended old.ahead count (option_to_list receipt)
+    → new.ahead ≡ drop count old.ahead → new.left ≡ old.left → new.end ≡ old.end → old.ahead ≡ [] → (receipt ≡ None) × (new ≡ old)
+nothing_looked ended old new count receipt looks ahead left end none =
+    let still : new.ahead ≡ old.ahead = ahead ∙ (ap (drop count) none ∙ (drop_none count ∙ sym none)) in (
+      none_there receipt (length new.ahead) old.ahead none (fewer_looked ended old.ahead new.ahead count receipt looks ahead),
+      λ i. record { ahead = still i; left = left i; end = end i },
+    )
 
 -- ---- how often it still goes round
 

@@ -1,5 +1,5 @@
 -- Rules: how a call of the program ends, what it prints, and what it leaves of the log.
-use Rattle.std.specs.Prelude.{◌≡◌, ◌≢◌, ◌⊎◌, ℕ, ◌+◌, ◌*◌, ◌≤◌, List, [], ◌∷◌, ◌++◌, length, Option, Some, None}
+use Rattle.std.specs.Prelude.{◌≡◌, ◌≢◌, ◌⊎◌, ℕ, ◌+◌, ◌*◌, ◌<◌, ◌≤◌, List, [], ◌∷◌, ◌++◌, length, Option, Some, None}
 use Rattle.outside.specs.Disk.{SameBut}
 use Rattle.outside.specs.Faults.{Rose}
 use Rattle.outside.specs.Printing.{Begins}
@@ -12,7 +12,7 @@ use Rattle.hiring_log.specs.Filed.{EndsAt, IsFiledOf}
 use Rattle.hiring_log.specs.FilingEnds.{EndsAs, IsTold, StandsForSome, newest_of}
 use Rattle.hiring_log.specs.LogList.{StandsFor, last_ones}
 use Rattle.hiring_log.specs.Record.{Record}
-use Rattle.hiring_log.specs.Roll.{Reads}
+use Rattle.hiring_log.specs.Roll.{Reads, roll_limit}
 use Rattle.hiring_log.specs.Showing.{texts_of}
 use Rattle.hiring_log.specs.Unread.{IsBroken, IsLowestBad}
 use Rattle.hiring_log.specs.declared.ending.Ended.{Ended}
@@ -28,6 +28,27 @@ abbrev pub AppendsNothing : (image roll : List ℕ) → Type 0
 AppendsNothing image roll =
     (records filed : List Record) (rest : List ℕ) → StandsFor records image
     → IsFiledOf (newest_of records) roll rest filed → filed ≡ []
+
+-- what a call comes to is known, of words that are no command whatever is told, of `show` where the log's image is
+-- told, and of `file` where the roll's contents are told too
+abbrev pub known_of : Option Call → (files_tell image_told : Type 0) → Type 0
+known_of None files_tell image_told = Unit {0}
+known_of (Some Show) files_tell image_told = image_told
+known_of (Some File) files_tell image_told = files_tell × image_told
+
+-- a call may end with a status whatever is told: refused words with 1, `show` with 0, 2 and 3, `file` with 0, 2, 3,
+-- 4, 5 and 7, and each of them with 8
+abbrev pub MayHave : Option Call → (status : ℕ) → Type 0
+MayHave None status = (status ≡ 1) ⊎ (status ≡ 8)
+MayHave (Some Show) status = (status ≡ 0) ⊎ ((status ≡ 2) ⊎ ((status ≡ 3) ⊎ (status ≡ 8)))
+MayHave (Some File) status = (status ≤ 8) × ((status ≢ 1) × (status ≢ 6))
+
+-- the steps of a call are bounded, of refused words by 1 and of `show` by 771; `IsCall` bounds those of `file` by what
+-- it files
+abbrev pub AreFew : Option Call → (before now : ℕ) → Type 0
+AreFew None before now = now ≤ before + 1
+AreFew (Some Show) before now = now ≤ before + 771
+AreFew (Some File) before now = Unit {0}
 
 -- words are a command where they call for something that the program does
 abbrev pub IsCommand : Option Call → Type 0
@@ -145,3 +166,9 @@ pub record IsOneTaxi (roll : List ℕ) (newest : Option Record) : Type 0 where
   pub taxi : List ℕ
   pub receipts : (receipts : List Record) (rest : List ℕ) → Reads roll receipts rest → IsOfTaxi taxi receipts
   pub newest_is : IsNewestOf taxi newest
+
+-- a roll is fit for a command where the command doesn't file it, or where it has fewer than 2^40 bytes and is of one
+-- taxi, of which the newest record of the log is too
+abbrev pub IsFit : Call → (roll : List ℕ) → (newest : Option Record) → Type 0
+IsFit Show roll newest = Unit {0}
+IsFit File roll newest = (length roll < roll_limit) × IsOneTaxi roll newest

@@ -21,6 +21,10 @@ EndsBy (Some Whole) left rest = rest ≡ []
 EndsBy (Some TooLong) left rest = left ≡ 0
 EndsBy (Some ReadFault) left rest = Unit {0}
 
+-- a reader is over for a reason where it takes no more bytes for it, and has looked all through
+abbrev pub IsOver : Place → RollEnd → Type 0
+IsOver place end = (place.end ≡ Some end) × (place.ahead ≡ [])
+
 -- a reader has read receipts of a roll, of which `rest` is left in the file, where reading the bytes taken gives them,
 -- whatever bytes may follow
 pub record HasRead (roll : List ℕ) (place : Place) (rest : List ℕ) (receipts : List Record) : Type 0 where

@@ -3,13 +3,12 @@ ghost use Rattle.std.specs.Prelude.{◌≡◌, ◌≢◌, ◌⊎◌, ℕ, ◌+�
 ghost use Rattle.outside.specs.Faults.{Rose};
 ghost use Rattle.outside.specs.Runs.{KeepsStore};
 ghost use Rattle.hiring_log.specs.Boards.{board_of};
-ghost use Rattle.hiring_log.specs.Calls.{AppendsNothing, IsCall, IsOneTaxi, OnlyLooks, WritesNothing};
+ghost use Rattle.hiring_log.specs.Calls.{AppendsNothing, AreFew, IsCall, IsFit, MayHave, OnlyLooks, WritesNothing, known_of};
 ghost use Rattle.hiring_log.specs.Comes.{Comes, IsTold};
 ghost use Rattle.hiring_log.specs.Endings.{filing_end, line_of, status_of, unread_end};
 ghost use Rattle.hiring_log.specs.FilingEnds.{newest_of};
 ghost use Rattle.hiring_log.specs.LogList.{EndsWith, StandsFor};
 ghost use Rattle.hiring_log.specs.Record.{Record};
-ghost use Rattle.hiring_log.specs.Roll.{roll_limit};
 ghost use Rattle.hiring_log.specs.Slots.{slot_of, IsClosed, IsOpen};
 ghost use Rattle.hiring_log.specs.Words.{call_of};
 
@@ -57,6 +56,7 @@ fn file<F: Files, G: LogBoard<L>, L: Ledger>(
         files.old files.new log.old log.new steps.old steps.new result }
     ensures read_fault { result ≡ Ended.ReadFault → Rose (F.faults files.old 1) (F.faults files.new 1) }
     ensures board_fault { result ≡ Ended.BoardFault → Rose (G.faults log.old) (G.faults log.new) }
+    ensures has { MayHave (Some Call.File) (status_of result) }
     ensures later { G.faults log.old ≤ G.faults log.new }
     ensures looks { WritesNothing (Some Call.File) (status_of result)
         → OnlyLooks (board_of G.LogBoard) log.old log.new (status_of result) }
@@ -96,6 +96,7 @@ fn show<F: Files, G: LogBoard<L>, L: Ledger>(files: &F, log: &mut G, steps: &mut
         files.now files.now log.old log.new steps.old steps.new result }
     ensures unread { result ≢ Ended.ReadFault }
     ensures board_fault { result ≡ Ended.BoardFault → Rose (G.faults log.old) (G.faults log.new) }
+    ensures has { MayHave (Some Call.Show) (status_of result) }
     ensures later { G.faults log.old ≤ G.faults log.new }
     ensures looks { OnlyLooks (board_of G.LogBoard) log.old log.new (status_of result) }
     ensures steps { steps.new ≤ steps.old + 770 }
@@ -118,16 +119,17 @@ fn carry_out<F: Files, G: LogBoard<L>, L: Ledger>(
     log: &mut G,
     steps: &mut Steps<L>,
 ) -> Ended
-    ensures comes { F.tells → G.tells_image → Comes F.Files (board_of G.LogBoard) call
+    ensures comes { known_of call F.tells G.tells_image → Comes F.Files (board_of G.LogBoard) call
         files.old files.new log.old log.new steps.old steps.new result }
     ensures read_fault { result ≡ Ended.ReadFault → Rose (F.faults files.old 1) (F.faults files.new 1) }
     ensures board_fault { result ≡ Ended.BoardFault → Rose (G.faults log.old) (G.faults log.new) }
+    ensures has { MayHave call (status_of result) }
     ensures later { G.faults log.old ≤ G.faults log.new }
     ensures looks { WritesNothing call (status_of result)
         → OnlyLooks (board_of G.LogBoard) log.old log.new (status_of result) }
     ensures untaken { WritesNothing call (status_of result) → files.new ≡ files.old }
     ensures others { (word : ℕ) → word ≢ 1 → F.rest files.new word ≡ F.rest files.old word }
-    ensures steps { call ≢ Some Call.File → steps.new ≤ steps.old + 770 }
+    ensures steps { AreFew call steps.old (steps.new + 1) }
 {
     match call {
         Some(Call::File) => file(files, log, steps),
@@ -169,12 +171,13 @@ fn finish<G: LogBoard<L>, L: Ledger>(ended: Ended, log: &mut G, steps: &mut Step
 /// | 2 | `BAD LOG s` | exactly: slot s is the lowest that is open and holds no record of its own |
 /// | 3 | `BROKEN LOG` | exactly: no slot is bad, and the log stands for no list of receipts |
 /// | 4 | `OTHER TAXI j` | exactly: the roll's receipt j is the first of another taxi; those before it are filed |
-/// | 5 | `ROLL TOO LONG` | exactly: 2^40 bytes of the roll were taken, and its end wasn't told |
+/// | 5 | `ROLL TOO LONG` | exactly: 2^40 bytes of the roll were taken, and its end wasn't told; but 4 comes first |
 /// | 7 | `READ FAULT` | only where the roll's count of faults rose; what was taken is filed |
 /// | 8 | none | only where the board's count of faults rose |
 ///
-/// The words are looked at before the log, and the log before the roll. The words, the statuses and the
-/// lines are this project's own.
+/// The words are looked at before the log, and the log before the roll. Where a receipt in 2^40 bytes of the roll
+/// is of another taxi, the last in them too, the status is 4. The words, the statuses and the lines are this
+/// project's own.
 pub fn keep_log<F: Files, G: LogBoard<L>, L: Ledger>(
     words: &[String],
     files: &mut F,
@@ -185,21 +188,23 @@ pub fn keep_log<F: Files, G: LogBoard<L>, L: Ledger>(
     // opening sync on, the last 256 or 255 of the found list with some first ones of the filed behind it; a cut
     // before that sync has succeeded leaves what it might have left before the call. In the end all that is filed
     // stands behind the list.
-    ensures call { F.tells → G.tells_image → IsCall F.Files (board_of G.LogBoard) (call_of (map string_bytes words.now))
+    ensures call { known_of (call_of (map string_bytes words.now)) F.tells G.tells_image
+        → IsCall F.Files (board_of G.LogBoard) (call_of (map string_bytes words.now))
         files.old files.new log.old log.new steps.old steps.new result }
 
     // After status 0, 4 or 5 filing the roll again appends nothing, however much of it is read then.
     ensures again { F.tells → G.tells_image → call_of (map string_bytes words.now) ≡ Some Call.File
         → (result ≡ 0) ⊎ ((result ≡ 4) ⊎ (result ≡ 5)) → AppendsNothing (G.image log.new) (F.rest files.old 1) }
 
-    // A log that is read, a roll below 2^40 bytes of one taxi, which is the newest record's, and no fault give 0.
-    ensures complete { F.tells → G.tells_image → (command : Call) (records : List Record)
-        → call_of (map string_bytes words.now) ≡ Some command → StandsFor records (G.image log.old)
-        → length (F.rest files.old 1) < roll_limit → IsOneTaxi (F.rest files.old 1) (newest_of records)
+    // A log that is read, a roll that is fit for the command, and no fault give 0.
+    ensures complete { known_of (call_of (map string_bytes words.now)) F.tells G.tells_image
+        → (command : Call) (records : List Record) → call_of (map string_bytes words.now) ≡ Some command
+        → StandsFor records (G.image log.old) → IsFit command (F.rest files.old 1) (newest_of records)
         → ¬ Rose (F.faults files.old 1) (F.faults files.new 1) → ¬ Rose (G.faults log.old) (G.faults log.new)
         → result ≡ 0 }
 
-    // Each of the faults of the outside has its cause, whatever is told.
+    // Each status is one of the command's, and each of the faults of the outside has its cause, whatever is told.
+    ensures has { MayHave (call_of (map string_bytes words.now)) result }
     ensures read_fault { result ≡ 7 → Rose (F.faults files.old 1) (F.faults files.new 1) }
     ensures board_fault { result ≡ 8 → Rose (G.faults log.old) (G.faults log.new) }
 
@@ -209,8 +214,8 @@ pub fn keep_log<F: Files, G: LogBoard<L>, L: Ledger>(
     ensures untaken { WritesNothing (call_of (map string_bytes words.now)) result → files.new ≡ files.old }
     ensures others { (word : ℕ) → word ≢ 1 → F.rest files.new word ≡ F.rest files.old word }
 
-    // `show` takes at most 771 steps, and refused words 1. `file` is bounded by `call`.
-    ensures steps { call_of (map string_bytes words.now) ≢ Some Call.File → steps.new ≤ steps.old + 771 }
+    // `show` takes at most 771 steps, and refused words 1. `file` is bounded by `call`, over files and a log that tell.
+    ensures steps { AreFew (call_of (map string_bytes words.now)) steps.old steps.new }
 {
     let ended = carry_out(call_in(words), files, log, steps);
     finish(ended, log, steps)

@@ -1,7 +1,8 @@
 //! Reads the receipts of a roll from its file, piece by piece.
-ghost use Rattle.std.specs.Prelude.{◌≡◌, ◌≢◌, ℕ, ◌+◌, ◌-◌, ◌<◌, ◌≤◌, ◌++◌, [], ◌∷◌, List, length, take, drop, true, is_some, None, Some, Ok, IfOk, IfErr, OnErr, OnOk, IfSome, IfNone, option_to_list};
+ghost use Rattle.std.specs.Prelude.{◌≡◌, ◌≢◌, ℕ, ◌+◌, ◌-◌, ◌<◌, ◌≤◌, ◌++◌, [], ◌∷◌, List, length, take, drop, true, is_some, None, Some, Ok, Err, IfOk, IfErr, OnErr, OnOk, IfSome, IfNone, option_to_list};
 ghost use Rattle.outside.specs.Faults.{HasCause, Rose};
-ghost use Rattle.hiring_log.specs.Reading.{GoesOn, HasRead, roll_limit};
+ghost use Rattle.hiring_log.specs.declared.roll.RollEnd.{RollEnd};
+ghost use Rattle.hiring_log.specs.Reading.{GoesOn, HasRead, IsOver, roll_limit};
 ghost use Rattle.hiring_log.specs.Record.{IsRecord};
 
 use crate::log_record::LogRecord;
@@ -79,7 +80,9 @@ impl Roll {
             → IfOk result (λ r. GoesOn self.old self.new (F.rest files.old word) (F.rest files.new word) (r ∷ [])) }
         ensures over { F.tells
             → OnErr result (GoesOn self.old self.new (F.rest files.old word) (F.rest files.new word) []) }
-        ensures end { IfErr result (λ end. (self.new.end ≡ Some end) × (self.new.ahead ≡ [])) }
+        ensures end { IfErr result (IsOver self.new) }
+        ensures again { (end : RollEnd) → IsOver self.old end
+            → (result ≡ Err end) × (self.new ≡ self.old) × (files.new ≡ files.old) }
         ensures fewer { OnOk result (length self.new.ahead + self.new.left < length self.old.ahead + self.old.left) }
         ensures fault { self.new.end ≡ Some RollEnd.ReadFault → self.old.end ≢ Some RollEnd.ReadFault
             → Rose (F.faults files.old word) (F.faults files.new word) }
@@ -105,6 +108,7 @@ impl Roll {
         ensures no_more { length self.new.ahead ≤ length self.old.ahead }
         ensures few { IfNone result (length self.new.ahead < 480) }
         ensures all { IfNone result (is_some self.new.end ≡ true → self.new.ahead ≡ []) }
+        ensures nothing { self.old.ahead ≡ [] → (result ≡ None) × (self.new ≡ self.old) }
         ensures left { self.new.left ≡ self.old.left }
         ensures end { self.new.end ≡ self.old.end }
     {

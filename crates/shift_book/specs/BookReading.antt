@@ -17,12 +17,12 @@ is_nowhere_less before after =
     && (nat_le before.hired_mm after.hired_mm && (nat_le before.hirings after.hirings
     && (nat_le before.supplements after.supplements && nat_le before.fare after.fare))))
 
--- none of the numbers is smaller than in the mark before, where there is one
+-- none of the numbers is smaller than in the mark before, if there is one
 abbrev pub is_grown : Option Signing → (after : Numbers) → Bool
 is_grown None after = true
 is_grown (Some before) after = is_nowhere_less before.numbers after
 
--- a mark signs on where nobody is on, or off where somebody is
+-- a mark signs on if nobody is on, or off if somebody is
 abbrev pub is_turn : (before : Option Signing) → Signing → Bool
 is_turn before mark = if mark.on then not (is_on before) else is_on before
 
@@ -31,7 +31,7 @@ abbrev pub may_follow : (now : Durable) (before : Option Signing) → Signing �
 may_follow now before mark =
     is_turn before mark && (is_grown before mark.numbers && is_nowhere_less mark.numbers (numbers_in now))
 
--- a mark is read where it may follow, and `rest` stands behind its line
+-- a mark is read if it may follow, and `rest` stands behind its line
 abbrev pub following : (now : Durable) (before : Option Signing) → Signing → (rest : List ℕ)
     → Option (Signing × List ℕ)
 following now before mark rest = if may_follow now before mark then Some (mark, rest) else None
@@ -41,7 +41,7 @@ unfoldable pub next_at : (now : Durable) (before : Option Signing) → List ℕ 
 next_at now before text =
     mark_at text >>= (λ mark. word_at (mark_text mark) text >>= (following now before mark))
 
--- reading goes on with what was found, and names the line as bad where nothing was
+-- reading goes on with what was found, and names the line as bad if nothing was
 abbrev pub or_bad : {A : Type 0} → (line : ℕ) → Option A → (A → Result (List Signing) BookFault)
     → Result (List Signing) BookFault
 or_bad line (Some x) on = on x

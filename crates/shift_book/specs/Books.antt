@@ -10,31 +10,31 @@ use Rattle.shift_book.specs.Marks.{Signing, mark_text, book_text}
 abbrev pub longest : ℕ
 longest = 1048576
 
--- a mark is next in a text where the text begins with the line of the mark, which may follow the one before it, and
+-- a mark is next in a text if the text begins with the line of the mark, which may follow the one before it, and
 -- `rest` stands behind the line
 pub record IsNext (now : Durable) (before : Option Signing) (text : List ℕ) (mark : Signing)
     (rest : List ℕ) : Type 0 where
   pub line : text ≡ mark_text mark ++ rest
   pub follows : MayFollow now before mark
 
--- marks begin a text where the text begins with their lines, each mark may follow the one before it, and `rest` stands
+-- marks begin a text if the text begins with their lines, each mark may follow the one before it, and `rest` stands
 -- behind the lines
 pub record Begins (now : Durable) (text : List ℕ) (marks : List Signing) (rest : List ℕ) : Type 0 where
   pub lines : text ≡ book_text marks ++ rest
   pub follow : FollowOn now None marks
 
--- a text breaks behind some marks where it goes on, but with no line of a mark that may follow
+-- a text breaks behind some marks if it goes on, but with no line of a mark that may follow
 pub record Breaks (now : Durable) (marks : List Signing) (rest : List ℕ) : Type 0 where
   pub more : rest ≢ []
   pub bad : (mark : Signing) (after : List ℕ) → ¬ IsNext now (last_of marks) rest mark after
 
--- a text is a book of marks where it has at most 1,048,576 bytes and is the lines of the marks, which may follow one
+-- a text is a book of marks if it has at most 1,048,576 bytes and is the lines of the marks, which may follow one
 -- another
 pub record IsBook (now : Durable) (text : List ℕ) (marks : List Signing) : Type 0 where
   pub few : length text ≤ longest
   pub begins : Begins now text marks []
 
--- a line of a text, counted from 1, is the first bad one where the lines before it are those of marks that may follow
+-- a line of a text, counted from 1, is the first bad one if the lines before it are those of marks that may follow
 -- one another, and it is no line of a mark that may follow them
 pub record IsFirstBad (now : Durable) (text : List ℕ) (line : ℕ) : Type 0 where
   pub few : length text ≤ longest

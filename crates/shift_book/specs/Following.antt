@@ -10,7 +10,7 @@ numbers_in now =
     numbers_of now.number now.totals.distance_mm now.totals.hired_mm now.totals.hirings
     now.totals.supplements now.totals.fare
 
--- six numbers are nowhere less than six before where none of them is smaller than before
+-- six numbers are nowhere less than six before if none of them is smaller than before
 pub record IsNowhereLess (before after : Numbers) : Type 0 where
   pub number : before.number ≤ after.number
   pub distance : before.distance_mm ≤ after.distance_mm
@@ -19,7 +19,7 @@ pub record IsNowhereLess (before after : Numbers) : Type 0 where
   pub supplements : before.supplements ≤ after.supplements
   pub fare : before.fare ≤ after.fare
 
--- numbers fit their fields where the number and the hirings are below 2^64, and the others below 2^128
+-- numbers fit their fields if the number and the hirings are below 2^64, and the others below 2^128
 pub record Fit (numbers : Numbers) : Type 0 where
   pub number : numbers.number < 2 ^ 64
   pub distance : numbers.distance_mm < 2 ^ 128
@@ -33,8 +33,8 @@ abbrev pub is_on : Option Signing → Bool
 is_on None = false
 is_on (Some mark) = mark.on
 
--- a mark may follow the mark before it, or begin a book: it has a driver where it signs on and none where it signs off,
--- it signs on where nobody is on and off where somebody is, and none of its numbers is smaller than in the mark before,
+-- a mark may follow the mark before it, or begin a book: it has a driver if it signs on and none if it signs off,
+-- it signs on if nobody is on and off if somebody is, and none of its numbers is smaller than in the mark before,
 -- or greater than in the store
 pub record MayFollow (now : Durable) (before : Option Signing) (mark : Signing) : Type 0 where
   pub driver : HasDriver mark.on mark.driver
@@ -42,11 +42,11 @@ pub record MayFollow (now : Durable) (before : Option Signing) (mark : Signing) 
   pub grown : IfSome before (λ mark_before. IsNowhereLess mark_before.numbers mark.numbers)
   pub within : IsNowhereLess mark.numbers (numbers_in now)
 
--- marks follow on where each may follow the one before it
+-- marks follow on if each may follow the one before it
 abbrev pub FollowOn : Durable → (before : Option Signing) → List Signing → Type 0
 FollowOn now before [] = ⊤
 FollowOn now before (mark ∷ marks) = MayFollow now before mark × FollowOn now (Some mark) marks
 
--- the last of some marks is the one behind all others, and there is none where there are no marks
+-- the last of some marks is the one behind all others, and there is none if there are no marks
 abbrev pub last_of : List Signing → Option Signing
 last_of marks = slice_get marks (length marks - 1)

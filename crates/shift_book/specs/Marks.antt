@@ -27,11 +27,11 @@ pub record Signing : Type 0 where
 abbrev pub is_driver_character : ℕ → Bool
 is_driver_character c = (nat_le 65 c && nat_le c 90) || ((nat_le 48 c && nat_le c 57) || (c == 45))
 
--- bytes pass a test where every one of them does
+-- bytes pass a test if every one of them does
 abbrev pub PassAll : (ℕ → Bool) → List ℕ → Type 0
 PassAll test bytes = AllByRecursion (λ c. test c ≡ true) bytes
 
--- a text is a driver where it has 1 to 16 characters of drivers and no others
+-- a text is a driver if it has 1 to 16 characters of drivers and no others
 pub record IsDriver (driver : List ℕ) : Type 0 where
   pub some : 1 ≤ length driver
   pub few : length driver ≤ 16

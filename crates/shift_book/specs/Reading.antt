@@ -8,7 +8,7 @@ use Rattle.taxi_units.specs.Reading.{◌>>=◌, word_at}
 use Rattle.shift_book.specs.declared.numbers.Numbers.{Numbers}
 use Rattle.shift_book.specs.Marks.{Signing, is_driver_character, numbers_of}
 
--- digits make this number, where it is below 2^128
+-- digits make this number, if it is below 2^128
 abbrev pub value_below : List ℕ → Option ℕ
 value_below digits = if nat_lt (digits_value 10 digits) (2 ^ 128) then Some (digits_value 10 digits) else None
 
@@ -32,7 +32,7 @@ numbers_at text =
     >>= (λ four. amount_at four.1 >>= (λ five. amount_at five.1
     >>= (λ six. Some (numbers_of one.0 two.0 three.0 four.0 five.0 six.0)))))))
 
--- the first `count` characters are a driver where they are 1 to 16, and this text stands behind them
+-- the first `count` characters are a driver if they are 1 to 16, and this text stands behind them
 abbrev pub counted_driver : ℕ → List ℕ → Option (List ℕ × List ℕ)
 counted_driver count text =
     if (count == 0) || nat_lt 16 count then None else Some (take count text, drop count text)
@@ -41,7 +41,7 @@ counted_driver count text =
 unfoldable pub driver_at : List ℕ → Option (List ℕ × List ℕ)
 driver_at text = counted_driver (prefix_len is_driver_character text) text
 
--- a driver that was read is the whole word where nothing stands behind it
+-- a driver that was read is the whole word if nothing stands behind it
 abbrev pub alone : List ℕ × List ℕ → Option (List ℕ)
 alone (driver, []) = Some driver
 alone (driver, c ∷ cs) = None
@@ -62,7 +62,7 @@ off_at text =
     word_at (codes "OFF") text >>= (λ rest. numbers_at rest
     >>= (λ numbers. Some (record { driver = []; on = false; numbers = numbers })))
 
--- a mark signs on where the word ON was found, and off otherwise
+-- a mark signs on if the word ON was found, and off otherwise
 abbrev pub mark_behind : Option (List ℕ) → List ℕ → Option Signing
 mark_behind (Some rest) text = on_at rest
 mark_behind None text = off_at text

@@ -49,7 +49,7 @@ report_text decimals now marks =
     ++ ((codes "UNSIGNED" ++ growth_text decimals (unsigned_in now marks))
     ++ (codes "GROWTH" ++ growth_text decimals (growth_in now marks))))
 
--- a text is the report of a book where it has a line for each shift, one for each driver, one for the growth while
+-- a text is the report of a book if it has a line for each shift, one for each driver, one for the growth while
 -- nobody was on, and one for all growth; the shifts and the growth while nobody was on add up to all growth, and so do
 -- the drivers' sums and that growth
 pub record IsReport (decimals : ℕ) (now : Numbers) (marks : List Signing) (report : List ℕ) : Type 0 where

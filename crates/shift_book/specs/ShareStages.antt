@@ -16,7 +16,7 @@ abbrev pub Rise : (now : Numbers) → List Signing → Type 0
 Rise now [] = ⊤
 Rise now (mark ∷ marks) = IsNowhereLess mark.numbers (next_point now marks) × Rise now marks
 
--- a driver has this sum so far, and nothing where the sums don't have the driver
+-- a driver has this sum so far, and nothing if the sums don't have the driver
 abbrev pub sum_so_far : Driver → List (Driver × Numbers) → Numbers
 sum_so_far driver sums = unwrap_or (lookup (is_at (driver_cmp driver)) sums) nothing
 

@@ -48,7 +48,7 @@ plus a b =
     numbers_of (a.number + b.number) (a.distance_mm + b.distance_mm) (a.hired_mm + b.hired_mm) (a.hirings + b.hirings)
     (a.supplements + b.supplements) (a.fare + b.fare)
 
--- the point behind a mark is the next mark, or the store as it is where no mark follows
+-- the point behind a mark is the next mark, or the store as it is if no mark follows
 abbrev pub next_point : (now : Numbers) → List Signing → Numbers
 next_point now [] = now
 next_point now (mark ∷ marks) = mark.numbers
@@ -58,8 +58,8 @@ abbrev pub begun_by : Signing → (next : Numbers) → List Shift
 begun_by mark next =
     if mark.on then record { driver = record { items = mark.driver }; growth = grown mark.numbers next } ∷ [] else []
 
--- the growth behind a mark while nobody was on is what has grown up to the next point where the mark signs off, and
--- nothing where it signs on
+-- the growth behind a mark while nobody was on is what has grown up to the next point if the mark signs off, and
+-- nothing if it signs on
 abbrev pub free_behind : Signing → (next : Numbers) → Numbers
 free_behind mark next = if mark.on then nothing else grown mark.numbers next
 
@@ -73,7 +73,7 @@ abbrev pub unsigned_in : (now : Numbers) → List Signing → Numbers
 unsigned_in now [] = nothing
 unsigned_in now (mark ∷ marks) = plus (free_behind mark (next_point now marks)) (unsigned_in now marks)
 
--- the growth of a book is what has grown from its first mark to the store as it is, which is nothing where the book has
+-- the growth of a book is what has grown from its first mark to the store as it is, which is nothing if the book has
 -- no marks
 abbrev pub growth_in : (now : Numbers) → List Signing → Numbers
 growth_in now [] = nothing
@@ -87,7 +87,7 @@ Driver = ArrayVec ℕ
 abbrev pub driver_cmp : Driver → Driver → Ordering
 driver_cmp a b = slice_cmp nat_cmp a.items b.items
 
--- the test `is_of` is true where a shift is a driver's, by the same name
+-- the test `is_of` is true if a shift is a driver's, by the same name
 abbrev pub is_of : Driver → Shift → Bool
 is_of driver shift = is_eq (driver_cmp shift.driver driver)
 
@@ -95,7 +95,7 @@ is_of driver shift = is_eq (driver_cmp shift.driver driver)
 abbrev pub gives : Driver → Column → Shift → ℕ
 gives driver column shift = if is_of driver shift then at column shift.growth else 0
 
--- the sum for a driver in a column is what the sums have for the driver there, and 0 where they don't have the driver
+-- the sum for a driver in a column is what the sums have for the driver there, and 0 if they don't have the driver
 abbrev pub sum_for : Driver → Column → List (Driver × Numbers) → ℕ
 sum_for driver column sums = unwrap_or (option_map (at column) (lookup (is_at (driver_cmp driver)) sums)) 0
 

@@ -1,28 +1,28 @@
 -- What a store of a body at place 0 means for the durable state.
-use Rattle.std.proofs.Common.{◌≡◌, ◌≤◌, Some, sym, subst, arith}
+use Rattle.std.proofs.Common.{◌≡◌, Some, subst}
 use Rattle.outside.specs.declared.board.Board.{Ghosts}
 use Rattle.slot_store.specs.declared.pair.Pair.{Pair}
 use Rattle.slot_store.specs.declared.pair.Place.{Place}
 use Rattle.slot_store.specs.Slots.{IsSettled, ShowsEither}
-use Rattle.slot_store.specs.Stages.{IsPair, spare_at}
-use Rattle.slot_store.specs.Writes.{LeavesThroughout}
-use Rattle.slot_store.proofs.Laws.{whole_leaves}
+use Rattle.slot_store.specs.Stages.{spare_at}
+use Rattle.slot_store.specs.Writes.{LeavesThroughout, WritesIn}
 use Rattle.totaliser_store.specs.declared.durable.Durable.{Durable}
 use Rattle.totaliser_store.specs.Reading.{reads}
-use Rattle.totaliser_store.specs.Stored.{number_of, HasEither, KeepsState, LeavesEither}
+use Rattle.totaliser_store.specs.Stored.{number_of, written_at, HasEither, KeepsState, LeavesEither}
 
 abbrev pair_at : Place → Pair
 pair_at place = record { at = 0; latest = Some place }
 
 module _ {D L : Type 0} (B : Ghosts D L) where
-  -- of the whole pair, with the state that was stored
-  pub leaves_either : (pair : Pair) (place : Place) (durable body state : Durable) (old new : D) → pair ≡ pair_at place → place.slot ≤ 1 → body ≡ state
-      → LeavesThroughout B (spare_at pair) 512 (ShowsEither reads number_of pair.at (Some durable) body) old new → LeavesEither B durable state old new
-  leaves_either pair place durable body state old new at slot same run =
-      let fits : IsPair pair = subst IsPair (sym at) (record { at_in = omega arith; slot_in = slot }) in
-      subst (λ (s : Durable). LeavesThroughout B 0 1024 (HasEither durable s) old new) same
-      (subst (λ (p : Pair). LeavesThroughout B p.at 1024 (ShowsEither reads number_of p.at (Some durable) body) old new) at
-      (whole_leaves B pair (ShowsEither reads number_of pair.at (Some durable) body) old new fits run))
+  -- with the state that was stored
+  pub leaves_either : (pair : Pair) (place : Place) (durable body state : Durable) (old new : D) → pair ≡ pair_at place → body ≡ state
+      → LeavesThroughout B (spare_at pair) 512 (ShowsEither reads number_of pair.at (Some durable) body) old new → LeavesEither B place durable state old new
+  leaves_either pair place durable body state old new at same run =
+      subst (λ (s : Durable). LeavesThroughout B (written_at place) 512 (HasEither durable s) old new) same
+      (subst (λ (p : Pair). LeavesThroughout B (spare_at p) 512 (ShowsEither reads number_of p.at (Some durable) body) old new) at run)
+
+  pub writes_other : (pair : Pair) (place : Place) (old new : D) → pair ≡ pair_at place → WritesIn B (spare_at pair) 512 old new → WritesIn B (written_at place) 512 old new
+  writes_other pair place old new at writes = subst (λ (p : Pair). WritesIn B (spare_at p) 512 old new) at writes
 
   pub keeps_state : (pair : Pair) (place new_place : Place) (state : Durable) (board : D) → pair ≡ pair_at place
       → IsSettled reads number_of pair.at new_place (B.image board) (B.in_flight board) state → KeepsState B new_place board state

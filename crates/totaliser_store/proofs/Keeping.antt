@@ -40,19 +40,19 @@ closing_shares layout totals entry shares closing low high =
         shares.fare,
         ap (λ (l : List Share). sum_by (λ s. s.fare) l) grown,
         sum_grown (λ s. s.fare) totals.shares place share entry.fare within refl,
-        ap {B = ℕ} (λ (b : Bool). if b then entry.fare else 0) closing,
       );
       unshared = λ one. absurd (omega (arith, one));
     }
 
 -- and with one of roaming
-roaming_shares : (layout : ℕ) (totals : Totals) (entry : Entry) → AreShares layout totals → closes entry ≡ false → AreShares 2 (totals_with totals entry)
-roaming_shares layout totals entry shares roaming =
+roaming_shares : (layout : ℕ) (totals : Totals) (entry : Entry) → AreShares layout totals → closes entry ≡ false → entry.fare ≡ 0
+    → AreShares 2 (totals_with totals entry)
+roaming_shares layout totals entry shares roaming no_fare =
     let same = shares_apart entry 1 totals.shares (λ i within. roams entry (1 + i) roaming) in
     record {
       nine = length_same entry 1 totals.shares ∙ shares.nine;
       hirings = omega (arith, shares.hirings, ap (λ (l : List Share). sum_by (λ s. s.hirings) l) same, ap {B = ℕ} (λ (b : Bool). if b then 1 else 0) roaming);
-      fare = omega (arith, shares.fare, ap (λ (l : List Share). sum_by (λ s. s.fare) l) same, ap {B = ℕ} (λ (b : Bool). if b then entry.fare else 0) roaming);
+      fare = omega (arith, shares.fare, ap (λ (l : List Share). sum_by (λ s. s.fare) l) same, no_fare);
       unshared = λ one. absurd (omega (arith, one));
     }
 
@@ -61,7 +61,7 @@ shares_kept layout totals entry shares made = by (closes entry) refl
   where
     by : (b : Bool) → closes entry ≡ b → AreShares 2 (totals_with totals entry)
     by true closing = closing_shares layout totals entry shares closing (made.position closing).0 (made.position closing).1
-    by false roaming = roaming_shares layout totals entry shares roaming
+    by false roaming = roaming_shares layout totals entry shares roaming (made.roaming roaming)
 
 -- a held trip stays in its ranges beside a greater number
 trip_later : (number : ℕ) (trip : Trip) → IsTrip number trip → IsTrip (number + 1) trip
@@ -96,10 +96,10 @@ pub entry_keeps : (durable : Durable) (entry : Entry) → IsDurable durable → 
 entry_keeps durable entry valid room made held_room = record {
   number = (omega arith, omega (arith, room));
   distance = omega (arith, valid.distance, made.distance);
-  hired = omega (arith, valid.hired, at_most (closes entry) entry.hired_mm);
+  hired = omega (arith, valid.hired);
   hirings = omega (arith, valid.hirings, at_most (closes entry) 1);
-  supplements = omega (arith, valid.supplements, made.supplements, at_most (closes entry) entry.supplements);
-  fare = omega (arith, valid.fare, made.fare, at_most (closes entry) entry.fare);
+  supplements = omega (arith, valid.supplements, made.supplements);
+  fare = omega (arith, valid.fare, made.fare);
   held = held_kept durable.number durable.hold (closes entry) valid.held held_room;
   shares = shares_kept durable.layout durable.totals entry valid.shares made;
   layout = inr refl;

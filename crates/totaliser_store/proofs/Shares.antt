@@ -6,7 +6,7 @@ use Rattle.std.proofs.lemmas.List.Elements.{All-get_or}
 use Rattle.totaliser_store.specs.declared.entry.Entry.{Entry}
 use Rattle.totaliser_store.specs.declared.totals.Share.{Share}
 use Rattle.totaliser_store.specs.declared.totals.Totals.{Totals}
-use Rattle.totaliser_store.specs.Entries.{closes, closes_at, distance_of, no_share, share_with, shares_with, totals_with}
+use Rattle.totaliser_store.specs.Entries.{closes, closes_at, no_share, share_with, shares_with, totals_with}
 use Rattle.totaliser_store.specs.Choices.{agree, differ}
 
 abbrev share_of : ℕ → ℕ → Share
@@ -85,20 +85,17 @@ pub grown_fits : (P : Share → Type 0) (entry : Entry) (shares : List Share) (p
 grown_fits P entry shares place closing position within all =
     subst P (grown_at entry shares place closing position within) (All-get_or P (shares_with entry 1 shares) place no_share (omega (arith, within, length_same entry 1 shares)) all)
 
-abbrev totals_of : Totals → ℕ → ℕ → ℕ → ℕ → List Share → Totals
-totals_of totals hired hirings supplements fare shares =
-    record { distance_mm = totals.distance_mm; hired_mm = hired; hirings = hirings; supplements = supplements; fare = fare; shares = shares; before = totals.before }
+abbrev hirings_and_shares : Totals → ℕ → List Share → Totals
+hirings_and_shares totals hirings shares = record totals { hirings = hirings; shares = shares }
 
 nothing_more : (n amount : ℕ) (b : Bool) → b ≡ false → n ≡ n + (if b then amount else 0)
 nothing_more n amount b none = rw none (omega arith)
 
--- roaming adds its distance alone
-pub roamed : (totals : Totals) (entry : Entry) → closes entry ≡ false → record totals { distance_mm = totals.distance_mm + distance_of entry } ≡ totals_with totals entry
+-- roaming leaves hirings and shares
+pub roamed : (totals : Totals) (entry : Entry) → closes entry ≡ false
+    → record (totals_with totals entry) { hirings = totals.hirings; shares = totals.shares } ≡ totals_with totals entry
 roamed totals entry roaming =
     let grown = totals_with totals entry in
     let shares = sym (shares_apart entry 1 totals.shares (λ i within. roams entry (1 + i) roaming)) in
-    ap (λ (n : ℕ). totals_of grown n totals.hirings totals.supplements totals.fare totals.shares) (nothing_more totals.hired_mm entry.hired_mm (closes entry) roaming)
-    ∙ ap (λ (n : ℕ). totals_of grown grown.hired_mm n totals.supplements totals.fare totals.shares) (nothing_more totals.hirings 1 (closes entry) roaming)
-    ∙ ap (λ (n : ℕ). totals_of grown grown.hired_mm grown.hirings n totals.fare totals.shares) (nothing_more totals.supplements entry.supplements (closes entry) roaming)
-    ∙ ap (λ (n : ℕ). totals_of grown grown.hired_mm grown.hirings grown.supplements n totals.shares) (nothing_more totals.fare entry.fare (closes entry) roaming)
-    ∙ ap (λ (l : List Share). totals_of grown grown.hired_mm grown.hirings grown.supplements grown.fare l) shares
+    ap (λ (n : ℕ). hirings_and_shares grown n totals.shares) (nothing_more totals.hirings 1 (closes entry) roaming)
+    ∙ ap (λ (l : List Share). hirings_and_shares grown grown.hirings l) shares

@@ -25,21 +25,21 @@ closes_at position entry = closes entry && entry.position == position
 abbrev pub distance_of : Entry → ℕ
 distance_of entry = entry.roam_mm + entry.hired_mm
 
--- the hired distance of an entry is what was driven when hired, and is nothing for roaming
+-- the hired distance of an entry is what was driven when hired, in millimetres
 abbrev pub hired_of : Entry → ℕ
-hired_of entry = if closes entry then entry.hired_mm else 0
+hired_of entry = entry.hired_mm
 
 -- an entry counts as one hiring where it closes one, and as none otherwise
 abbrev pub hirings_of : Entry → ℕ
 hirings_of entry = if closes entry then 1 else 0
 
--- the supplements of an entry are what was charged for them where it closes a hiring, and nothing otherwise
+-- the supplements of an entry are what was charged for them
 abbrev pub supplements_of : Entry → ℕ
-supplements_of entry = if closes entry then entry.supplements else 0
+supplements_of entry = entry.supplements
 
--- the fare of an entry is what was charged as fare where it closes a hiring, and nothing otherwise
+-- the fare of an entry is what was charged as fare
 abbrev pub fare_of : Entry → ℕ
-fare_of entry = if closes entry then entry.fare else 0
+fare_of entry = entry.fare
 
 -- an entry counts as one hiring at a tariff position where it closes one there, and as none otherwise
 abbrev pub hirings_at : ℕ → Entry → ℕ

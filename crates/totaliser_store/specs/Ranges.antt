@@ -55,12 +55,14 @@ pub record IsDurable (durable : Durable) : Type 0 where
   pub shares : AreShares durable.layout durable.totals
   pub layout : (durable.layout ≡ 1) ⊎ (durable.layout ≡ 2)
 
--- an entry is in its ranges where each of its numbers is one that the meter can make
+-- an entry is in its ranges where each of its numbers is one that the meter can make; roaming has no fare, since none
+-- of the shares would have it
 pub record IsEntry (entry : Entry) : Type 0 where
   pub distance : distance_of entry ≤ 10 ^ 22
   pub fare : entry.fare ≤ largest_amount
   pub supplements : entry.supplements ≤ 1584000000
   pub position : closes entry ≡ true → (1 ≤ entry.position) × (entry.position ≤ 9)
+  pub roaming : closes entry ≡ false → entry.fare ≡ 0
 
 -- a state has room for an entry where the entry closes a hiring, or no trip is held, or the number leaves room for the
 -- entry that will close the held trip

@@ -1,9 +1,9 @@
 -- Rules: what a board's store has of durable states. The pair of totals begins at place 0.
-use Rattle.std.specs.Prelude.{ℕ, List, Some}
+use Rattle.std.specs.Prelude.{ℕ, ◌-◌, true, List, Some}
 use Rattle.outside.specs.declared.board.Board.{Ghosts}
 use Rattle.slot_store.specs.declared.pair.Place.{Place}
-use Rattle.slot_store.specs.Sizes.{pair_size}
-use Rattle.slot_store.specs.Slots.{IsSettled, StandsFor, ShowsEither}
+use Rattle.slot_store.specs.Sizes.{slot_size}
+use Rattle.slot_store.specs.Slots.{slot_at, IsSettled, StandsFor, ShowsEither}
 use Rattle.slot_store.specs.Writes.{LeavesThroughout}
 use Rattle.totaliser_store.specs.declared.durable.Durable.{Durable}
 pub use Rattle.totaliser_store.specs.Reading.{reads}
@@ -21,12 +21,21 @@ HasState image durable = StandsFor reads number_of 0 image durable
 abbrev pub HasEither : Durable → Durable → List ℕ → Type 0
 HasEither old new image = ShowsEither reads number_of 0 (Some old) new image
 
+-- a commit over the state at a place writes the slot that begins here, which is the one that hasn't that state
+abbrev pub written_at : Place → ℕ
+written_at place = slot_at 0 (1 - place.slot)
+
+-- the place of the state after a commit is in the slot that was written, beside the open one of the state before
+abbrev pub place_after : Place → Place
+place_after place = record { slot = 1 - place.slot; other_open = true }
+
 module _ {D L : Type 0} (B : Ghosts D L) where
   -- a board keeps a state at a place where its pair of totals is settled there with that state
   abbrev pub KeepsState : Place → D → Durable → Type 0
   KeepsState place board durable = IsSettled reads number_of 0 place (B.image board) (B.in_flight board) durable
 
-  -- a run leaves either of two states where a cut at each of its moments leaves an image of the one or the other, and
-  -- outside the pair of totals what it might have left at the old board
-  abbrev pub LeavesEither : Durable → Durable → D → D → Type 0
-  LeavesEither before after old new = LeavesThroughout B 0 pair_size (HasEither before after) old new
+  -- a run over the state at a place leaves either of two states where a cut at each of its moments leaves an image of
+  -- the one or the other, and outside the slot that is written what it might have left at the old board
+  abbrev pub LeavesEither : Place → Durable → Durable → D → D → Type 0
+  LeavesEither place before after old new =
+      LeavesThroughout B (written_at place) slot_size (HasEither before after) old new

@@ -1,11 +1,11 @@
 //! The commit: a new state over the one that the store has.
 ghost use Rattle.std.specs.Prelude.{◌≡◌, ◌+◌, ◌≤◌, IfOk};
 ghost use Rattle.outside.specs.Faults.{HasCause};
-ghost use Rattle.slot_store.specs.Sizes.{pair_size};
+ghost use Rattle.slot_store.specs.Sizes.{slot_size};
 ghost use Rattle.slot_store.specs.Writes.{WritesIn};
 ghost use Rattle.totaliser_store.specs.Ranges.{IsDurable};
 ghost use Rattle.totaliser_store.specs.States.{after};
-ghost use Rattle.totaliser_store.specs.Stored.{KeepsState, LeavesEither};
+ghost use Rattle.totaliser_store.specs.Stored.{place_after, written_at, KeepsState, LeavesEither};
 
 use crate::{Change, Durable};
 use outside::{Board, Failed};
@@ -26,9 +26,10 @@ impl From<Failed> for DeviceFailed {
 }
 
 /// Commits a change of the state that the pair of totals has at a place, and answers the new state and
-/// its place. At each moment a cut of the power leaves the state before or the state after, and so
-/// does the board's own image, also where the answer is `DeviceFailed`; outside the pair of totals a
-/// cut leaves what it might have left at the start. Nothing is printed.
+/// its place, which is in the other slot. At each moment a cut of the power leaves the state before or
+/// the state after, and so does the board's own image, also where the answer is `DeviceFailed`;
+/// outside that other slot a cut leaves what it might have left at the start, so the slot with the
+/// state before stays as it was. Nothing is printed.
 ///
 /// `DeviceFailed` comes only where the board's count of faults rose; after it only a scan goes on.
 /// The ranges must hold after the commit.
@@ -43,11 +44,12 @@ pub fn commit<B: Board<L>, L: Ledger>(
     requires slot { place.slot ≤ 1 }
     requires settled { B.tells_image → KeepsState B.Board place board.old durable.now }
     ensures any_moment { B.tells_image
-        → LeavesEither B.Board durable.now (after durable.now commit.now) board.old board.new }
+        → LeavesEither B.Board place durable.now (after durable.now commit.now) board.old board.new }
     ensures settled { B.tells_image → IfOk result (λ answer. KeepsState B.Board answer.1 board.new answer.0) }
     ensures state { IfOk result (λ answer. answer.0 ≡ after durable.now commit.now) }
+    ensures place { IfOk result (λ answer. answer.1 ≡ place_after place) }
     ensures slot_in { IfOk result (λ answer. answer.1.slot ≤ 1) }
-    ensures beside { WritesIn B.Board 0 pair_size board.old board.new }
+    ensures beside { WritesIn B.Board (written_at place) slot_size board.old board.new }
     ensures cause { HasCause (B.faults board.old) (B.faults board.new) result }
     ensures steps { steps.new ≤ steps.old + 6 }
 {

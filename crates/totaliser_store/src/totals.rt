@@ -38,26 +38,25 @@ pub struct Totals {
 }
 
 impl Totals {
-    /// The totals with an entry more. Roaming adds its distance alone.
+    /// The totals with an entry more.
     pub(crate) fn with(&self, entry: &Entry) -> Totals
         requires { Fit (totals_with self.now entry.now) }
         ensures { result ≡ totals_with self.now entry.now }
     {
-        let distance_mm = self.distance_mm + (entry.roam_mm + entry.hired_mm);
-        if !entry.closes() {
-            return Totals {
-                distance_mm,
-                ..*self
-            };
-        }
-        Totals {
-            distance_mm,
+        let totals = Totals {
+            distance_mm: self.distance_mm + (entry.roam_mm + entry.hired_mm),
             hired_mm: self.hired_mm + entry.hired_mm,
-            hirings: self.hirings + 1,
             supplements: self.supplements + u128::from(entry.supplements),
             fare: self.fare + u128::from(entry.fare),
+            ..*self
+        };
+        if !entry.closes() {
+            return totals;
+        }
+        Totals {
+            hirings: self.hirings + 1,
             shares: shares_with(&self.shares, entry),
-            before: self.before,
+            ..totals
         }
     }
 }

@@ -9,3 +9,6 @@ returns-clause-at_end c = laws.stream_at_end
 
 pub returns-clause-unfinished : goal.returns-clause-unfinished
 returns-clause-unfinished c = laws.unfinished_streams
+
+pub returns-clause-bad : goal.returns-clause-bad
+returns-clause-bad c = laws.bad_streams

@@ -9,7 +9,7 @@ use Rattle.hiring_log.specs.declared.ending.Ended.{Ended}
 use Rattle.hiring_log.specs.declared.finding.FindFault.TheVariants.{LogFault}
 use Rattle.hiring_log.specs.declared.words.Call.TheVariants.{File}
 use Rattle.hiring_log.proofs.Comings.{comes_end, comes_failed, comes_unread}
-use Rattle.hiring_log.proofs.EndCases.{fault_writes, filing_no_board, filing_read, filing_writes, found_sync, unread_board, unread_no_read, unread_sync}
+use Rattle.hiring_log.proofs.EndCases.{fault_has, fault_writes, filing_files, filing_no_board, filing_read, filing_writes, found_sync, unread_board, unread_files, unread_no_read, unread_sync}
 use Rattle.hiring_log.proofs.Finishing.{looks_read}
 use Rattle.hiring_log.proofs.NewestFound.{same_fault}
 use Rattle.hiring_log.proofs.keep_log.file.Given as given
@@ -81,3 +81,14 @@ returns-in-Err-file_roll-clause-looks g c = λ writes. absurd (fault_writes writ
 
 pub returns-in-Err-file_roll-clause-untaken : goal.returns-in-Err-file_roll-clause-untaken
 returns-in-Err-file_roll-clause-untaken g c = λ writes. absurd (fault_writes writes)
+
+-- ---- the status
+
+pub returns-in-Err-clause-has : goal.returns-in-Err-clause-has
+returns-in-Err-clause-has g c = rw c.ended_unread.ensures (unread_files c.in-Err.fault)
+
+pub returns-in-Ok-file_roll-clause-has : goal.returns-in-Ok-file_roll-clause-has
+returns-in-Ok-file_roll-clause-has g c = rw c.ended_filing.ensures (filing_files c.in-Ok-file_roll.end)
+
+pub returns-in-Err-file_roll-clause-has : goal.returns-in-Err-file_roll-clause-has
+returns-in-Err-file_roll-clause-has g c = fault_has (Some File) 8 refl

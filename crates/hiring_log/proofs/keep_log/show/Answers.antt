@@ -9,7 +9,7 @@ use Rattle.hiring_log.specs.declared.finding.FindFault.TheVariants.{LogFault}
 use Rattle.hiring_log.specs.declared.words.Call.TheVariants.{Show}
 use Rattle.hiring_log.proofs.Comings.{comes_cut, comes_shown, comes_unread}
 use Rattle.hiring_log.proofs.Counted.{found_shown}
-use Rattle.hiring_log.proofs.EndCases.{found_same, unread_board, unread_no_read, unread_sync}
+use Rattle.hiring_log.proofs.EndCases.{found_same, unread_board, unread_no_read, unread_shows, unread_sync}
 use Rattle.hiring_log.proofs.Finishing.{looks_keeps, looks_read}
 use Rattle.hiring_log.proofs.NewestFound.{same_fault}
 use Rattle.hiring_log.proofs.keep_log.show.Goals as goal
@@ -67,3 +67,8 @@ returns-in-Err-show_records-clause-looks g c =
     let B = board_of g.G.LogBoard in
     looks_keeps B c.args.log.now c.find_tail.new.log c.show_records.new.log 8 (g.met.G.LogBoard.only_now c.find_tail.new.log) c.find_tail.ensures.reads
     (found_same B (IsAsHeld B c.args.log.now) c.args.log.now c.find_tail.new.log c.find_tail.result c.in-Ok.tail c.in-Ok.is c.find_tail.ensures.same) c.show_records.ensures.keeps
+
+-- ---- the status
+
+pub returns-in-Err-clause-has : goal.returns-in-Err-clause-has
+returns-in-Err-clause-has g c = rw c.ended_unread.ensures (unread_shows c.in-Err.fault)

@@ -1,7 +1,7 @@
 use Rattle.std.proofs.Common.{◌≡◌, ◌+◌, ◌-◌, ◌≤◌, Bool, List, ℕ, length, take, drop, is_some, option_to_list, ap, ◌∙◌, subst, arith, length-take}
 use Rattle.hiring_log.specs.Looking.{LooksTo}
 use Rattle.hiring_log.specs.Reading.{Place}
-use Rattle.hiring_log.proofs.Rolls.{ahead_after, fewer_looked, goes_looked}
+use Rattle.hiring_log.proofs.Rolls.{ahead_after, fewer_looked, goes_looked, nothing_looked}
 use Rattle.hiring_log.proofs.roll.Roll.find.Goals as goal
 
 pub returns-clause-goes : goal.returns-clause-goes
@@ -25,3 +25,14 @@ returns-clause-fewer c =
     let looks = subst (λ (t : List ℕ). LooksTo c.is_some-ended.result t n records) ahead c.look-count.ensures.looks in
     let fits : inside.from + n ≤ inside.to = omega (arith, looks.within, ap length ahead, length-take (inside.to - inside.from) (drop inside.from inside.window), c.self.invariant.0) in
     fewer_looked c.is_some-ended.result c.args.self.now.ahead _ n c.look-count.result.1 looks (ahead_after inside.from inside.to n inside.window fits ∙ ap (drop n) ahead)
+
+pub returns-clause-nothing : goal.returns-clause-nothing
+returns-clause-nothing c = λ none.
+    let n = c.look-count.result.0 in
+    let records = option_to_list c.look-count.result.1 in
+    let inside = c.self.inside in
+    let ahead : take (inside.to - inside.from) (drop inside.from inside.window) ≡ c.args.self.now.ahead = ap (λ (p : Place). p.ahead) c.self.view_is in
+    let looks = subst (λ (t : List ℕ). LooksTo c.is_some-ended.result t n records) ahead c.look-count.ensures.looks in
+    let fits : inside.from + n ≤ inside.to = omega (arith, looks.within, ap length ahead, length-take (inside.to - inside.from) (drop inside.from inside.window), c.self.invariant.0) in
+    nothing_looked c.is_some-ended.result c.args.self.now _ n c.look-count.result.1 looks (ahead_after inside.from inside.to n inside.window fits ∙ ap (drop n) ahead)
+    (ap (λ (p : Place). p.left) c.self.view_is) (ap (λ (p : Place). p.end) c.self.view_is) none

@@ -1,6 +1,11 @@
-use Rattle.std.proofs.Common.{[], ◌∷◌, sym, ◌∙◌}
+use Rattle.std.proofs.Common.{◌≡◌, [], ◌∷◌, Option, Some, None, ap, sym, ◌∙◌}
+use Rattle.hiring_log.specs.Reading.{Place}
+use Rattle.hiring_log.specs.Record.{Record}
 use Rattle.hiring_log.proofs.Rolls.{goes_further}
 use Rattle.hiring_log.proofs.roll.Roll.next.Goals as goal
+
+no_record : (record_found : Record) → ◌≡◌ {A = Option Record} (Some record_found) None → ⊥
+no_record record_found e = cc
 
 pub returns-in-Some-clause-found : goal.returns-in-Some-clause-found
 returns-in-Some-clause-found g c = λ told.
@@ -8,3 +13,9 @@ returns-in-Some-clause-found g c = λ told.
 
 pub returns-in-Some-clause-fault : goal.returns-in-Some-clause-fault
 returns-in-Some-clause-fault g c = λ is not. c.loop-record.invariant.fault (sym c.in-Some.ensures.end ∙ is) not
+
+pub returns-in-Some-clause-again : goal.returns-in-Some-clause-again
+returns-in-Some-clause-again g c = λ end over.
+    let still = c.loop-record.invariant.again end over in
+    let nothing = c.in-Some.ensures.nothing (ap (λ (p : Place). p.ahead) still.0 ∙ over.1) in
+    absurd (no_record c.in-Some.record nothing.0)
