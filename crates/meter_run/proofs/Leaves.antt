@@ -1,5 +1,5 @@
 -- One call of the board as a deed: a print, a commit, a scan.
-use Rattle.std.proofs.Common.{◌≡◌, inl, inr, ℕ, List, [], ◌∷◌, refl, sym, ap, subst}
+use Rattle.std.proofs.Common.{◌≡◌, ◌≤◌, inl, inr, ℕ, List, [], ◌∷◌, Some, refl, sym, ap, subst, arith}
 use Rattle.std.specs.Prelude.{◌⊎◌, get_or, length}
 use Rattle.std.specs.Option.{ForSome}
 use Rattle.outside.specs.Disk.{MayLeave, MayLeaveAmid, SameBut}
@@ -8,12 +8,14 @@ use Rattle.outside.specs.Runs.{KeepsStore, LeavesNow, LeavesOnly, MayHold}
 use Rattle.outside.specs.declared.board.Board.{Ghosts}
 use Rattle.outside.proofs.Laws.{begins_not, leaves_kept, leaves_wider}
 use Rattle.seal_store.specs.declared.seal.Seal.{Seal}
+use Rattle.slot_store.specs.Stages.{IsPair}
 use Rattle.slot_store.specs.Writes.{LeavesBeside, WritesIn}
+use Rattle.slot_store.specs.declared.pair.Pair.{Pair}
 use Rattle.slot_store.specs.declared.pair.Place.{Place}
-use Rattle.slot_store.proofs.Laws.{settled_stays}
+use Rattle.slot_store.proofs.Laws.{settled_stays, whole_leaves, whole_writes}
 use Rattle.tariff_compile.specs.Tables.{TableParts}
 use Rattle.totaliser_store.specs.Reading.{reads}
-use Rattle.totaliser_store.specs.Stored.{HasEither, KeepsState, LeavesEither, number_of}
+use Rattle.totaliser_store.specs.Stored.{HasEither, KeepsState, LeavesEither, number_of, written_at}
 use Rattle.totaliser_store.specs.declared.durable.Durable.{Durable}
 use Rattle.meter_states.specs.Fits.{Fits}
 use Rattle.meter_run.specs.Deeds.{Deed, after_deed, text_in}
@@ -21,6 +23,10 @@ use Rattle.meter_run.specs.OnStore.{Agrees, HasBeside, WritesTotals}
 use Rattle.meter_run.specs.PointLaws.{left_has}
 use Rattle.meter_run.specs.Points.{AtPoint, Holds, KeepsTo}
 use Rattle.meter_run.specs.declared.stored.Known.{Known}
+
+-- the pair of totals, whose latest body is at a place
+abbrev pair_at : Place → Pair
+pair_at place = record { at = 0; latest = Some place }
 
 -- a pair that was settled stays so on a board whose store is kept
 pub settled_kept : {D L : Type 0} (B : Ghosts D L) (place : Place) (d : Durable) (a b : D) → KeepsStore B a b → KeepsState B place a d → KeepsState B place b d
@@ -53,13 +59,17 @@ module _ {D L : Type 0} (B : Ghosts D L) where
     }) run;
   }
 
-  pub beside_commit : (d e : Durable) (a b : D) → WritesIn B 0 1024 a b → LeavesEither B d e a b → WritesTotals B a b
-  beside_commit d e a b writes run = record {
-    rest = writes.rest;
-    flight = writes.flight;
-    leaves = leaves_wider B (LeavesBeside (B.image a) (B.in_flight a) (B.printed a) 0 1024 (HasEither d e)) (λ i x. HasBeside B a i) a b
-        (λ i x left. record { bytes = left.beside.bytes; small = left.beside.small }) run.leaves;
-  }
+  pub beside_commit : (place : Place) (d e : Durable) (a b : D) → place.slot ≤ 1 → WritesIn B (written_at place) 512 a b → LeavesEither B place d e a b → WritesTotals B a b
+  beside_commit place d e a b low written either =
+      let fits : IsPair (pair_at place) = record { at_in = omega arith; slot_in = low } in
+      let writes = whole_writes B (pair_at place) a b fits written in
+      let run = whole_leaves B (pair_at place) (HasEither d e) a b fits either in
+      record {
+        rest = writes.rest;
+        flight = writes.flight;
+        leaves = leaves_wider B (LeavesBeside (B.image a) (B.in_flight a) (B.printed a) 0 1024 (HasEither d e)) (λ i x. HasBeside B a i) a b
+            (λ i x left. record { bytes = left.beside.bytes; small = left.beside.small }) run.leaves;
+      }
 
 module _ {D L : Type 0} (B : Ghosts D L) (tables : TableParts) (seal : Seal) (a b : D) (d : Durable) where
   -- a print is any deed with its text
@@ -84,10 +94,10 @@ module _ {D L : Type 0} (B : Ghosts D L) (tables : TableParts) (seal : Seal) (a 
   either_holds e deed i is fits fitting (inl was) = inl (record { has = was; fits = fits })
   either_holds e deed i is fits fitting (inr now) = inr (subst (λ (x : Durable). Holds tables i x) (sym is) (record { has = now; fits = fitting }))
 
-  pub commit_point : (e : Durable) (deed : Deed) → after_deed d deed ≡ e → ForSome d.hold (Fits tables) → ForSome e.hold (Fits tables) → LeavesEither B d e a b → B.printed b ≡ B.printed a
+  pub commit_point : (place : Place) (e : Durable) (deed : Deed) → after_deed d deed ≡ e → ForSome d.hold (Fits tables) → ForSome e.hold (Fits tables) → LeavesEither B place d e a b → B.printed b ≡ B.printed a
       → KeepsTo B tables seal a b d (deed ∷ [])
-  commit_point e deed is fits fitting run same = record {
-    leaves = leaves_wider B (LeavesBeside (B.image a) (B.in_flight a) (B.printed a) 0 1024 (HasEither d e)) (AtPoint tables seal B.tells_text d (B.printed a) (deed ∷ [])) a b
+  commit_point place e deed is fits fitting run same = record {
+    leaves = leaves_wider B (LeavesBeside (B.image a) (B.in_flight a) (B.printed a) (written_at place) 512 (HasEither d e)) (AtPoint tables seal B.tells_text d (B.printed a) (deed ∷ [])) a b
         (λ i x left. inl (record {
           holds = either_holds e deed i is fits fitting left.stands;
           begun = λ t. begins_not (B.printed a) x (text_in seal deed) left.beside.text;

@@ -2,6 +2,8 @@
 mod Committing
 -- what a point of a list of deeds says of an image that a cut leaves
 mod Cuts
+-- displays of a meter, by their texts
+mod Displays
 -- acts on a store, one after the other
 mod Doing
 -- a drive, from its first byte to where no more of it is read

@@ -54,7 +54,7 @@ stopped_fed old given rest runs line h breaks =
     }
 
 pub few_ahead : (old : Progress) (given : List ℕ) → HasGiven old given → old.reading.begun + length old.ahead < 2 ^ 64
-few_ahead old given h = omega (arith, h.count, few_lines old.reading given h.read h.going)
+few_ahead old given h = omega (arith, h.count, few_lines old.reading given h.read)
 
 -- the same of a reader and a piece that are those of the place
 pub few_fed : (place : Progress) (reader : Reading) (piece given : List ℕ) → HasGiven place given → reader ≡ place.reading → piece ≡ place.ahead → reader.begun + length piece < 2 ^ 64

@@ -5,6 +5,7 @@
 mod advancing;
 mod carrier;
 mod cut_laws;
+mod display_laws;
 mod drive;
 mod dry;
 mod dry_drive;
@@ -22,6 +23,7 @@ pub use cut_laws::{
     cuts_open_the_next_run, lines_follow_a_run, receipts_are_numbered_in_order,
     receipts_have_their_entries, runs_leave_the_seals, the_number_tells_the_commits,
 };
+pub use display_laws::displays_are_shown_where_their_texts_differ;
 pub use dry_drive::dry_run;
 pub use fault::RunFault;
 pub use source::{Source, Stop};

@@ -154,7 +154,7 @@ impl Source {
         }
     }
 
-    /// GivesRuns the reader what is ahead, and appends its runs.
+    /// Gives the reader what is ahead, and appends its runs.
     fn feed(&mut self, runs: &mut ArrayVec<Run, 64>) -> Option<Stop>
         requires given { (given : List ℕ) × HasGiven self.old given }
         requires some { 0 < length self.old.ahead }

@@ -1,5 +1,5 @@
 -- Equal intervals in each operating position.
-use Rattle.std.proofs.Common.{◌≡◌, ◌≢◌, ℕ, suc, ◌+◌, ◌-◌, ◌*◌, ◌^◌, ◌<◌, ◌≤◌, [], Option, Some, None, option_map, sum, refl, ap, sym, subst, ◌∙◌, arith}
+use Rattle.std.proofs.Common.{◌≡◌, ◌≢◌, ◌⊎◌, inl, inr, ℕ, suc, ◌+◌, ◌-◌, ◌*◌, ◌^◌, ◌<◌, ◌≤◌, [], Option, Some, None, option_map, sum, refl, ap, sym, subst, ◌∙◌, arith}
 use Rattle.std.proofs.Math.Nat.{mul-le-mul_right}
 use Rattle.std.proofs.lemmas.Grind.{common_steps}
 use Rattle.drive_modes.specs.Fare.{added, saved, shown_fare, steps_of}
@@ -12,6 +12,7 @@ use Rattle.drive_modes.specs.declared.charges.Weights.{Weights}
 use Rattle.seal_store.specs.declared.seal.Seal.{Seal}
 use Rattle.tariff_compile.specs.Near.{IsNear}
 use Rattle.tariff_compile.specs.Tables.{IsInRangeFor, TableParts, rate_by}
+use Rattle.tariff_compile.specs.declared.parts.Lasting.{Lasting}
 use Rattle.tariff_syntax.specs.declared.context.Context.{Context}
 use Rattle.taxi_units.specs.declared.event.Operating.{Operating}
 use Rattle.taxi_units.specs.declared.event.Operating.TheVariants.{Off, ForHire, Hired, Stopped}
@@ -19,12 +20,15 @@ use Rattle.taxi_units.specs.declared.receipt.Display.{Display}
 use Rattle.totaliser_store.specs.declared.trip.Trip as store
 use Rattle.meter_states.specs.Charge.{charge_at}
 use Rattle.meter_states.specs.Core.{Plain, Follows, plain_of}
-use Rattle.meter_states.specs.Equals.{HasTaken, IsStill, charged, display_by, intervals_of, passed, roams, spare_of, unfilled}
+use Rattle.meter_states.specs.EqualStages.{HasTaken, LastsFrom, charged, passed, unfilled}
+use Rattle.meter_states.specs.Equals.{IsStill, MayBeCharged, display_by, intervals_of, roams, spare_of}
 use Rattle.meter_states.specs.Interval.{context_of, context_on, counted_in, pulses_so_far, roaming_with, ticks_so_far}
 use Rattle.meter_states.specs.Lawful.{IsBetweenEvents, IsTripBeside}
 use Rattle.meter_states.specs.Meter.{Meter}
 use Rattle.meter_states.specs.Run.{run}
 use Rattle.meter_states.specs.Setting.{Setting, IsSettingOf, IsTariffOf, local_at, modulus_of}
+use Rattle.meter_states.specs.declared.facts.Facts.{Facts}
+use Rattle.meter_states.specs.declared.facts.RateFacts.{RateFacts}
 use Rattle.meter_states.specs.Trip.{Trip, InHired, InStopped, charges_of, opening_of, saved_of, with_part}
 use Rattle.taxi_units.specs.Time.{longest_trip}
 use Rattle.meter_states.proofs.Charges.{charge-at}
@@ -274,6 +278,62 @@ range-later tables x pulses ticks x_in few short = record {
   pulses = few;
   ticks = short;
 }
+
+-- ---- no more may go
+
+-- what is left to charge without a further display step, after charges that filled none
+spare-after : (rounding : Rounding) (modulus q n : ℕ) (m : Meterage) → m.rest < modulus → n * q ≤ spare_of rounding modulus m → spare_of rounding modulus (unfilled q n m) + n * q ≡ spare_of rounding modulus m
+spare-after Behind modulus q n m below spare = omega (arith, below, spare)
+spare-after Ahead modulus q n m below spare = grind (arith, common_steps)
+
+-- what is true of the intervals so far where one more may be charged at once behind them
+record OneMore (tables : TableParts) (p q n : ℕ) (t : store.Trip) (lasting : Lasting) : Type 0 where
+  pub short : t.ticks + n + 1 < longest_trip
+  pub further : (n + 1) * p ≤ lasting.further
+  pub longer : n + 1 ≤ lasting.longer
+  pub spare : (n + 1) * q ≤ spare_of tables.rounding (tables.step * tables.measure) t.meterage
+
+one-more : (tables : TableParts) (seal : Seal) (facts : Facts) (p q n : ℕ) (c : Plain) (t x : store.Trip) (lasting : Lasting) → c.trip ≡ Some x → x ≡ charged p q n t → q ≡ charge_of seal.params.mode lasting.weights p
+    → ((rate : RateFacts) → facts.rate ≡ Some rate → LastsFrom rate t.pulses t.ticks lasting) → t.meterage.rest < tables.step * tables.measure → n * q ≤ spare_of tables.rounding (tables.step * tables.measure) t.meterage
+    → MayBeCharged tables seal facts p c → OneMore tables p q n t lasting
+one-more tables seal facts p q n c t x lasting has is charge lasts rest spare may =
+    let modulus = tables.step * tables.measure in
+    let u = may.outlasts.trip in
+    let same : Some u ≡ Some x = sym may.outlasts.has ∙ has in
+    let one_trip : u ≡ x = cc in
+    let u_is : u ≡ charged p q n t = one_trip ∙ is in
+    let ticks : u.ticks ≡ t.ticks + n = ap (λ (t : store.Trip). t.ticks) u_is in
+    let pulses : u.pulses ≡ t.pulses + n * p = ap (λ (t : store.Trip). t.pulses) u_is in
+    let rate = may.serve.rate in
+    let last = lasts rate may.serve.keeps_rate in
+    let weights : charge_of seal.params.mode rate.lasting.weights p ≡ q = ap (λ (w : Weights). charge_of seal.params.mode w p) (sym last.weights) ∙ sym charge in
+    let left : spare_of tables.rounding modulus u.meterage ≡ spare_of tables.rounding modulus (unfilled q n t.meterage) = ap (λ (t : store.Trip). spare_of tables.rounding modulus t.meterage) u_is in
+    let after = spare-after tables.rounding modulus q n t.meterage rest spare in
+    let one : q ≤ spare_of tables.rounding modulus (unfilled q n t.meterage) = subst (λ (k : ℕ). k ≤ spare_of tables.rounding modulus (unfilled q n t.meterage)) weights (subst (λ (k : ℕ). charge_of seal.params.mode rate.lasting.weights p ≤ k) left may.spare) in
+    record {
+      short = omega (arith, may.outlasts.short, ticks);
+      further = omega (arith, may.further, pulses, last.further);
+      longer = omega (arith, may.longer, ticks, last.longer);
+      spare = omega (arith, one, after);
+    }
+
+-- either all were charged, or one more may not be
+pub charged-full : (tables : TableParts) (seal : Seal) (facts : Facts) (p q n near longest few count : ℕ) (c : Plain) (t x : store.Trip) (lasting : Lasting) → c.trip ≡ Some x → x ≡ charged p q n t → q ≡ charge_of seal.params.mode lasting.weights p
+    → ((rate : RateFacts) → facts.rate ≡ Some rate → LastsFrom rate t.pulses t.ticks lasting) → t.meterage.rest < tables.step * tables.measure → n * q ≤ spare_of tables.rounding (tables.step * tables.measure) t.meterage
+    → (few ≡ count) ⊎ (longest_trip ≤ t.ticks + few + 1) → (longest ≡ few) ⊎ (lasting.longer < (longest + 1) * 1) → (near ≡ longest) ⊎ (lasting.further < (near + 1) * p)
+    → (n ≡ near) ⊎ (spare_of tables.rounding (tables.step * tables.measure) t.meterage < (n + 1) * q) → (n ≡ count) ⊎ ¬ MayBeCharged tables seal facts p c
+charged-full tables seal facts p q n near longest few count c t x lasting has is charge lasts rest spare = by
+  where
+    more : MayBeCharged tables seal facts p c → OneMore tables p q n t lasting
+    more may = one-more tables seal facts p q n c t x lasting has is charge lasts rest spare may
+
+    by : (few ≡ count) ⊎ (longest_trip ≤ t.ticks + few + 1) → (longest ≡ few) ⊎ (lasting.longer < (longest + 1) * 1) → (near ≡ longest) ⊎ (lasting.further < (near + 1) * p)
+        → (n ≡ near) ⊎ (spare_of tables.rounding (tables.step * tables.measure) t.meterage < (n + 1) * q) → (n ≡ count) ⊎ ¬ MayBeCharged tables seal facts p c
+    by a b d (inr over) = inr (λ may. absurd (omega (arith, over, (more may).spare)))
+    by a b (inr over) (inl n_is) = inr (λ may. absurd (let over' : lasting.further < (n + 1) * p = subst (λ (k : ℕ). lasting.further < (k + 1) * p) (sym n_is) over in omega (arith, over', (more may).further)))
+    by a (inr over) (inl near_is) (inl n_is) = inr (λ may. absurd (omega (arith, over, n_is, near_is, (more may).longer)))
+    by (inr over) (inl longest_is) (inl near_is) (inl n_is) = inr (λ may. absurd (omega (arith, over, longest_is, n_is, near_is, (more may).short)))
+    by (inl few_is) (inl longest_is) (inl near_is) (inl n_is) = inl (n_is ∙ near_is ∙ longest_is ∙ few_is)
 
 -- a core that takes none
 pub taken-none : {p : TableParts} {inside core : Plain} (count : ℕ) → inside ≡ core → IsBetweenEvents p core → HasTaken p count core inside 0

@@ -1,17 +1,23 @@
 -- The laws of the public empty functions.
-use Rattle.std.proofs.Common.{◌≡◌, ◌≢◌, ◌<◌, ℕ, All, Bool, List, [], ◌∷◌, ◌++◌, length, Option, Some, None, sum}
+use Rattle.std.proofs.Common.{◌≡◌, ◌≢◌, ◌<◌, ◌+◌, ◌-◌, ◌↔◌, true, ℕ, All, Bool, List, [], ◌∷◌, ◌++◌, length, Option, Some, None, sum}
 use Rattle.tariff_compile.specs.Tables.{TableParts}
 use Rattle.taxi_units.specs.Time.{longest_trip}
 use Rattle.taxi_units.specs.declared.event.Event.{Event}
-use Rattle.taxi_units.specs.declared.event.Event.TheVariants.{Tick}
+use Rattle.taxi_units.specs.declared.event.Event.TheVariants.{Pulses, Tick}
 use Rattle.taxi_units.specs.declared.event.Key.{Key}
-use Rattle.taxi_units.specs.declared.event.Operating.TheVariants.{Hired}
+use Rattle.taxi_units.specs.declared.event.Operating.TheVariants.{ForHire, Hired}
 use Rattle.taxi_units.specs.declared.event.Why.{Why}
+use Rattle.taxi_units.specs.declared.event.Why.TheVariants.{TooFast}
+use Rattle.taxi_units.specs.declared.event.Why.TheVariants as why
+use Rattle.taxi_units.specs.declared.receipt.Display.{Display}
+use Rattle.taxi_units.specs.declared.receipt.Kind.TheVariants as kinds
 use Rattle.totaliser_store.specs.Ranges.{IsDurable}
 use Rattle.totaliser_store.specs.States.{after_all}
 use Rattle.totaliser_store.specs.declared.durable.Durable.{Durable}
 use Rattle.totaliser_store.specs.declared.trip.Trip as store
 use Rattle.meter_states.specs.Acts.{IsLawfulAct, KeepsRanges}
+use Rattle.meter_states.specs.Closing.{closed}
+use Rattle.meter_states.specs.Display.{display_of, same_display}
 use Rattle.meter_states.specs.Fits.{Fits}
 use Rattle.meter_states.specs.Interval.{context_of, interval_counted}
 use Rattle.meter_states.specs.Kept.{FitsSetting, HoldFits, IsKept, IsSupplementNumber, hired_in, with_more, with_parts}
@@ -21,11 +27,12 @@ use Rattle.meter_states.specs.Pairs.{ArePaired, commits_of}
 use Rattle.meter_states.specs.Refusals.{IsTooFast}
 use Rattle.meter_states.specs.Run.{actions_of, opened, run, run_both, trip_of, whole_run}
 use Rattle.meter_states.specs.Setting.{Setting, IsTariffOf}
-use Rattle.meter_states.specs.Step.{step, ticked}
+use Rattle.meter_states.specs.Step.{expired, step, ticked}
 use Rattle.meter_states.specs.Trip.{InHired, Part, Trip, fare_of, held_trip, saved_of, ticks_of, with_part}
 use Rattle.meter_states.specs.declared.act.Act.{Act}
 use Rattle.meter_states.specs.declared.act.Act.TheVariants.{Refuse}
 use Rattle.meter_states.proofs.ActRanges.{act-keeps}
+use Rattle.meter_states.proofs.Displays.{hire-shows, same-equal}
 use Rattle.meter_states.proofs.Fares.{fare-by, fare-resumed}
 use Rattle.meter_states.proofs.HeldFits.{fits-setting}
 use Rattle.meter_states.proofs.KeptTrips.{kept-step}
@@ -40,6 +47,23 @@ refused_events_change_nothing-event = refused.refused-event
 
 pub refused_events_change_nothing-key : (s : Setting) (key : Key) (m : Meter) (why : Why) → (latch_pressed s (Some key) m).acts ≡ Refuse why ∷ [] → (latch_pressed s (Some key) m).next ≡ record m { latch = None }
 refused_events_change_nothing-key = refused.refused-key
+
+pub pulses_too_fast_fill_the_interval-filled : (s : Setting) (event : Event) (m : Meter) (n : ℕ) → event ≢ Tick → (step s event m).acts ≡ Refuse (TooFast n) ∷ []
+    → (step s event m).next ≡ record m { taken = m.taken ++ (2000 - sum m.taken) ∷ [] }
+pulses_too_fast_fill_the_interval-filled = refused.filled
+
+pub pulses_too_fast_fill_the_interval-others : (s : Setting) (m : Meter) (pulses n : ℕ) → (step s (Pulses pulses) m).acts ≡ Refuse (TooFast n) ∷ [] → pulses ≡ (2000 - sum m.taken) + n
+pulses_too_fast_fill_the_interval-others = refused.others
+
+pub keys_are_refused_at_an_expiry : (s : Setting) (m : Meter) (key : Key) → m.latch ≡ Some key
+    → expired s m ≡ record { next = record (closed s kinds.Expired m.clock m).next { latch = None }; acts = (closed s kinds.Expired m.clock m).acts ++ Refuse why.Expired ∷ [] }
+keys_are_refused_at_an_expiry = refused.expired-key
+
+pub displays_are_compared_by_their_fields-same : (a b : Display) → (same_display a b ≡ true) ↔ (a ≡ b)
+displays_are_compared_by_their_fields-same = same-equal
+
+pub displays_are_compared_by_their_fields-hire : (s : Setting) (m : Meter) → IsKept s m → m.operating ≡ ForHire → ((display_of s m).fare ≡ 0) × ((display_of s m).supplements ≡ 0)
+displays_are_compared_by_their_fields-hire = hire-shows
 
 pub keys_act_after_their_interval-key : (s : Setting) (m : Meter) (latch : Option Key) → interval_counted s (record m { latch = latch }) ≡ quiet (record (interval_counted s m).next { latch = latch })
 keys_act_after_their_interval-key = refused.key-after

@@ -6,6 +6,8 @@ mod Amounts
 mod Charges
 -- how often each number stands in a list
 mod Counts
+-- when two displays are the same, and what a display for hire has
+mod Displays
 -- equal intervals in each operating position
 mod EqualIntervals
 -- what the fare of a trip depends on

@@ -45,7 +45,7 @@ intervals-follow s p (suc k) f m each e =
 
 -- ---- a tick without acts
 
-same-self : (d : Display) → same_display d d ≡ true
+pub same-self : (d : Display) → same_display d d ≡ true
 same-self d = grind (arith, common_steps)
 
 roaming-few : (s : Setting) (operating : Operating) (n : Meter) → nat_le roaming_most (sum n.roaming) ≡ false → roaming_checked_in s operating n ≡ quiet n

@@ -58,8 +58,8 @@ pub record Meets (s : Setting) (core : Plain) (acts : List Act) (o : Outcome) : 
   pub state : Stands s core o.next
   pub done : acts ≡ o.acts
 
--- a held trip is forgotten what has a meaning in the store alone, which is when it was saved, whether it was stopped,
--- and its position and zone
+-- a held trip without what has a meaning in the store alone: the second of its saving, whether it was stopped, its
+-- position and its zone are each set to one fixed value
 abbrev pub forgotten : Trip → Trip
 forgotten trip = record trip { saved = 0; stopped = false; position = 1; zone = 1 }
 

@@ -1,20 +1,26 @@
--- For proofs: equal measuring intervals, one after the other, at which nothing is shown, refused or entered.
-use Rattle.std.specs.Prelude.{◌≡◌, ℕ, zero, suc, ◌+◌, ◌-◌, ◌*◌, ◌≤◌, ◌==◌, if◌then◌else◌, nat_lt, Option, Some, None, List, [], ◌∷◌, ◌++◌}
+-- Rules: equal measuring intervals, one after the other, and when one more of them may go at once with those before.
+use Rattle.std.specs.Prelude.{◌≡◌, ℕ, zero, suc, ◌+◌, ◌-◌, ◌*◌, ◌<◌, ◌≤◌, ◌==◌, if◌then◌else◌, nat_lt, Option, Some, None, List, [], ◌∷◌, ◌++◌}
+use Rattle.drive_modes.specs.Charge.{charge_of}
 use Rattle.drive_modes.specs.Fare.{shown_fare, steps_of}
 use Rattle.drive_modes.specs.declared.meterage.Meterage.{Meterage}
 use Rattle.drive_modes.specs.declared.meterage.Rounding.{Rounding}
 use Rattle.drive_modes.specs.declared.meterage.Rounding.TheVariants.{Behind, Ahead}
 use Rattle.seal_store.specs.declared.seal.Seal.{Seal}
+use Rattle.tariff_compile.specs.Near.{IsNear}
 use Rattle.tariff_compile.specs.Tables.{TableParts}
+use Rattle.tariff_syntax.specs.declared.context.Context.{Context}
+use Rattle.taxi_units.specs.Time.{longest_trip}
 use Rattle.taxi_units.specs.declared.event.Event.{Event}
 use Rattle.taxi_units.specs.declared.event.Event.TheVariants.{Pulses, Tick}
+use Rattle.taxi_units.specs.declared.event.Operating.{Operating}
+use Rattle.taxi_units.specs.declared.event.Operating.TheVariants.{Off, ForHire, Hired, Stopped}
 use Rattle.taxi_units.specs.declared.receipt.Display.{Display}
 use Rattle.totaliser_store.specs.declared.trip.Trip.{Trip}
-use Rattle.meter_states.specs.Closing.{hirings_end}
+use Rattle.meter_states.specs.Closing.{hirings_end, roaming_most}
 use Rattle.meter_states.specs.Core.{Plain}
-use Rattle.meter_states.specs.Lawful.{IsBetweenEvents}
-use Rattle.meter_states.specs.Run.{run}
-use Rattle.meter_states.specs.Stages.{FollowsStage}
+use Rattle.meter_states.specs.declared.facts.Facts.{Facts}
+use Rattle.meter_states.specs.declared.facts.LocalFacts.{LocalFacts}
+use Rattle.meter_states.specs.declared.facts.RateFacts.{RateFacts}
 
 -- a measuring interval has the event of its pulses, if it has any, and then the tick at its end
 abbrev pub interval_of : (pulses : ℕ) → List Event
@@ -26,17 +32,18 @@ abbrev pub intervals_of : (pulses count : ℕ) → List Event
 intervals_of p zero = []
 intervals_of p (suc count) = interval_of p ++ intervals_of p count
 
--- a core shows this fare, by the saved form of its trip, and 0 without one
+-- the fare that a core shows is the one of the saved form of its trip, and 0 without one
 abbrev pub fare_by : TableParts → Option Trip → ℕ
 fare_by tables None = 0
 fare_by tables (Some t) = shown_fare t.initial t.minimum tables.step (steps_of tables.rounding t.meterage)
 
--- a core shows these amounts of supplements, by the saved form of its trip, and 0 without one
+-- the amount of supplements that a core shows is the one of the saved form of its trip, and 0 without one
 abbrev pub extras_by : Option Trip → ℕ
 extras_by None = 0
 extras_by (Some t) = t.extras_sum
 
--- a core has this display
+-- the display of a core has its operating position, its position and its zone, the fare and the supplements of its
+-- trip, and the decimals of the tables
 abbrev pub display_by : TableParts → Plain → Display
 display_by tables c = record {
   operating = c.operating;
@@ -55,45 +62,67 @@ pub record IsStill (tables : TableParts) (c : Plain) : Type 0 where
   pub began : c.began ≡ c.clock
   pub shown : c.shown ≡ Some (display_by tables c)
 
--- a core has taken `taken` of `count` equal intervals where these are at most as many, it is between two events then,
--- and its operating position and the store's number are the same
-pub record HasTaken (tables : TableParts) (count : ℕ) (old new : Plain) (taken : ℕ) : Type 0 where
-  pub lawful : IsBetweenEvents tables new
-  pub most : taken ≤ count
-  pub same : (new.operating ≡ old.operating) × (new.number ≡ old.number)
-
--- a core follows `count` equal intervals of p pulses under tables and a seal where it follows their events and does
--- nothing
-abbrev pub FollowsIntervals : TableParts → Seal → (old new : Plain) → (p count : ℕ) → Type 0
-FollowsIntervals tables seal old new p count =
-    FollowsStage tables seal old new [] [] (λ s m. run s (intervals_of p count) m)
-
 -- an interval of p pulses adds this many roaming pulses, where the store has a number: none where it takes no hiring
 abbrev pub roams : (number p : ℕ) → ℕ
 roams number p = if nat_lt number hirings_end then p else 0
-
--- a trip has passed `count` further intervals of p pulses that are free where its pulses and ticks have grown by theirs
-abbrev pub passed : (p count : ℕ) → Trip → Trip
-passed p count t = record t { pulses = t.pulses + count * p; ticks = t.ticks + count }
-
--- a meterage after `count` further equal charges that fill no display step has used up its cover first, and then has
--- more rest
-abbrev pub unfilled : (charge count : ℕ) → Meterage → Meterage
-unfilled charge count m = record m {
-  cover_left = m.cover_left - count * charge;
-  rest = m.rest + (count * charge - m.cover_left);
-}
-
--- a trip after `count` further intervals of p pulses, whose charges fill no display step, has more pulses and ticks,
--- and its meterage has the charges
-abbrev pub charged : (p charge count : ℕ) → Trip → Trip
-charged p charge count t = record t {
-  pulses = t.pulses + count * p;
-  ticks = t.ticks + count;
-  meterage = unfilled charge count t.meterage;
-}
 
 -- a meterage can take charges of this sum without showing a further display step
 abbrev pub spare_of : Rounding → (modulus : ℕ) → Meterage → ℕ
 spare_of Behind modulus m = m.cover_left + (modulus - 1 - m.rest)
 spare_of Ahead modulus m = if m.rest == 0 then m.cover_left else m.cover_left + (modulus - 1 - m.rest)
+
+-- the context that a core and kept local facts give, with a trip, has the core's position and zone, the local facts,
+-- and the pulses and ticks of the trip
+abbrev pub context_by : TableParts → LocalFacts → Plain → Trip → Context
+context_by tables local c t = record {
+  constant = tables.constant;
+  position = c.position;
+  zone = c.zone;
+  weekday = local.weekday;
+  month_day = local.month_day;
+  holiday = local.holiday;
+  minute = local.minute;
+  pulses = t.pulses;
+  ticks = t.ticks;
+}
+
+-- kept facts serve for the running interval of a core with a trip where a local time and a rate are kept, the local
+-- time is that of the second at which the interval began, and the interval's context is near the rate's own
+pub record Serve (tables : TableParts) (facts : Facts) (c : Plain) (t : Trip) : Type 0 where
+  pub local : LocalFacts
+  pub rate : RateFacts
+  pub keeps_local : facts.local ≡ Some local
+  pub keeps_rate : facts.rate ≡ Some rate
+  pub second : local.second ≡ c.began
+  pub near : IsNear rate.lasting.further rate.lasting.longer rate.first (context_by tables local c t)
+
+-- a trip outlasts an interval more where the interval isn't its last, with which it has the ticks of the longest trip
+pub record Outlasts (c : Plain) : Type 0 where
+  pub trip : Trip
+  pub has : c.trip ≡ Some trip
+  pub short : trip.ticks + 1 < longest_trip
+
+-- an interval of p pulses may be charged at once where the trip outlasts it, kept facts serve for it and, by their
+-- pulses and ticks, for the one behind it, and its charge fills no display step
+pub record MayBeCharged (tables : TableParts) (seal : Seal) (facts : Facts) (p : ℕ) (c : Plain) : Type 0 where
+  pub outlasts : Outlasts c
+  pub serve : Serve tables facts c outlasts.trip
+  pub further : outlasts.trip.pulses + p ≤ serve.rate.first.pulses + serve.rate.lasting.further
+  pub longer : outlasts.trip.ticks + 1 ≤ serve.rate.first.ticks + serve.rate.lasting.longer
+  pub spare : charge_of seal.params.mode serve.rate.lasting.weights p
+      ≤ spare_of tables.rounding (tables.step * tables.measure) outlasts.trip.meterage
+
+-- an interval of p pulses may go at once in an operating position: in For Hire where no roaming is entered behind it,
+-- in Hired where it may be charged at once, and in Stopped where the trip outlasts it
+abbrev pub MayGoIn : TableParts → Seal → Facts → (p : ℕ) → Plain → Operating → Type 0
+MayGoIn tables seal facts p c Off = ⊥
+MayGoIn tables seal facts p c ForHire = c.roam + roams c.number p < roaming_most
+MayGoIn tables seal facts p c Hired = MayBeCharged tables seal facts p c
+MayGoIn tables seal facts p c Stopped = Outlasts c
+
+-- an interval of p pulses may go at once at a core that is still, where it has at most 2,000 pulses and may go at once
+-- in the core's operating position
+pub record MayGo (tables : TableParts) (seal : Seal) (facts : Facts) (p : ℕ) (c : Plain) : Type 0 where
+  pub pulses : p ≤ 2000
+  pub still : IsStill tables c
+  pub goes : MayGoIn tables seal facts p c c.operating

@@ -1,4 +1,4 @@
--- For proofs: the facts that a core keeps, which are what was looked up and when it still serves.
+-- Rules: the facts that a core keeps, which are what was looked up and when it still serves.
 use Rattle.std.specs.Prelude.{◌≡◌, ℕ, ◌≤◌, true}
 use Rattle.std.specs.Option.{ForSome}
 use Rattle.interval_clock.specs.LocalTime.{local_second, local_time_of}

@@ -3,6 +3,7 @@ pub mod Charge
 pub mod Closing
 pub mod Core
 pub mod Display
+pub mod EqualStages
 pub mod Equals
 pub mod Facts
 pub mod Fits

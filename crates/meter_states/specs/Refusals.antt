@@ -1,4 +1,4 @@
--- For proofs: the one refusal that leaves something behind.
+-- Rules: the one refusal that leaves something behind.
 use Rattle.taxi_units.specs.declared.event.Why.{Why}
 use Rattle.taxi_units.specs.declared.event.Why.TheVariants.{TooFast}
 

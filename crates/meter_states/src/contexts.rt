@@ -1,9 +1,11 @@
 //! The context of an interval, and what the interval weighs in it.
-ghost use Rattle.std.specs.Prelude.{◌≡◌, ◌≤◌, ◌+◌};
+ghost use Rattle.std.specs.Prelude.{◌≡◌, ◌≤◌, ◌+◌, Some};
 ghost use Rattle.tariff_compile.specs.Tables.{AreFit, IsInRangeFor, rate_by};
 ghost use Rattle.taxi_units.specs.Time.{IsSecond, longest_trip};
+ghost use Rattle.totaliser_store.specs.declared.trip.Trip as store;
 ghost use Rattle.meter_states.specs.Closing.{roaming_amid};
 ghost use Rattle.meter_states.specs.Core.{plain_of};
+ghost use Rattle.meter_states.specs.Equals.{context_by};
 ghost use Rattle.meter_states.specs.Facts.{AreLocal, AreTrue};
 ghost use Rattle.meter_states.specs.Interval.{context_of, context_on};
 ghost use Rattle.meter_states.specs.Lawful.{IsPowered};
@@ -66,6 +68,8 @@ impl State {
         requires local { AreLocal tables.now seal.now local.now }
         ensures value { (s : Setting) (m : Meter) → IsSettingOf s tables.now seal.now → self.now ≡ plain_of s m
             → result ≡ context_on s (local_at s local.now.second) m }
+        ensures exact { (t : store.Trip) → self.now.trip ≡ Some t
+            → result ≡ context_by tables.now local.now self.now t }
         ensures range { IsInRangeFor tables.now result }
     {
         Context {

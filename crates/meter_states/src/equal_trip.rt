@@ -1,6 +1,7 @@
 //! Trips after equal intervals, and how many there may be.
-ghost use Rattle.std.specs.Prelude.{◌≡◌, ◌≤◌, ◌<◌, ◌+◌, ◌*◌, ◌^◌};
+ghost use Rattle.std.specs.Prelude.{◌≡◌, ◌≤◌, ◌<◌, ◌⊎◌, ◌+◌, ◌*◌, ◌^◌};
 ghost use Rattle.taxi_units.specs.Time.{last_tick};
+ghost use Rattle.meter_states.specs.EqualStages as stages;
 ghost use Rattle.meter_states.specs.Equals as model;
 ghost use Rattle.meter_states.specs.Lawful.{IsTrip};
 
@@ -22,6 +23,7 @@ pub(crate) fn roams(number: u64, pulses: u32) -> u32
 pub(crate) fn most_times(count: u32, room: u128, each: u128) -> u32
     ensures most { result ≤ count }
     ensures room { result * each ≤ room }
+    ensures full { (result ≡ count) ⊎ (room < (result + 1) * each) }
 {
     if each == 0 {
         return count;
@@ -57,7 +59,7 @@ pub(crate) fn add_passed(trip: &mut Trip, tables: &Tables, pulses: u32, count: u
     requires few { trip.old.pulses ≤ 5000000000000000000 }
     requires range { IsTrip tables.now last_tick trip.old }
     requires short { trip.old.ticks + count ≤ last_tick }
-    ensures value { trip.new ≡ model.passed pulses count trip.old }
+    ensures value { trip.new ≡ stages.passed pulses count trip.old }
     ensures range { IsTrip tables.now last_tick trip.new }
 {
     trip.pulses += count as u64 * pulses as u64;
@@ -73,7 +75,7 @@ pub(crate) fn add_charged(trip: &mut Trip, tables: &Tables, pulses: u32, charge:
     requires spare { count * charge ≤ model.spare_of tables.now.rounding (tables.now.step * tables.now.measure)
         trip.old.meterage }
     requires most { count * charge ≤ 3 * 10 ^ 31 }
-    ensures value { trip.new ≡ model.charged pulses charge count trip.old }
+    ensures value { trip.new ≡ stages.charged pulses charge count trip.old }
     ensures range { IsTrip tables.now last_tick trip.new }
 {
     tables.are_fit();

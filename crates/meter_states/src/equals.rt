@@ -1,17 +1,21 @@
 //! Equal measuring intervals that are carried out at once.
-ghost use Rattle.std.specs.Prelude.{◌≡◌, ◌≤◌, ◌*◌, [], IfSome, IsTrue, None};
+ghost use Rattle.std.specs.Prelude.{◌≡◌, ◌≤◌, ◌⊎◌, ◌↔◌, ◌+◌, ◌*◌, [], IfSome, IsNone, IsTrue, None, Some};
 ghost use Rattle.tariff_compile.specs.Near.{IsNear};
 ghost use Rattle.tariff_compile.specs.Tables.{AreFit, IsInRangeFor, rate_by};
 ghost use Rattle.tariff_syntax.specs.declared.context.Context.{Context};
 ghost use Rattle.taxi_units.specs.declared.event.Operating.TheVariants.{ForHire, Hired, Stopped};
+ghost use Rattle.totaliser_store.specs.declared.trip.Trip as store;
 ghost use Rattle.meter_states.specs.Core.{Meets, Stands, plain_of};
-ghost use Rattle.meter_states.specs.Equals.{FollowsIntervals, HasTaken, IsStill, intervals_of};
+ghost use Rattle.meter_states.specs.EqualStages.{FollowsIntervals, HasTaken, LastsFrom};
+ghost use Rattle.meter_states.specs.Equals.{IsStill, MayBeCharged, MayGo, Outlasts, Serve, intervals_of, roams};
 ghost use Rattle.meter_states.specs.Facts.{AreTrue};
+ghost use Rattle.meter_states.specs.Closing.{roaming_most};
 ghost use Rattle.meter_states.specs.Interval.{context_of};
 ghost use Rattle.meter_states.specs.Lawful.{IsBetweenEvents, IsLawful};
 ghost use Rattle.meter_states.specs.Meter.{Meter};
 ghost use Rattle.meter_states.specs.Run.{run};
 ghost use Rattle.meter_states.specs.Setting.{Setting, IsSettingOf};
+ghost use Rattle.meter_states.specs.declared.facts.RateFacts.{RateFacts};
 
 use crate::closing::ROAMING_MOST;
 use crate::core_state::Core;
@@ -25,18 +29,22 @@ use tariff_compile::{Lasting, Tables};
 use taxi_units::{LONGEST_TRIP, Operating};
 
 impl Core {
-    /// Carries out as many of `count` equal intervals of `pulses` pulses as it can at once, and answers how
-    /// many. They show, refuse and enter nothing. It ends before an interval that fills a display step,
-    /// reaches a cut of the tariff, the longest trip or an entry of roaming. None are carried out where the
-    /// meter is off, the clock was read or pulses came since the last tick, a key waits, an interval has
-    /// more than 2,000 pulses, or, in Hired, where what an interval weighs isn't kept from a tick before. No
-    /// steps. That rows of intervals are carried out at once is this project's own.
+    /// Carries out equal intervals of `pulses` pulses at once, and answers how many: all `count`, or so many
+    /// that one more may not go at once. They show, refuse and enter nothing. An interval may not go where
+    /// roaming is entered behind it, it is the trip's last, its charge fills a display step, or what the
+    /// interval behind it weighs isn't known from the facts that are kept; and none may where the meter is off,
+    /// the clock was read or pulses came since the last tick, a key waits, another display was shown last, or
+    /// an interval has more than 2,000 pulses. The tables' constant is the seal's. No steps. That rows of
+    /// intervals are carried out at once is this project's own.
     pub fn equal_intervals(&mut self, tables: &Tables, seal: &Seal, pulses: u32, count: u32) -> u32
         requires lawful { IsLawful tables.now seal.now self.old }
+        requires constant { tables.now.constant ≡ seal.now.params.constant }
         ensures lawful { IsLawful tables.now seal.now self.new }
         ensures most { result ≤ count }
+        ensures full { (result ≡ count) ⊎ ¬ MayGo tables.now seal.now self.old.facts pulses self.new.plain }
         ensures same { (self.new.plain.operating ≡ self.old.plain.operating)
             × (self.new.plain.number ≡ self.old.plain.number) }
+        ensures facts { self.new.facts ≡ self.old.facts }
         ensures meets { (s : Setting) (m : Meter) → IsSettingOf s tables.now seal.now → Stands s self.old.plain m
             → Meets s self.new.plain [] (run s (intervals_of pulses result) m) }
     {
@@ -49,7 +57,7 @@ impl Core {
 }
 
 impl State {
-    /// Takes equal intervals, as many of these as it can at once, while the meter is powered.
+    /// Takes equal intervals at once, as many of these as may go, while the meter is powered.
     fn take_equal(
         &mut self,
         facts: &Facts,
@@ -61,6 +69,7 @@ impl State {
         requires lawful { IsBetweenEvents tables.now self.old }
         requires facts { AreTrue tables.now seal.now facts.now }
         ensures taken { HasTaken tables.now count self.old self.new result }
+        ensures full { (result ≡ count) ⊎ ¬ MayGo tables.now seal.now facts.now pulses self.new }
         ensures follows { FollowsIntervals tables.now seal.now self.old self.new pulses result }
     {
         if pulses > 2000 {
@@ -81,7 +90,7 @@ impl State {
     /// display is shown.
     fn is_still(&self, tables: &Tables, seal: &Seal) -> bool
         requires lawful { IsBetweenEvents tables.now self.now }
-        ensures { IsTrue result → IsStill tables.now self.now }
+        ensures { IsTrue result ↔ IsStill tables.now self.now }
     {
         let display = self.display(tables, seal);
         let mut gate = self.gate;
@@ -98,6 +107,7 @@ impl State {
         requires still { IsStill tables.now self.old }
         requires pulses { pulses ≤ 2000 }
         ensures taken { HasTaken tables.now count self.old self.new result }
+        ensures full { (result ≡ count) ⊎ (roaming_most ≤ self.new.roam + roams self.new.number pulses) }
         ensures follows { FollowsIntervals tables.now seal.now self.old self.new pulses result }
     {
         tables.are_fit();
@@ -114,6 +124,7 @@ impl State {
         requires still { IsStill tables.now self.old }
         requires pulses { pulses ≤ 2000 }
         ensures taken { HasTaken tables.now count self.old self.new result }
+        ensures full { (result ≡ count) ⊎ ¬ Outlasts self.new }
         ensures follows { FollowsIntervals tables.now seal.now self.old self.new pulses result }
     {
         let Some(trip) = &mut self.trip else {
@@ -125,8 +136,7 @@ impl State {
         n
     }
 
-    /// As many of `count` equal intervals in Hired as go by the kept weights, fill no display step and don't
-    /// end the trip.
+    /// As many of `count` equal intervals in Hired as may be charged at once.
     fn charge_equal(
         &mut self,
         facts: &Facts,
@@ -141,6 +151,7 @@ impl State {
         requires still { IsStill tables.now self.old }
         requires pulses { pulses ≤ 2000 }
         ensures taken { HasTaken tables.now count self.old self.new result }
+        ensures full { (result ≡ count) ⊎ ¬ MayBeCharged tables.now seal.now facts.now pulses self.new }
         ensures follows { FollowsIntervals tables.now seal.now self.old self.new pulses result }
     {
         let Some(lasting) = self.kept_rate(facts, tables, seal) else {
@@ -170,6 +181,10 @@ impl State {
             → IsSettingOf s tables.now seal.now → self.now ≡ plain_of s m → IsInRangeFor tables.now y
             → IsNear lasting.further lasting.longer (context_of s m) y
             → lasting.weights ≡ rate_by s.tariff tables.now.constant y) }
+        ensures lasts { IfSome result (λ lasting. (t : store.Trip) (rate : RateFacts) → self.now.trip ≡ Some t
+            → facts.now.rate ≡ Some rate → LastsFrom rate t.pulses t.ticks lasting) }
+        ensures none { IsNone result → (t : store.Trip) → self.now.trip ≡ Some t
+            → ¬ Serve tables.now facts.now self.now t }
     {
         let local = facts.kept_local(self.began, tables, seal)?;
         let x = self.context_on(&local, tables, seal);

@@ -1,13 +1,16 @@
 //! The facts that a core keeps: the local time of a second, and what an interval weighs while no cut is
 //! passed.
-ghost use Rattle.std.specs.Prelude.{◌≡◌, ◌≤◌, ◌+◌, IfSome, IsTrue};
+ghost use Rattle.std.specs.Prelude.{◌≡◌, ◌≢◌, ◌≤◌, ◌+◌, ◌↔◌, IfSome, IsNone, IsTrue, Some};
 ghost use Rattle.tariff_compile.specs.Near.{IsNear};
 ghost use Rattle.tariff_compile.specs.Tables.{AreFit, IsInRangeFor, IsTablesOf, TableParts, rate_by};
 ghost use Rattle.tariff_syntax.specs.Tree.{Tree};
 ghost use Rattle.tariff_syntax.specs.declared.context.Context.{Context};
 ghost use Rattle.seal_store.specs.declared.seal.Seal.{Seal};
 ghost use Rattle.taxi_units.specs.Time.{IsSecond};
+ghost use Rattle.meter_states.specs.EqualStages.{LastsFrom};
 ghost use Rattle.meter_states.specs.Facts.{AreLocal, AreTrue};
+ghost use Rattle.meter_states.specs.declared.facts.LocalFacts.{LocalFacts};
+ghost use Rattle.meter_states.specs.declared.facts.RateFacts.{RateFacts};
 
 use drive_modes::Weights;
 use interval_clock::civil;
@@ -66,7 +69,7 @@ pub(crate) fn local_facts<L: Ledger>(
 
 /// Whether a context follows the one of these facts so shortly that its weights are the same.
 fn is_near(rate: &RateFacts, x: &Context) -> bool
-    ensures { IsTrue result → IsNear rate.now.lasting.further rate.now.lasting.longer rate.now.first x.now }
+    ensures { IsTrue result ↔ IsNear rate.now.lasting.further rate.now.lasting.longer rate.now.first x.now }
 {
     let first = &rate.first;
     first.pulses <= x.pulses
@@ -87,6 +90,7 @@ fn lasting_from(rate: &RateFacts, x: &Context) -> Lasting
     ensures weights { result.weights ≡ rate.now.lasting.weights }
     ensures near { (y : Context) → IsNear result.further result.longer x.now y
         → IsNear rate.now.lasting.further rate.now.lasting.longer rate.now.first y }
+    ensures lasts { LastsFrom rate.now x.now.pulses x.now.ticks result }
 {
     Lasting {
         weights: rate.lasting.weights,
@@ -111,6 +115,8 @@ impl Facts {
         requires facts { AreTrue tables.now seal.now self.now }
         ensures second { IfSome result (λ local. local.second ≡ second) }
         ensures local { IfSome result (AreLocal tables.now seal.now) }
+        ensures kept { IfSome result (λ local. self.now.local ≡ Some local) }
+        ensures none { IsNone result → (local : LocalFacts) → self.now.local ≡ Some local → local.second ≢ second }
     {
         match &self.local {
             Some(local) if local.second == second => Some(*local),
@@ -126,6 +132,10 @@ impl Facts {
         ensures near { IfSome result (λ lasting. (t : Tree) (y : Context) → IsTablesOf t tables.now
             → IsInRangeFor tables.now y → IsNear lasting.further lasting.longer x.now y
             → lasting.weights ≡ rate_by t tables.now.constant y) }
+        ensures lasts { IfSome result (λ lasting. (rate : RateFacts) → self.now.rate ≡ Some rate
+            → LastsFrom rate x.now.pulses x.now.ticks lasting) }
+        ensures none { IsNone result → (rate : RateFacts) → self.now.rate ≡ Some rate
+            → ¬ IsNear rate.lasting.further rate.lasting.longer rate.first x.now }
     {
         match &self.rate {
             Some(rate) if is_near(rate, x) => Some(lasting_from(rate, x)),

@@ -1,6 +1,6 @@
-//! The core of the meter: what each event does to it, under the tables of a tariff and a seal, with no
-//! memory of intervals. `specs/` says what a meter is: its states keep each interval of a trip, and an
-//! interval is charged by the rate that the tariff's text names.
+//! The core of the meter: what each event does to it, under the tables of a tariff and a seal. Of a trip it
+//! keeps sums and the interval that goes on, and no list of intervals. `specs/` says what a meter is: its
+//! states keep each interval of a trip, and an interval is charged by the rate that the tariff's text names.
 #![tactic(auto)]
 
 mod act;
@@ -39,4 +39,8 @@ pub use keeping::{
     fares_depend_on_the_intervals_in_hired, resumed_trips_go_on, the_store_keeps_the_trip,
 };
 pub use pairs::{receipts_follow_their_entries, runs_add_up, the_store_has_what_the_acts_commit};
-pub use refusals::{keys_act_after_their_interval, refused_events_change_nothing};
+pub use refusals::{
+    keys_act_after_their_interval, keys_are_refused_at_an_expiry,
+    pulses_too_fast_fill_the_interval, refused_events_change_nothing,
+};
+pub use shown::displays_are_compared_by_their_fields;

@@ -1,7 +1,8 @@
 //! The state of the meter, as the core keeps it.
-ghost use Rattle.std.specs.Prelude.{◌≡◌, ◌≤◌, None};
+ghost use Rattle.std.specs.Prelude.{◌≡◌, ◌≤◌, None, Some};
 ghost use Rattle.taxi_units.specs.Time.{longest_trip};
 ghost use Rattle.taxi_units.specs.declared.event.Operating.TheVariants.{Off};
+ghost use Rattle.totaliser_store.specs.declared.trip.Trip as store;
 ghost use Rattle.meter_states.specs.Closing.{roaming_amid};
 ghost use Rattle.meter_states.specs.Core.{plain_of};
 ghost use Rattle.meter_states.specs.Interval as interval;
@@ -111,6 +112,7 @@ impl State {
     pub(crate) fn pulses(&self, tables: &Tables) -> u64
         requires lawful { IsPowered tables.now longest_trip roaming_amid 1 self.now }
         ensures state { (s : Setting) (m : Meter) → self.now ≡ plain_of s m → result ≡ interval.pulses_so_far m.trip }
+        ensures exact { (t : store.Trip) → self.now.trip ≡ Some t → result ≡ t.pulses }
         ensures range { result ≤ 5000000000000000000 }
     {
         match &self.trip {
@@ -123,6 +125,7 @@ impl State {
     pub(crate) fn ticks(&self, tables: &Tables) -> u32
         requires lawful { IsPowered tables.now longest_trip roaming_amid 1 self.now }
         ensures state { (s : Setting) (m : Meter) → self.now ≡ plain_of s m → result ≡ interval.ticks_so_far m.trip }
+        ensures exact { (t : store.Trip) → self.now.trip ≡ Some t → result ≡ t.ticks }
         ensures range { result ≤ longest_trip }
     {
         match &self.trip {

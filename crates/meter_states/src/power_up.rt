@@ -26,10 +26,10 @@ use taxi_units::{Kind, Operating, Steps};
 use totaliser_store::{Durable, Trip};
 
 impl Core {
-    /// The supply comes at a second, 946,684,800 to 7,258,118,399, and finds a durable state in its
-    /// ranges whose held trip fits. The rules are this project's own: within the hold a held trip goes
-    /// on in Hired or Stopped, and otherwise it is closed; without one the meter is for hire. The
-    /// display is shown. At most 12 steps.
+    /// The supply comes at a second, 946,684,800 to 7,258,118,399, and finds a durable state in its ranges
+    /// whose held trip fits; the tables were compiled with the seal's constant. The rules are this
+    /// project's own: within the hold a held trip goes on in Hired or Stopped, and otherwise it is closed;
+    /// without one the meter is for hire. The display is shown. At most 12 steps.
     pub fn resume<L: Ledger>(
         tables: &Tables,
         seal: &Seal,
@@ -39,6 +39,7 @@ impl Core {
     ) -> (Core, Acts)
         requires range { IsDurable durable.now }
         requires fits { ForSome durable.now.hold (Fits tables.now) }
+        requires constant { tables.now.constant ≡ seal.now.params.constant }
         requires second { IsSecond second }
         ensures lawful { IsLawful tables.now seal.now result.0 }
         ensures ranges { All (IsLawfulAct tables.now durable.now.number) result.1.items }

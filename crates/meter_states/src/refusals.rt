@@ -1,17 +1,21 @@
 //! What a refusal leaves, and when a key acts.
-ghost use Rattle.std.specs.Prelude.{◌≡◌, ◌≢◌, ◌<◌, [], ◌∷◌, None, Option, Some, sum};
+ghost use Rattle.std.specs.Prelude.{◌≡◌, ◌≢◌, ◌<◌, ◌+◌, ◌-◌, ℕ, [], ◌∷◌, ◌++◌, None, Option, Some, sum};
 ghost use Rattle.taxi_units.specs.Time.{longest_trip};
 ghost use Rattle.taxi_units.specs.declared.event.Event.{Event};
-ghost use Rattle.taxi_units.specs.declared.event.Event.TheVariants.{Tick};
+ghost use Rattle.taxi_units.specs.declared.event.Event.TheVariants.{Pulses, Tick};
 ghost use Rattle.taxi_units.specs.declared.event.Key.{Key};
 ghost use Rattle.taxi_units.specs.declared.event.Operating.TheVariants.{Hired};
 ghost use Rattle.taxi_units.specs.declared.event.Why.{Why};
+ghost use Rattle.taxi_units.specs.declared.event.Why.TheVariants.{TooFast};
+ghost use Rattle.taxi_units.specs.declared.event.Why.TheVariants as why;
+ghost use Rattle.taxi_units.specs.declared.receipt.Kind.TheVariants as kinds;
+ghost use Rattle.meter_states.specs.Closing.{closed};
 ghost use Rattle.meter_states.specs.Interval.{context_of, interval_counted};
 ghost use Rattle.meter_states.specs.Keys.{latch_pressed};
 ghost use Rattle.meter_states.specs.Meter.{Meter, quiet};
 ghost use Rattle.meter_states.specs.Refusals.{IsTooFast};
 ghost use Rattle.meter_states.specs.Setting.{Setting};
-ghost use Rattle.meter_states.specs.Step.{step, ticked};
+ghost use Rattle.meter_states.specs.Step.{expired, step, ticked};
 ghost use Rattle.meter_states.specs.Trip.{InHired, Trip, ticks_of, with_part};
 ghost use Rattle.meter_states.specs.declared.act.Act.TheVariants.{Refuse};
 
@@ -23,6 +27,25 @@ pub fn refused_events_change_nothing()
     ensures key { (s : Setting) (key : Key) (m : Meter) (why : Why)
         → (latch_pressed s (Some key) m).acts ≡ Refuse why ∷ []
         → (latch_pressed s (Some key) m).next ≡ record m { latch = None } }
+{}
+
+/// A law: pulses that are too fast fill the interval, and change nothing else: it takes those that it has room for,
+/// and as many as the others are refused.
+pub fn pulses_too_fast_fill_the_interval()
+    ensures filled { (s : Setting) (event : Event) (m : Meter) (n : ℕ) → event ≢ Tick
+        → (step s event m).acts ≡ Refuse (TooFast n) ∷ []
+        → (step s event m).next ≡ record m { taken = m.taken ++ (2000 - sum m.taken) ∷ [] } }
+    ensures others { (s : Setting) (m : Meter) (pulses n : ℕ)
+        → (step s (Pulses pulses) m).acts ≡ Refuse (TooFast n) ∷ [] → pulses ≡ (2000 - sum m.taken) + n }
+{}
+
+/// A law: a key that waits as the trip expires is refused behind the closing of the trip, and waits no more.
+pub fn keys_are_refused_at_an_expiry()
+    ensures { (s : Setting) (m : Meter) (key : Key) → m.latch ≡ Some key
+        → expired s m ≡ record {
+          next = record (closed s kinds.Expired m.clock m).next { latch = None };
+          acts = (closed s kinds.Expired m.clock m).acts ++ Refuse why.Expired ∷ [];
+        } }
 {}
 
 /// A key acts after the interval in which it was pressed: the interval comes to the same whatever key

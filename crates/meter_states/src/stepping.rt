@@ -24,9 +24,10 @@ use taxi_units::{Event, Operating, Steps, Why};
 
 impl Core {
     /// What an event does, but an `Up` while the meter is off, which is `resume`'s. A reading of the clock
-    /// lies in 946,684,800 to 7,258,118,399, and the core is lawful for the tables and the seal, as `off`,
-    /// `resume` and `step` leave it. An event that is refused changes nothing, but for pulses that are too
-    /// fast: the interval takes those that it has room for. At most 48 steps.
+    /// lies in 946,684,800 to 7,258,118,399, the tables were compiled with the seal's constant, and the
+    /// core is lawful for the tables and the seal, as `off`, `resume` and `step` leave it. An event that is
+    /// refused changes nothing, but for pulses that are too fast: the interval takes those that it has room
+    /// for. At most 48 steps.
     ///
     /// That the fare is calculated in Hired alone, in steps, and by the rules of the modes S and D, is the
     /// measuring instruments directive's; all else is this project's own.
@@ -38,6 +39,7 @@ impl Core {
         steps: &mut Steps<L>,
     ) -> Acts
         requires lawful { IsLawful tables.now seal.now self.old }
+        requires constant { tables.now.constant ≡ seal.now.params.constant }
         requires timely { IsTimely event }
         requires supply { (second : ℕ) → self.old.plain.operating ≡ Off → event ≢ Up second }
         ensures lawful { IsLawful tables.now seal.now self.new }
@@ -64,6 +66,7 @@ impl Core {
         steps: &mut Steps<L>,
     )
         requires lawful { IsLawful tables.now seal.now self.old }
+        requires constant { tables.now.constant ≡ seal.now.params.constant }
         requires timely { IsTimely event }
         requires supply { (second : ℕ) → self.old.plain.operating ≡ Off → event ≢ Up second }
         requires empty { acts.old.items ≡ [] }

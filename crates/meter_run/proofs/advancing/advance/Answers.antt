@@ -1,3 +1,4 @@
+use Rattle.std.proofs.Common.{sym, ◌∙◌}
 use Rattle.meter_run.proofs.Dropping.{stepped}
 use Rattle.meter_run.proofs.advancing.advance.Goals as goal
 
@@ -10,6 +11,7 @@ supply-requires-clause-empty g c = c.requires.empty
 pub step_into-requires : goal.step_into-requires
 step_into-requires g c = record {
   lawful = c.requires.ready.lawful;
+  constant = c.requires.ready.way.is.tariff.constant ∙ sym c.requires.ready.way.is.secured.constant;
   timely = c.requires.timely;
   supply = λ second off. c.in_default.not-Up second;
   empty = c.requires.empty;

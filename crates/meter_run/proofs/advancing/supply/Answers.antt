@@ -9,6 +9,9 @@ powered_not b P holds is p = absurd (let bad : false ≡ true = sym is ∙ holds
 pub step_into-requires-clause-lawful : goal.step_into-requires-clause-lawful
 step_into-requires-clause-lawful g c = c.requires.ready.lawful
 
+pub step_into-requires-clause-constant : goal.step_into-requires-clause-constant
+step_into-requires-clause-constant g c = c.requires.ready.way.is.tariff.constant ∙ sym c.requires.ready.way.is.secured.constant
+
 pub step_into-requires-clause-timely : goal.step_into-requires-clause-timely
 step_into-requires-clause-timely g c = c.requires.timely
 
@@ -39,6 +42,9 @@ resume-powered-requires-clause-range g c = c.requires.ready.range
 
 pub resume-powered-requires-clause-fits : goal.resume-powered-requires-clause-fits
 resume-powered-requires-clause-fits g c = c.requires.ready.fits
+
+pub resume-powered-requires-clause-constant : goal.resume-powered-requires-clause-constant
+resume-powered-requires-clause-constant g c = c.requires.ready.way.is.tariff.constant ∙ sym c.requires.ready.way.is.secured.constant
 
 pub resume-powered-requires-clause-second : goal.resume-powered-requires-clause-second
 resume-powered-requires-clause-second g c = c.requires.timely

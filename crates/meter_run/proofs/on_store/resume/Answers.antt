@@ -1,10 +1,13 @@
-use Rattle.std.proofs.Common.{List, All, Some, arith, refl, subst, sym}
+use Rattle.std.proofs.Common.{List, All, Some, arith, refl, subst, sym, ◌∙◌}
 use Rattle.taxi_units.specs.declared.event.Event.TheVariants.{Up}
 use Rattle.meter_states.specs.Acts.{IsLawfulAct}
 use Rattle.meter_states.specs.declared.act.Act.{Act}
 use Rattle.meter_run.proofs.Dropping.{acts_for, few_commits}
 use Rattle.meter_run.proofs.Happening.{came_as, event_attempted, ready_opened}
 use Rattle.meter_run.proofs.on_store.resume.Goals as goal
+
+pub resume-core-requires-clause-constant : goal.resume-core-requires-clause-constant
+resume-core-requires-clause-constant g c = c.requires.ready.secured.is.tariff.constant ∙ sym c.requires.ready.secured.is.secured.constant
 
 pub do_acts-done-requires-clause-acts : goal.do_acts-done-requires-clause-acts
 do_acts-done-requires-clause-acts g c =

@@ -16,19 +16,19 @@ returns-in-Ok-clause-agrees g c = record {
 pub returns-in-Ok-clause-points : goal.returns-in-Ok-clause-points
 returns-in-Ok-clause-points g c = λ told deed is.
     let d = c.args.known.now.durable in
-    commit_point g.B.Board c.args.tables.now c.args.seal.now c.args.board.now c.commit.new.board d (after d c.args.change.now) deed is c.requires.agrees.fits c.requires.fits (c.commit.ensures.any_moment told) c.commit.ensures.beside.text
+    commit_point g.B.Board c.args.tables.now c.args.seal.now c.args.board.now c.commit.new.board d c.args.known.now.place (after d c.args.change.now) deed is c.requires.agrees.fits c.requires.fits (c.commit.ensures.any_moment told) c.commit.ensures.beside.text
 
 pub returns-in-Ok-clause-beside : goal.returns-in-Ok-clause-beside
 returns-in-Ok-clause-beside g c = λ told.
     let d = c.args.known.now.durable in
-    beside_commit g.B.Board d (after d c.args.change.now) c.args.board.now c.commit.new.board c.commit.ensures.beside (c.commit.ensures.any_moment told)
+    beside_commit g.B.Board c.args.known.now.place d (after d c.args.change.now) c.args.board.now c.commit.new.board c.requires.agrees.slot c.commit.ensures.beside (c.commit.ensures.any_moment told)
 
 pub returns-in-Err-clause-points : goal.returns-in-Err-clause-points
 returns-in-Err-clause-points g c = λ told deed is.
     let d = c.args.known.now.durable in
-    commit_point g.B.Board c.args.tables.now c.args.seal.now c.args.board.now c.commit.new.board d (after d c.args.change.now) deed is c.requires.agrees.fits c.requires.fits (c.commit.ensures.any_moment told) c.commit.ensures.beside.text
+    commit_point g.B.Board c.args.tables.now c.args.seal.now c.args.board.now c.commit.new.board d c.args.known.now.place (after d c.args.change.now) deed is c.requires.agrees.fits c.requires.fits (c.commit.ensures.any_moment told) c.commit.ensures.beside.text
 
 pub returns-in-Err-clause-beside : goal.returns-in-Err-clause-beside
 returns-in-Err-clause-beside g c = λ told.
     let d = c.args.known.now.durable in
-    beside_commit g.B.Board d (after d c.args.change.now) c.args.board.now c.commit.new.board c.commit.ensures.beside (c.commit.ensures.any_moment told)
+    beside_commit g.B.Board c.args.known.now.place d (after d c.args.change.now) c.args.board.now c.commit.new.board c.requires.agrees.slot c.commit.ensures.beside (c.commit.ensures.any_moment told)

@@ -1,8 +1,18 @@
-use Rattle.std.proofs.Common.{ℕ, ap, ◌∙◌, arith}
+use Rattle.std.proofs.Common.{◌≡◌, ℕ, false, ap, refl, ◌∙◌, arith}
 use Rattle.pulse_input.specs.Distance.{millimetres_of}
+use Rattle.taxi_units.specs.declared.receipt.Kind.{Kind}
+use Rattle.taxi_units.specs.declared.receipt.Kind.TheVariants.{Closed, Aborted, Expired, Roam}
 use Rattle.totaliser_store.specs.declared.trip.Trip as store
+use Rattle.totaliser_store.specs.Entries.{is_of_hiring}
 use Rattle.meter_states.proofs.SameParts.{entry-same}
 use Rattle.meter_states.proofs.records.entry.Goals as goal
+
+-- each kind but roaming closes a hiring
+closes_one : (kind : Kind) → (kind ≡ Roam → ⊥) → is_of_hiring kind ≡ false → ⊥
+closes_one Closed other none = cc
+closes_one Aborted other none = cc
+closes_one Expired other none = cc
+closes_one Roam other none = other refl
 
 pub returns-clause-range : goal.returns-clause-range
 returns-clause-range c =
@@ -12,6 +22,7 @@ returns-clause-range c =
       fare = c.fare.ensures.most;
       supplements = c.extras_are_few.ensures.sum;
       position = λ closes. c.requires.position;
+      roaming = λ roams. absurd (closes_one c.args.kind c.requires.kind roams);
     }
 
 pub extras_are_few-requires : goal.extras_are_few-requires

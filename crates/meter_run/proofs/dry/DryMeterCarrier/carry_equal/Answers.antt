@@ -1,4 +1,4 @@
-use Rattle.std.proofs.Common.{List, subst}
+use Rattle.std.proofs.Common.{List, subst, sym, ◌∙◌}
 use Rattle.taxi_units.specs.declared.event.Event.{Event}
 use Rattle.meter_states.specs.Equals.{intervals_of}
 use Rattle.meter_run.specs.Dry.{Carries}
@@ -6,7 +6,10 @@ use Rattle.meter_run.proofs.Equal.{carries_still, intervals_are, ready_still}
 use Rattle.meter_run.proofs.dry.DryMeterCarrier.carry_equal.Goals as goal
 
 pub equal_intervals-requires : goal.equal_intervals-requires
-equal_intervals-requires g c = record { lawful = c.requires.1.lawful }
+equal_intervals-requires g c = record {
+  lawful = c.requires.1.lawful;
+  constant = c.requires.1.way.is.tariff.constant ∙ sym c.requires.1.way.is.secured.constant;
+}
 
 pub returns-clause-ready : goal.returns-clause-ready
 returns-clause-ready g c = λ board ready.

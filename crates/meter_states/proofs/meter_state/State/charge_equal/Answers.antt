@@ -1,14 +1,16 @@
-use Rattle.std.proofs.Common.{◌≡◌, ℕ, ◌+◌, ◌*◌, ◌<◌, ◌≤◌, [], Some, refl, ap, sym, subst, ◌∙◌, arith}
+use Rattle.std.proofs.Common.{◌≡◌, ℕ, ◌+◌, ◌*◌, ◌<◌, ◌≤◌, ◌⊎◌, inr, [], Some, refl, ap, sym, subst, ◌∙◌, arith}
 use Rattle.std.proofs.Math.Nat.{mul-le-mul_left, mul-le-mul_right}
 use Rattle.tariff_syntax.specs.declared.context.Context.{Context}
 use Rattle.meter_states.specs.Charge.{charge_at}
 use Rattle.meter_states.specs.Core.{Plain, Follows, plain_of}
-use Rattle.meter_states.specs.Equals.{charged, intervals_of, spare_of}
+use Rattle.meter_states.specs.EqualStages.{charged}
+use Rattle.meter_states.specs.Equals.{intervals_of, spare_of}
 use Rattle.meter_states.specs.Interval.{context_of}
 use Rattle.meter_states.specs.Meter.{Meter, quiet}
 use Rattle.meter_states.specs.Run.{run}
 use Rattle.meter_states.specs.Setting.{modulus_of}
-use Rattle.meter_states.proofs.EqualIntervals.{charge-by-weights, context-later, hired-equal, near-later, pulses-few, range-later, taken-none}
+use Rattle.taxi_units.specs.Time.{longest_trip}
+use Rattle.meter_states.proofs.EqualIntervals.{charge-by-weights, charged-full, context-later, hired-equal, near-later, pulses-few, range-later, taken-none}
 use Rattle.meter_states.proofs.Outcomes.{quiet-follows}
 use Rattle.meter_states.proofs.Settings.{modulus-is, modulus-some}
 use Rattle.meter_states.proofs.meter_state.State.charge_equal.Goals as goal
@@ -98,3 +100,19 @@ add_charged-requires-clause-range c =
 
 pub add_charged-requires-clause-spare : goal.add_charged-requires-clause-spare
 add_charged-requires-clause-spare c = rw c.spare.ensures.value at c.most_times-n.ensures.room
+
+pub returns-in_default-clause-full : goal.returns-in_default-clause-full
+returns-in_default-clause-full c = inr (λ may. c.in_default.ensures.none refl may.outlasts.trip may.outlasts.has may.serve)
+
+pub returns-clause-full : goal.returns-clause-full
+returns-clause-full c =
+    let tables = c.args.tables.now in
+    let t = c.in-Some-trip.trip in
+    let n = c.most_times-n.result in
+    let has : c.args.self.now.trip ≡ Some t = sym (ap (λ (p : Plain). p.trip) c.self.view_is) ∙ c.in-Some-trip.is in
+    let range = rw has at c.requires.lawful.trip in
+    let few : (c.min-few.result ≡ c.args.count) ⊎ (longest_trip ≤ t.ticks + c.min-few.result + 1) = grind (arith, c.min-few.ensures, range.range.ticks) in
+    let spare = rw c.spare.ensures.value at c.most_times-n.ensures.room in
+    let full = rw c.spare.ensures.value at c.most_times-n.ensures.full in
+    charged-full tables c.args.seal.now c.args.facts.now c.args.pulses c.charge-each.result n c.most_times-near.result c.most_times-longest.result c.min-few.result c.args.count _ t c.add_charged.new.trip c.in-Some.lasting refl
+    c.add_charged.ensures.value c.charge-each.ensures.charge (λ rate is. c.in-Some.ensures.lasts t rate has is) range.range.rest spare few c.most_times-longest.ensures.full c.most_times-near.ensures.full full

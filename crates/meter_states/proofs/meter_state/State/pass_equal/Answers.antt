@@ -1,6 +1,7 @@
 use Rattle.std.proofs.Common.{◌≡◌, ◌+◌, ◌≤◌, [], Some, ap, sym, subst, ◌∙◌, arith}
 use Rattle.meter_states.specs.Core.{Plain, Follows}
-use Rattle.meter_states.specs.Equals.{intervals_of, passed}
+use Rattle.meter_states.specs.EqualStages.{passed}
+use Rattle.meter_states.specs.Equals.{intervals_of}
 use Rattle.meter_states.specs.Run.{run}
 use Rattle.meter_states.proofs.EqualIntervals.{stopped-equal}
 use Rattle.meter_states.proofs.Settings.{modulus-some}

@@ -1,0 +1,54 @@
+-- For proofs: a core that carries out equal measuring intervals at once. `Equals` says what they are, and when one more
+-- of them may go.
+use Rattle.std.specs.Prelude.{◌≡◌, ℕ, ◌+◌, ◌-◌, ◌*◌, ◌≤◌, []}
+use Rattle.drive_modes.specs.declared.meterage.Meterage.{Meterage}
+use Rattle.seal_store.specs.declared.seal.Seal.{Seal}
+use Rattle.tariff_compile.specs.Tables.{TableParts}
+use Rattle.tariff_compile.specs.declared.parts.Lasting.{Lasting}
+use Rattle.totaliser_store.specs.declared.trip.Trip.{Trip}
+use Rattle.meter_states.specs.Core.{Plain}
+use Rattle.meter_states.specs.Equals.{intervals_of}
+use Rattle.meter_states.specs.Lawful.{IsBetweenEvents}
+use Rattle.meter_states.specs.Run.{run}
+use Rattle.meter_states.specs.Stages.{FollowsStage}
+use Rattle.meter_states.specs.declared.facts.RateFacts.{RateFacts}
+
+-- a core has taken `taken` of `count` equal intervals where these are at most as many, it is between two events then,
+-- and its operating position and the store's number are the same
+pub record HasTaken (tables : TableParts) (count : ℕ) (old new : Plain) (taken : ℕ) : Type 0 where
+  pub lawful : IsBetweenEvents tables new
+  pub most : taken ≤ count
+  pub same : (new.operating ≡ old.operating) × (new.number ≡ old.number)
+
+-- a core follows `count` equal intervals of p pulses under tables and a seal where it follows their events and does
+-- nothing
+abbrev pub FollowsIntervals : TableParts → Seal → (old new : Plain) → (p count : ℕ) → Type 0
+FollowsIntervals tables seal old new p count =
+    FollowsStage tables seal old new [] [] (λ s m. run s (intervals_of p count) m)
+
+-- a kept rate lasts from these pulses and ticks of a trip on for what is left of its own further pulses and ticks
+pub record LastsFrom (rate : RateFacts) (pulses ticks : ℕ) (lasting : Lasting) : Type 0 where
+  pub weights : lasting.weights ≡ rate.lasting.weights
+  pub further : pulses + lasting.further ≡ rate.first.pulses + rate.lasting.further
+  pub longer : ticks + lasting.longer ≡ rate.first.ticks + rate.lasting.longer
+
+-- a trip has passed `count` further intervals of p pulses that are free where its pulses and ticks have grown by theirs
+abbrev pub passed : (p count : ℕ) → Trip → Trip
+passed p count t = record t { pulses = t.pulses + count * p; ticks = t.ticks + count }
+
+-- a meterage after `count` further equal charges that fill no display step has used up its cover first, and then has
+-- more rest
+abbrev pub unfilled : (charge count : ℕ) → Meterage → Meterage
+unfilled charge count m = record m {
+  cover_left = m.cover_left - count * charge;
+  rest = m.rest + (count * charge - m.cover_left);
+}
+
+-- a trip after `count` further intervals of p pulses, whose charges fill no display step, has more pulses and ticks,
+-- and its meterage has the charges
+abbrev pub charged : (p charge count : ℕ) → Trip → Trip
+charged p charge count t = record t {
+  pulses = t.pulses + count * p;
+  ticks = t.ticks + count;
+  meterage = unfilled charge count t.meterage;
+}
