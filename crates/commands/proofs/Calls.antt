@@ -1,36 +1,19 @@
 -- A call, from how its command came to its last line, and that line.
-use Rattle.std.proofs.Common.{◌≡◌, ◌≢◌, ◌⊎◌, inl, inr, ℕ, ◌≤◌, List, Some, refl, sym, ap, subst, ◌∙◌, arith}
+use Rattle.std.proofs.Common.{◌≡◌, ◌≢◌, ◌⊎◌, inl, inr, ℕ, ◌≤◌, List, refl, sym, ap, subst, ◌∙◌, arith}
 use Rattle.outside.specs.declared.board.Board.{Ghosts}
 use Rattle.outside.specs.declared.files.Files.{Ghosts as FileGhosts}
 use Rattle.outside.specs.Faults.{Rose}
 use Rattle.outside.specs.Runs.{KeepsStore}
 use Rattle.commands.specs.declared.ending.Ended.{Ended}
 use Rattle.commands.specs.declared.ending.Ended.TheVariants as ended
-use Rattle.commands.specs.declared.words.Row.{Row}
-use Rattle.commands.specs.declared.words.Row.TheVariants as rows
 use Rattle.commands.specs.Call.{HasReadFault, IsCall, IsEnd, MayLack, MayTake}
-use Rattle.commands.specs.Command.{command_of}
+use Rattle.commands.specs.Carried.{Carries}
 use Rattle.commands.specs.Course.{Command, Course, Answered, ReadFailed, NoMemory, BoardFailed, status_in, text_in}
 use Rattle.commands.specs.Ending.{ComesOn}
 use Rattle.commands.specs.LastLine.{line_of, status_of}
-use Rattle.commands.specs.Unwritten.{KeepsBytes, WritesNothing}
+use Rattle.commands.specs.Unwritten.{WritesNothing}
 use Rattle.commands.proofs.Endings.{ends-with, finishes-later, may-then}
 use Rattle.commands.proofs.Unwritten.{bytes-kept, bytes-then}
-
--- where a command may write at all, it may where the board fails
-writes_eight : (row : Row) (status : ℕ) → (command_of (Some row)).writes status → (command_of (Some row)).writes 8
-writes_eight rows.Check status h = absurd h
-writes_eight (rows.Tables k) status h = absurd h
-writes_eight (rows.Fare k) status h = absurd h
-writes_eight rows.Totals status h = absurd h
-writes_eight rows.Seal status h = inr refl
-writes_eight rows.Run status h = inr (inr (inr refl))
-writes_eight rows.Bench status h = absurd h
-writes_eight (rows.Gen seed trips) status h = absurd h
-writes_eight rows.Port status h = absurd h
-writes_eight (rows.Offsets years) status h = absurd h
-writes_eight (rows.Mark driver) status h = absurd h
-writes_eight rows.Shifts status h = absurd h
 
 module _ {E D L : Type 0} (F : FileGhosts E) (B : Ghosts D L) (files files' : E) (old mid new : D) (end : Ended) (status : ℕ)
     (count : B.faults old ≤ B.faults mid) (later : B.faults mid ≤ B.faults new)
@@ -52,12 +35,12 @@ module _ {E D L : Type 0} (F : FileGhosts E) (B : Ghosts D L) (files files' : E)
   call_course command h = refl
 
   -- a status with which nothing is written
-  status_before : (row : Row) → ¬ ((command_of (Some row)).writes status) → ¬ ((command_of (Some row)).writes (status_of end))
-  status_before row not = by finish
+  status_before : (command : Command) → ((n : ℕ) → command.writes n → command.writes 8) → ¬ (command.writes status) → ¬ (command.writes (status_of end))
+  status_before command fails not = by finish
     where
-      by : IsEnd B.tells_text (Rose (B.faults mid) (B.faults new)) (status_of end) (line_of end) status (B.printed mid) (B.printed new) → ¬ ((command_of (Some row)).writes (status_of end))
-      by (inl whole) w = not (subst (λ (n : ℕ). (command_of (Some row)).writes n) (sym whole.status_is) w)
-      by (inr cut) w = not (subst (λ (n : ℕ). (command_of (Some row)).writes n) (sym cut.status_is) (writes_eight row (status_of end) w))
+      by : IsEnd B.tells_text (Rose (B.faults mid) (B.faults new)) (status_of end) (line_of end) status (B.printed mid) (B.printed new) → ¬ (command.writes (status_of end))
+      by (inl whole) w = not (subst (λ (n : ℕ). command.writes n) (sym whole.status_is) w)
+      by (inr cut) w = not (subst (λ (n : ℕ). command.writes n) (sym cut.status_is) (fails (status_of end) w))
 
   no_board : status ≢ 8 → end ≢ ended.BoardFault
   no_board not_8 e = by finish
@@ -66,40 +49,14 @@ module _ {E D L : Type 0} (F : FileGhosts E) (B : Ghosts D L) (files files' : E)
       by (inl whole) = not_8 (whole.status_is ∙ ap status_of e)
       by (inr cut) = not_8 cut.status_is
 
-  pub nothing_written : (row : Row) → KeepsStore B mid new
-      → (¬ ((command_of (Some row)).writes (status_of end)) → KeepsBytes B old mid)
-      → (¬ ((command_of (Some row)).writes (status_of end)) → end ≢ ended.BoardFault → B.image mid ≡ B.image old)
-      → ¬ ((command_of (Some row)).writes status) → WritesNothing B old new status
-  nothing_written row kept bytes same not = record {
-    bytes = bytes-then B old mid new (bytes (status_before row not)) (bytes-kept B mid new kept);
-    same = λ not_8. kept.same ∙ same (status_before row not) (no_board not_8);
-  }
-
--- a bound of steps is one for fewer
-pub steps_later : (row : Row) (files_tell image_told : Type 0) (contents left : ℕ → List ℕ) (image : List ℕ) (before mid now : ℕ) → now ≤ mid
-    → (command_of (Some row)).steps files_tell image_told contents left image before mid → (command_of (Some row)).steps files_tell image_told contents left image before now
-steps_later rows.Check files_tell image_told contents left image before mid now fewer h = omega (arith, fewer, h)
-steps_later (rows.Tables k) files_tell image_told contents left image before mid now fewer h = λ tells. omega (arith, fewer, h tells)
-steps_later (rows.Fare k) files_tell image_told contents left image before mid now fewer h = λ tells.
-    let b = h tells in record { taken = b.taken; split = b.split; bound = omega (arith, fewer, b.bound) }
-steps_later rows.Totals files_tell image_told contents left image before mid now fewer h = omega (arith, fewer, h)
-steps_later rows.Seal files_tell image_told contents left image before mid now fewer h = omega (arith, fewer, h)
-steps_later rows.Run files_tell image_told contents left image before mid now fewer h = λ tells.
-    let b = h tells in record { taken = b.taken; split = b.split; bound = omega (arith, fewer, b.bound) }
-steps_later rows.Bench files_tell image_told contents left image before mid now fewer h = λ tells told. omega (arith, fewer, h tells told)
-steps_later (rows.Gen seed trips) files_tell image_told contents left image before mid now fewer h = omega (arith, fewer, h)
-steps_later rows.Port files_tell image_told contents left image before mid now fewer h = λ tells.
-    let b = h tells in
-    record {
-      steps = record { taken = b.steps.taken; split = b.steps.split; bound = omega (arith, fewer, b.steps.bound) };
-      unread = b.unread;
-    }
-steps_later (rows.Offsets years) files_tell image_told contents left image before mid now fewer h = omega (arith, fewer, h)
-steps_later (rows.Mark driver) files_tell image_told contents left image before mid now fewer h = omega (arith, fewer, h)
-steps_later rows.Shifts files_tell image_told contents left image before mid now fewer h = record {
-  by_report = λ tells told. omega (arith, fewer, h.by_report tells told);
-  by_book = λ tells. omega (arith, fewer, h.by_book tells);
-}
+  pub nothing_written : (command : Command) (before now : ℕ) → KeepsStore B mid new → Carries F B command files files' old mid before now end
+      → ¬ (command.writes status) → WritesNothing B old new status
+  nothing_written command before now kept carried not =
+      let still = status_before command carried.fails not in
+      record {
+        bytes = bytes-then B old mid new (carried.unwritten still) (bytes-kept B mid new kept);
+        same = λ not_8. kept.same ∙ carried.same still (no_board not_8);
+      }
 
 -- without a fault of the outside the status is that of the answer, unless memory ran out
 module _ {E D L : Type 0} (F : FileGhosts E) (B : Ghosts D L) (c : Command) (files files' : E) (old new : D) (status : ℕ)

@@ -37,27 +37,6 @@ comes-unprinted c contents left image read_failed failed told printed ended h =
           h.stands;
     }
 
--- a call that reads no file, as one that does
-pub comes-unread : (c : Command) (contents left : ℕ → List ℕ) (image : List ℕ) (read_failed : ℕ → Type 0) (failed : Type 0) (whole begun : List ℕ → Type 0) (ended : Ended)
-    → Comes c contents left image (λ word. ⊥) failed whole begun ended → Comes c contents left image read_failed failed whole begun ended
-comes-unread c contents left image read_failed failed whole begun ended h =
-    record {
-      course = h.course;
-      may = reading h.course h.may;
-      stands = ⊎_elim
-          (λ (d : IsDue c contents left image (λ word. ⊥) failed whole begun h.course ended). inl (record { status_is = d.status_is; line_is = d.line_is; shown = d.shown }))
-          (λ (b : IsBrokenOff c contents left image (λ word. ⊥) failed whole begun h.course ended). inr (record { ended_is = b.ended_is; failed = b.failed; started = b.started }))
-          h.stands;
-    }
-  where
-    reading : (course : Course) → MayTake c contents left image (λ word. ⊥) failed course → MayTake c contents left image read_failed failed course
-    reading Answered m = record { whole = m.whole; refused = m.refused; bad = m.bad }
-    reading (ReadFailed word taken) m = absurd m.failed
-    reading NoMemory m = record { taken = m.taken; may = m.may; takes = m.takes }
-    reading (BoardFailed taken) m = record { failed = m.failed; takes = m.takes }
-
--- ---- the last line
-
 -- two texts, one after the other
 then_text : (before mid now x y : List ℕ) → mid ≡ before ++ x → now ≡ mid ++ y → now ≡ before ++ (x ++ y)
 then_text before mid now x y e f = f ∙ ap (λ (t : List ℕ). t ++ y) e ∙ append_assoc before x y

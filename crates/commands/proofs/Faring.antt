@@ -129,3 +129,10 @@ read_fault-ran (Err faults.ReadFault) e = refl
 read_fault-ran (Err faults.BoardFault) e = absurd cc
 read_fault-ran (Err (faults.BadDrive n)) e = absurd cc
 read_fault-ran (Err faults.TooLong) e = absurd cc
+
+pub board_fault-ran : (ran : Result (Unit {0}) RunFault) → ended_by ran ≡ ended.BoardFault → ran ≡ Err faults.BoardFault
+board_fault-ran (Ok u) e = absurd cc
+board_fault-ran (Err faults.ReadFault) e = absurd cc
+board_fault-ran (Err faults.BoardFault) e = refl
+board_fault-ran (Err (faults.BadDrive n)) e = absurd cc
+board_fault-ran (Err faults.TooLong) e = absurd cc

@@ -12,6 +12,8 @@ mod Benching
 mod BoardRuns
 -- a call, from the end of its command to its last line
 mod Calls
+-- commands that are given no files or no board, as ones that are
+mod Carrying
 -- one run of a chain, from what holds of a call with the words of a run
 mod ChainLinks
 -- a chain with one run more, and the places that a loop has gone through

@@ -1,6 +1,5 @@
 -- The command `seal`: what it answers.
 use Rattle.std.proofs.Common.{◌≡◌, ◌≢◌, ◌⊎◌, ⊎_elim, inl, inr, ℕ, List, [], ◌++◌, Option, Result, Ok, Err, refl, sym, ap, subst, ◌∙◌}
-use Rattle.std.specs.Prelude.{if◌then◌else◌}
 use Rattle.sha2.specs.Sha256.{sha256}
 use Rattle.outside.specs.Printing.{Begins}
 use Rattle.tariff_syntax.specs.Tree.{Tree}
@@ -12,10 +11,8 @@ use Rattle.commands.specs.declared.ending.Ended.TheVariants as ended
 use Rattle.commands.specs.declared.opening.Opening.{Opening}
 use Rattle.commands.specs.declared.opening.StoreFault.{StoreFault}
 use Rattle.commands.specs.declared.opening.StoreFault.TheVariants as stores
-use Rattle.commands.specs.declared.params.ParamsFault.TheVariants as params
 use Rattle.commands.specs.declared.seal.Base.{Base}
 use Rattle.commands.specs.declared.tariff.Refusal.{Refusal}
-use Rattle.commands.specs.declared.tariff.TextFault.TheVariants as texts
 use Rattle.commands.specs.Answer.{Answer}
 use Rattle.commands.specs.Course.{Answered, NoMemory, ReadFailed}
 use Rattle.commands.specs.Ending.{Comes}

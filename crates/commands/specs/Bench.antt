@@ -140,7 +140,7 @@ pub record HasTakenDrive (image tariff drive taken : List ℕ) : Type 0 where
 
 -- the command `bench` opens the store, reads its tariff, its drive and then its readings into memory, and prints at the
 -- end alone, in pieces, so that each file was read to its end also where a row doesn't pass; it writes nothing, and
--- takes at most 64 steps, one for each piece and one for the last line
+-- takes on the call's own counter at most 64 steps, one for each piece and one for the last line
 abbrev pub bench_command : Command
 bench_command = record {
   answer = λ contents image. bench_answer (terms_of (opening_of image) (contents 1)) (contents 2) (contents 3);

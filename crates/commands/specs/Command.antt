@@ -3,7 +3,7 @@ use Rattle.std.specs.Prelude.{ℕ, List, Option, Some, None}
 use Rattle.commands.specs.Answer.{Answer}
 use Rattle.commands.specs.Bench.{bench_command}
 use Rattle.commands.specs.Check.{check_command}
-use Rattle.commands.specs.Course.{Command}
+use Rattle.commands.specs.Course.{Command, LooksOnly}
 use Rattle.commands.specs.Fare.{fare_command}
 use Rattle.commands.specs.Generate.{gen_command}
 use Rattle.commands.specs.Mark.{mark_command}
@@ -36,14 +36,19 @@ command_of (Some (Offsets years)) = offsets_command years
 command_of (Some (Mark driver)) = mark_command driver
 command_of (Some Shifts) = shifts_command
 
--- a command only looks at the store where it opens the store and writes nothing
+-- words only look at the store where their command opens the store and writes nothing; these commands are the five of
+-- `IsLook`, as the law five_commands_only_look says
 abbrev pub OnlyLooks : Option Row → Type 0
-OnlyLooks (Some Totals) = Unit {0}
-OnlyLooks (Some Bench) = Unit {0}
-OnlyLooks (Some Port) = Unit {0}
-OnlyLooks (Some (Mark driver)) = Unit {0}
-OnlyLooks (Some Shifts) = Unit {0}
-OnlyLooks row = ⊥
+OnlyLooks row = LooksOnly (command_of row)
+
+-- a row is a look at the store where it is one of `totals`, `bench`, `port`, `mark` and `shifts`
+abbrev pub IsLook : Option Row → Type 0
+IsLook (Some Totals) = Unit {0}
+IsLook (Some Bench) = Unit {0}
+IsLook (Some Port) = Unit {0}
+IsLook (Some (Mark driver)) = Unit {0}
+IsLook (Some Shifts) = Unit {0}
+IsLook row = ⊥
 
 -- words call the command of the row that they are
 abbrev pub called : List (List ℕ) → Command

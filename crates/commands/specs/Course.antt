@@ -29,6 +29,11 @@ pub record Command : Type 1 where
   -- whether the command's count of steps may rise from `before` to `now`, by what is told and what is left of the files
   pub steps : (files_tell image_told : Type 0) (contents left : ℕ → List ℕ) (image : List ℕ) (before now : ℕ) → Type 0
 
+-- a command only looks at the store where it opens the store and writes nothing
+pub record LooksOnly (c : Command) : Type 0 where
+  pub opens : c.opens
+  pub unwritten : (ended : ℕ) → ¬ c.writes ended
+
 -- a command that shows what the store holds opens it, reads no file, takes no memory and writes nothing, in at most 64
 -- steps and one for the last line
 abbrev pub store_command : (answer : (image : List ℕ) → Answer) → Command

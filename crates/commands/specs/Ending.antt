@@ -74,7 +74,7 @@ abbrev pub ended_with : (pass : Bool) → Ended
 ended_with true = Done
 ended_with false = NotPassed
 
--- a tariff with a fault wasn't read for want of memory, or because it is refused for the fault
+-- why a tariff isn't read whose check answers a fault: memory ran out, or the tariff is refused for this fault
 abbrev pub unsound_for : CheckFault → TextFault
 unsound_for checks.NoMemory = texts.NoMemory
 unsound_for fault = texts.Refused (Unsound fault)

@@ -33,8 +33,10 @@ pub mod Chain
 pub mod Link
 -- For proofs
 pub mod BenchSteps
+pub mod Carried
 pub mod ChainSteps
 pub mod Ending
 pub mod Opened
 pub mod RunSteps
 pub mod SealSteps
+pub mod TableSteps

@@ -1,12 +1,8 @@
 //! The command `bench`.
-ghost use Rattle.std.specs.Prelude.{◌≡◌, ◌≢◌, ℕ, ◌+◌, ◌≤◌, length, Err};
-ghost use Rattle.outside.specs.Faults.{Rose};
-ghost use Rattle.commands.specs.Bench.{bench_answer, bench_command, terms_of};
-ghost use Rattle.commands.specs.Call.{HasReadFault};
-ghost use Rattle.commands.specs.Ending.{ComesOn, LooksAt, ended_with};
-ghost use Rattle.commands.specs.Opening.{opening_of};
-ghost use Rattle.commands.specs.Pieces.{pieces_of};
-ghost use Rattle.commands.specs.Unwritten.{KeepsBytes};
+ghost use Rattle.std.specs.Prelude.{◌≡◌, Err};
+ghost use Rattle.commands.specs.Carried.{Carries};
+ghost use Rattle.commands.specs.Bench.{bench_command};
+ghost use Rattle.commands.specs.Ending.{ended_with};
 
 use crate::bench_terms::open_terms;
 use crate::ending::Ended;
@@ -26,20 +22,8 @@ pub fn bench<F: Files, B: Board<L>, L: Ledger>(
     board: &mut B,
     steps: &mut Steps<L>,
 ) -> Ended
-    ensures ends { F.tells → B.tells_image
-        → ComesOn F.Files B.Board bench_command files.old files.new board.old board.new result }
-    ensures steps { F.tells → B.tells_image → steps.new ≤ steps.old + 64 + pieces_of (length (bench_answer
-        (terms_of (opening_of (B.image board.old)) (F.rest files.old 1)) (F.rest files.old 2)
-        (F.rest files.old 3)).shown) }
-    ensures read_fault { result ≡ Ended.ReadFault → HasReadFault F.Files bench_command files.old files.new }
-    ensures board_fault { result ≡ Ended.BoardFault → Rose (B.faults board.old) (B.faults board.new) }
-    ensures others { (other : ℕ) → other ≢ 1 → other ≢ 2 → other ≢ 3
-        → F.rest files.new other ≡ F.rest files.old other }
-    ensures count { B.faults board.old ≤ B.faults board.new }
-    ensures counts { (other : ℕ) → F.faults files.old other ≤ F.faults files.new other }
-    ensures store { KeepsBytes B.Board board.old board.new }
-    ensures same { result ≢ Ended.BoardFault → B.image board.new ≡ B.image board.old }
-    ensures looks { B.tells_image → LooksAt B.Board board.old board.new result }
+    ensures { Carries F.Files B.Board bench_command files.old files.new board.old board.new
+        steps.old steps.new result }
 {
     let terms = match open_terms(alloc, files, board, steps) {
         Ok(terms) => terms,

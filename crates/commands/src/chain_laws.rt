@@ -20,9 +20,9 @@ pub fn chains_add_up()
         → Follows durable (last_state durable links) (prefixes_of durable image links) }
 {}
 
-/// In any chain each receipt of which a byte stands in the text that a run left has its entry in the prefix
-/// of that run, and a number above the one that the run began with, and no greater than the one that it left:
-/// so no two runs of a chain give one number to two receipts.
+/// Where a byte of a receipt stands in the text that a run of a chain left, the receipt has its entry in the
+/// prefix of that run. Its number is above the one that the run began with, and at most the one that the run
+/// left. So no two runs of a chain give one number to two receipts.
 pub fn receipts_are_in_their_prefix()
     ensures entry { (durable : Durable) (image : List ℕ) (runs : List Link) (link : Link) (others : List Link)
         → HasState image durable → IsChain durable image (runs ++ link ∷ others) → (receipt : receipts.Receipt)

@@ -1,6 +1,7 @@
 //! What the command `fare` is sealed with.
-ghost use Rattle.std.specs.Prelude.{◌≡◌, ◌∷◌, [], pos};
+ghost use Rattle.std.specs.Prelude.{◌≡◌, ◌∷◌, [], codes, pos, replicate};
 ghost use Rattle.drive_modes.specs.declared.charges.Mode.TheVariants.{Single};
+ghost use Rattle.seal_store.specs.Limits.{first_day};
 ghost use Rattle.taxi_units.specs.Time.{first_second};
 
 use arrayvec::ArrayVec;
@@ -14,10 +15,15 @@ use taxi_units::FIRST_SECOND;
 /// It is the first of the taxi `DRY`, secured on the first day of 2000, for a tariff of these decimals
 /// whose digest is zeros. This project's own.
 pub fn fare_seal(constant: Constant, decimals: u8) -> Seal
+    ensures number { result.seal_number ≡ 1 }
+    ensures taxi { result.params.taxi.items ≡ codes "DRY" }
     ensures constant { result.params.constant ≡ constant }
     ensures mode { result.params.mode ≡ Single }
     ensures hold { result.params.hold ≡ 60 }
     ensures offsets { result.params.offsets ≡ (first_second, pos 0) ∷ [] }
+    ensures secured { result.params.secured ≡ pos first_day }
+    ensures digest { result.digest ≡ replicate 32 0 }
+    ensures decimals { result.decimals ≡ decimals }
 {
     let mut taxi = ArrayVec::new();
     taxi.push(b'D');

@@ -1,11 +1,10 @@
 //! The command `gen`.
-ghost use Rattle.std.specs.Prelude.{◌≡◌, ◌≢◌, ◌+◌, ◌*◌, ◌<◌, ◌≤◌, ◌∷◌, ℕ, List, [], length, pos, None, Some};
+ghost use Rattle.std.specs.Prelude.{◌≡◌, ◌+◌, ◌*◌, ◌<◌, ◌≤◌, ◌∷◌, ℕ, List, [], codes, length, pos, replicate, None, Some};
 ghost use Rattle.drive_modes.specs.declared.charges.Mode.TheVariants.{Single};
 ghost use Rattle.drive_text.specs.Drive.{events_in};
 ghost use Rattle.drive_text.specs.Ending.{Whole, drive_end};
 ghost use Rattle.meter_states.specs.Setting.{Setting, IsSettingOf};
 ghost use Rattle.outside.specs.Faults.{Rose};
-ghost use Rattle.outside.specs.Runs.{KeepsStore};
 ghost use Rattle.seal_store.specs.Ranges.{IsSeal};
 ghost use Rattle.seal_store.specs.Sealing.{FoundSeal, FoundTotals, totals_found};
 ghost use Rattle.slot_store.specs.declared.found.Found.{Found};
@@ -15,12 +14,12 @@ ghost use Rattle.totaliser_store.specs.Stored.{HasState};
 ghost use Rattle.totaliser_store.specs.declared.durable.Durable.{Durable};
 ghost use Rattle.verify_bench.specs.Generated.{generated};
 ghost use Rattle.arrayvec.specs.ArrayVec.{array_vec_len};
-ghost use Rattle.commands.specs.Ending.{ComesFrom};
+ghost use Rattle.commands.specs.Carried.{Carries, no_files};
 ghost use Rattle.commands.specs.Generate.{city_text, event_count, gen_command, generated_text, state_after};
 
 use crate::ending::{Ended, refused_by};
 use crate::number_line::push_number_line;
-use crate::tariff::tariff_of_text;
+use crate::tariff::tables_of_text;
 use crate::totals_text::push_summary;
 use arrayvec::ArrayVec;
 use drive_modes::Mode;
@@ -32,7 +31,7 @@ use seal_store::{Params, Seal, place_seal};
 use slot_store::{Found, scan};
 use std::alloc::Global;
 use std::sync::ledger::Ledger;
-use tariff_compile::{Tables, compile};
+use tariff_compile::Tables;
 use taxi_units::{FIRST_SECOND, Line, Steps, push_bytes, push_number};
 use totaliser_store::Durable;
 use verify_bench::{Generator, generated_drives_mean_their_lines, generated_events};
@@ -78,10 +77,14 @@ pub fn gen_seal(decimals: u8) -> Seal
     requires { decimals ≤ 3 }
     ensures sealed { IsSeal result }
     ensures number { result.seal_number ≡ 1 }
+    ensures taxi { result.params.taxi.items ≡ codes "GEN" }
     ensures constant { result.params.constant ≡ 10000 }
     ensures mode { result.params.mode ≡ Single }
     ensures hold { result.params.hold ≡ 60 }
     ensures offsets { result.params.offsets ≡ (first_second, pos 3600) ∷ [] }
+    ensures secured { result.params.secured ≡ pos 20423 }
+    ensures digest { result.digest ≡ replicate 32 0 }
+    ensures decimals { result.decimals ≡ decimals }
 {
     let mut taxi = ArrayVec::new();
     taxi.push(b'G');
@@ -207,22 +210,14 @@ pub fn generate<B: Board<L>, L: Ledger>(
     steps: &mut Steps<L>,
 ) -> Ended
     requires { (1 ≤ trips) × (trips ≤ 1000) }
-    ensures ends { (contents left : ℕ → List ℕ)
-        → ComesFrom B.Board (gen_command seed trips) contents left (λ word. ⊥) board.old board.new result }
-    ensures board_fault { result ≡ Ended.BoardFault → Rose (B.faults board.old) (B.faults board.new) }
-    ensures not_read { result ≢ Ended.ReadFault }
-    ensures count { B.faults board.old ≤ B.faults board.new }
-    ensures steps { steps.new ≤ steps.old + 78 + 64 * event_count seed trips }
-    ensures store { KeepsStore B.Board board.old board.new }
+    ensures { (contents : ℕ → List ℕ) → Carries (no_files contents) B.Board (gen_command seed trips) tt tt
+        board.old board.new steps.old steps.new result }
 {
     let text = city_tariff();
-    let checked = match tariff_of_text(alloc, text) {
-        Ok(checked) => checked,
-        Err(fault) => return refused_by(fault),
-    };
     let constant = ten_thousand();
-    let Ok(tables) = compile(alloc, &checked, constant) else {
-        return Ended::NoMemory;
+    let tables = match tables_of_text(alloc, text, constant) {
+        Ok(tables) => tables,
+        Err(fault) => return refused_by(fault),
     };
     let decimals = tables.decimals();
     let seal = gen_seal(decimals);

@@ -8,6 +8,7 @@ mod bench_terms;
 mod chain_laws;
 mod chains;
 mod check;
+mod command_laws;
 mod ending;
 mod fare;
 mod fare_seal;
@@ -37,6 +38,7 @@ mod years;
 
 pub use chain_laws::{chains_add_up, receipts_are_in_their_prefix};
 pub use chains::{chain, may_begin};
+pub use command_laws::five_commands_only_look;
 pub use top::taxi;
 pub use words::{Row, Trips, row_in};
 pub use years::Years;

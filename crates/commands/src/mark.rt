@@ -1,9 +1,9 @@
 //! The commands `mark on DRIVER` and `mark off`.
-ghost use Rattle.std.specs.Prelude.{◌≡◌, ◌≢◌, ◌+◌, ◌<◌, ◌≤◌, ℕ, List, length};
+ghost use Rattle.std.specs.Prelude.{◌≡◌, ◌<◌, ◌≤◌, ℕ, List, length};
 ghost use Rattle.taxi_units.specs.Line.{line_size};
 ghost use Rattle.shift_book.specs.Following.{numbers_in};
 ghost use Rattle.shift_book.specs.Marks.{mark_text};
-ghost use Rattle.commands.specs.Ending.{ComesFrom, HasCauseOn, OnlyLooksAt};
+ghost use Rattle.commands.specs.Carried.{Carries, no_files};
 ghost use Rattle.commands.specs.Mark.{mark_command};
 ghost use Rattle.commands.specs.Mark as spec;
 
@@ -23,12 +23,8 @@ pub fn print_mark<B: Board<L>, L: Ledger>(
     board: &mut B,
     steps: &mut Steps<L>,
 ) -> Ended
-    ensures ends { (contents left : ℕ → List ℕ) → B.tells_image
-        → ComesFrom B.Board (mark_command driver) contents left (λ word. ⊥) board.old board.new result }
-    ensures cause { HasCauseOn B.Board board.old board.new result }
-    ensures not_read { result ≢ Ended.ReadFault }
-    ensures steps { steps.new ≤ steps.old + 64 }
-    ensures looks { OnlyLooksAt B.Board board.old board.new result }
+    ensures { (contents : ℕ → List ℕ) → Carries (no_files contents) B.Board (mark_command driver) tt tt
+        board.old board.new steps.old steps.new result }
 {
     let store = match open_sealed(board, steps) {
         Ok(store) => store,

@@ -8,7 +8,8 @@ ghost use Rattle.outside.specs.Printing.{Begins};
 ghost use Rattle.outside.specs.Runs.{KeepsStore};
 ghost use Rattle.offset_rules.specs.Reading.{rules_read};
 ghost use Rattle.offset_rules.specs.Texts.{offset_line, offset_lines};
-ghost use Rattle.commands.specs.Ending.{ComesOn, ended_for_rules};
+ghost use Rattle.commands.specs.Carried.{Carries};
+ghost use Rattle.commands.specs.Ending.{ended_for_rules};
 ghost use Rattle.commands.specs.Offsets.{offsets_command};
 
 use crate::ending::Ended;
@@ -37,15 +38,8 @@ pub fn print_offsets<F: Files, B: Board<L>, L: Ledger>(
     board: &mut B,
     steps: &mut Steps<L>,
 ) -> Ended
-    ensures ends { F.tells
-        → ComesOn F.Files B.Board (offsets_command years) files.old files.new board.old board.new result }
-    ensures steps { steps.new ≤ steps.old + 31 }
-    ensures read_fault { result ≡ Ended.ReadFault → Rose (F.faults files.old 1) (F.faults files.new 1) }
-    ensures board_fault { result ≡ Ended.BoardFault → Rose (B.faults board.old) (B.faults board.new) }
-    ensures count { B.faults board.old ≤ B.faults board.new }
-    ensures others { (other : ℕ) → other ≢ 1 → F.rest files.new other ≡ F.rest files.old other }
-    ensures counts { (other : ℕ) → F.faults files.old other ≤ F.faults files.new other }
-    ensures store { KeepsStore B.Board board.old board.new }
+    ensures { Carries F.Files B.Board (offsets_command years) files.old files.new board.old board.new
+        steps.old steps.new result }
 {
     let rules = match rules_of_word(files, 1) {
         Ok(rules) => rules,

@@ -1,9 +1,5 @@
 //! The command `port`.
-ghost use Rattle.std.specs.Prelude.{◌≡◌, ◌≢◌, ℕ, ◌+◌, ◌≤◌, Err};
-ghost use Rattle.data_port.specs.Serving.{IsBoundedBy};
-ghost use Rattle.commands.specs.Call.{HasReadFault};
-ghost use Rattle.commands.specs.Ending.{ComesOn, HasCauseOn, OnlyLooksAt};
-ghost use Rattle.commands.specs.Opening.{opening_of, store_of};
+ghost use Rattle.commands.specs.Carried.{Carries};
 ghost use Rattle.commands.specs.Port.{port_command};
 
 use crate::ending::{Ended, ended_of_serving};
@@ -19,16 +15,8 @@ pub fn serve_requests<F: Files, B: Board<L>, L: Ledger>(
     board: &mut B,
     steps: &mut Steps<L>,
 ) -> Ended
-    ensures ends { F.tells → B.tells_image
-        → ComesOn F.Files B.Board port_command files.old files.new board.old board.new result }
-    ensures steps { F.tells → IsBoundedBy (F.rest files.old 1) (F.rest files.new 1) (steps.old + 6) steps.new }
-    ensures unread { B.tells_image → (why : Ended) → store_of (opening_of (B.image board.old)) ≡ Err why
-        → F.rest files.new 1 ≡ F.rest files.old 1 }
-    ensures read_fault { result ≡ Ended.ReadFault → HasReadFault F.Files port_command files.old files.new }
-    ensures cause { HasCauseOn B.Board board.old board.new result }
-    ensures others { (other : ℕ) → other ≢ 1 → F.rest files.new other ≡ F.rest files.old other }
-    ensures counts { (other : ℕ) → F.faults files.old other ≤ F.faults files.new other }
-    ensures looks { OnlyLooksAt B.Board board.old board.new result }
+    ensures { Carries F.Files B.Board port_command files.old files.new board.old board.new
+        steps.old steps.new result }
 {
     let store = match open_sealed(board, steps) {
         Ok(store) => store,

@@ -2,15 +2,12 @@
 ghost use Rattle.std.specs.Prelude.{◌≡◌, ◌≢◌, ◌↔◌, ℕ, ◌+◌, ◌≤◌, [], IfErr, IfOk, OnOk, IsErrOf, IsTrue, Err};
 ghost use Rattle.std.specs.Option.{ForSome};
 ghost use Rattle.outside.specs.Faults.{Rose};
-ghost use Rattle.meter_run.specs.Drives.{IsBoundedBy};
 ghost use Rattle.meter_states.specs.Fits.{Fits};
 ghost use Rattle.seal_store.specs.Ranges.{IsSeal};
-ghost use Rattle.commands.specs.Call.{HasReadFault};
-ghost use Rattle.commands.specs.LastLine.{status_of};
+ghost use Rattle.commands.specs.Carried.{Carries};
 ghost use Rattle.commands.specs.Opened.{OnlyOpens};
 ghost use Rattle.commands.specs.Run.{does_hold_fit, run_command};
 ghost use Rattle.commands.specs.RunSteps.{AreNoTables, AreSealedTables, HasBegun, HasNotBegun, RunComes};
-ghost use Rattle.commands.specs.Unwritten.{KeepsBytes};
 
 use crate::ending::{Ended, ended_of};
 use crate::sealed::open_sealed;
@@ -101,17 +98,10 @@ pub fn run<F: Files, B: Board<L>, L: Ledger>(
     board: &mut B,
     steps: &mut Steps<L>,
 ) -> Ended
+    ensures carries { Carries F.Files B.Board run_command files.old files.new board.old board.new
+        steps.old steps.new result }
     ensures runs { F.tells → B.tells_image
         → RunComes F.Files B.Board files.old files.new board.old board.new result }
-    ensures unwritten { ¬ run_command.writes (status_of result) → KeepsBytes B.Board board.old board.new }
-    ensures same { ¬ run_command.writes (status_of result) → result ≢ Ended.BoardFault
-        → B.image board.new ≡ B.image board.old }
-    ensures read_fault { result ≡ Ended.ReadFault → HasReadFault F.Files run_command files.old files.new }
-    ensures board_fault { result ≡ Ended.BoardFault → Rose (B.faults board.old) (B.faults board.new) }
-    ensures others { (other : ℕ) → other ≢ 1 → other ≢ 2 → F.rest files.new other ≡ F.rest files.old other }
-    ensures count { B.faults board.old ≤ B.faults board.new }
-    ensures counts { (other : ℕ) → F.faults files.old other ≤ F.faults files.new other }
-    ensures steps { F.tells → IsBoundedBy 86 (F.rest files.old 2) (F.rest files.new 2) steps.old steps.new }
 {
     let begun = match begin(alloc, files, board, steps) {
         Ok(begun) => begun,

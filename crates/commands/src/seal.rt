@@ -5,16 +5,11 @@ ghost use Rattle.outside.specs.Faults.{Rose};
 ghost use Rattle.slot_store.specs.Scan.{IsSound};
 ghost use Rattle.seal_store.specs.Ranges.{IsSeal};
 ghost use Rattle.seal_store.specs.Sealing.{found_number, next_number, seal_found, totals_found};
-ghost use Rattle.commands.specs.Call.{HasReadFault};
-ghost use Rattle.commands.specs.Ending.{ComesOn};
-ghost use Rattle.commands.specs.LastLine.{status_of};
-ghost use Rattle.commands.specs.Opening.{opening_of};
+ghost use Rattle.commands.specs.Carried.{Carries, SealComes};
 ghost use Rattle.commands.specs.Opened.{IsSoundOpening};
-ghost use Rattle.commands.specs.Seal.{Seals};
-ghost use Rattle.commands.specs.SealSteps.{IsNoSeal, IsNoTariff, IsTariffWith, RestsAmid};
-ghost use Rattle.commands.specs.Seal.{seal_command, seal_read, sealing_of};
+ghost use Rattle.commands.specs.SealSteps.{IsNoSeal, IsNoTariff, IsTariffWith};
+ghost use Rattle.commands.specs.Seal.{seal_command, seal_read};
 ghost use Rattle.commands.specs.Seal as spec;
-ghost use Rattle.commands.specs.Unwritten.{KeepsBytes};
 
 use crate::ending::{Ended, refused_by, refused_params, refused_store};
 use crate::opening::{Opening, open_store};
@@ -180,22 +175,9 @@ pub fn seal_store<F: Files, B: Board<L>, L: Ledger>(
     board: &mut B,
     steps: &mut Steps<L>,
 ) -> Ended
-    ensures ends { F.tells → B.tells_image
-        → ComesOn F.Files B.Board seal_command files.old files.new board.old board.new result }
-    ensures seals { F.tells → B.tells_image
-        → Seals B.Board (sealing_of (opening_of (B.image board.old)) (F.rest files.old 1) (F.rest files.old 2))
-        board.old board.new (status_of result) }
-    ensures rests { F.tells → B.tells_image → result ≢ Ended.BoardFault
-        → RestsAmid B.Board (sealing_of (opening_of (B.image board.old)) (F.rest files.old 1) (F.rest files.old 2))
-        (B.image board.old) board.new }
-    ensures unwritten { result ≢ Ended.BoardFault → status_of result ≢ 0 → KeepsBytes B.Board board.old board.new }
-    ensures same { result ≢ Ended.BoardFault → status_of result ≢ 0 → B.image board.new ≡ B.image board.old }
-    ensures read_fault { result ≡ Ended.ReadFault → HasReadFault F.Files seal_command files.old files.new }
-    ensures board_fault { result ≡ Ended.BoardFault → Rose (B.faults board.old) (B.faults board.new) }
-    ensures others { (other : ℕ) → other ≢ 1 → other ≢ 2 → F.rest files.new other ≡ F.rest files.old other }
-    ensures count { B.faults board.old ≤ B.faults board.new }
-    ensures counts { (other : ℕ) → F.faults files.old other ≤ F.faults files.new other }
-    ensures steps { steps.new ≤ steps.old + 16 }
+    ensures carries { Carries F.Files B.Board seal_command files.old files.new board.old board.new
+        steps.old steps.new result }
+    ensures comes { F.tells → B.tells_image → SealComes F.Files B.Board files.old board.old board.new result }
 {
     let opening = match open_store(board, steps) {
         Ok(opening) => opening,

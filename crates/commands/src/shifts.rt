@@ -3,10 +3,9 @@ ghost use Rattle.std.specs.Prelude.{◌≡◌, ◌≢◌, ℕ, ◌+◌, ◌*◌,
 ghost use Rattle.outside.specs.Faults.{Rose};
 ghost use Rattle.shift_book.specs.BookReading.{book_read};
 ghost use Rattle.commands.specs.Answer.{shows};
-ghost use Rattle.commands.specs.Ending.{ComesOn, HasCauseOn, OnlyLooksAt, ended_for_report};
-ghost use Rattle.commands.specs.Opening.{opening_of, store_of};
-ghost use Rattle.commands.specs.Pieces.{pieces_of};
-ghost use Rattle.commands.specs.Shifts.{ended_for_book, reported, shifts_answer, shifts_command};
+ghost use Rattle.commands.specs.Carried.{Carries};
+ghost use Rattle.commands.specs.Ending.{ended_for_report};
+ghost use Rattle.commands.specs.Shifts.{ended_for_book, reported, shifts_command};
 
 use crate::ending::Ended;
 use crate::pieces::print_text;
@@ -40,16 +39,8 @@ pub fn print_shifts<F: Files, B: Board<L>, L: Ledger>(
     board: &mut B,
     steps: &mut Steps<L>,
 ) -> Ended
-    ensures ends { F.tells → B.tells_image
-        → ComesOn F.Files B.Board shifts_command files.old files.new board.old board.new result }
-    ensures read_fault { result ≡ Ended.ReadFault → Rose (F.faults files.old 1) (F.faults files.new 1) }
-    ensures cause { HasCauseOn B.Board board.old board.new result }
-    ensures others { (other : ℕ) → other ≢ 1 → F.rest files.new other ≡ F.rest files.old other }
-    ensures counts { (other : ℕ) → F.faults files.old other ≤ F.faults files.new other }
-    ensures by_report { F.tells → B.tells_image → steps.new ≤ steps.old + 6 + pieces_of (length (shifts_answer
-        (store_of (opening_of (B.image board.old))) (F.rest files.old 1)).shown) }
-    ensures by_book { F.tells → steps.new ≤ steps.old + 64 + 2 * length (F.rest files.old 1) }
-    ensures looks { OnlyLooksAt B.Board board.old board.new result }
+    ensures { Carries F.Files B.Board shifts_command files.old files.new board.old board.new
+        steps.old steps.new result }
 {
     let store = match open_sealed(board, steps) {
         Ok(store) => store,

@@ -2,12 +2,15 @@
 ghost use Rattle.std.specs.Prelude.{◌≡◌, ◌≢◌, ℕ, ◌-◌, ◌<◌, ◌≤◌, [], length, IfOk, OnOk, Ok, Err, vec_len};
 ghost use Rattle.outside.specs.Faults.{Rose};
 ghost use Rattle.tariff_syntax.specs.Tree.{tree_of};
-ghost use Rattle.commands.specs.Tariffs.{tariff_in};
 ghost use Rattle.commands.specs.Ending.{unsound_for};
+ghost use Rattle.commands.specs.TableSteps.{AreTablesIn};
+ghost use Rattle.commands.specs.Tariffs.{tariff_in};
 
 use outside::{Files, read_text};
+use pulse_input::Constant;
 use std::alloc::Global;
 use tariff_check::{CheckFault, Checked, check};
+use tariff_compile::{Tables, compile};
 use tariff_syntax::{ParseFault, parse};
 
 /// Why a tariff isn't accepted.
@@ -104,4 +107,39 @@ pub fn read_tariff<F: Files>(
 {
     let text = text_of_word(alloc, files, word)?;
     tariff_of_text(alloc, text.as_slice())
+}
+
+/// The tables of a text's tariff under a constant. Nothing is left of the tree of which they were made.
+pub fn tables_of_text(alloc: Global, text: &[u8], constant: Constant) -> Result<Tables, TextFault>
+    ensures found { IfOk result (AreTablesIn constant text.now) }
+    ensures constant { IfOk result (λ tables. tables.constant ≡ constant) }
+    ensures refused { (why : Refusal) → result ≡ Err (TextFault.Refused why) → tariff_in text.now ≡ Err why }
+    ensures read { result ≢ Err TextFault.ReadFault }
+{
+    let checked = tariff_of_text(alloc, text)?;
+    match compile(alloc, &checked, constant) {
+        Ok(tables) => Ok(tables),
+        Err(_) => Err(TextFault::NoMemory),
+    }
+}
+
+/// Reads the tariff of a word, to the end of its file where it is accepted, and makes its tables under a constant.
+/// Nothing is left of the text, nor of the tree.
+pub fn tables_of_word<F: Files>(
+    alloc: Global,
+    files: &mut F,
+    word: usize,
+    constant: Constant,
+) -> Result<Tables, TextFault>
+    ensures found { F.tells → IfOk result (AreTablesIn constant (F.rest files.old word)) }
+    ensures constant { IfOk result (λ tables. tables.constant ≡ constant) }
+    ensures ended { F.tells → OnOk result (F.rest files.new word ≡ []) }
+    ensures refused { (why : Refusal) → F.tells → result ≡ Err (TextFault.Refused why)
+        → tariff_in (F.rest files.old word) ≡ Err why }
+    ensures read_fault { result ≡ Err TextFault.ReadFault → Rose (F.faults files.old word) (F.faults files.new word) }
+    ensures others { (other : ℕ) → other ≢ word → F.rest files.new other ≡ F.rest files.old other }
+    ensures counts { (other : ℕ) → F.faults files.old other ≤ F.faults files.new other }
+{
+    let text = text_of_word(alloc, files, word)?;
+    tables_of_text(alloc, text.as_slice(), constant)
 }

@@ -1,19 +1,16 @@
 //! The top call: words in, a status out.
 #![tactic(auto, using(crate::proofs::BoardRuns::board_runs))]
 
-ghost use Rattle.std.specs.Prelude.{◌≡◌, ◌≢◌, ◌⊎◌, ℕ, ◌+◌, ◌≤◌, None, Some, map, string_bytes};
+ghost use Rattle.std.specs.Prelude.{◌≡◌, ◌⊎◌, ℕ, None, Some, map, string_bytes};
 ghost use Rattle.outside.specs.Faults.{Rose};
 ghost use Rattle.outside.specs.Runs.{IsSettled, KeepsStore, LeavesOnly};
 ghost use Rattle.commands.specs.Call.{HasReadFault, IsCall, MayLack};
-ghost use Rattle.commands.specs.Command.{OnlyLooks, called, command, command_of};
-ghost use Rattle.commands.specs.Ending.{ComesOn, LooksAt};
-ghost use Rattle.commands.specs.LastLine.{status_of};
+ghost use Rattle.commands.specs.Carried.{CarriesRow};
+ghost use Rattle.commands.specs.Command.{OnlyLooks, called, command};
 ghost use Rattle.commands.specs.Opening.{opening_of};
 ghost use Rattle.commands.specs.Run.{IsRun};
-ghost use Rattle.commands.specs.RunSteps.{RunComes};
 ghost use Rattle.commands.specs.Seal.{IsAmidOf, Seals, sealing_of};
-ghost use Rattle.commands.specs.SealSteps.{RestsAmid};
-ghost use Rattle.commands.specs.Unwritten.{KeepsBytes, LeavesImage, WritesNothing};
+ghost use Rattle.commands.specs.Unwritten.{LeavesImage, WritesNothing};
 ghost use Rattle.commands.specs.Words.{row_of};
 
 use crate::bench::bench;
@@ -43,28 +40,7 @@ fn carry_out<F: Files, B: Board<L>, L: Ledger>(
     board: &mut B,
     steps: &mut Steps<L>,
 ) -> Ended
-    ensures ends { (command_of (Some row)).known F.tells B.tells_image
-        → ComesOn F.Files B.Board (command_of (Some row)) files.old files.new board.old board.new result }
-    ensures steps { (command_of (Some row)).steps F.tells B.tells_image (F.rest files.old) (F.rest files.new)
-        (B.image board.old) steps.old (steps.new + 1) }
-    ensures read_fault { result ≡ Ended.ReadFault → HasReadFault F.Files (command_of (Some row)) files.old files.new }
-    ensures board_fault { result ≡ Ended.BoardFault → Rose (B.faults board.old) (B.faults board.new) }
-    ensures others { (word : ℕ) → ¬ (command_of (Some row)).reads word → F.rest files.new word ≡ F.rest files.old word }
-    ensures count { B.faults board.old ≤ B.faults board.new }
-    ensures counts { (other : ℕ) → F.faults files.old other ≤ F.faults files.new other }
-    ensures kept { ¬ (command_of (Some row)).opens → KeepsStore B.Board board.old board.new }
-    ensures unwritten { ¬ (command_of (Some row)).writes (status_of result) → KeepsBytes B.Board board.old board.new }
-    ensures same { ¬ (command_of (Some row)).writes (status_of result) → result ≢ Ended.BoardFault
-        → B.image board.new ≡ B.image board.old }
-    ensures looks { OnlyLooks (Some row) → B.tells_image → LooksAt B.Board board.old board.new result }
-    ensures seals { row ≡ Row.Seal → F.tells → B.tells_image
-        → Seals B.Board (sealing_of (opening_of (B.image board.old)) (F.rest files.old 1) (F.rest files.old 2))
-        board.old board.new (status_of result) }
-    ensures rests { row ≡ Row.Seal → F.tells → B.tells_image → result ≢ Ended.BoardFault
-        → RestsAmid B.Board (sealing_of (opening_of (B.image board.old)) (F.rest files.old 1) (F.rest files.old 2))
-        (B.image board.old) board.new }
-    ensures runs { row ≡ Row.Run → F.tells → B.tells_image
-        → RunComes F.Files B.Board files.old files.new board.old board.new result }
+    ensures { CarriesRow F.Files B.Board row files.old files.new board.old board.new steps.old steps.new result }
 {
     match row {
         Row::Check => check_tariff(alloc, files),
@@ -104,15 +80,18 @@ fn carry_out<F: Files, B: Board<L>, L: Ledger>(
 /// - `shifts BOOK`: what the totals grew by in the shifts of a book of marks, for each driver, and while nobody
 ///   was on
 ///
-/// The statuses, their last lines, and when they come:
+/// The statuses, their last lines, and when they come. A command looks at its words, at the store and at its
+/// files in the order of docs/FORMATS.md, and answers the first thing that is wrong: so 'exactly where' is said
+/// of a call in which nothing is wrong before, and which 7, 8 or 12 doesn't end earlier.
 ///
 /// - 0, no line: the output is whole, and the drive was read to its end; for `bench`, every row of the report
 ///   passes
 /// - 1, `BAD WORDS`: exactly where the words are no command
 /// - 2, `BAD TARIFF` with `TooLong`, `Syntax n` or the fault: exactly where the tariff has more than 65,536
 ///   bytes, its line n is the first that is no line of a tariff, or this is its first fault
-/// - 3, `BAD DRIVE n` or `BAD DRIVE TOO LONG`: exactly where line n is the first that is no line of a drive, or
-///   where 2^40 bytes were taken and the end wasn't told
+/// - 3, `BAD DRIVE n` or `BAD DRIVE TOO LONG`, for `fare`, `run` and `bench`: exactly where line n is the first
+///   that is no line of a drive, or where 2^40 bytes were taken, none of their lines is bad, and the end wasn't
+///   told
 /// - 4, `NOT SEALED`, for `totals`, `run`, `bench`, `port`, `mark` and `shifts`: exactly where the store's pair of
 ///   totals or of seals is blank
 /// - 5, `BAD STORE s`, `BAD STORE s t` or `BAD STORE TRIP`, for a command that opens the store: exactly where slot
@@ -122,16 +101,17 @@ fn carry_out<F: Files, B: Board<L>, L: Ledger>(
 ///   y, differ
 /// - 7, `READ FAULT`: only where the count of faults of a file that the command reads rose
 /// - 8, no line: only where the board's count of faults rose
-/// - 9, `BAD PARAMS` with the fault: exactly where the parameters have this first fault
-/// - 10, `BAD READINGS n` or `BAD READINGS TOO LONG`: exactly where row n is the first that is no row of readings,
-///   or the readings have more than 1,048,576 bytes
+/// - 9, `BAD PARAMS` with the fault, for `seal`: exactly where the parameters have this first fault
+/// - 10, `BAD READINGS n` or `BAD READINGS TOO LONG`, for `bench`: exactly where row n is the first that is no row
+///   of readings, or the readings have more than 1,048,576 bytes
 /// - 11, no line: exactly where a row of the report of `bench` doesn't pass; the output is whole, and each file was
 ///   read to its end
-/// - 12, `NO MEMORY`: free but for `totals`, `port`, `mark` and `offsets`, before anything is printed or written and,
-///   but for `bench`, before the first byte of the drive is taken
-/// - 13, `TRIP HELD`: exactly where the totals of the store hold a trip
-/// - 14, `SEAL ENDED`: exactly where the found seal has the last number, 10^15
-/// - 15, `OTHER DECIMALS x y`: exactly where the found seal has x decimals, and the tariff y
+/// - 12, `NO MEMORY`: never for `totals`, `port`, `mark`, `offsets` and refused words; else free, before anything is
+///   printed or written and, but for `bench`, before the first byte of the drive is taken
+/// - 13, `TRIP HELD`, for `seal`: exactly where the totals of the store hold a trip
+/// - 14, `SEAL ENDED`, for `seal`: exactly where the found seal has the last number, 10^15
+/// - 15, `OTHER DECIMALS x y`, for `seal`: exactly where the found seal has x decimals, and the tariff y, which is
+///   another number
 /// - 16, `BAD FRAME p` or `BAD FRAME TOO LONG`: exactly where byte p, from 0 on, is the first that no stream of
 ///   requests has there, or the end is and a request is unfinished, or 2^40 bytes were taken, none of their places
 ///   is bad, and the end wasn't told

@@ -1,11 +1,11 @@
 //! The command `totals`.
 #![tactic(auto, using(crate::proofs::BoardRuns::board_runs))]
 
-ghost use Rattle.std.specs.Prelude.{◌≡◌, ◌≢◌, ◌+◌, ◌<◌, ◌≤◌, ◌++◌, ℕ, List, OnOk};
+ghost use Rattle.std.specs.Prelude.{◌≡◌, ◌+◌, ◌<◌, ◌≤◌, ◌++◌, ℕ, List, OnOk};
 ghost use Rattle.outside.specs.Faults.{HasCause};
 ghost use Rattle.outside.specs.Printing.{Begins};
 ghost use Rattle.outside.specs.Runs.{KeepsStore};
-ghost use Rattle.commands.specs.Ending.{ComesFrom, HasCauseOn, OnlyLooksAt};
+ghost use Rattle.commands.specs.Carried.{Carries, no_files};
 ghost use Rattle.commands.specs.Totals.{totals_command};
 ghost use Rattle.commands.specs.TotalsText.{position_at, totals_text};
 
@@ -19,12 +19,8 @@ use totaliser_store::{Durable, Share};
 
 /// Scans the store, and prints its totals.
 pub fn print_store<B: Board<L>, L: Ledger>(board: &mut B, steps: &mut Steps<L>) -> Ended
-    ensures ends { (contents left : ℕ → List ℕ) → B.tells_image
-        → ComesFrom B.Board totals_command contents left (λ word. ⊥) board.old board.new result }
-    ensures cause { HasCauseOn B.Board board.old board.new result }
-    ensures not_read { result ≢ Ended.ReadFault }
-    ensures steps { steps.new ≤ steps.old + 64 }
-    ensures looks { OnlyLooksAt B.Board board.old board.new result }
+    ensures { (contents : ℕ → List ℕ) → Carries (no_files contents) B.Board totals_command tt tt
+        board.old board.new steps.old steps.new result }
 {
     let store = match open_sealed(board, steps) {
         Ok(store) => store,

@@ -18,11 +18,11 @@ date_at text = do
   date ← number_below 100 dates
   Some (record { year = year.0; month = month.0; date = date.0 }, date.1)
 
--- a day number is kept where it is one of the years 2000 to 2199, and is none otherwise
+-- a day number is kept if it is one of the years 2000 to 2199, and is none otherwise
 abbrev pub where_secured : ℕ → Option ℤ
 where_secured day = if nat_le first_day day && nat_le day last_day then Some (pos day) else None
 
--- a date has this day number, where the calendar has the date and its year is one of 2000 to 2199
+-- a date has this day number, if the calendar has the date and its year is one of 2000 to 2199
 abbrev pub day_of : CalendarDate → Option ℤ
 day_of d =
     if nat_le 1970 d.year && is_date d.year d.month d.date then where_secured (day_number_of d.year d.month d.date)

@@ -9,7 +9,7 @@ use Rattle.taxi_units.specs.declared.receipt.Receipt.{Receipt}
 use Rattle.taxi_units.specs.declared.receipt.Stamp.{Stamp}
 use Rattle.receipt_text.specs.Part.{Part, IsPart}
 
--- a text is exactly the wanted one where it has the same bytes
+-- a text is exactly the wanted one if it has the same bytes
 abbrev pub IsExactly : List ℕ → List ℕ → Type 0
 IsExactly wanted text = text ≡ wanted
 
@@ -20,7 +20,7 @@ IsKind Aborted text = text ≡ codes "ABORTED"
 IsKind Expired text = text ≡ codes "EXPIRED"
 IsKind Roam text = ⊥
 
--- a text is that of a date where it has the form YYYY-MM-DD, with leading zeros
+-- a text is that of a date if it has the form YYYY-MM-DD, with leading zeros
 pub record IsDateText (year month date : ℕ) (text : List ℕ) : Type 0 where
   pub years : List ℕ
   pub months : List ℕ
@@ -30,7 +30,7 @@ pub record IsDateText (year month date : ℕ) (text : List ℕ) : Type 0 where
   pub months_are : IsPaddedText 2 month months
   pub dates_are : IsPaddedText 2 date dates
 
--- a text is that of a second of the day where it has the form HH:MM:SS, with leading zeros
+-- a text is that of a second of the day if it has the form HH:MM:SS, with leading zeros
 pub record IsTimeText (second : ℕ) (text : List ℕ) : Type 0 where
   pub hour : ℕ
   pub minute : ℕ
@@ -45,7 +45,7 @@ pub record IsTimeText (second : ℕ) (text : List ℕ) : Type 0 where
   pub minutes_are : IsPaddedText 2 minute minutes
   pub seconds_are : IsPaddedText 2 rest seconds
 
--- a text is that of a stamp where it is the local date and time, with a blank between them
+-- a text is that of a stamp if it is the local date and time, with a blank between them
 pub record IsStampText (stamp : Stamp) (text : List ℕ) : Type 0 where
   pub date : List ℕ
   pub time : List ℕ
@@ -53,7 +53,7 @@ pub record IsStampText (stamp : Stamp) (text : List ℕ) : Type 0 where
   pub date_is : IsDateText stamp.year stamp.month stamp.date date
   pub time_is : IsTimeText stamp.second time
 
--- a text is that of a day number where it is the date that the day number has in the calendar
+-- a text is that of a day number if it is the date that the day number has in the calendar
 pub record IsDayText (day : ℤ) (text : List ℕ) : Type 0 where
   pub year : ℕ
   pub month : ℕ
@@ -107,7 +107,7 @@ AreAmounts receipt =
     (Line (codes "SUPPLEMENTS ") (IsMoney receipt receipt.supplements)
     (Line (codes "TOTAL ") (IsMoney receipt (receipt.fare + receipt.supplements)) (IsExactly (codes "END\n"))))
 
--- a text is the line of the minimum fare, which is there exactly where the minimum is above 0, and the lines of the
+-- a text is the line of the minimum fare, which is there exactly if the minimum is above 0, and the lines of the
 -- amounts behind it
 abbrev pub HasMinimum : Receipt → List ℕ → Type 0
 HasMinimum receipt text =
@@ -134,7 +134,7 @@ AreLines receipt part =
     (Line (codes "SECURED ") (IsDayText part.secured)
     (Line (codes "TARIFF ") (IsHexText part.digest) (AreTripLines receipt))))))
 
--- a text is the receipt of a hiring and of a part of a seal where it has their lines and both are in their ranges
+-- a text is the receipt of a hiring and of a part of a seal if it has their lines and both are in their ranges
 pub record IsReceiptText (text : List ℕ) (receipt : Receipt) (part : Part) : Type 0 where
   pub receipt_is : IsReceipt receipt
   pub part_is : IsPart part

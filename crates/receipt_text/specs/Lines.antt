@@ -16,7 +16,7 @@ use Rattle.receipt_text.specs.Figures.{amount_below, number_below}
 use Rattle.receipt_text.specs.Part.{Part}
 use Rattle.seal_store.specs.Values.{is_taxi_character}
 
--- a kind of hiring is read where its word was found, and what `others` gives where it wasn't
+-- a kind of hiring is read if its word was found, and what `others` gives if it wasn't
 abbrev pub kind_or : Kind → Option (List ℕ) → Option (Kind × List ℕ) → Option (Kind × List ℕ)
 kind_or kind (Some rest) others = Some (kind, rest)
 kind_or kind None others = others
@@ -38,7 +38,7 @@ heading_at text = do
   rest ← word_at (codes "\n") kind.1
   Some (record { number = number.0; kind = kind.0 }, rest)
 
--- the first `count` bytes are a taxi identifier where they are 1 to 16, and this text stands behind them
+-- the first `count` bytes are a taxi identifier if they are 1 to 16, and this text stands behind them
 abbrev pub taxi_of : (count : ℕ) → List ℕ → Option (List ℕ × List ℕ)
 taxi_of count text = if nat_le 1 count && nat_le count 16 then Some (take count text, drop count text) else None
 
@@ -86,7 +86,7 @@ calculation_at text = do
   rest ← word_at (codes "\n") step.1
   Some (record { decimals = initial.0.decimals; initial = initial.0.units; steps = steps.0; step = step.0.units }, rest)
 
--- a minimum fare is read from what stands behind its word, and is 0 where the word wasn't found
+-- a minimum fare is read from what stands behind its word, and is 0 if the word wasn't found
 abbrev pub minimum_from : (text : List ℕ) → Option (List ℕ) → Option (ℕ × List ℕ)
 minimum_from text None = Some (0, text)
 minimum_from text (Some after) = do

@@ -12,12 +12,12 @@ pub record Part : Type 0 where
   pub secured : ℤ
   pub digest : List ℕ
 
--- bytes are a digest where they are 32, each below 256
+-- bytes are a digest if they are 32, each below 256
 pub record IsDigest (digest : List ℕ) : Type 0 where
   pub size : length digest ≡ 32
   pub bytes : AllByRecursion (λ byte. byte < 256) digest
 
--- a part of a seal is in its ranges where each of its four values is; its day is one of the years 2000 to 2199
+-- a part of a seal is in its ranges if each of its four values is; its day is one of the years 2000 to 2199
 pub record IsPart (part : Part) : Type 0 where
   pub taxi : IsTaxi part.taxi
   pub constant : (least_constant ≤ part.constant) × (part.constant ≤ greatest_constant)

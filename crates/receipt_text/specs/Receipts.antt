@@ -70,7 +70,7 @@ calculation_text receipt =
     codes "CALC " ++ (money_text receipt.decimals receipt.initial ++ (codes " + " ++ (decimal receipt.steps
     ++ (codes " x " ++ (money_text receipt.decimals receipt.step ++ codes "\n")))))
 
--- a minimum fare is written as a line of its own, and as nothing where it is 0
+-- a minimum fare is written as a line of its own, and as nothing if it is 0
 unfoldable pub minimum_text : (decimals minimum : ℕ) → List ℕ
 minimum_text decimals minimum =
     if minimum == 0 then [] else codes "MINIMUM " ++ (money_text decimals minimum ++ codes "\n")

@@ -10,7 +10,7 @@ pub record HasFields (display : Display) : Type 0 where
   pub fare : display.fare < 2 ^ 64
   pub supplements : display.supplements < 2 ^ 64
 
--- two displays show the same where their fields are equal, but for the fare and the supplements in For Hire, where they
+-- two displays show the same if their fields are equal, but for the fare and the supplements in For Hire, where they
 -- aren't shown
 pub record ShowsSame (a b : Display) : Type 0 where
   pub operating : a.operating ≡ b.operating

@@ -31,3 +31,4 @@ pub use parts::SealPart;
 pub use reading::read_receipt;
 pub use receipts::put_receipt;
 pub use refusals::put_refusal;
+pub use stamps::put_day;

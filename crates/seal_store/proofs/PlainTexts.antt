@@ -3,6 +3,7 @@ use Rattle.std.proofs.Common.{◌≡◌, ◌≢◌, inl, inr, ℕ, suc, ◌+◌,
 use Rattle.std.proofs.lemmas.Bool.{le-ltb, ne_eqb}
 use Rattle.std.proofs.lemmas.Bool.Decides.{Decides-by_and}
 use Rattle.std.proofs.lemmas.Fmt.{decimal_is_IsNumeral_wide}
+use Rattle.std.proofs.lemmas.Grind.{flat_map-append}
 use Rattle.std.proofs.lemmas.Int.{ints}
 use Rattle.std.proofs.lemmas.List.{append-nil, get_or_append_left, length-map}
 use Rattle.std.proofs.lemmas.List.Elements.{All-append, All-cons, All-head, All-nil, All-replicate, All-tail, All-weaker}
@@ -26,7 +27,7 @@ use Rattle.seal_store.specs.declared.params.Params.{Params}
 use Rattle.seal_store.specs.Lines.{is_passed, lines_of}
 use Rattle.seal_store.specs.Says.{HasNone}
 use Rattle.seal_store.specs.OffsetLaws.{Decides-is_offset_list, Decides-leb}
-use Rattle.seal_store.specs.PlainText.{date_text, line_of, mode_text, offset_line, offset_text, plain_lines, plain_text}
+use Rattle.seal_store.specs.PlainText.{AreShown, comment_line, commented_text, date_text, ended_text, line_of, mode_text, offset_line, offset_text, plain_lines, plain_text}
 use Rattle.seal_store.specs.Ranges.{IsParams, IsTaxiCharacter}
 use Rattle.seal_store.specs.Reading.{lines_read, params_read, whole_of}
 use Rattle.seal_store.specs.Said.{Said, nothing_said}
@@ -37,9 +38,6 @@ use Rattle.seal_store.proofs.Parting.{ended_line, key_before, last_line, value_a
 use Rattle.seal_store.proofs.PlainValues.{date_again, length-padded_text, mode_again, number_again, pair_again}
 
 -- ---- the lines are short, and each of their bytes is a blank or a visible character
-
-abbrev AreShown : List ℕ → Type 0
-AreShown bytes = All (λ b. 32 ≤ b) bytes
 
 abbrev IsWord : List ℕ → Type 0
 IsWord bytes = All (λ b. 33 ≤ b) bytes
@@ -72,6 +70,19 @@ taxi_word : (c : ℕ) → IsTaxiCharacter c → 33 ≤ c
 taxi_word c (inl letter) = omega (arith, letter.0)
 taxi_word c (inr (inl digit)) = omega (arith, digit.0)
 taxi_word c (inr (inr minus)) = omega (arith, minus)
+
+record IsLine (line : List ℕ) : Type 0 where
+  some : 0 < length line
+  shown : AreShown line
+
+is_line : (line : List ℕ) → IsPlain line → IsLine line
+is_line line is = record { some = is.some; shown = is.shown }
+
+comment_is_line : (comment : List ℕ) → AreShown comment → IsLine (comment_line comment)
+comment_is_line comment shown = record {
+  some = omega arith;
+  shown = All-cons (λ b. 32 ≤ b) 35 comment (omega arith) shown;
+}
 
 plain_line : (key value : List ℕ) → IsWord key → AreShown value → length key ≤ 8 → length value ≤ 31 → IsPlain (line_of key value)
 plain_line key value word shown short few = record {
@@ -133,24 +144,31 @@ date_shown n from to =
 
 -- ---- the lines of the text
 
-no_end : (line : List ℕ) → IsPlain line → strip_carriage_return line ≡ line
-no_end line is = rw (ne_eqb (get_or line (length line - 1) 0) 13 (λ e. omega (arith, is.shown (length line - 1) 0 (omega (arith, is.some)), e))) refl
+no_end : (line : List ℕ) → IsLine line → strip_carriage_return line ≡ line
+no_end line is =
+    rw (ne_eqb (get_or line (length line - 1) 0) 13
+    (λ e. omega (arith, is.shown (length line - 1) 0 (omega (arith, is.some)), e))) refl
 
-ended_lines : (lines : List (List ℕ)) → All IsPlain lines → lines_of (flat_map (λ line. line ++ 10 ∷ []) lines) ≡ lines ++ [] ∷ []
+ended_lines : (lines : List (List ℕ)) → All IsLine lines → lines_of (ended_text lines) ≡ lines ++ [] ∷ []
 ended_lines [] all = last_line [] (All-nil (λ b. b ≢ 10))
 ended_lines (line ∷ lines) all =
-    let is = All-head IsPlain line lines all in
-    let rest = flat_map (λ l. l ++ 10 ∷ []) lines in
+    let is = All-head IsLine line lines all in
+    let rest = ended_text lines in
     ap lines_of (append_assoc line (10 ∷ []) rest)
     ∙ (ended_line line rest (All-weaker (λ b. 32 ≤ b) (λ b. b ≢ 10) (λ b h e. omega (arith, h, e)) line is.shown)
-    ∙ (λ i. no_end line is i ∷ ended_lines lines (All-tail IsPlain line lines all) i))
+    ∙ (λ i. no_end line is i ∷ ended_lines lines (All-tail IsLine line lines all) i))
 
-length_ended : (lines : List (List ℕ)) → All IsPlain lines → length (flat_map (λ line. line ++ 10 ∷ []) lines) ≤ 41 * length lines
+length_ended : (lines : List (List ℕ)) → All IsPlain lines → length (ended_text lines) ≤ 41 * length lines
 length_ended [] all = omega arith
 length_ended (line ∷ lines) all =
     let is = All-head IsPlain line lines all in
-    let rest = flat_map (λ l. l ++ 10 ∷ []) lines in
-    omega (arith, is.few, length_ended lines (All-tail IsPlain line lines all), length-append (line ++ 10 ∷ []) rest, length-append line (10 ∷ []))
+    omega (
+      arith,
+      is.few,
+      length_ended lines (All-tail IsPlain line lines all),
+      length-append (line ++ 10 ∷ []) (ended_text lines),
+      length-append line (10 ∷ []),
+    )
 
 -- ---- each line says its parameter
 
@@ -202,10 +220,10 @@ four_said params offsets = record {
   secured = None;
 }
 
-four_read : (params : Params) (rest : List (List ℕ)) → IsParams params → lines_read nothing_said 1
+four_read : (params : Params) (number : ℕ) (rest : List (List ℕ)) → IsParams params → lines_read nothing_said number
     (line_of (codes "taxi") params.taxi.items ∷ line_of (codes "constant") (decimal params.constant) ∷ line_of (codes "mode") (mode_text params.mode)
-    ∷ line_of (codes "hold") (decimal params.hold) ∷ rest) ≡ lines_read (four_said params []) 5 rest
-four_read params rest is =
+    ∷ line_of (codes "hold") (decimal params.hold) ∷ rest) ≡ lines_read (four_said params []) (number + 1 + 1 + 1 + 1) rest
+four_read params number rest is =
     let hold_line = line_of (codes "hold") (decimal params.hold) in
     let mode_line = line_of (codes "mode") (mode_text params.mode) in
     let constant_line = line_of (codes "constant") (decimal params.constant) in
@@ -214,14 +232,14 @@ four_read params rest is =
     let two : Said = record one { constant = Some params.constant } in
     let three : Said = record two { mode = Some params.mode } in
     let four : Said = record three { hold = Some params.hold } in
-    step nothing_said one 1 taxi_line (constant_line ∷ mode_line ∷ hold_line ∷ rest)
-    (keyed_read nothing_said 1 (codes "taxi") params.taxi.items Taxi (is_word (codes "taxi") refl) refl named_taxi ∙ rw ((Decides-is_taxi params.taxi.items).1 is.taxi) refl)
-    ∙ (step one two 2 constant_line (mode_line ∷ hold_line ∷ rest)
-    (keyed_read one 2 (codes "constant") (decimal params.constant) Constant (is_word (codes "constant") refl) refl named_constant ∙ rw (number_again 500 200000 params.constant is.constant.0 is.constant.1 (omega arith)) refl)
-    ∙ (step two three 3 mode_line (hold_line ∷ rest)
-    (keyed_read two 3 (codes "mode") (mode_text params.mode) name.Mode (is_word (codes "mode") refl) refl named_mode ∙ rw (mode_again params.mode) refl)
-    ∙ step three four 4 hold_line rest
-    (keyed_read three 4 (codes "hold") (decimal params.hold) Hold (is_word (codes "hold") refl) refl named_hold ∙ rw (number_again 0 600 params.hold (omega arith) is.hold (omega arith)) refl)))
+    step nothing_said one number taxi_line (constant_line ∷ mode_line ∷ hold_line ∷ rest)
+    (keyed_read nothing_said number (codes "taxi") params.taxi.items Taxi (is_word (codes "taxi") refl) refl named_taxi ∙ rw ((Decides-is_taxi params.taxi.items).1 is.taxi) refl)
+    ∙ (step one two (number + 1) constant_line (mode_line ∷ hold_line ∷ rest)
+    (keyed_read one (number + 1) (codes "constant") (decimal params.constant) Constant (is_word (codes "constant") refl) refl named_constant ∙ rw (number_again 500 200000 params.constant is.constant.0 is.constant.1 (omega arith)) refl)
+    ∙ (step two three (number + 1 + 1) mode_line (hold_line ∷ rest)
+    (keyed_read two (number + 1 + 1) (codes "mode") (mode_text params.mode) name.Mode (is_word (codes "mode") refl) refl named_mode ∙ rw (mode_again params.mode) refl)
+    ∙ step three four (number + 1 + 1 + 1) hold_line rest
+    (keyed_read three (number + 1 + 1 + 1) (codes "hold") (decimal params.hold) Hold (is_word (codes "hold") refl) refl named_hold ∙ rw (number_again 0 600 params.hold (omega arith) is.hold (omega arith)) refl)))
 
 -- the beginning of a lawful list is lawful
 lawful_front : (front rest : List (ℕ × ℤ)) → 0 < length front → IsOffsetList (front ++ rest) → IsOffsetList front
@@ -304,27 +322,91 @@ all_plain params n is day from to =
     (All-append IsPlain (map offset_line params.offsets) ends (pair_lines params.offsets is.offsets.in_range)
     (All-cons IsPlain (line_of (codes "secured") (date_text (date_after (unsigned_abs params.secured)))) [] secured (All-nil IsPlain))))))
 
-plain_read : (params : Params) (n : ℕ) → IsParams params → params.secured ≡ pos n → 10957 ≤ n → n ≤ 84005 → lines_read nothing_said 1 (plain_lines params ++ [] ∷ []) ≡ Ok (all_said params params.secured)
-plain_read params n is day from to =
+plain_read : (params : Params) (number n : ℕ) → IsParams params → params.secured ≡ pos n → 10957 ≤ n → n ≤ 84005
+    → lines_read nothing_said number (plain_lines params ++ [] ∷ []) ≡ Ok (all_said params params.secured)
+plain_read params number n is day from to =
+    let at : ℕ = number + 1 + 1 + 1 + 1 in
     let ends = line_of (codes "secured") (date_text (date_after (unsigned_abs params.secured))) ∷ [] in
     let date : unsigned_abs params.secured ≡ n = ap unsigned_abs day in
-    four_read params ((map offset_line params.offsets ++ ends) ++ [] ∷ []) is
-    ∙ (ap (lines_read (four_said params []) 5) (append_assoc (map offset_line params.offsets) ends ([] ∷ []))
-    ∙ (pairs_read params 5 [] params.offsets (ends ++ [] ∷ []) is.offsets is.offsets.in_range
-    ∙ (ap (λ (k : ℕ). lines_read (four_said params params.offsets) (5 + length params.offsets) (line_of (codes "secured") (date_text (date_after k)) ∷ [] ∷ [])) date
-    ∙ (last_read params (5 + length params.offsets) n from to ∙ ap (λ (d : ℤ). Ok (all_said params d)) (sym day)))))
+    four_read params number ((map offset_line params.offsets ++ ends) ++ [] ∷ []) is
+    ∙ (ap (lines_read (four_said params []) at) (append_assoc (map offset_line params.offsets) ends ([] ∷ []))
+    ∙ (pairs_read params at [] params.offsets (ends ++ [] ∷ []) is.offsets is.offsets.in_range
+    ∙ (ap (λ (k : ℕ). lines_read (four_said params params.offsets) (at + length params.offsets)
+    (line_of (codes "secured") (date_text (date_after k)) ∷ [] ∷ [])) date
+    ∙ (last_read params (at + length params.offsets) n from to ∙ ap (λ (d : ℤ). Ok (all_said params d)) (sym day)))))
 
-read_by_day : (params : Params) (day : ℤ) → IsParams params → params.secured ≡ day → (pos 10957 ≤ℤ day) × (day ≤ℤ pos 84005) → params_read (plain_text params) ≡ Ok params
+-- comments say nothing
+comment_read : (said : Said) (number : ℕ) (comment : List ℕ) → line_read said number (comment_line comment) ≡ Ok said
+unfolding line_read
+comment_read said number comment = refl
+
+comments_read : (said : Said) (number : ℕ) (comments lines : List (List ℕ))
+    → lines_read said number (map comment_line comments ++ lines) ≡ lines_read said (number + length comments) lines
+comments_read said number [] lines = ap (λ (k : ℕ). lines_read said k lines) (omega arith)
+comments_read said number (comment ∷ comments) lines =
+    step said said number (comment_line comment) (map comment_line comments ++ lines) (comment_read said number comment)
+    ∙ (comments_read said (number + 1) comments lines ∙ ap (λ (k : ℕ). lines_read said k lines) (omega arith))
+
+comments_are_lines : (comments : List (List ℕ)) → All AreShown comments → All IsLine (map comment_line comments)
+comments_are_lines [] all = All-nil IsLine
+comments_are_lines (comment ∷ comments) all =
+    All-cons IsLine (comment_line comment) (map comment_line comments)
+    (comment_is_line comment (All-head AreShown comment comments all))
+    (comments_are_lines comments (All-tail AreShown comment comments all))
+
+pub few_plain_lines : (params : Params) → IsParams params → length (plain_lines params) ≤ 37
+few_plain_lines params is =
+    let ends = line_of (codes "secured") (date_text (date_after (unsigned_abs params.secured))) ∷ [] in
+    omega (
+      arith,
+      is.offsets.few,
+      length-map params.offsets offset_line,
+      length-append (map offset_line params.offsets) ends,
+    )
+
+short_by_day : (params : Params) (day : ℤ) → IsParams params → params.secured ≡ day
+    → (pos 10957 ≤ℤ day) × (day ≤ℤ pos 84005) → length (plain_text params) ≤ 1517
+short_by_day params (negsuc n) is same range = absurd (grind (arith, ints, range.0))
+short_by_day params (pos n) is same range =
+    let plain = all_plain params n is same (grind (arith, ints, range.0)) (grind (arith, ints, range.1)) in
+    omega (arith, length_ended (plain_lines params) plain, few_plain_lines params is)
+
+pub comments_make_it_longer : (comments : List (List ℕ)) (params : Params) → IsParams params
+    → length (commented_text comments params) ≤ length (ended_text (map comment_line comments)) + 1517
+comments_make_it_longer comments params is =
+    omega (
+      arith,
+      ap length (flat_map-append (λ line. line ++ 10 ∷ []) (map comment_line comments) (plain_lines params)),
+      length-append (ended_text (map comment_line comments)) (plain_text params),
+      short_by_day params params.secured is refl is.secured,
+    )
+
+read_by_day : (comments : List (List ℕ)) (params : Params) (day : ℤ) → IsParams params → params.secured ≡ day
+    → (pos 10957 ≤ℤ day) × (day ≤ℤ pos 84005) → All AreShown comments
+    → length (commented_text comments params) ≤ 65536 → params_read (commented_text comments params) ≡ Ok params
 unfolding params_read
-read_by_day params (negsuc n) is same range = absurd (grind (arith, ints, range.0))
-read_by_day params (pos n) is same range =
+read_by_day comments params (negsuc n) is same range shown short = absurd (grind (arith, ints, range.0))
+read_by_day comments params (pos n) is same range shown short =
     let from : 10957 ≤ n = grind (arith, ints, range.0) in
     let to : n ≤ 84005 = grind (arith, ints, range.1) in
-    let plain = all_plain params n is same from to in
-    let few : length (plain_lines params) ≤ 37 = omega (arith, is.offsets.few, length-map params.offsets offset_line, length-append (map offset_line params.offsets) (line_of (codes "secured") (date_text (date_after (unsigned_abs params.secured))) ∷ [])) in
-    let short : length (plain_text params) ≤ 65536 = omega (arith, length_ended (plain_lines params) plain, few) in
-    rw (le-ltb 65536 (length (plain_text params)) short, ended_lines (plain_lines params) plain, plain_read params n is same from to)
+    let plain = All-weaker IsPlain IsLine is_line (plain_lines params) (all_plain params n is same from to) in
+    let front = map comment_line comments in
+    let all = All-append IsLine front (plain_lines params) (comments_are_lines comments shown) plain in
+    rw (
+      le-ltb 65536 (length (commented_text comments params)) short,
+      ended_lines (front ++ plain_lines params) all,
+      append_assoc front (plain_lines params) ([] ∷ []),
+      comments_read nothing_said 1 comments (plain_lines params ++ [] ∷ []),
+      plain_read params (1 + length comments) n is same from to,
+    )
     (whole_again params params.secured params.offsets (omega (arith, is.offsets.some)))
 
+pub comments_are_passed_over : (comments : List (List ℕ)) (params : Params) → IsParams params → All AreShown comments
+    → length (commented_text comments params) ≤ 65536 → params_read (commented_text comments params) ≡ Ok params
+comments_are_passed_over comments params is shown short =
+    read_by_day comments params params.secured is refl is.secured shown short
+
 pub plain_texts_read_back : (params : Params) → IsParams params → params_read (plain_text params) ≡ Ok params
-plain_texts_read_back params is = read_by_day params params.secured is refl is.secured
+plain_texts_read_back params is =
+    comments_are_passed_over [] params is (All-nil AreShown)
+    (omega (arith, short_by_day params params.secured is refl is.secured))

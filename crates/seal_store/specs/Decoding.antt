@@ -20,7 +20,7 @@ use Rattle.slot_store.specs.BytesAt.{byte_at, two_at, four_at, eight_at}
 abbrev pub signed_at : List ℕ → ℕ → ℤ
 signed_at bytes place = cast_signed w32 (four_at bytes place)
 
--- the mode of a byte is D where the byte is 1, and else S
+-- the mode of a byte is D if the byte is 1, and else S
 abbrev pub mode_in : ℕ → Mode
 mode_in byte = if byte == 1 then Double else Single
 
@@ -64,7 +64,7 @@ is_seal seal =
     nat_le 1 seal.seal_number && (nat_le seal.seal_number last_seal_number && (are_params seal.params
     && ((length seal.digest == digest_size) && nat_le seal.decimals most_decimals)))
 
--- bytes are read as the seal of their fields where each field is in its range and the bytes are the seal's own
+-- bytes are read as the seal of their fields if each field is in its range and the bytes are the seal's own
 unfoldable pub reads : List ℕ → Option Seal
 reads bytes =
     if is_seal (decoded bytes) && bytes_eq (spelling (decoded bytes)) bytes then Some (decoded bytes) else None

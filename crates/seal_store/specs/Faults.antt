@@ -19,7 +19,7 @@ key_of Hold = codes "hold"
 key_of Offset = codes "offset"
 key_of Secured = codes "secured"
 
--- a parameter was said where an earlier line has said it, and is one that only one line may say; an offset may be said
+-- a parameter was said if an earlier line has said it, and is one that only one line may say; an offset may be said
 -- again
 pub data WasSaid (said : Said) : Name → Type 0 where
   taxi_was : (value : List ℕ) → said.taxi ≡ Some value → WasSaid said Taxi

@@ -7,18 +7,18 @@ use Rattle.interval_clock.specs.Calendar.{IsDateOf}
 use Rattle.seal_store.specs.Limits.{greatest_offset, first_year, last_year}
 use Rattle.seal_store.specs.Says.{IsNumberIn}
 
--- a text is that of a mode where it is `single` for mode S, or `double` for mode D
+-- a text is that of a mode if it is `single` for mode S, or `double` for mode D
 pub data IsModeText : List ℕ → Mode → Type 0 where
   single_said : IsModeText (codes "single") Single
   double_said : IsModeText (codes "double") Double
 
--- a text is that of an offset where it is a number of at most 50400, with a minus before it or not
+-- a text is that of an offset if it is a number of at most 50400, with a minus before it or not
 pub data IsOffsetText : List ℕ → ℤ → Type 0 where
   ahead : (digits : List ℕ) (n : ℕ) → IsNumberIn 0 greatest_offset digits n → IsOffsetText digits (pos n)
   behind : (digits : List ℕ) (n : ℕ) → IsNumberIn 0 greatest_offset digits n
       → IsOffsetText (45 ∷ digits) (neg_ℤ (pos n))
 
--- a text is that of a pair where it is the 1 to 12 digits of its second, one blank, and its offset
+-- a text is that of a pair if it is the 1 to 12 digits of its second, one blank, and its offset
 pub record IsPairText (text : List ℕ) (pair : ℕ × ℤ) : Type 0 where
   pub second : List ℕ
   pub offset : List ℕ
@@ -28,13 +28,13 @@ pub record IsPairText (text : List ℕ) (pair : ℕ × ℤ) : Type 0 where
   pub second_is : digits_value 10 second ≡ pair.0
   pub offset_is : IsOffsetText offset pair.1
 
--- digits are a number of a width where there are just as many of them and they write that number
+-- digits are a number of a width if there are just as many of them and they write that number
 pub record IsWide (width : ℕ) (digits : List ℕ) (number : ℕ) : Type 0 where
   pub numeral : IsNumeral 10 digits
   pub long : length digits ≡ width
   pub value : digits_value 10 digits ≡ number
 
--- a text is that of a day number where it is a date of the years 2000 to 2199 as YYYY-MM-DD, and the day is that date's
+-- a text is that of a day number if it is a date of the years 2000 to 2199 as YYYY-MM-DD, and the day is that date's
 pub record IsDateText (text : List ℕ) (day : ℤ) : Type 0 where
   pub years : List ℕ
   pub months : List ℕ

@@ -8,12 +8,12 @@ use Rattle.seal_store.specs.Ranges.{IsTaxi}
 use Rattle.seal_store.specs.Said.{Said}
 use Rattle.seal_store.specs.Says.{IsNumberIn, IsParted}
 
--- a line is silent where it is empty, or a comment, which begins with #
+-- a line is silent if it is empty, or a comment, which begins with #
 pub data IsSilent : List ℕ → Type 0 where
   empty : IsSilent []
   comment : (rest : List ℕ) → IsSilent (35 ∷ rest)
 
--- a line says nothing, or a parameter that has not been said before, or one more offset where the list with it is
+-- a line says nothing, or a parameter that has not been said before, or one more offset if the list with it is
 -- lawful
 pub data SaysMore (said : Said) : (line : List ℕ) → (more : Said) → Type 0 where
   silent : (line : List ℕ) → IsSilent line → SaysMore said line said

@@ -19,16 +19,16 @@ abbrev pub is_passed : List ℕ → Bool
 is_passed [] = true
 is_passed (c ∷ cs) = c == 35
 
--- what stands before the first byte of this value, or all bytes where there is none
+-- what stands before the first byte of this value, or all bytes if there is none
 abbrev pub before : (byte : ℕ) → List ℕ → List ℕ
 before byte [] = []
 before byte (c ∷ cs) = if c == byte then [] else c ∷ before byte cs
 
--- the key of a line is what stands before its first blank, or the whole line where it has none
+-- the key of a line is what stands before its first blank, or the whole line if it has none
 abbrev pub key_in : List ℕ → List ℕ
 key_in line = before 32 line
 
--- the value of a line is what stands behind its first blank, and nothing where it has none
+-- the value of a line is what stands behind its first blank, and nothing if it has none
 abbrev pub value_in : List ℕ → List ℕ
 value_in [] = []
 value_in (c ∷ cs) = if c == 32 then cs else value_in cs

@@ -6,17 +6,17 @@ use Rattle.seal_store.specs.declared.seal.Seal.{Seal}
 use Rattle.seal_store.specs.Limits.{longest_taxi, least_constant, greatest_constant, longest_hold, first_day, last_day}
 use Rattle.seal_store.specs.Limits.{last_seal_number, digest_size, most_decimals}
 
--- a byte is a character of taxi identifiers where it is one of A to Z, of 0 to 9, or -
+-- a byte is a character of taxi identifiers if it is one of A to Z, of 0 to 9, or -
 abbrev pub IsTaxiCharacter : ℕ → Type 0
 IsTaxiCharacter c = ((65 ≤ c) × (c ≤ 90)) ⊎ (((48 ≤ c) × (c ≤ 57)) ⊎ (c ≡ 45))
 
--- a text is a taxi identifier where it has 1 to 16 of the characters of taxi identifiers, and no other
+-- a text is a taxi identifier if it has 1 to 16 of the characters of taxi identifiers, and no other
 pub record IsTaxi (text : List ℕ) : Type 0 where
   pub some : 1 ≤ length text
   pub few : length text ≤ longest_taxi
   pub characters : All IsTaxiCharacter text
 
--- a day number is one of the meter where it is that of a date of the years 2000 to 2199
+-- a day number is one of the meter if it is that of a date of the years 2000 to 2199
 abbrev pub IsDay : ℤ → Type 0
 IsDay day = (pos first_day ≤ℤ day) × (day ≤ℤ pos last_day)
 
@@ -28,7 +28,7 @@ pub record IsParams (params : Params) : Type 0 where
   pub secured : IsDay params.secured
   pub offsets : IsOffsetList params.offsets
 
--- a seal is in its ranges where each of its fields is in its own; its digest may be any 32 bytes
+-- a seal is in its ranges if each of its fields is in its own; its digest may be any 32 bytes
 pub record IsSeal (seal : Seal) : Type 0 where
   pub seal_number : (1 ≤ seal.seal_number) × (seal.seal_number ≤ last_seal_number)
   pub params : IsParams seal.params

@@ -12,7 +12,7 @@ use Rattle.seal_store.specs.Lines.{lines_of}
 use Rattle.seal_store.specs.Said.{Said, nothing_said}
 use Rattle.seal_store.specs.SaidStages.{line_read}
 
--- reading goes on where nothing was wrong, and else ends with the fault
+-- reading goes on if nothing was wrong, and else ends with the fault
 abbrev pub and_then : {A B : Type 0} → Result A ParamFault → (A → Result B ParamFault) → Result B ParamFault
 and_then (Ok x) f = f x
 and_then (Err fault) f = Err fault

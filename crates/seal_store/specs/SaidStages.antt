@@ -14,7 +14,7 @@ use Rattle.seal_store.specs.OffsetList.{is_offset_list}
 use Rattle.seal_store.specs.Said.{Said}
 use Rattle.seal_store.specs.Values.{taxi_read, number_in, mode_read, pair_read, secured_read}
 
--- the parameter of a key, where the key is one of the six
+-- the parameter of a key, if the key is one of the six
 unfoldable pub name_of : (key : List ℕ) → Option Name
 name_of key =
     if bytes_eq key (codes "taxi") then Some Taxi
@@ -42,13 +42,13 @@ is_twice said name.Mode = is_some said.mode
 is_twice said Hold = is_some said.hold
 is_twice said Secured = is_some said.secured
 
--- what has been said with one offset more, where the list with it is lawful
+-- what has been said with one offset more, if the list with it is lawful
 abbrev pub with_pair : Said → ℕ × ℤ → Option Said
 with_pair said pair =
     if is_offset_list (said.offsets ++ pair ∷ []) then Some (record said { offsets = said.offsets ++ pair ∷ [] })
     else None
 
--- what has been said with a parameter's value, where the value is of its form
+-- what has been said with a parameter's value, if the value is of its form
 abbrev pub with_value : Said → Name → (value : List ℕ) → Option Said
 with_value said Taxi value = taxi_read value >>= (λ taxi. Some (record said { taxi = Some taxi }))
 with_value said Constant value =
@@ -58,18 +58,18 @@ with_value said Hold value = number_in 0 longest_hold value >>= (λ n. Some (rec
 with_value said Offset value = pair_read value >>= with_pair said
 with_value said Secured value = secured_read value >>= (λ day. Some (record said { secured = Some day }))
 
--- what has been said where a value is good, and else the fault of its line
+-- what has been said if a value is good, and else the fault of its line
 abbrev pub or_bad : (number : ℕ) → Option Said → Result Said ParamFault
 or_bad number (Some said) = Ok said
 or_bad number None = Err (BadValue number)
 
--- a line of a known parameter, numbered from 1, is bad where it says that parameter twice, and else where its value is
+-- a line of a known parameter, numbered from 1, is bad if it says that parameter twice, and else if its value is
 -- bad
 abbrev pub named_line : Said → (number : ℕ) → Name → (value : List ℕ) → Result Said ParamFault
 named_line said number name value =
     if is_twice said name then Err (Twice name) else or_bad number (with_value said name value)
 
--- a line that isn't passed over is bad where its key is unknown, and else where the line of its parameter is bad
+-- a line that isn't passed over is bad if its key is unknown, and else if the line of its parameter is bad
 abbrev pub keyed_line : Said → (number : ℕ) → Option Name → (value : List ℕ) → Result Said ParamFault
 keyed_line said number None value = Err (Unknown number)
 keyed_line said number (Some name) value = named_line said number name value

@@ -8,20 +8,20 @@ use Rattle.seal_store.specs.Said.{Said}
 pub use Rattle.seal_store.specs.SaidStages.{line_read}
 pub use Rattle.taxi_units.specs.Parting.{HasNone}
 
--- lines are those of a text where an LF ends each but the last, one CR directly before that LF is no part of its line,
+-- lines are those of a text if an LF ends each but the last, one CR directly before that LF is no part of its line,
 -- and what stands behind the last LF is the last line as it is
 pub data AreLines : List ℕ → List (List ℕ) → Type 0 where
   last : (line : List ℕ) → HasNone 10 line → AreLines line (line ∷ [])
   ended : (line rest : List ℕ) (lines : List (List ℕ)) → HasNone 10 line → AreLines rest lines
       → AreLines (line ++ 10 ∷ rest) (strip_carriage_return line ∷ lines)
 
--- a line is parted into its key and its value where one blank stands between them and the key has none; without a blank
+-- a line is parted into its key and its value if one blank stands between them and the key has none; without a blank
 -- it is its key alone
 pub data IsParted : List ℕ → (key value : List ℕ) → Type 0 where
   parted : (key value : List ℕ) → HasNone 32 key → IsParted (key ++ 32 ∷ value) key value
   alone : (key : List ℕ) → HasNone 32 key → IsParted key key []
 
--- digits are a number of a range where there are 1 to 12 of them, they write that number, and it is in the range
+-- digits are a number of a range if there are 1 to 12 of them, they write that number, and it is in the range
 pub record IsNumberIn (low high : ℕ) (digits : List ℕ) (number : ℕ) : Type 0 where
   pub numeral : IsNumeral 10 digits
   pub few : length digits ≤ 12
@@ -29,7 +29,7 @@ pub record IsNumberIn (low high : ℕ) (digits : List ℕ) (number : ℕ) : Type
   pub above : low ≤ number
   pub below : number ≤ high
 
--- lines break at a fault where all lines before one of them are good, and that line, numbered behind them, has the
+-- lines break at a fault if all lines before one of them are good, and that line, numbered behind them, has the
 -- fault; `lines_read` and `line_read` give what lines and a line say or their fault, as the laws
 -- lines_say_their_parameter and bad_lines_have_their_fault say
 pub record BreaksAt (said : Said) (number : ℕ) (lines : List (List ℕ)) (fault : ParamFault) : Type 0 where

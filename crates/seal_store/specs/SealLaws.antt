@@ -281,12 +281,12 @@ module _ (seal : Seal) (valid : IsSeal seal) where
 
 -- ---- what bytes are read as
 
--- a test that decides a fact fails where the fact doesn't hold
+-- a test that decides a fact fails if the fact doesn't hold
 not_decided : {P : Type 0} (b : Bool) → Decides b P → ¬ P → b ≡ false
 not_decided true decides none = absurd (none (decides.0 refl))
 not_decided false decides none = refl
 
--- a value behind two tests isn't given where the second fails
+-- a value behind two tests isn't given if the second fails
 read_by : (ranges same : Bool) (seal : Seal) → same ≡ false → (if ranges && same then Some seal else None) ≡ None
 read_by true true seal other = absurd cc
 read_by true false seal other = refl

@@ -9,13 +9,13 @@ use Rattle.seal_store.specs.LineSays.{SaysMore}
 use Rattle.seal_store.specs.Said.{Said, nothing_said}
 use Rattle.seal_store.specs.Says.{AreLines}
 
--- lines say on, from what was said to what is said then, where each of them says more in its turn
+-- lines say on, from what was said to what is said then, if each of them says more in its turn
 pub data SayOn : Said → (lines : List (List ℕ)) → Said → Type 0 where
   no_line : (said : Said) → SayOn said [] said
   one_line : (said more after : Said) (line : List ℕ) (lines : List (List ℕ)) → SaysMore said line more
       → SayOn more lines after → SayOn said (line ∷ lines) after
 
--- parameters are said where each of them has been, and the offsets are the whole list
+-- parameters are said if each of them has been, and the offsets are the whole list
 pub record AreSaid (said : Said) (params : Params) : Type 0 where
   pub taxi : said.taxi ≡ Some params.taxi.items
   pub constant : said.constant ≡ Some params.constant
@@ -25,7 +25,7 @@ pub record AreSaid (said : Said) (params : Params) : Type 0 where
   pub offsets : said.offsets ≡ params.offsets
   pub secured : said.secured ≡ Some params.secured
 
--- a text says parameters where it has at most 65,536 bytes, and its lines, from the first to the last, say each of them
+-- a text says parameters if it has at most 65,536 bytes, and its lines, from the first to the last, say each of them
 pub record SaysParams (text : List ℕ) (params : Params) : Type 0 where
   pub few : length text ≤ longest_text
   pub lines : List (List ℕ)
@@ -34,7 +34,7 @@ pub record SaysParams (text : List ℕ) (params : Params) : Type 0 where
   pub say : SayOn nothing_said lines said
   pub all : AreSaid said params
 
--- a parameter is unsaid where no line has said it yet
+-- a parameter is unsaid if no line has said it yet
 abbrev pub IsUnsaid : Said → Name → Type 0
 IsUnsaid said Taxi = said.taxi ≡ None
 IsUnsaid said Constant = said.constant ≡ None
@@ -52,7 +52,7 @@ row_of Hold = 3
 row_of Offset = 4
 row_of Secured = 5
 
--- a text lacks a parameter first where it has at most 65,536 bytes, all its lines are good, and the parameter is the
+-- a text lacks a parameter first if it has at most 65,536 bytes, all its lines are good, and the parameter is the
 -- first of the table that they don't say
 pub record LacksFirst (text : List ℕ) (which : Name) : Type 0 where
   pub few : length text ≤ longest_text

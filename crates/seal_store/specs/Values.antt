@@ -18,25 +18,25 @@ is_taxi_character c = (nat_le 65 c && nat_le c 90) || ((nat_le 48 c && nat_le c 
 abbrev pub is_taxi : List ℕ → Bool
 is_taxi text = nat_le 1 (length text) && (nat_le (length text) longest_taxi && list_all is_taxi_character text)
 
--- a text is read as a taxi identifier where it is one
+-- a text is read as a taxi identifier if it is one
 abbrev pub taxi_read : List ℕ → Option (List ℕ)
 taxi_read text = if is_taxi text then Some text else None
 
--- a number that was read at the front of a text, where nothing stands behind it and it is in a range
+-- a number that was read at the front of a text, if nothing stands behind it and it is in a range
 abbrev pub where_in : (low high : ℕ) → ℕ × List ℕ → Option ℕ
 where_in low high x = if (length x.1 == 0 && (nat_le low x.0 && nat_le x.0 high)) then Some x.0 else None
 
--- a text is read as a number of a range where it is 1 to 12 digits that write such a number
+-- a text is read as a number of a range if it is 1 to 12 digits that write such a number
 unfoldable pub number_in : (low high : ℕ) → List ℕ → Option ℕ
 number_in low high text = number_at text >>= where_in low high
 
--- a text is read as a mode where it is the word of one
+-- a text is read as a mode if it is the word of one
 unfoldable pub mode_read : List ℕ → Option Mode
 mode_read text =
     if bytes_eq text (codes "single") then Some Single
     else (if bytes_eq text (codes "double") then Some Double else None)
 
--- a text is read as an offset where it is a number of at most 50400 seconds, perhaps with a minus before it
+-- a text is read as an offset if it is a number of at most 50400 seconds, perhaps with a minus before it
 unfoldable pub offset_read : List ℕ → Option ℤ
 offset_read text = signed_read text (word_at (codes "-") text)
   where
@@ -44,7 +44,7 @@ offset_read text = signed_read text (word_at (codes "-") text)
     signed_read text (Some digits) = number_in 0 greatest_offset digits >>= (λ n. Some (neg_ℤ (pos n)))
     signed_read text None = number_in 0 greatest_offset text >>= (λ n. Some (pos n))
 
--- a text is read as a pair where it is a second, one blank, and the offset that is in force from it on
+-- a text is read as a pair if it is a second, one blank, and the offset that is in force from it on
 unfoldable pub pair_read : List ℕ → Option (ℕ × ℤ)
 pair_read text = do
   second ← number_at text
@@ -52,14 +52,14 @@ pair_read text = do
   offset ← offset_read rest
   Some (second.0, offset)
 
--- a year, a month and a date that were read are a day number where nothing stands behind them and they are a date of
+-- a year, a month and a date that were read are a day number if nothing stands behind them and they are a date of
 -- the years 2000 to 2199
 abbrev pub where_date : (year month date : ℕ) → (rest : List ℕ) → Option ℤ
 where_date year month date rest =
     if (length rest == 0 && (nat_le first_year year && (nat_le year last_year && is_date year month date)))
     then Some (pos (day_number_of year month date)) else None
 
--- a text is read as the day number of a date where it is YYYY-MM-DD
+-- a text is read as the day number of a date if it is YYYY-MM-DD
 unfoldable pub secured_read : List ℕ → Option ℤ
 secured_read text = do
   year ← number_of_width 4 text

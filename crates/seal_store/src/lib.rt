@@ -25,7 +25,7 @@ pub use form_laws::{
     bad_lines_have_their_fault, lines_say_their_parameter, values_are_read_by_their_forms,
 };
 pub use params::{FIRST_DAY, LAST_DAY, Name, ParamFault, Params};
-pub use plain_laws::plain_texts_are_read_back;
+pub use plain_laws::{comments_are_passed_over, plain_texts_are_read_back};
 pub use reading::read_params;
 pub use seal::Seal;
 pub use seal_laws::seals_are_read_by_their_table;

@@ -4,6 +4,6 @@ use Rattle.tariff_compile.specs.Tables.{TableParts}
 use Rattle.meter_states.specs.Acts.{IsLawfulAct}
 use Rattle.meter_states.specs.declared.act.Act.{Act}
 
--- an act is lawful where the store has some number
+-- an act is lawful if the store has some number
 abbrev pub IsLawfulBesideSome : TableParts → Act → Type 0
 IsLawfulBesideSome tables act = (number : ℕ) × IsLawfulAct tables number act

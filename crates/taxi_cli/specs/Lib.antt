@@ -1,4 +1,3 @@
 -- For proofs: what tests say of drives and of numbers, and the plainest body of a slot
 pub mod Drives
 pub mod Numbered
-pub mod Numbers

@@ -17,7 +17,7 @@ spelling number = to_be_bytes w64 number ++ replicate 503 0
 abbrev pub front : List ℕ → ℕ
 front bytes = from_be_bytes w64 (take 8 bytes)
 
--- bytes are read as the number in front where they are its spelling, and else as none
+-- bytes are read as the number in front if they are its spelling, and else as none
 abbrev pub reads : List ℕ → Option ℕ
 reads bytes =
     if nat_lt (front bytes) (2 ^ 64) && bytes_eq (spelling (front bytes)) bytes then Some (front bytes) else None

@@ -34,7 +34,7 @@ mod tests;
 
 ghost use Rattle.std.specs.Prelude.{◌≡◌, ◌<◌};
 
-use commands::taxi;
+use commands::{Row, row_in, taxi};
 use outside::{FileBoard, HostFiles, program_words};
 use std::marker::Brand;
 use std::process::ExitCode;
@@ -53,7 +53,10 @@ fn status<L: Ledger>(rt: HostRuntime, blank: Blank) -> u8
         Err(status) => return status,
     };
     let mut files = HostFiles::new(rt, alloc, words.as_slice());
-    let mut board = FileBoard::new(rt, alloc);
+    let mut board = match row_in(words.as_slice()) {
+        Some(Row::Seal | Row::Run) => FileBoard::to_write(rt, alloc),
+        _ => FileBoard::to_read(rt, alloc),
+    };
     let mut steps: Steps<L> = Steps::open(blank);
     taxi(alloc, words.as_slice(), &mut files, &mut board, &mut steps)
 }

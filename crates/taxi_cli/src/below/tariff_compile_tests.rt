@@ -1,5 +1,3 @@
-//! Tests of tariff_compile: the rows of tables, look-ups in them, tables at the limits of tariffs, and what tables are
-//! made of.
+//! Tests of tariff_compile: the rows of tables, look-ups in them, and tables at the limits of tariffs.
 mod limits;
-mod numbers;
 mod tables;

@@ -7,6 +7,7 @@ use Rattle.commands.specs.BenchSteps.{terms_in}
 use Rattle.commands.specs.Ending.{ComesOn}
 use Rattle.commands.specs.declared.ending.Ended.{Ended}
 use Rattle.commands.specs.declared.ending.Ended.TheVariants as ended
+use Rattle.commands.proofs.Carrying.{carries-looked}
 use Rattle.commands.proofs.Benching.{comes-begun, comes-judged, comes-no_terms, comes-not_judged, has_judged, not_fault-passing, steps-judged}
 use Rattle.commands.proofs.Judging.{not_judged-as, not_judged-over}
 use Rattle.commands.proofs.Looking.{looks-kept, looks-only}
@@ -20,10 +21,11 @@ two-one e = absurd (omega (arith, e))
 three-one : ◌≢◌ {A = ℕ} 3 1
 three-one e = absurd (omega (arith, e))
 
--- ---- there are no terms
-
-pub returns-in-Err-clause-ends : goal.returns-in-Err-clause-ends
-returns-in-Err-clause-ends g c = λ tells told.
+-- there are no terms
+pub returns-in-Err : goal.returns-in-Err
+returns-in-Err g c =
+    carries-looked g.F.Files g.B.Board bench_command c.args.files.now c.open_terms.new.files c.args.board.now c.open_terms.new.board c.args.steps.now c.open_terms.new.steps c.in-Err.why tt (λ status w. w)
+    (λ known. let tells = known.0 in let told = known.1 in
     let rest = g.F.Files.rest in
     let faults = g.F.Files.faults in
     let printed = g.B.Board.printed in
@@ -31,24 +33,26 @@ returns-in-Err-clause-ends g c = λ tells told.
     let mid = c.open_terms.new.files in
     comes-no_terms (rest files) (rest mid) (g.B.Board.image c.args.board.now) (λ word. Rose (faults files word) (faults mid word))
     (Rose (g.B.Board.faults c.args.board.now) (g.B.Board.faults c.open_terms.new.board)) g.B.Board.tells_text (printed c.args.board.now) (printed c.open_terms.new.board)
-    (record { bytes = sym (c.open_terms.ensures.others 2 two-one) }) c.open_terms.ensures.opens.reads.text c.in-Err.why (c.in-Err.ensures.refused tells told)
+    (record { bytes = sym (c.open_terms.ensures.others 2 two-one) }) c.open_terms.ensures.opens.reads.text c.in-Err.why (c.in-Err.ensures.refused tells told))
+    (λ later le tells told. omega (arith, le, c.open_terms.ensures.steps))
+    (λ e. record { word = 1; reads = inl refl; rose = c.open_terms.ensures.read_fault (c.in-Err.is ∙ ap Err e) })
+    (record { count = c.open_terms.ensures.opens.count; failed = λ e. c.open_terms.ensures.opens.cause (c.in-Err.is ∙ ap Err e) })
+    (λ word not. c.open_terms.ensures.others word (λ e. not (inl e)))
+    (c.open_terms.ensures.counts)
+    (record {
+      bytes = bytes-read g.B.Board c.args.board.now c.open_terms.new.board c.open_terms.ensures.opens.reads;
+      same = λ good. c.open_terms.ensures.opens.same (λ f. good (same_fault c.open_terms.result c.in-Err.why ended.BoardFault c.in-Err.is f));
+      looks = λ told.
+          let opened = c.open_terms.ensures.opens in
+          looks-only g.B.Board _ c.in-Err.why c.args.board.now c.open_terms.new.board (λ e. same_fault c.open_terms.result c.in-Err.why ended.BoardFault c.in-Err.is e)
+          (opened.synced told) opened.same (opened.settled told);
+    })
 
-pub returns-in-Err-clause-store : goal.returns-in-Err-clause-store
-returns-in-Err-clause-store g c = bytes-read g.B.Board c.args.board.now c.open_terms.new.board c.open_terms.ensures.opens.reads
-
-pub returns-in-Err-clause-same : goal.returns-in-Err-clause-same
-returns-in-Err-clause-same g c = λ good. c.open_terms.ensures.opens.same (λ f. good (same_fault c.open_terms.result c.in-Err.why ended.BoardFault c.in-Err.is f))
-
-pub returns-in-Err-clause-board_fault : goal.returns-in-Err-clause-board_fault
-returns-in-Err-clause-board_fault g c = λ e. c.open_terms.ensures.opens.cause (c.in-Err.is ∙ ap Err e)
-
-pub returns-in-Err-clause-read_fault : goal.returns-in-Err-clause-read_fault
-returns-in-Err-clause-read_fault g c = λ e. record { word = 1; reads = inl refl; rose = c.open_terms.ensures.read_fault (c.in-Err.is ∙ ap Err e) }
-
--- ---- nothing is judged
-
-pub returns-in-Err-judge_drive-clause-ends : goal.returns-in-Err-judge_drive-clause-ends
-returns-in-Err-judge_drive-clause-ends g c = λ tells told.
+-- nothing is judged
+pub returns-in-Err-judge_drive : goal.returns-in-Err-judge_drive
+returns-in-Err-judge_drive g c =
+    carries-looked g.F.Files g.B.Board bench_command c.args.files.now c.judge_drive.new.files c.args.board.now c.open_terms.new.board c.args.steps.now c.open_terms.new.steps c.in-Err-judge_drive.why tt (λ status w. w)
+    (λ known. let tells = known.0 in let told = known.1 in
     let rest = g.F.Files.rest in
     let faults = g.F.Files.faults in
     let printed = g.B.Board.printed in
@@ -65,72 +69,67 @@ returns-in-Err-judge_drive-clause-ends g c = λ tells told.
     (λ rose. omega (arith, rose, c.open_terms.ensures.counts 2)) (λ rose. omega (arith, rose, c.open_terms.ensures.counts 3)) why of_files in
     comes-not_judged (rest files) (rest new) (g.B.Board.image c.args.board.now) (λ word. Rose (faults files word) (faults new word))
     (Rose (g.B.Board.faults c.args.board.now) (g.B.Board.faults c.open_terms.new.board)) g.B.Board.tells_text (printed c.args.board.now) (printed c.open_terms.new.board)
-    terms (c.in-Ok.ensures.found tells told) why c.open_terms.ensures.opens.reads.text later
-
-pub returns-in-Err-judge_drive-clause-store : goal.returns-in-Err-judge_drive-clause-store
-returns-in-Err-judge_drive-clause-store g c = bytes-read g.B.Board c.args.board.now c.open_terms.new.board c.open_terms.ensures.opens.reads
-
-pub returns-in-Err-judge_drive-clause-same : goal.returns-in-Err-judge_drive-clause-same
-returns-in-Err-judge_drive-clause-same g c = λ good. c.open_terms.ensures.opens.same (no_fault c.open_terms.result c.in-Ok.terms ended.BoardFault c.in-Ok.is)
-
-pub returns-in-Err-judge_drive-clause-read_fault : goal.returns-in-Err-judge_drive-clause-read_fault
-returns-in-Err-judge_drive-clause-read_fault g c = λ e.
+    terms (c.in-Ok.ensures.found tells told) why c.open_terms.ensures.opens.reads.text later)
+    (λ later le tells told. omega (arith, le, c.open_terms.ensures.steps))
+    (λ e.
     let faults = g.F.Files.faults in
     let mid = c.open_terms.new.files in
     let new = c.judge_drive.new.files in
     ⊎_elim
     (λ (rose : Rose (faults mid 2) (faults new 2)). record { word = 2; reads = inr (inl refl); rose = omega (arith, rose, c.open_terms.ensures.counts 2) })
     (λ (rose : Rose (faults mid 3) (faults new 3)). record { word = 3; reads = inr (inr refl); rose = omega (arith, rose, c.open_terms.ensures.counts 3) })
-    (c.judge_drive.ensures.read_fault (c.in-Err-judge_drive.is ∙ ap Err e))
+    (c.judge_drive.ensures.read_fault (c.in-Err-judge_drive.is ∙ ap Err e)))
+    (record { count = c.open_terms.ensures.opens.count; failed = λ e. absurd (c.judge_drive.ensures.not_board (c.in-Err-judge_drive.is ∙ ap Err e)) })
+    (λ word not. c.judge_drive.ensures.others word (λ e. not (inr (inl e))) (λ e. not (inr (inr e))) ∙ c.open_terms.ensures.others word (λ e. not (inl e)))
+    (λ word. omega (arith, c.open_terms.ensures.counts word, c.judge_drive.ensures.counts word))
+    (record {
+      bytes = bytes-read g.B.Board c.args.board.now c.open_terms.new.board c.open_terms.ensures.opens.reads;
+      same = λ good. c.open_terms.ensures.opens.same (no_fault c.open_terms.result c.in-Ok.terms ended.BoardFault c.in-Ok.is);
+      looks = λ told.
+          let opened = c.open_terms.ensures.opens in
+          let went = no_fault c.open_terms.result c.in-Ok.terms ended.BoardFault c.in-Ok.is in
+          looks-only g.B.Board _ c.in-Err-judge_drive.why c.args.board.now c.open_terms.new.board (λ e. absurd (went e)) (opened.synced told) opened.same (opened.settled told);
+    })
 
-pub returns-in-Err-judge_drive-clause-board_fault : goal.returns-in-Err-judge_drive-clause-board_fault
-returns-in-Err-judge_drive-clause-board_fault g c = λ e. absurd (c.judge_drive.ensures.not_board (c.in-Err-judge_drive.is ∙ ap Err e))
-
-pub returns-in-Err-judge_drive-clause-others : goal.returns-in-Err-judge_drive-clause-others
-returns-in-Err-judge_drive-clause-others g c = λ other one two three. c.judge_drive.ensures.others other two three ∙ c.open_terms.ensures.others other one
-
--- ---- the report is printed
-
-pub returns-in-Ok-print_text-clause-ends : goal.returns-in-Ok-print_text-clause-ends
-returns-in-Ok-print_text-clause-ends g c = λ tells told.
+-- the report is printed
+pub returns-in-Ok-print_text : goal.returns-in-Ok-print_text
+returns-in-Ok-print_text g c =
+    carries-looked g.F.Files g.B.Board bench_command c.args.files.now c.judge_drive.new.files c.args.board.now c.print_text.new.board c.args.steps.now c.print_text.new.steps c.ended.result tt (λ status w. w)
+    (λ known. let tells = known.0 in let told = known.1 in
     let rest = g.F.Files.rest in
     let j = has_judged (rest c.args.files.now) (rest c.open_terms.new.files) (rest c.judge_drive.new.files) (g.B.Board.image c.args.board.now) (c.in-Ok.ensures.found tells told) (c.in-Ok.ensures.ended tells)
     c.open_terms.ensures.others c.judge_drive.ensures.others (c.in-Ok-judge_drive.ensures.judged tells) (c.in-Ok-judge_drive.ensures.ended tells) in
     subst (λ (end : Ended). ComesOn g.F.Files g.B.Board bench_command c.args.files.now c.judge_drive.new.files c.args.board.now c.print_text.new.board end) (sym c.ended.ensures)
     (comes-judged (rest c.args.files.now) (rest c.judge_drive.new.files) (g.B.Board.image c.args.board.now) _ _ g.B.Board.tells_text (g.B.Board.printed c.args.board.now) (g.B.Board.printed c.print_text.new.board) j
     (λ t. c.in-Ok-print_text.ensures.whole t ∙ ap (λ (x : List ℕ). x ++ c.as_slice.result.now) c.open_terms.ensures.opens.reads.text
-    ∙ ap (λ (x : List ℕ). g.B.Board.printed c.args.board.now ++ x) c.as_slice.ensures.value))
-
-pub returns-in-Ok-print_text-clause-steps : goal.returns-in-Ok-print_text-clause-steps
-returns-in-Ok-print_text-clause-steps g c = λ tells told.
+    ∙ ap (λ (x : List ℕ). g.B.Board.printed c.args.board.now ++ x) c.as_slice.ensures.value)))
+    (λ later le tells told.
     let rest = g.F.Files.rest in
-    steps-judged (rest c.args.files.now) (rest c.judge_drive.new.files) (g.B.Board.image c.args.board.now)
+    let bound = steps-judged (rest c.args.files.now) (rest c.judge_drive.new.files) (g.B.Board.image c.args.board.now)
     (has_judged (rest c.args.files.now) (rest c.open_terms.new.files) (rest c.judge_drive.new.files) (g.B.Board.image c.args.board.now) (c.in-Ok.ensures.found tells told) (c.in-Ok.ensures.ended tells)
     c.open_terms.ensures.others c.judge_drive.ensures.others (c.in-Ok-judge_drive.ensures.judged tells) (c.in-Ok-judge_drive.ensures.ended tells))
-    c.as_slice.result.now _ _ _ c.open_terms.ensures.steps c.as_slice.ensures.value c.print_text.ensures.steps
+    c.as_slice.result.now _ _ _ c.open_terms.ensures.steps c.as_slice.ensures.value c.print_text.ensures.steps in omega (arith, le, bound))
+    (λ e. absurd ((not_fault-passing c.in-Ok-judge_drive.judgement.pass).0 (sym c.ended.ensures ∙ e)))
+    (record { count = omega (arith, c.open_terms.ensures.opens.count, c.print_text.ensures.cause.later); failed = λ e. absurd ((not_fault-passing c.in-Ok-judge_drive.judgement.pass).1 (sym c.ended.ensures ∙ e)) })
+    (λ word not. c.judge_drive.ensures.others word (λ e. not (inr (inl e))) (λ e. not (inr (inr e))) ∙ c.open_terms.ensures.others word (λ e. not (inl e)))
+    (λ word. omega (arith, c.open_terms.ensures.counts word, c.judge_drive.ensures.counts word))
+    (record {
+      bytes = bytes-then g.B.Board c.args.board.now c.open_terms.new.board c.print_text.new.board (bytes-read g.B.Board c.args.board.now c.open_terms.new.board c.open_terms.ensures.opens.reads)
+          (bytes-kept g.B.Board c.open_terms.new.board c.print_text.new.board c.print_text.ensures.store);
+      same = λ good.
+          c.print_text.ensures.store.same ∙ c.open_terms.ensures.opens.same (no_fault c.open_terms.result c.in-Ok.terms ended.BoardFault c.in-Ok.is);
+      looks = λ told.
+          let opened = c.open_terms.ensures.opens in
+          let went = no_fault c.open_terms.result c.in-Ok.terms ended.BoardFault c.in-Ok.is in
+          looks-kept g.B.Board _ _ c.args.board.now c.open_terms.new.board c.print_text.new.board went (opened.synced told)
+          (g.met.B.Board.only_now c.open_terms.new.board) (opened.settled told went) (opened.same went) c.print_text.ensures.store;
+    })
 
-pub returns-in-Ok-print_text-clause-store : goal.returns-in-Ok-print_text-clause-store
-returns-in-Ok-print_text-clause-store g c =
-    bytes-then g.B.Board c.args.board.now c.open_terms.new.board c.print_text.new.board (bytes-read g.B.Board c.args.board.now c.open_terms.new.board c.open_terms.ensures.opens.reads)
-    (bytes-kept g.B.Board c.open_terms.new.board c.print_text.new.board c.print_text.ensures.store)
-
-pub returns-in-Ok-print_text-clause-same : goal.returns-in-Ok-print_text-clause-same
-returns-in-Ok-print_text-clause-same g c = λ good.
-    c.print_text.ensures.store.same ∙ c.open_terms.ensures.opens.same (no_fault c.open_terms.result c.in-Ok.terms ended.BoardFault c.in-Ok.is)
-
-pub returns-in-Ok-print_text-clause-read_fault : goal.returns-in-Ok-print_text-clause-read_fault
-returns-in-Ok-print_text-clause-read_fault g c = λ e. absurd ((not_fault-passing c.in-Ok-judge_drive.judgement.pass).0 (sym c.ended.ensures ∙ e))
-
-pub returns-in-Ok-print_text-clause-board_fault : goal.returns-in-Ok-print_text-clause-board_fault
-returns-in-Ok-print_text-clause-board_fault g c = λ e. absurd ((not_fault-passing c.in-Ok-judge_drive.judgement.pass).1 (sym c.ended.ensures ∙ e))
-
-pub returns-in-Ok-print_text-clause-others : goal.returns-in-Ok-print_text-clause-others
-returns-in-Ok-print_text-clause-others g c = λ other one two three. c.judge_drive.ensures.others other two three ∙ c.open_terms.ensures.others other one
-
--- ---- the board fails
-
-pub returns-clause-ends : goal.returns-clause-ends
-returns-clause-ends g c = λ tells told.
+-- the board fails
+pub returns : goal.returns
+returns g c =
+    carries-looked g.F.Files g.B.Board bench_command c.args.files.now c.judge_drive.new.files c.args.board.now c.print_text.new.board c.args.steps.now c.print_text.new.steps ended.BoardFault tt (λ status w. w)
+    (λ known. let tells = known.0 in let told = known.1 in
     let rest = g.F.Files.rest in
     let j = has_judged (rest c.args.files.now) (rest c.open_terms.new.files) (rest c.judge_drive.new.files) (g.B.Board.image c.args.board.now) (c.in-Ok.ensures.found tells told) (c.in-Ok.ensures.ended tells)
     c.open_terms.ensures.others c.judge_drive.ensures.others (c.in-Ok-judge_drive.ensures.judged tells) (c.in-Ok-judge_drive.ensures.ended tells) in
@@ -139,51 +138,24 @@ returns-clause-ends g c = λ tells told.
     comes-begun (rest c.args.files.now) (rest c.judge_drive.new.files) (g.B.Board.image c.args.board.now) _ _ g.B.Board.tells_text (printed c.args.board.now) (printed last) j
     (λ t. subst (λ (x : List ℕ). Begins (printed c.args.board.now) (printed last) x) c.as_slice.ensures.value
     (subst (λ (x : List ℕ). Begins x (printed last) c.as_slice.result.now) c.open_terms.ensures.opens.reads.text (c.print_text.ensures.begun t)))
-    (omega (arith, c.print_text.ensures.cause.failed (ap is_err c.in-Err-print_text.is), c.open_terms.ensures.opens.count))
-
-pub returns-clause-steps : goal.returns-clause-steps
-returns-clause-steps g c = λ tells told.
+    (omega (arith, c.print_text.ensures.cause.failed (ap is_err c.in-Err-print_text.is), c.open_terms.ensures.opens.count)))
+    (λ later le tells told.
     let rest = g.F.Files.rest in
-    steps-judged (rest c.args.files.now) (rest c.judge_drive.new.files) (g.B.Board.image c.args.board.now)
+    let bound = steps-judged (rest c.args.files.now) (rest c.judge_drive.new.files) (g.B.Board.image c.args.board.now)
     (has_judged (rest c.args.files.now) (rest c.open_terms.new.files) (rest c.judge_drive.new.files) (g.B.Board.image c.args.board.now) (c.in-Ok.ensures.found tells told) (c.in-Ok.ensures.ended tells)
     c.open_terms.ensures.others c.judge_drive.ensures.others (c.in-Ok-judge_drive.ensures.judged tells) (c.in-Ok-judge_drive.ensures.ended tells))
-    c.as_slice.result.now _ _ _ c.open_terms.ensures.steps c.as_slice.ensures.value c.print_text.ensures.steps
-
-pub returns-clause-store : goal.returns-clause-store
-returns-clause-store g c =
-    bytes-then g.B.Board c.args.board.now c.open_terms.new.board c.print_text.new.board (bytes-read g.B.Board c.args.board.now c.open_terms.new.board c.open_terms.ensures.opens.reads)
-    (bytes-kept g.B.Board c.open_terms.new.board c.print_text.new.board c.print_text.ensures.store)
-
-pub returns-clause-board_fault : goal.returns-clause-board_fault
-returns-clause-board_fault g c = λ e. omega (arith, c.print_text.ensures.cause.failed (ap is_err c.in-Err-print_text.is), c.open_terms.ensures.opens.count)
-
-pub returns-clause-others : goal.returns-clause-others
-returns-clause-others g c = λ other one two three. c.judge_drive.ensures.others other two three ∙ c.open_terms.ensures.others other one
-
--- ---- what a cut leaves
-
-pub returns-in-Err-clause-looks : goal.returns-in-Err-clause-looks
-returns-in-Err-clause-looks g c = λ told.
-    let opened = c.open_terms.ensures.opens in
-    looks-only g.B.Board _ c.in-Err.why c.args.board.now c.open_terms.new.board (λ e. same_fault c.open_terms.result c.in-Err.why ended.BoardFault c.in-Err.is e)
-    (opened.synced told) opened.same (opened.settled told)
-
-pub returns-in-Err-judge_drive-clause-looks : goal.returns-in-Err-judge_drive-clause-looks
-returns-in-Err-judge_drive-clause-looks g c = λ told.
-    let opened = c.open_terms.ensures.opens in
-    let went = no_fault c.open_terms.result c.in-Ok.terms ended.BoardFault c.in-Ok.is in
-    looks-only g.B.Board _ c.in-Err-judge_drive.why c.args.board.now c.open_terms.new.board (λ e. absurd (went e)) (opened.synced told) opened.same (opened.settled told)
-
-pub returns-in-Ok-print_text-clause-looks : goal.returns-in-Ok-print_text-clause-looks
-returns-in-Ok-print_text-clause-looks g c = λ told.
-    let opened = c.open_terms.ensures.opens in
-    let went = no_fault c.open_terms.result c.in-Ok.terms ended.BoardFault c.in-Ok.is in
-    looks-kept g.B.Board _ _ c.args.board.now c.open_terms.new.board c.print_text.new.board went (opened.synced told)
-    (g.met.B.Board.only_now c.open_terms.new.board) (opened.settled told went) (opened.same went) c.print_text.ensures.store
-
-pub returns-clause-looks : goal.returns-clause-looks
-returns-clause-looks g c = λ told.
-    let opened = c.open_terms.ensures.opens in
-    let went = no_fault c.open_terms.result c.in-Ok.terms ended.BoardFault c.in-Ok.is in
-    looks-kept g.B.Board _ ended.BoardFault c.args.board.now c.open_terms.new.board c.print_text.new.board went (opened.synced told)
-    (g.met.B.Board.only_now c.open_terms.new.board) (opened.settled told went) (opened.same went) c.print_text.ensures.store
+    c.as_slice.result.now _ _ _ c.open_terms.ensures.steps c.as_slice.ensures.value c.print_text.ensures.steps in omega (arith, le, bound))
+    (λ e. absurd cc)
+    (record { count = omega (arith, c.open_terms.ensures.opens.count, c.print_text.ensures.cause.later); failed = λ e. omega (arith, c.print_text.ensures.cause.failed (ap is_err c.in-Err-print_text.is), c.open_terms.ensures.opens.count) })
+    (λ word not. c.judge_drive.ensures.others word (λ e. not (inr (inl e))) (λ e. not (inr (inr e))) ∙ c.open_terms.ensures.others word (λ e. not (inl e)))
+    (λ word. omega (arith, c.open_terms.ensures.counts word, c.judge_drive.ensures.counts word))
+    (record {
+      bytes = bytes-then g.B.Board c.args.board.now c.open_terms.new.board c.print_text.new.board (bytes-read g.B.Board c.args.board.now c.open_terms.new.board c.open_terms.ensures.opens.reads)
+          (bytes-kept g.B.Board c.open_terms.new.board c.print_text.new.board c.print_text.ensures.store);
+      same = λ good. absurd (good refl);
+      looks = λ told.
+          let opened = c.open_terms.ensures.opens in
+          let went = no_fault c.open_terms.result c.in-Ok.terms ended.BoardFault c.in-Ok.is in
+          looks-kept g.B.Board _ ended.BoardFault c.args.board.now c.open_terms.new.board c.print_text.new.board went (opened.synced told)
+          (g.met.B.Board.only_now c.open_terms.new.board) (opened.settled told went) (opened.same went) c.print_text.ensures.store;
+    })

@@ -1,14 +1,22 @@
-use Rattle.std.proofs.Common.{◌∙◌, Err, refl, ap}
+use Rattle.std.proofs.Common.{◌∙◌, Err, refl, ap, arith, rules}
 use Rattle.commands.specs.Check.{check_command}
 use Rattle.commands.specs.Tariffs.{tariff_in}
+use Rattle.commands.proofs.Carrying.{carries-said}
 use Rattle.commands.proofs.Refusals.{comes-refused}
 use Rattle.commands.proofs.Tabling.{refused-check}
 use Rattle.commands.proofs.check.check_tariff.Goals as goal
 
-pub returns-in-Err-clause-ends : goal.returns-in-Err-clause-ends
-returns-in-Err-clause-ends g c = λ image tells.
+pub returns-in-Ok : goal.returns-in-Ok
+returns-in-Ok g c = λ image.
+    carries-said g.F.Files image check_command c.args.files.now c.read_tariff.new.files _ (λ none. none) (λ status w. w)
+    (λ tells. search rules) (λ later le. omega (arith, le)) (λ e. absurd cc) (λ e. absurd cc) c.read_tariff.ensures.others c.read_tariff.ensures.counts
+
+pub returns-in-Err : goal.returns-in-Err
+returns-in-Err g c = λ image.
     let rest = g.F.Files.rest in
-    rw c.refused_by.ensures
+    carries-said g.F.Files image check_command c.args.files.now c.read_tariff.new.files _ (λ none. none) (λ status w. w)
+    (λ tells. rw c.refused_by.ensures
     (comes-refused check_command (rest c.args.files.now) (rest c.read_tariff.new.files) image _ refl tt (λ e. absurd cc) c.in-Err.fault refl refl refl
     (λ e. c.read_tariff.ensures.read_fault (c.in-Err.is ∙ ap Err e))
-    (λ why e. refused-check (tariff_in (rest c.args.files.now 1)) why (c.read_tariff.ensures.refused why tells (c.in-Err.is ∙ ap Err e))))
+    (λ why e. refused-check (tariff_in (rest c.args.files.now 1)) why (c.read_tariff.ensures.refused why tells (c.in-Err.is ∙ ap Err e)))))
+    (λ later le. omega (arith, le)) (search rules) (search rules) c.read_tariff.ensures.others c.read_tariff.ensures.counts

@@ -1,34 +1,44 @@
-use Rattle.std.proofs.Common.{◌∙◌, ℕ, Err, refl, ap}
+use Rattle.std.proofs.Common.{◌∙◌, ℕ, Err, refl, ap, arith, rules}
 use Rattle.std.specs.Prelude.{is_err}
+use Rattle.outside.proofs.Laws.{keeps_none}
 use Rattle.offset_rules.specs.Pairs.{pairs_of}
+use Rattle.commands.specs.declared.ending.Ended.TheVariants as ended
+use Rattle.commands.specs.Offsets.{offsets_command}
+use Rattle.commands.proofs.Carrying.{carries-kept}
 use Rattle.commands.proofs.Listing.{comes-lines, comes-lines_begun, comes-refused}
 use Rattle.commands.proofs.offsets.print_offsets.Goals as goal
 
-pub returns-in-Err-clause-ends : goal.returns-in-Err-clause-ends
-returns-in-Err-clause-ends g c = λ tells.
+pub returns-in-Err : goal.returns-in-Err
+returns-in-Err g c =
     let rest = g.F.Files.rest in
     let printed = g.B.Board.printed c.args.board.now in
-    rw c.refused_rules.ensures
+    carries-kept g.F.Files g.B.Board (offsets_command c.args.years) c.args.files.now c.rules_of_word.new.files c.args.board.now c.args.board.now c.args.steps.now c.args.steps.now _ (λ none. none) (λ status w. w)
+    (λ tells. rw c.refused_rules.ensures
     (comes-refused c.args.years (rest c.args.files.now) (rest c.rules_of_word.new.files) (g.B.Board.image c.args.board.now) _ _ _ printed printed c.in-Err.fault refl
     (λ e. c.rules_of_word.ensures.read_fault (c.in-Err.is ∙ ap Err e))
-    (λ why e. c.rules_of_word.ensures.refused why tells (c.in-Err.is ∙ ap Err e)))
+    (λ why e. c.rules_of_word.ensures.refused why tells (c.in-Err.is ∙ ap Err e))))
+    (λ later le. omega (arith, le)) (search rules) (search rules) c.rules_of_word.ensures.others c.rules_of_word.ensures.counts (search (rules, keeps_none))
 
-pub returns-in-Ok-print_pairs-clause-ends : goal.returns-in-Ok-print_pairs-clause-ends
-returns-in-Ok-print_pairs-clause-ends g c = λ tells.
+pub returns-in-Ok-print_pairs : goal.returns-in-Ok-print_pairs
+returns-in-Ok-print_pairs g c =
     let rest = g.F.Files.rest in
     let printed = g.B.Board.printed in
     let rule = c.in-Ok.rules in
-    comes-lines c.args.years (rest c.args.files.now) (rest c.rules_of_word.new.files) (g.B.Board.image c.args.board.now) _ _ _ (printed c.args.board.now) (printed c.print_pairs.new.board)
+    carries-kept g.F.Files g.B.Board (offsets_command c.args.years) c.args.files.now c.rules_of_word.new.files c.args.board.now c.print_pairs.new.board c.args.steps.now c.print_pairs.new.steps ended.Done (λ none. none) (λ status w. w)
+    (λ tells. comes-lines c.args.years (rest c.args.files.now) (rest c.rules_of_word.new.files) (g.B.Board.image c.args.board.now) _ _ _ (printed c.args.board.now) (printed c.print_pairs.new.board)
     rule c.as_slice.result.now (c.in-Ok.ensures.found tells)
     (c.as_slice.ensures.value ∙ c.pairs-pairs.ensures.value ∙ ap (λ (years : ℕ × ℕ). pairs_of rule years.0 years.1) c.bounds-first.ensures.value)
-    (c.in-Ok.ensures.ended tells) c.in-Ok-print_pairs.ensures.whole
+    (c.in-Ok.ensures.ended tells) c.in-Ok-print_pairs.ensures.whole)
+    (λ later le. search (rules, le)) (λ e. absurd cc) (record { count = c.print_pairs.ensures.cause.later; failed = λ e. absurd cc }) c.rules_of_word.ensures.others c.rules_of_word.ensures.counts c.print_pairs.ensures.store
 
-pub returns-in-Err-print_pairs-clause-ends : goal.returns-in-Err-print_pairs-clause-ends
-returns-in-Err-print_pairs-clause-ends g c = λ tells.
+pub returns-in-Err-print_pairs : goal.returns-in-Err-print_pairs
+returns-in-Err-print_pairs g c =
     let rest = g.F.Files.rest in
     let printed = g.B.Board.printed in
     let rule = c.in-Ok.rules in
-    comes-lines_begun c.args.years (rest c.args.files.now) (rest c.rules_of_word.new.files) (g.B.Board.image c.args.board.now) _ _ _ (printed c.args.board.now) (printed c.print_pairs.new.board)
+    carries-kept g.F.Files g.B.Board (offsets_command c.args.years) c.args.files.now c.rules_of_word.new.files c.args.board.now c.print_pairs.new.board c.args.steps.now c.print_pairs.new.steps ended.BoardFault (λ none. none) (λ status w. w)
+    (λ tells. comes-lines_begun c.args.years (rest c.args.files.now) (rest c.rules_of_word.new.files) (g.B.Board.image c.args.board.now) _ _ _ (printed c.args.board.now) (printed c.print_pairs.new.board)
     rule c.as_slice.result.now (c.in-Ok.ensures.found tells)
     (c.as_slice.ensures.value ∙ c.pairs-pairs.ensures.value ∙ ap (λ (years : ℕ × ℕ). pairs_of rule years.0 years.1) c.bounds-first.ensures.value)
-    (c.in-Ok.ensures.ended tells) c.print_pairs.ensures.begun (c.print_pairs.ensures.cause.failed (ap is_err c.in-Err-print_pairs.is))
+    (c.in-Ok.ensures.ended tells) c.print_pairs.ensures.begun (c.print_pairs.ensures.cause.failed (ap is_err c.in-Err-print_pairs.is)))
+    (λ later le. search (rules, le)) (λ e. absurd cc) (record { count = c.print_pairs.ensures.cause.later; failed = λ e. c.print_pairs.ensures.cause.failed (ap is_err c.in-Err-print_pairs.is) }) c.rules_of_word.ensures.others c.rules_of_word.ensures.counts c.print_pairs.ensures.store

@@ -1,4 +1,4 @@
-use Rattle.std.proofs.Common.{◌∙◌, ℕ, List, [], Result, refl, sym, subst, arith}
+use Rattle.std.proofs.Common.{◌∙◌, ℕ, List, [], Result, refl, sym, subst, arith, rules}
 use Rattle.data_port.specs.Serving.{Serves}
 use Rattle.totaliser_store.specs.declared.durable.Durable.{Durable}
 use Rattle.seal_store.specs.declared.seal.Seal.{Seal}
@@ -6,33 +6,33 @@ use Rattle.commands.specs.declared.ending.Ended.{Ended}
 use Rattle.commands.specs.declared.ending.Ended.TheVariants as ended
 use Rattle.commands.specs.Ending.{ComesOn}
 use Rattle.commands.specs.Port.{port_answer, port_command}
+use Rattle.commands.proofs.Carrying.{carries-looked}
 use Rattle.commands.proofs.Looking.{looks-behind}
 use Rattle.commands.proofs.Openings.{as_found, no_fault}
 use Rattle.commands.proofs.Porting.{board_fault-served, comes-served, not_refused, read_fault-served}
 use Rattle.commands.proofs.StoreTexts.{ends-barred}
 use Rattle.commands.proofs.port.serve_requests.Goals as goal
 
--- ---- there is no sealed store
-
-pub returns-in-Err-clause-ends : goal.returns-in-Err-clause-ends
-returns-in-Err-clause-ends g c = λ tells told.
+-- there is no sealed store
+pub returns-in-Err : goal.returns-in-Err
+returns-in-Err g c =
+    carries-looked g.F.Files g.B.Board port_command c.args.files.now c.args.files.now c.args.board.now c.open_sealed.new.board c.args.steps.now c.open_sealed.new.steps c.in-Err.why tt (λ status w. w)
+    (λ known.
     let rest = g.F.Files.rest c.args.files.now in
     ends-barred g.B.Board port_command rest rest _ c.args.board.now c.open_sealed.new.board (λ (r : Result (Durable × Seal) Ended). port_answer r (rest 1)) refl (record { bytes = refl })
-    c.open_sealed.result (c.open_sealed.ensures.exact told) c.open_sealed.ensures.opens (λ e. absurd cc) (λ e. absurd cc) c.in-Err.why c.in-Err.is c.in-Err.ensures.barred refl
+    c.open_sealed.result (c.open_sealed.ensures.exact known.1) c.open_sealed.ensures.opens (λ e. absurd cc) (λ e. absurd cc) c.in-Err.why c.in-Err.is c.in-Err.ensures.barred refl)
+    (λ later le tells. record {
+      steps = record { taken = []; split = record { bytes = refl }; bound = omega (arith, le, c.open_sealed.ensures.steps) };
+      unread = λ told why refused. refl;
+    })
+    (λ e. absurd (c.in-Err.ensures.not_read e)) (search rules) (λ word not. refl) (λ word. omega arith) (search rules)
 
-pub returns-in-Err-clause-read_fault : goal.returns-in-Err-clause-read_fault
-returns-in-Err-clause-read_fault g c = λ e. absurd (c.in-Err.ensures.not_read e)
-
-pub returns-in-Err-clause-steps : goal.returns-in-Err-clause-steps
-returns-in-Err-clause-steps g c = λ tells. record { taken = []; split = record { bytes = refl }; bound = omega (arith, c.open_sealed.ensures.steps) }
-
-pub returns-in-Err-clause-unread : goal.returns-in-Err-clause-unread
-returns-in-Err-clause-unread g c = λ told why refused. refl
-
--- ---- the requests are served
-
-pub returns-clause-ends : goal.returns-clause-ends
-returns-clause-ends g c = λ tells told.
+-- the requests are served
+pub returns : goal.returns
+returns g c =
+    carries-looked g.F.Files g.B.Board port_command c.args.files.now c.serve-served.new.files c.args.board.now c.serve-served.new.board c.args.steps.now c.serve-served.new.steps
+    c.ended_of_serving.result tt (λ status w. w)
+    (λ known.
     let rest = g.F.Files.rest in
     let image = g.B.Board.image c.args.board.now in
     let printed = g.B.Board.printed in
@@ -40,36 +40,28 @@ returns-clause-ends g c = λ tells told.
     let store = c.in-Ok.store in
     let served = c.serve-served in
     let serves = subst (λ (p : List ℕ). Serves g.B.Board.tells_text store.0 store.1 (rest c.args.files.now 1) (rest served.new.files 1) p (printed served.new.board) served.result)
-    opened.opens.reads.text (served.ensures.serves tells) in
+    opened.opens.reads.text (served.ensures.serves known.0) in
     subst (λ (end : Ended). ComesOn g.F.Files g.B.Board port_command c.args.files.now served.new.files c.args.board.now served.new.board end) (sym c.ended_of_serving.ensures)
     (comes-served (rest c.args.files.now) (rest served.new.files) image _ _ g.B.Board.tells_text (printed c.args.board.now) (printed served.new.board) store.0 store.1
-    (as_found c.open_sealed.result _ store ended.BoardFault c.in-Ok.is (opened.exact told)) served.result serves served.ensures.read_fault
-    (λ e. omega (arith, served.ensures.board_fault e, opened.opens.count)))
-
-pub returns-clause-steps : goal.returns-clause-steps
-returns-clause-steps g c = λ tells.
+    (as_found c.open_sealed.result _ store ended.BoardFault c.in-Ok.is (opened.exact known.1)) served.result serves served.ensures.read_fault
+    (λ e. omega (arith, served.ensures.board_fault e, opened.opens.count))))
+    (λ later le tells.
     let h = c.serve-served.ensures.steps tells in
-    record { taken = h.taken; split = h.split; bound = omega (arith, h.bound, c.open_sealed.ensures.steps) }
-
-pub returns-clause-unread : goal.returns-clause-unread
-returns-clause-unread g c = λ told why refused.
-    absurd (not_refused _ c.in-Ok.store why (as_found c.open_sealed.result _ c.in-Ok.store ended.BoardFault c.in-Ok.is (c.open_sealed.ensures.exact told)) refused)
-
-pub returns-clause-read_fault : goal.returns-clause-read_fault
-returns-clause-read_fault g c = λ e. record {
-  word = 1;
-  reads = refl;
-  rose = c.serve-served.ensures.read_fault (read_fault-served c.serve-served.result (sym c.ended_of_serving.ensures ∙ e));
-}
-
-pub returns-clause-cause : goal.returns-clause-cause
-returns-clause-cause g c = record {
-  count = omega (arith, c.serve-served.ensures.count, c.open_sealed.ensures.opens.count);
-  failed = λ e. omega (arith, c.serve-served.ensures.board_fault (board_fault-served c.serve-served.result (sym c.ended_of_serving.ensures ∙ e)), c.open_sealed.ensures.opens.count);
-}
-
-pub returns-clause-looks : goal.returns-clause-looks
-returns-clause-looks g c =
-    looks-behind g.B.Board _ c.ended_of_serving.result c.args.board.now c.open_sealed.new.board c.serve-served.new.board
+    record {
+      steps = record { taken = h.taken; split = h.split; bound = omega (arith, le, h.bound, c.open_sealed.ensures.steps) };
+      unread = λ told why refused.
+          absurd (not_refused _ c.in-Ok.store why (as_found c.open_sealed.result _ c.in-Ok.store ended.BoardFault c.in-Ok.is (c.open_sealed.ensures.exact told)) refused);
+    })
+    (λ e. record {
+      word = 1;
+      reads = refl;
+      rose = c.serve-served.ensures.read_fault (read_fault-served c.serve-served.result (sym c.ended_of_serving.ensures ∙ e));
+    })
+    (record {
+      count = omega (arith, c.serve-served.ensures.count, c.open_sealed.ensures.opens.count);
+      failed = λ e. omega (arith, c.serve-served.ensures.board_fault (board_fault-served c.serve-served.result (sym c.ended_of_serving.ensures ∙ e)), c.open_sealed.ensures.opens.count);
+    })
+    c.serve-served.ensures.others c.serve-served.ensures.counts
+    (looks-behind g.B.Board _ c.ended_of_serving.result c.args.board.now c.open_sealed.new.board c.serve-served.new.board
     (no_fault c.open_sealed.result c.in-Ok.store ended.BoardFault c.in-Ok.is) c.open_sealed.ensures.opens
-    (g.met.B.Board.only_now c.open_sealed.new.board) c.serve-served.ensures.store
+    (g.met.B.Board.only_now c.open_sealed.new.board) c.serve-served.ensures.store)

@@ -1,4 +1,4 @@
-use Rattle.std.proofs.Common.{◌≡◌, ◌≢◌, ◌∙◌, ℕ, List, [], Err, refl, sym, ap, subst, arith, inr}
+use Rattle.std.proofs.Common.{◌≡◌, ◌≢◌, ◌∙◌, ℕ, List, [], Err, refl, sym, ap, subst, arith, inl, inr, rules}
 use Rattle.std.specs.Prelude.{IsErrOf}
 use Rattle.meter_run.specs.Runs.{EndsRun, OpensWith}
 use Rattle.meter_states.specs.Setting.{IsSettingOf}
@@ -13,6 +13,7 @@ use Rattle.commands.proofs.Faring.{read_fault-ran}
 use Rattle.commands.proofs.Openings.{no_fault, same_fault}
 use Rattle.commands.proofs.RunEnds.{ran-comes, ran-writes}
 use Rattle.commands.proofs.Running.{comes-not_begun}
+use Rattle.commands.proofs.Unwritten.{bytes-read}
 use Rattle.commands.proofs.run.run.Goals as goal
 
 two-one : (n : ℕ) → n ≡ 2 → n ≢ 1
@@ -31,8 +32,23 @@ returns-in-Err-clause-runs g c = λ tells told.
     (λ good. before.opens.settled told (λ f. good (same_fault c.begin.result why ended.BoardFault c.in-Err.is f)))
     (λ good. before.opens.same (λ f. good (same_fault c.begin.result why ended.BoardFault c.in-Err.is f)))
 
-pub returns-in-Err-clause-board_fault : goal.returns-in-Err-clause-board_fault
-returns-in-Err-clause-board_fault g c = λ e. c.begin.ensures.opens.cause (c.in-Err.is ∙ ap Err e)
+pub returns-in-Err-clause-carries : goal.returns-in-Err-clause-carries
+returns-in-Err-clause-carries g c =
+    let before = c.begin.ensures in
+    record {
+      ends = λ known. (returns-in-Err-clause-runs g c known.0 known.1).comes;
+      steps = λ later le. search (rules, le);
+      read_fault = search rules;
+      board_fault = λ e. before.opens.cause (c.in-Err.is ∙ ap Err e);
+      others = λ word not. before.others word (λ e. not (inl e));
+      count = before.opens.count;
+      counts = before.counts;
+      kept = λ shut. absurd (shut tt);
+      unwritten = λ not. bytes-read g.B.Board c.args.board.now c.begin.new.board before.opens.reads;
+      same = λ not good. before.opens.same (λ f. good (same_fault c.begin.result c.in-Err.why ended.BoardFault c.in-Err.is f));
+      fails = λ status w. inr (inr (inr refl));
+      looks = λ looks. absurd (looks.unwritten 8 (inr (inr (inr refl))));
+    }
 
 pub returns-clause-runs : goal.returns-clause-runs
 returns-clause-runs g c = λ tells told.
@@ -64,25 +80,28 @@ returns-clause-runs g c = λ tells told.
     (λ e. omega (arith, c.run_events-ran.ensures.read_fault e, before.counts 2))
     (λ e. omega (arith, c.run_events-ran.ensures.board_fault e, before.opens.count)))
 
-pub returns-clause-unwritten : goal.returns-clause-unwritten
-returns-clause-unwritten g c = λ not. absurd (not (subst (λ (end : Ended). run_command.writes (status_of end)) (sym c.ended_of.ensures) (ran-writes c.run_events-ran.result)))
-
-pub returns-clause-same : goal.returns-clause-same
-returns-clause-same g c = λ not. absurd (not (subst (λ (end : Ended). run_command.writes (status_of end)) (sym c.ended_of.ensures) (ran-writes c.run_events-ran.result)))
-
-pub returns-clause-read_fault : goal.returns-clause-read_fault
-returns-clause-read_fault g c = λ e.
-    let failed = c.run_events-ran.ensures.read_fault (read_fault-ran c.run_events-ran.result (sym c.ended_of.ensures ∙ e)) in
-    record { word = 2; reads = inr refl; rose = omega (arith, failed, c.begin.ensures.counts 2) }
-
-pub returns-clause-others : goal.returns-clause-others
-returns-clause-others g c = λ other one two. c.run_events-ran.ensures.others other two ∙ c.begin.ensures.others other one
-
-pub returns-clause-steps : goal.returns-clause-steps
-returns-clause-steps g c = λ tells.
-    let h = c.run_events-ran.ensures.steps tells in
+pub returns-clause-carries : goal.returns-clause-carries
+returns-clause-carries g c =
+    let before = c.begin.ensures in
+    let ran = c.run_events-ran.ensures in
+    let wrote = subst (λ (end : Ended). run_command.writes (status_of end)) (sym c.ended_of.ensures) (ran-writes c.run_events-ran.result) in
     record {
-      taken = h.taken;
-      split = record { bytes = sym (c.begin.ensures.others 2 (two-one 2 refl)) ∙ h.split.bytes };
-      bound = omega (arith, h.bound, c.begin.ensures.steps);
+      ends = λ known. (returns-clause-runs g c known.0 known.1).comes;
+      steps = λ later le tells. let h = ran.steps tells in record {
+        taken = h.taken;
+        split = record { bytes = sym (before.others 2 (two-one 2 refl)) ∙ h.split.bytes };
+        bound = omega (arith, le, h.bound, before.steps);
+      };
+      read_fault = λ e.
+          let failed = ran.read_fault (read_fault-ran c.run_events-ran.result (sym c.ended_of.ensures ∙ e)) in
+          record { word = 2; reads = inr refl; rose = omega (arith, failed, before.counts 2) };
+      board_fault = search rules;
+      others = λ word not. ran.others word (λ e. not (inr e)) ∙ before.others word (λ e. not (inl e));
+      count = search rules;
+      counts = λ word. omega (arith, before.counts word, ran.counts word);
+      kept = λ shut. absurd (shut tt);
+      unwritten = λ not. absurd (not wrote);
+      same = λ not. absurd (not wrote);
+      fails = λ status w. inr (inr (inr refl));
+      looks = λ looks. absurd (looks.unwritten 8 (inr (inr (inr refl))));
     }

@@ -1,4 +1,4 @@
-use Rattle.std.proofs.Common.{◌≡◌, ⊎_elim, inl, inr, ◌∙◌, ℕ, Option, Err, refl, sym, ap, subst, arith}
+use Rattle.std.proofs.Common.{◌≡◌, ⊎_elim, inl, inr, ◌∙◌, ℕ, Option, Err, refl, sym, ap, subst, arith, rules}
 use Rattle.std.specs.Prelude.{is_err}
 use Rattle.outside.specs.Faults.{Rose}
 use Rattle.totaliser_store.specs.declared.durable.Durable.{Durable}
@@ -21,123 +21,125 @@ use Rattle.commands.proofs.seal.seal_store.Goals as goal
 
 -- ---- the store can't be told
 
-pub returns-in-Err-clause-ends : goal.returns-in-Err-clause-ends
-returns-in-Err-clause-ends g c = λ read tells.
-    let rest = g.F.Files.rest c.args.files.now in
-    let image = g.B.Board.image c.args.board.now in
-    let printed = g.B.Board.printed in
-    let fault = c.in-Err.fault in
-    subst (λ (end : Ended). ComesOn g.F.Files g.B.Board seal_command c.args.files.now c.args.files.now c.args.board.now c.open_store.new.board end) (sym c.refused_store.ensures)
-    (comes-barred_by_store seal_command rest rest image _ _ g.B.Board.tells_text (printed c.args.board.now) (printed c.open_store.new.board) refl c.open_store.ensures.reads.text
-    (λ e. absurd cc) (λ e. absurd cc) (store_ended fault) (inr (fault, refl))
-    (λ good. ap (λ r. seal_answer (sealing_of r (rest 1) (rest 2)))
-    (as_refused c.open_store.result (opening_of image) fault stores.BoardFault c.in-Err.is (λ e. good (ap store_ended e)) (c.open_store.ensures.exact tells)))
-    (λ e. c.open_store.ensures.cause (c.in-Err.is ∙ ap Err (board_fault-store fault e))))
+pub returns-in-Err-clause-carries : goal.returns-in-Err-clause-carries
+returns-in-Err-clause-carries g c = record {
+  ends = λ known. let read = known.0 in let tells = known.1 in
+      let rest = g.F.Files.rest c.args.files.now in
+      let image = g.B.Board.image c.args.board.now in
+      let printed = g.B.Board.printed in
+      let fault = c.in-Err.fault in
+      subst (λ (end : Ended). ComesOn g.F.Files g.B.Board seal_command c.args.files.now c.args.files.now c.args.board.now c.open_store.new.board end) (sym c.refused_store.ensures)
+      (comes-barred_by_store seal_command rest rest image _ _ g.B.Board.tells_text (printed c.args.board.now) (printed c.open_store.new.board) refl c.open_store.ensures.reads.text
+      (λ e. absurd cc) (λ e. absurd cc) (store_ended fault) (inr (fault, refl))
+      (λ good. ap (λ r. seal_answer (sealing_of r (rest 1) (rest 2)))
+      (as_refused c.open_store.result (opening_of image) fault stores.BoardFault c.in-Err.is (λ e. good (ap store_ended e)) (c.open_store.ensures.exact tells)))
+      (λ e. c.open_store.ensures.cause (c.in-Err.is ∙ ap Err (board_fault-store fault e))));
+  steps = λ later le. search (rules, le);
+  read_fault = λ e. absurd (not_read-store c.in-Err.fault (sym c.refused_store.ensures ∙ e));
+  board_fault = λ e. c.open_store.ensures.cause (c.in-Err.is ∙ ap Err (board_fault-store c.in-Err.fault (sym c.refused_store.ensures ∙ e)));
+  others = λ word not. refl;
+  count = c.open_store.ensures.count;
+  counts = λ word. omega arith;
+  kept = λ shut. absurd (shut tt);
+  unwritten = λ not. bytes-read g.B.Board c.args.board.now c.open_store.new.board c.open_store.ensures.reads;
+  same = λ not good. c.open_store.ensures.same (λ e. good (c.refused_store.ensures ∙ ap store_ended (same_fault c.open_store.result c.in-Err.fault stores.BoardFault c.in-Err.is e)));
+  fails = λ status w. inr refl;
+  looks = λ looks. absurd (looks.unwritten 8 (inr refl));
+}
 
-pub returns-in-Err-clause-seals : goal.returns-in-Err-clause-seals
-returns-in-Err-clause-seals g c = λ read tells.
-    let rest = g.F.Files.rest c.args.files.now in
-    let fault = c.in-Err.fault in
-    seals-read g.B.Board (rest 1) (rest 2) (c.open_store.result ≡ Err stores.BoardFault) c.args.board.now c.open_store.new.board _
-    (λ z. not_0-store fault (ap status_of (sym c.refused_store.ensures) ∙ z))
-    (λ e. ap status_of (c.refused_store.ensures ∙ ap store_ended (same_fault c.open_store.result fault stores.BoardFault c.in-Err.is e)))
-    (c.open_store.ensures.synced tells)
-
-pub returns-in-Err-clause-rests : goal.returns-in-Err-clause-rests
-returns-in-Err-clause-rests g c = λ read tells good.
-    let rest = g.F.Files.rest c.args.files.now in
-    let went : ¬ (c.open_store.result ≡ Err stores.BoardFault) = λ e. good (c.refused_store.ensures ∙ ap store_ended (same_fault c.open_store.result c.in-Err.fault stores.BoardFault c.in-Err.is e)) in
-    rests-read g.B.Board (rest 1) (rest 2) (g.B.Board.image c.args.board.now) c.open_store.new.board (c.open_store.ensures.same went) (c.open_store.ensures.settled tells went)
-
-pub returns-in-Err-clause-unwritten : goal.returns-in-Err-clause-unwritten
-returns-in-Err-clause-unwritten g c = λ good not_0. bytes-read g.B.Board c.args.board.now c.open_store.new.board c.open_store.ensures.reads
-
-pub returns-in-Err-clause-same : goal.returns-in-Err-clause-same
-returns-in-Err-clause-same g c = λ good not_0.
-    c.open_store.ensures.same (λ e. good (c.refused_store.ensures ∙ ap store_ended (same_fault c.open_store.result c.in-Err.fault stores.BoardFault c.in-Err.is e)))
-
-pub returns-in-Err-clause-read_fault : goal.returns-in-Err-clause-read_fault
-returns-in-Err-clause-read_fault g c = λ e. absurd (not_read-store c.in-Err.fault (sym c.refused_store.ensures ∙ e))
-
-pub returns-in-Err-clause-board_fault : goal.returns-in-Err-clause-board_fault
-returns-in-Err-clause-board_fault g c = λ e. c.open_store.ensures.cause (c.in-Err.is ∙ ap Err (board_fault-store c.in-Err.fault (sym c.refused_store.ensures ∙ e)))
+pub returns-in-Err-clause-comes : goal.returns-in-Err-clause-comes
+returns-in-Err-clause-comes g c = λ read tells. record {
+  seals = let rest = g.F.Files.rest c.args.files.now in
+      let fault = c.in-Err.fault in
+      seals-read g.B.Board (rest 1) (rest 2) (c.open_store.result ≡ Err stores.BoardFault) c.args.board.now c.open_store.new.board _
+      (λ z. not_0-store fault (ap status_of (sym c.refused_store.ensures) ∙ z))
+      (λ e. ap status_of (c.refused_store.ensures ∙ ap store_ended (same_fault c.open_store.result fault stores.BoardFault c.in-Err.is e)))
+      (c.open_store.ensures.synced tells);
+  rests = λ good. let rest = g.F.Files.rest c.args.files.now in
+      let went : ¬ (c.open_store.result ≡ Err stores.BoardFault) = λ e. good (c.refused_store.ensures ∙ ap store_ended (same_fault c.open_store.result c.in-Err.fault stores.BoardFault c.in-Err.is e)) in
+      rests-read g.B.Board (rest 1) (rest 2) (g.B.Board.image c.args.board.now) c.open_store.new.board (c.open_store.ensures.same went) (c.open_store.ensures.settled tells went);
+}
 
 -- ---- the store speaks against it
 
-pub returns-in-Err-base_of-clause-ends : goal.returns-in-Err-base_of-clause-ends
-returns-in-Err-base_of-clause-ends g c = λ read tells.
-    let rest = g.F.Files.rest c.args.files.now in
-    let image = g.B.Board.image c.args.board.now in
-    let opened = as_found c.open_store.result (opening_of image) c.in-Ok.opening stores.BoardFault c.in-Ok.is (c.open_store.ensures.exact tells) in
-    comes-barred rest rest image _ _ g.B.Board.tells_text (g.B.Board.printed c.args.board.now) (g.B.Board.printed c.open_store.new.board) c.open_store.ensures.reads.text c.in-Err-base_of.ended
-    (sealing-barred (opening_of image) c.in-Ok.opening c.in-Err-base_of.ended (rest 1) (rest 2) opened (sym c.base_of.ensures.answer ∙ c.in-Err-base_of.is))
-    (c.base_of.ensures.refused c.in-Err-base_of.ended c.in-Err-base_of.is)
+pub returns-in-Err-base_of-clause-carries : goal.returns-in-Err-base_of-clause-carries
+returns-in-Err-base_of-clause-carries g c = record {
+  ends = λ known. let read = known.0 in let tells = known.1 in
+      let rest = g.F.Files.rest c.args.files.now in
+      let image = g.B.Board.image c.args.board.now in
+      let opened = as_found c.open_store.result (opening_of image) c.in-Ok.opening stores.BoardFault c.in-Ok.is (c.open_store.ensures.exact tells) in
+      comes-barred rest rest image _ _ g.B.Board.tells_text (g.B.Board.printed c.args.board.now) (g.B.Board.printed c.open_store.new.board) c.open_store.ensures.reads.text c.in-Err-base_of.ended
+      (sealing-barred (opening_of image) c.in-Ok.opening c.in-Err-base_of.ended (rest 1) (rest 2) opened (sym c.base_of.ensures.answer ∙ c.in-Err-base_of.is))
+      (c.base_of.ensures.refused c.in-Err-base_of.ended c.in-Err-base_of.is);
+  steps = λ later le. search (rules, le);
+  read_fault = λ e.
+      absurd ((barred-fault c.in-Err-base_of.ended (c.base_of.ensures.refused c.in-Err-base_of.ended c.in-Err-base_of.is)).0 e);
+  board_fault = λ e.
+      absurd ((barred-fault c.in-Err-base_of.ended (c.base_of.ensures.refused c.in-Err-base_of.ended c.in-Err-base_of.is)).1 e);
+  others = λ word not. refl;
+  count = c.open_store.ensures.count;
+  counts = λ word. omega arith;
+  kept = λ shut. absurd (shut tt);
+  unwritten = λ not. bytes-read g.B.Board c.args.board.now c.open_store.new.board c.open_store.ensures.reads;
+  same = λ not good. c.open_store.ensures.same (no_fault c.open_store.result c.in-Ok.opening stores.BoardFault c.in-Ok.is);
+  fails = λ status w. inr refl;
+  looks = λ looks. absurd (looks.unwritten 8 (inr refl));
+}
 
-pub returns-in-Err-base_of-clause-seals : goal.returns-in-Err-base_of-clause-seals
-returns-in-Err-base_of-clause-seals g c = λ read tells.
-    let rest = g.F.Files.rest c.args.files.now in
-    seals-read g.B.Board (rest 1) (rest 2) (c.open_store.result ≡ Err stores.BoardFault) c.args.board.now c.open_store.new.board _
-    (not_0-barred c.in-Err-base_of.ended (c.base_of.ensures.refused c.in-Err-base_of.ended c.in-Err-base_of.is))
-    (λ e. absurd (no_fault c.open_store.result c.in-Ok.opening stores.BoardFault c.in-Ok.is e)) (c.open_store.ensures.synced tells)
-
-pub returns-in-Err-base_of-clause-rests : goal.returns-in-Err-base_of-clause-rests
-returns-in-Err-base_of-clause-rests g c = λ read tells good.
-    let rest = g.F.Files.rest c.args.files.now in
-    let went : ¬ (c.open_store.result ≡ Err stores.BoardFault) = no_fault c.open_store.result c.in-Ok.opening stores.BoardFault c.in-Ok.is in
-    rests-read g.B.Board (rest 1) (rest 2) (g.B.Board.image c.args.board.now) c.open_store.new.board (c.open_store.ensures.same went) (c.open_store.ensures.settled tells went)
-
-pub returns-in-Err-base_of-clause-unwritten : goal.returns-in-Err-base_of-clause-unwritten
-returns-in-Err-base_of-clause-unwritten g c = λ good not_0. bytes-read g.B.Board c.args.board.now c.open_store.new.board c.open_store.ensures.reads
-
-pub returns-in-Err-base_of-clause-read_fault : goal.returns-in-Err-base_of-clause-read_fault
-returns-in-Err-base_of-clause-read_fault g c = λ e.
-    absurd ((barred-fault c.in-Err-base_of.ended (c.base_of.ensures.refused c.in-Err-base_of.ended c.in-Err-base_of.is)).0 e)
-
-pub returns-in-Err-base_of-clause-board_fault : goal.returns-in-Err-base_of-clause-board_fault
-returns-in-Err-base_of-clause-board_fault g c = λ e.
-    absurd ((barred-fault c.in-Err-base_of.ended (c.base_of.ensures.refused c.in-Err-base_of.ended c.in-Err-base_of.is)).1 e)
+pub returns-in-Err-base_of-clause-comes : goal.returns-in-Err-base_of-clause-comes
+returns-in-Err-base_of-clause-comes g c = λ read tells. record {
+  seals = let rest = g.F.Files.rest c.args.files.now in
+      seals-read g.B.Board (rest 1) (rest 2) (c.open_store.result ≡ Err stores.BoardFault) c.args.board.now c.open_store.new.board _
+      (not_0-barred c.in-Err-base_of.ended (c.base_of.ensures.refused c.in-Err-base_of.ended c.in-Err-base_of.is))
+      (λ e. absurd (no_fault c.open_store.result c.in-Ok.opening stores.BoardFault c.in-Ok.is e)) (c.open_store.ensures.synced tells);
+  rests = λ good. let rest = g.F.Files.rest c.args.files.now in
+      let went : ¬ (c.open_store.result ≡ Err stores.BoardFault) = no_fault c.open_store.result c.in-Ok.opening stores.BoardFault c.in-Ok.is in
+      rests-read g.B.Board (rest 1) (rest 2) (g.B.Board.image c.args.board.now) c.open_store.new.board (c.open_store.ensures.same went) (c.open_store.ensures.settled tells went);
+}
 
 -- ---- no seal is made
 
-pub returns-in-Err-read_seal-clause-ends : goal.returns-in-Err-read_seal-clause-ends
-returns-in-Err-read_seal-clause-ends g c = λ read tells.
-    let rest = g.F.Files.rest in
-    let faults = g.F.Files.faults in
-    let image = g.B.Board.image c.args.board.now in
-    let base = c.in-Ok-base_of.base in
-    let end = c.in-Err-read_seal.ended in
-    comes-no_seal (rest c.args.files.now) (rest c.read_seal.new.files) image (λ word. Rose (faults c.args.files.now word) (faults c.read_seal.new.files word)) _
-    g.B.Board.tells_text (g.B.Board.printed c.args.board.now) (g.B.Board.printed c.open_store.new.board) c.open_store.ensures.reads.text c.in-Ok.opening base end
-    (as_found c.open_store.result (opening_of image) c.in-Ok.opening stores.BoardFault c.in-Ok.is (c.open_store.ensures.exact tells)) (sym c.base_of.ensures.answer ∙ c.in-Ok-base_of.is)
-    (subst (λ (n : ℕ). IsNoSeal n base.decimals (rest c.args.files.now 1) (rest c.args.files.now 2) (λ word. Rose (faults c.args.files.now word) (faults c.read_seal.new.files word)) end)
-    c.number_after-number.ensures.value (c.read_seal.ensures.refused end read c.in-Err-read_seal.is))
+pub returns-in-Err-read_seal-clause-carries : goal.returns-in-Err-read_seal-clause-carries
+returns-in-Err-read_seal-clause-carries g c = record {
+  ends = λ known. let read = known.0 in let tells = known.1 in
+      let rest = g.F.Files.rest in
+      let faults = g.F.Files.faults in
+      let image = g.B.Board.image c.args.board.now in
+      let base = c.in-Ok-base_of.base in
+      let end = c.in-Err-read_seal.ended in
+      comes-no_seal (rest c.args.files.now) (rest c.read_seal.new.files) image (λ word. Rose (faults c.args.files.now word) (faults c.read_seal.new.files word)) _
+      g.B.Board.tells_text (g.B.Board.printed c.args.board.now) (g.B.Board.printed c.open_store.new.board) c.open_store.ensures.reads.text c.in-Ok.opening base end
+      (as_found c.open_store.result (opening_of image) c.in-Ok.opening stores.BoardFault c.in-Ok.is (c.open_store.ensures.exact tells)) (sym c.base_of.ensures.answer ∙ c.in-Ok-base_of.is)
+      (subst (λ (n : ℕ). IsNoSeal n base.decimals (rest c.args.files.now 1) (rest c.args.files.now 2) (λ word. Rose (faults c.args.files.now word) (faults c.read_seal.new.files word)) end)
+      c.number_after-number.ensures.value (c.read_seal.ensures.refused end read c.in-Err-read_seal.is));
+  steps = λ later le. search (rules, le);
+  read_fault = λ e.
+      ⊎_elim (λ one. record { word = 1; reads = inl refl; rose = one }) (λ two. record { word = 2; reads = inr refl; rose = two })
+      (c.read_seal.ensures.read_fault (c.in-Err-read_seal.is ∙ ap Err e));
+  board_fault = λ e. absurd (c.read_seal.ensures.not_board (c.in-Err-read_seal.is ∙ ap Err e));
+  others = λ word not. c.read_seal.ensures.others word (λ e. not (inl e)) (λ e. not (inr e));
+  count = c.open_store.ensures.count;
+  counts = c.read_seal.ensures.counts;
+  kept = λ shut. absurd (shut tt);
+  unwritten = λ not. bytes-read g.B.Board c.args.board.now c.open_store.new.board c.open_store.ensures.reads;
+  same = λ not good. c.open_store.ensures.same (no_fault c.open_store.result c.in-Ok.opening stores.BoardFault c.in-Ok.is);
+  fails = λ status w. inr refl;
+  looks = λ looks. absurd (looks.unwritten 8 (inr refl));
+}
 
-pub returns-in-Err-read_seal-clause-seals : goal.returns-in-Err-read_seal-clause-seals
-returns-in-Err-read_seal-clause-seals g c = λ read tells.
-    let rest = g.F.Files.rest c.args.files.now in
-    let faults = g.F.Files.faults in
-    let end = c.in-Err-read_seal.ended in
-    seals-read g.B.Board (rest 1) (rest 2) (c.open_store.result ≡ Err stores.BoardFault) c.args.board.now c.open_store.new.board _
-    (not_0-no_seal _ c.in-Ok-base_of.base.decimals (rest 1) (rest 2) (λ word. Rose (faults c.args.files.now word) (faults c.read_seal.new.files word)) end
-    (c.read_seal.ensures.refused end read c.in-Err-read_seal.is))
-    (λ e. absurd (no_fault c.open_store.result c.in-Ok.opening stores.BoardFault c.in-Ok.is e)) (c.open_store.ensures.synced tells)
-
-pub returns-in-Err-read_seal-clause-rests : goal.returns-in-Err-read_seal-clause-rests
-returns-in-Err-read_seal-clause-rests g c = λ read tells good.
-    let rest = g.F.Files.rest c.args.files.now in
-    let went : ¬ (c.open_store.result ≡ Err stores.BoardFault) = no_fault c.open_store.result c.in-Ok.opening stores.BoardFault c.in-Ok.is in
-    rests-read g.B.Board (rest 1) (rest 2) (g.B.Board.image c.args.board.now) c.open_store.new.board (c.open_store.ensures.same went) (c.open_store.ensures.settled tells went)
-
-pub returns-in-Err-read_seal-clause-unwritten : goal.returns-in-Err-read_seal-clause-unwritten
-returns-in-Err-read_seal-clause-unwritten g c = λ good not_0. bytes-read g.B.Board c.args.board.now c.open_store.new.board c.open_store.ensures.reads
-
-pub returns-in-Err-read_seal-clause-read_fault : goal.returns-in-Err-read_seal-clause-read_fault
-returns-in-Err-read_seal-clause-read_fault g c = λ e.
-    ⊎_elim (λ one. record { word = 1; reads = inl refl; rose = one }) (λ two. record { word = 2; reads = inr refl; rose = two })
-    (c.read_seal.ensures.read_fault (c.in-Err-read_seal.is ∙ ap Err e))
-
-pub returns-in-Err-read_seal-clause-board_fault : goal.returns-in-Err-read_seal-clause-board_fault
-returns-in-Err-read_seal-clause-board_fault g c = λ e. absurd (c.read_seal.ensures.not_board (c.in-Err-read_seal.is ∙ ap Err e))
+pub returns-in-Err-read_seal-clause-comes : goal.returns-in-Err-read_seal-clause-comes
+returns-in-Err-read_seal-clause-comes g c = λ read tells. record {
+  seals = let rest = g.F.Files.rest c.args.files.now in
+      let faults = g.F.Files.faults in
+      let end = c.in-Err-read_seal.ended in
+      seals-read g.B.Board (rest 1) (rest 2) (c.open_store.result ≡ Err stores.BoardFault) c.args.board.now c.open_store.new.board _
+      (not_0-no_seal _ c.in-Ok-base_of.base.decimals (rest 1) (rest 2) (λ word. Rose (faults c.args.files.now word) (faults c.read_seal.new.files word)) end
+      (c.read_seal.ensures.refused end read c.in-Err-read_seal.is))
+      (λ e. absurd (no_fault c.open_store.result c.in-Ok.opening stores.BoardFault c.in-Ok.is e)) (c.open_store.ensures.synced tells);
+  rests = λ good. let rest = g.F.Files.rest c.args.files.now in
+      let went : ¬ (c.open_store.result ≡ Err stores.BoardFault) = no_fault c.open_store.result c.in-Ok.opening stores.BoardFault c.in-Ok.is in
+      rests-read g.B.Board (rest 1) (rest 2) (g.B.Board.image c.args.board.now) c.open_store.new.board (c.open_store.ensures.same went) (c.open_store.ensures.settled tells went);
+}
 
 -- ---- the seal is put in
 
@@ -152,48 +154,68 @@ place_seal-requires-clause-found g c = λ tells. (
   found-as g.B.Board c.open_store.new.board c.in-Ok.opening.seal c.in-Ok-base_of.base.found c.in-Ok-base_of.ensures.found (c.in-Ok.ensures.opened tells).seal,
 )
 
-pub returns-in-Ok-place_seal-clause-ends : goal.returns-in-Ok-place_seal-clause-ends
-returns-in-Ok-place_seal-clause-ends g c = λ read tells.
-    let rest = g.F.Files.rest c.args.files.now in
-    comes-sealed rest (g.F.Files.rest c.read_seal.new.files) (g.B.Board.image c.args.board.now) _ _ g.B.Board.tells_text
-    (g.B.Board.printed c.args.board.now) (g.B.Board.printed c.place_seal.new.board) (c.place_seal.ensures.beside.text ∙ c.open_store.ensures.reads.text) _ c.number_after-number.result
-    (sealing-made (g.B.Board.image c.args.board.now) (rest 1) (rest 2) _ _ _ _ _ _ c.in-Ok.is (c.open_store.ensures.exact tells) c.in-Ok-base_of.is c.base_of.ensures.answer
-    c.number_after-number.ensures.value (c.in-Ok-read_seal.ensures.read read))
-    c.in-Ok-read_seal.ensures.number (c.in-Ok-read_seal.ensures.tariff_ended read) (c.in-Ok-read_seal.ensures.params_ended read)
+pub returns-in-Ok-place_seal-clause-carries : goal.returns-in-Ok-place_seal-clause-carries
+returns-in-Ok-place_seal-clause-carries g c = record {
+  ends = λ known. let read = known.0 in let tells = known.1 in
+      let rest = g.F.Files.rest c.args.files.now in
+      comes-sealed rest (g.F.Files.rest c.read_seal.new.files) (g.B.Board.image c.args.board.now) _ _ g.B.Board.tells_text
+      (g.B.Board.printed c.args.board.now) (g.B.Board.printed c.place_seal.new.board) (c.place_seal.ensures.beside.text ∙ c.open_store.ensures.reads.text) _ c.number_after-number.result
+      (sealing-made (g.B.Board.image c.args.board.now) (rest 1) (rest 2) _ _ _ _ _ _ c.in-Ok.is (c.open_store.ensures.exact tells) c.in-Ok-base_of.is c.base_of.ensures.answer
+      c.number_after-number.ensures.value (c.in-Ok-read_seal.ensures.read read))
+      c.in-Ok-read_seal.ensures.number (c.in-Ok-read_seal.ensures.tariff_ended read) (c.in-Ok-read_seal.ensures.params_ended read);
+  steps = λ later le. search (rules, le);
+  read_fault = λ e. absurd cc;
+  board_fault = λ e. absurd cc;
+  others = λ word not. c.read_seal.ensures.others word (λ e. not (inl e)) (λ e. not (inr e));
+  count = omega (arith, c.open_store.ensures.count, c.place_seal.ensures.cause.later);
+  counts = c.read_seal.ensures.counts;
+  kept = λ shut. absurd (shut tt);
+  unwritten = λ not. absurd (not (inl refl));
+  same = λ not good. absurd (not (inl refl));
+  fails = λ status w. inr refl;
+  looks = λ looks. absurd (looks.unwritten 8 (inr refl));
+}
 
-pub returns-in-Ok-place_seal-clause-seals : goal.returns-in-Ok-place_seal-clause-seals
-returns-in-Ok-place_seal-clause-seals g c = λ read tells.
-    let rest = g.F.Files.rest c.args.files.now in
-    seals-over g.B.Board (rest 1) (rest 2) _ _ _ _ _ _ c.args.board.now c.open_store.new.board c.place_seal.new.board _ c.in-Ok.is (c.open_store.ensures.exact tells) c.in-Ok-base_of.is c.base_of.ensures.answer
-    c.number_after-number.ensures.value (c.in-Ok-read_seal.ensures.read read) c.in-Ok-base_of.ensures.found (c.in-Ok.ensures.opened tells).seal (c.open_store.ensures.synced tells)
-    (c.place_seal.ensures.any_moment tells) (λ z. is_sealed g.B.Board _ c.place_seal.new.board (c.in-Ok-place_seal.ensures.sealed tells))
+pub returns-in-Ok-place_seal-clause-comes : goal.returns-in-Ok-place_seal-clause-comes
+returns-in-Ok-place_seal-clause-comes g c = λ read tells. record {
+  seals = let rest = g.F.Files.rest c.args.files.now in
+      seals-over g.B.Board (rest 1) (rest 2) _ _ _ _ _ _ c.args.board.now c.open_store.new.board c.place_seal.new.board _ c.in-Ok.is (c.open_store.ensures.exact tells) c.in-Ok-base_of.is c.base_of.ensures.answer
+      c.number_after-number.ensures.value (c.in-Ok-read_seal.ensures.read read) c.in-Ok-base_of.ensures.found (c.in-Ok.ensures.opened tells).seal (c.open_store.ensures.synced tells)
+      (c.place_seal.ensures.any_moment tells) (λ z. is_sealed g.B.Board _ c.place_seal.new.board (c.in-Ok-place_seal.ensures.sealed tells));
+  rests = λ good. let rest = g.F.Files.rest c.args.files.now in
+      rests-placed g.B.Board _ _ (g.B.Board.image c.args.board.now) c.place_seal.new.board
+      (sealing-made (g.B.Board.image c.args.board.now) (rest 1) (rest 2) _ _ _ _ _ _ c.in-Ok.is (c.open_store.ensures.exact tells) c.in-Ok-base_of.is c.base_of.ensures.answer
+      c.number_after-number.ensures.value (c.in-Ok-read_seal.ensures.read read))
+      (c.in-Ok-place_seal.ensures.sealed tells);
+}
 
-pub returns-in-Ok-place_seal-clause-rests : goal.returns-in-Ok-place_seal-clause-rests
-returns-in-Ok-place_seal-clause-rests g c = λ read tells good.
-    let rest = g.F.Files.rest c.args.files.now in
-    rests-placed g.B.Board _ _ (g.B.Board.image c.args.board.now) c.place_seal.new.board
-    (sealing-made (g.B.Board.image c.args.board.now) (rest 1) (rest 2) _ _ _ _ _ _ c.in-Ok.is (c.open_store.ensures.exact tells) c.in-Ok-base_of.is c.base_of.ensures.answer
-    c.number_after-number.ensures.value (c.in-Ok-read_seal.ensures.read read))
-    (c.in-Ok-place_seal.ensures.sealed tells)
+pub returns-in-Err-place_seal-clause-carries : goal.returns-in-Err-place_seal-clause-carries
+returns-in-Err-place_seal-clause-carries g c = record {
+  ends = λ known. let read = known.0 in let tells = known.1 in
+      let rest = g.F.Files.rest in
+      let image = g.B.Board.image c.args.board.now in
+      let printed = g.B.Board.printed in
+      comes-board seal_command (rest c.args.files.now) (rest c.read_seal.new.files) image _ _ g.B.Board.tells_text (printed c.args.board.now) (printed c.place_seal.new.board) refl
+      (c.place_seal.ensures.beside.text ∙ c.open_store.ensures.reads.text)
+      (omega (arith, c.place_seal.ensures.cause.failed (ap is_err c.in-Err-place_seal.is), c.open_store.ensures.count));
+  steps = λ later le. search (rules, le);
+  read_fault = λ e. absurd cc;
+  board_fault = λ e. omega (arith, c.place_seal.ensures.cause.failed (ap is_err c.in-Err-place_seal.is), c.open_store.ensures.count);
+  others = λ word not. c.read_seal.ensures.others word (λ e. not (inl e)) (λ e. not (inr e));
+  count = omega (arith, c.open_store.ensures.count, c.place_seal.ensures.cause.later);
+  counts = c.read_seal.ensures.counts;
+  kept = λ shut. absurd (shut tt);
+  unwritten = λ not. absurd (not (inr refl));
+  same = λ not good. absurd (not (inr refl));
+  fails = λ status w. inr refl;
+  looks = λ looks. absurd (looks.unwritten 8 (inr refl));
+}
 
-pub returns-in-Err-place_seal-clause-ends : goal.returns-in-Err-place_seal-clause-ends
-returns-in-Err-place_seal-clause-ends g c = λ read tells.
-    let rest = g.F.Files.rest in
-    let image = g.B.Board.image c.args.board.now in
-    let printed = g.B.Board.printed in
-    comes-board seal_command (rest c.args.files.now) (rest c.read_seal.new.files) image _ _ g.B.Board.tells_text (printed c.args.board.now) (printed c.place_seal.new.board) refl
-    (c.place_seal.ensures.beside.text ∙ c.open_store.ensures.reads.text)
-    (omega (arith, c.place_seal.ensures.cause.failed (ap is_err c.in-Err-place_seal.is), c.open_store.ensures.count))
-
-pub returns-in-Err-place_seal-clause-seals : goal.returns-in-Err-place_seal-clause-seals
-returns-in-Err-place_seal-clause-seals g c = λ read tells.
-    let rest = g.F.Files.rest c.args.files.now in
-    seals-over g.B.Board (rest 1) (rest 2) _ _ _ _ _ _ c.args.board.now c.open_store.new.board c.place_seal.new.board _ c.in-Ok.is (c.open_store.ensures.exact tells) c.in-Ok-base_of.is c.base_of.ensures.answer
-    c.number_after-number.ensures.value (c.in-Ok-read_seal.ensures.read read) c.in-Ok-base_of.ensures.found (c.in-Ok.ensures.opened tells).seal (c.open_store.ensures.synced tells)
-    (c.place_seal.ensures.any_moment tells) (λ z. absurd cc)
-
-pub returns-in-Err-place_seal-clause-rests : goal.returns-in-Err-place_seal-clause-rests
-returns-in-Err-place_seal-clause-rests g c = λ read tells good. absurd (good refl)
-
-pub returns-in-Err-place_seal-clause-board_fault : goal.returns-in-Err-place_seal-clause-board_fault
-returns-in-Err-place_seal-clause-board_fault g c = λ e. omega (arith, c.place_seal.ensures.cause.failed (ap is_err c.in-Err-place_seal.is), c.open_store.ensures.count)
+pub returns-in-Err-place_seal-clause-comes : goal.returns-in-Err-place_seal-clause-comes
+returns-in-Err-place_seal-clause-comes g c = λ read tells. record {
+  seals = let rest = g.F.Files.rest c.args.files.now in
+      seals-over g.B.Board (rest 1) (rest 2) _ _ _ _ _ _ c.args.board.now c.open_store.new.board c.place_seal.new.board _ c.in-Ok.is (c.open_store.ensures.exact tells) c.in-Ok-base_of.is c.base_of.ensures.answer
+      c.number_after-number.ensures.value (c.in-Ok-read_seal.ensures.read read) c.in-Ok-base_of.ensures.found (c.in-Ok.ensures.opened tells).seal (c.open_store.ensures.synced tells)
+      (c.place_seal.ensures.any_moment tells) (λ z. absurd cc);
+  rests = λ good. absurd (good refl);
+}

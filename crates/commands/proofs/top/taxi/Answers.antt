@@ -1,16 +1,20 @@
-use Rattle.std.proofs.Common.{◌≡◌, ◌∙◌, ◌+◌, map, string_bytes, subst, Some}
+use Rattle.std.proofs.Common.{◌≡◌, ◌∙◌, map, string_bytes, subst, Some}
 use Rattle.std.specs.Prelude.{Option}
 use Rattle.outside.specs.Runs.{KeepsStore}
 use Rattle.outside.proofs.Laws.{keeps_then}
+use Rattle.outside.specs.declared.board.Board.{Ghosts}
+use Rattle.outside.specs.declared.files.Files.{Ghosts as FileGhosts}
+use Rattle.commands.specs.declared.ending.Ended.{Ended}
 use Rattle.commands.specs.declared.words.Row.{Row}
 use Rattle.commands.specs.declared.words.Row.TheVariants as rows
 use Rattle.commands.specs.Call.{IsCall}
+use Rattle.commands.specs.Carried.{ComesAs}
 use Rattle.commands.specs.Command.{OnlyLooks, called, command_of}
 use Rattle.commands.specs.Course.{Answered}
 use Rattle.commands.specs.Run.{run_command}
 use Rattle.commands.specs.Unwritten.{LeavesImage, WritesNothing}
 use Rattle.commands.proofs.Amid.{seals-finished, seals-settled}
-use Rattle.commands.proofs.Calls.{call_course, call_from, completes, nothing_written, steps_later}
+use Rattle.commands.proofs.Calls.{call_course, call_from, completes, nothing_written}
 use Rattle.commands.proofs.Looking.{looks-finished}
 use Rattle.commands.proofs.RunEnds.{run-finished}
 use Rattle.commands.proofs.Unwritten.{bytes-kept, bytes-then}
@@ -22,14 +26,18 @@ is_seal row e = cc
 is_run : (row : Row) → Some row ≡ Some rows.Run → row ≡ rows.Run
 is_run row e = cc
 
+comes_as : {E D L : Type 0} (F : FileGhosts E) (B : Ghosts D L) (row row' : Row) (files files' : E) (old new : D) (end : Ended) → row ≡ row'
+    → ComesAs F B row files files' old new end → ComesAs F B row' files files' old new end
+comes_as F B row row' files files' old new end e h = subst (λ (r : Row). ComesAs F B r files files' old new end) e h
+
 pub returns-in-Some-clause-call : goal.returns-in-Some-clause-call
 returns-in-Some-clause-call g c =
     subst (λ (o : Option Row). (command_of o).known g.F.Files.tells g.B.Board.tells_image
     → IsCall g.F.Files g.B.Board (command_of o) c.args.files.now c.carry_out-ended.new.files c.args.board.now c.finish-in-Some.new.board c.finish-in-Some.result)
     c.in-Some.ensures
     (λ known. call_from g.F.Files g.B.Board c.args.files.now c.carry_out-ended.new.files c.args.board.now c.carry_out-ended.new.board c.finish-in-Some.new.board
-    c.carry_out-ended.result c.finish-in-Some.result c.carry_out-ended.ensures.count c.finish-in-Some.ensures.count c.finish-in-Some.ensures.ends
-    (command_of (Some c.in-Some.row)) (c.carry_out-ended.ensures.ends known))
+    c.carry_out-ended.result c.finish-in-Some.result c.carry_out-ended.ensures.carries.count c.finish-in-Some.ensures.count c.finish-in-Some.ensures.ends
+    (command_of (Some c.in-Some.row)) (c.carry_out-ended.ensures.carries.ends known))
 
 pub returns-in-None-clause-call : goal.returns-in-None-clause-call
 returns-in-None-clause-call g c =
@@ -57,8 +65,8 @@ returns-in-Some-clause-unwritten g c =
     subst (λ (o : Option Row). ¬ ((command_of o).writes c.finish-in-Some.result) → WritesNothing g.B.Board c.args.board.now c.finish-in-Some.new.board c.finish-in-Some.result)
     c.in-Some.ensures
     (nothing_written g.F.Files g.B.Board c.args.files.now c.carry_out-ended.new.files c.args.board.now c.carry_out-ended.new.board c.finish-in-Some.new.board
-    c.carry_out-ended.result c.finish-in-Some.result c.carry_out-ended.ensures.count c.finish-in-Some.ensures.count c.finish-in-Some.ensures.ends
-    c.in-Some.row c.finish-in-Some.ensures.store c.carry_out-ended.ensures.unwritten c.carry_out-ended.ensures.same)
+    c.carry_out-ended.result c.finish-in-Some.result c.carry_out-ended.ensures.carries.count c.finish-in-Some.ensures.count c.finish-in-Some.ensures.ends
+    (command_of (Some c.in-Some.row)) c.args.steps.now c.carry_out-ended.new.steps c.finish-in-Some.ensures.store c.carry_out-ended.ensures.carries)
 
 pub returns-in-Some-clause-seals : goal.returns-in-Some-clause-seals
 returns-in-Some-clause-seals g c = λ e read tells.
@@ -66,9 +74,10 @@ returns-in-Some-clause-seals g c = λ e read tells.
     let old = c.args.board.now in
     let mid = c.carry_out-ended.new.board in
     let new = c.finish-in-Some.new.board in
-    let row : c.in-Some.row ≡ rows.Seal = is_seal c.in-Some.row (c.in-Some.ensures ∙ e) in
+    let comes = comes_as g.F.Files g.B.Board c.in-Some.row rows.Seal c.args.files.now c.carry_out-ended.new.files old mid c.carry_out-ended.result
+    (is_seal c.in-Some.row (c.in-Some.ensures ∙ e)) c.carry_out-ended.ensures.comes read tells in
     seals-finished g.B.Board _ old mid new c.carry_out-ended.result c.finish-in-Some.result g.B.Board.tells_text _ (printed mid) (printed new)
-    (c.carry_out-ended.ensures.seals row read tells) (c.carry_out-ended.ensures.rests row read tells) c.finish-in-Some.ensures.store c.finish-in-Some.ensures.silent c.finish-in-Some.ensures.ends
+    comes.seals comes.rests c.finish-in-Some.ensures.store c.finish-in-Some.ensures.silent c.finish-in-Some.ensures.ends
 
 pub returns-in-Some-clause-settled : goal.returns-in-Some-clause-settled
 returns-in-Some-clause-settled g c = λ is read tells still.
@@ -90,11 +99,10 @@ returns-in-Some-clause-runs g c = λ e read tells.
     let new = c.finish-in-Some.new.board in
     let end = c.carry_out-ended.result in
     let status = c.finish-in-Some.result in
-    let row : c.in-Some.row ≡ rows.Run = is_run c.in-Some.row (c.in-Some.ensures ∙ e) in
-    let comes = c.carry_out-ended.ensures.runs row read tells in
-    let call = call_from g.F.Files g.B.Board files files' old mid new end status c.carry_out-ended.ensures.count c.finish-in-Some.ensures.count c.finish-in-Some.ensures.ends run_command comes.comes in
+    let comes = comes_as g.F.Files g.B.Board c.in-Some.row rows.Run files files' old mid end (is_run c.in-Some.row (c.in-Some.ensures ∙ e)) c.carry_out-ended.ensures.comes read tells in
+    let call = call_from g.F.Files g.B.Board files files' old mid new end status c.carry_out-ended.ensures.carries.count c.finish-in-Some.ensures.count c.finish-in-Some.ensures.ends run_command comes.comes in
     run-finished g.F.Files g.B.Board files files' old mid new end status comes c.finish-in-Some.ensures.store c.finish-in-Some.ensures.leaves c.finish-in-Some.ensures.silent
-    call (call_course g.F.Files g.B.Board files files' old mid new end status c.carry_out-ended.ensures.count c.finish-in-Some.ensures.count c.finish-in-Some.ensures.ends run_command comes.comes)
+    call (call_course g.F.Files g.B.Board files files' old mid new end status c.carry_out-ended.ensures.carries.count c.finish-in-Some.ensures.count c.finish-in-Some.ensures.ends run_command comes.comes)
     c.finish-in-Some.ensures.ends (λ bytes. bytes-then g.B.Board old mid new bytes (bytes-kept g.B.Board mid new c.finish-in-Some.ensures.store))
 
 pub returns-in-None-clause-runs : goal.returns-in-None-clause-runs
@@ -104,14 +112,14 @@ pub returns-in-Some-clause-kept : goal.returns-in-Some-clause-kept
 returns-in-Some-clause-kept g c =
     subst (λ (o : Option Row). ¬ ((command_of o).opens) → KeepsStore g.B.Board c.args.board.now c.finish-in-Some.new.board)
     c.in-Some.ensures
-    (λ not. keeps_then g.B.Board c.args.board.now c.carry_out-ended.new.board c.finish-in-Some.new.board (c.carry_out-ended.ensures.kept not) c.finish-in-Some.ensures.store)
+    (λ not. keeps_then g.B.Board c.args.board.now c.carry_out-ended.new.board c.finish-in-Some.new.board (c.carry_out-ended.ensures.carries.kept not) c.finish-in-Some.ensures.store)
 
 pub returns-in-Some-clause-looks : goal.returns-in-Some-clause-looks
 returns-in-Some-clause-looks g c =
     subst (λ (o : Option Row). OnlyLooks o → g.B.Board.tells_image → LeavesImage g.B.Board (c.finish-in-Some.result ≡ 8) c.args.board.now c.finish-in-Some.new.board)
     c.in-Some.ensures
     (λ looks told. looks-finished g.B.Board c.args.board.now c.carry_out-ended.new.board c.finish-in-Some.new.board c.carry_out-ended.result c.finish-in-Some.result
-    _ _ _ _ (c.carry_out-ended.ensures.looks looks told) (g.met.B.Board.only_now c.carry_out-ended.new.board) c.finish-in-Some.ensures.store c.finish-in-Some.ensures.silent
+    _ _ _ _ (c.carry_out-ended.ensures.carries.looks looks told) (g.met.B.Board.only_now c.carry_out-ended.new.board) c.finish-in-Some.ensures.store c.finish-in-Some.ensures.silent
     c.finish-in-Some.ensures.ends)
 
 pub returns-in-Some-clause-steps : goal.returns-in-Some-clause-steps
@@ -120,5 +128,4 @@ returns-in-Some-clause-steps g c =
     let image = g.B.Board.image c.args.board.now in
     subst (λ (o : Option Row). (command_of o).steps g.F.Files.tells g.B.Board.tells_image (rest c.args.files.now) (rest c.carry_out-ended.new.files) image c.args.steps.now c.finish-in-Some.new.steps)
     c.in-Some.ensures
-    (steps_later c.in-Some.row g.F.Files.tells g.B.Board.tells_image (rest c.args.files.now) (rest c.carry_out-ended.new.files) image c.args.steps.now (c.carry_out-ended.new.steps + 1) c.finish-in-Some.new.steps
-    c.finish-in-Some.ensures.steps c.carry_out-ended.ensures.steps)
+    (c.carry_out-ended.ensures.carries.steps c.finish-in-Some.new.steps c.finish-in-Some.ensures.steps)

@@ -112,6 +112,13 @@ pub(super) fn is_timely(event: Event) -> bool
     }
 }
 
+/// Whether tables have the constant of a seal.
+pub(super) fn have_constant_of(tables: &Tables, seal: &Seal) -> bool
+    ensures { IsTrue result → tables.now.constant ≡ seal.now.params.constant }
+{
+    tables.constant().get() == seal.params.constant.get()
+}
+
 /// The acts of an event.
 fn acts_of<L: Ledger>(
     tables: &Tables,
@@ -124,6 +131,7 @@ fn acts_of<L: Ledger>(
     requires lawful { IsLawful tables.now seal.now core.old }
     requires range { IsDurable durable.now }
     requires fits { ForSome durable.now.hold (Fits tables.now) }
+    requires constant { tables.now.constant ≡ seal.now.params.constant }
     requires timely { IsTimely event }
     ensures lawful { IsLawful tables.now seal.now core.new }
     ensures ranges { All (IsLawfulBesideSome tables.now) result.items }
@@ -147,6 +155,7 @@ pub(super) fn acts_at_first<L: Ledger>(
     steps: &mut Steps<L>,
 ) -> Acts
     requires lawful { IsLawful tables.now seal.now core.old }
+    requires constant { tables.now.constant ≡ seal.now.params.constant }
     requires timely { IsTimely event }
     ensures lawful { IsLawful tables.now seal.now core.new }
 {
@@ -220,7 +229,10 @@ fn take<L: Ledger>(
     ensures fits { ForSome durable.new.hold (Fits tables.now) }
 {
     let (name, row) = place;
-    assert!(rt; is_timely(event), "{name}: row {row}");
+    assert!(rt;
+        have_constant_of(tables, seal) && is_timely(event),
+        "{name}: row {row}"
+    );
     let acts = acts_of(tables, seal, core, durable, event, steps);
     assert_eq!(rt; acts.as_slice(), want, "{name}: row {row}");
     *durable = committed(rt, tables, *durable, acts.as_slice());

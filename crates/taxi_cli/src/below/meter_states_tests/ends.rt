@@ -4,7 +4,7 @@ ghost use Rattle.std.specs.Option.{ForSome};
 ghost use Rattle.totaliser_store.specs.Ranges.{IsDurable};
 ghost use Rattle.meter_states.specs.Fits.{Fits};
 
-use super::drives::{SINGLE, after_act, numbered, setting};
+use super::drives::{SINGLE, after_act, have_constant_of, numbered, setting};
 use super::expected::{FIRST, entered, printed, shown};
 use crate::tests::A;
 use drive_modes::Meterage;
@@ -62,6 +62,7 @@ fn drop_at_the_end<L: Ledger>(blank: Blank, rt: &impl Abort, tables: &Tables, se
     requires parts { blank.parts ≡ L.parts }
     requires one { 0 < blank.parts }
 {
+    assert!(rt; have_constant_of(tables, seal));
     let mut steps: Steps<L> = Steps::open(blank);
     let opening = last_held(rt, tables, &mut steps);
     let (mut core, acts) = Core::resume(tables, seal, &opening, FIRST + 1, &mut steps);

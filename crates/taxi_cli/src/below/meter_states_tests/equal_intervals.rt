@@ -3,7 +3,7 @@
 ghost use Rattle.std.specs.Prelude.{◌≡◌, ◌<◌, ◌≤◌, ◌+◌};
 ghost use Rattle.meter_states.specs.Lawful.{IsLawful};
 
-use super::drives::{DOUBLE, SINGLE, Secured, acts_at_first, is_timely, setting};
+use super::drives::{DOUBLE, SINGLE, Secured, acts_at_first, have_constant_of, is_timely, setting};
 use super::equal_rows::{AHEAD, BEHIND, ROWS, Row};
 use meter_states::Core;
 use seal_store::Seal;
@@ -31,7 +31,7 @@ fn take_both<L: Ledger>(
     ensures slow { IsLawful tables.now seal.now slow.new }
     ensures few { result ≤ 4 }
 {
-    assert!(rt; is_timely(event));
+    assert!(rt; have_constant_of(tables, seal) && is_timely(event));
     let acts = acts_at_first(tables, seal, fast, event, steps);
     let others = acts_at_first(tables, seal, slow, event, steps);
     assert_eq!(rt; acts.as_slice(), others.as_slice());
@@ -76,6 +76,7 @@ fn take_quiet<L: Ledger>(
     ensures slow { IsLawful tables.now seal.now slow.new }
 {
     for _ in 0..count {
+        assert!(rt; have_constant_of(tables, seal));
         if pulses > 0 {
             let acts = acts_at_first(tables, seal, slow, Event::Pulses(pulses), steps);
             assert!(rt; acts.is_empty());
@@ -105,6 +106,7 @@ fn take_row<L: Ledger>(
     let mut left = count;
     let mut spare: usize = 6;
     for _ in 0..count {
+        assert!(rt; have_constant_of(tables, seal));
         let n = fast.equal_intervals(tables, seal, pulses, left);
         take_quiet(rt, tables, seal, slow, pulses, n, steps);
         left -= n;

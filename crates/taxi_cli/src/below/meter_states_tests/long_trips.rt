@@ -2,7 +2,7 @@
 //! positions, zones and a distance, and the longest one.
 ghost use Rattle.std.specs.Prelude.{◌≡◌, ◌<◌};
 
-use super::drives::{SINGLE, acts_at_first, is_timely, setting};
+use super::drives::{SINGLE, acts_at_first, have_constant_of, is_timely, setting};
 use super::expected::{CLEAR, FIRST, FOR_HIRE, HIRE, STOP, UP, entered, printed};
 use crate::run_tests::CITY;
 use crate::tests::A as PLAIN;
@@ -114,7 +114,11 @@ fn last_acts<L: Ledger>(
     for (times, events) in case.events {
         for _ in 0..*times {
             for event in *events {
-                assert!(rt; is_timely(*event), "{}", case.name);
+                assert!(rt;
+                    have_constant_of(tables, seal) && is_timely(*event),
+                    "{}",
+                    case.name
+                );
                 last = acts_at_first(tables, seal, &mut core, *event, &mut steps);
             }
         }

@@ -80,18 +80,33 @@ const ROWS: &[Row] = &[
         (100_000_000, 0, 0, 0, 0),
         1,
     ),
+    (
+        "roaming with a hired distance and supplements",
+        Entry {
+            kind: Kind::Roam,
+            roam_mm: 100,
+            hired_mm: 50,
+            fare: 0,
+            supplements: 200,
+            ..PLAIN
+        },
+        (150, 50, 0, 200, 0),
+        1,
+    ),
 ];
 
 /// Whether the meter may make this entry.
 fn is_entry(entry: &Entry) -> bool
     ensures { IsTrue result → IsEntry entry.now }
 {
+    let closes = entry.closes();
     entry.roam_mm <= 1_000_000_000
         && entry.hired_mm <= 1_000_000_000
         && entry.fare <= 99_999_999
         && entry.supplements <= 1_584_000_000
         && 1 <= entry.position
         && entry.position <= 9
+        && (closes || entry.fare == 0)
 }
 
 /// The state after an entry.

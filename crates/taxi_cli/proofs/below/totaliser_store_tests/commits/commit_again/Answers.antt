@@ -9,7 +9,7 @@ abbrev plain : Entry
 plain = record { kind = Closed; roam_mm = 0; hired_mm = 234800; fare = 380; supplements = 0; position = 1 }
 
 made : IsEntry plain
-made = record { distance = omega arith; fare = omega arith; supplements = omega arith; position = λ closing. (omega arith, omega arith) }
+made = record { distance = omega arith; fare = omega arith; supplements = omega arith; position = λ closing. (omega arith, omega arith); roaming = λ roams. absurd cc }
 
 pub commit-requires-clause-range : goal.commit-requires-clause-range
 commit-requires-clause-range g c =
