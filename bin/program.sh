@@ -1,104 +1,140 @@
-# What bin/taxi and bin/hiring_log share; both source it, and it does nothing by itself. It needs, set by them: `top`, the
-# top of the checkout; `name`, what the program is called; `program_crate`, the crate whose program is run; `words`, those
-# of a run that needs no file; `needs_store`, the commands that need a sealed store; and two functions: `commands`, which prints a line `WORDS|WHAT|EXAMPLE` for each command,
-# and `meaning_of`, which prints what a status means, given the status and the first word.
+# What bin/taxi and bin/hiring_log share; both source it, and it does nothing by itself. It needs, set by them: `top`,
+# the top of the checkout or of what is installed; `name`, what the program is called; `program_crate`, the crate whose
+# program is run; `sample`, the words of a run that needs no file; `page`, where the program is described; `width`, of
+# the words in the help; `needs_store`, the commands that need a sealed store; `without_store`, those that open none;
+# `layouts`, those of its store that it reads; `fault_of_a_line`, the lines that end with the number of a line at fault;
+# and these functions:
+#
+#   commands      prints a line `WORDS|WHAT|EXAMPLE` for each command
+#   meaning_of    prints what a status means, given the status and the words
+#   question_of   sets `file`, the file at fault, and `question`, what is asked for the fault again, given status and words
+#   help_on_fault prints what a fault is, given its words, and fails where there is no such fault
+#
+# A command is judged and carried out by the program alone. Words go to it as they are, and its output isn't touched.
 
-program=$top/crates/$program_crate/out/$program_crate
+is_installed() { [ -f "$top/INSTALLED" ]; }
+
+# Where it is installed, the program lies in libexec/, and nothing is built.
+if is_installed; then program=$top/libexec/$program_crate called=$name
+else program=$top/crates/$program_crate/out/$program_crate called=bin/$name; fi
+
+say() { echo "$name: $1" >&2; }
+
+for part in words where build; do . "$top/bin/$part.sh" || exit 125; done
 
 help() {
   echo 'usage:'
   commands | while IFS='|' read -r row what _; do printf "  $name %-${width}s %s\n" "$row" "$what"; done
-  echo "bin/$name COMMAND --help shows an example; $page says more."
+  printf "  $name %-${width}s %s\n" 'help COMMAND' 'shows an example of a command, as does COMMAND -h' \
+    version 'prints what program this is; it builds nothing'
+  [ -z "$fault_of_a_line" ] ||
+    printf "  $name %-${width}s %s\n" 'help FAULT' 'says what a fault is, as Duplicate, and shows one mended'
+  echo 'before a command:'
+  printf "  %-$((width + ${#name} + 1))s %s\n" '-C FOLDER' 'goes to that folder first'
+  [ -z "$without_store" ] ||
+    printf "  %-$((width + ${#name} + 1))s %s\n" --now 'answers at once by a program that is not proved, without a store'
+  echo "$page says more.$(! is_installed || echo " docs/ and examples/ lie in $top.")"
 }
-
-# The rows of a command, where it is one.
-rows_of() { commands | awk -v command="$1" '{ split($0, word, /[ |]/) } word[1] == command'; }
 
 # What to type for a command: its rows.
 help_on() {
-  local row what example
+  local row what example from='from the top of the checkout'
+  ! is_installed || from="from $top"
   while IFS='|' read -r row what example; do
     printf 'usage: %s %s\n%s\n' "$name" "$row" "$what"
-    printf 'example, from the top of the checkout: bin/%s %s\n' "$name" "$example"
+    printf 'example, %s: %s %s\n' "$from" "$called" "$example"
   done <<<"$1"
-  case " $needs_store " in *" ${1%%[ |]*} "*) echo 'it needs a sealed store in the folder; taxi seal TARIFF PARAMS makes one' ;; esac
+  [[ " $needs_store " != *" ${1%%[ |]*} "* ]] ||
+    echo 'it needs a sealed store in the folder; taxi seal TARIFF PARAMS makes one'
   echo "more: $page"
 }
 
-# What wrong words mean: how the command is used, or that there is no such command.
-wrong_words() {
+# Helps on a command or a fault.
+help_about() {
   local rows
-  rows=$(rows_of "$1" | cut -d'|' -f1)
-  if [ -n "$rows" ]; then echo "wrong words; usage: $name ${rows//$'\n'/, or $name }"
-  else echo "no such command; bin/$name help lists them"; fi
+  rows=$(rows_of "$1")
+  if [ $# -eq 1 ] && [ -n "$rows" ]; then help_on "$rows"
+  elif ! help_on_fault "$*"; then
+    say "there is no command and no fault of this name; $called help lists the commands"
+    return 1
+  fi
 }
 
-# The crates that the program is made of, lowest first: crates.txt has them in that order.
-needed_crates() {
-  awk -F: -v program="$program_crate" '{ sub(/#.*/, "") } NF > 1 { name[++n] = $1; rest[n] = $2 }
-    END {
-      need[program] = 1
-      for (i = n; i > 0; i--) if (need[name[i]]) { k = split(rest[i], low, " "); while (k) need[low[k--]] = 1 }
-      for (i = 1; i <= n; i++) if (need[name[i]]) print name[i]
-    }' "$top/crates.txt"
+# Helps, where these words ask for it, and ends then.
+help_if_asked() {
+  [ $# -gt 0 ] || { help >&2; exit 1; }
+  if [ "$1" = help ] && [ $# -gt 1 ]; then
+    help_about "${@:2}"
+    exit
+  elif [ $# -eq 1 ]; then
+    case $1 in
+      help | -h | --help) help; exit ;;
+      version | --version) version; exit ;;
+    esac
+  elif [ $# -eq 2 ] && [[ $2 == -h || $2 == --help ]] && [ -n "$(rows_of "$1")" ]; then
+    help_about "$1"
+    exit
+  fi
 }
 
-# Whether a source of the program is newer than what was built. Tests are no part of it.
-is_old() {
-  local crate places=("$top/crates.txt")
-  [ -x "$program" ] || return 0
-  for crate in $crates; do places+=("$top/crates/$crate"/{src,specs,proofs}); done
-  [ -n "$(find "${places[@]}" -type f ! -name '*tests.rt' ! -path '*tests/*' -newer "$program" -print -quit)" ]
-}
-
-say() { echo "$name: $1" >&2; }
-
-# Proves and builds the program, a crate at a time, with a line for each.
-build() {
-  local crate place=0 all log began=$SECONDS spent
-  command -v rt >/dev/null 2>&1 || { say 'the command rt of the Rattle kit is not in the PATH; README.md says more'; return 1; }
-  log=$(mktemp -d) || return 1
-  touch "$log/began"
-  all=$(echo "$crates" | wc -l)
-  say "proving and building the program; from nothing this takes an hour or so (docs/STATUS.md), and later runs only run it"
-  for crate in $crates; do
-    place=$((place + 1)) spent=$((SECONDS - began))
-    say "crate $place of $all, $crate; $((spent / 60)) min $((spent % 60)) s so far"
-    # The program itself is built by a run that needs no file.
-    if [ "$crate" = "$program_crate" ]; then set -- rt run -- $words; else set -- rt lib; fi
-    if ! (cd "$top/crates/$crate" && "$@" </dev/null >"$log/$crate" 2>&1); then
-      tail -n 20 "$log/$crate" >&2
-      say "$crate was not proved and built, so nothing was run; the whole output is in $log/$crate"
-      return 1
-    fi
+# Takes what stands before the command, and sets `given` to the words of the command.
+take_options() {
+  now='' given=("$@")
+  while [ ${#given[@]} -gt 0 ]; do
+    case ${given[0]} in
+      --now) now=yes given=("${given[@]:1}") ;;
+      -C) go_to "${given[1]-}"; given=("${given[@]:2}") ;;
+      *) return ;;
+    esac
   done
-  touch -r "$log/began" "$program"
-  rm -rf "$log"
 }
 
-# Helps, or builds the program where that is needed and runs it with these words; ends with its status.
-main() {
-  local status
-  if [ "${*:-}" = help ] || [ "${*:-}" = --help ]; then
-    help
-    exit 0
+# Goes to a folder; `-` is a folder's name.
+go_to() {
+  local folder=$1
+  [ "$folder" != - ] || folder=./-
+  if [ -z "$folder" ] || ! CDPATH= cd -- "$folder" 2>/dev/null; then
+    say "the folder $(shown_name "$1") cannot be entered"
+    exit 125
   fi
-  if [ $# -eq 2 ] && [ "$2" = --help ] && [ -n "$(rows_of "$1")" ]; then
-    help_on "$(rows_of "$1")"
-    exit 0
+}
+
+# Runs the program with the words; says what its status means and ends with it. Where the keyboard interrupts both, it
+# waits for the program, to say what may be half done. What bash itself would say of a killed program is left out.
+run_program() {
+  local status began=${EPOCHREALTIME-} messages
+  trap : INT
+  if exec {messages}>&2; then
+    exec 2>/dev/null
+    (exec "$program" "$@" 2>&"$messages" {messages}>&-)
+    status=$?
+    exec 2>&"$messages" {messages}>&-
+  else
+    "$program" "$@"
+    status=$?
   fi
-  # For words that can only be refused nothing is built.
-  if [ ! -x "$program" ] && [ -z "$(rows_of "${1:-}")" ]; then
-    help >&2
-    say "status 1: $(wrong_words "${1:-}")"
-    exit 1
-  fi
-  crates=$(needed_crates)
-  if is_old; then
-    build || exit 125
-  fi
-  "$program" "$@"
-  status=$?
-  [ "$status" -eq 0 ] || say "status $status: $(meaning_of "$status" "${1:-}")"
+  trap - INT
+  report "$status" "$@"
+  [ "$status" -ne 130 ] || kill -INT $$
   exit "$status"
+}
+
+# Says what a status other than 0 means behind a call.
+report() {
+  [ "$1" -ne 0 ] || return 0
+  say "status $1: $(meaning_of "$@")"
+  say_where "$@"
+}
+
+main() {
+  local now given said
+  take_options "$@"
+  help_if_asked "${given[@]}"
+  # For words that can only be refused nothing is built.
+  if [ ! -x "$program" ] || [ -n "$now" ]; then
+    said=$(judge_words "${given[@]}") || { say "status 1: $said"; exit 1; }
+  fi
+  [ -z "$now" ] || is_installed || answer_now "${given[@]}"
+  make_ready || exit 125
+  run_program "${given[@]}"
 }
