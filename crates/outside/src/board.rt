@@ -14,7 +14,8 @@ pub const STORE_SIZE: usize = 2048;
 /// The meter's one device: a store of 2,048 bytes, with places from 0 on, and a printer, on one clock
 /// of moments. Bytes that are written are in flight until a sync succeeds: a cut of the power may
 /// leave any bytes in their places. Each call takes one step of the one ledger that the board is
-/// asked under, and a call fails only where the count of faults rose.
+/// asked under. A call that failed raises the count of faults by one, up to the last value of 64 bits, and
+/// one that is Ok leaves it.
 ///
 /// What is said of the places in flight and of what a cut might have left is an upper bound: a call
 /// says what may have come to them, and a board may have less in flight, and leave less, than its

@@ -16,9 +16,9 @@ use taxi_units::NoMemory;
 /// ones fail. A call that finds no memory fails and raises `refused` by one; it isn't kept, takes no
 /// number and changes nothing else. The other calls are kept and numbered from 1, and exactly those with
 /// chosen numbers fail. A write among these leaves the image as it was, and its range in flight; a print
-/// among them prints nothing. The count of faults is `refused`, which stands still at the last value of a
-/// `u64`, and the number of the calls that failed by their numbers, together. All of it is this project's
-/// own; a board in memory is such a device of the board's size.
+/// among them prints nothing. The count of faults is `refused` and the number of the calls that
+/// failed by their numbers, together, which stands still at the last value of a `u64`, as `refused` itself does.
+/// All of it is this project's own; a board in memory is such a device of the board's size.
 #[derive(Drop)]
 pub struct MemoryDevice<const N: usize> {
     state: MemoryState<N>,

@@ -17,7 +17,7 @@ returns g c =
       flight = λ place flies. subst (λ (h : Contents). IsInSome h.ranges place) (read_same (held_by old) (held_by new) came) flies;
       text = ap (λ (h : Contents). h.text) (read_same (held_by old) (held_by new) came);
       time = time_of_call old new Read (λ i x amid. amid) time;
-      cause = cause_is old new Read c.keep_read.result c.keep_read.ensures.rises c.keep_read.ensures.kept c.keep_read.ensures.failed;
+      cause = cause_is old new Read c.keep_read.result c.keep_read.ensures.kept c.keep_read.ensures.failed;
       kept = c.keep_read.ensures.kept;
       failed = c.keep_read.ensures.failed;
     })

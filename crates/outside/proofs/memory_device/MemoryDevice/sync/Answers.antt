@@ -18,7 +18,7 @@ returns g c =
       flight = sync_flight (held_by old) (held_by new) came;
       text = sync_text (held_by old) (held_by new) came;
       time = time_of_call old new Sync (λ i x amid. amid) time;
-      cause = cause_is old new Sync c.keep_sync.result c.keep_sync.ensures.rises c.keep_sync.ensures.kept c.keep_sync.ensures.failed;
+      cause = cause_is old new Sync c.keep_sync.result c.keep_sync.ensures.kept c.keep_sync.ensures.failed;
       kept = c.keep_sync.ensures.kept;
       failed = c.keep_sync.ensures.failed;
     })
