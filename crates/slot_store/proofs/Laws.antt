@@ -12,7 +12,7 @@ use Rattle.slot_store.specs.Slots.{IsQuiet, IsSamePair, IsBlank, IsOpen, IsAt, I
 use Rattle.slot_store.specs.Scan.{found_at, IsAnswer}
 use Rattle.slot_store.specs.Stages.{spare_at, IsPair, IsReady, IsReadyAt}
 use Rattle.slot_store.specs.Writes.{IsApart, OrWithin, LeavesThroughout, WritesIn}
-pub use Rattle.slot_store.proofs.Causes.{on_failed, cause_passed, cause_of_value, cause_behind, fewer_steps, steps_then}
+pub use Rattle.slot_store.proofs.Causes.{on_failed, fewer_steps, steps_then}
 use Rattle.slot_store.proofs.Findings as findings
 use Rattle.slot_store.proofs.Moments as moments
 use Rattle.slot_store.proofs.Ordered as ordered

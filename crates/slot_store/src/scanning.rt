@@ -1,7 +1,7 @@
 //! What a pair of slots stands for.
 ghost use Rattle.std.specs.Prelude.{◌≡◌, ℕ, ◌+◌, ◌≤◌, take, drop, IfOk, OnOk, IsErr, IsErrOf};
 ghost use Rattle.outside.specs.Disk.{SameBut, MayLeave};
-ghost use Rattle.outside.specs.Faults.{HasCause, Rose};
+ghost use Rattle.outside.specs.Faults.{HasCause, RisesOnlyIf};
 ghost use Rattle.outside.specs.Runs.{LeavesOnly};
 ghost use Rattle.slot_store.specs.Scan.{found_at, IsAsFound, IsSound};
 ghost use Rattle.slot_store.specs.Sizes.{slot_size, last_pair};
@@ -20,10 +20,10 @@ use taxi_units::Steps;
 ///
 /// Where no slot is open, the pair is `Blank`; else the open slot whose body has the greatest number
 /// has the latest body. `BadBody` names the lower open slot whose body isn't read. Where there is
-/// none, `SameNumber` comes where both slots are open with one number. `DeviceFailed` comes only
-/// where the board's count of faults rose. After each other answer nothing is in flight, the image is
-/// as it was, and the three calls were made; after `Latest` the pair is settled at the place. From the
-/// sync on a cut leaves the image as it was, and nothing else.
+/// none, `SameNumber` comes where both slots are open with one number. With
+/// `DeviceFailed` the board's count of faults rose by one, and else it is as it was. After each other
+/// answer nothing is in flight, the image is as it was, and the three calls were made; after `Latest` the
+/// pair is settled at the place. From the sync on a cut leaves the image as it was, and nothing else.
 pub fn scan<T: Body, B: Board<L>, L: Ledger>(
     board: &mut B,
     at: u16,
@@ -45,8 +45,7 @@ pub fn scan<T: Body, B: Board<L>, L: Ledger>(
     ensures image { SameBut (B.in_flight board.old) (B.image board.old) (B.image board.new) }
     ensures flight { (place : ℕ) → B.in_flight board.new place → B.in_flight board.old place }
     ensures text { B.printed board.new ≡ B.printed board.old }
-    ensures faults { B.faults board.old ≤ B.faults board.new }
-    ensures cause { IsErrOf result SlotFault.DeviceFailed → Rose (B.faults board.old) (B.faults board.new) }
+    ensures cause { RisesOnlyIf (IsErrOf result SlotFault.DeviceFailed) (B.faults board.old) (B.faults board.new) }
     ensures calls { ¬ IsErrOf result SlotFault.DeviceFailed → steps.new ≡ steps.old + 3 }
     ensures steps { steps.new ≤ steps.old + 3 }
 {
