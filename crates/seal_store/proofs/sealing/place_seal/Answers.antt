@@ -1,4 +1,4 @@
-use Rattle.slot_store.proofs.Laws.{on_failed, cause_passed, cause_of_value, cause_behind, fewer_steps, steps_then}
+use Rattle.slot_store.proofs.Laws.{on_failed, fewer_steps, steps_then}
 use Rattle.seal_store.proofs.Sealings.{found_after, keeps_both, keeps_found, leaves_both, leaves_first, leaves_found, writes_both, writes_first}
 use Rattle.seal_store.proofs.sealing.place_seal.Goals as goal
 
@@ -60,20 +60,11 @@ returns-in_ok-put_seal-in-Some-clause-beside g c = rw c.in-Some.is c.put_seal.en
 pub returns-in_ok-put_seal-in-Some-clause-steps : goal.returns-in_ok-put_seal-in-Some-clause-steps
 returns-in_ok-put_seal-in-Some-clause-steps g c = fewer_steps _ _ 6 4 c.put_seal.ensures.steps
 
-pub returns-in_err-put_seal-in-Some-clause-cause : goal.returns-in_err-put_seal-in-Some-clause-cause
-returns-in_err-put_seal-in-Some-clause-cause g c = cause_passed _ _ c.put_seal.result _ c.from_residual.result c.in_err-put_seal-in-Some.was c.put_seal.ensures.cause
-
-pub returns-in_ok-put_seal-in-Some-clause-cause : goal.returns-in_ok-put_seal-in-Some-clause-cause
-returns-in_ok-put_seal-in-Some-clause-cause g c = cause_of_value _ _ c.put_seal.result _ c.put_seal.ensures.cause
-
 pub returns-in_err-put_totals-in-None-clause-beside : goal.returns-in_err-put_totals-in-None-clause-beside
 returns-in_err-put_totals-in-None-clause-beside g c = rw c.in-None.is (writes_first g.B.Board c.args.board.now c.put_totals.new.board c.put_totals.ensures.beside)
 
 pub returns-in_err-put_totals-in-None-clause-steps : goal.returns-in_err-put_totals-in-None-clause-steps
 returns-in_err-put_totals-in-None-clause-steps g c = fewer_steps _ _ 4 6 c.put_totals.ensures.steps
-
-pub returns-in_err-put_totals-in-None-clause-cause : goal.returns-in_err-put_totals-in-None-clause-cause
-returns-in_err-put_totals-in-None-clause-cause g c = cause_passed _ _ c.put_totals.result _ c.from_residual-in_err-put_totals-in-None.result c.in_err-put_totals-in-None.was c.put_totals.ensures.cause
 
 pub returns-in_err-put_seal-in-None-clause-beside : goal.returns-in_err-put_seal-in-None-clause-beside
 returns-in_err-put_seal-in-None-clause-beside g c = rw c.in-None.is (writes_both g.B.Board c.args.board.now c.put_totals.new.board c.put_seal-in-None.new.board c.put_totals.ensures.beside c.put_seal-in-None.ensures.beside)
@@ -86,16 +77,6 @@ returns-in_ok-put_seal-in-None-clause-beside g c = rw c.in-None.is (writes_both 
 
 pub returns-in_ok-put_seal-in-None-clause-steps : goal.returns-in_ok-put_seal-in-None-clause-steps
 returns-in_ok-put_seal-in-None-clause-steps g c = steps_then _ _ _ 4 6 c.put_totals.ensures.steps c.put_seal-in-None.ensures.steps
-
-pub returns-in_err-put_seal-in-None-clause-cause : goal.returns-in_err-put_seal-in-None-clause-cause
-returns-in_err-put_seal-in-None-clause-cause g c =
-    cause_passed _ _ c.put_seal-in-None.result _ c.from_residual-in_err-put_seal-in-None.result c.in_err-put_seal-in-None.was
-    (cause_behind _ _ _ c.put_seal-in-None.result c.put_totals.ensures.cause.later c.put_seal-in-None.ensures.cause)
-
-pub returns-in_ok-put_seal-in-None-clause-cause : goal.returns-in_ok-put_seal-in-None-clause-cause
-returns-in_ok-put_seal-in-None-clause-cause g c =
-    cause_of_value _ _ c.put_seal-in-None.result _
-    (cause_behind _ _ _ c.put_seal-in-None.result c.put_totals.ensures.cause.later c.put_seal-in-None.ensures.cause)
 
 pub put_seal-requires-clause-valid : goal.put_seal-requires-clause-valid
 put_seal-requires-clause-valid g c = c.requires.valid

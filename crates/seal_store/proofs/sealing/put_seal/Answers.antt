@@ -3,7 +3,7 @@ use Rattle.slot_store.specs.declared.pair.Pair.{Pair}
 use Rattle.slot_store.specs.Slots.{IsSettled}
 use Rattle.slot_store.specs.Stages.{IsReady}
 use Rattle.seal_store.specs.Decoding.{reads, number_of}
-use Rattle.slot_store.proofs.Laws.{on_failed, cause_passed, cause_of_value}
+use Rattle.slot_store.proofs.Laws.{on_failed}
 use Rattle.seal_store.proofs.Sealings.{newer_found, next_beside, put_next, ready_found}
 use Rattle.seal_store.proofs.sealing.put_seal.Goals as goal
 
@@ -46,9 +46,3 @@ returns-clause-beside g c = next_beside g.B.Board _ c.args.found c.args.board.no
 
 pub returns-clause-steps : goal.returns-clause-steps
 returns-clause-steps g c = c.store.ensures.steps
-
-pub returns-in_err-place-clause-cause : goal.returns-in_err-place-clause-cause
-returns-in_err-place-clause-cause g c = cause_passed _ _ c.store.result _ c.from_residual.result c.in_err-place.was c.store.ensures.cause
-
-pub returns-clause-cause : goal.returns-clause-cause
-returns-clause-cause g c = cause_of_value _ _ c.store.result _ c.store.ensures.cause

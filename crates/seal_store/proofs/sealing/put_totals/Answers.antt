@@ -5,7 +5,7 @@ use Rattle.slot_store.specs.Stages.{IsReady, is_spare_open}
 use Rattle.totaliser_store.specs.declared.durable.Durable.{Durable}
 use Rattle.totaliser_store.specs.Reading.{reads}
 use Rattle.totaliser_store.specs.Stored.{number_of}
-use Rattle.slot_store.proofs.Laws.{on_failed, cause_passed, cause_of_value}
+use Rattle.slot_store.proofs.Laws.{on_failed}
 use Rattle.seal_store.proofs.Sealings.{first_beside, put_first}
 use Rattle.seal_store.proofs.sealing.put_totals.Goals as goal
 
@@ -43,9 +43,3 @@ returns-clause-beside g c = first_beside g.B.Board c.blank.result c.args.board.n
 
 pub returns-clause-steps : goal.returns-clause-steps
 returns-clause-steps g c = c.store.ensures.closed (ap (λ (pair : Pair). is_spare_open pair.latest) c.blank.ensures)
-
-pub returns-in_err-place-clause-cause : goal.returns-in_err-place-clause-cause
-returns-in_err-place-clause-cause g c = cause_passed _ _ c.store.result _ c.from_residual.result c.in_err-place.was c.store.ensures.cause
-
-pub returns-clause-cause : goal.returns-clause-cause
-returns-clause-cause g c = cause_of_value _ _ c.store.result _ c.store.ensures.cause
