@@ -3,8 +3,9 @@ use Rattle.std.proofs.Common.{◌≡◌, ◌≢◌, inl, inr, ℕ, ◌≤◌, Li
 use Rattle.outside.specs.declared.board.Board.{Ghosts}
 use Rattle.slot_store.specs.Syncs.{LeavesFromSync}
 use Rattle.slot_store.proofs.Laws.{from_sync_as}
-use Rattle.hiring_log.specs.Calls.{AreFew, MayHave, WritesNothing}
+use Rattle.hiring_log.specs.Calls.{AreFew, MayHave, MayHaveReadFault, WritesNothing}
 use Rattle.hiring_log.specs.Endings.{filing_end, status_of, unread_end}
+use Rattle.hiring_log.specs.Filings.{MayHaveFailed}
 use Rattle.hiring_log.specs.declared.ending.Ended.TheVariants.{ReadFault, BoardFault}
 use Rattle.hiring_log.specs.declared.file_roll.FileEnd.{FileEnd}
 use Rattle.hiring_log.specs.declared.file_roll.FileEnd.TheVariants as ends
@@ -35,6 +36,13 @@ filing_no_board (ends.Filed count) e = absurd cc
 filing_no_board (ends.OtherTaxi place) e = absurd cc
 filing_no_board ends.TooLong e = absurd cc
 filing_no_board ends.ReadFault e = absurd cc
+
+-- where a read may have failed, the status is one at which it may
+pub filing_reads : (end : FileEnd) → MayHaveFailed (Ok end) → MayHaveReadFault (status_of (filing_end end))
+filing_reads (ends.Filed count) failed = absurd failed
+filing_reads (ends.OtherTaxi place) failed = inl refl
+filing_reads ends.TooLong failed = absurd failed
+filing_reads ends.ReadFault failed = inr (inl refl)
 
 in_range : (end : FileEnd) → 1 ≤ status_of (filing_end end) → status_of (filing_end end) ≤ 3 → ⊥
 in_range (ends.Filed count) low high = omega (arith, low)

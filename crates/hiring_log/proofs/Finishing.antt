@@ -3,14 +3,14 @@ use Rattle.std.proofs.Common.{◌≡◌, ◌≢◌, ◌⊎◌, inl, inr, ℕ, �
 use Rattle.std.proofs.lemmas.Bool.{cases_eq}
 use Rattle.std.proofs.lemmas.List.{ext_get_or}
 use Rattle.outside.specs.Disk.{MayLeave, SameBut}
-use Rattle.outside.specs.Faults.{Rose}
+use Rattle.outside.specs.Faults.{RisesOnlyIf, Rose}
 use Rattle.outside.specs.Printing.{Begins}
 use Rattle.outside.specs.Runs.{IsSettled, KeepsStore, LeavesNow, LeavesOnly, MayHold}
 use Rattle.outside.specs.declared.board.Board.{Ghosts}
 use Rattle.outside.specs.declared.files.Files.{Ghosts as FileGhosts}
 use Rattle.outside.proofs.Laws.{begins_after, begins_more, leaves_kept, leaves_then, leaves_wider}
 use Rattle.slot_store.specs.Syncs.{LeavesFromSync, ReadsOnly}
-use Rattle.hiring_log.specs.Calls.{AppendsNothing, IsCall, IsCutShort, IsFit, IsNewestOf, IsOfTaxi, IsOneTaxi, IsWhole, LeavesLog, MayEnd, MayHave, OnlyLooks, shown_of}
+use Rattle.hiring_log.specs.Calls.{AppendsNothing, IsCall, IsCutShort, IsFit, IsNewestOf, IsOfTaxi, IsOneTaxi, IsWhole, LeavesLog, MayEnd, MayHave, MayHaveReadFault, OnlyLooks, WritesNothing, shown_of}
 use Rattle.hiring_log.proofs.EndCases.{fault_has}
 use Rattle.hiring_log.specs.Comes.{Comes, IsBrokenOff, IsDue, IsTold}
 use Rattle.hiring_log.specs.Endings.{line_of, status_of}
@@ -26,6 +26,7 @@ use Rattle.hiring_log.specs.declared.file_roll.FileEnd.TheVariants as ends
 use Rattle.hiring_log.specs.declared.words.Call.{Call}
 use Rattle.hiring_log.specs.declared.words.Call.TheVariants.{File, Show}
 use Rattle.hiring_log.proofs.AgainFiled.{again_nothing}
+use Rattle.hiring_log.proofs.Causes.{rises_later}
 use Rattle.hiring_log.proofs.Comings.{some_all}
 use Rattle.hiring_log.proofs.OneList.{none_bad, one_list}
 
@@ -45,8 +46,8 @@ eight_is BoardFault e = refl
 silent_end : (ended : Ended) → status_of ended ≡ 8 → line_of ended ≡ []
 silent_end ended e = ap line_of (eight_is ended e)
 
--- a reason stays one where a count of faults rose later
-may_later : (call : Option Call) (image roll rest : List ℕ) (read_failed then now : Type 0) (ended : Ended) (found filed : List Record) → (then → now) → MayEnd call image roll rest read_failed then ended found filed
+-- a reason stays one if the call whose board failed has its count of faults in the end
+may_later : (call : Option Call) (image roll rest : List ℕ) (read_failed then now : Type 0) (ended : Ended) (found filed : List Record) → (ended ≡ BoardFault → now) → MayEnd call image roll rest read_failed then ended found filed
     → MayEnd call image roll rest read_failed now ended found filed
 may_later call image roll rest read_failed then now (Filed count) found filed later may = may
 may_later call image roll rest read_failed then now Shown found filed later may = may
@@ -56,7 +57,7 @@ may_later call image roll rest read_failed then now BrokenLog found filed later 
 may_later call image roll rest read_failed then now (OtherTaxi place) found filed later may = may
 may_later call image roll rest read_failed then now TooLong found filed later may = may
 may_later call image roll rest read_failed then now ReadFault found filed later may = may
-may_later call image roll rest read_failed then now BoardFault found filed later may = (may.0, later may.1)
+may_later call image roll rest read_failed then now BoardFault found filed later may = (may.0, later refl)
 
 -- ---- what the last line leaves of the log
 
@@ -130,27 +131,72 @@ module _ {D L : Type 0} (B : Ghosts D L) where
   ]
 
   -- what is printed
-  told_end : (course ended : Ended) (found : List Record) (log mid log' : D) (status' : ℕ) → B.faults log ≤ B.faults mid → B.faults mid ≤ B.faults log' → IsDue B course found log mid ended ⊎ IsBrokenOff B course found log mid ended
+  told_end : (course ended : Ended) (found : List Record) (log mid log' : D) (status' : ℕ) → RisesOnlyIf (status' ≡ 8) (B.faults log) (B.faults log') → IsDue B course found log mid ended ⊎ IsBrokenOff B course found log mid ended
       → IsTold B ended mid log' status' → (line_of ended ≡ [] → (log' ≡ mid) × (status' ≡ status_of ended)) → IsWhole B course found log log' status' ⊎ IsCutShort B course found log log' status'
-  told_end course ended found log mid log' status' before after (inl due) (inl (status_is, printed)) silent = inl (record {
+  told_end course ended found log mid log' status' rises (inl due) (inl (status_is, printed)) silent = inl (record {
     status_is = status_is ∙ ap status_of due.ended_is;
     printed = λ told. printed told ∙ (ap (λ (t : List ℕ). t ++ line_of ended) (due.shown told) ∙ (append_assoc (B.printed log) (shown_of course found) (line_of ended)
         ∙ ap (λ (e : Ended). B.printed log ++ (shown_of course found ++ line_of e)) due.ended_is));
   })
-  told_end course ended found log mid log' status' before after (inl due) (inr (status_is, rose, begun)) silent = inr (record {
+  told_end course ended found log mid log' status' rises (inl due) (inr (status_is, rose, begun)) silent = inr (record {
     status_is = status_is;
-    failed = omega (arith, rose, before);
+    failed = rises.rose status_is;
     begun = λ told. subst (λ (e : Ended). Begins (B.printed log) (B.printed log') (shown_of course found ++ line_of e)) due.ended_is
         (begins_after (B.printed log) (B.printed mid) (B.printed log') (shown_of course found) (line_of ended) (due.shown told) (begun told));
   })
-  told_end course ended found log mid log' status' before after (inr broken) told silent =
+  told_end course ended found log mid log' status' rises (inr broken) told silent =
       let quiet = silent (ap line_of broken.ended_is) in
       inr (record {
         status_is = quiet.1 ∙ ap status_of broken.ended_is;
-        failed = omega (arith, broken.failed, after);
+        failed = rises.rose (quiet.1 ∙ ap status_of broken.ended_is);
         begun = λ tells. begins_more (B.printed log) (B.printed log') (shown_of course found) (line_of course)
             (subst (λ (d : D). Begins (B.printed log) (B.printed d) (shown_of course found)) (sym quiet.0) (broken.begun tells));
       })
+
+  -- a course at which the board failed has come to its end
+  board_ends : (course ended : Ended) (found : List Record) (log mid log' : D) (status' : ℕ) → IsDue B course found log mid ended ⊎ IsBrokenOff B course found log mid ended
+      → (line_of ended ≡ [] → (log' ≡ mid) × (status' ≡ status_of ended)) → course ≡ BoardFault → status' ≡ 8
+  board_ends course ended found log mid log' status' (inl due) silent is = let e = due.ended_is ∙ is in (silent (ap line_of e)).1 ∙ ap status_of e
+  board_ends course ended found log mid log' status' (inr broken) silent is = let e = broken.ended_is in (silent (ap line_of e)).1 ∙ ap status_of e
+
+  -- the count of faults of the board, behind the last line
+  pub fault_finished : (ended : Ended) (log mid log' : D) (status' : ℕ) → RisesOnlyIf (ended ≡ BoardFault) (B.faults log) (B.faults mid)
+      → (ended ≢ BoardFault → RisesOnlyIf (status' ≡ 8) (B.faults mid) (B.faults log')) → (line_of ended ≡ [] → (log' ≡ mid) × (status' ≡ status_of ended))
+      → RisesOnlyIf (status' ≡ 8) (B.faults log) (B.faults log')
+  fault_finished ended log mid log' status' first next silent = elim (cases_eq (status_of ended) 8) [
+    | inl is ↦
+        (let quiet = silent (silent_end ended is) in record {
+          kept = λ no. absurd (no (quiet.1 ∙ is));
+          rose = λ _. subst (λ (d : D). Rose (B.faults log) (B.faults d)) (sym quiet.0) (first.rose (eight_is ended is));
+        })
+    | inr not ↦
+        (let other : ended ≢ BoardFault = λ e. not (ap status_of e) in
+        rises_later (B.faults log) (B.faults mid) (B.faults log') (first.kept other) (next other))
+  ]
+
+  -- what writes nothing at its status has written nothing before its last line
+  pub writes_before : (call : Option Call) (ended : Ended) (log log' : D) (status : ℕ) → IsTold B ended log log' status
+      → WritesNothing call status → WritesNothing call (status_of ended)
+  writes_before call ended log log' status told (inl not) = inl not
+  writes_before call ended log log' status (inl whole) (inr range) = subst (WritesNothing call) whole.0 (inr range)
+  writes_before call ended log log' status (inr cut) (inr range) = absurd (omega (arith, cut.0, range.1))
+
+  -- and only looks at the log behind it too
+  pub looks_told : (log mid log' : D) (ended : Ended) (status : ℕ) → LeavesNow B mid
+      → OnlyLooks B log mid (status_of ended) → KeepsStore B mid log' → IsTold B ended mid log' status
+      → OnlyLooks B log log' status
+  looks_told log mid log' ended status now looks keeps told =
+      looks_print log mid log' (status_of ended) status now looks keeps (λ not. fewer not told)
+    where
+      fewer : status ≢ 8 → IsTold B ended mid log' status → status_of ended ≢ 8
+      fewer not (inl whole) = λ e. not (whole.0 ∙ e)
+      fewer not (inr cut) = absurd (not cut.0)
+
+  -- where a read may have failed before the last line, it may have at the status
+  pub reads_finished : (ended : Ended) (log log' : D) (status : ℕ) → IsTold B ended log log' status
+      → MayHaveReadFault (status_of ended) → MayHaveReadFault status
+  reads_finished ended log log' status (inl whole) failed = subst MayHaveReadFault (sym whole.0) failed
+  reads_finished ended log log' status (inr cut) failed = inr (inr cut.0)
 
   pub has_finished : (call : Option Call) (ended : Ended) (log log' : D) (status : ℕ) → MayHave call (status_of ended)
       → IsTold B ended log log' status → MayHave call status
@@ -160,15 +206,15 @@ module _ {D L : Type 0} (B : Ghosts D L) where
 module _ {E D L : Type 0} (F : FileGhosts E) (B : Ghosts D L) where
   -- a call
   pub call_told : (call : Option Call) (files files' : E) (log mid log' : D) (steps steps' steps'' : ℕ) (ended : Ended) (status' : ℕ) → LeavesNow B mid → Comes F B call files files' log mid steps steps' ended
-      → IsTold B ended mid log' status' → (line_of ended ≡ [] → (log' ≡ mid) × (status' ≡ status_of ended)) → KeepsStore B mid log' → B.faults log ≤ B.faults mid → B.faults mid ≤ B.faults log' → steps'' ≤ steps' + 1
+      → IsTold B ended mid log' status' → (line_of ended ≡ [] → (log' ≡ mid) × (status' ≡ status_of ended)) → KeepsStore B mid log' → RisesOnlyIf (status' ≡ 8) (B.faults log) (B.faults log') → steps'' ≤ steps' + 1
       → IsCall F B call files files' log log' steps steps'' status'
-  call_told call files files' log mid log' steps steps' steps'' ended status' now comes told silent keeps before after few = record {
+  call_told call files files' log mid log' steps steps' steps'' ended status' now comes told silent keeps rises few = record {
     ended = comes.course;
     found = comes.found;
     filed = comes.filed;
     may = may_later call (B.image log) (F.rest files 1) (F.rest files' 1) (Rose (F.faults files 1) (F.faults files' 1)) (Rose (B.faults log) (B.faults mid)) (Rose (B.faults log) (B.faults log')) comes.course comes.found comes.filed
-        (λ rose. omega (arith, rose, after)) comes.may;
-    ends = told_end B comes.course ended comes.found log mid log' status' before after comes.stands told silent;
+        (λ is. rises.rose (board_ends B comes.course ended comes.found log mid log' status' comes.stands silent is)) comes.may;
+    ends = told_end B comes.course ended comes.found log mid log' status' rises comes.stands told silent;
     leaves = λ file list stands. leaves_finished B log mid log' list comes.filed ended status' now (comes.leaves file list stands) keeps silent;
     few = λ file. omega (arith, comes.few file, few);
   }

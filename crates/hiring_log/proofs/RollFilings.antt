@@ -1,13 +1,13 @@
 -- How the filing of a roll goes on and ends.
-use Rattle.std.proofs.Common.{◌≡◌, ◌≢◌, ◌⊎◌, inl, inr, ℕ, ◌+◌, ◌*◌, ◌≤◌, List, [], ◌∷◌, ◌++◌, length, Option, Some, None, Result, Ok, Err, refl, sym, subst, arith, length-append}
+use Rattle.std.proofs.Common.{◌≡◌, ◌≢◌, ◌⊎◌, inl, inr, ℕ, ◌+◌, ◌*◌, ◌≤◌, List, [], ◌∷◌, ◌++◌, length, Option, Some, None, Result, Ok, Err, refl, ap, sym, ◌∙◌, subst, arith, length-append}
 use Rattle.std.proofs.lemmas.List.{append-nil}
-use Rattle.std.specs.Prelude.{OnErr}
-use Rattle.outside.specs.Faults.{Rose}
+use Rattle.std.specs.Prelude.{IsErrAnd, OnErr}
+use Rattle.outside.specs.Faults.{MayRise, RisesOnlyIf, Rose}
 use Rattle.outside.specs.declared.board.Board.{Ghosts}
 use Rattle.outside.specs.declared.fault.Failed.{Failed}
 use Rattle.hiring_log.specs.Filed.{Files, IsFiledOf, IsNewer, IsOther}
-use Rattle.hiring_log.specs.Filings.{EndsAs, FailsInRoll, FilesRoll, FilesTo, IsFiling, IsTold, LeavesSome}
-use Rattle.hiring_log.specs.Reading.{EndsBy, GoesOn, HasRead, Place}
+use Rattle.hiring_log.specs.Filings.{EndsAs, FailsInRoll, FilesRoll, FilesTo, IsFiling, IsTold, LeavesSome, MayHaveFailed}
+use Rattle.hiring_log.specs.Reading.{EndsBy, FailsNow, GoesOn, HasRead, Place}
 use Rattle.hiring_log.specs.Record.{Record}
 use Rattle.hiring_log.specs.declared.file_roll.FileEnd.{FileEnd}
 use Rattle.hiring_log.specs.declared.file_roll.FileEnd.TheVariants as ends
@@ -16,6 +16,7 @@ use Rattle.hiring_log.specs.declared.filing.Filing.TheVariants.{OtherTaxi, Passe
 use Rattle.hiring_log.specs.declared.roll.RollEnd.{RollEnd}
 use Rattle.hiring_log.specs.declared.roll.RollEnd.TheVariants.{Whole, TooLong, ReadFault}
 use Rattle.hiring_log.specs.declared.tail.Tail.{Tail}
+use Rattle.hiring_log.proofs.Causes.{may_rise_for, rose_later}
 use Rattle.hiring_log.proofs.FiledLaws.{files_one_more}
 use Rattle.hiring_log.proofs.RollLaws.{read_first}
 use Rattle.hiring_log.proofs.Tails.{files_then, moments_then}
@@ -32,12 +33,46 @@ fault_or_not (Some Whole) = inr (λ e. absurd cc)
 fault_or_not (Some TooLong) = inr (λ e. absurd cc)
 fault_or_not (Some ReadFault) = inl refl
 
--- the count of faults rose before or in this call
-pub rose_since : (end : Option RollEnd) (first then now : ℕ) → (end ≡ Some ReadFault → Rose first then) → (end ≢ Some ReadFault → Rose then now) → first ≤ then → then ≤ now → Rose first now
-rose_since end first then now before here le le' = elim (fault_or_not end) [
-  | inl was ↦ omega (arith, before was, le')
-  | inr not ↦ omega (arith, here not, le)
-]
+-- the end of an answer
+pub same_end : (a b : FileEnd) → ◌≡◌ {A = Result FileEnd Failed} (Ok a) (Ok b) → a ≡ b
+same_end a b e = cc
+
+-- ---- the counts of faults
+
+-- a read may have failed where the board did
+pub failed_err : (Q : Failed → Type 0) (r : Result FileEnd Failed) → IsErrAnd r Q → MayHaveFailed r
+failed_err Q (Ok end) never = absurd never
+failed_err Q (Err failed) is = tt
+
+-- a reader that failed has failed, and takes no more
+module _ (old new : Place) (first then now : ℕ) (stays : old.end ≡ Some ReadFault → new.end ≡ Some ReadFault) where
+  -- so its count of faults rose before or in this call
+  pub rises_since : RisesOnlyIf (old.end ≡ Some ReadFault) first then → RisesOnlyIf (FailsNow old new) then now
+      → RisesOnlyIf (new.end ≡ Some ReadFault) first now
+  rises_since before here = elim (fault_or_not old.end) [
+    | inl was ↦ record {
+      kept = λ no. absurd (no (stays was));
+      rose = λ _. subst (λ (n : ℕ). Rose first n) (sym (here.kept (λ fails. fails.1 was))) (before.rose was);
+    }
+    | inr not ↦ record {
+      kept = λ no. here.kept (λ fails. no fails.0) ∙ before.kept not;
+      rose = λ yes. rose_later first then now (before.kept not) (here.rose (yes, not));
+    }
+  ]
+
+  -- and another count by one at most
+  pub may_since : MayRise (old.end ≡ Some ReadFault) first then → MayRise (FailsNow old new) then now
+      → MayRise (new.end ≡ Some ReadFault) first now
+  may_since before here = elim (fault_or_not old.end) [
+    | inl was ↦ record {
+      kept = λ no. absurd (no (stays was));
+      most = subst (λ (n : ℕ). (n ≡ first) ⊎ Rose first n) (sym (here.kept (λ fails. fails.1 was))) before.most;
+    }
+    | inr not ↦ record {
+      kept = λ no. here.kept (λ fails. no fails.0) ∙ before.kept not;
+      most = subst (λ (n : ℕ). (now ≡ n) ⊎ Rose n now) (before.kept not) here.most;
+    }
+  ]
 
 module _ {D L : Type 0} (B : Ghosts D L) (tl tf : Type 0) where
   -- ---- a receipt more
@@ -79,6 +114,34 @@ module _ {D L : Type 0} (B : Ghosts D L) (tl tf : Type 0) where
 
   abbrev Reason : RollEnd → FileEnd → (filed : ℕ) → Type 0
   Reason end found filed = (end ≡ Whole → found ≡ ends.Filed filed) × (end ≡ TooLong → found ≡ ends.TooLong) × (end ≡ ReadFault → found ≡ ends.ReadFault)
+
+  -- a read failed where the filing says it
+  read_failed : (end : RollEnd) (found : FileEnd) (filed : ℕ) → Reason end found filed → found ≡ ends.ReadFault
+      → end ≡ ReadFault
+  read_failed Whole found filed why is = let no = why.0 refl in absurd cc
+  read_failed TooLong found filed why is = let no = why.1 refl in absurd cc
+  read_failed ReadFault found filed why is = refl
+
+  pub fault_over : (end : RollEnd) (place' : Place) (found : FileEnd) (filed first now : ℕ) → place'.end ≡ Some end
+      → Reason end found filed → RisesOnlyIf (place'.end ≡ Some ReadFault) first now → found ≡ ends.ReadFault
+      → Rose first now
+  fault_over end place' found filed first now over why rises is =
+      rises.rose (over ∙ ap (λ (e : RollEnd). Some e) (read_failed end found filed why is))
+
+  -- and none has failed where it says that there is no more
+  failed_over : (end : RollEnd) (found : FileEnd) (filed : ℕ) → Reason end found filed
+      → ◌≡◌ {A = Option RollEnd} (Some end) (Some ReadFault) → MayHaveFailed (Ok found)
+  failed_over end found filed why is =
+      subst (λ (e : FileEnd). MayHaveFailed (Ok e)) (sym (why.2 same)) tt
+    where
+      same : end ≡ ReadFault
+      same = cc
+
+  pub counts_over : (end : RollEnd) (place' : Place) (found : FileEnd) (filed first now : ℕ) → place'.end ≡ Some end
+      → Reason end found filed → MayRise (place'.end ≡ Some ReadFault) first now
+      → MayRise (MayHaveFailed (Ok found)) first now
+  counts_over end place' found filed first now over why may =
+      may_rise_for first now (λ yes. failed_over end found filed why (sym over ∙ yes)) may
 
   ends_as : (end : RollEnd) (roll rest : List ℕ) (place : Place) (receipts filed : List Record) (newest last : Option Record) (count : ℕ) → HasRead roll place rest receipts → place.ahead ≡ [] → place.end ≡ Some end
       → Files newest receipts filed last → (found : FileEnd) → Reason end found count → EndsAs found newest roll rest filed last

@@ -43,6 +43,11 @@ MayHave None status = (status ≡ 1) ⊎ (status ≡ 8)
 MayHave (Some Show) status = (status ≡ 0) ⊎ ((status ≡ 2) ⊎ ((status ≡ 3) ⊎ (status ≡ 8)))
 MayHave (Some File) status = (status ≤ 8) × ((status ≢ 1) × (status ≢ 6))
 
+-- a read may have failed in a call with a status: it has with 7, and may have with 4 and with 8, if the receipt of
+-- another taxi, or the one that the board failed to take, was found in the bytes that were taken before
+abbrev pub MayHaveReadFault : (status : ℕ) → Type 0
+MayHaveReadFault status = (status ≡ 4) ⊎ ((status ≡ 7) ⊎ (status ≡ 8))
+
 -- the steps of a call are bounded, of refused words by 1 and of `show` by 771; `IsCall` bounds those of `file` by what
 -- it files
 abbrev pub AreFew : Option Call → (before now : ℕ) → Type 0

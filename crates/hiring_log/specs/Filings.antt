@@ -1,7 +1,8 @@
 -- For proofs: what filing receipts leaves of the log and of its end in memory. Calls and FilingEnds say what it comes
 -- to.
-use Rattle.std.specs.Prelude.{◌≡◌, ℕ, ◌+◌, ◌*◌, ◌≤◌, List, ◌++◌, length, Option, Some, None}
+use Rattle.std.specs.Prelude.{◌≡◌, ℕ, ◌+◌, ◌*◌, ◌≤◌, List, ◌++◌, length, Option, Some, None, Result, Ok, Err}
 use Rattle.outside.specs.declared.board.Board.{Ghosts}
+use Rattle.outside.specs.declared.fault.Failed.{Failed}
 use Rattle.outside.specs.Runs.{LeavesOnly}
 use Rattle.hiring_log.specs.Appends.{IsReady}
 use Rattle.hiring_log.specs.Filed.{Files, IsFiledOf}
@@ -11,6 +12,7 @@ use Rattle.hiring_log.specs.Reading.{HasRead, Place}
 use Rattle.hiring_log.specs.Record.{Record, IsRecord}
 use Rattle.hiring_log.specs.declared.tail.Tail.{Tail}
 use Rattle.hiring_log.specs.declared.file_roll.FileEnd.{FileEnd}
+use Rattle.hiring_log.specs.declared.file_roll.FileEnd.TheVariants as ends
 pub use Rattle.hiring_log.specs.FilingEnds.{EndsAs, IsTold, StandsForSome, newest_after, newest_of}
 
 -- a newest record is sound, whatever the board tells, where it is a record whose place in the log is at most its
@@ -18,6 +20,14 @@ pub use Rattle.hiring_log.specs.FilingEnds.{EndsAs, IsTold, StandsForSome, newes
 abbrev pub IsLast : (last : ℕ) → Option Record → Type 0
 IsLast last None = last ≡ 0
 IsLast last (Some newest) = IsRecord newest × (last ≤ newest.number)
+
+-- a read may have failed in a filing that ends so, but not where the roll was read to its end or is too long
+abbrev pub MayHaveFailed : Result FileEnd Failed → Type 0
+MayHaveFailed (Ok (ends.Filed count)) = ⊥
+MayHaveFailed (Ok (ends.OtherTaxi place)) = Unit {0}
+MayHaveFailed (Ok ends.TooLong) = ⊥
+MayHaveFailed (Ok ends.ReadFault) = Unit {0}
+MayHaveFailed (Err failed) = Unit {0}
 
 -- a tail is that of a list where the image stands for the last 256 of the list, nothing is in flight, and the tail
 -- tells where the list ends

@@ -1,5 +1,5 @@
 -- For proofs: where a reader of a roll stands, and what it has read. Reads, in Roll, says what a roll has.
-use Rattle.std.specs.Prelude.{◌≡◌, ℕ, ◌+◌, List, [], ◌++◌, length, Option, Some, None, is_some}
+use Rattle.std.specs.Prelude.{◌≡◌, ◌≢◌, ℕ, ◌+◌, List, [], ◌++◌, length, Option, Some, None, is_some}
 use Rattle.hiring_log.specs.Looking.{MayFollow}
 use Rattle.hiring_log.specs.Record.{Record}
 use Rattle.hiring_log.specs.Roll.{Reads, roll_limit}
@@ -24,6 +24,10 @@ EndsBy (Some ReadFault) left rest = Unit {0}
 -- a reader is over for a reason where it takes no more bytes for it, and has looked all through
 abbrev pub IsOver : Place → RollEnd → Type 0
 IsOver place end = (place.end ≡ Some end) × (place.ahead ≡ [])
+
+-- a reader fails in a call if it then takes no more bytes because a read failed, and that wasn't so before
+abbrev pub FailsNow : (old new : Place) → Type 0
+FailsNow old new = (new.end ≡ Some ReadFault) × (old.end ≢ Some ReadFault)
 
 -- a reader has read receipts of a roll, of which `rest` is left in the file, where reading the bytes taken gives them,
 -- whatever bytes may follow

@@ -1,6 +1,6 @@
 //! What is known of each slot of the log.
 ghost use Rattle.std.specs.Prelude.{◌≡◌, ℕ, ◌+◌, ◌≤◌, ◌<◌, IfOk, Err};
-ghost use Rattle.outside.specs.Faults.{Rose};
+ghost use Rattle.outside.specs.Faults.{RisesOnlyIf};
 ghost use Rattle.slot_store.specs.Syncs.{ReadsOnly};
 ghost use Rattle.hiring_log.specs.Boards.{board_of};
 ghost use Rattle.hiring_log.specs.LogRow.{AreEntries};
@@ -23,8 +23,7 @@ fn read_entry<G: LogBoard<L>, L: Ledger>(
     ensures entry { G.tells_image → IfOk result (IsEntry (G.image log.old) slot) }
     ensures bad { (other : ℕ) → result ≡ Err (BadSlot other)
         → (other ≡ slot) × (G.tells_image → IsBad (G.image log.old) slot) }
-    ensures failed { result ≡ Err DeviceFailed → Rose (G.faults log.old) (G.faults log.new) }
-    ensures later { G.faults log.old ≤ G.faults log.new }
+    ensures cause { RisesOnlyIf (result ≡ Err DeviceFailed) (G.faults log.old) (G.faults log.new) }
     ensures image { G.image log.new ≡ G.image log.old }
     ensures reads { ReadsOnly (board_of G.LogBoard) log.old log.new }
     ensures step { steps.new ≡ steps.old + 1 }
@@ -41,8 +40,7 @@ pub(crate) fn read_entries<G: LogBoard<L>, L: Ledger>(
 ) -> Result<[Option<Entry>; SLOTS], ScanFault>
     ensures entries { G.tells_image → IfOk result (AreEntries (G.image log.old)) }
     ensures bad { (slot : ℕ) → result ≡ Err (BadSlot slot) → G.tells_image → IsLowestBad (G.image log.old) slot }
-    ensures failed { result ≡ Err DeviceFailed → Rose (G.faults log.old) (G.faults log.new) }
-    ensures later { G.faults log.old ≤ G.faults log.new }
+    ensures cause { RisesOnlyIf (result ≡ Err DeviceFailed) (G.faults log.old) (G.faults log.new) }
     ensures image { G.image log.new ≡ G.image log.old }
     ensures reads { ReadsOnly (board_of G.LogBoard) log.old log.new }
     ensures steps { steps.new ≤ steps.old + 256 }

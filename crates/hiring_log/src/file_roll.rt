@@ -1,8 +1,8 @@
 //! Files the receipts of a roll.
 ghost use Rattle.std.specs.Prelude.{◌≡◌, ◌≢◌, ℕ, ◌≤◌, Ok, IfOk, OnOk, OnErr};
-ghost use Rattle.outside.specs.Faults.{HasCause, Rose};
+ghost use Rattle.outside.specs.Faults.{HasCause, MayRise, Rose};
 ghost use Rattle.hiring_log.specs.Boards.{board_of};
-ghost use Rattle.hiring_log.specs.Filings.{FailsInRoll, FilesRoll, IsLast};
+ghost use Rattle.hiring_log.specs.Filings.{FailsInRoll, FilesRoll, IsLast, MayHaveFailed};
 
 use crate::filing::Filing;
 use crate::log_board::LogBoard;
@@ -58,7 +58,8 @@ pub(crate) fn file_roll<F: Files, G: LogBoard<L>, L: Ledger>(
     ensures cause { HasCause (G.faults log.old) (G.faults log.new) result }
     ensures read_fault { result ≡ Ok FileEnd.ReadFault → Rose (F.faults files.old word) (F.faults files.new word) }
     ensures others { (other : ℕ) → other ≢ word → F.rest files.new other ≡ F.rest files.old other }
-    ensures counts { (other : ℕ) → F.faults files.old other ≤ F.faults files.new other }
+    ensures counts { (other : ℕ)
+        → MayRise (MayHaveFailed result) (F.faults files.old other) (F.faults files.new other) }
 {
     let mut roll = Roll::new();
     let mut seen = 0;

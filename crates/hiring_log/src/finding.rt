@@ -1,6 +1,6 @@
 //! The end of the log, found by a scan.
-ghost use Rattle.std.specs.Prelude.{◌≡◌, ◌≢◌, ℕ, ◌+◌, ◌≤◌, List, Some, IfOk, IfSome, Err};
-ghost use Rattle.outside.specs.Faults.{Rose};
+ghost use Rattle.std.specs.Prelude.{◌≡◌, ◌≢◌, ◌↔◌, ℕ, ◌+◌, ◌≤◌, List, Some, IfOk, IfSome, Err};
+ghost use Rattle.outside.specs.Faults.{RisesOnlyIf};
 ghost use Rattle.slot_store.specs.Syncs.{IsAsHeld, LeavesFromSync, ReadsOnly};
 ghost use Rattle.hiring_log.specs.Appends.{IsStill};
 ghost use Rattle.hiring_log.specs.Boards.{board_of};
@@ -47,8 +47,7 @@ fn read_newest<G: LogBoard<L>, L: Ledger>(
         → IfOk result (λ newest. newest_of records ≡ newest) }
     ensures bad { (slot : ℕ) → result ≡ Err (BadSlot slot) → G.tells_image → ¬ StandsAt (G.image log.old) last }
     ensures last { IfOk result (IsLast last) }
-    ensures failed { result ≡ Err DeviceFailed → Rose (G.faults log.old) (G.faults log.new) }
-    ensures later { G.faults log.old ≤ G.faults log.new }
+    ensures cause { RisesOnlyIf (result ≡ Err DeviceFailed) (G.faults log.old) (G.faults log.new) }
     ensures image { G.image log.new ≡ G.image log.old }
     ensures reads { ReadsOnly (board_of G.LogBoard) log.old log.new }
     ensures step { steps.new ≤ steps.old + 1 }
@@ -89,7 +88,7 @@ impl From<Failed> for FindFault {
 fn fault_of(fault: ScanFault) -> FindFault
     ensures bad { (slot : ℕ) → result ≡ FindFault.BadSlot slot → fault ≡ BadSlot slot }
     ensures whole { ¬ (result ≡ Broken) }
-    ensures failed { result ≡ LogFault → fault ≡ DeviceFailed }
+    ensures failed { (result ≡ LogFault) ↔ (fault ≡ DeviceFailed) }
 {
     match fault {
         ScanFault::BadSlot(slot) => FindFault::BadSlot(slot),
@@ -110,8 +109,7 @@ fn tail_of<G: LogBoard<L>, L: Ledger>(
         → ¬ AreEntries (G.image log.old) entries.now }
     ensures broken { result ≡ Err Broken → (image : List ℕ) → AreEntries image entries.now → IsBroken image }
     ensures last { IfOk result (λ tail. IsLast tail.last tail.newest × (tail.filed ≡ 0)) }
-    ensures failed { result ≡ Err LogFault → Rose (G.faults log.old) (G.faults log.new) }
-    ensures later { G.faults log.old ≤ G.faults log.new }
+    ensures cause { RisesOnlyIf (result ≡ Err LogFault) (G.faults log.old) (G.faults log.new) }
     ensures image { G.image log.new ≡ G.image log.old }
     ensures reads { ReadsOnly (board_of G.LogBoard) log.old log.new }
     ensures steps { steps.new ≤ steps.old + 1 }
@@ -146,8 +144,7 @@ pub(crate) fn find_tail<G: LogBoard<L>, L: Ledger>(
         → IsLowestBad (G.image log.old) slot }
     ensures broken { result ≡ Err Broken → G.tells_image → IsBroken (G.image log.old) }
     ensures last { IfOk result (λ tail. IsLast tail.last tail.newest × (tail.filed ≡ 0)) }
-    ensures failed { result ≡ Err LogFault → Rose (G.faults log.old) (G.faults log.new) }
-    ensures later { G.faults log.old ≤ G.faults log.new }
+    ensures cause { RisesOnlyIf (result ≡ Err LogFault) (G.faults log.old) (G.faults log.new) }
     ensures synced { G.tells_image → LeavesFromSync (board_of G.LogBoard) (result ≡ Err LogFault)
         log.old log.new (IsAsHeld (board_of G.LogBoard) log.old) }
     ensures reads { ReadsOnly (board_of G.LogBoard) log.old log.new }

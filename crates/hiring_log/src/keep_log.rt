@@ -1,9 +1,9 @@
 //! The top call: words in, a status out.
 ghost use Rattle.std.specs.Prelude.{◌≡◌, ◌≢◌, ◌⊎◌, ℕ, ◌+◌, ◌<◌, ◌≤◌, List, [], length, true, false, Some, map, string_bytes};
-ghost use Rattle.outside.specs.Faults.{Rose};
+ghost use Rattle.outside.specs.Faults.{MayRise, RisesOnlyIf, Rose};
 ghost use Rattle.outside.specs.Runs.{KeepsStore};
 ghost use Rattle.hiring_log.specs.Boards.{board_of};
-ghost use Rattle.hiring_log.specs.Calls.{AppendsNothing, AreFew, IsCall, IsFit, MayHave, OnlyLooks, WritesNothing, known_of};
+ghost use Rattle.hiring_log.specs.Calls.{AppendsNothing, AreFew, IsCall, IsFit, MayHave, MayHaveReadFault, OnlyLooks, WritesNothing, known_of};
 ghost use Rattle.hiring_log.specs.Comes.{Comes, IsTold};
 ghost use Rattle.hiring_log.specs.Endings.{filing_end, line_of, status_of, unread_end};
 ghost use Rattle.hiring_log.specs.FilingEnds.{newest_of};
@@ -55,9 +55,10 @@ fn file<F: Files, G: LogBoard<L>, L: Ledger>(
     ensures comes { F.tells → G.tells_image → Comes F.Files (board_of G.LogBoard) (Some Call.File)
         files.old files.new log.old log.new steps.old steps.new result }
     ensures read_fault { result ≡ Ended.ReadFault → Rose (F.faults files.old 1) (F.faults files.new 1) }
-    ensures board_fault { result ≡ Ended.BoardFault → Rose (G.faults log.old) (G.faults log.new) }
+    ensures reads { (word : ℕ) → MayRise (MayHaveReadFault (status_of result))
+        (F.faults files.old word) (F.faults files.new word) }
+    ensures board_fault { RisesOnlyIf (result ≡ Ended.BoardFault) (G.faults log.old) (G.faults log.new) }
     ensures has { MayHave (Some Call.File) (status_of result) }
-    ensures later { G.faults log.old ≤ G.faults log.new }
     ensures looks { WritesNothing (Some Call.File) (status_of result)
         → OnlyLooks (board_of G.LogBoard) log.old log.new (status_of result) }
     ensures untaken { WritesNothing (Some Call.File) (status_of result) → files.new ≡ files.old }
@@ -95,9 +96,8 @@ fn show<F: Files, G: LogBoard<L>, L: Ledger>(files: &F, log: &mut G, steps: &mut
     ensures comes { G.tells_image → Comes F.Files (board_of G.LogBoard) (Some Call.Show)
         files.now files.now log.old log.new steps.old steps.new result }
     ensures unread { result ≢ Ended.ReadFault }
-    ensures board_fault { result ≡ Ended.BoardFault → Rose (G.faults log.old) (G.faults log.new) }
+    ensures board_fault { RisesOnlyIf (result ≡ Ended.BoardFault) (G.faults log.old) (G.faults log.new) }
     ensures has { MayHave (Some Call.Show) (status_of result) }
-    ensures later { G.faults log.old ≤ G.faults log.new }
     ensures looks { OnlyLooks (board_of G.LogBoard) log.old log.new (status_of result) }
     ensures steps { steps.new ≤ steps.old + 770 }
 {
@@ -122,9 +122,10 @@ fn carry_out<F: Files, G: LogBoard<L>, L: Ledger>(
     ensures comes { known_of call F.tells G.tells_image → Comes F.Files (board_of G.LogBoard) call
         files.old files.new log.old log.new steps.old steps.new result }
     ensures read_fault { result ≡ Ended.ReadFault → Rose (F.faults files.old 1) (F.faults files.new 1) }
-    ensures board_fault { result ≡ Ended.BoardFault → Rose (G.faults log.old) (G.faults log.new) }
+    ensures reads { (word : ℕ) → MayRise (MayHaveReadFault (status_of result))
+        (F.faults files.old word) (F.faults files.new word) }
+    ensures board_fault { RisesOnlyIf (result ≡ Ended.BoardFault) (G.faults log.old) (G.faults log.new) }
     ensures has { MayHave call (status_of result) }
-    ensures later { G.faults log.old ≤ G.faults log.new }
     ensures looks { WritesNothing call (status_of result)
         → OnlyLooks (board_of G.LogBoard) log.old log.new (status_of result) }
     ensures untaken { WritesNothing call (status_of result) → files.new ≡ files.old }
@@ -143,7 +144,7 @@ fn finish<G: LogBoard<L>, L: Ledger>(ended: Ended, log: &mut G, steps: &mut Step
     ensures told { IsTold (board_of G.LogBoard) ended log.old log.new result }
     ensures silent { line_of ended ≡ [] → (log.new ≡ log.old) × (result ≡ status_of ended) }
     ensures keeps { KeepsStore (board_of G.LogBoard) log.old log.new }
-    ensures later { G.faults log.old ≤ G.faults log.new }
+    ensures cause { ended ≢ Ended.BoardFault → RisesOnlyIf (result ≡ 8) (G.faults log.old) (G.faults log.new) }
     ensures steps { steps.new ≤ steps.old + 1 }
 {
     let line = last_line(ended);
@@ -173,7 +174,7 @@ fn finish<G: LogBoard<L>, L: Ledger>(ended: Ended, log: &mut G, steps: &mut Step
 /// | 4 | `OTHER TAXI j` | exactly: the roll's receipt j is the first of another taxi; those before it are filed |
 /// | 5 | `ROLL TOO LONG` | exactly: 2^40 bytes of the roll were taken, and its end wasn't told; but 4 comes first |
 /// | 7 | `READ FAULT` | only where the roll's count of faults rose; what was taken is filed |
-/// | 8 | none | only where the board's count of faults rose |
+/// | 8 | none | exactly: the board's count of faults rose |
 ///
 /// The words are looked at before the log, and the log before the roll. Where a receipt in 2^40 bytes of the roll
 /// is of another taxi, the last in them too, the status is 4. The words, the statuses and the lines are this
@@ -203,10 +204,13 @@ pub fn keep_log<F: Files, G: LogBoard<L>, L: Ledger>(
         → ¬ Rose (F.faults files.old 1) (F.faults files.new 1) → ¬ Rose (G.faults log.old) (G.faults log.new)
         → result ≡ 0 }
 
-    // Each status is one of the command's, and each of the faults of the outside has its cause, whatever is told.
+    // Each status is one of the command's, whatever is told. The board's count of faults rose by one at 8, and else
+    // stayed. That of the roll rose by one at 7; no word's rose at a status but 4, 7 and 8, and none by more than one.
     ensures has { MayHave (call_of (map string_bytes words.now)) result }
     ensures read_fault { result ≡ 7 → Rose (F.faults files.old 1) (F.faults files.new 1) }
-    ensures board_fault { result ≡ 8 → Rose (G.faults log.old) (G.faults log.new) }
+    ensures reads { (word : ℕ)
+        → MayRise (MayHaveReadFault result) (F.faults files.old word) (F.faults files.new word) }
+    ensures board_fault { RisesOnlyIf (result ≡ 8) (G.faults log.old) (G.faults log.new) }
 
     // `show` and a call with refused words or a refused log write nothing, and take nothing of the roll.
     ensures looks { WritesNothing (call_of (map string_bytes words.now)) result

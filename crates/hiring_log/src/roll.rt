@@ -1,8 +1,8 @@
 //! Reads the receipts of a roll from its file, piece by piece.
-ghost use Rattle.std.specs.Prelude.{◌≡◌, ◌≢◌, ℕ, ◌+◌, ◌-◌, ◌<◌, ◌≤◌, ◌++◌, [], ◌∷◌, List, length, take, drop, true, is_some, None, Some, Ok, Err, IfOk, IfErr, OnErr, OnOk, IfSome, IfNone, option_to_list};
-ghost use Rattle.outside.specs.Faults.{HasCause, Rose};
+ghost use Rattle.std.specs.Prelude.{◌≡◌, ◌≢◌, ℕ, ◌+◌, ◌-◌, ◌<◌, ◌≤◌, ◌++◌, [], ◌∷◌, List, length, take, drop, true, is_some, None, Some, Ok, Err, IsErr, IfOk, IfErr, OnErr, OnOk, IfSome, IfNone, option_to_list};
+ghost use Rattle.outside.specs.Faults.{HasCause, MayRise, RisesOnlyIf};
 ghost use Rattle.hiring_log.specs.declared.roll.RollEnd.{RollEnd};
-ghost use Rattle.hiring_log.specs.Reading.{GoesOn, HasRead, IsOver, roll_limit};
+ghost use Rattle.hiring_log.specs.Reading.{FailsNow, GoesOn, HasRead, IsOver, roll_limit};
 ghost use Rattle.hiring_log.specs.Record.{IsRecord};
 
 use crate::log_record::LogRecord;
@@ -70,10 +70,12 @@ impl Roll {
 
     /// The next receipt of the roll, wherever it begins: a text that is torn keeps nothing that follows it
     /// from being found. Where no more of the roll is read it looks through all that was taken, and then
-    /// answers why: each later call answers the same.
+    /// answers why: each later call answers the same. From then on nothing is read any more, so no read
+    /// stands behind one that failed.
     ///
     /// `Whole` at the end of the file. `TooLong` where 2^40 bytes were taken and the end wasn't told.
-    /// `ReadFault` only where the word's count of faults rose. The limit is this project's own.
+    /// `ReadFault` where a read failed, which raises the word's count of faults; a call before that answer
+    /// may have come to it, and then handed out a receipt. The limit is this project's own.
     pub fn next<F: Files>(&mut self, files: &mut F, word: usize) -> Result<LogRecord, RollEnd>
         ensures record { IfOk result IsRecord }
         ensures found { F.tells
@@ -84,10 +86,11 @@ impl Roll {
         ensures again { (end : RollEnd) → IsOver self.old end
             → (result ≡ Err end) × (self.new ≡ self.old) × (files.new ≡ files.old) }
         ensures fewer { OnOk result (length self.new.ahead + self.new.left < length self.old.ahead + self.old.left) }
-        ensures fault { self.new.end ≡ Some RollEnd.ReadFault → self.old.end ≢ Some RollEnd.ReadFault
-            → Rose (F.faults files.old word) (F.faults files.new word) }
+        ensures stays { (end : RollEnd) → self.old.end ≡ Some end → (self.new.end ≡ Some end) × (files.new ≡ files.old) }
+        ensures fault { RisesOnlyIf (FailsNow self.old self.new) (F.faults files.old word) (F.faults files.new word) }
         ensures others { (other : ℕ) → other ≢ word → F.rest files.new other ≡ F.rest files.old other }
-        ensures counts { (other : ℕ) → F.faults files.old other ≤ F.faults files.new other }
+        ensures counts { (other : ℕ)
+            → MayRise (FailsNow self.old self.new) (F.faults files.old other) (F.faults files.new other) }
     {
         loop {
             if let Some(record) = self.find() {
@@ -125,10 +128,11 @@ impl Roll {
         ensures goes { F.tells → GoesOn self.old self.new (F.rest files.old word) (F.rest files.new word) [] }
         ensures fewer { self.new.end ≡ None → self.new.left < self.old.left }
         ensures most { length self.new.ahead + self.new.left ≤ length self.old.ahead + self.old.left }
-        ensures fault { self.new.end ≡ Some RollEnd.ReadFault
-            → Rose (F.faults files.old word) (F.faults files.new word) }
+        ensures fault { RisesOnlyIf (self.new.end ≡ Some RollEnd.ReadFault)
+            (F.faults files.old word) (F.faults files.new word) }
         ensures others { (other : ℕ) → other ≢ word → F.rest files.new other ≡ F.rest files.old other }
-        ensures counts { (other : ℕ) → F.faults files.old other ≤ F.faults files.new other }
+        ensures counts { (other : ℕ) → MayRise (self.new.end ≡ Some RollEnd.ReadFault)
+            (F.faults files.old other) (F.faults files.new other) }
     {
         if self.left == 0 {
             self.end = Some(RollEnd::TooLong);
@@ -181,7 +185,7 @@ fn read_behind<F: Files>(
     ensures same { F.tells → OnErr result (F.rest files.new word ≡ F.rest files.old word) }
     ensures others { (other : ℕ) → other ≢ word → F.rest files.new other ≡ F.rest files.old other }
     ensures cause { HasCause (F.faults files.old word) (F.faults files.new word) result }
-    ensures counts { (other : ℕ) → F.faults files.old other ≤ F.faults files.new other }
+    ensures counts { (other : ℕ) → MayRise (IsErr result) (F.faults files.old other) (F.faults files.new other) }
 {
     files.read(word, &mut window[kept..kept + most])
 }

@@ -1,4 +1,4 @@
-use Rattle.std.proofs.Common.{inl, inr, ⊎_elim, ℕ, ◌+◌, List, sym, subst, arith, nat_lt}
+use Rattle.std.proofs.Common.{inl, inr, ⊎_elim, ℕ, ◌+◌, List, refl, sym, ◌∙◌, subst, nat_lt}
 use Rattle.std.proofs.lemmas.Result.{on_ok_weaker}
 use Rattle.outside.proofs.Laws.{leaves_then, leaves_wider}
 use Rattle.hiring_log.specs.Record.{Record}
@@ -23,7 +23,8 @@ returns-in_err-write_body-clause-any_moment g c told records ready rise =
     (leaves_wider (board_of g.G.LogBoard) _ step _ _ (λ image text stands. inl (inr stands)) (c.write_body.ensures.any_moment told (last_ones 255 records) shut))
 
 pub returns-in_err-write_body-clause-cause : goal.returns-in_err-write_body-clause-cause
-returns-in_err-write_body-clause-cause g c = err_later _ _ _ c.shut_gate.ensures.cause.later c.in_err-write_body.ensures.cause _
+returns-in_err-write_body-clause-cause g c =
+    err_later _ _ _ _ (c.in_ok-shut_gate.ensures.cause.kept refl) c.in_err-write_body.ensures.cause c.from_residual-in_err-write_body.result c.from_residual-in_err-write_body.ensures.1
 
 pub returns-clause-any_moment : goal.returns-clause-any_moment
 returns-clause-any_moment g c told records ready rise =
@@ -46,4 +47,5 @@ returns-clause-ready g c told = on_ok_weaker c.open_gate.result (λ opens record
     (c.open_gate.ensures.ready told)
 
 pub returns-clause-cause : goal.returns-clause-cause
-returns-clause-cause g c = cause_later _ _ _ (omega (arith, c.shut_gate.ensures.cause.later, c.write_body.ensures.cause.later)) _ c.open_gate.ensures.cause
+returns-clause-cause g c =
+    cause_later _ _ _ (c.in_ok-write_body.ensures.cause.kept refl ∙ c.in_ok-shut_gate.ensures.cause.kept refl) _ c.open_gate.ensures.cause

@@ -5,7 +5,8 @@ use Rattle.hiring_log.specs.Boards.{board_of}
 use Rattle.hiring_log.proofs.Readings.{reads_none, reads_then}
 use Rattle.hiring_log.proofs.Scans.{entries_more, err_same, lowest_told}
 use Rattle.hiring_log.specs.LogScan.{IsEntry}
-use Rattle.hiring_log.specs.declared.scanning.ScanFault.TheVariants.{BadSlot}
+use Rattle.hiring_log.specs.declared.scanning.ScanFault.TheVariants.{BadSlot, DeviceFailed}
+use Rattle.hiring_log.proofs.Causes.{rises_later, rises_ok, rises_passed}
 use Rattle.hiring_log.proofs.entries.read_entries.Goals as goal
 
 pub loop-slot-init : goal.loop-slot-init
@@ -14,7 +15,7 @@ loop-slot-init g c = record {
   entries = λ told slot small. absurd (omega (arith, small));
   image = refl;
   reads = reads_none (board_of g.G.LogBoard) c.args.log.now (g.met.G.LogBoard.only_now c.args.log.now);
-  later = omega arith;
+  faults = refl;
   steps = omega arith;
 }
 
@@ -25,6 +26,12 @@ returns-in_err-entries-clause-bad g c =
     let bad = c.in_err-entries.ensures.bad slot (err_same _ _ c.in_err-entries.field-0.0 (BadSlot slot) err) in
     lowest_told _ _ slot c.loop-slot.slot c.loop-slot.entries bad.0 c.loop-slot-test.true c.loop-slot.invariant.image (bad.1 told) (c.loop-slot.invariant.entries told))
 
+pub returns-in_err-entries-clause-cause : goal.returns-in_err-entries-clause-cause
+returns-in_err-entries-clause-cause g c =
+    let p = err_from_is_err_and c.from_residual.result c.from_residual.ensures.1 in
+    rises_later _ (g.G.LogBoard.faults c.loop-slot.log) _ c.loop-slot.invariant.faults
+    (rises_passed _ _ c.read_entry.result c.from_residual.result c.in_err-entries.field-0.0 DeviceFailed c.in_err-entries.was (rw (p.1, p.2)) c.read_entry.ensures.cause)
+
 pub loop-slot-preserved : goal.loop-slot-preserved
 loop-slot-preserved g c =
     record {
@@ -33,6 +40,6 @@ loop-slot-preserved g c =
           (subst (λ (i : List ℕ). IsEntry i c.loop-slot.slot c.in_ok-entries.field-0) c.loop-slot.invariant.image (c.in_ok-entries.ensures.entry told)) slot small;
       image = c.read_entry.ensures.image ∙ c.loop-slot.invariant.image;
       reads = reads_then (board_of g.G.LogBoard) _ _ _ c.loop-slot.invariant.reads c.loop-slot.invariant.image c.read_entry.ensures.reads;
-      later = omega (arith, c.loop-slot.invariant.later, c.read_entry.ensures.later);
+      faults = rises_ok _ _ c.read_entry.result c.in_ok-entries.field-0 DeviceFailed c.in_ok-entries.was c.read_entry.ensures.cause ∙ c.loop-slot.invariant.faults;
       steps = omega (arith, c.loop-slot.invariant.steps, c.read_entry.ensures.step);
     }

@@ -11,6 +11,6 @@ invariant-loop-slot g l = record {
   entries : g.G.LogBoard.tells_image → (slot : ℕ) → slot < l.slot → IsEntry (g.G.LogBoard.image l.fn.log) slot (get_or l.entries slot None);
   image : g.G.LogBoard.image l.log ≡ g.G.LogBoard.image l.fn.log;
   reads : ReadsOnly (board_of g.G.LogBoard) l.fn.log l.log;
-  later : g.G.LogBoard.faults l.fn.log ≤ g.G.LogBoard.faults l.log;
+  faults : g.G.LogBoard.faults l.log ≡ g.G.LogBoard.faults l.fn.log;
   steps : l.steps ≤ l.fn.steps + l.slot;
 }

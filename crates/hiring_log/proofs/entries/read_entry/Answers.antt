@@ -1,3 +1,4 @@
+use Rattle.std.proofs.Common.{refl}
 use Rattle.hiring_log.proofs.Scans.{bad_is, entry_told, not_failed}
 use Rattle.hiring_log.proofs.entries.read_entry.Goals as goal
 
@@ -8,5 +9,8 @@ pub returns-clause-bad : goal.returns-clause-bad
 returns-clause-bad g c other err =
     bad_is (g.G.LogBoard.image c.args.log.now) c.args.slot other g.G.LogBoard.tells_image c.in_ok-content.content c.entry_of.result c.in_ok-content.ensures.content c.entry_of.ensures err
 
-pub returns-clause-failed : goal.returns-clause-failed
-returns-clause-failed g c err = absurd (not_failed c.args.slot c.in_ok-content.content c.entry_of.result c.entry_of.ensures err)
+pub returns-clause-cause : goal.returns-clause-cause
+returns-clause-cause g c = record {
+  kept = λ _. c.in_ok-content.ensures.cause.kept refl;
+  rose = λ err. absurd (not_failed c.args.slot c.in_ok-content.content c.entry_of.result c.entry_of.ensures err);
+}

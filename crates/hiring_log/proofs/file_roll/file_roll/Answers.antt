@@ -1,7 +1,8 @@
 use Rattle.std.proofs.Common.{[], Ok, refl, ap, ◌∙◌, arith}
 use Rattle.hiring_log.specs.Boards.{board_of}
-use Rattle.hiring_log.proofs.Causes.{err_later}
-use Rattle.hiring_log.proofs.RollFilings.{err_says, filing_by, filing_fails, filing_on, filing_other_now, filing_over, rose_since}
+use Rattle.hiring_log.specs.declared.roll.RollEnd.TheVariants.{ReadFault}
+use Rattle.hiring_log.proofs.Causes.{cause_ok, err_later, may_none, may_rise_for, rises_none}
+use Rattle.hiring_log.proofs.RollFilings.{counts_over, err_says, failed_err, fault_over, filing_by, filing_fails, filing_on, filing_other_now, filing_over, may_since, rises_since, same_end}
 use Rattle.hiring_log.proofs.Tails.{files_none}
 use Rattle.hiring_log.proofs.file_roll.file_roll.Goals as goal
 
@@ -19,10 +20,10 @@ loop-end-init g c = record {
   filed = omega (arith, c.requires.none);
   most = omega (arith, c.new-roll.ensures.most);
   text = refl;
-  faults = omega arith;
-  fault = λ is. let going = c.new-roll.ensures.going in absurd cc;
+  faults = refl;
+  fault = rises_none (g.F.Files.faults c.args.files.now c.args.word) (λ is. let going = c.new-roll.ensures.going in absurd cc);
   others = λ other ne. refl;
-  counts = λ other. omega arith;
+  counts = λ other. may_none (g.F.Files.faults c.args.files.now other);
 }
 
 pub returns-in-Err-clause-ok : goal.returns-in-Err-clause-ok
@@ -39,7 +40,8 @@ returns-in_err-file_one-in-Ok-clause-failed g c =
     c.in-Ok.receipt c.loop-end.invariant.filing c.in-Ok.ensures.found failed.0 failed.1 c.file_one.ensures.steps)
 
 pub returns-in_err-file_one-in-Ok-clause-cause : goal.returns-in_err-file_one-in-Ok-clause-cause
-returns-in_err-file_one-in-Ok-clause-cause g c = err_later _ (g.G.LogBoard.faults c.loop-end.log) _ c.loop-end.invariant.faults c.in_err-file_one-in-Ok.ensures.cause _
+returns-in_err-file_one-in-Ok-clause-cause g c =
+    err_later _ _ (g.G.LogBoard.faults c.loop-end.log) _ c.loop-end.invariant.faults c.in_err-file_one-in-Ok.ensures.cause c.from_residual.result c.from_residual.ensures.1
 
 pub returns-in-OtherTaxi-clause-ok : goal.returns-in-OtherTaxi-clause-ok
 returns-in-OtherTaxi-clause-ok g c =
@@ -49,16 +51,39 @@ returns-in-OtherTaxi-clause-ok g c =
     c.in-Ok.receipt c.loop-end.invariant.filing c.in-Ok.ensures.found other.0 other.1 other.2 other.3
 
 pub returns-in-OtherTaxi-clause-cause : goal.returns-in-OtherTaxi-clause-cause
-returns-in-OtherTaxi-clause-cause g c = record {
-  later = omega (arith, c.loop-end.invariant.faults, c.file_one.ensures.cause.later);
-  failed = λ no. absurd cc;
-}
+returns-in-OtherTaxi-clause-cause g c =
+    cause_ok _ _ _ (c.in_ok-file_one-in-Ok.ensures.cause.kept refl ∙ c.loop-end.invariant.faults)
+
+pub returns-in-Err-clause-cause : goal.returns-in-Err-clause-cause
+returns-in-Err-clause-cause g c = cause_ok _ _ _ c.loop-end.invariant.faults
+
+-- ---- the counts of the files
+
+pub returns-in-Err-clause-read_fault : goal.returns-in-Err-clause-read_fault
+returns-in-Err-clause-read_fault g c = λ is.
+    fault_over (board_of g.G.LogBoard) g.G.LogBoard.tells_image g.F.Files.tells c.in-Err.end c.next.new.self c.file_end.result c.loop-end.tail.filed _ _ c.in-Err.ensures.end.0
+    (c.file_end.ensures.whole, c.file_end.ensures.too_long, c.file_end.ensures.fault)
+    (rises_since c.loop-end.roll c.next.new.self _ (g.F.Files.faults c.loop-end.files c.args.word) _ (λ was. (c.next.ensures.stays ReadFault was).0) c.loop-end.invariant.fault c.next.ensures.fault)
+    (same_end _ _ is)
+
+pub returns-in-Err-clause-counts : goal.returns-in-Err-clause-counts
+returns-in-Err-clause-counts g c = λ other.
+    counts_over (board_of g.G.LogBoard) g.G.LogBoard.tells_image g.F.Files.tells c.in-Err.end c.next.new.self c.file_end.result c.loop-end.tail.filed _ _ c.in-Err.ensures.end.0
+    (c.file_end.ensures.whole, c.file_end.ensures.too_long, c.file_end.ensures.fault)
+    (may_since c.loop-end.roll c.next.new.self _ (g.F.Files.faults c.loop-end.files other) _ (λ was. (c.next.ensures.stays ReadFault was).0) (c.loop-end.invariant.counts other) (c.next.ensures.counts other))
+
+pub returns-in_err-file_one-in-Ok-clause-counts : goal.returns-in_err-file_one-in-Ok-clause-counts
+returns-in_err-file_one-in-Ok-clause-counts g c = λ other.
+    may_rise_for _ _ (λ _. failed_err _ c.from_residual.result c.from_residual.ensures.1)
+    (may_since c.loop-end.roll c.next.new.self _ (g.F.Files.faults c.loop-end.files other) _ (λ was. (c.next.ensures.stays ReadFault was).0) (c.loop-end.invariant.counts other) (c.next.ensures.counts other))
 
 pub returns-in-OtherTaxi-clause-others : goal.returns-in-OtherTaxi-clause-others
 returns-in-OtherTaxi-clause-others g c = λ other ne. c.next.ensures.others other ne ∙ c.loop-end.invariant.others other ne
 
 pub returns-in-OtherTaxi-clause-counts : goal.returns-in-OtherTaxi-clause-counts
-returns-in-OtherTaxi-clause-counts g c = λ other. omega (arith, c.next.ensures.counts other, c.loop-end.invariant.counts other)
+returns-in-OtherTaxi-clause-counts g c = λ other.
+    may_rise_for _ _ (λ _. tt)
+    (may_since c.loop-end.roll c.next.new.self _ (g.F.Files.faults c.loop-end.files other) _ (λ was. (c.next.ensures.stays ReadFault was).0) (c.loop-end.invariant.counts other) (c.next.ensures.counts other))
 
 pub loop-end-preserved : goal.loop-end-preserved
 loop-end-preserved g c = record {
@@ -71,8 +96,8 @@ loop-end-preserved g c = record {
   filed = omega (arith, c.in_ok-file_one-in-Ok.ensures.filed, c.loop-end.invariant.filed);
   most = omega (arith, c.in-Ok.ensures.fewer, c.loop-end.invariant.most);
   text = c.file_one.ensures.text ∙ c.loop-end.invariant.text;
-  faults = omega (arith, c.file_one.ensures.cause.later, c.loop-end.invariant.faults);
-  fault = λ is. rose_since c.loop-end.roll.end _ (g.F.Files.faults c.loop-end.files c.args.word) _ c.loop-end.invariant.fault (c.next.ensures.fault is) (c.loop-end.invariant.counts c.args.word) (c.next.ensures.counts c.args.word);
+  faults = c.in_ok-file_one-in-Ok.ensures.cause.kept refl ∙ c.loop-end.invariant.faults;
+  fault = rises_since c.loop-end.roll c.next.new.self _ (g.F.Files.faults c.loop-end.files c.args.word) _ (λ was. (c.next.ensures.stays ReadFault was).0) c.loop-end.invariant.fault c.next.ensures.fault;
   others = λ other ne. c.next.ensures.others other ne ∙ c.loop-end.invariant.others other ne;
-  counts = λ other. omega (arith, c.next.ensures.counts other, c.loop-end.invariant.counts other);
+  counts = λ other. may_since c.loop-end.roll c.next.new.self _ (g.F.Files.faults c.loop-end.files other) _ (λ was. (c.next.ensures.stays ReadFault was).0) (c.loop-end.invariant.counts other) (c.next.ensures.counts other);
 }

@@ -1,5 +1,5 @@
 use Rattle.std.proofs.Common.{◌≡◌, ◌≢◌, ℕ, ◌+◌, ◌≤◌, length, Some}
-use Rattle.outside.specs.Faults.{Rose}
+use Rattle.outside.specs.Faults.{MayRise, RisesOnlyIf}
 use Rattle.hiring_log.specs.Boards.{board_of}
 use Rattle.hiring_log.specs.Filings.{IsFiling, IsLast}
 use Rattle.hiring_log.specs.Reading.{roll_limit}
@@ -14,10 +14,10 @@ invariant-loop-end g l = record {
   filed : l.tail.filed ≤ l.seen;
   most : l.seen + (length l.roll.ahead + l.roll.left) ≤ roll_limit;
   text : g.G.LogBoard.printed l.log ≡ g.G.LogBoard.printed l.fn.log;
-  faults : g.G.LogBoard.faults l.fn.log ≤ g.G.LogBoard.faults l.log;
-  fault : l.roll.end ≡ Some ReadFault → Rose (g.F.Files.faults l.fn.files l.word) (g.F.Files.faults l.files l.word);
+  faults : g.G.LogBoard.faults l.log ≡ g.G.LogBoard.faults l.fn.log;
+  fault : RisesOnlyIf (l.roll.end ≡ Some ReadFault) (g.F.Files.faults l.fn.files l.word) (g.F.Files.faults l.files l.word);
   others : (other : ℕ) → other ≢ l.word → g.F.Files.rest l.files other ≡ g.F.Files.rest l.fn.files other;
-  counts : (other : ℕ) → g.F.Files.faults l.fn.files other ≤ g.F.Files.faults l.files other;
+  counts : (other : ℕ) → MayRise (l.roll.end ≡ Some ReadFault) (g.F.Files.faults l.fn.files other) (g.F.Files.faults l.files other);
 }
 
 abbrev pub decreases-loop-end : goal.decreases-loop-end

@@ -1,4 +1,4 @@
-use Rattle.std.proofs.Common.{◌≡◌, sym, ◌∙◌, arith, Option, Some, None}
+use Rattle.std.proofs.Common.{◌≡◌, refl, sym, ◌∙◌, arith, Option, Some, None}
 use Rattle.hiring_log.specs.Record.{Record}
 use Rattle.hiring_log.proofs.NewestFound.{newest_told, none_newest}
 use Rattle.hiring_log.proofs.finding.read_newest.Goals as goal
@@ -16,3 +16,6 @@ returns-in-None-clause-bad g c slot err told = λ stands.
     let it = newest_told (g.G.LogBoard.image c.args.log.now) c.args.last stands.0 (omega (arith, c.if-last-eq0.false)) stands.1 c.in_ok-content.content (c.in_ok-content.ensures.content told) in
     let none : ◌≡◌ {A = Option Record} None (Some it.0) = c.in-None.ensures.record it.0 it.1 in
     absurd cc
+
+pub returns-in-Some-clause-cause : goal.returns-in-Some-clause-cause
+returns-in-Some-clause-cause g c = record { kept = λ _. c.in_ok-content.ensures.cause.kept refl; rose = λ e. absurd cc }

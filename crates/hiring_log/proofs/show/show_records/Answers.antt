@@ -1,4 +1,4 @@
-use Rattle.std.proofs.Common.{ℕ, ◌+◌, List, sym, subst, arith}
+use Rattle.std.proofs.Common.{ℕ, ◌+◌, List, refl, sym, ◌∙◌, subst, arith}
 use Rattle.outside.proofs.Laws.{keeps_then}
 use Rattle.hiring_log.specs.Boards.{board_of}
 use Rattle.hiring_log.specs.Slots.{Holds, slot_of}
@@ -20,6 +20,6 @@ loop-more-preserved g c = record {
       let holds = subst (λ (i : List ℕ). Holds i (slot_of (c.args.first + k)) (c.args.first + k) there.0) (sym c.loop-more.invariant.keeps.same) there.1 in
       shown_more _ (g.G.LogBoard.printed c.loop-more.log) _ records k there.0.text (c.loop-more.invariant.so_far image text records held is) there.2 (c.in_ok-show_one.ensures.shown image text there.0 holds);
   keeps = keeps_then (board_of g.G.LogBoard) c.args.log.now c.loop-more.log c.show_one.new.log c.loop-more.invariant.keeps c.show_one.ensures.keeps;
-  faults = omega (arith, c.show_one.ensures.cause.later, c.loop-more.invariant.faults);
+  faults = c.in_ok-show_one.ensures.cause.kept refl ∙ c.loop-more.invariant.faults;
   few = omega (arith, c.show_one.ensures.steps, c.loop-more.invariant.few);
 }

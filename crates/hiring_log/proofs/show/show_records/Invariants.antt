@@ -12,6 +12,6 @@ invariant-loop-more g l = record {
       → AreHeld (g.G.LogBoard.image l.fn.log) l.first records → length records ≡ l.count
       → g.G.LogBoard.printed l.log ≡ g.G.LogBoard.printed l.fn.log ++ texts_of (take l.more records);
   keeps : KeepsStore (board_of g.G.LogBoard) l.fn.log l.log;
-  faults : g.G.LogBoard.faults l.fn.log ≤ g.G.LogBoard.faults l.log;
+  faults : g.G.LogBoard.faults l.log ≡ g.G.LogBoard.faults l.fn.log;
   few : l.steps ≤ l.fn.steps + 2 * l.more;
 }

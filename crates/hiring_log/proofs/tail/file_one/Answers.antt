@@ -1,11 +1,12 @@
-use Rattle.std.proofs.Common.{refl, arith}
+use Rattle.std.proofs.Common.{refl}
 use Rattle.hiring_log.specs.Boards.{board_of}
 use Rattle.hiring_log.proofs.Causes.{err_later}
 use Rattle.hiring_log.proofs.Tails.{files_passed}
 use Rattle.hiring_log.proofs.tail.file_one.Goals as goal
 
 pub returns-in_err-append_one-in-Appended-clause-cause : goal.returns-in_err-append_one-in-Appended-clause-cause
-returns-in_err-append_one-in-Appended-clause-cause g c = err_later _ (g.G.LogBoard.faults c.args.log.now) _ (omega arith) c.in_err-append_one-in-Appended.ensures.cause _
+returns-in_err-append_one-in-Appended-clause-cause g c =
+    err_later _ _ (g.G.LogBoard.faults c.args.log.now) _ refl c.in_err-append_one-in-Appended.ensures.cause c.from_residual.result c.from_residual.ensures.1
 
 pub returns-in-Passed-clause-passed : goal.returns-in-Passed-clause-passed
 returns-in-Passed-clause-passed g c = λ is. (
