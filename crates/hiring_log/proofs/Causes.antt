@@ -1,7 +1,7 @@
 -- A count of faults over calls one after another.
-use Rattle.std.proofs.Common.{◌≡◌, ◌⊎◌, inl, inr, ℕ, Result, refl, ap, ◌∙◌, subst}
+use Rattle.std.proofs.Common.{◌≡◌, inl, ℕ, Result, refl, ap, ◌∙◌, subst}
 use Rattle.std.proofs.lemmas.Bool.{false≢true}
-use Rattle.std.specs.Prelude.{IsErr, IsErrAnd, is_err}
+use Rattle.std.specs.Prelude.{IsErrAnd, is_err}
 use Rattle.std.specs.declared.result.Result.TheVariants.{Ok, Err}
 use Rattle.outside.specs.Faults.{HasCause, MayRise, RisesOnlyIf, Rose}
 

@@ -100,8 +100,8 @@ fn open_gate<G: LogBoard<L>, L: Ledger>(
 /// Appends a record behind the newest, which is at this place in the log, and of which it is known whether
 /// the slot of the next place is open. Its number is greater than the newest's. At each moment a cut leaves
 /// a log that stands for the list before, or for it without its oldest where that one's slot is written
-/// again, or for the last 256 of the list with the new record. `Failed` comes only where the count of
-/// faults rose.
+/// again, or for the last 256 of the list with the new record. `Failed` comes exactly where the count
+/// of faults rose, which it does by one.
 pub(crate) fn append<G: LogBoard<L>, L: Ledger>(
     last: u64,
     is_open: bool,

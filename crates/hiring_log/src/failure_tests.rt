@@ -1,8 +1,8 @@
 //! Each failure of the outside in turn, at each place of a filing, over rolls and logs in memory.
 use crate::cut_tests::{DONE, Left, OPENED, SHUT, WRITTEN, goes_on, must_go_on};
 use crate::keep_log_tests::{
-    FILE, SHOW, called, failing, filed, filed_behind, filed_to, filing, image_of, is_end, must,
-    must_at, receipts, zeros,
+    FILE, OTHER, SHOW, called, failing, filed, filed_behind, filed_to, filing, image_of, is_end,
+    must, must_at, receipts, zeros,
 };
 use crate::memory_log::MemoryLog;
 use std::alloc::Global;
@@ -191,6 +191,23 @@ fn each_read_of_a_roll_fails(rt: HostRuntime) -> Result<(), Fail> {
     let last = last_of_five(rt.alloc(), &roll, &whole)?;
     must_at(last == 100, "another last receipt", last as u64)?;
     must_read_no_more(rt.alloc(), &roll)
+}
+
+/// A roll of receipt 2, the beginning of another, and the receipt of another taxi.
+fn with_another_taxi(alloc: Global) -> Result<Vec<u8>, Fail> {
+    let mut roll = receipts(alloc, 2, 2)?;
+    roll.extend_from_slice(b"RECEIPT 3\nKIND ")?;
+    roll.extend_from_slice(OTHER.as_bytes())?;
+    Ok(roll)
+}
+
+/// The read behind the receipt of another taxi fails, and that receipt is found after it, since the torn one might have
+/// gone on: the status is 4, and not 7.
+#[test]
+fn another_taxi_before_a_read_that_fails(rt: HostRuntime) -> Result<(), Fail> {
+    let roll = with_another_taxi(rt.alloc())?;
+    let ended = filing(rt.alloc(), &roll, &[2])?;
+    must(is_end(&ended, "OTHER TAXI 2\n", 4), "another end", "4")
 }
 
 /// Fails unless the first receipt of a beginning of a roll is filed alone, and the second by the whole roll.

@@ -132,8 +132,8 @@ fn tail_of<G: LogBoard<L>, L: Ledger>(
 /// The end of the log, by one sync and then a scan: the list that it stands for is the one that its image
 /// stands for at the call's start. `BadSlot` names the lowest slot that is open and holds no record at a
 /// place whose slot it is, and else `Broken` comes where the log stands for no list. Nothing is written:
-/// from the sync on a cut leaves what the log held before the call. `LogFault` comes only where the count
-/// of faults rose.
+/// from the sync on a cut leaves what the log held before the call. `LogFault` comes exactly where the
+/// count of faults rose, which it does by one.
 pub(crate) fn find_tail<G: LogBoard<L>, L: Ledger>(
     log: &mut G,
     steps: &mut Steps<L>,

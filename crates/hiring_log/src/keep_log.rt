@@ -177,8 +177,8 @@ fn finish<G: LogBoard<L>, L: Ledger>(ended: Ended, log: &mut G, steps: &mut Step
 /// | 8 | none | exactly: the board's count of faults rose |
 ///
 /// The words are looked at before the log, and the log before the roll. Where a receipt in 2^40 bytes of the roll
-/// is of another taxi, the last in them too, the status is 4. The words, the statuses and the lines are this
-/// project's own.
+/// is of another taxi, the last in them too, the status is 4, also if the read behind the bytes that were taken
+/// failed. The words, the statuses and the lines are this project's own.
 pub fn keep_log<F: Files, G: LogBoard<L>, L: Ledger>(
     words: &[String],
     files: &mut F,

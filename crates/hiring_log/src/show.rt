@@ -40,8 +40,8 @@ fn show_one<G: LogBoard<L>, L: Ledger>(
 }
 
 /// Prints the texts of a number of records of the log, which stand one after another from a place on. Nothing
-/// is written, and `Failed` comes only where the count of faults rose: a beginning of the texts is printed
-/// then.
+/// is written, and `Failed` comes exactly where the count of faults rose, by one: a beginning of the texts is
+/// printed then.
 pub(crate) fn show_records<G: LogBoard<L>, L: Ledger>(
     first: u64,
     count: u64,

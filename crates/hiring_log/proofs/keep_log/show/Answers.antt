@@ -1,4 +1,4 @@
-use Rattle.std.proofs.Common.{◌∙◌, Some, Err, refl, sym, ap, subst, arith}
+use Rattle.std.proofs.Common.{◌∙◌, Some, Err, refl, sym, ap, subst}
 use Rattle.std.specs.Prelude.{is_err}
 use Rattle.outside.specs.Faults.{Rose}
 use Rattle.slot_store.specs.Syncs.{IsAsHeld}
