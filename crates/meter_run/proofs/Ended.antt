@@ -1,5 +1,5 @@
 -- How a run ends, by what its drive came to.
-use Rattle.std.proofs.Common.{◌≡◌, ◌∙◌, Bool, true, false, ℕ, ◌≤◌, List, ◌++◌, length, Err, Result, sym, ap, subst}
+use Rattle.std.proofs.Common.{◌≡◌, ◌⊎◌, inl, inr, ◌∙◌, Bool, true, false, ℕ, ◌≤◌, List, ◌++◌, length, Ok, Err, IsErr, Result, sym, ap, subst}
 use Rattle.std.proofs.lemmas.List.{take_all}
 use Rattle.outside.specs.Printing.{Begins}
 use Rattle.taxi_units.specs.declared.event.Event.{Event}
@@ -24,6 +24,22 @@ fails fault = Err fault
 -- a fault of the board is no fault of a read
 pub board_only : fails faults.BoardFault ≡ fails faults.ReadFault → ⊥
 board_only same = absurd cc
+
+-- a run that no board broke off answers no fault of the board, and one of a read only if a read failed
+pub no_board_fault : (stop : Stop) (r : Result (Unit {0}) RunFault) → r ≡ answer_of stop → r ≡ Err faults.BoardFault → ⊥
+no_board_fault stops.Whole r is fault = absurd (let bad : Ok tt ≡ fails faults.BoardFault = sym is ∙ fault in cc)
+no_board_fault (stops.BadLine line) r is fault = absurd (let bad : fails (faults.BadDrive line) ≡ fails faults.BoardFault = sym is ∙ fault in cc)
+no_board_fault stops.TooLong r is fault = absurd (let bad : fails faults.TooLong ≡ fails faults.BoardFault = sym is ∙ fault in cc)
+no_board_fault stops.ReadFault r is fault = absurd (let bad : fails faults.ReadFault ≡ fails faults.BoardFault = sym is ∙ fault in cc)
+
+abbrev stopped : (F : Type 0) → Stop → Result Stop F
+stopped F stop = Ok stop
+
+pub read_failed : {F : Type 0} (stop : Stop) (r : Result (Unit {0}) RunFault) → r ≡ answer_of stop
+    → (stopped F stop ≡ stopped F stops.ReadFault) ⊎ IsErr (stopped F stop)
+    → (r ≡ Err faults.ReadFault) ⊎ (r ≡ Err faults.BoardFault)
+read_failed stop r is (inl same) = let stop_is : stop ≡ stops.ReadFault = cc in inl (is ∙ ap answer_of stop_is)
+read_failed stop r is (inr wrong) = absurd (let bad : false ≡ true = wrong in cc)
 
 -- the events of the bytes that were taken are all of those that they have
 pub events_taken : (taken : List ℕ) → length taken ≤ drive_limit → events_of taken ≡ events_in taken

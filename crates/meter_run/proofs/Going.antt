@@ -1,11 +1,12 @@
 -- Events, intervals and runs that are carried out, one behind the other.
-use Rattle.std.proofs.Common.{◌≡◌, ◌≢◌, ℕ, zero, suc, ◌+◌, ◌≤◌, ◌<◌, List, [], ◌∷◌, ◌++◌, length, take, drop, get_or, refl, sym, ap, subst, ◌∙◌, append_assoc, add-one, arith, length-append, Result, Ok, Err, IfOk, OnErr, OnOk}
+use Rattle.std.proofs.Common.{◌≡◌, ◌≢◌, ℕ, zero, suc, ◌+◌, ◌≤◌, ◌<◌, List, [], ◌∷◌, ◌++◌, length, take, drop, get_or, refl, sym, ap, subst, ◌∙◌, append_assoc, add-one, arith, length-append, Result, Ok, Err, IsErr, IfOk, OnErr, OnOk, Option, None, Some, true, false}
 use Rattle.std.specs.Prelude.{IsErrAnd}
 use Rattle.std.specs.List.{flat_map}
 use Rattle.std.proofs.lemmas.Bool.{ne_eqb}
 use Rattle.std.proofs.lemmas.List.{append-nil, take-append-drop}
 use Rattle.std.proofs.lemmas.List.Concat.{flat_map-append}
-use Rattle.outside.specs.Faults.{HasCause, Rose}
+use Rattle.outside.specs.Faults.{HasCause}
+use Rattle.outside.proofs.Laws.{rose_behind}
 use Rattle.taxi_units.specs.declared.event.Event.{Event}
 use Rattle.taxi_units.specs.declared.event.Event.TheVariants.{Pulses, Tick}
 use Rattle.drive_text.specs.declared.run.Run.{Run}
@@ -35,29 +36,41 @@ pub not_ok : {T E : Type 0} (Q : E → Type 0) (r : Result T E) (P : T → Type 
 not_ok Q (Ok x) P err = absurd err
 not_ok Q (Err e) P err = tt
 
--- what went well, with no fewer faults, has a cause
-pub went_well : {T E : Type 0} (before now : ℕ) (x : T) → before ≤ now → HasCause {T = T} {E = E} before now (Ok x)
-went_well before now x later = record { later = later; failed = λ err. absurd cc }
+-- what went well, with as many faults, has a cause
+pub went_well : {T E : Type 0} (before now : ℕ) (x : T) → now ≡ before → HasCause {T = T} {E = E} before now (Ok x)
+went_well before now x same = record { kept = λ ok. same; failed = λ err. absurd cc }
 
 -- what failed by a last call has that call's cause
-pub went_wrong : {T E U F : Type 0} (before mid now : ℕ) (e : E) (r : Result U F) → before ≤ mid → HasCause {T = T} {E = E} mid now (Err e) → HasCause before now r
-went_wrong before mid now e r first cause =
-    let rose : Rose mid now = cause.failed refl in
-    record { later = omega (arith, first, cause.later); failed = λ err. omega (arith, rose, first) }
+pub went_wrong : {T E U F : Type 0} (before mid now : ℕ) (e : E) (r : Result U F) → IsErr r → mid ≡ before
+    → HasCause {T = T} {E = E} mid now (Err e) → HasCause before now r
+went_wrong before mid now e (Ok x) wrong first cause = absurd (let bad : false ≡ true = wrong in cc)
+went_wrong before mid now e (Err fault) wrong first cause =
+    record { kept = λ ok. absurd (let bad : false ≡ true = ok in cc); failed = λ err. rose_behind before mid now first (cause.failed refl) }
+
+-- what is absent isn't there
+pub not_some : {A : Type 0} (o : Option A) (x : A) → o ≡ None → o ≡ Some x → ⊥
+not_some o x none some = by (sym none ∙ some)
+  where
+    by : None ≡ Some x → ⊥
+    by bad = absurd cc
+
+-- what is there is one thing
+pub same_stop : {A : Type 0} (o : Option A) (x y : A) → o ≡ Some x → o ≡ Some y → x ≡ y
+same_stop o x y one other = by (sym one ∙ other)
+  where
+    by : Some x ≡ Some y → x ≡ y
+    by same = cc
 
 pub not_this : {T E : Type 0} (Q : E → Type 0) (r : Result T E) (x : T) → IsErrAnd r Q → r ≡ Ok x → ⊥
 not_this Q (Ok y) x err is = absurd err
 not_this Q (Err e) x err is = absurd cc
 
--- counts that didn't fall twice
-pub counts_more : (x y z : ℕ) → x ≤ y → y ≤ z → x ≤ z
-counts_more x y z first next = omega arith
+-- counts that stayed twice
+pub counts_more : (x y z : ℕ) → y ≡ x → z ≡ y → z ≡ x
+counts_more x y z first next = next ∙ first
 
-pub rose_later : (x y z : ℕ) → x ≤ y → Rose y z → Rose x z
-rose_later x y z first rose = omega (arith, rose, first)
-
-pub no_more : (n : ℕ) → n ≤ n
-no_more n = omega arith
+pub no_more : (n : ℕ) → n ≡ n
+no_more n = refl
 
 pub one_more : (n : ℕ) → n ≤ n + 1
 one_more n = omega arith

@@ -1,10 +1,11 @@
 -- One event on a store.
-use Rattle.std.proofs.Common.{◌≡◌, ◌≢◌, inl, ℕ, ◌≤◌, List, [], ◌∷◌, ◌++◌, All, Option, Some, None, IfSome, Result, OnOk, arith, refl, sym, ap, subst, ◌∙◌}
+use Rattle.std.proofs.Common.{◌≡◌, ◌≢◌, inl, ℕ, List, [], ◌∷◌, ◌++◌, All, Option, Some, None, IfSome, Result, OnOk, refl, sym, ap, subst, ◌∙◌}
 use Rattle.std.specs.Option.{ForSome}
 use Rattle.std.proofs.lemmas.List.{append-nil}
 use Rattle.std.proofs.lemmas.Result.{on_ok_weaker}
 use Rattle.outside.specs.Disk.{MayLeaveAmid}
 use Rattle.outside.specs.Faults.{HasCause}
+use Rattle.outside.proofs.Laws.{cause_behind}
 use Rattle.outside.specs.Printing.{Begins}
 use Rattle.outside.specs.Runs.{KeepsStore, LeavesNow, LeavesOnly}
 use Rattle.outside.specs.declared.board.Board.{Ghosts}
@@ -260,13 +261,13 @@ module _ {D L : Type 0} (B : Ghosts D L) (tables : TableParts) (seal : Seal) whe
         beside = λ told. beside_then B a b c (beside told) (h.beside told);
       }
 
-      pub found_attempted : {T E : Type 0} (r : Result T E) (y : StoreMeter) (c : D) → B.faults a ≤ B.faults b → Attempts B tables seal (λ s m. step s (Up second) m) found b r y c
+      pub found_attempted : {T E : Type 0} (r : Result T E) (y : StoreMeter) (c : D) → B.faults b ≡ B.faults a → Attempts B tables seal (λ s m. step s (Up second) m) found b r y c
           → Attempts B tables seal (λ s m. step s (Up second) m) x a r y c
-      found_attempted r y c later h = record {
+      found_attempted r y c same h = record {
         ready = h.ready;
         carried = on_ok_weaker r (out_found y c) h.carried;
         stopped = record { points = points_found c h.stopped; beside = λ told. beside_then B a b c (beside told) (h.stopped.beside told) };
-        cause = record { later = omega (arith, later, h.cause.later); failed = λ err. omega (arith, later, h.cause.failed err) };
+        cause = cause_behind r same h.cause;
       }
 
   -- ---- an event as a list of one

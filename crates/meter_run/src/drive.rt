@@ -1,6 +1,6 @@
 //! Carries out a drive, from its first byte to where no more of it is read.
-ghost use Rattle.std.specs.Prelude.{◌≡◌, ◌≢◌, ℕ, ◌≤◌, IfOk, OnOk, OnErr, Ok};
-ghost use Rattle.outside.specs.Faults.{HasCause, Rose};
+ghost use Rattle.std.specs.Prelude.{◌≡◌, ◌≢◌, ◌⊎◌, ℕ, IfOk, IsErr, OnOk, OnErr, Ok};
+ghost use Rattle.outside.specs.Faults.{HasCause, MayRise, Rose};
 ghost use Rattle.meter_run.specs.Drives.{BreaksDrive, TakesDrive};
 
 use crate::carrier::Carrier;
@@ -35,7 +35,8 @@ pub(crate) fn carry_drive<C: Carrier<B, L>, F: Files, B: Board<L>, L: Ledger>(
     ensures cause { HasCause (B.faults board.old) (B.faults board.new) result }
     ensures others { (other : ℕ) → other ≢ word → F.rest files.new other ≡ F.rest files.old other }
     ensures read_fault { result ≡ Ok Stop.ReadFault → Rose (F.faults files.old word) (F.faults files.new word) }
-    ensures counts { (other : ℕ) → F.faults files.old other ≤ F.faults files.new other }
+    ensures counts { (other : ℕ) → MayRise ((result ≡ Ok Stop.ReadFault) ⊎ IsErr result)
+        (F.faults files.old other) (F.faults files.new other) }
 {
     let mut source = Source::new();
     let mut runs: ArrayVec<Run, 64> = ArrayVec::new();

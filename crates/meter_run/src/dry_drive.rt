@@ -1,8 +1,7 @@
 //! A drive that is carried out without a store.
-ghost use Rattle.std.specs.Prelude.{◌≡◌, ◌≢◌, ℕ, ◌+◌, ◌≤◌, Err, OnOk};
-ghost use Rattle.outside.specs.Faults.{Rose};
+ghost use Rattle.std.specs.Prelude.{◌≡◌, ◌≢◌, ◌⊎◌, ℕ, ◌+◌, ◌≤◌, Err, OnOk};
 ghost use Rattle.outside.specs.Runs.{KeepsStore};
-ghost use Rattle.outside.specs.Faults.{HasCause};
+ghost use Rattle.outside.specs.Faults.{HasCause, MayRise, RisesOnlyIf, Rose};
 ghost use Rattle.tariff_compile.specs.Tables.{TableParts};
 ghost use Rattle.seal_store.specs.declared.seal.Seal.{Seal};
 ghost use Rattle.meter_states.specs.Lawful.{IsLawful};
@@ -53,9 +52,9 @@ pub fn dry_run<F: Files, B: Board<L>, L: Ledger>(
     ensures steps { F.tells → IsBoundedBy 64 (F.rest files.old word) (F.rest files.new word) steps.old steps.new }
     ensures others { (other : ℕ) → other ≢ word → F.rest files.new other ≡ F.rest files.old other }
     ensures read_fault { result ≡ Err RunFault.ReadFault → Rose (F.faults files.old word) (F.faults files.new word) }
-    ensures board_fault { result ≡ Err RunFault.BoardFault → Rose (B.faults board.old) (B.faults board.new) }
-    ensures counts { (other : ℕ) → F.faults files.old other ≤ F.faults files.new other }
-    ensures count { B.faults board.old ≤ B.faults board.new }
+    ensures board_fault { RisesOnlyIf (result ≡ Err RunFault.BoardFault) (B.faults board.old) (B.faults board.new) }
+    ensures counts { (other : ℕ) → MayRise ((result ≡ Err RunFault.ReadFault) ⊎ (result ≡ Err RunFault.BoardFault))
+        (F.faults files.old other) (F.faults files.new other) }
     ensures store { KeepsStore B.Board board.old board.new }
 {
     let _ = tables.measure();

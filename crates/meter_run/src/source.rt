@@ -1,6 +1,6 @@
 //! Reads a drive from its file, piece by piece, whatever its events are wanted for.
 ghost use Rattle.std.specs.Prelude.{◌≡◌, ◌≢◌, ℕ, ◌+◌, ◌-◌, ◌<◌, ◌≤◌, [], List, All, length, take, drop, None, Some, IfSome};
-ghost use Rattle.outside.specs.Faults.{Rose};
+ghost use Rattle.outside.specs.Faults.{MayRise, Rose};
 ghost use Rattle.drive_text.specs.Drive.{bad_at_end};
 ghost use Rattle.drive_text.specs.Ranges.{IsRunInRange};
 ghost use Rattle.drive_text.specs.Reading.{HasTaken};
@@ -87,7 +87,8 @@ impl Source {
         ensures range { All IsRunInRange runs.new.items }
         ensures others { (other : ℕ) → other ≢ word → F.rest files.new other ≡ F.rest files.old other }
         ensures read_fault { result ≡ Some Stop.ReadFault → Rose (F.faults files.old word) (F.faults files.new word) }
-        ensures counts { (other : ℕ) → F.faults files.old other ≤ F.faults files.new other }
+        ensures counts { (other : ℕ)
+            → MayRise (result ≡ Some Stop.ReadFault) (F.faults files.old other) (F.faults files.new other) }
     {
         runs.clear();
         if let Some(stop) = self.fill(files, word) {
@@ -104,7 +105,8 @@ impl Source {
             → StopsBy F.tells self.old (F.rest files.old word) (F.rest files.new word) given [] stop) }
         ensures others { (other : ℕ) → other ≢ word → F.rest files.new other ≡ F.rest files.old other }
         ensures read_fault { result ≡ Some Stop.ReadFault → Rose (F.faults files.old word) (F.faults files.new word) }
-        ensures counts { (other : ℕ) → F.faults files.old other ≤ F.faults files.new other }
+        ensures counts { (other : ℕ)
+            → MayRise (result ≡ Some Stop.ReadFault) (F.faults files.old other) (F.faults files.new other) }
     {
         if self.from < self.to {
             return None;
@@ -121,7 +123,8 @@ impl Source {
             → StopsBy F.tells self.old (F.rest files.old word) (F.rest files.new word) given [] stop) }
         ensures others { (other : ℕ) → other ≢ word → F.rest files.new other ≡ F.rest files.old other }
         ensures read_fault { result ≡ Some Stop.ReadFault → Rose (F.faults files.old word) (F.faults files.new word) }
-        ensures counts { (other : ℕ) → F.faults files.old other ≤ F.faults files.new other }
+        ensures counts { (other : ℕ)
+            → MayRise (result ≡ Some Stop.ReadFault) (F.faults files.old other) (F.faults files.new other) }
     {
         if self.left == 0 {
             return Some(Stop::TooLong);

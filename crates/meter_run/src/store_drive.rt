@@ -1,7 +1,7 @@
 //! A drive that is carried out on a store.
-ghost use Rattle.std.specs.Prelude.{◌≡◌, ◌≢◌, ℕ, ◌+◌, ◌≤◌, Err, IsOk, OnOk};
+ghost use Rattle.std.specs.Prelude.{◌≡◌, ◌≢◌, ◌⊎◌, ℕ, ◌+◌, ◌≤◌, Err, IsOk, OnOk};
 ghost use Rattle.drive_text.specs.Ending.{Whole, drive_end};
-ghost use Rattle.outside.specs.Faults.{HasCause, Rose};
+ghost use Rattle.outside.specs.Faults.{HasCause, MayRise, RisesOnlyIf, Rose};
 ghost use Rattle.meter_states.specs.Run.{ended};
 ghost use Rattle.seal_store.specs.Ranges.{IsSeal};
 ghost use Rattle.meter_run.specs.Drives.{IsBoundedBy};
@@ -60,9 +60,9 @@ pub fn run_events<F: Files, B: Board<L>, L: Ledger>(
     ensures steps { F.tells → IsBoundedBy 64 (F.rest files.old word) (F.rest files.new word) steps.old steps.new }
     ensures others { (other : ℕ) → other ≢ word → F.rest files.new other ≡ F.rest files.old other }
     ensures read_fault { result ≡ Err RunFault.ReadFault → Rose (F.faults files.old word) (F.faults files.new word) }
-    ensures board_fault { result ≡ Err RunFault.BoardFault → Rose (B.faults board.old) (B.faults board.new) }
-    ensures counts { (other : ℕ) → F.faults files.old other ≤ F.faults files.new other }
-    ensures count { B.faults board.old ≤ B.faults board.new }
+    ensures board_fault { RisesOnlyIf (result ≡ Err RunFault.BoardFault) (B.faults board.old) (B.faults board.new) }
+    ensures counts { (other : ℕ) → MayRise ((result ≡ Err RunFault.ReadFault) ⊎ (result ≡ Err RunFault.BoardFault))
+        (F.faults files.old other) (F.faults files.new other) }
 {
     let _ = tables.measure();
     let mut meter = StoreMeter::new();

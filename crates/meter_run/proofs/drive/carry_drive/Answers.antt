@@ -1,4 +1,5 @@
-use Rattle.std.proofs.Common.{◌∙◌, All, List, Some, ap, flat_map, refl, subst, sym}
+use Rattle.std.proofs.Common.{◌∙◌, inl, inr, Ok, All, List, Some, ap, flat_map, refl, subst, sym}
+use Rattle.outside.proofs.Laws.{may_rise_behind, may_rise_more, rose_behind}
 use Rattle.taxi_units.specs.declared.event.Event.{Event}
 use Rattle.drive_text.specs.Drive.{events_in}
 use Rattle.drive_text.specs.Ranges.{IsRunInRange}
@@ -6,7 +7,7 @@ use Rattle.drive_text.specs.Runs.{run_events}
 use Rattle.drive_text.specs.declared.run.Run.{Run}
 use Rattle.meter_run.specs.Drives.{BreaksDrive, IsBounded}
 use Rattle.meter_run.proofs.Driving.{breaks_amid, smaller, so_far_more, so_far_none, stop_at, stop_of, takes_last}
-use Rattle.meter_run.proofs.Going.{counts_more, no_more, not_ok, not_this, on_err, rose_later, went_well, went_wrong}
+use Rattle.meter_run.proofs.Going.{counts_more, no_more, not_ok, not_some, not_this, on_err, same_stop, went_well, went_wrong}
 use Rattle.meter_run.proofs.drive.carry_drive.Goals as goal
 
 pub loop-stop-init : goal.loop-stop-init
@@ -41,7 +42,7 @@ returns-in_err-carry_runs-clause-carried g c = not_ok _ c.from_residual.result _
 
 pub returns-in_err-carry_runs-clause-cause : goal.returns-in_err-carry_runs-clause-cause
 returns-in_err-carry_runs-clause-cause g c =
-    went_wrong (g.B.Board.faults c.args.board.now) (g.B.Board.faults c.loop-stop.board) (g.B.Board.faults c.carry_runs.new.board) _ c.from_residual.result c.loop-stop.invariant.faults c.in_err-carry_runs.ensures.cause
+    went_wrong (g.B.Board.faults c.args.board.now) (g.B.Board.faults c.loop-stop.board) (g.B.Board.faults c.carry_runs.new.board) _ c.from_residual.result c.from_residual.ensures.0 c.loop-stop.invariant.faults c.in_err-carry_runs.ensures.cause
 
 pub returns-in_err-carry_runs-clause-others : goal.returns-in_err-carry_runs-clause-others
 returns-in_err-carry_runs-clause-others g c = λ other differs. c.next-stop.ensures.others other differs ∙ c.loop-stop.invariant.others other differs
@@ -50,7 +51,8 @@ pub returns-in_err-carry_runs-clause-read_fault : goal.returns-in_err-carry_runs
 returns-in_err-carry_runs-clause-read_fault g c = λ ok. absurd (not_this _ c.from_residual.result _ c.from_residual.ensures.1 ok)
 
 pub returns-in_err-carry_runs-clause-counts : goal.returns-in_err-carry_runs-clause-counts
-returns-in_err-carry_runs-clause-counts g c = λ other. counts_more _ _ _ (c.loop-stop.invariant.counts other) (c.next-stop.ensures.counts other)
+returns-in_err-carry_runs-clause-counts g c = λ other. may_rise_behind (c.loop-stop.invariant.counts other)
+    (may_rise_more (λ fault. inr c.from_residual.ensures.0) (c.next-stop.ensures.counts other))
 
 pub returns-in_err-carry_runs-clause-broke_off : goal.returns-in_err-carry_runs-clause-broke_off
 returns-in_err-carry_runs-clause-broke_off g c =
@@ -96,15 +98,16 @@ returns-in-Some-clause-broke_off g c = tt
 
 pub returns-in-Some-clause-read_fault : goal.returns-in-Some-clause-read_fault
 returns-in-Some-clause-read_fault g c = λ ok.
-    rose_later (g.F.Files.faults c.args.files.now c.args.word) (g.F.Files.faults c.loop-stop.files c.args.word) (g.F.Files.faults c.next-stop.new.files c.args.word)
+    rose_behind (g.F.Files.faults c.args.files.now c.args.word) (g.F.Files.faults c.loop-stop.files c.args.word) (g.F.Files.faults c.next-stop.new.files c.args.word)
     (c.loop-stop.invariant.counts c.args.word) (c.next-stop.ensures.read_fault (c.in-Some.is ∙ ap Some (stop_of _ _ _ ok)))
 
 pub returns-in-Some-clause-counts : goal.returns-in-Some-clause-counts
-returns-in-Some-clause-counts g c = λ other. counts_more _ _ _ (c.loop-stop.invariant.counts other) (c.next-stop.ensures.counts other)
+returns-in-Some-clause-counts g c = λ other. may_rise_behind (c.loop-stop.invariant.counts other)
+    (may_rise_more (λ fault. inl (ap Ok (same_stop c.next-stop.result _ _ c.in-Some.is fault))) (c.next-stop.ensures.counts other))
 
 pub returns-in-Some-clause-cause : goal.returns-in-Some-clause-cause
 returns-in-Some-clause-cause g c =
-    went_well (g.B.Board.faults c.args.board.now) (g.B.Board.faults c.carry_runs.new.board) _ (counts_more _ _ _ c.loop-stop.invariant.faults c.carry_runs.ensures.cause.later)
+    went_well (g.B.Board.faults c.args.board.now) (g.B.Board.faults c.carry_runs.new.board) _ (counts_more _ _ _ c.loop-stop.invariant.faults (c.in_ok-carry_runs.ensures.cause.kept refl))
 
 pub returns-in-Some-clause-others : goal.returns-in-Some-clause-others
 returns-in-Some-clause-others g c = λ other differs. c.next-stop.ensures.others other differs ∙ c.loop-stop.invariant.others other differs
@@ -131,7 +134,7 @@ loop-stop-preserved g c =
           c.args.steps.now c.loop-stop.steps c.carry_runs.new.steps runs s (c.next-stop.ensures.more c.in_default.is s.given s.stands)
           (λ done. g.met.C.Carrier.behind t k (events_in s.given) (flat_map run_events runs) m b c.loop-stop.meter c.loop-stop.board c.carry_runs.new.meter c.carry_runs.new.board done next)
           (subst (λ (rs : List Run). IsBounded c.loop-stop.steps c.carry_runs.new.steps (flat_map run_events rs)) c.as_slice.ensures.value c.carry_runs.ensures.steps);
-      faults = counts_more _ _ _ c.loop-stop.invariant.faults c.carry_runs.ensures.cause.later;
+      faults = counts_more _ _ _ c.loop-stop.invariant.faults (c.in_ok-carry_runs.ensures.cause.kept refl);
       others = λ other differs. c.next-stop.ensures.others other differs ∙ c.loop-stop.invariant.others other differs;
-      counts = λ other. counts_more _ _ _ (c.loop-stop.invariant.counts other) (c.next-stop.ensures.counts other);
+      counts = λ other. counts_more _ _ _ (c.loop-stop.invariant.counts other) ((c.next-stop.ensures.counts other).kept (λ fault. not_some c.next-stop.result _ c.in_default.is fault));
     }

@@ -1,4 +1,4 @@
-use Rattle.std.proofs.Common.{◌≡◌, ◌≢◌, ◌≤◌, ◌+◌, ℕ, length}
+use Rattle.std.proofs.Common.{◌≡◌, ◌≢◌, ◌+◌, ℕ, length}
 use Rattle.meter_run.proofs.Driving.{IsSoFar}
 use Rattle.meter_run.proofs.drive.carry_drive.Given as goal
 
@@ -8,9 +8,9 @@ invariant-loop-stop g l = record {
   ready : g.C.Carrier.ready l.tables l.seal l.meter l.board;
   so_far : IsSoFar g.F.Files.tells l.source (g.F.Files.rest l.fn.files l.word) (g.F.Files.rest l.files l.word)
       (λ events. g.C.Carrier.carried l.tables l.seal l.fn.meter l.fn.board events l.meter l.board) l.fn.steps l.steps;
-  faults : g.B.Board.faults l.fn.board ≤ g.B.Board.faults l.board;
+  faults : g.B.Board.faults l.board ≡ g.B.Board.faults l.fn.board;
   others : (other : ℕ) → other ≢ l.word → g.F.Files.rest l.files other ≡ g.F.Files.rest l.fn.files other;
-  counts : (other : ℕ) → g.F.Files.faults l.fn.files other ≤ g.F.Files.faults l.files other;
+  counts : (other : ℕ) → g.F.Files.faults l.files other ≡ g.F.Files.faults l.fn.files other;
 }
 
 abbrev pub decreases-loop-stop : goal.decreases-loop-stop

@@ -19,7 +19,7 @@ loop-act-preserved g c =
       durable = after_more c.args.durable.now c.loop-act.durable c.perform.new.durable acts n _ c.loop-act-test.true c.loop-act.invariant.durable c.perform.ensures.durable;
       left = are_after c.loop-act.durable c.perform.new.durable acts n _ c.loop-act-test.true c.loop-act.invariant.left c.perform.ensures.durable;
       printed = λ told. printed_more (g.B.Board.printed c.args.board.now) (g.B.Board.printed c.loop-act.board) (g.B.Board.printed c.perform.new.board) acts n _ c.loop-act-test.true (c.loop-act.invariant.printed told) (c.in_ok-perform.ensures.whole told);
-      faults = omega (arith, c.loop-act.invariant.faults, c.perform.ensures.cause.later);
+      faults = c.in_ok-perform.ensures.cause.kept refl ∙ c.loop-act.invariant.faults;
       store = keeps_then g.B.Board c.args.board.now c.loop-act.board c.perform.new.board c.loop-act.invariant.store c.perform.ensures.store;
       steps = omega (arith, c.loop-act.invariant.steps, c.perform.ensures.steps);
     }
@@ -42,7 +42,7 @@ returns-in_err-perform-clause-whole g c = λ told. not_ok _ c.from_residual.resu
 
 pub returns-in_err-perform-clause-cause : goal.returns-in_err-perform-clause-cause
 returns-in_err-perform-clause-cause g c =
-    went_wrong (g.B.Board.faults c.args.board.now) (g.B.Board.faults c.loop-act.board) (g.B.Board.faults c.perform.new.board) _ c.from_residual.result c.loop-act.invariant.faults c.in_err-perform.ensures.cause
+    went_wrong (g.B.Board.faults c.args.board.now) (g.B.Board.faults c.loop-act.board) (g.B.Board.faults c.perform.new.board) _ c.from_residual.result c.from_residual.ensures.0 c.loop-act.invariant.faults c.in_err-perform.ensures.cause
 
 pub returns-in_err-perform-clause-steps : goal.returns-in_err-perform-clause-steps
 returns-in_err-perform-clause-steps g c = omega (arith, c.loop-act-test.true, c.loop-act.invariant.steps, c.perform.ensures.steps)

@@ -1,9 +1,8 @@
-use Rattle.std.proofs.Common.{arith, refl}
-use Rattle.outside.proofs.Laws.{keeps_then}
+use Rattle.std.proofs.Common.{◌∙◌, inr, arith, refl}
+use Rattle.outside.proofs.Laws.{may_rise_more, rises_by, rises_not, rose_behind, keeps_then}
 use Rattle.drive_text.specs.Drive.{events_in}
 use Rattle.meter_run.proofs.Dropping.{end_begun, ready_first, run_begun, whole_printed}
-use Rattle.meter_run.proofs.Ended.{board_only, breaks, ends}
-use Rattle.meter_run.proofs.Going.{counts_more, rose_later}
+use Rattle.meter_run.proofs.Ended.{board_only, no_board_fault, read_failed, breaks, ends}
 use Rattle.meter_run.proofs.dry_drive.dry_run.Goals as goal
 
 pub carry_drive-requires : goal.carry_drive-requires
@@ -75,31 +74,6 @@ returns-in-Err-drop_at_end-clause-read_fault g c = λ is. absurd (board_only is)
 pub returns-in-Err-clause-read_fault : goal.returns-in-Err-clause-read_fault
 returns-in-Err-clause-read_fault g c = λ is. absurd (board_only is)
 
-pub returns-in-Err-drop_at_end-clause-board_fault : goal.returns-in-Err-drop_at_end-clause-board_fault
-returns-in-Err-drop_at_end-clause-board_fault g c = λ is.
-    rose_later (g.B.Board.faults c.args.board.now) (g.B.Board.faults c.carry_drive.new.board) (g.B.Board.faults c.drop_at_end.new.board) c.carry_drive.ensures.cause.later (c.in-Err-drop_at_end.ensures.cause.failed refl)
-
-pub returns-in-Err-clause-board_fault : goal.returns-in-Err-clause-board_fault
-returns-in-Err-clause-board_fault g c = λ is. c.in-Err.ensures.cause.failed refl
-
-pub returns-in-Ok-drop_at_end-clause-counts : goal.returns-in-Ok-drop_at_end-clause-counts
-returns-in-Ok-drop_at_end-clause-counts g c = c.carry_drive.ensures.counts
-
-pub returns-in-Err-drop_at_end-clause-counts : goal.returns-in-Err-drop_at_end-clause-counts
-returns-in-Err-drop_at_end-clause-counts g c = c.carry_drive.ensures.counts
-
-pub returns-in-Err-clause-counts : goal.returns-in-Err-clause-counts
-returns-in-Err-clause-counts g c = c.carry_drive.ensures.counts
-
-pub returns-in-Ok-drop_at_end-clause-count : goal.returns-in-Ok-drop_at_end-clause-count
-returns-in-Ok-drop_at_end-clause-count g c = counts_more _ _ _ c.carry_drive.ensures.cause.later c.drop_at_end.ensures.cause.later
-
-pub returns-in-Err-drop_at_end-clause-count : goal.returns-in-Err-drop_at_end-clause-count
-returns-in-Err-drop_at_end-clause-count g c = counts_more _ _ _ c.carry_drive.ensures.cause.later c.drop_at_end.ensures.cause.later
-
-pub returns-in-Err-clause-count : goal.returns-in-Err-clause-count
-returns-in-Err-clause-count g c = c.carry_drive.ensures.cause.later
-
 pub returns-in-Ok-drop_at_end-clause-store : goal.returns-in-Ok-drop_at_end-clause-store
 returns-in-Ok-drop_at_end-clause-store g c = keeps_then g.B.Board c.args.board.now c.carry_drive.new.board c.drop_at_end.new.board c.in-Ok.ensures.carried.carried.store c.drop_at_end.ensures.store
 
@@ -108,3 +82,25 @@ returns-in-Err-drop_at_end-clause-store g c = keeps_then g.B.Board c.args.board.
 
 pub returns-in-Err-clause-store : goal.returns-in-Err-clause-store
 returns-in-Err-clause-store g c = c.in-Err.ensures.broke_off.broke_off.store
+
+pub returns-in-Ok-drop_at_end-clause-board_fault : goal.returns-in-Ok-drop_at_end-clause-board_fault
+returns-in-Ok-drop_at_end-clause-board_fault g c = rises_not (no_board_fault c.in-Ok.stop c.answer.result c.answer.ensures)
+    (c.in-Ok-drop_at_end.ensures.cause.kept refl ∙ c.in-Ok.ensures.cause.kept refl)
+
+pub returns-in-Err-drop_at_end-clause-board_fault : goal.returns-in-Err-drop_at_end-clause-board_fault
+returns-in-Err-drop_at_end-clause-board_fault g c = rises_by refl
+    (rose_behind (g.B.Board.faults c.args.board.now) (g.B.Board.faults c.carry_drive.new.board) (g.B.Board.faults c.drop_at_end.new.board)
+    (c.in-Ok.ensures.cause.kept refl) (c.in-Err-drop_at_end.ensures.cause.failed refl))
+
+pub returns-in-Err-clause-board_fault : goal.returns-in-Err-clause-board_fault
+returns-in-Err-clause-board_fault g c = rises_by refl (c.in-Err.ensures.cause.failed refl)
+
+pub returns-in-Ok-drop_at_end-clause-counts : goal.returns-in-Ok-drop_at_end-clause-counts
+returns-in-Ok-drop_at_end-clause-counts g c = λ other.
+    may_rise_more (read_failed c.in-Ok.stop c.answer.result c.answer.ensures) (c.in-Ok.ensures.counts other)
+
+pub returns-in-Err-drop_at_end-clause-counts : goal.returns-in-Err-drop_at_end-clause-counts
+returns-in-Err-drop_at_end-clause-counts g c = λ other. may_rise_more (λ failed. inr refl) (c.carry_drive.ensures.counts other)
+
+pub returns-in-Err-clause-counts : goal.returns-in-Err-clause-counts
+returns-in-Err-clause-counts g c = λ other. may_rise_more (λ failed. inr refl) (c.carry_drive.ensures.counts other)

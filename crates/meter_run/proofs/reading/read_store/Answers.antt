@@ -1,4 +1,4 @@
-use Rattle.std.proofs.Common.{ℕ, ◌+◌, ◌≤◌, Err, None, ap, arith, subst, sym}
+use Rattle.std.proofs.Common.{ℕ, ◌+◌, ◌≤◌, Err, None, ap, arith, subst, sym, true, false, ◌≡◌}
 use Rattle.std.specs.Option.{ForSome}
 use Rattle.meter_states.specs.Fits.{Fits}
 use Rattle.slot_store.specs.Scan.{IsAsFound, IsSound}
@@ -49,9 +49,6 @@ returns-in-Ok-Latest-clause-points g c = λ told place d settled fits. scan_poin
 pub returns-in-Ok-Latest-clause-beside : goal.returns-in-Ok-Latest-clause-beside
 returns-in-Ok-Latest-clause-beside g c = λ told. beside_scan g.B.Board c.args.board.now c.scan.new.board c.scan.ensures.image c.scan.ensures.flight c.scan.ensures.any_moment
 
-pub returns-in-Ok-Latest-clause-cause : goal.returns-in-Ok-Latest-clause-cause
-returns-in-Ok-Latest-clause-cause g c = went_well (g.B.Board.faults c.args.board.now) (g.B.Board.faults c.scan.new.board) _ c.scan.ensures.faults
-
 pub returns-in-Ok-Blank-clause-finds : goal.returns-in-Ok-Blank-clause-finds
 returns-in-Ok-Blank-clause-finds g c = λ told place d settled fits. absurd (not_blank c.in-Ok-Blank.field-0 place d (g.B.Board.image c.args.board.now) c.in-Ok-Blank.field-0-is settled.is_at (c.in-Ok-Blank.ensures.exact told (answers c.in-Ok-Blank.field-0)))
 
@@ -61,17 +58,11 @@ returns-in-Ok-Blank-clause-points g c = λ told place d settled fits. scan_point
 pub returns-in-Ok-Blank-clause-beside : goal.returns-in-Ok-Blank-clause-beside
 returns-in-Ok-Blank-clause-beside g c = λ told. beside_scan g.B.Board c.args.board.now c.scan.new.board c.scan.ensures.image c.scan.ensures.flight c.scan.ensures.any_moment
 
-pub returns-in-Ok-Blank-clause-cause : goal.returns-in-Ok-Blank-clause-cause
-returns-in-Ok-Blank-clause-cause g c = went_well (g.B.Board.faults c.args.board.now) (g.B.Board.faults c.scan.new.board) _ c.scan.ensures.faults
-
 pub returns-in-Err-DeviceFailed-clause-points : goal.returns-in-Err-DeviceFailed-clause-points
 returns-in-Err-DeviceFailed-clause-points g c = λ told place d settled fits. scan_point g.B.Board c.args.tables.now c.args.seal.now c.args.board.now c.scan.new.board d place settled fits c.scan.ensures.image c.scan.ensures.any_moment c.scan.ensures.text
 
 pub returns-in-Err-DeviceFailed-clause-beside : goal.returns-in-Err-DeviceFailed-clause-beside
 returns-in-Err-DeviceFailed-clause-beside g c = λ told. beside_scan g.B.Board c.args.board.now c.scan.new.board c.scan.ensures.image c.scan.ensures.flight c.scan.ensures.any_moment
-
-pub returns-in-Err-DeviceFailed-clause-cause : goal.returns-in-Err-DeviceFailed-clause-cause
-returns-in-Err-DeviceFailed-clause-cause g c = record { later = c.scan.ensures.faults; failed = λ err. c.in-Err-DeviceFailed.ensures.cause (ap Err c.in-Err-DeviceFailed.field-0-is) }
 
 pub returns-in-Err-BadBody-clause-finds : goal.returns-in-Err-BadBody-clause-finds
 returns-in-Err-BadBody-clause-finds g c = λ told place d settled fits. absurd (no_fault c.in-Err-BadBody.field-0 place d (g.B.Board.image c.args.board.now) settled.is_at
@@ -83,9 +74,6 @@ returns-in-Err-BadBody-clause-points g c = λ told place d settled fits. scan_po
 pub returns-in-Err-BadBody-clause-beside : goal.returns-in-Err-BadBody-clause-beside
 returns-in-Err-BadBody-clause-beside g c = λ told. beside_scan g.B.Board c.args.board.now c.scan.new.board c.scan.ensures.image c.scan.ensures.flight c.scan.ensures.any_moment
 
-pub returns-in-Err-BadBody-clause-cause : goal.returns-in-Err-BadBody-clause-cause
-returns-in-Err-BadBody-clause-cause g c = went_well (g.B.Board.faults c.args.board.now) (g.B.Board.faults c.scan.new.board) _ c.scan.ensures.faults
-
 pub returns-in-Err-SameNumber-clause-finds : goal.returns-in-Err-SameNumber-clause-finds
 returns-in-Err-SameNumber-clause-finds g c = λ told place d settled fits. absurd (no_fault c.in-Err-SameNumber.field-0 place d (g.B.Board.image c.args.board.now) settled.is_at
     (c.in-Err-SameNumber.ensures.exact told (same_number c.in-Err-SameNumber.field-0 _ c.in-Err-SameNumber.field-0-is)))
@@ -95,9 +83,6 @@ returns-in-Err-SameNumber-clause-points g c = λ told place d settled fits. scan
 
 pub returns-in-Err-SameNumber-clause-beside : goal.returns-in-Err-SameNumber-clause-beside
 returns-in-Err-SameNumber-clause-beside g c = λ told. beside_scan g.B.Board c.args.board.now c.scan.new.board c.scan.ensures.image c.scan.ensures.flight c.scan.ensures.any_moment
-
-pub returns-in-Err-SameNumber-clause-cause : goal.returns-in-Err-SameNumber-clause-cause
-returns-in-Err-SameNumber-clause-cause g c = went_well (g.B.Board.faults c.args.board.now) (g.B.Board.faults c.scan.new.board) _ c.scan.ensures.faults
 
 pub returns-in-Ok-Latest-clause-text : goal.returns-in-Ok-Latest-clause-text
 returns-in-Ok-Latest-clause-text g c = c.scan.ensures.text
@@ -155,3 +140,27 @@ returns-in-Err-SameNumber-clause-text g c = c.scan.ensures.text
 
 pub returns-in-Err-SameNumber-clause-steps : goal.returns-in-Err-SameNumber-clause-steps
 returns-in-Err-SameNumber-clause-steps g c = few c.args.steps.now c.scan.new.steps c.scan.ensures.steps
+
+-- ---- the board's count
+
+pub returns-in-Ok-Latest-clause-cause : goal.returns-in-Ok-Latest-clause-cause
+returns-in-Ok-Latest-clause-cause g c = went_well (g.B.Board.faults c.args.board.now) (g.B.Board.faults c.scan.new.board) _
+    (c.in-Ok-Latest.ensures.cause.kept (λ no. absurd cc))
+
+pub returns-in-Ok-Blank-clause-cause : goal.returns-in-Ok-Blank-clause-cause
+returns-in-Ok-Blank-clause-cause g c = went_well (g.B.Board.faults c.args.board.now) (g.B.Board.faults c.scan.new.board) _
+    (c.in-Ok-Blank.ensures.cause.kept (λ no. absurd cc))
+
+pub returns-in-Err-DeviceFailed-clause-cause : goal.returns-in-Err-DeviceFailed-clause-cause
+returns-in-Err-DeviceFailed-clause-cause g c = record {
+  kept = λ ok. absurd (let bad : false ≡ true = ok in cc);
+  failed = λ err. c.in-Err-DeviceFailed.ensures.cause.rose (ap Err c.in-Err-DeviceFailed.field-0-is);
+}
+
+pub returns-in-Err-BadBody-clause-cause : goal.returns-in-Err-BadBody-clause-cause
+returns-in-Err-BadBody-clause-cause g c = went_well (g.B.Board.faults c.args.board.now) (g.B.Board.faults c.scan.new.board) _
+    (c.in-Err-BadBody.ensures.cause.kept (λ no. absurd (cc c.in-Err-BadBody.field-0-is)))
+
+pub returns-in-Err-SameNumber-clause-cause : goal.returns-in-Err-SameNumber-clause-cause
+returns-in-Err-SameNumber-clause-cause g c = went_well (g.B.Board.faults c.args.board.now) (g.B.Board.faults c.scan.new.board) _
+    (c.in-Err-SameNumber.ensures.cause.kept (λ no. absurd (cc c.in-Err-SameNumber.field-0-is)))

@@ -1,4 +1,4 @@
-use Rattle.std.proofs.Common.{◌≡◌, ℕ, ◌+◌, subst, arith}
+use Rattle.std.proofs.Common.{◌≡◌, ℕ, ◌+◌, subst, arith, refl}
 use Rattle.drive_text.specs.Runs.{intervals_events}
 use Rattle.meter_run.specs.Drives.{IsBounded}
 use Rattle.meter_run.proofs.Going.{intervals_carried, intervals_broken, intervals_further, bounded_at_interval, bounded_further, counts_more, no_more, not_ok, on_err, went_well, went_wrong}
@@ -21,7 +21,7 @@ loop-done-preserved g c =
       ready = c.carry_equal-done.ensures.ready c.carry_interval.new.board c.in_ok-carry_interval.ensures.ready;
       carried = intervals_further (g.C.Carrier.carried t k) (g.C.Carrier.broke_off t k) (g.met.C.Carrier.behind t k) (g.met.C.Carrier.later t k) (g.met.C.Carrier.sooner t k)
           p (i + 1) n c.args.meter.now c.args.board.now c.carry_interval.new.meter c.carry_interval.new.board c.carry_equal-done.new.self c.carry_interval.new.board one (c.carry_equal-done.ensures.carried c.carry_interval.new.board c.in_ok-carry_interval.ensures.ready);
-      faults = counts_more _ _ _ c.loop-done.invariant.faults c.carry_interval.ensures.cause.later;
+      faults = counts_more _ _ _ c.loop-done.invariant.faults (c.in_ok-carry_interval.ensures.cause.kept refl);
       steps = bounded_further p (i + 1) n c.args.steps.now c.carry_interval.new.steps
           (bounded_at_interval p i (i + 1) c.args.steps.now c.loop-done.steps c.carry_interval.new.steps (omega arith) c.loop-done.invariant.steps c.carry_interval.ensures.steps);
     }
@@ -62,7 +62,7 @@ returns-in_err-carry_interval-clause-carried g c = not_ok _ c.from_residual.resu
 
 pub returns-in_err-carry_interval-clause-cause : goal.returns-in_err-carry_interval-clause-cause
 returns-in_err-carry_interval-clause-cause g c =
-    went_wrong (g.B.Board.faults c.args.board.now) (g.B.Board.faults c.loop-done.board) (g.B.Board.faults c.carry_interval.new.board) _ c.from_residual.result c.loop-done.invariant.faults c.in_err-carry_interval.ensures.cause
+    went_wrong (g.B.Board.faults c.args.board.now) (g.B.Board.faults c.loop-done.board) (g.B.Board.faults c.carry_interval.new.board) _ c.from_residual.result c.from_residual.ensures.0 c.loop-done.invariant.faults c.in_err-carry_interval.ensures.cause
 
 pub returns-clause-ready : goal.returns-clause-ready
 returns-clause-ready g c = c.loop-done.invariant.ready

@@ -1,4 +1,4 @@
-use Rattle.std.proofs.Common.{◌-◌, ◌≤◌}
+use Rattle.std.proofs.Common.{◌-◌, ◌≤◌, ◌≡◌}
 use Rattle.drive_text.specs.Runs.{intervals_events}
 use Rattle.meter_run.specs.Drives.{IsBounded}
 use Rattle.meter_run.proofs.runs.carry_intervals.Given as goal
@@ -8,7 +8,7 @@ invariant-loop-done g l = record {
   few : l.done ≤ l.count;
   ready : g.C.Carrier.ready l.tables l.seal l.meter l.board;
   carried : g.C.Carrier.carried l.tables l.seal l.fn.meter l.fn.board (intervals_events l.pulses l.done) l.meter l.board;
-  faults : g.B.Board.faults l.fn.board ≤ g.B.Board.faults l.board;
+  faults : g.B.Board.faults l.board ≡ g.B.Board.faults l.fn.board;
   steps : IsBounded l.fn.steps l.steps (intervals_events l.pulses l.done);
 }
 

@@ -1,4 +1,4 @@
-use Rattle.std.proofs.Common.{List, arith, flat_map, subst}
+use Rattle.std.proofs.Common.{List, arith, flat_map, subst, refl}
 use Rattle.std.proofs.lemmas.List.{take_all}
 use Rattle.drive_text.specs.Runs.{run_events}
 use Rattle.drive_text.specs.declared.run.Run.{Run}
@@ -16,7 +16,7 @@ loop-run-preserved g c =
       ready = c.in_ok-carry_run.ensures.ready;
       carried = runs_carried (g.C.Carrier.carried t k) (g.C.Carrier.broke_off t k) (g.met.C.Carrier.behind t k) (g.met.C.Carrier.later t k) (g.met.C.Carrier.sooner t k)
           runs i _ c.args.meter.now c.args.board.now c.loop-run.meter c.loop-run.board c.carry_run.new.meter c.carry_run.new.board c.loop-run-test.true c.loop-run.invariant.carried c.in_ok-carry_run.ensures.carried;
-      faults = counts_more _ _ _ c.loop-run.invariant.faults c.carry_run.ensures.cause.later;
+      faults = counts_more _ _ _ c.loop-run.invariant.faults (c.in_ok-carry_run.ensures.cause.kept refl);
       steps = bounded_run runs i _ c.args.steps.now c.loop-run.steps c.carry_run.new.steps c.loop-run-test.true c.loop-run.invariant.steps c.carry_run.ensures.steps;
     }
 
@@ -47,7 +47,7 @@ returns-in_err-carry_run-clause-carried g c = not_ok _ c.from_residual.result _ 
 
 pub returns-in_err-carry_run-clause-cause : goal.returns-in_err-carry_run-clause-cause
 returns-in_err-carry_run-clause-cause g c =
-    went_wrong (g.B.Board.faults c.args.board.now) (g.B.Board.faults c.loop-run.board) (g.B.Board.faults c.carry_run.new.board) _ c.from_residual.result c.loop-run.invariant.faults c.in_err-carry_run.ensures.cause
+    went_wrong (g.B.Board.faults c.args.board.now) (g.B.Board.faults c.loop-run.board) (g.B.Board.faults c.carry_run.new.board) _ c.from_residual.result c.from_residual.ensures.0 c.loop-run.invariant.faults c.in_err-carry_run.ensures.cause
 
 pub returns-clause-ready : goal.returns-clause-ready
 returns-clause-ready g c = c.loop-run.invariant.ready

@@ -1,7 +1,7 @@
-use Rattle.std.proofs.Common.{Ok, ap, arith, refl}
+use Rattle.std.proofs.Common.{◌∙◌, inr, Ok, ap, arith, refl}
+use Rattle.outside.proofs.Laws.{may_rise_more, rises_by, rises_not, rose_behind}
 use Rattle.meter_run.specs.StoreLaws.{beside_then}
-use Rattle.meter_run.proofs.Ended.{board_only}
-use Rattle.meter_run.proofs.Going.{counts_more, rose_later}
+use Rattle.meter_run.proofs.Ended.{board_only, no_board_fault, read_failed}
 use Rattle.meter_run.proofs.Whole.{done_whole, ran_amid, ran_to_end, ran_whole, ready_new, secured_of}
 use Rattle.meter_run.proofs.store_drive.run_events.Goals as goal
 
@@ -55,7 +55,7 @@ returns-in-Ok-end-clause-complete g c = λ tells whole calm still.
 
 pub returns-in-Err-end-clause-complete : goal.returns-in-Err-end-clause-complete
 returns-in-Err-end-clause-complete g c = λ tells whole calm still.
-    absurd (still (rose_later (g.B.Board.faults c.args.board.now) (g.B.Board.faults c.carry_drive.new.board) (g.B.Board.faults c.end.new.board) c.carry_drive.ensures.cause.later (c.in-Err-end.ensures.cause.failed refl)))
+    absurd (still (rose_behind (g.B.Board.faults c.args.board.now) (g.B.Board.faults c.carry_drive.new.board) (g.B.Board.faults c.end.new.board) (c.in-Ok.ensures.cause.kept refl) (c.in-Err-end.ensures.cause.failed refl)))
 
 pub returns-in-Err-clause-complete : goal.returns-in-Err-clause-complete
 returns-in-Err-clause-complete g c = λ tells whole calm still. absurd (still (c.in-Err.ensures.cause.failed refl))
@@ -90,27 +90,24 @@ returns-in-Err-end-clause-read_fault g c = λ is. absurd (board_only is)
 pub returns-in-Err-clause-read_fault : goal.returns-in-Err-clause-read_fault
 returns-in-Err-clause-read_fault g c = λ is. absurd (board_only is)
 
+pub returns-in-Ok-end-clause-board_fault : goal.returns-in-Ok-end-clause-board_fault
+returns-in-Ok-end-clause-board_fault g c = rises_not (no_board_fault c.in-Ok.stop c.answer.result c.answer.ensures)
+    (c.in-Ok-end.ensures.cause.kept refl ∙ c.in-Ok.ensures.cause.kept refl)
+
 pub returns-in-Err-end-clause-board_fault : goal.returns-in-Err-end-clause-board_fault
-returns-in-Err-end-clause-board_fault g c = λ is.
-    rose_later (g.B.Board.faults c.args.board.now) (g.B.Board.faults c.carry_drive.new.board) (g.B.Board.faults c.end.new.board) c.carry_drive.ensures.cause.later (c.in-Err-end.ensures.cause.failed refl)
+returns-in-Err-end-clause-board_fault g c = rises_by refl
+    (rose_behind (g.B.Board.faults c.args.board.now) (g.B.Board.faults c.carry_drive.new.board) (g.B.Board.faults c.end.new.board)
+    (c.in-Ok.ensures.cause.kept refl) (c.in-Err-end.ensures.cause.failed refl))
 
 pub returns-in-Err-clause-board_fault : goal.returns-in-Err-clause-board_fault
-returns-in-Err-clause-board_fault g c = λ is. c.in-Err.ensures.cause.failed refl
+returns-in-Err-clause-board_fault g c = rises_by refl (c.in-Err.ensures.cause.failed refl)
 
 pub returns-in-Ok-end-clause-counts : goal.returns-in-Ok-end-clause-counts
-returns-in-Ok-end-clause-counts g c = c.carry_drive.ensures.counts
+returns-in-Ok-end-clause-counts g c = λ other.
+    may_rise_more (read_failed c.in-Ok.stop c.answer.result c.answer.ensures) (c.in-Ok.ensures.counts other)
 
 pub returns-in-Err-end-clause-counts : goal.returns-in-Err-end-clause-counts
-returns-in-Err-end-clause-counts g c = c.carry_drive.ensures.counts
+returns-in-Err-end-clause-counts g c = λ other. may_rise_more (λ failed. inr refl) (c.carry_drive.ensures.counts other)
 
 pub returns-in-Err-clause-counts : goal.returns-in-Err-clause-counts
-returns-in-Err-clause-counts g c = c.carry_drive.ensures.counts
-
-pub returns-in-Ok-end-clause-count : goal.returns-in-Ok-end-clause-count
-returns-in-Ok-end-clause-count g c = counts_more _ _ _ c.carry_drive.ensures.cause.later c.end.ensures.cause.later
-
-pub returns-in-Err-end-clause-count : goal.returns-in-Err-end-clause-count
-returns-in-Err-end-clause-count g c = counts_more _ _ _ c.carry_drive.ensures.cause.later c.end.ensures.cause.later
-
-pub returns-in-Err-clause-count : goal.returns-in-Err-clause-count
-returns-in-Err-clause-count g c = c.carry_drive.ensures.cause.later
+returns-in-Err-clause-counts g c = λ other. may_rise_more (λ failed. inr refl) (c.carry_drive.ensures.counts other)

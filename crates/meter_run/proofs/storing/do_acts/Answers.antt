@@ -36,7 +36,7 @@ loop-act-preserved g c =
       printed = text_more g.B.Board t k a b b' acts n _ c.loop-act-test.true i.printed c.in_ok-do_act.ensures.whole;
       points = λ told. points_more g.B.Board t k a b b' acts n _ c.loop-act-test.true i.printed c.args.known.now.durable c.loop-act.known.durable i.durable (i.points told) (c.do_act.ensures.points told);
       beside = λ told. beside_then g.B.Board a b b' (i.beside told) (c.do_act.ensures.beside told);
-      faults = counts_more _ _ _ i.faults c.do_act.ensures.cause.later;
+      faults = counts_more _ _ _ i.faults (c.in_ok-do_act.ensures.cause.kept refl);
       steps = steps_more acts n _ c.args.steps.now c.loop-act.steps c.do_act.new.steps c.loop-act-test.true i.steps c.do_act.ensures.steps;
     }
 
@@ -87,7 +87,7 @@ returns-in_err-do_act-clause-whole g c = λ told. not_ok _ c.from_residual.resul
 
 pub returns-in_err-do_act-clause-cause : goal.returns-in_err-do_act-clause-cause
 returns-in_err-do_act-clause-cause g c =
-    went_wrong (g.B.Board.faults c.args.board.now) (g.B.Board.faults c.loop-act.board) (g.B.Board.faults c.do_act.new.board) _ c.from_residual.result c.loop-act.invariant.faults c.in_err-do_act.ensures.cause
+    went_wrong (g.B.Board.faults c.args.board.now) (g.B.Board.faults c.loop-act.board) (g.B.Board.faults c.do_act.new.board) _ c.from_residual.result c.from_residual.ensures.0 c.loop-act.invariant.faults c.in_err-do_act.ensures.cause
 
 pub returns-clause-durable : goal.returns-clause-durable
 returns-clause-durable g c = c.loop-act.invariant.durable ∙ ap (after_acts c.args.known.now.durable) (take_all c.loop-act.act-index c.args.acts.now c.loop-act-test.false)

@@ -14,6 +14,6 @@ invariant-loop-act g l = record {
   printed : g.B.Board.tells_text → g.B.Board.printed l.board ≡ g.B.Board.printed l.fn.board ++ texts l.seal (deeds_of (take l.act-index l.acts));
   points : g.B.Board.tells_image → KeepsTo g.B.Board l.tables l.seal l.fn.board l.board l.fn.known.durable (deeds_of (take l.act-index l.acts));
   beside : g.B.Board.tells_image → WritesTotals g.B.Board l.fn.board l.board;
-  faults : g.B.Board.faults l.fn.board ≤ g.B.Board.faults l.board;
+  faults : g.B.Board.faults l.board ≡ g.B.Board.faults l.fn.board;
   steps : l.steps ≤ l.fn.steps + l.act-index + 5 * commits_in (take l.act-index l.acts);
 }

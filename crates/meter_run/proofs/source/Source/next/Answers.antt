@@ -1,4 +1,6 @@
 use Rattle.std.proofs.lemmas.Option.{IfSome_then}
+use Rattle.outside.proofs.Laws.{may_rise_not}
+use Rattle.meter_run.proofs.Going.{not_some}
 use Rattle.meter_run.proofs.Sourcing.{gives_filled, stops_filled}
 use Rattle.meter_run.proofs.source.Source.next.Goals as goal
 
@@ -29,7 +31,7 @@ pub returns-in-Some-clause-read_fault : goal.returns-in-Some-clause-read_fault
 returns-in-Some-clause-read_fault g c = c.in-Some.ensures.read_fault
 
 pub returns-in-Some-clause-counts : goal.returns-in-Some-clause-counts
-returns-in-Some-clause-counts g c = c.fill.ensures.counts
+returns-in-Some-clause-counts g c = c.in-Some.ensures.counts
 
 pub returns-clause-range : goal.returns-clause-range
 returns-clause-range g c = c.feed.ensures.range
@@ -41,4 +43,4 @@ pub returns-clause-read_fault : goal.returns-clause-read_fault
 returns-clause-read_fault g c = λ fault. absurd (c.feed.ensures.no_fault fault)
 
 pub returns-clause-counts : goal.returns-clause-counts
-returns-clause-counts g c = c.fill.ensures.counts
+returns-clause-counts g c = λ other. may_rise_not ((c.fill.ensures.counts other).kept (λ fault. not_some c.fill.result _ c.in_default.is fault))
