@@ -1,14 +1,19 @@
--- What a call passes on of one that failed behind others.
-use Rattle.std.proofs.Common.{◌≡◌, ℕ, ◌+◌, ◌<◌, ◌≤◌, true, false, Result, Ok, Err, is_err, ap, arith}
+-- What a call says of a count of faults where it failed, and where it didn't.
+use Rattle.std.proofs.Common.{◌≡◌, ℕ, ◌+◌, ◌<◌, ◌≤◌, true, false, Result, Ok, Err, OnErr, is_err, refl, arith}
 use Rattle.outside.specs.Faults.{HasCause}
+use Rattle.data_port.specs.declared.serving.PortFault.{PortFault}
+use Rattle.data_port.specs.declared.serving.PortFault.TheVariants.{BoardFault, Frame}
 
--- the cause of a failure is that of what is answered
-pub cause_passed : {A E A' E' : Type 0} (old between new : ℕ) (r : Result A E) (fault : E) (answer : Result A' E') → r ≡ Err fault → old ≤ between → HasCause between new r → HasCause old new answer
-cause_passed old between new r fault answer is later cause = record { later = omega (arith, later, cause.later); failed = λ failed. omega (arith, later, cause.failed (ap is_err is)) }
+-- a call that didn't fail left the count
+pub left_if_not : {A E : Type 0} {before now : ℕ} (r : Result A E) → is_err r ≡ false → HasCause before now r → now ≡ before
+left_if_not (Ok value) fine cause = cause.kept refl
+left_if_not (Err fault) fine cause = absurd (let bad : true ≡ false = fine in cc)
 
--- where nothing failed no fault has to have risen
-pub cause_of_value : {A E : Type 0} (old new : ℕ) (value : A) → old ≤ new → HasCause {E = E} old new (Ok value)
-cause_of_value old new value later = record { later = later; failed = λ failed. absurd (let bad : false ≡ true = failed in cc) }
+-- a stream's end is no fault of the board
+pub end_is_not : (P : ℕ → Type 0) (r : Result (Unit {0}) PortFault) → OnErr r ((place : ℕ) × (r ≡ Err (Frame place)) × P place)
+    → r ≡ Err BoardFault → ⊥
+end_is_not P (Ok done) ended fault = absurd cc
+end_is_not P (Err why) ended fault = absurd (let bad : Frame ended.0 ≡ BoardFault = cc in cc)
 
 -- one step more, of some that aren't all yet
 pub steps_within : (old before now index all : ℕ) → index < all → before ≤ old + index → now ≤ before + 1 → now ≤ old + all

@@ -3,7 +3,6 @@ use Rattle.std.proofs.Common.{◌≡◌, ℕ, ◌+◌, ◌<◌, ◌≤◌, ◌^�
 use Rattle.std.specs.Prelude.{All, IfOk, IfErr, OnOk, OnErr, is_err}
 use Rattle.std.proofs.lemmas.Grind.{flat_map-append}
 use Rattle.std.proofs.lemmas.List.{append-nil, nil_from_length, take-append-drop}
-use Rattle.outside.specs.Faults.{Rose}
 use Rattle.outside.specs.Printing.{Begins}
 use Rattle.outside.proofs.Laws.{begins_after, begins_more}
 use Rattle.seal_store.specs.declared.seal.Seal.{Seal}
@@ -167,14 +166,6 @@ end_is_no_fault P same = absurd cc
 -- a read that failed isn't a failure of the board
 pub read_is_no_fault : (P : Type 0) → ◌≡◌ {A = Result (Unit {0}) PortFault} (Err ReadFault) (Err BoardFault) → P
 read_is_no_fault P same = absurd (let bad : ReadFault ≡ BoardFault = cc in cc)
-
--- a count that doesn't fall
-pub not_less : (old between new : ℕ) → old ≤ between → between ≤ new → old ≤ new
-not_less old between new first next = omega (arith, first, next)
-
--- a fault that rose behind others
-pub rose_behind : (old between new : ℕ) → old ≤ between → Rose between new → Rose old new
-rose_behind old between new later rose = omega (arith, later, rose)
 
 module _ (told : Type 0) (durable : Durable) (seal : Seal) (first now : Standing) (piece rest before printed : List ℕ) (opening steps : ℕ)
     (f : PieceSoFar told durable seal first now piece rest before printed opening steps) where

@@ -1,6 +1,6 @@
 //! Serves a stream of requests: reads it from a file, and prints the replies.
-ghost use Rattle.std.specs.Prelude.{◌≡◌, ◌≢◌, ℕ, ◌+◌, ◌<◌, ◌≤◌, ◌^◌, ◌++◌, List, [], All, length, take, drop, false, None, Some, IfOk, OnOk, OnErr};
-ghost use Rattle.outside.specs.Faults.{HasCause, Rose};
+ghost use Rattle.std.specs.Prelude.{◌≡◌, ◌≢◌, ℕ, ◌+◌, ◌<◌, ◌≤◌, ◌^◌, ◌++◌, List, [], All, length, take, drop, false, None, Some, IfOk, IsErr, OnOk, OnErr};
+ghost use Rattle.outside.specs.Faults.{HasCause, MayRise, RisesOnlyIf, Rose};
 ghost use Rattle.outside.specs.Printing.{Begins};
 ghost use Rattle.outside.specs.Runs.{KeepsStore};
 ghost use Rattle.seal_store.specs.Ranges.{IsSeal};
@@ -43,9 +43,9 @@ pub enum PortFault {
 /// to each request in order, with one call of the board, a step each. It takes no memory.
 ///
 /// `Frame` where the stream is bad, and `TooLong` where 2^40 bytes were taken, none of their places is bad,
-/// and the end wasn't told; the replies to the requests before were printed. `ReadFault` only where the
-/// files' count rose in this call, `BoardFault` only where the board's did; then a beginning of the replies
-/// was printed. The store stays as it was.
+/// and the end wasn't told; the replies to the requests before were printed. With `ReadFault` the
+/// count of the file rose by one in this call, with `BoardFault` the board's, and with each other answer
+/// neither; with these two a beginning of the replies was printed. The store stays as it was.
 ///
 /// The durable state and the seal are in their ranges. All of it is this project's own.
 pub fn serve<F: Files, B: Board<L>, L: Ledger>(
@@ -63,9 +63,9 @@ pub fn serve<F: Files, B: Board<L>, L: Ledger>(
     ensures steps { F.tells → IsBoundedBy (F.rest files.old word) (F.rest files.new word) steps.old steps.new }
     ensures others { (other : ℕ) → other ≢ word → F.rest files.new other ≡ F.rest files.old other }
     ensures read_fault { result ≡ Err PortFault.ReadFault → Rose (F.faults files.old word) (F.faults files.new word) }
-    ensures board_fault { result ≡ Err PortFault.BoardFault → Rose (B.faults board.old) (B.faults board.new) }
-    ensures counts { (other : ℕ) → F.faults files.old other ≤ F.faults files.new other }
-    ensures count { B.faults board.old ≤ B.faults board.new }
+    ensures board_fault { RisesOnlyIf (result ≡ Err PortFault.BoardFault) (B.faults board.old) (B.faults board.new) }
+    ensures counts { (other : ℕ)
+        → MayRise (result ≡ Err PortFault.ReadFault) (F.faults files.old other) (F.faults files.new other) }
     ensures store { KeepsStore B.Board board.old board.new }
 {
     let mut port = Port::new();
@@ -103,7 +103,7 @@ fn read_piece<F: Files>(
     ensures kept { F.tells → OnErr result (F.rest files.new word ≡ F.rest files.old word) }
     ensures others { (other : ℕ) → other ≢ word → F.rest files.new other ≡ F.rest files.old other }
     ensures cause { HasCause (F.faults files.old word) (F.faults files.new word) result }
-    ensures counts { (other : ℕ) → F.faults files.old other ≤ F.faults files.new other }
+    ensures counts { (other : ℕ) → MayRise (IsErr result) (F.faults files.old other) (F.faults files.new other) }
 {
     files.read(word, &mut piece[..most])
 }
@@ -153,8 +153,7 @@ fn serve_piece<B: Board<L>, L: Ledger>(
     ensures serves { ServesPiece B.tells_text durable.now seal.now port.old port.new piece.now
         (B.printed board.old) (B.printed board.new) result }
     ensures steps { steps.new ≤ steps.old + length (ended_in port.old piece.now) }
-    ensures board_fault { result ≡ Err PortFault.BoardFault → Rose (B.faults board.old) (B.faults board.new) }
-    ensures count { B.faults board.old ≤ B.faults board.new }
+    ensures board_fault { RisesOnlyIf (result ≡ Err PortFault.BoardFault) (B.faults board.old) (B.faults board.new) }
     ensures store { KeepsStore B.Board board.old board.new }
 {
     let mut rest = piece;

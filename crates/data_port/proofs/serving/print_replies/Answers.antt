@@ -1,4 +1,4 @@
-use Rattle.std.proofs.Common.{◌≡◌, ◌∙◌, ◌++◌, ◌≤◌, ℕ, List, length, take, ap, arith}
+use Rattle.std.proofs.Common.{◌≡◌, ◌∙◌, ◌++◌, ◌≤◌, ℕ, List, length, take, ap, refl, arith}
 use Rattle.std.proofs.lemmas.List.{take_all}
 use Rattle.outside.proofs.Laws.{begins_whole, keeps_then}
 use Rattle.seal_store.specs.declared.seal.Seal.{Seal}
@@ -6,7 +6,7 @@ use Rattle.totaliser_store.specs.declared.durable.Durable.{Durable}
 use Rattle.data_port.specs.declared.request.Request.{Request}
 use Rattle.data_port.specs.Serving.{replies}
 use Rattle.slot_store.proofs.Laws.{on_failed}
-use Rattle.data_port.proofs.Causes.{cause_passed, cause_of_value, steps_within}
+use Rattle.data_port.proofs.Causes.{steps_within}
 use Rattle.data_port.proofs.Pieces.{begun_one, printed_one}
 use Rattle.data_port.proofs.serving.print_replies.Goals as goal
 
@@ -16,7 +16,7 @@ loop-request-preserved g c =
     record {
       printed = λ tells. printed_one c.args.durable.now c.args.seal.now (printed c.args.board.now) (printed c.loop-request.board) (printed c.print_reply.new.board) c.args.requests.now c.loop-request.request-index c.request-item.result
           c.loop-request-test.true c.request-item.is (c.loop-request.invariant.printed tells) (c.in_ok-print_reply.ensures.whole tells);
-      faults = omega (arith, c.loop-request.invariant.faults, c.print_reply.ensures.cause.later);
+      faults = c.in_ok-print_reply.ensures.cause.kept refl ∙ c.loop-request.invariant.faults;
       store = keeps_then g.B.Board c.args.board.now c.loop-request.board c.print_reply.new.board c.loop-request.invariant.store c.print_reply.ensures.store;
       steps = omega (arith, c.loop-request.invariant.steps, c.print_reply.ensures.steps);
     }
@@ -45,17 +45,11 @@ returns-clause-begun g c = λ tells.
 pub returns-in_err-print_reply-clause-whole : goal.returns-in_err-print_reply-clause-whole
 returns-in_err-print_reply-clause-whole g c tells = on_failed c.from_residual.result _ c.from_residual.ensures.0
 
-pub returns-in_err-print_reply-clause-cause : goal.returns-in_err-print_reply-clause-cause
-returns-in_err-print_reply-clause-cause g c = cause_passed _ _ _ c.print_reply.result _ c.from_residual.result c.in_err-print_reply.was c.loop-request.invariant.faults c.print_reply.ensures.cause
-
 pub returns-in_err-print_reply-clause-steps : goal.returns-in_err-print_reply-clause-steps
 returns-in_err-print_reply-clause-steps g c = steps_within _ _ _ c.loop-request.request-index _ c.loop-request-test.true c.loop-request.invariant.steps c.print_reply.ensures.steps
 
 pub returns-in_err-print_reply-clause-store : goal.returns-in_err-print_reply-clause-store
 returns-in_err-print_reply-clause-store g c = keeps_then g.B.Board c.args.board.now c.loop-request.board c.print_reply.new.board c.loop-request.invariant.store c.print_reply.ensures.store
-
-pub returns-clause-cause : goal.returns-clause-cause
-returns-clause-cause g c = cause_of_value _ _ _ c.loop-request.invariant.faults
 
 pub returns-clause-store : goal.returns-clause-store
 returns-clause-store g c = c.loop-request.invariant.store

@@ -1,9 +1,11 @@
 use Rattle.std.proofs.Common.{◌≡◌, is_err, ◌+◌, ◌-◌, ◌≤◌, ◌++◌, ◌∙◌, ℕ, List, [], Ok, min, length, take, refl, sym, ap, arith, length-take}
 use Rattle.std.proofs.lemmas.List.{append-nil}
 use Rattle.std.proofs.lemmas.Result.{err_from_is_err_and}
-use Rattle.outside.proofs.Laws.{keeps_none, keeps_then}
+use Rattle.outside.proofs.Laws.{keeps_none, keeps_then, left_by_ok, may_rise_behind, may_rise_more, may_rise_not, rises_behind, rises_not, rose_behind}
 use Rattle.data_port.specs.Reading.{Standing}
-use Rattle.data_port.proofs.Pieces.{more_steps, not_less, read_is_no_fault, rose_behind, served_end, served_err, served_long, served_more}
+use Rattle.data_port.specs.declared.serving.PortFault.TheVariants.{BoardFault, TooLong}
+use Rattle.data_port.proofs.Causes.{end_is_not}
+use Rattle.data_port.proofs.Pieces.{more_steps, read_is_no_fault, served_end, served_err, served_long, served_more}
 use Rattle.data_port.proofs.serving.serve.Goals as goal
 
 -- after a read of no bytes the same is left
@@ -46,8 +48,8 @@ loop-left-init g c = record {
     bounded = omega arith;
   };
   others = λ other ne. refl;
-  counts = λ other. omega arith;
-  faults = omega arith;
+  counts = λ other. refl;
+  faults = refl;
   store = keeps_none g.B.Board c.args.board.now;
 }
 
@@ -61,8 +63,8 @@ loop-left-preserved g c =
           c.serve_piece.new.port c.front-bytes.result.now (g.F.Files.rest c.read_piece.new.files c.args.word) (g.B.Board.printed c.serve_piece.new.board) (c.loop-left.left - c.in-Ok.count) c.serve_piece.new.steps (λ k. c.in-Ok.ensures.taken k ∙ ap (λ (l : List ℕ). l ++ (g.F.Files.rest c.read_piece.new.files c.args.word)) (sym c.front-bytes.ensures))
           serves.0 serves.1 fewer serves.2 c.serve_piece.ensures.steps;
       others = λ other ne. c.read_piece.ensures.others other ne ∙ c.loop-left.invariant.others other ne;
-      counts = λ other. omega (arith, c.loop-left.invariant.counts other, c.read_piece.ensures.counts other);
-      faults = omega (arith, c.loop-left.invariant.faults, c.serve_piece.ensures.count);
+      counts = λ other. left_by_ok c.read_piece.result _ c.in-Ok.is (c.read_piece.ensures.counts other) ∙ c.loop-left.invariant.counts other;
+      faults = c.in_ok-serve_piece.ensures.board_fault.kept (λ no. absurd cc) ∙ c.loop-left.invariant.faults;
       store = keeps_then g.B.Board c.args.board.now c.loop-left.board c.serve_piece.new.board c.loop-left.invariant.store c.serve_piece.ensures.store;
     }
 
@@ -72,41 +74,20 @@ returns-clause-serves g c = served_long g.F.Files.tells g.B.Board.tells_text c.a
 pub returns-then-count-eq0-clause-others : goal.returns-then-count-eq0-clause-others
 returns-then-count-eq0-clause-others g c other ne = c.read_piece.ensures.others other ne ∙ c.loop-left.invariant.others other ne
 
-pub returns-then-count-eq0-clause-counts : goal.returns-then-count-eq0-clause-counts
-returns-then-count-eq0-clause-counts g c other = not_less _ _ _ (c.loop-left.invariant.counts other) (c.read_piece.ensures.counts other)
-
 pub returns-in-Err-clause-others : goal.returns-in-Err-clause-others
 returns-in-Err-clause-others g c other ne = c.read_piece.ensures.others other ne ∙ c.loop-left.invariant.others other ne
-
-pub returns-in-Err-clause-counts : goal.returns-in-Err-clause-counts
-returns-in-Err-clause-counts g c other = not_less _ _ _ (c.loop-left.invariant.counts other) (c.read_piece.ensures.counts other)
 
 pub returns-in_err-serve_piece-clause-others : goal.returns-in_err-serve_piece-clause-others
 returns-in_err-serve_piece-clause-others g c other ne = c.read_piece.ensures.others other ne ∙ c.loop-left.invariant.others other ne
 
-pub returns-in_err-serve_piece-clause-counts : goal.returns-in_err-serve_piece-clause-counts
-returns-in_err-serve_piece-clause-counts g c other = not_less _ _ _ (c.loop-left.invariant.counts other) (c.read_piece.ensures.counts other)
-
-pub returns-then-count-eq0-clause-count : goal.returns-then-count-eq0-clause-count
-returns-then-count-eq0-clause-count g c = c.loop-left.invariant.faults
-
 pub returns-then-count-eq0-clause-store : goal.returns-then-count-eq0-clause-store
 returns-then-count-eq0-clause-store g c = c.loop-left.invariant.store
-
-pub returns-in-Err-clause-count : goal.returns-in-Err-clause-count
-returns-in-Err-clause-count g c = c.loop-left.invariant.faults
 
 pub returns-in-Err-clause-store : goal.returns-in-Err-clause-store
 returns-in-Err-clause-store g c = c.loop-left.invariant.store
 
-pub returns-clause-count : goal.returns-clause-count
-returns-clause-count g c = c.loop-left.invariant.faults
-
 pub returns-clause-store : goal.returns-clause-store
 returns-clause-store g c = c.loop-left.invariant.store
-
-pub returns-in_err-serve_piece-clause-count : goal.returns-in_err-serve_piece-clause-count
-returns-in_err-serve_piece-clause-count g c = not_less _ _ _ c.loop-left.invariant.faults c.serve_piece.ensures.count
 
 pub returns-in_err-serve_piece-clause-store : goal.returns-in_err-serve_piece-clause-store
 returns-in_err-serve_piece-clause-store g c = keeps_then g.B.Board c.args.board.now c.loop-left.board c.serve_piece.new.board c.loop-left.invariant.store c.serve_piece.ensures.store
@@ -114,11 +95,34 @@ returns-in_err-serve_piece-clause-store g c = keeps_then g.B.Board c.args.board.
 pub returns-clause-others : goal.returns-clause-others
 returns-clause-others g c = c.loop-left.invariant.others
 
-pub returns-clause-counts : goal.returns-clause-counts
-returns-clause-counts g c = c.loop-left.invariant.counts
-
 pub returns-in-Err-clause-read_fault : goal.returns-in-Err-clause-read_fault
 returns-in-Err-clause-read_fault g c same = rose_behind _ _ _ (c.loop-left.invariant.counts c.args.word) (c.read_piece.ensures.cause.failed (ap is_err c.in-Err.is))
 
+pub returns-then-count-eq0-clause-counts : goal.returns-then-count-eq0-clause-counts
+returns-then-count-eq0-clause-counts g c other =
+    may_rise_not (left_by_ok c.read_piece.result _ c.in-Ok.is (c.read_piece.ensures.counts other) ∙ c.loop-left.invariant.counts other)
+
+pub returns-in-Err-clause-counts : goal.returns-in-Err-clause-counts
+returns-in-Err-clause-counts g c other =
+    may_rise_behind (c.loop-left.invariant.counts other) (may_rise_more (λ failed. refl) (c.read_piece.ensures.counts other))
+
+pub returns-in_err-serve_piece-clause-counts : goal.returns-in_err-serve_piece-clause-counts
+returns-in_err-serve_piece-clause-counts g c other =
+    may_rise_not (left_by_ok c.read_piece.result _ c.in-Ok.is (c.read_piece.ensures.counts other) ∙ c.loop-left.invariant.counts other)
+
+pub returns-clause-counts : goal.returns-clause-counts
+returns-clause-counts g c other = may_rise_not (c.loop-left.invariant.counts other)
+
+pub returns-then-count-eq0-clause-board_fault : goal.returns-then-count-eq0-clause-board_fault
+returns-then-count-eq0-clause-board_fault g c = rises_not (end_is_not _ c.end.result c.end.ensures.bad) c.loop-left.invariant.faults
+
 pub returns-in-Err-clause-board_fault : goal.returns-in-Err-clause-board_fault
-returns-in-Err-clause-board_fault g c = read_is_no_fault _
+returns-in-Err-clause-board_fault g c = rises_not (read_is_no_fault ⊥) c.loop-left.invariant.faults
+
+pub returns-in_err-serve_piece-clause-board_fault : goal.returns-in_err-serve_piece-clause-board_fault
+returns-in_err-serve_piece-clause-board_fault g c =
+    let p = err_from_is_err_and c.from_residual.result c.from_residual.ensures.1 in
+    rw (p.1, p.2) (rises_behind c.loop-left.invariant.faults c.in_err-serve_piece.ensures.board_fault)
+
+pub returns-clause-board_fault : goal.returns-clause-board_fault
+returns-clause-board_fault g c = rises_not (λ same. absurd (let bad : TooLong ≡ BoardFault = cc in cc)) c.loop-left.invariant.faults

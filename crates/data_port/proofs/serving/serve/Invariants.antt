@@ -1,4 +1,4 @@
-use Rattle.std.proofs.Common.{◌≡◌, ◌≢◌, ◌≤◌, ℕ}
+use Rattle.std.proofs.Common.{◌≡◌, ◌≢◌, ℕ}
 use Rattle.outside.specs.Runs.{KeepsStore}
 use Rattle.data_port.proofs.Pieces.{ServedSoFar}
 use Rattle.data_port.proofs.serving.serve.Given as goal
@@ -9,8 +9,8 @@ invariant-loop-left g l = record {
   so_far : ServedSoFar g.F.Files.tells g.B.Board.tells_text l.durable l.seal l.port (g.F.Files.rest l.fn.files l.word) (g.F.Files.rest l.files l.word)
       (g.B.Board.printed l.fn.board) (g.B.Board.printed l.board) l.left l.fn.steps l.steps;
   others : (other : ℕ) → other ≢ l.word → g.F.Files.rest l.files other ≡ g.F.Files.rest l.fn.files other;
-  counts : (other : ℕ) → g.F.Files.faults l.fn.files other ≤ g.F.Files.faults l.files other;
-  faults : g.B.Board.faults l.fn.board ≤ g.B.Board.faults l.board;
+  counts : (other : ℕ) → g.F.Files.faults l.files other ≡ g.F.Files.faults l.fn.files other;
+  faults : g.B.Board.faults l.board ≡ g.B.Board.faults l.fn.board;
   store : KeepsStore g.B.Board l.fn.board l.board;
 }
 

@@ -1,6 +1,7 @@
-use Rattle.std.proofs.Common.{◌≡◌, ◌∙◌, length, sym, arith, rules}
-use Rattle.outside.proofs.Laws.{keeps_none, keeps_then}
-use Rattle.data_port.proofs.Pieces.{bad_is_no_fault, breaks_by, end_is_no_fault, not_less, ok_of, piece_bad, piece_bad_shown, piece_begun, piece_few, piece_more, piece_opens, piece_requests, piece_sense, piece_steps, piece_whole, piece_whole_steps, rose_behind, starts_by, takes_by}
+use Rattle.std.proofs.Common.{◌≡◌, ◌∙◌, refl, length, sym, rules}
+use Rattle.outside.proofs.Laws.{keeps_none, keeps_then, rises_by, rises_not, rose_behind}
+use Rattle.data_port.proofs.Causes.{left_if_not}
+use Rattle.data_port.proofs.Pieces.{bad_is_no_fault, breaks_by, end_is_no_fault, ok_of, piece_bad, piece_bad_shown, piece_begun, piece_few, piece_more, piece_opens, piece_requests, piece_sense, piece_steps, piece_whole, piece_whole_steps, starts_by, takes_by}
 use Rattle.data_port.proofs.serving.serve_piece.Goals as goal
 
 pub returns-then-is_err-clause-serves : goal.returns-then-is_err-clause-serves
@@ -36,7 +37,7 @@ loop-rest-preserved g c = record {
       c.feed-fed.new.self c.behind-left.result.now (g.B.Board.printed c.print_replies.new.board) c.as_slice.result.now c.print_replies.new.steps c.in-Ok.count c.requires.sense
       c.in-Ok.ensures.within c.behind-left.ensures c.in-Ok.ensures.taken (takes_by c.loop-rest.port c.loop-rest.rest.now c.new-requests.result.items c.feed-fed.new.out.items c.as_slice.result.now c.in-Ok.count c.new-requests.ensures c.as_slice.ensures.value c.in-Ok.ensures.requests)
       c.in-Ok.ensures.stands.2 c.in-Ok.ensures.count (λ t. ok_of c.print_replies.result _ (sym c.is_err.ensures.value ∙ c.if-is_err.false) (c.print_replies.ensures.whole t)) c.print_replies.ensures.steps;
-  faults = omega (arith, c.loop-rest.invariant.faults, c.print_replies.ensures.cause.later);
+  faults = left_if_not c.print_replies.result (sym c.is_err.ensures.value ∙ c.if-is_err.false) c.print_replies.ensures.cause ∙ c.loop-rest.invariant.faults;
   store = keeps_then g.B.Board c.args.board.now c.loop-rest.board c.print_replies.new.board c.loop-rest.invariant.store c.print_replies.ensures.store;
 }
 
@@ -44,7 +45,7 @@ pub loop-rest-init : goal.loop-rest-init
 loop-rest-init g c =
     record {
       so_far = piece_opens g.B.Board.tells_text c.args.durable.now c.args.seal.now c.args.port.now c.args.piece.now (g.B.Board.printed c.args.board.now) c.args.steps.now c.requires.going;
-      faults = omega arith;
+      faults = refl;
       store = keeps_none g.B.Board c.args.board.now;
     }
 
@@ -63,29 +64,11 @@ print_replies-requires-clause-seal g c = c.requires.seal
 pub behind-left-requires : goal.behind-left-requires
 behind-left-requires g c = c.in-Ok.ensures.within
 
-pub returns-then-is_err-clause-board_fault : goal.returns-then-is_err-clause-board_fault
-returns-then-is_err-clause-board_fault g c same = rose_behind _ _ _ c.loop-rest.invariant.faults (c.print_replies.ensures.cause.failed (sym c.is_err.ensures.value ∙ c.if-is_err.true))
-
-pub returns-in-Err-clause-board_fault : goal.returns-in-Err-clause-board_fault
-returns-in-Err-clause-board_fault g c = bad_is_no_fault c.in-Err.bad.place _
-
-pub returns-clause-board_fault : goal.returns-clause-board_fault
-returns-clause-board_fault g c = end_is_no_fault _
-
-pub returns-then-is_err-clause-count : goal.returns-then-is_err-clause-count
-returns-then-is_err-clause-count g c = not_less _ _ _ c.loop-rest.invariant.faults c.print_replies.ensures.cause.later
-
 pub returns-then-is_err-clause-store : goal.returns-then-is_err-clause-store
 returns-then-is_err-clause-store g c = keeps_then g.B.Board c.args.board.now c.loop-rest.board c.print_replies.new.board c.loop-rest.invariant.store c.print_replies.ensures.store
 
-pub returns-in-Err-clause-count : goal.returns-in-Err-clause-count
-returns-in-Err-clause-count g c = not_less _ _ _ c.loop-rest.invariant.faults c.print_replies.ensures.cause.later
-
 pub returns-in-Err-clause-store : goal.returns-in-Err-clause-store
 returns-in-Err-clause-store g c = keeps_then g.B.Board c.args.board.now c.loop-rest.board c.print_replies.new.board c.loop-rest.invariant.store c.print_replies.ensures.store
-
-pub returns-clause-count : goal.returns-clause-count
-returns-clause-count g c = c.loop-rest.invariant.faults
 
 pub returns-clause-store : goal.returns-clause-store
 returns-clause-store g c = c.loop-rest.invariant.store
@@ -99,3 +82,14 @@ pub returns-clause-steps : goal.returns-clause-steps
 returns-clause-steps g c =
     let none : length c.loop-rest.rest.now ≡ 0 = search rules in
     piece_whole_steps g.B.Board.tells_text c.args.durable.now c.args.seal.now c.args.port.now c.loop-rest.port c.args.piece.now c.loop-rest.rest.now (g.B.Board.printed c.args.board.now) (g.B.Board.printed c.loop-rest.board) c.args.steps.now c.loop-rest.steps c.loop-rest.invariant.so_far none
+
+pub returns-then-is_err-clause-board_fault : goal.returns-then-is_err-clause-board_fault
+returns-then-is_err-clause-board_fault g c = rises_by refl
+    (rose_behind _ _ _ c.loop-rest.invariant.faults (c.print_replies.ensures.cause.failed (sym c.is_err.ensures.value ∙ c.if-is_err.true)))
+
+pub returns-in-Err-clause-board_fault : goal.returns-in-Err-clause-board_fault
+returns-in-Err-clause-board_fault g c = rises_not (bad_is_no_fault c.in-Err.bad.place ⊥)
+    (left_if_not c.print_replies.result (sym c.is_err.ensures.value ∙ c.if-is_err.false) c.print_replies.ensures.cause ∙ c.loop-rest.invariant.faults)
+
+pub returns-clause-board_fault : goal.returns-clause-board_fault
+returns-clause-board_fault g c = rises_not (end_is_no_fault ⊥) c.loop-rest.invariant.faults

@@ -1,4 +1,4 @@
-use Rattle.std.proofs.Common.{◌≤◌, length}
+use Rattle.std.proofs.Common.{length, ◌≡◌}
 use Rattle.outside.specs.Runs.{KeepsStore}
 use Rattle.data_port.proofs.Pieces.{PieceSoFar}
 use Rattle.data_port.proofs.serving.serve_piece.Given as goal
@@ -7,7 +7,7 @@ use Rattle.data_port.proofs.serving.serve_piece.Given as goal
 abbrev pub invariant-loop-rest : goal.invariant-loop-rest
 invariant-loop-rest g l = record {
   so_far : PieceSoFar g.B.Board.tells_text l.durable l.seal l.fn.port l.port l.piece l.rest (g.B.Board.printed l.fn.board) (g.B.Board.printed l.board) l.fn.steps l.steps;
-  faults : g.B.Board.faults l.fn.board ≤ g.B.Board.faults l.board;
+  faults : g.B.Board.faults l.board ≡ g.B.Board.faults l.fn.board;
   store : KeepsStore g.B.Board l.fn.board l.board;
 }
 
