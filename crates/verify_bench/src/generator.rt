@@ -1,6 +1,6 @@
 //! The generated drive as a file.
-ghost use Rattle.std.specs.Prelude.{◌≡◌, ◌≢◌, ℕ, ◌<◌, ◌≤◌, ◌++◌, [], length, take, IfOk, IsOk, OnErr};
-ghost use Rattle.outside.specs.Faults.{HasCause};
+ghost use Rattle.std.specs.Prelude.{◌≡◌, ◌≢◌, ℕ, ◌<◌, ◌≤◌, ◌++◌, [], length, take, IfOk, IsErr, IsOk, OnErr};
+ghost use Rattle.outside.specs.Faults.{HasCause, MayRise};
 ghost use Rattle.verify_bench.specs.Generated.{generated, rest_of};
 
 use crate::remaining::Remaining;
@@ -59,7 +59,7 @@ impl Files for Generator {
         ensures kept { OnErr result (rest_of self.new word ≡ rest_of self.old word) }
         ensures others { (other : ℕ) → other ≢ word → rest_of self.new other ≡ rest_of self.old other }
         ensures cause { HasCause 0 0 result }
-        ensures counts { ℕ → 0 ≤ 0 }
+        ensures counts { ℕ → MayRise (IsErr result) 0 0 }
 
         // No read fails.
         ensures never { IsOk result }
