@@ -43,14 +43,14 @@ pub fn read_book(alloc: Global, text: &[u8], now: &Durable) -> Result<Vec<Mark>,
     ensures refused { (fault : BookFault) → result ≡ Err fault → fault ≢ BookFault.NoMemory
         → book_read now.now text.now ≡ Err fault }
 {
-    let _limit = numbers_in(now);
+    let limit = numbers_in(now);
     if text.len() > LONGEST {
         return Err(BookFault::TooLong);
     }
     let mut marks = Vec::new(alloc);
     let mut rest = text;
     while !rest.is_empty() {
-        match next_mark(rest, marks.as_slice(), now) {
+        match next_mark(rest, marks.as_slice(), &limit) {
             Some((mark, after)) => {
                 if marks.push(mark).is_err() {
                     return Err(BookFault::NoMemory);

@@ -85,7 +85,6 @@ pub fn put_mark(line: &mut Line, mark: &Mark) -> Result<(), LineFull>
     ensures short { length (mark_text mark.now) ≤ 222 }
     ensures says { HasDriver mark.now.on mark.now.driver → IsMarkLine (mark_text mark.now) mark.now }
 {
-    let _numbers = mark.numbers();
     put_bytes(line, spelled(mark).as_slice())
 }
 
@@ -94,6 +93,7 @@ pub(crate) fn spelled(mark: &Mark) -> Line
     ensures text { result.items ≡ mark_text mark.now }
     ensures some { 0 < array_vec_len result }
     ensures short { array_vec_len result ≤ 222 }
+    ensures fit { Fit mark.now.numbers }
 {
     let mut line = Line::new();
     push_head(&mut line, mark);

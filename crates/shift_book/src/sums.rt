@@ -26,11 +26,9 @@ pub(crate) fn sums_of(alloc: Global, shifts: &[Shift]) -> Result<Sums, NoMemory>
     let mut sums = BTreeMap::new(alloc);
     let mut left = shifts;
     while let Some((shift, rest)) = left.split_first() {
-        let _count = sums.len();
         add_shift(&mut sums, shift)?;
         left = rest;
     }
-    let _count = sums.len();
     Ok(sums)
 }
 
@@ -43,6 +41,7 @@ fn add_shift(sums: &mut Sums, shift: &Shift) -> Result<(), NoMemory>
         ≡ (if is_of driver shift.now
         then Some (plus (sum_so_far shift.now.driver sums.old.entries) shift.now.growth)
         else lookup (is_at (driver_cmp driver)) sums.old.entries)) }
+    ensures ordered { OnOk result (AreOrdered sums.new.entries) }
 {
     let driver = copied(&shift.driver);
     let sum = plus(&sum_so_far(sums, &driver), &shift.growth);

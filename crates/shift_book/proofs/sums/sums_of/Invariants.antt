@@ -1,10 +1,12 @@
 use Rattle.std.proofs.Common.{◌≡◌, [], length}
 use Rattle.shift_book.specs.ShareStages.{with_shifts}
+use Rattle.shift_book.specs.Shares.{AreOrdered}
 use Rattle.shift_book.proofs.Sharing.{SoFar}
 use Rattle.shift_book.proofs.sums.sums_of.Given as goal
 
 abbrev pub invariant-loop-shift : goal.invariant-loop-shift
 invariant-loop-shift l = record {
+  ordered : AreOrdered l.sums.entries;
   shared : SoFar l.sums.entries l.left l.shifts;
   same : with_shifts l.sums.entries l.left ≡ with_shifts [] l.shifts;
 }
