@@ -95,7 +95,7 @@ impl State {
         let display = self.display(tables, seal);
         let mut gate = self.gate;
         gate.take() == 0
-            && self.began == self.clock
+            && self.began == self.clock.second()
             && matches!(self.latch, None)
             && is_shown(&self.shown, &display)
     }

@@ -44,7 +44,7 @@ impl State {
         }
         let fee = self.fee(tables, seal, steps);
         self.operating = Operating::Hired;
-        self.trip = Some(begun(tables, fee, self.clock, self.roam));
+        self.trip = Some(begun(tables, fee, self.clock.second(), self.roam));
         self.roam = 0;
     }
 
@@ -56,7 +56,7 @@ impl State {
         ensures fit { IsFitInitial result }
         ensures steps { steps.new ≤ steps.old + 29 }
     {
-        let x = self.context_at(self.clock, tables, seal, steps);
+        let x = self.context_at(self.clock.second(), tables, seal, steps);
         tables.initial_at(&x, steps)
     }
 
@@ -76,7 +76,7 @@ impl State {
     {
         let closing = Closing {
             kind: Kind::Closed,
-            finish: self.clock,
+            finish: self.clock.second(),
         };
         self.close(closing, tables, seal, acts, steps);
     }

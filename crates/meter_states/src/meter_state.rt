@@ -11,6 +11,7 @@ ghost use Rattle.meter_states.specs.Meter.{Meter};
 ghost use Rattle.meter_states.specs.Setting.{Setting};
 ghost use Rattle.meter_states.specs.Supply as supply;
 
+use interval_clock::Clock;
 use pulse_input::Gate;
 use std::marker::Model;
 use tariff_compile::Tables;
@@ -23,7 +24,7 @@ use totaliser_store::Trip;
 #[derive(Drop)]
 pub(crate) struct State {
     pub(crate) operating: Operating,
-    pub(crate) clock: u64,
+    pub(crate) clock: Clock,
     pub(crate) began: u64,
     pub(crate) gate: Gate,
     pub(crate) latch: Option<Key>,
@@ -81,7 +82,7 @@ impl State {
     {
         State {
             operating,
-            clock: second,
+            clock: Clock::new(second),
             began: second,
             gate: Gate::new(),
             latch: None,

@@ -137,16 +137,15 @@ impl State {
         ensures follows { (s : Setting) (m : Meter) → self.old ≡ plain_of s m
             → Follows s self.new acts.old.items acts.new.items (clock_read m.operating second m) }
     {
-        if self.is_busy() && second < self.clock {
+        let busy = self.is_busy();
+        if let Err(back) = self.clock.set(second, busy) {
             refuse(
                 Why::ClockBack {
-                    last: self.clock,
-                    given: second,
+                    last: back.last,
+                    given: back.given,
                 },
                 acts,
             );
-            return;
         }
-        self.clock = second;
     }
 }

@@ -79,7 +79,7 @@ impl State {
                 } else {
                     let closing = Closing {
                         kind: Kind::Aborted,
-                        finish: self.clock,
+                        finish: self.clock.second(),
                     };
                     self.close(closing, tables, seal, acts, steps);
                 }
@@ -120,7 +120,7 @@ impl State {
         extras_are_few(&trip, tables);
         modulus(tables);
         Trip {
-            saved: self.clock,
+            saved: self.clock.second(),
             stopped: self.is_stopped(),
             position: self.position,
             zone: self.zone,

@@ -44,7 +44,8 @@ impl State {
         self.expire_or_press(tables, seal, acts, steps);
         self.check_roaming(tables, seal, acts);
         self.show(tables, seal, acts);
-        self.began = self.clock;
+        let second = self.clock.second();
+        self.began = second;
     }
 
     /// A trip that has reached its longest time expires; otherwise the key that waits acts. At most 29
@@ -99,7 +100,7 @@ impl State {
     {
         let closing = Closing {
             kind: Kind::Expired,
-            finish: self.clock,
+            finish: self.clock.second(),
         };
         self.close(closing, tables, seal, acts, steps);
         if let Some(_) = self.latch {

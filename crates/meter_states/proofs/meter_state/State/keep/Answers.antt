@@ -1,4 +1,4 @@
-use Rattle.std.proofs.Common.{◌<◌, ◌≤◌, ap, sym, subst, ◌∙◌}
+use Rattle.std.proofs.Common.{ℕ, ◌<◌, ◌≤◌, ap, sym, subst, ◌∙◌}
 use Rattle.taxi_units.specs.Time.{IsSecond}
 use Rattle.taxi_units.specs.declared.receipt.Kind.TheVariants.{Aborted}
 use Rattle.meter_states.specs.Closing.{closed}
@@ -44,7 +44,7 @@ pub close-requires-clause-kind : goal.close-requires-clause-kind
 close-requires-clause-kind g c = aborted-closes
 
 pub close-requires-clause-finish : goal.close-requires-clause-finish
-close-requires-clause-finish g c = subst (λ (p : Plain). IsSecond p.clock) (sym c.self.view_is) c.requires.lawful.clock
+close-requires-clause-finish g c = subst IsSecond (sym (c.second.ensures ∙ ap (λ (p : Plain). p.clock) c.self.view_is)) c.requires.lawful.clock
 
 pub close-requires-clause-room : goal.close-requires-clause-room
 close-requires-clause-room g c = few-none 1 c.args.acts.now.items c.requires.room
@@ -83,7 +83,7 @@ pub returns-else-self-lt-HOLDS_END-clause-follows : goal.returns-else-self-lt-HO
 returns-else-self-lt-HOLDS_END-clause-follows g c = λ s m is e.
     let has = trip-saved s m.trip c.in-Some.trip (sym (ap (λ (p : Plain). p.trip) (c.self.view_is ∙ e)) ∙ c.in-Some.is) in
     let many = subst (λ (p : Plain). 2000000000000000 ≤ p.number) (c.self.view_is ∙ e) c.if-self-lt-HOLDS_END.false in
-    let same = ap (λ (p : Plain). closed s Aborted p.clock m) (c.self.view_is ∙ e) ∙ sym (kept-closed s m has.0 has.1 many) in
+    let same = ap (λ (n : ℕ). closed s Aborted n m) (c.second.ensures ∙ ap (λ (p : Plain). p.clock) (c.self.view_is ∙ e)) ∙ sym (kept-closed s m has.0 has.1 many) in
     subst (λ (o : Outcome). Follows s c.close.new.self c.args.acts.now.items c.close.new.acts.items o) same (c.close.ensures.follows s m is e)
 
 pub returns-else-self-lt-HOLDS_END-clause-steps : goal.returns-else-self-lt-HOLDS_END-clause-steps
