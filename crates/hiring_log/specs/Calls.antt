@@ -43,8 +43,8 @@ MayHave None status = (status ≡ 1) ⊎ (status ≡ 8)
 MayHave (Some Show) status = (status ≡ 0) ⊎ ((status ≡ 2) ⊎ ((status ≡ 3) ⊎ (status ≡ 8)))
 MayHave (Some File) status = (status ≤ 8) × ((status ≢ 1) × (status ≢ 6))
 
--- a read may have failed in a call with a status: it has with 7, and may have with 4 and with 8, if the receipt of
--- another taxi, or the one that the board failed to take, was found in the bytes that were taken before
+-- a read of the roll may have failed in a call that ends with this status: with 7 one has, and with 4 and 8 one may
+-- have, since what was taken of the roll before it is still gone through
 abbrev pub MayHaveReadFault : (status : ℕ) → Type 0
 MayHaveReadFault status = (status ≡ 4) ⊎ ((status ≡ 7) ⊎ (status ≡ 8))
 
