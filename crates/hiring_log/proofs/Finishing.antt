@@ -10,7 +10,8 @@ use Rattle.outside.specs.declared.board.Board.{Ghosts}
 use Rattle.outside.specs.declared.files.Files.{Ghosts as FileGhosts}
 use Rattle.outside.proofs.Laws.{begins_after, begins_more, leaves_kept, leaves_then, leaves_wider}
 use Rattle.slot_store.specs.Syncs.{LeavesFromSync, ReadsOnly}
-use Rattle.hiring_log.specs.Calls.{AppendsNothing, IsCall, IsCutShort, IsFit, IsNewestOf, IsOfTaxi, IsOneTaxi, IsWhole, LeavesLog, MayEnd, MayHave, MayHaveReadFault, OnlyLooks, WritesNothing, shown_of}
+use Rattle.hiring_log.specs.Calls.{AppendsNothing, IsCall, IsCutShort, IsFit, IsNewestOf, IsOfTaxi, IsOneTaxi, IsWhole}
+use Rattle.hiring_log.specs.Calls.{LeavesLog, MayEnd, MayHave, MayHaveReadFault, OnlyLooks, WritesNothing, shown_of}
 use Rattle.hiring_log.proofs.EndCases.{fault_has}
 use Rattle.hiring_log.specs.Comes.{Comes, IsBrokenOff, IsDue, IsTold}
 use Rattle.hiring_log.specs.Endings.{line_of, status_of}
@@ -47,7 +48,9 @@ silent_end : (ended : Ended) → status_of ended ≡ 8 → line_of ended ≡ []
 silent_end ended e = ap line_of (eight_is ended e)
 
 -- a reason stays one if the call whose board failed has its count of faults in the end
-may_later : (call : Option Call) (image roll rest : List ℕ) (read_failed then now : Type 0) (ended : Ended) (found filed : List Record) → (ended ≡ BoardFault → now) → MayEnd call image roll rest read_failed then ended found filed
+may_later : (call : Option Call) (image roll rest : List ℕ) (read_failed then now : Type 0) (ended : Ended)
+    (found filed : List Record) → (ended ≡ BoardFault → now)
+    → MayEnd call image roll rest read_failed then ended found filed
     → MayEnd call image roll rest read_failed now ended found filed
 may_later call image roll rest read_failed then now (Filed count) found filed later may = may
 may_later call image roll rest read_failed then now Shown found filed later may = may
@@ -131,7 +134,9 @@ module _ {D L : Type 0} (B : Ghosts D L) where
   ]
 
   -- what is printed
-  told_end : (course ended : Ended) (found : List Record) (log mid log' : D) (status' : ℕ) → RisesOnlyIf (status' ≡ 8) (B.faults log) (B.faults log') → IsDue B course found log mid ended ⊎ IsBrokenOff B course found log mid ended
+  told_end : (course ended : Ended) (found : List Record) (log mid log' : D) (status' : ℕ)
+      → RisesOnlyIf (status' ≡ 8) (B.faults log) (B.faults log')
+      → IsDue B course found log mid ended ⊎ IsBrokenOff B course found log mid ended
       → IsTold B ended mid log' status' → (line_of ended ≡ [] → (log' ≡ mid) × (status' ≡ status_of ended)) → IsWhole B course found log log' status' ⊎ IsCutShort B course found log log' status'
   told_end course ended found log mid log' status' rises (inl due) (inl (status_is, printed)) silent = inl (record {
     status_is = status_is ∙ ap status_of due.ended_is;
@@ -154,20 +159,26 @@ module _ {D L : Type 0} (B : Ghosts D L) where
       })
 
   -- a course at which the board failed has come to its end
-  board_ends : (course ended : Ended) (found : List Record) (log mid log' : D) (status' : ℕ) → IsDue B course found log mid ended ⊎ IsBrokenOff B course found log mid ended
+  board_ends : (course ended : Ended) (found : List Record) (log mid log' : D) (status' : ℕ)
+      → IsDue B course found log mid ended ⊎ IsBrokenOff B course found log mid ended
       → (line_of ended ≡ [] → (log' ≡ mid) × (status' ≡ status_of ended)) → course ≡ BoardFault → status' ≡ 8
-  board_ends course ended found log mid log' status' (inl due) silent is = let e = due.ended_is ∙ is in (silent (ap line_of e)).1 ∙ ap status_of e
-  board_ends course ended found log mid log' status' (inr broken) silent is = let e = broken.ended_is in (silent (ap line_of e)).1 ∙ ap status_of e
+  board_ends course ended found log mid log' status' (inl due) silent is =
+      let e = due.ended_is ∙ is in (silent (ap line_of e)).1 ∙ ap status_of e
+  board_ends course ended found log mid log' status' (inr broken) silent is =
+      let e = broken.ended_is in (silent (ap line_of e)).1 ∙ ap status_of e
 
   -- the count of faults of the board, behind the last line
-  pub fault_finished : (ended : Ended) (log mid log' : D) (status' : ℕ) → RisesOnlyIf (ended ≡ BoardFault) (B.faults log) (B.faults mid)
-      → (ended ≢ BoardFault → RisesOnlyIf (status' ≡ 8) (B.faults mid) (B.faults log')) → (line_of ended ≡ [] → (log' ≡ mid) × (status' ≡ status_of ended))
+  pub fault_finished : (ended : Ended) (log mid log' : D) (status' : ℕ)
+      → RisesOnlyIf (ended ≡ BoardFault) (B.faults log) (B.faults mid)
+      → (ended ≢ BoardFault → RisesOnlyIf (status' ≡ 8) (B.faults mid) (B.faults log'))
+      → (line_of ended ≡ [] → (log' ≡ mid) × (status' ≡ status_of ended))
       → RisesOnlyIf (status' ≡ 8) (B.faults log) (B.faults log')
   fault_finished ended log mid log' status' first next silent = elim (cases_eq (status_of ended) 8) [
     | inl is ↦
         (let quiet = silent (silent_end ended is) in record {
           kept = λ no. absurd (no (quiet.1 ∙ is));
-          rose = λ _. subst (λ (d : D). Rose (B.faults log) (B.faults d)) (sym quiet.0) (first.rose (eight_is ended is));
+          rose = λ _. subst (λ (d : D). Rose (B.faults log) (B.faults d)) (sym quiet.0)
+              (first.rose (eight_is ended is));
         })
     | inr not ↦
         (let other : ended ≢ BoardFault = λ e. not (ap status_of e) in
@@ -206,14 +217,16 @@ module _ {D L : Type 0} (B : Ghosts D L) where
 module _ {E D L : Type 0} (F : FileGhosts E) (B : Ghosts D L) where
   -- a call
   pub call_told : (call : Option Call) (files files' : E) (log mid log' : D) (steps steps' steps'' : ℕ) (ended : Ended) (status' : ℕ) → LeavesNow B mid → Comes F B call files files' log mid steps steps' ended
-      → IsTold B ended mid log' status' → (line_of ended ≡ [] → (log' ≡ mid) × (status' ≡ status_of ended)) → KeepsStore B mid log' → RisesOnlyIf (status' ≡ 8) (B.faults log) (B.faults log') → steps'' ≤ steps' + 1
+      → IsTold B ended mid log' status' → (line_of ended ≡ [] → (log' ≡ mid) × (status' ≡ status_of ended))
+      → KeepsStore B mid log' → RisesOnlyIf (status' ≡ 8) (B.faults log) (B.faults log') → steps'' ≤ steps' + 1
       → IsCall F B call files files' log log' steps steps'' status'
   call_told call files files' log mid log' steps steps' steps'' ended status' now comes told silent keeps rises few = record {
     ended = comes.course;
     found = comes.found;
     filed = comes.filed;
     may = may_later call (B.image log) (F.rest files 1) (F.rest files' 1) (Rose (F.faults files 1) (F.faults files' 1)) (Rose (B.faults log) (B.faults mid)) (Rose (B.faults log) (B.faults log')) comes.course comes.found comes.filed
-        (λ is. rises.rose (board_ends B comes.course ended comes.found log mid log' status' comes.stands silent is)) comes.may;
+        (λ is. rises.rose (board_ends B comes.course ended comes.found log mid log' status' comes.stands silent is))
+        comes.may;
     ends = told_end B comes.course ended comes.found log mid log' status' rises comes.stands told silent;
     leaves = λ file list stands. leaves_finished B log mid log' list comes.filed ended status' now (comes.leaves file list stands) keeps silent;
     few = λ file. omega (arith, comes.few file, few);

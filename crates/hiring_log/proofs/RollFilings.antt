@@ -1,12 +1,14 @@
 -- How the filing of a roll goes on and ends.
-use Rattle.std.proofs.Common.{◌≡◌, ◌≢◌, ◌⊎◌, inl, inr, ℕ, ◌+◌, ◌*◌, ◌≤◌, List, [], ◌∷◌, ◌++◌, length, Option, Some, None, Result, Ok, Err, refl, ap, sym, ◌∙◌, subst, arith, length-append}
+use Rattle.std.proofs.Common.{◌≡◌, ◌≢◌, ◌⊎◌, inl, inr, ℕ, ◌+◌, ◌*◌, ◌≤◌, List, [], ◌∷◌, ◌++◌, length, Option, Some}
+use Rattle.std.proofs.Common.{None, Result, Ok, Err, refl, ap, sym, ◌∙◌, subst, arith, length-append}
 use Rattle.std.proofs.lemmas.List.{append-nil}
 use Rattle.std.specs.Prelude.{IsErrAnd, OnErr}
 use Rattle.outside.specs.Faults.{MayRise, RisesOnlyIf, Rose}
 use Rattle.outside.specs.declared.board.Board.{Ghosts}
 use Rattle.outside.specs.declared.fault.Failed.{Failed}
 use Rattle.hiring_log.specs.Filed.{Files, IsFiledOf, IsNewer, IsOther}
-use Rattle.hiring_log.specs.Filings.{EndsAs, FailsInRoll, FilesRoll, FilesTo, IsFiling, IsTold, LeavesSome, MayHaveFailed}
+use Rattle.hiring_log.specs.Filings.{EndsAs, FailsInRoll, FilesRoll, FilesTo, IsFiling, IsTold, LeavesSome}
+use Rattle.hiring_log.specs.Filings.{MayHaveFailed}
 use Rattle.hiring_log.specs.Reading.{EndsBy, FailsNow, GoesOn, HasRead, Place}
 use Rattle.hiring_log.specs.Record.{Record}
 use Rattle.hiring_log.specs.declared.file_roll.FileEnd.{FileEnd}

@@ -3,7 +3,8 @@ ghost use Rattle.std.specs.Prelude.{◌≡◌, ◌≢◌, ◌⊎◌, ℕ, ◌+�
 ghost use Rattle.outside.specs.Faults.{MayRise, RisesOnlyIf, Rose};
 ghost use Rattle.outside.specs.Runs.{KeepsStore};
 ghost use Rattle.hiring_log.specs.Boards.{board_of};
-ghost use Rattle.hiring_log.specs.Calls.{AppendsNothing, AreFew, IsCall, IsFit, MayHave, MayHaveReadFault, OnlyLooks, WritesNothing, known_of};
+ghost use Rattle.hiring_log.specs.Calls.{AppendsNothing, AreFew, IsCall, IsFit, MayHave, MayHaveReadFault, OnlyLooks};
+ghost use Rattle.hiring_log.specs.Calls.{WritesNothing, known_of};
 ghost use Rattle.hiring_log.specs.Comes.{Comes, IsTold};
 ghost use Rattle.hiring_log.specs.Endings.{filing_end, line_of, status_of, unread_end};
 ghost use Rattle.hiring_log.specs.FilingEnds.{newest_of};

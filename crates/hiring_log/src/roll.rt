@@ -1,5 +1,7 @@
 //! Reads the receipts of a roll from its file, piece by piece.
-ghost use Rattle.std.specs.Prelude.{◌≡◌, ◌≢◌, ℕ, ◌+◌, ◌-◌, ◌<◌, ◌≤◌, ◌++◌, [], ◌∷◌, List, length, take, drop, true, is_some, None, Some, Ok, Err, IsErr, IfOk, IfErr, OnErr, OnOk, IfSome, IfNone, option_to_list};
+ghost use Rattle.std.specs.Prelude.{◌≡◌, ◌≢◌, ℕ, ◌+◌, ◌-◌, ◌<◌, ◌≤◌, ◌++◌, [], ◌∷◌, List, length, take, drop, true};
+ghost use Rattle.std.specs.Prelude.{is_some, None, Some, Ok, Err, IsErr, IfOk, IfErr, OnErr, OnOk, IfSome, IfNone};
+ghost use Rattle.std.specs.Prelude.{option_to_list};
 ghost use Rattle.outside.specs.Faults.{HasCause, MayRise, RisesOnlyIf};
 ghost use Rattle.hiring_log.specs.declared.roll.RollEnd.{RollEnd};
 ghost use Rattle.hiring_log.specs.Reading.{FailsNow, GoesOn, HasRead, IsOver, roll_limit};
@@ -86,7 +88,8 @@ impl Roll {
         ensures again { (end : RollEnd) → IsOver self.old end
             → (result ≡ Err end) × (self.new ≡ self.old) × (files.new ≡ files.old) }
         ensures fewer { OnOk result (length self.new.ahead + self.new.left < length self.old.ahead + self.old.left) }
-        ensures stays { (end : RollEnd) → self.old.end ≡ Some end → (self.new.end ≡ Some end) × (files.new ≡ files.old) }
+        ensures stays { (end : RollEnd) → self.old.end ≡ Some end
+            → (self.new.end ≡ Some end) × (files.new ≡ files.old) }
         ensures fault { RisesOnlyIf (FailsNow self.old self.new) (F.faults files.old word) (F.faults files.new word) }
         ensures others { (other : ℕ) → other ≢ word → F.rest files.new other ≡ F.rest files.old other }
         ensures counts { (other : ℕ)

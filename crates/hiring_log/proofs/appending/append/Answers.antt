@@ -24,7 +24,8 @@ returns-in_err-write_body-clause-any_moment g c told records ready rise =
 
 pub returns-in_err-write_body-clause-cause : goal.returns-in_err-write_body-clause-cause
 returns-in_err-write_body-clause-cause g c =
-    err_later _ _ _ _ (c.in_ok-shut_gate.ensures.cause.kept refl) c.in_err-write_body.ensures.cause c.from_residual-in_err-write_body.result c.from_residual-in_err-write_body.ensures.1
+    err_later _ _ _ _ (c.in_ok-shut_gate.ensures.cause.kept refl) c.in_err-write_body.ensures.cause
+    c.from_residual-in_err-write_body.result c.from_residual-in_err-write_body.ensures.1
 
 pub returns-clause-any_moment : goal.returns-clause-any_moment
 returns-clause-any_moment g c told records ready rise =
@@ -48,4 +49,5 @@ returns-clause-ready g c told = on_ok_weaker c.open_gate.result (λ opens record
 
 pub returns-clause-cause : goal.returns-clause-cause
 returns-clause-cause g c =
-    cause_later _ _ _ (c.in_ok-write_body.ensures.cause.kept refl ∙ c.in_ok-shut_gate.ensures.cause.kept refl) _ c.open_gate.ensures.cause
+    cause_later _ _ _ (c.in_ok-write_body.ensures.cause.kept refl ∙ c.in_ok-shut_gate.ensures.cause.kept refl) _
+    c.open_gate.ensures.cause

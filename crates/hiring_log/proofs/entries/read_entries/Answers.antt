@@ -30,7 +30,8 @@ pub returns-in_err-entries-clause-cause : goal.returns-in_err-entries-clause-cau
 returns-in_err-entries-clause-cause g c =
     let p = err_from_is_err_and c.from_residual.result c.from_residual.ensures.1 in
     rises_later _ (g.G.LogBoard.faults c.loop-slot.log) _ c.loop-slot.invariant.faults
-    (rises_passed _ _ c.read_entry.result c.from_residual.result c.in_err-entries.field-0.0 DeviceFailed c.in_err-entries.was (rw (p.1, p.2)) c.read_entry.ensures.cause)
+    (rises_passed _ _ c.read_entry.result c.from_residual.result c.in_err-entries.field-0.0 DeviceFailed
+    c.in_err-entries.was (rw (p.1, p.2)) c.read_entry.ensures.cause)
 
 pub loop-slot-preserved : goal.loop-slot-preserved
 loop-slot-preserved g c =
@@ -40,6 +41,7 @@ loop-slot-preserved g c =
           (subst (λ (i : List ℕ). IsEntry i c.loop-slot.slot c.in_ok-entries.field-0) c.loop-slot.invariant.image (c.in_ok-entries.ensures.entry told)) slot small;
       image = c.read_entry.ensures.image ∙ c.loop-slot.invariant.image;
       reads = reads_then (board_of g.G.LogBoard) _ _ _ c.loop-slot.invariant.reads c.loop-slot.invariant.image c.read_entry.ensures.reads;
-      faults = rises_ok _ _ c.read_entry.result c.in_ok-entries.field-0 DeviceFailed c.in_ok-entries.was c.read_entry.ensures.cause ∙ c.loop-slot.invariant.faults;
+      faults = rises_ok _ _ c.read_entry.result c.in_ok-entries.field-0 DeviceFailed c.in_ok-entries.was
+          c.read_entry.ensures.cause ∙ c.loop-slot.invariant.faults;
       steps = omega (arith, c.loop-slot.invariant.steps, c.read_entry.ensures.step);
     }

@@ -2,7 +2,8 @@ use Rattle.std.proofs.Common.{[], Ok, refl, ap, ◌∙◌, arith}
 use Rattle.hiring_log.specs.Boards.{board_of}
 use Rattle.hiring_log.specs.declared.roll.RollEnd.TheVariants.{ReadFault}
 use Rattle.hiring_log.proofs.Causes.{cause_ok, err_later, may_none, may_rise_for, rises_none}
-use Rattle.hiring_log.proofs.RollFilings.{counts_over, err_says, failed_err, fault_over, filing_by, filing_fails, filing_on, filing_other_now, filing_over, may_since, rises_since, same_end}
+use Rattle.hiring_log.proofs.RollFilings.{counts_over, err_says, failed_err, fault_over, filing_by, filing_fails}
+use Rattle.hiring_log.proofs.RollFilings.{filing_on, filing_other_now, filing_over, may_since, rises_since, same_end}
 use Rattle.hiring_log.proofs.Tails.{files_none}
 use Rattle.hiring_log.proofs.file_roll.file_roll.Goals as goal
 
@@ -21,7 +22,8 @@ loop-end-init g c = record {
   most = omega (arith, c.new-roll.ensures.most);
   text = refl;
   faults = refl;
-  fault = rises_none (g.F.Files.faults c.args.files.now c.args.word) (λ is. let going = c.new-roll.ensures.going in absurd cc);
+  fault = rises_none (g.F.Files.faults c.args.files.now c.args.word)
+      (λ is. let going = c.new-roll.ensures.going in absurd cc);
   others = λ other ne. refl;
   counts = λ other. may_none (g.F.Files.faults c.args.files.now other);
 }
@@ -41,7 +43,8 @@ returns-in_err-file_one-in-Ok-clause-failed g c =
 
 pub returns-in_err-file_one-in-Ok-clause-cause : goal.returns-in_err-file_one-in-Ok-clause-cause
 returns-in_err-file_one-in-Ok-clause-cause g c =
-    err_later _ _ (g.G.LogBoard.faults c.loop-end.log) _ c.loop-end.invariant.faults c.in_err-file_one-in-Ok.ensures.cause c.from_residual.result c.from_residual.ensures.1
+    err_later _ _ (g.G.LogBoard.faults c.loop-end.log) _ c.loop-end.invariant.faults
+    c.in_err-file_one-in-Ok.ensures.cause c.from_residual.result c.from_residual.ensures.1
 
 pub returns-in-OtherTaxi-clause-ok : goal.returns-in-OtherTaxi-clause-ok
 returns-in-OtherTaxi-clause-ok g c =
@@ -61,21 +64,28 @@ returns-in-Err-clause-cause g c = cause_ok _ _ _ c.loop-end.invariant.faults
 
 pub returns-in-Err-clause-read_fault : goal.returns-in-Err-clause-read_fault
 returns-in-Err-clause-read_fault g c = λ is.
-    fault_over (board_of g.G.LogBoard) g.G.LogBoard.tells_image g.F.Files.tells c.in-Err.end c.next.new.self c.file_end.result c.loop-end.tail.filed _ _ c.in-Err.ensures.end.0
+    fault_over (board_of g.G.LogBoard) g.G.LogBoard.tells_image g.F.Files.tells c.in-Err.end c.next.new.self
+    c.file_end.result c.loop-end.tail.filed _ _ c.in-Err.ensures.end.0
     (c.file_end.ensures.whole, c.file_end.ensures.too_long, c.file_end.ensures.fault)
-    (rises_since c.loop-end.roll c.next.new.self _ (g.F.Files.faults c.loop-end.files c.args.word) _ (λ was. (c.next.ensures.stays ReadFault was).0) c.loop-end.invariant.fault c.next.ensures.fault)
+    (rises_since c.loop-end.roll c.next.new.self _ (g.F.Files.faults c.loop-end.files c.args.word) _
+    (λ was. (c.next.ensures.stays ReadFault was).0) c.loop-end.invariant.fault c.next.ensures.fault)
     (same_end _ _ is)
 
 pub returns-in-Err-clause-counts : goal.returns-in-Err-clause-counts
 returns-in-Err-clause-counts g c = λ other.
-    counts_over (board_of g.G.LogBoard) g.G.LogBoard.tells_image g.F.Files.tells c.in-Err.end c.next.new.self c.file_end.result c.loop-end.tail.filed _ _ c.in-Err.ensures.end.0
+    counts_over (board_of g.G.LogBoard) g.G.LogBoard.tells_image g.F.Files.tells c.in-Err.end c.next.new.self
+    c.file_end.result c.loop-end.tail.filed _ _ c.in-Err.ensures.end.0
     (c.file_end.ensures.whole, c.file_end.ensures.too_long, c.file_end.ensures.fault)
-    (may_since c.loop-end.roll c.next.new.self _ (g.F.Files.faults c.loop-end.files other) _ (λ was. (c.next.ensures.stays ReadFault was).0) (c.loop-end.invariant.counts other) (c.next.ensures.counts other))
+    (may_since c.loop-end.roll c.next.new.self _ (g.F.Files.faults c.loop-end.files other) _
+    (λ was. (c.next.ensures.stays ReadFault was).0) (c.loop-end.invariant.counts other)
+    (c.next.ensures.counts other))
 
 pub returns-in_err-file_one-in-Ok-clause-counts : goal.returns-in_err-file_one-in-Ok-clause-counts
 returns-in_err-file_one-in-Ok-clause-counts g c = λ other.
     may_rise_for _ _ (λ _. failed_err _ c.from_residual.result c.from_residual.ensures.1)
-    (may_since c.loop-end.roll c.next.new.self _ (g.F.Files.faults c.loop-end.files other) _ (λ was. (c.next.ensures.stays ReadFault was).0) (c.loop-end.invariant.counts other) (c.next.ensures.counts other))
+    (may_since c.loop-end.roll c.next.new.self _ (g.F.Files.faults c.loop-end.files other) _
+    (λ was. (c.next.ensures.stays ReadFault was).0) (c.loop-end.invariant.counts other)
+    (c.next.ensures.counts other))
 
 pub returns-in-OtherTaxi-clause-others : goal.returns-in-OtherTaxi-clause-others
 returns-in-OtherTaxi-clause-others g c = λ other ne. c.next.ensures.others other ne ∙ c.loop-end.invariant.others other ne
@@ -83,7 +93,9 @@ returns-in-OtherTaxi-clause-others g c = λ other ne. c.next.ensures.others othe
 pub returns-in-OtherTaxi-clause-counts : goal.returns-in-OtherTaxi-clause-counts
 returns-in-OtherTaxi-clause-counts g c = λ other.
     may_rise_for _ _ (λ _. tt)
-    (may_since c.loop-end.roll c.next.new.self _ (g.F.Files.faults c.loop-end.files other) _ (λ was. (c.next.ensures.stays ReadFault was).0) (c.loop-end.invariant.counts other) (c.next.ensures.counts other))
+    (may_since c.loop-end.roll c.next.new.self _ (g.F.Files.faults c.loop-end.files other) _
+    (λ was. (c.next.ensures.stays ReadFault was).0) (c.loop-end.invariant.counts other)
+    (c.next.ensures.counts other))
 
 pub loop-end-preserved : goal.loop-end-preserved
 loop-end-preserved g c = record {
@@ -97,7 +109,9 @@ loop-end-preserved g c = record {
   most = omega (arith, c.in-Ok.ensures.fewer, c.loop-end.invariant.most);
   text = c.file_one.ensures.text ∙ c.loop-end.invariant.text;
   faults = c.in_ok-file_one-in-Ok.ensures.cause.kept refl ∙ c.loop-end.invariant.faults;
-  fault = rises_since c.loop-end.roll c.next.new.self _ (g.F.Files.faults c.loop-end.files c.args.word) _ (λ was. (c.next.ensures.stays ReadFault was).0) c.loop-end.invariant.fault c.next.ensures.fault;
+  fault = rises_since c.loop-end.roll c.next.new.self _ (g.F.Files.faults c.loop-end.files c.args.word) _
+      (λ was. (c.next.ensures.stays ReadFault was).0) c.loop-end.invariant.fault c.next.ensures.fault;
   others = λ other ne. c.next.ensures.others other ne ∙ c.loop-end.invariant.others other ne;
-  counts = λ other. may_since c.loop-end.roll c.next.new.self _ (g.F.Files.faults c.loop-end.files other) _ (λ was. (c.next.ensures.stays ReadFault was).0) (c.loop-end.invariant.counts other) (c.next.ensures.counts other);
+  counts = λ other. may_since c.loop-end.roll c.next.new.self _ (g.F.Files.faults c.loop-end.files other) _
+      (λ was. (c.next.ensures.stays ReadFault was).0) (c.loop-end.invariant.counts other) (c.next.ensures.counts other);
 }

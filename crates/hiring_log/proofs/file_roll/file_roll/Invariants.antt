@@ -15,9 +15,11 @@ invariant-loop-end g l = record {
   most : l.seen + (length l.roll.ahead + l.roll.left) ≤ roll_limit;
   text : g.G.LogBoard.printed l.log ≡ g.G.LogBoard.printed l.fn.log;
   faults : g.G.LogBoard.faults l.log ≡ g.G.LogBoard.faults l.fn.log;
-  fault : RisesOnlyIf (l.roll.end ≡ Some ReadFault) (g.F.Files.faults l.fn.files l.word) (g.F.Files.faults l.files l.word);
+  fault : RisesOnlyIf (l.roll.end ≡ Some ReadFault) (g.F.Files.faults l.fn.files l.word)
+      (g.F.Files.faults l.files l.word);
   others : (other : ℕ) → other ≢ l.word → g.F.Files.rest l.files other ≡ g.F.Files.rest l.fn.files other;
-  counts : (other : ℕ) → MayRise (l.roll.end ≡ Some ReadFault) (g.F.Files.faults l.fn.files other) (g.F.Files.faults l.files other);
+  counts : (other : ℕ) → MayRise (l.roll.end ≡ Some ReadFault) (g.F.Files.faults l.fn.files other)
+      (g.F.Files.faults l.files other);
 }
 
 abbrev pub decreases-loop-end : goal.decreases-loop-end

@@ -10,7 +10,9 @@ use Rattle.hiring_log.specs.declared.finding.FindFault.TheVariants.{LogFault}
 use Rattle.hiring_log.specs.declared.words.Call.TheVariants.{File}
 use Rattle.hiring_log.proofs.Causes.{may_none, may_rise_for, rises_for, rises_ok, rose_later}
 use Rattle.hiring_log.proofs.Comings.{comes_end, comes_failed, comes_unread}
-use Rattle.hiring_log.proofs.EndCases.{fault_has, fault_writes, filing_files, filing_no_board, filing_read, filing_reads, filing_writes, found_sync, unread_board, unread_files, unread_no_read, unread_sync}
+use Rattle.hiring_log.proofs.EndCases.{fault_has, fault_writes, filing_files, filing_no_board, filing_read}
+use Rattle.hiring_log.proofs.EndCases.{filing_reads, filing_writes, found_sync, unread_board, unread_files}
+use Rattle.hiring_log.proofs.EndCases.{unread_no_read, unread_sync}
 use Rattle.hiring_log.proofs.Finishing.{looks_read}
 use Rattle.hiring_log.proofs.NewestFound.{same_fault}
 use Rattle.hiring_log.proofs.keep_log.file.Given as given
@@ -24,7 +26,9 @@ returns-in-Err-clause-comes g c = λ files_told told.
     let fault = c.in-Err.fault in
     subst (λ (end : Ended). Comes g.F.Files B (Some File) c.args.files.now c.args.files.now c.args.log.now c.find_tail.new.log c.args.steps.now c.find_tail.new.steps end) (sym c.ended_unread.ensures)
     (comes_unread g.F.Files B (Some File) c.args.files.now c.args.files.now c.args.log.now c.find_tail.new.log c.args.steps.now c.find_tail.new.steps fault (File, refl)
-    (λ slot is. c.find_tail.ensures.bad slot (c.in-Err.is ∙ ap Err is) told) (λ is. c.find_tail.ensures.broken (c.in-Err.is ∙ ap Err is) told) (λ is. c.find_tail.ensures.cause.rose (c.in-Err.is ∙ ap Err is))
+    (λ slot is. c.find_tail.ensures.bad slot (c.in-Err.is ∙ ap Err is) told)
+    (λ is. c.find_tail.ensures.broken (c.in-Err.is ∙ ap Err is) told)
+    (λ is. c.find_tail.ensures.cause.rose (c.in-Err.is ∙ ap Err is))
     (unread_sync B (IsAsHeld B c.args.log.now) c.args.log.now c.find_tail.new.log c.find_tail.result fault c.in-Err.is (c.find_tail.ensures.synced told)) c.find_tail.ensures.reads.text c.find_tail.ensures.steps)
 
 pub returns-in-Err-clause-read_fault : goal.returns-in-Err-clause-read_fault
@@ -32,7 +36,8 @@ returns-in-Err-clause-read_fault g c = λ e. absurd (unread_no_read c.in-Err.fau
 
 pub returns-in-Err-clause-board_fault : goal.returns-in-Err-clause-board_fault
 returns-in-Err-clause-board_fault g c =
-    rises_for _ _ (λ e. c.ended_unread.ensures ∙ ap unread_end (same_fault _ c.in-Err.fault LogFault (sym c.in-Err.is ∙ e)))
+    rises_for _ _ (λ e. c.ended_unread.ensures ∙ ap unread_end
+    (same_fault _ c.in-Err.fault LogFault (sym c.in-Err.is ∙ e)))
     (λ e. c.in-Err.is ∙ ap Err (unread_board c.in-Err.fault (sym c.ended_unread.ensures ∙ e))) c.find_tail.ensures.cause
 
 pub returns-in-Err-clause-reads : goal.returns-in-Err-clause-reads
@@ -59,13 +64,15 @@ returns-in-Ok-file_roll-clause-read_fault g c = λ e. c.file_roll.ensures.read_f
 
 pub returns-in-Ok-file_roll-clause-board_fault : goal.returns-in-Ok-file_roll-clause-board_fault
 returns-in-Ok-file_roll-clause-board_fault g c = record {
-  kept = λ _. c.in-Ok-file_roll.ensures.cause.kept refl ∙ rises_ok _ _ c.find_tail.result c.in-Ok.tail LogFault c.in-Ok.is c.find_tail.ensures.cause;
+  kept = λ _. c.in-Ok-file_roll.ensures.cause.kept refl ∙ rises_ok _ _ c.find_tail.result c.in-Ok.tail LogFault
+      c.in-Ok.is c.find_tail.ensures.cause;
   rose = λ e. absurd (filing_no_board c.in-Ok-file_roll.end (sym c.ended_filing.ensures ∙ e));
 }
 
 pub returns-in-Ok-file_roll-clause-reads : goal.returns-in-Ok-file_roll-clause-reads
 returns-in-Ok-file_roll-clause-reads g c = λ word.
-    may_rise_for _ _ (λ failed. rw c.ended_filing.ensures (filing_reads c.in-Ok-file_roll.end failed)) (c.in-Ok-file_roll.ensures.counts word)
+    may_rise_for _ _ (λ failed. rw c.ended_filing.ensures (filing_reads c.in-Ok-file_roll.end failed))
+    (c.in-Ok-file_roll.ensures.counts word)
 
 pub returns-in-Ok-file_roll-clause-looks : goal.returns-in-Ok-file_roll-clause-looks
 returns-in-Ok-file_roll-clause-looks g c = λ writes. absurd (filing_writes c.in-Ok-file_roll.end (status_of c.ended_filing.result) (ap status_of c.ended_filing.ensures) writes)
@@ -92,7 +99,8 @@ pub returns-in-Err-file_roll-clause-board_fault : goal.returns-in-Err-file_roll-
 returns-in-Err-file_roll-clause-board_fault g c = record { kept = λ no. absurd (no refl); rose = λ _. failed g c }
 
 pub returns-in-Err-file_roll-clause-reads : goal.returns-in-Err-file_roll-clause-reads
-returns-in-Err-file_roll-clause-reads g c = λ word. may_rise_for _ _ (λ _. inr (inr refl)) (c.file_roll.ensures.counts word)
+returns-in-Err-file_roll-clause-reads g c = λ word. may_rise_for _ _ (λ _. inr (inr refl))
+    (c.file_roll.ensures.counts word)
 
 pub returns-in-Err-file_roll-clause-looks : goal.returns-in-Err-file_roll-clause-looks
 returns-in-Err-file_roll-clause-looks g c = λ writes. absurd (fault_writes writes)

@@ -7,14 +7,17 @@ use Rattle.hiring_log.specs.Words.{call_of}
 use Rattle.hiring_log.specs.declared.words.Call.{Call}
 use Rattle.hiring_log.proofs.Causes.{may_rise_for}
 use Rattle.hiring_log.proofs.EndCases.{few_are_fewer}
-use Rattle.hiring_log.proofs.Finishing.{call_again, call_told, call_whole, fault_finished, has_finished, looks_told, reads_finished, writes_before}
+use Rattle.hiring_log.proofs.Finishing.{call_again, call_told, call_whole, fault_finished, has_finished, looks_told}
+use Rattle.hiring_log.proofs.Finishing.{reads_finished, writes_before}
 use Rattle.hiring_log.proofs.keep_log.keep_log.Given as given
 use Rattle.hiring_log.proofs.keep_log.keep_log.Goals as goal
 
 -- the board's count of faults, behind the last line too
-board_fault : (g : given.Over) (c : goal.After-finish g) → RisesOnlyIf (c.finish.result ≡ 8) (g.G.LogBoard.faults c.args.log.now) (g.G.LogBoard.faults c.finish.new.log)
+board_fault : (g : given.Over) (c : goal.After-finish g)
+    → RisesOnlyIf (c.finish.result ≡ 8) (g.G.LogBoard.faults c.args.log.now) (g.G.LogBoard.faults c.finish.new.log)
 board_fault g c =
-    fault_finished (board_of g.G.LogBoard) c.carry_out-ended.result c.args.log.now c.carry_out-ended.new.log c.finish.new.log c.finish.result
+    fault_finished (board_of g.G.LogBoard) c.carry_out-ended.result c.args.log.now c.carry_out-ended.new.log
+    c.finish.new.log c.finish.result
     c.carry_out-ended.ensures.board_fault c.finish.ensures.cause c.finish.ensures.silent
 
 -- the call is what its words, its log and its roll come to, with its last line
@@ -25,7 +28,9 @@ is_call g c known =
     let B = board_of g.G.LogBoard in
     subst (λ (call : Option Call). IsCall g.F.Files B call c.args.files.now c.carry_out-ended.new.files c.args.log.now c.finish.new.log c.args.steps.now c.finish.new.steps c.finish.result) c.call_in.ensures
     (call_told g.F.Files B c.call_in.result c.args.files.now c.carry_out-ended.new.files c.args.log.now c.carry_out-ended.new.log c.finish.new.log c.args.steps.now c.carry_out-ended.new.steps c.finish.new.steps c.carry_out-ended.result c.finish.result
-    (g.met.G.LogBoard.only_now c.carry_out-ended.new.log) (c.carry_out-ended.ensures.comes (rw c.call_in.ensures known)) c.finish.ensures.told c.finish.ensures.silent c.finish.ensures.keeps (board_fault g c) c.finish.ensures.steps)
+    (g.met.G.LogBoard.only_now c.carry_out-ended.new.log)
+    (c.carry_out-ended.ensures.comes (rw c.call_in.ensures known)) c.finish.ensures.told c.finish.ensures.silent
+    c.finish.ensures.keeps (board_fault g c) c.finish.ensures.steps)
 
 pub returns-clause-call : goal.returns-clause-call
 returns-clause-call g c = λ known. is_call g c known
@@ -44,23 +49,28 @@ pub returns-clause-board_fault : goal.returns-clause-board_fault
 returns-clause-board_fault g c = board_fault g c
 
 -- what is written is written before the last line
-writes : (g : given.Over) (c : goal.After-finish g) → WritesNothing (call_of (map string_bytes c.args.words.now)) c.finish.result
+writes : (g : given.Over) (c : goal.After-finish g)
+    → WritesNothing (call_of (map string_bytes c.args.words.now)) c.finish.result
     → WritesNothing c.call_in.result (status_of c.carry_out-ended.result)
 writes g c nothing =
     rw c.call_in.ensures
-    (writes_before (board_of g.G.LogBoard) (call_of (map string_bytes c.args.words.now)) c.carry_out-ended.result c.carry_out-ended.new.log c.finish.new.log c.finish.result c.finish.ensures.told nothing)
+    (writes_before (board_of g.G.LogBoard) (call_of (map string_bytes c.args.words.now)) c.carry_out-ended.result
+    c.carry_out-ended.new.log c.finish.new.log c.finish.result c.finish.ensures.told nothing)
 
 pub returns-clause-looks : goal.returns-clause-looks
 returns-clause-looks g c = λ nothing.
-    looks_told (board_of g.G.LogBoard) c.args.log.now c.carry_out-ended.new.log c.finish.new.log c.carry_out-ended.result c.finish.result
-    (g.met.G.LogBoard.only_now c.carry_out-ended.new.log) (c.carry_out-ended.ensures.looks (writes g c nothing)) c.finish.ensures.keeps c.finish.ensures.told
+    looks_told (board_of g.G.LogBoard) c.args.log.now c.carry_out-ended.new.log c.finish.new.log
+    c.carry_out-ended.result c.finish.result
+    (g.met.G.LogBoard.only_now c.carry_out-ended.new.log) (c.carry_out-ended.ensures.looks (writes g c nothing))
+    c.finish.ensures.keeps c.finish.ensures.told
 
 pub returns-clause-untaken : goal.returns-clause-untaken
 returns-clause-untaken g c = λ nothing. c.carry_out-ended.ensures.untaken (writes g c nothing)
 
 pub returns-clause-reads : goal.returns-clause-reads
 returns-clause-reads g c = λ word.
-    may_rise_for _ _ (reads_finished (board_of g.G.LogBoard) c.carry_out-ended.result c.carry_out-ended.new.log c.finish.new.log c.finish.result c.finish.ensures.told)
+    may_rise_for _ _ (reads_finished (board_of g.G.LogBoard) c.carry_out-ended.result c.carry_out-ended.new.log
+    c.finish.new.log c.finish.result c.finish.ensures.told)
     (c.carry_out-ended.ensures.reads word)
 
 pub returns-clause-has : goal.returns-clause-has

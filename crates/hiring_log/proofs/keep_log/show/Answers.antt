@@ -25,7 +25,9 @@ returns-in-Err-clause-comes g c = λ told.
     let fault = c.in-Err.fault in
     subst (λ (end : Ended). Comes g.F.Files B (Some Show) c.args.files.now c.args.files.now c.args.log.now c.find_tail.new.log c.args.steps.now c.find_tail.new.steps end) (sym c.ended_unread.ensures)
     (comes_unread g.F.Files B (Some Show) c.args.files.now c.args.files.now c.args.log.now c.find_tail.new.log c.args.steps.now c.find_tail.new.steps fault (Show, refl)
-    (λ slot is. c.find_tail.ensures.bad slot (c.in-Err.is ∙ ap Err is) told) (λ is. c.find_tail.ensures.broken (c.in-Err.is ∙ ap Err is) told) (λ is. c.find_tail.ensures.cause.rose (c.in-Err.is ∙ ap Err is))
+    (λ slot is. c.find_tail.ensures.bad slot (c.in-Err.is ∙ ap Err is) told)
+    (λ is. c.find_tail.ensures.broken (c.in-Err.is ∙ ap Err is) told)
+    (λ is. c.find_tail.ensures.cause.rose (c.in-Err.is ∙ ap Err is))
     (unread_sync B (IsAsHeld B c.args.log.now) c.args.log.now c.find_tail.new.log c.find_tail.result fault c.in-Err.is (c.find_tail.ensures.synced told)) c.find_tail.ensures.reads.text c.find_tail.ensures.steps)
 
 pub returns-in-Err-clause-unread : goal.returns-in-Err-clause-unread
@@ -33,7 +35,8 @@ returns-in-Err-clause-unread g c = λ e. unread_no_read c.in-Err.fault (sym c.en
 
 pub returns-in-Err-clause-board_fault : goal.returns-in-Err-clause-board_fault
 returns-in-Err-clause-board_fault g c =
-    rises_for _ _ (λ e. c.ended_unread.ensures ∙ ap unread_end (same_fault _ c.in-Err.fault LogFault (sym c.in-Err.is ∙ e)))
+    rises_for _ _ (λ e. c.ended_unread.ensures ∙ ap unread_end
+    (same_fault _ c.in-Err.fault LogFault (sym c.in-Err.is ∙ e)))
     (λ e. c.in-Err.is ∙ ap Err (unread_board c.in-Err.fault (sym c.ended_unread.ensures ∙ e))) c.find_tail.ensures.cause
 
 pub returns-in-Err-clause-looks : goal.returns-in-Err-clause-looks
@@ -58,11 +61,13 @@ returns-in-Ok-show_records-clause-looks g c =
 
 pub returns-in-Ok-show_records-clause-board_fault : goal.returns-in-Ok-show_records-clause-board_fault
 returns-in-Ok-show_records-clause-board_fault g c = record {
-  kept = λ _. c.in-Ok-show_records.ensures.cause.kept refl ∙ rises_ok _ _ c.find_tail.result c.in-Ok.tail LogFault c.in-Ok.is c.find_tail.ensures.cause;
+  kept = λ _. c.in-Ok-show_records.ensures.cause.kept refl ∙ rises_ok _ _ c.find_tail.result c.in-Ok.tail LogFault
+      c.in-Ok.is c.find_tail.ensures.cause;
   rose = λ e. absurd cc;
 }
 
-failed : (g : given.Over) (c : goal.In-Err-show_records g) → Rose (g.G.LogBoard.faults c.args.log.now) (g.G.LogBoard.faults c.show_records.new.log)
+failed : (g : given.Over) (c : goal.In-Err-show_records g)
+    → Rose (g.G.LogBoard.faults c.args.log.now) (g.G.LogBoard.faults c.show_records.new.log)
 failed g c =
     rose_later _ _ _ (rises_ok _ _ c.find_tail.result c.in-Ok.tail LogFault c.in-Ok.is c.find_tail.ensures.cause)
     (c.show_records.ensures.cause.failed (ap is_err c.in-Err-show_records.is))

@@ -6,7 +6,8 @@ use Rattle.hiring_log.proofs.tail.file_one.Goals as goal
 
 pub returns-in_err-append_one-in-Appended-clause-cause : goal.returns-in_err-append_one-in-Appended-clause-cause
 returns-in_err-append_one-in-Appended-clause-cause g c =
-    err_later _ _ (g.G.LogBoard.faults c.args.log.now) _ refl c.in_err-append_one-in-Appended.ensures.cause c.from_residual.result c.from_residual.ensures.1
+    err_later _ _ (g.G.LogBoard.faults c.args.log.now) _ refl c.in_err-append_one-in-Appended.ensures.cause
+    c.from_residual.result c.from_residual.ensures.1
 
 pub returns-in-Passed-clause-passed : goal.returns-in-Passed-clause-passed
 returns-in-Passed-clause-passed g c = λ is. (

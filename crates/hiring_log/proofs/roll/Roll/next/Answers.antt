@@ -14,7 +14,8 @@ returns-in-Some-clause-found g c = λ told.
 
 pub returns-in-Some-clause-fault : goal.returns-in-Some-clause-fault
 returns-in-Some-clause-fault g c =
-    rises_for _ _ (λ fails. (c.in-Some.ensures.end ∙ fails.0, fails.1)) (λ fails. (sym c.in-Some.ensures.end ∙ fails.0, fails.1))
+    rises_for _ _ (λ fails. (c.in-Some.ensures.end ∙ fails.0, fails.1))
+    (λ fails. (sym c.in-Some.ensures.end ∙ fails.0, fails.1))
     c.loop-record.invariant.fault
 
 pub returns-in-Some-clause-again : goal.returns-in-Some-clause-again
