@@ -1,10 +1,11 @@
 //! Each failure of the outside in turn, at each place of a filing, over rolls and logs in memory.
 use crate::cut_tests::{DONE, Left, OPENED, SHUT, WRITTEN, goes_on, must_go_on};
 use crate::keep_log_tests::{
-    FILE, OTHER, SHOW, called, failing, filed, filed_behind, filed_to, filing, image_of, is_end,
-    must, must_at, receipts, zeros,
+    FILE, SHOW, called, failing, filed, filed_behind, filed_to, filing, image_of, is_end, must,
+    must_at, receipts, zeros,
 };
 use crate::memory_log::MemoryLog;
+use crate::roll_tests::put_receipt;
 use std::alloc::Global;
 use std::test::Fail;
 
@@ -123,6 +124,23 @@ fn each_call_of_a_showing_fails(rt: HostRuntime) -> Result<(), Fail> {
     must_at(calls == 262, "another number of calls", calls)
 }
 
+/// A roll of receipt 2, the beginning of another, and the receipt of another taxi.
+fn with_another_taxi(alloc: Global) -> Result<Vec<u8>, Fail> {
+    let mut roll = receipts(alloc, 2, 2)?;
+    roll.extend_from_slice(b"RECEIPT 3\nKIND ")?;
+    put_receipt(&mut roll, b"4", b"LX-4712")?;
+    Ok(roll)
+}
+
+/// The read behind the receipt of another taxi fails, and that receipt is found after it, since the torn one might have
+/// gone on: the status is 4, and not 7.
+#[test]
+fn another_taxi_before_a_read_that_fails(rt: HostRuntime) -> Result<(), Fail> {
+    let roll = with_another_taxi(rt.alloc())?;
+    let ended = filing(rt.alloc(), &roll, &[2])?;
+    must(is_end(&ended, "OTHER TAXI 2\n", 4), "another end", "4")
+}
+
 /// The number of the last receipt in a text of those from number 2 on: one more than there are.
 fn last_in(text: &[u8]) -> u32 {
     let mut last = 1u32;
@@ -191,23 +209,6 @@ fn each_read_of_a_roll_fails(rt: HostRuntime) -> Result<(), Fail> {
     let last = last_of_five(rt.alloc(), &roll, &whole)?;
     must_at(last == 100, "another last receipt", last as u64)?;
     must_read_no_more(rt.alloc(), &roll)
-}
-
-/// A roll of receipt 2, the beginning of another, and the receipt of another taxi.
-fn with_another_taxi(alloc: Global) -> Result<Vec<u8>, Fail> {
-    let mut roll = receipts(alloc, 2, 2)?;
-    roll.extend_from_slice(b"RECEIPT 3\nKIND ")?;
-    roll.extend_from_slice(OTHER.as_bytes())?;
-    Ok(roll)
-}
-
-/// The read behind the receipt of another taxi fails, and that receipt is found after it, since the torn one might have
-/// gone on: the status is 4, and not 7.
-#[test]
-fn another_taxi_before_a_read_that_fails(rt: HostRuntime) -> Result<(), Fail> {
-    let roll = with_another_taxi(rt.alloc())?;
-    let ended = filing(rt.alloc(), &roll, &[2])?;
-    must(is_end(&ended, "OTHER TAXI 2\n", 4), "another end", "4")
 }
 
 /// Fails unless the first receipt of a beginning of a roll is filed alone, and the second by the whole roll.
