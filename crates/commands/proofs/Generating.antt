@@ -1,6 +1,6 @@
 -- The command `gen`.
 use Rattle.std.proofs.Common.{◌≡◌, ◌≢◌, ℕ, ◌+◌, ◌*◌, ◌<◌, ◌≤◌, List, [], ◌∷◌, ◌++◌, length, Option, None, Some, Result, Ok, Err, refl, sym, ap, subst, ◌∙◌, inl, inr, arith}
-use Rattle.std.specs.Prelude.{pos, zero, suc, is_ok, is_err, true, false, nat_lt}
+use Rattle.std.specs.Prelude.{pos, zero, suc, Bool, is_ok, is_err, true, false, nat_lt}
 use Rattle.std.proofs.lemmas.Bool.{lt-ltb}
 use Rattle.std.proofs.lemmas.List.{append-nil}
 use Rattle.outside.specs.Faults.{Rose}
@@ -9,6 +9,8 @@ use Rattle.drive_text.specs.Ending.{Whole, drive_end, drive_limit}
 use Rattle.drive_modes.specs.declared.charges.Mode.TheVariants.{Single}
 use Rattle.interval_clock.specs.Offsets.{EachPlace, IsInRangeAt, IsOffsetList, RisesAt}
 use Rattle.meter_run.specs.Drives.{IsBoundedBy}
+use Rattle.meter_run.specs.Supply.{drop_steps, is_supplied}
+use Rattle.taxi_units.specs.declared.event.Event.{Event}
 use Rattle.outside.specs.Printing.{Begins}
 use Rattle.slot_store.specs.declared.found.Found.{Found}
 use Rattle.slot_store.specs.declared.found.SlotFault.{SlotFault}
@@ -97,10 +99,16 @@ pub whole_drive : (drive : List ℕ) → bad_at_end drive ≡ None → length dr
 whole_drive drive good short = let first : nat_lt (length drive) drive_limit ≡ true = lt-ltb _ _ short in rw (first, good) refl
 
 -- a drive that was taken to its end is bounded by all of its events
-pub whole_bound : (drive left : List ℕ) (before now : ℕ) → left ≡ [] → IsBoundedBy 64 drive left before now → now ≤ before + 64 + 64 * length (events_in drive)
-whole_bound drive left before now e h =
-    let all : drive ≡ h.taken = h.split.bytes ∙ ap (λ (x : List ℕ). h.taken ++ x) e ∙ append-nil h.taken in
-    subst (λ (x : List ℕ). now ≤ before + 64 + 64 * length (events_in x)) (sym all) h.bound
+pub whole_bound : (told : Type 0) (drive left : List ℕ) (before now : ℕ) → told → left ≡ []
+    → IsBoundedBy 0 told drive left before now → now ≤ before + 64 + 64 * length (events_in drive)
+whole_bound told drive left before now tells e h =
+    let all : drive ≡ h.taken = (h.split tells).bytes ∙ ap (λ (x : List ℕ). h.taken ++ x) e ∙ append-nil h.taken in
+    subst (λ (x : List ℕ). now ≤ before + 64 + 64 * length (events_in x)) (sym all)
+    (omega (arith, h.bound, drop_few (events_in h.taken) (is_supplied false (events_in h.taken)) refl))
+  where
+    drop_few : (events : List Event) (supplied : Bool) → is_supplied false events ≡ supplied → drop_steps events ≤ 64
+    drop_few events true is = let drops : drop_steps events ≡ 64 = rw is refl in omega (arith, drops)
+    drop_few events false is = let drops : drop_steps events ≡ 0 = rw is refl in omega (arith, drops)
 
 -- ---- how the command ends
 

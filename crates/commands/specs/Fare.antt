@@ -42,8 +42,8 @@ pub record IsDriving (tariff taken : List ℕ) : Type 0 where
   pub sound : tariff_in tariff ≡ Ok tree
   pub going : IsGoing taken
 
--- the command `fare` reads its tariff and then its drive, in at most 64 steps for each event, 64 for the drive's end
--- and one for the last line
+-- the command `fare` reads its tariff and then its drive, in at most 64 steps for each event, 64 for the supply drop at
+-- the drive's end, if the supply is there then, and one for the last line
 abbrev pub fare_command : (k : ℕ) → Command
 fare_command k = record {
   answer = λ contents image. fare_answer k (tariff_in (contents 1)) (contents 2);
@@ -57,5 +57,5 @@ fare_command k = record {
   opens = ⊥;
   writes = λ ended. ⊥;
   steps = λ files_tell image_told contents left image before now.
-      files_tell → IsBoundedBy 65 (contents 2) (left 2) before now;
+      IsBoundedBy 1 files_tell (contents 2) (left 2) before now;
 }

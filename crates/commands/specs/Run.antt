@@ -140,7 +140,8 @@ pub record IsRunning (image tariff taken : List ℕ) : Type 0 where
   pub going : IsGoing taken
 
 -- the command `run` opens the store, reads its tariff and then its drive, and writes, in at most 64 steps for the
--- opening and the last line together, 64 for each event, and 64 for the supply drop at the drive's end
+-- opening and the last line together, 64 for each event, and 64 for the supply drop at the drive's end, if the supply
+-- is there then
 abbrev pub run_command : Command
 run_command = record {
   answer = λ contents image. run_answer (start_of (opening_of image) (contents 1)) (contents 2);
@@ -155,7 +156,7 @@ run_command = record {
   opens = Unit {0};
   writes = λ ended. (ended ≡ 0) ⊎ ((ended ≡ 3) ⊎ ((ended ≡ 7) ⊎ (ended ≡ 8)));
   steps = λ files_tell image_told contents left image before now.
-      files_tell → IsBoundedBy (64 + 64) (contents 2) (left 2) before now;
+      IsBoundedBy 64 files_tell (contents 2) (left 2) before now;
 }
 
 -- ---- the headline

@@ -150,8 +150,8 @@ pub fn taxi<F: Files, B: Board<L>, L: Ledger>(
         ⊎ ((result ≡ 12) × MayLack (called (map string_bytes words.now)) (F.rest files.old) (B.image board.old)) }
 
     // One step for the last line, one for each row of tables, at most 31 for offsets, 64 for an opening of the store,
-    // 64 for each event of a drive that is run, one for each 512 bytes that are printed of a bench, one for each reply,
-    // and two for each byte of a shift book.
+    // 64 for each event of a drive that is run and for the supply drop at its end, one for each 512 bytes that are
+    // printed of a bench, one for each reply, and two for each byte of a shift book.
     ensures steps { (called (map string_bytes words.now)).steps F.tells B.tells_image
         (F.rest files.old) (F.rest files.new) (B.image board.old) steps.old steps.new }
 

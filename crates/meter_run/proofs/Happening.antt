@@ -77,7 +77,7 @@ ready_opened tables seal core d secured off lawful range fits = record {
 
 -- ---- one event
 
-refused_event : (s : Setting) (event : Event) (m : Meter) → m.operating ≡ Off → ((second : ℕ) → event ≢ Up second) → step s event m ≡ refused NotNow m
+pub refused_event : (s : Setting) (event : Event) (m : Meter) → m.operating ≡ Off → ((second : ℕ) → event ≢ Up second) → step s event m ≡ refused NotNow m
 refused_event s (Up second) m off other = absurd (other second refl)
 refused_event s Down m off other = rw off refl
 refused_event s (Pulses n) m off other = rw off refl
@@ -115,7 +115,7 @@ module _ {D L : Type 0} (B : Ghosts D L) (tables : TableParts) (seal : Seal) whe
   pub known_ready : (x : StoreMeter) (k : Known) (a : D) → x.known ≡ Some k → IsReadyOn B tables seal x a → IsReady tables seal x.core k.durable
   known_ready x k a is ready = (subst (λ (o : Option Known). Knows B tables seal x.core o a) is ready.knows).0
 
-  unknown_off : (x : StoreMeter) (a : D) → x.known ≡ None → IsReadyOn B tables seal x a → x.core.plain.operating ≡ Off
+  pub unknown_off : (x : StoreMeter) (a : D) → x.known ≡ None → IsReadyOn B tables seal x a → x.core.plain.operating ≡ Off
   unknown_off x a is ready = subst (λ (o : Option Known). Knows B tables seal x.core o a) is ready.knows
 
   -- the state that is known

@@ -39,5 +39,7 @@ mod Sound
 mod SoundEvents
 -- how a source goes on and stops
 mod Sourcing
+-- the supply behind events, and the steps of a drive with the supply drop at its end
+mod Supplies
 -- a whole run on a store: its events, and the supply drop at its end
 mod Whole

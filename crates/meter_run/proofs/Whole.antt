@@ -28,7 +28,7 @@ use Rattle.meter_states.specs.Step.{step_in}
 use Rattle.meter_states.specs.declared.act.Act.{Act}
 use Rattle.meter_states.proofs.Laws.{receipts_follow_their_entries-run, the_store_has_what_the_acts_commit-run}
 use Rattle.meter_run.specs.Deeds.{Deed, after_deeds, deeds_of, texts}
-use Rattle.meter_run.specs.OnStore.{CarriesOut, Has, HasBeside, IsReadyOn, IsSecured, Knows, StandsOn, StopsAmid, WritesTotals}
+use Rattle.meter_run.specs.OnStore.{CarriesEvents, CarriesOut, Has, HasBeside, IsReadyOn, IsSecured, Knows, StandsOn, StopsAmid, WritesTotals}
 use Rattle.meter_run.specs.PointLaws.{deeds_joined, keeps_longer, keeps_next, text_next}
 use Rattle.meter_run.specs.Points.{AtPoint, IsCut, KeepsTo}
 use Rattle.meter_run.specs.RunLaws.{after_deeds_of, after_is, run_durable}
@@ -241,20 +241,20 @@ module _ {D L : Type 0} (B : Ghosts D L) (tables : TableParts) (seal : Seal) whe
 
   module _ (x : StoreMeter) (a : D) (off : x.core.plain.operating ≡ Off) (unknown : x.known ≡ None) {told : Type 0} {drive left : List ℕ} {before now : ℕ} where
     -- the drive was taken, and the supply dropped
-    pub ran_whole : {stop : Stop} (y : StoreMeter) (b : D) (z : StoreMeter) (c : D) → TakesDrive told drive left stop (λ events. CarriesOut B tables seal (λ s m. run s events m) x a y b) before now
+    pub ran_whole : {stop : Stop} (y : StoreMeter) (b : D) (z : StoreMeter) (c : D) → TakesDrive told drive left stop (λ events. CarriesEvents B tables seal events x a y b) before now
         → CarriesOut B tables seal (λ s m. ended s m) y b z c → told → Ran a c drive left (answer_of stop)
     ran_whole {stop} y b z c h last tells =
-        let done = all_done x a off unknown (events_in h.taken) y b z c h.carried last in
+        let done = all_done x a off unknown (events_in h.taken) y b z c h.carried.out last in
         record {
           ends = run_ends a c drive left h.taken stop h.few (h.split tells) (h.ends tells) done;
           cuts = points_done a c drive left h.taken h.few (h.split tells) done;
         }
 
     -- the board failed in the supply drop
-    pub ran_to_end : {stop : Stop} (y : StoreMeter) (b c : D) → TakesDrive told drive left stop (λ events. CarriesOut B tables seal (λ s m. run s events m) x a y b) before now
+    pub ran_to_end : {stop : Stop} (y : StoreMeter) (b c : D) → TakesDrive told drive left stop (λ events. CarriesEvents B tables seal events x a y b) before now
         → StopsAmid B tables seal (λ s m. ended s m) y b c → told → Ran {T = Unit {0}} a c drive left (Err faults.BoardFault)
     ran_to_end y b c h last tells =
-        let part = end_stopped x a off unknown (events_in h.taken) y b c h.carried last in
+        let part = end_stopped x a off unknown (events_in h.taken) y b c h.carried.out last in
         record { ends = run_breaks a c drive left h.taken h.few (h.split tells) part; cuts = points_part a c drive left h.taken h.few (h.split tells) part }
 
     -- or amid the drive

@@ -8,6 +8,7 @@ use Rattle.tariff_compile.specs.Tables.{TableParts}
 use Rattle.seal_store.specs.declared.seal.Seal.{Seal}
 use Rattle.meter_states.specs.Setting.{Setting, IsSettingOf}
 use Rattle.meter_run.specs.Source.{EndsBy}
+use Rattle.meter_run.specs.Supply.{drop_steps}
 use Rattle.meter_run.specs.Texts.{drive_shown}
 use Rattle.meter_run.specs.declared.fault.RunFault.{RunFault}
 use Rattle.meter_run.specs.declared.fault.RunFault.TheVariants.{ReadFault, BoardFault, BadDrive, TooLong}
@@ -42,12 +43,14 @@ pub record BreaksDrive (told : Type 0) (drive left : List ℕ) (broken : List Ev
 
 -- ---- what a dry run of a drive prints
 
--- the steps of a call are bounded by a drive where the count of steps rose from `before` to `now` by at most `opening`,
--- and 64 for each event of the bytes that were taken
-pub record IsBoundedBy (opening : ℕ) (drive left : List ℕ) (before now : ℕ) : Type 0 where
+-- the steps of a call are bounded by a drive if the count of steps rose from `before` to `now` by at most `spare`, 64
+-- for each event of some bytes, and 64 for the supply drop behind them, if the supply is there then; the bytes are at
+-- most 2^40, and if the drive is told they are those that were taken of it
+pub record IsBoundedBy (spare : ℕ) (told : Type 0) (drive left : List ℕ) (before now : ℕ) : Type 0 where
   pub taken : List ℕ
-  pub split : IsSplit drive taken left
-  pub bound : now ≤ before + opening + 64 * length (events_in taken)
+  pub few : length taken ≤ drive_limit
+  pub split : told → IsSplit drive taken left
+  pub bound : now ≤ before + spare + 64 * length (events_in taken) + drop_steps (events_in taken)
 
 -- a call stopped after some bytes of the drive had been taken, in a state and with a printed text that `state` and
 -- `shown` ask of the bytes taken

@@ -13,4 +13,6 @@ pub mod RunLaws
 pub mod Runs
 pub mod Source
 pub mod StoreLaws
+pub mod Supply
+pub mod SupplyLaws
 pub mod Texts

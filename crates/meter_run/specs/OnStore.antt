@@ -11,6 +11,7 @@ use Rattle.seal_store.specs.declared.seal.Seal.{Seal}
 use Rattle.slot_store.specs.Writes.{OrWithin}
 use Rattle.slot_store.specs.declared.pair.Place.{Place}
 use Rattle.tariff_compile.specs.Tables.{TableParts}
+use Rattle.taxi_units.specs.declared.event.Event.{Event}
 use Rattle.taxi_units.specs.declared.event.Operating.TheVariants.{Off}
 use Rattle.totaliser_store.specs.Stored.{KeepsState}
 use Rattle.totaliser_store.specs.declared.durable.Durable.{Durable}
@@ -18,11 +19,13 @@ use Rattle.meter_states.specs.Facts.{Whole}
 use Rattle.meter_states.specs.Fits.{Fits}
 use Rattle.meter_states.specs.Lawful.{IsLawful}
 use Rattle.meter_states.specs.Meter.{Meter, Outcome}
+use Rattle.meter_states.specs.Run.{run}
 use Rattle.meter_states.specs.Setting.{Setting, IsSettingOf}
 use Rattle.meter_run.specs.Deeds.{deeds_of, texts}
 use Rattle.meter_run.specs.Dry.{IsReady}
 use Rattle.meter_run.specs.Kept.{StandsWith}
 use Rattle.meter_run.specs.Points.{KeepsTo}
+use Rattle.meter_run.specs.Supply.{KeepsOff}
 use Rattle.meter_run.specs.declared.stored.Known.{Known}
 use Rattle.meter_run.specs.declared.stored.StoreMeter.{StoreMeter}
 
@@ -106,6 +109,12 @@ module _ {D L : Type 0} (B : Ghosts D L) (tables : TableParts) (seal : Seal) whe
   pub record StopsAmid (outcome : Setting → Meter → Outcome) (x : StoreMeter) (old new : D) : Type 0 where
     pub points : ForEach x old (λ s m. KeepsTo B tables seal old new m.durable (deeds_of (outcome s m).acts))
     pub beside : B.tells_image → WritesTotals B old new
+
+  -- a meter and a board carry events out if they carry out what the events come to, and the events keep the core off
+  -- without the supply
+  pub record CarriesEvents (events : List Event) (x : StoreMeter) (old : D) (y : StoreMeter) (new : D) : Type 0 where
+    pub out : CarriesOut (λ s m. run s events m) x old y new
+    pub supply : KeepsOff x.core.plain events y.core.plain
 
   -- a call attempts an outcome where, if it succeeds, a meter and a board carry the outcome out and are ready for the
   -- next event; where the board stops amid the outcome, however the call ends; and where the call has a cause

@@ -1,9 +1,16 @@
 //! The meter whose durable state is a value.
-ghost use Rattle.std.specs.Prelude.{◌≡◌, ◌+◌, ◌≤◌, ◌++◌, length, OnOk};
+ghost use Rattle.std.specs.Prelude.{◌≡◌, ◌+◌, ◌≤◌, [], ◌∷◌, ◌++◌, length, OnOk, OnErr};
 ghost use Rattle.outside.specs.Faults.{HasCause};
 ghost use Rattle.outside.specs.Printing.{Begins};
 ghost use Rattle.outside.specs.Runs.{KeepsStore};
+ghost use Rattle.tariff_compile.specs.Tables.{TableParts};
+ghost use Rattle.seal_store.specs.declared.seal.Seal.{Seal};
+ghost use Rattle.meter_states.specs.Lawful.{IsLawful, IsTimely};
+ghost use Rattle.taxi_units.specs.declared.event.Operating.TheVariants.{Off};
+ghost use Rattle.totaliser_store.specs.Ranges.{IsDurable};
+ghost use Rattle.totaliser_store.specs.States.{first_state};
 ghost use Rattle.meter_run.specs.Commits.{AreFor, IsFor, after_act, after_acts};
+ghost use Rattle.meter_run.specs.Dry.{BreaksOff, Carries, IsReady};
 ghost use Rattle.meter_run.specs.Texts.{shown_text, shown_texts};
 
 use crate::advancing::advance;
@@ -70,9 +77,55 @@ fn perform_all<B: Board<L>, L: Ledger>(
 
 /// A meter without a store: its durable state is kept as a value.
 #[derive(Drop)]
-pub(crate) struct DryMeter {
+pub struct DryMeter {
     pub(crate) core: Core,
     pub(crate) durable: Durable,
+}
+
+impl DryMeter {
+    /// A meter before the supply first comes.
+    pub fn new() -> DryMeter
+        ensures off { result.core.plain.operating ≡ Off }
+        ensures lawful { (tables : TableParts) (seal : Seal) → IsLawful tables seal result.core }
+        ensures first { result.durable ≡ first_state }
+        ensures range { IsDurable result.durable }
+    {
+        DryMeter {
+            core: Core::off(),
+            durable: Durable::zero(),
+        }
+    }
+
+    /// Carries out an event: its display and its refusal are printed, its entry or held trip changes the
+    /// durable state, and its receipt is dropped. At most 64 steps. `acts` is a list to work with: what it had
+    /// is dropped, and what it has afterwards means nothing.
+    ///
+    /// `Failed` only where the board's count of faults rose; then a beginning of what the event shows was
+    /// printed, and the meter is done with.
+    pub fn carry_event<B: Board<L>, L: Ledger>(
+        &mut self,
+        tables: &Tables,
+        seal: &Seal,
+        event: Event,
+        acts: &mut Acts,
+        board: &mut B,
+        steps: &mut Steps<L>,
+    ) -> Result<(), Failed>
+        requires ready { IsReady tables.now seal.now self.old.core self.old.durable }
+        requires timely { IsTimely event }
+        ensures ready { OnOk result (IsReady tables.now seal.now self.new.core self.new.durable) }
+        ensures carried { OnOk result (Carries B.Board tables.now seal.now self.old board.old (event ∷ [])
+            self.new board.new) }
+        ensures broke_off { OnErr result (BreaksOff B.Board tables.now seal.now self.old board.old (event ∷ [])
+            board.new) }
+        ensures cause { HasCause (B.faults board.old) (B.faults board.new) result }
+        ensures steps { steps.new ≤ steps.old + 64 }
+    {
+        acts.clear();
+        let durable = &self.durable;
+        advance(&mut self.core, tables, seal, durable, event, acts, steps);
+        perform_all(&mut self.durable, acts.as_slice(), board, steps)
+    }
 }
 
 impl<B: Board<L>, L: Ledger> Carrier<B, L> for DryMeter {
@@ -106,9 +159,6 @@ impl<B: Board<L>, L: Ledger> Carrier<B, L> for DryMeter {
         board: &mut B,
         steps: &mut Steps<L>,
     ) -> Result<(), Failed> {
-        acts.clear();
-        let durable = &self.durable;
-        advance(&mut self.core, tables, seal, durable, event, acts, steps);
-        perform_all(&mut self.durable, acts.as_slice(), board, steps)
+        self.carry_event(tables, seal, event, acts, board, steps)
     }
 }

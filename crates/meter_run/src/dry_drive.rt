@@ -2,13 +2,8 @@
 ghost use Rattle.std.specs.Prelude.{◌≡◌, ◌≢◌, ◌⊎◌, ℕ, ◌+◌, ◌≤◌, Err, OnOk};
 ghost use Rattle.outside.specs.Runs.{KeepsStore};
 ghost use Rattle.outside.specs.Faults.{HasCause, MayRise, RisesOnlyIf, Rose};
-ghost use Rattle.tariff_compile.specs.Tables.{TableParts};
-ghost use Rattle.seal_store.specs.declared.seal.Seal.{Seal};
-ghost use Rattle.meter_states.specs.Lawful.{IsLawful};
 ghost use Rattle.meter_states.specs.Run.{ended};
 ghost use Rattle.taxi_units.specs.declared.event.Operating.TheVariants.{Off};
-ghost use Rattle.totaliser_store.specs.Ranges.{IsDurable};
-ghost use Rattle.totaliser_store.specs.States.{first_state};
 ghost use Rattle.meter_run.specs.Drives.{IsBoundedBy, RunsDrive, answer_of};
 ghost use Rattle.meter_run.specs.Dry.{IsReady, Prints, PrintsSome};
 
@@ -18,20 +13,19 @@ use crate::drive::carry_drive;
 use crate::dry::DryMeter;
 use crate::fault::RunFault;
 use crate::source::Stop;
-use meter_states::{Acts, Core};
+use meter_states::Acts;
 use outside::{Board, Failed, Files};
 use seal_store::Seal;
 use std::sync::ledger::Ledger;
 use tariff_compile::Tables;
 use taxi_units::{Event, Steps};
-use totaliser_store::Durable;
 
 /// Reads the drive of a word to its end, and carries out each event as soon as its line is read, under
 /// tables that were compiled with the seal's constant. The durable state is a value, which begins with
 /// number 1, totals of zero and no held trip; entries and held trips change it, and an `Up` goes on from
-/// it. Displays and refusals are printed, and no receipts; the store is left as it is. At most
-/// 64 steps an event, the supply drop at the end counting as one. It takes no memory itself; the devices
-/// may.
+/// it. Displays and refusals are printed, and no receipts; the store is left as it is. At most 64 steps for
+/// each event of the bytes that were taken, and for the supply drop at the end, if the supply is there then.
+/// It takes no memory itself; the devices may.
 ///
 /// `BadDrive` with the first line that is no line of a drive; `TooLong` where 2^40 bytes were taken, none
 /// of their lines is bad, and the end wasn't told; `ReadFault` only where the count of faults of the word
@@ -49,7 +43,7 @@ pub fn dry_run<F: Files, B: Board<L>, L: Ledger>(
     requires constant { tables.now.constant ≡ seal.now.params.constant }
     ensures ends { F.tells → RunsDrive B.tells_text tables.now seal.now
         (F.rest files.old word) (F.rest files.new word) (B.printed board.old) (B.printed board.new) result }
-    ensures steps { F.tells → IsBoundedBy 64 (F.rest files.old word) (F.rest files.new word) steps.old steps.new }
+    ensures steps { IsBoundedBy 0 F.tells (F.rest files.old word) (F.rest files.new word) steps.old steps.new }
     ensures others { (other : ℕ) → other ≢ word → F.rest files.new other ≡ F.rest files.old other }
     ensures read_fault { result ≡ Err RunFault.ReadFault → Rose (F.faults files.old word) (F.faults files.new word) }
     ensures board_fault { RisesOnlyIf (result ≡ Err RunFault.BoardFault) (B.faults board.old) (B.faults board.new) }
@@ -58,7 +52,7 @@ pub fn dry_run<F: Files, B: Board<L>, L: Ledger>(
     ensures store { KeepsStore B.Board board.old board.new }
 {
     let _ = tables.measure();
-    let mut meter = begin();
+    let mut meter = DryMeter::new();
     match carry_drive(&mut meter, tables, seal, files, word, board, steps) {
         Ok(stop) => match drop_at_end(&mut meter, tables, seal, board, steps) {
             Ok(()) => answer(stop),
@@ -68,20 +62,7 @@ pub fn dry_run<F: Files, B: Board<L>, L: Ledger>(
     }
 }
 
-/// A meter before the supply first comes.
-fn begin() -> DryMeter
-    ensures off { result.core.plain.operating ≡ Off }
-    ensures lawful { (tables : TableParts) (seal : Seal) → IsLawful tables seal result.core }
-    ensures first { result.durable ≡ first_state }
-    ensures range { IsDurable result.durable }
-{
-    DryMeter {
-        core: Core::off(),
-        durable: Durable::zero(),
-    }
-}
-
-/// The supply drops, where the meter is powered.
+/// The supply drops, where the meter is powered. At most 64 steps, and none where it is off.
 fn drop_at_end<B: Board<L>, L: Ledger>(
     meter: &mut DryMeter,
     tables: &Tables,
@@ -94,6 +75,7 @@ fn drop_at_end<B: Board<L>, L: Ledger>(
     ensures begun { PrintsSome B.Board tables.now seal.now ended meter.old board.old board.new }
     ensures cause { HasCause (B.faults board.old) (B.faults board.new) result }
     ensures steps { steps.new ≤ steps.old + 64 }
+    ensures idle { meter.old.core.plain.operating ≡ Off → steps.new ≡ steps.old }
     ensures store { KeepsStore B.Board board.old board.new }
 {
     if is_off(&meter.core) {

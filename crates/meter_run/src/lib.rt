@@ -24,7 +24,9 @@ pub use cut_laws::{
     receipts_have_their_entries, runs_leave_the_seals, the_number_tells_the_commits,
 };
 pub use display_laws::displays_are_shown_where_their_texts_differ;
+pub use dry::DryMeter;
 pub use dry_drive::dry_run;
 pub use fault::RunFault;
 pub use source::{Source, Stop};
 pub use store_drive::run_events;
+pub use stored::StoreMeter;

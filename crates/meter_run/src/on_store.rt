@@ -1,5 +1,5 @@
 //! The meter on a store carries out events.
-ghost use Rattle.std.specs.Prelude.{◌≡◌, ◌≢◌, ℕ, ◌+◌, ◌≤◌};
+ghost use Rattle.std.specs.Prelude.{◌≡◌, ◌≢◌, ℕ, ◌+◌, ◌≤◌, [], ◌∷◌};
 ghost use Rattle.meter_states.specs.Lawful.{IsTimely};
 ghost use Rattle.meter_states.specs.Step.{step};
 ghost use Rattle.taxi_units.specs.Time.{IsSecond};
@@ -7,6 +7,7 @@ ghost use Rattle.taxi_units.specs.declared.event.Event.TheVariants.{Up};
 ghost use Rattle.taxi_units.specs.declared.event.Operating.TheVariants.{Off};
 ghost use Rattle.totaliser_store.specs.Ranges.{IsDurable};
 ghost use Rattle.meter_run.specs.OnStore.{Agrees, Attempts, IsReadyOn};
+ghost use Rattle.meter_run.specs.Supply.{KeepsOff};
 
 use crate::advancing::{advance, is_off};
 use crate::carrier::Carrier;
@@ -36,6 +37,7 @@ fn go_on<B: Board<L>, L: Ledger>(
     requires supply { (second : ℕ) → meter.old.core.plain.operating ≡ Off → event ≢ Up second }
     ensures attempts { Attempts B.Board tables.now seal.now (λ s m. step s event m) meter.old board.old result
         meter.new board.new }
+    ensures supply { KeepsOff meter.old.core.plain (event ∷ []) meter.new.core.plain }
     ensures steps { steps.new ≤ steps.old + 57 }
 {
     match &mut meter.known {
@@ -129,19 +131,50 @@ fn take_supply<B: Board<L>, L: Ledger>(
     go_on(meter, tables, seal, Event::Up(second), acts, board, steps)
 }
 
+impl StoreMeter {
+    /// Carries out an event on the board: its display, refusal and receipt are printed, its entry or held trip
+    /// is committed, and an `Up` while the meter is off goes on from what a scan of the store finds. At most
+    /// 64 steps. `acts` is a list to work with: what it had is dropped, and what it has afterwards means
+    /// nothing.
+    ///
+    /// `Failed` only where the board's count of faults rose; then the event was carried out up to some point of
+    /// its acts, and the meter is done with.
+    pub fn carry_event<B: Board<L>, L: Ledger>(
+        &mut self,
+        tables: &Tables,
+        seal: &Seal,
+        event: Event,
+        acts: &mut Acts,
+        board: &mut B,
+        steps: &mut Steps<L>,
+    ) -> Result<(), Failed>
+        requires ready { IsReadyOn B.Board tables.now seal.now self.old board.old }
+        requires timely { IsTimely event }
+        ensures attempts { Attempts B.Board tables.now seal.now (λ s m. step s event m) self.old board.old result
+            self.new board.new }
+        ensures supply { KeepsOff self.old.core.plain (event ∷ []) self.new.core.plain }
+        ensures steps { steps.new ≤ steps.old + 64 }
+    {
+        match event {
+            Event::Up(second) => take_supply(self, tables, seal, second, acts, board, steps),
+            event => go_on(self, tables, seal, event, acts, board, steps),
+        }
+    }
+}
+
 impl<B: Board<L>, L: Ledger> Carrier<B, L> for StoreMeter {
     ghost use Rattle.meter_states.specs.Run.{run};
-    ghost use Rattle.meter_run.specs.OnStore.{CarriesOut, IsReadyOn, StopsAmid};
-    ghost use Rattle.meter_run.specs.StoreLaws.{amid_later, amid_sooner, out_none, out_then};
+    ghost use Rattle.meter_run.specs.OnStore.{CarriesEvents, IsReadyOn, StopsAmid};
+    ghost use Rattle.meter_run.specs.StoreLaws.{amid_sooner};
+    ghost use Rattle.meter_run.specs.SupplyLaws.{carried_later, carried_none, carried_then};
 
     ghost ready = { λ tables seal meter board. IsReadyOn B.Board tables seal meter board };
 
-    ghost carried = { λ tables seal x a events y b.
-        CarriesOut B.Board tables seal (λ s m. run s events m) x a y b };
+    ghost carried = { λ tables seal x a events y b. CarriesEvents B.Board tables seal events x a y b };
 
     ghost broke_off = { λ tables seal x a events b. StopsAmid B.Board tables seal (λ s m. run s events m) x a b };
 
-    ghost nothing = { λ t k x a ready. out_none (record {
+    ghost nothing = { λ t k x a ready. carried_none (record {
       tells_image = B.tells_image;
       tells_text = B.tells_text;
       image = B.image;
@@ -152,9 +185,9 @@ impl<B: Board<L>, L: Ledger> Carrier<B, L> for StoreMeter {
       faults = B.faults;
     }) t k x a (B.only_now a) };
 
-    ghost behind = { λ t k es fs x a y b z c first next. out_then _ t k es fs x a y b z c first next };
+    ghost behind = { λ t k es fs x a y b z c first next. carried_then _ t k es fs x a y b z c first next };
 
-    ghost later = { λ t k es fs x a y b c first next. amid_later _ t k es fs x a y b c first next };
+    ghost later = { λ t k es fs x a y b c first next. carried_later _ t k es fs x a y b c first next };
 
     ghost sooner = { λ t k es fs x a c h. amid_sooner _ t k es fs x a c h };
 
@@ -167,10 +200,7 @@ impl<B: Board<L>, L: Ledger> Carrier<B, L> for StoreMeter {
         board: &mut B,
         steps: &mut Steps<L>,
     ) -> Result<(), Failed> {
-        match event {
-            Event::Up(second) => take_supply(self, tables, seal, second, acts, board, steps),
-            event => go_on(self, tables, seal, event, acts, board, steps),
-        }
+        self.carry_event(tables, seal, event, acts, board, steps)
     }
 
     fn carry_equal(&mut self, tables: &Tables, seal: &Seal, pulses: u32, count: u32) -> u32 {

@@ -4,6 +4,7 @@ ghost use Rattle.drive_text.specs.Ending.{Whole, drive_end};
 ghost use Rattle.outside.specs.Faults.{HasCause, MayRise, RisesOnlyIf, Rose};
 ghost use Rattle.meter_states.specs.Run.{ended};
 ghost use Rattle.seal_store.specs.Ranges.{IsSeal};
+ghost use Rattle.taxi_units.specs.declared.event.Operating.TheVariants.{Off};
 ghost use Rattle.meter_run.specs.Drives.{IsBoundedBy};
 ghost use Rattle.meter_run.specs.OnStore.{CarriesOut, IsReadyOn, StopsAmid, WritesTotals};
 ghost use Rattle.meter_run.specs.Runs.{EndsRun, LeavesPoints};
@@ -24,8 +25,9 @@ use taxi_units::{Event, Steps};
 /// Reads the drive of a word to its end, and carries out each event on the board as soon as its line is
 /// read, under tables that were compiled with the constant of a seal in its ranges. Displays, refusals and
 /// receipts are printed; entries and held trips are committed to the pair of totals; and an `Up` while the
-/// meter is off scans that pair, and goes on from what it finds. At most 64 steps an event, the supply drop
-/// at the end counting as one. It takes no memory itself; the devices may.
+/// meter is off scans that pair, and goes on from what it finds. At most 64 steps for each event of the bytes
+/// that were taken, and for the supply drop at the end, if the supply is there then. It takes no memory
+/// itself; the devices may.
 ///
 /// `BadDrive` with the first line that is no line of a drive; `TooLong` where 2^40 bytes were taken, none
 /// of their lines is bad, and the end wasn't told; `ReadFault` only where the count of faults of the word
@@ -57,7 +59,7 @@ pub fn run_events<F: Files, B: Board<L>, L: Ledger>(
     ensures complete { F.tells → drive_end (F.rest files.old word) ≡ Whole
         → ¬ Rose (F.faults files.old word) (F.faults files.new word)
         → ¬ Rose (B.faults board.old) (B.faults board.new) → IsOk result }
-    ensures steps { F.tells → IsBoundedBy 64 (F.rest files.old word) (F.rest files.new word) steps.old steps.new }
+    ensures steps { IsBoundedBy 0 F.tells (F.rest files.old word) (F.rest files.new word) steps.old steps.new }
     ensures others { (other : ℕ) → other ≢ word → F.rest files.new other ≡ F.rest files.old other }
     ensures read_fault { result ≡ Err RunFault.ReadFault → Rose (F.faults files.old word) (F.faults files.new word) }
     ensures board_fault { RisesOnlyIf (result ≡ Err RunFault.BoardFault) (B.faults board.old) (B.faults board.new) }
@@ -75,7 +77,7 @@ pub fn run_events<F: Files, B: Board<L>, L: Ledger>(
     }
 }
 
-/// The supply drops, where the meter is powered. At most 64 steps.
+/// The supply drops, where the meter is powered. At most 64 steps, and none where it is off.
 fn end<B: Board<L>, L: Ledger>(
     meter: &mut StoreMeter,
     tables: &Tables,
@@ -89,6 +91,7 @@ fn end<B: Board<L>, L: Ledger>(
     ensures stopped { StopsAmid B.Board tables.now seal.now ended meter.old board.old board.new }
     ensures cause { HasCause (B.faults board.old) (B.faults board.new) result }
     ensures steps { steps.new ≤ steps.old + 64 }
+    ensures idle { meter.old.core.plain.operating ≡ Off → steps.new ≡ steps.old }
 {
     if is_off(&meter.core) {
         return Ok(());

@@ -18,14 +18,14 @@ pub(crate) struct Known {
 
 /// A meter on a store. While it's off it knows nothing of the store, which is read as the supply comes.
 #[derive(Drop)]
-pub(crate) struct StoreMeter {
+pub struct StoreMeter {
     pub(crate) core: Core,
     pub(crate) known: Option<Known>,
 }
 
 impl StoreMeter {
     /// A meter before the supply first comes.
-    pub(crate) fn new() -> StoreMeter
+    pub fn new() -> StoreMeter
         ensures off { result.core.plain.operating ≡ Off }
         ensures lawful { (tables : TableParts) (seal : Seal) → IsLawful tables seal result.core }
         ensures unknown { result.known ≡ None }

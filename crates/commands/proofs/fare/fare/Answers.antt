@@ -36,7 +36,13 @@ returns-in-Err g c =
     (inl refl) (inl (refl, refl)) (shows_nothing k found)
     (λ e. c.tables_of_word.ensures.read_fault (c.in-Err.is ∙ ap Err e))
     (λ why e. refused-fare k found (rest c.args.files.now 2) why (c.tables_of_word.ensures.refused why tells (c.in-Err.is ∙ ap Err e))))))
-    (λ later le tells. record { taken = []; split = untouched (g.F.Files.rest c.args.files.now 2) (g.F.Files.rest c.tables_of_word.new.files 2) (c.tables_of_word.ensures.others 2 (two-one 2 refl)); bound = omega (arith, le) })
+    (λ later le. record {
+      taken = [];
+      few = omega arith;
+      split = λ tells. untouched (g.F.Files.rest c.args.files.now 2) (g.F.Files.rest c.tables_of_word.new.files 2)
+          (c.tables_of_word.ensures.others 2 (two-one 2 refl));
+      bound = omega (arith, le);
+    })
     (search rules)
     (search rules)
     (λ word not. c.tables_of_word.ensures.others word (λ e. not (inl e))) c.tables_of_word.ensures.counts (keeps_none g.B.Board c.args.board.now)
@@ -63,9 +69,14 @@ returns g c =
     c.dry_run-ran.result runs
     (λ e. omega (arith, c.dry_run-ran.ensures.read_fault e, c.tables_of_word.ensures.counts 2))
     c.dry_run-ran.ensures.board_fault))
-    (λ later le tells.
-    let h = c.dry_run-ran.ensures.steps tells in
-    record { taken = h.taken; split = record { bytes = sym (c.tables_of_word.ensures.others 2 (two-one 2 refl)) ∙ h.split.bytes }; bound = omega (arith, le, h.bound) })
+    (λ later le.
+    let h = c.dry_run-ran.ensures.steps in
+    record {
+      taken = h.taken;
+      few = h.few;
+      split = λ tells. record { bytes = sym (c.tables_of_word.ensures.others 2 (two-one 2 refl)) ∙ (h.split tells).bytes };
+      bound = omega (arith, le, h.bound);
+    })
     (λ e.
     let failed = c.dry_run-ran.ensures.read_fault (read_fault-ran c.dry_run-ran.result (sym c.ended_of.ensures ∙ e)) in
     record { word = 2; reads = inr refl; rose = omega (arith, failed, c.tables_of_word.ensures.counts 2) })

@@ -40,5 +40,5 @@ returns-in-Ok-run_events-clause-steps g c = λ tells told whole calm still s is.
     let run = c.in-Ok-run_events.ensures.ends tells in
     let drive = g.F.Files.rest c.args.files.now 0 in
     let left = g.F.Files.rest c.run_events.new.files 0 in
-    let bound = whole_bound drive left _ _ (left-whole drive left run.tells run.end_is) (c.run_events.ensures.steps tells) in
+    let bound = whole_bound g.F.Files.tells drive left _ _ tells (left-whole drive left run.tells run.end_is) c.run_events.ensures.steps in
     omega (arith, bound, c.place_seal.ensures.steps, c.state_in.ensures.steps)

@@ -37,7 +37,12 @@ returns-in-Err-clause-carries g c =
     let before = c.begin.ensures in
     record {
       ends = λ known. (returns-in-Err-clause-runs g c known.0 known.1).comes;
-      steps = λ later le. search (rules, le);
+      steps = λ later le. record {
+        taken = [];
+        few = omega arith;
+        split = λ tells. record { bytes = sym (before.others 2 (two-one 2 refl)) };
+        bound = omega (arith, le, before.steps);
+      };
       read_fault = search rules;
       board_fault = λ e. before.opens.cause (c.in-Err.is ∙ ap Err e);
       others = λ word not. before.others word (λ e. not (inl e));
@@ -87,9 +92,10 @@ returns-clause-carries g c =
     let wrote = subst (λ (end : Ended). run_command.writes (status_of end)) (sym c.ended_of.ensures) (ran-writes c.run_events-ran.result) in
     record {
       ends = λ known. (returns-clause-runs g c known.0 known.1).comes;
-      steps = λ later le tells. let h = ran.steps tells in record {
+      steps = λ later le. let h = ran.steps in record {
         taken = h.taken;
-        split = record { bytes = sym (before.others 2 (two-one 2 refl)) ∙ h.split.bytes };
+        few = h.few;
+        split = λ tells. record { bytes = sym (before.others 2 (two-one 2 refl)) ∙ (h.split tells).bytes };
         bound = omega (arith, le, h.bound, before.steps);
       };
       read_fault = λ e.

@@ -1,4 +1,4 @@
-use Rattle.std.proofs.Common.{◌∷◌, [], arith}
+use Rattle.std.proofs.Common.{◌∷◌, [], arith, refl}
 use Rattle.std.proofs.lemmas.Result.{on_ok_weaker}
 use Rattle.outside.proofs.Laws.{keeps_none}
 use Rattle.taxi_units.specs.declared.event.Event.TheVariants.{Down}
@@ -42,3 +42,9 @@ pub returns-clause-store : goal.returns-clause-store
 returns-clause-store g c =
     event_store g.B.Board c.args.tables.now c.args.seal.now c.carry_out.result c.args.meter.now c.args.board.now c.carry_out.new.self c.carry_out.new.board (Down ∷ [])
     c.carry_out.ensures.carried c.carry_out.ensures.broke_off
+
+pub returns-then-is_off-clause-idle : goal.returns-then-is_off-clause-idle
+returns-then-is_off-clause-idle g c = λ off. refl
+
+pub returns-clause-idle : goal.returns-clause-idle
+returns-clause-idle g c = λ off. absurd (not_told c.is_off.result _ c.is_off.ensures.1 c.if-is_off.false off)

@@ -1,14 +1,15 @@
-use Rattle.std.proofs.Common.{◌∙◌, inr, arith, refl}
+use Rattle.std.proofs.Common.{◌∙◌, inr, arith, refl, length}
 use Rattle.outside.proofs.Laws.{may_rise_more, rises_by, rises_not, rose_behind, keeps_then}
 use Rattle.drive_text.specs.Drive.{events_in}
 use Rattle.meter_run.proofs.Dropping.{end_begun, ready_first, run_begun, whole_printed}
 use Rattle.meter_run.proofs.Ended.{board_only, no_board_fault, read_failed, breaks, ends}
+use Rattle.meter_run.proofs.Supplies.{drop_bounded, dry_off}
 use Rattle.meter_run.proofs.dry_drive.dry_run.Goals as goal
 
 pub carry_drive-requires : goal.carry_drive-requires
 carry_drive-requires g c = record {
-  ready = ready_first c.args.tables.now c.args.seal.now c.begin-meter.result.core c.begin-meter.result.durable c.measure.ensures.compiled c.requires.constant
-      (c.begin-meter.ensures.lawful c.args.tables.now c.args.seal.now) c.begin-meter.ensures.off c.begin-meter.ensures.range c.begin-meter.ensures.first;
+  ready = ready_first c.args.tables.now c.args.seal.now c.new-meter.result.core c.new-meter.result.durable c.measure.ensures.compiled c.requires.constant
+      (c.new-meter.ensures.lawful c.args.tables.now c.args.seal.now) c.new-meter.ensures.off c.new-meter.ensures.range c.new-meter.ensures.first;
 }
 
 pub drop_at_end-requires : goal.drop_at_end-requires
@@ -22,7 +23,7 @@ returns-in-Ok-drop_at_end-clause-ends g c = λ tells.
     rw c.answer.ensures
     (ends g.B.Board.tells_text t k (g.F.Files.rest c.args.files.now c.args.word) (g.F.Files.rest c.carry_drive.new.files c.args.word) (g.B.Board.printed c.args.board.now) (g.B.Board.printed c.drop_at_end.new.board)
     h.taken c.in-Ok.stop h.few (h.split tells) (h.ends tells)
-    (whole_printed g.B.Board t k c.begin-meter.result c.args.board.now c.begin-meter.ensures.off c.begin-meter.ensures.first (events_in h.taken) c.carry_drive.new.meter c.carry_drive.new.board c.drop_at_end.new.board
+    (whole_printed g.B.Board t k c.new-meter.result c.args.board.now c.new-meter.ensures.off c.new-meter.ensures.first (events_in h.taken) c.carry_drive.new.meter c.carry_drive.new.board c.drop_at_end.new.board
     h.carried c.in-Ok-drop_at_end.ensures.whole))
 
 pub returns-in-Err-drop_at_end-clause-ends : goal.returns-in-Err-drop_at_end-clause-ends
@@ -32,7 +33,7 @@ returns-in-Err-drop_at_end-clause-ends g c = λ tells.
     let h = c.in-Ok.ensures.carried in
     breaks g.B.Board.tells_text t k (g.F.Files.rest c.args.files.now c.args.word) (g.F.Files.rest c.carry_drive.new.files c.args.word) (g.B.Board.printed c.args.board.now) (g.B.Board.printed c.drop_at_end.new.board)
     h.taken h.few (h.split tells)
-    (end_begun g.B.Board t k c.begin-meter.result c.args.board.now c.begin-meter.ensures.off c.begin-meter.ensures.first (events_in h.taken) c.carry_drive.new.meter c.carry_drive.new.board c.drop_at_end.new.board
+    (end_begun g.B.Board t k c.new-meter.result c.args.board.now c.new-meter.ensures.off c.new-meter.ensures.first (events_in h.taken) c.carry_drive.new.meter c.carry_drive.new.board c.drop_at_end.new.board
     h.carried c.drop_at_end.ensures.begun)
 
 pub returns-in-Err-clause-ends : goal.returns-in-Err-clause-ends
@@ -42,22 +43,40 @@ returns-in-Err-clause-ends g c = λ tells.
     let h = c.in-Err.ensures.broke_off in
     breaks g.B.Board.tells_text t k (g.F.Files.rest c.args.files.now c.args.word) (g.F.Files.rest c.carry_drive.new.files c.args.word) (g.B.Board.printed c.args.board.now) (g.B.Board.printed c.carry_drive.new.board)
     h.taken h.few (h.split tells)
-    (run_begun g.B.Board t k c.begin-meter.result c.args.board.now c.begin-meter.ensures.off c.begin-meter.ensures.first (events_in h.taken) c.carry_drive.new.board h.broke_off)
+    (run_begun g.B.Board t k c.new-meter.result c.args.board.now c.new-meter.ensures.off c.new-meter.ensures.first (events_in h.taken) c.carry_drive.new.board h.broke_off)
 
 pub returns-in-Ok-drop_at_end-clause-steps : goal.returns-in-Ok-drop_at_end-clause-steps
-returns-in-Ok-drop_at_end-clause-steps g c = λ tells.
+returns-in-Ok-drop_at_end-clause-steps g c =
     let h = c.in-Ok.ensures.carried in
-    record { taken = h.taken; split = h.split tells; bound = omega (arith, h.bounded, c.drop_at_end.ensures.steps) }
+    record {
+      taken = h.taken;
+      few = h.few;
+      split = h.split;
+      bound = drop_bounded (events_in h.taken) (length (events_in h.taken)) c.args.steps.now c.carry_drive.new.steps
+          c.drop_at_end.new.steps h.bounded c.drop_at_end.ensures.steps (λ none. c.drop_at_end.ensures.idle
+          (dry_off g.B.Board c.args.tables.now c.args.seal.now c.new-meter.result c.args.board.now
+          c.carry_drive.new.meter c.carry_drive.new.board (events_in h.taken) c.in-Ok.ensures.ready
+          c.new-meter.ensures.off c.new-meter.ensures.first h.carried none));
+    }
 
 pub returns-in-Err-drop_at_end-clause-steps : goal.returns-in-Err-drop_at_end-clause-steps
-returns-in-Err-drop_at_end-clause-steps g c = λ tells.
+returns-in-Err-drop_at_end-clause-steps g c =
     let h = c.in-Ok.ensures.carried in
-    record { taken = h.taken; split = h.split tells; bound = omega (arith, h.bounded, c.drop_at_end.ensures.steps) }
+    record {
+      taken = h.taken;
+      few = h.few;
+      split = h.split;
+      bound = drop_bounded (events_in h.taken) (length (events_in h.taken)) c.args.steps.now c.carry_drive.new.steps
+          c.drop_at_end.new.steps h.bounded c.drop_at_end.ensures.steps (λ none. c.drop_at_end.ensures.idle
+          (dry_off g.B.Board c.args.tables.now c.args.seal.now c.new-meter.result c.args.board.now
+          c.carry_drive.new.meter c.carry_drive.new.board (events_in h.taken) c.in-Ok.ensures.ready
+          c.new-meter.ensures.off c.new-meter.ensures.first h.carried none));
+    }
 
 pub returns-in-Err-clause-steps : goal.returns-in-Err-clause-steps
-returns-in-Err-clause-steps g c = λ tells.
+returns-in-Err-clause-steps g c =
     let h = c.in-Err.ensures.broke_off in
-    record { taken = h.taken; split = h.split tells; bound = omega (arith, h.bounded) }
+    record { taken = h.taken; few = h.few; split = h.split; bound = omega (arith, h.bounded) }
 
 pub returns-in-Ok-drop_at_end-clause-others : goal.returns-in-Ok-drop_at_end-clause-others
 returns-in-Ok-drop_at_end-clause-others g c = c.carry_drive.ensures.others

@@ -1,9 +1,10 @@
-use Rattle.std.proofs.Common.{List, All, arith, subst, sym}
+use Rattle.std.proofs.Common.{List, [], ◌∷◌, All, arith, subst, sym}
 use Rattle.meter_states.specs.Acts.{IsLawfulAct}
 use Rattle.meter_states.specs.declared.act.Act.{Act}
 use Rattle.meter_run.specs.Commits.{AreFor}
 use Rattle.meter_run.proofs.Dropping.{acts_for, few_commits}
 use Rattle.meter_run.proofs.Happening.{event_attempted, known_ready, meets_as, refusal_attempted}
+use Rattle.meter_run.proofs.Supplies.{event_keeps_off, unknown_keeps_off}
 use Rattle.meter_run.proofs.on_store.go_on.Goals as goal
 
 pub do_acts-requires-clause-acts : goal.do_acts-requires-clause-acts
@@ -53,3 +54,16 @@ returns-in-Some-clause-steps g c =
     let few = few_commits t k c.args.event x.core core d acts (known_ready g.B.Board t k x c.in-Some.known c.args.board.now c.in-Some.is c.requires.ready)
     (meets_as t k x.core d core c.args.event acts c.advance.new.acts.items c.as_slice.ensures.value c.advance.ensures.meets) in
     omega (arith, few, c.as_slice.ensures.fits, c.advance.ensures.steps, c.do_acts.ensures.steps)
+
+pub returns-in-None-clause-supply : goal.returns-in-None-clause-supply
+returns-in-None-clause-supply g c =
+    unknown_keeps_off g.B.Board c.args.tables.now c.args.seal.now c.args.meter.now c.args.board.now
+    (c.args.event ∷ []) c.in-None.is c.requires.ready
+
+pub returns-in-Some-clause-supply : goal.returns-in-Some-clause-supply
+returns-in-Some-clause-supply g c =
+    let t = c.args.tables.now in
+    let k = c.args.seal.now in
+    let x = c.args.meter.now in
+    event_keeps_off t k c.args.event x.core c.advance.new.core c.in-Some.known.durable c.advance.new.acts.items
+    (known_ready g.B.Board t k x c.in-Some.known c.args.board.now c.in-Some.is c.requires.ready) c.advance.ensures.meets

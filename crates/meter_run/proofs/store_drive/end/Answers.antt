@@ -1,4 +1,4 @@
-use Rattle.std.proofs.Common.{◌∷◌, []}
+use Rattle.std.proofs.Common.{◌∷◌, [], refl}
 use Rattle.std.proofs.lemmas.Result.{on_ok_weaker}
 use Rattle.taxi_units.specs.declared.event.Event.TheVariants.{Down}
 use Rattle.meter_states.specs.Run.{ended, run}
@@ -18,7 +18,7 @@ returns-then-is_off-clause-stopped g c =
 pub returns-clause-carried : goal.returns-clause-carried
 returns-clause-carried g c =
     on_ok_weaker c.carry_out.result (λ h. ends_on g.B.Board c.args.tables.now c.args.seal.now c.args.meter.now c.args.board.now c.carry_out.new.self c.carry_out.new.board
-    (not_told c.is_off.result _ c.is_off.ensures.1 c.if-is_off.false) h) c.carry_out.ensures.carried
+    (not_told c.is_off.result _ c.is_off.ensures.1 c.if-is_off.false) h.out) c.carry_out.ensures.carried
 
 pub returns-clause-stopped : goal.returns-clause-stopped
 returns-clause-stopped g c =
@@ -28,4 +28,11 @@ returns-clause-stopped g c =
     let a = c.args.board.now in
     let b = c.carry_out.new.board in
     ends_amid g.B.Board t k x a b (not_told c.is_off.result _ c.is_off.ensures.1 c.if-is_off.false)
-    (amid_either g.B.Board t k c.carry_out.result (λ s m. run s (Down ∷ []) m) x a c.carry_out.new.self b c.carry_out.ensures.carried c.carry_out.ensures.broke_off)
+    (amid_either g.B.Board t k c.carry_out.result (λ s m. run s (Down ∷ []) m) x a c.carry_out.new.self b
+    (on_ok_weaker c.carry_out.result (λ h. h.out) c.carry_out.ensures.carried) c.carry_out.ensures.broke_off)
+
+pub returns-then-is_off-clause-idle : goal.returns-then-is_off-clause-idle
+returns-then-is_off-clause-idle g c = λ off. refl
+
+pub returns-clause-idle : goal.returns-clause-idle
+returns-clause-idle g c = λ off. absurd (not_told c.is_off.result _ c.is_off.ensures.1 c.if-is_off.false off)

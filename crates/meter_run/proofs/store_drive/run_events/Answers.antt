@@ -1,7 +1,9 @@
-use Rattle.std.proofs.Common.{◌∙◌, inr, Ok, ap, arith, refl}
+use Rattle.std.proofs.Common.{◌∙◌, inr, Ok, ap, arith, refl, false, length}
 use Rattle.outside.proofs.Laws.{may_rise_more, rises_by, rises_not, rose_behind}
 use Rattle.meter_run.specs.StoreLaws.{beside_then}
 use Rattle.meter_run.proofs.Ended.{board_only, no_board_fault, read_failed}
+use Rattle.drive_text.specs.Drive.{events_in}
+use Rattle.meter_run.proofs.Supplies.{drop_bounded}
 use Rattle.meter_run.proofs.Whole.{done_whole, ran_amid, ran_to_end, ran_whole, ready_new, secured_of}
 use Rattle.meter_run.proofs.store_drive.run_events.Goals as goal
 
@@ -39,10 +41,10 @@ returns-in-Err-clause-cuts g c = λ tells.
     (ran_amid g.B.Board c.args.tables.now c.args.seal.now c.new-meter.result c.args.board.now c.new-meter.ensures.off c.new-meter.ensures.unknown c.carry_drive.new.board c.in-Err.ensures.broke_off tells).cuts
 
 pub returns-in-Ok-end-clause-beside : goal.returns-in-Ok-end-clause-beside
-returns-in-Ok-end-clause-beside g c = λ told. beside_then g.B.Board c.args.board.now c.carry_drive.new.board c.end.new.board (c.in-Ok.ensures.carried.carried.beside told) (c.end.ensures.stopped.beside told)
+returns-in-Ok-end-clause-beside g c = λ told. beside_then g.B.Board c.args.board.now c.carry_drive.new.board c.end.new.board (c.in-Ok.ensures.carried.carried.out.beside told) (c.end.ensures.stopped.beside told)
 
 pub returns-in-Err-end-clause-beside : goal.returns-in-Err-end-clause-beside
-returns-in-Err-end-clause-beside g c = λ told. beside_then g.B.Board c.args.board.now c.carry_drive.new.board c.end.new.board (c.in-Ok.ensures.carried.carried.beside told) (c.end.ensures.stopped.beside told)
+returns-in-Err-end-clause-beside g c = λ told. beside_then g.B.Board c.args.board.now c.carry_drive.new.board c.end.new.board (c.in-Ok.ensures.carried.carried.out.beside told) (c.end.ensures.stopped.beside told)
 
 pub returns-in-Err-clause-beside : goal.returns-in-Err-clause-beside
 returns-in-Err-clause-beside g c = λ told. c.in-Err.ensures.broke_off.broke_off.beside told
@@ -61,19 +63,33 @@ pub returns-in-Err-clause-complete : goal.returns-in-Err-clause-complete
 returns-in-Err-clause-complete g c = λ tells whole calm still. absurd (still (c.in-Err.ensures.cause.failed refl))
 
 pub returns-in-Ok-end-clause-steps : goal.returns-in-Ok-end-clause-steps
-returns-in-Ok-end-clause-steps g c = λ tells.
+returns-in-Ok-end-clause-steps g c =
     let h = c.in-Ok.ensures.carried in
-    record { taken = h.taken; split = h.split tells; bound = omega (arith, h.bounded, c.end.ensures.steps) }
+    record {
+      taken = h.taken;
+      few = h.few;
+      split = h.split;
+      bound = drop_bounded (events_in h.taken) (length (events_in h.taken)) c.args.steps.now c.carry_drive.new.steps
+          c.end.new.steps h.bounded c.end.ensures.steps
+          (λ none. c.end.ensures.idle (h.carried.supply false (λ unsupplied. c.new-meter.ensures.off) none));
+    }
 
 pub returns-in-Err-end-clause-steps : goal.returns-in-Err-end-clause-steps
-returns-in-Err-end-clause-steps g c = λ tells.
+returns-in-Err-end-clause-steps g c =
     let h = c.in-Ok.ensures.carried in
-    record { taken = h.taken; split = h.split tells; bound = omega (arith, h.bounded, c.end.ensures.steps) }
+    record {
+      taken = h.taken;
+      few = h.few;
+      split = h.split;
+      bound = drop_bounded (events_in h.taken) (length (events_in h.taken)) c.args.steps.now c.carry_drive.new.steps
+          c.end.new.steps h.bounded c.end.ensures.steps
+          (λ none. c.end.ensures.idle (h.carried.supply false (λ unsupplied. c.new-meter.ensures.off) none));
+    }
 
 pub returns-in-Err-clause-steps : goal.returns-in-Err-clause-steps
-returns-in-Err-clause-steps g c = λ tells.
+returns-in-Err-clause-steps g c =
     let h = c.in-Err.ensures.broke_off in
-    record { taken = h.taken; split = h.split tells; bound = omega (arith, h.bounded) }
+    record { taken = h.taken; few = h.few; split = h.split; bound = omega (arith, h.bounded) }
 
 pub returns-in-Ok-end-clause-others : goal.returns-in-Ok-end-clause-others
 returns-in-Ok-end-clause-others g c = c.carry_drive.ensures.others

@@ -4,6 +4,7 @@ use Rattle.meter_states.specs.Equals.{intervals_of}
 use Rattle.meter_states.specs.Run.{run}
 use Rattle.meter_run.specs.OnStore.{CarriesOut}
 use Rattle.meter_run.proofs.Equal.{intervals_are, knows_still, out_still}
+use Rattle.meter_run.proofs.Supplies.{equal_keep_off}
 use Rattle.meter_run.proofs.on_store.StoreMeterCarrier.carry_equal.Goals as goal
 
 pub equal_intervals-requires : goal.equal_intervals-requires
@@ -24,5 +25,8 @@ pub returns-clause-carried : goal.returns-clause-carried
 returns-clause-carried g c = λ board ready.
     let n = c.equal_intervals.result in
     let x = c.args.self.now in
-    subst (λ (es : List Event). CarriesOut g.B.Board c.args.tables.now c.args.seal.now (λ s m. run s es m) x board (record x { core = c.equal_intervals.new.self }) board) (intervals_are c.args.pulses n)
-    (out_still g.B.Board c.args.tables.now c.args.seal.now (intervals_of c.args.pulses n) x c.equal_intervals.new.self board (g.met.B.Board.only_now board) c.equal_intervals.ensures.meets)
+    record {
+      out = subst (λ (es : List Event). CarriesOut g.B.Board c.args.tables.now c.args.seal.now (λ s m. run s es m) x board (record x { core = c.equal_intervals.new.self }) board) (intervals_are c.args.pulses n)
+          (out_still g.B.Board c.args.tables.now c.args.seal.now (intervals_of c.args.pulses n) x c.equal_intervals.new.self board (g.met.B.Board.only_now board) c.equal_intervals.ensures.meets);
+      supply = equal_keep_off x.core.plain c.equal_intervals.new.self.plain c.args.pulses n c.equal_intervals.ensures.same.0;
+    }

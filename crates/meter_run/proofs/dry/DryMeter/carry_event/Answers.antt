@@ -6,7 +6,7 @@ use Rattle.meter_run.specs.Commits.{AreFor, after_acts}
 use Rattle.meter_run.specs.Texts.{shown_texts}
 use Rattle.meter_run.proofs.Dropping.{acts_for, breaks_event, carries_event, ready_after}
 use Rattle.meter_run.proofs.Going.{on_err, on_ok_both, on_ok_under}
-use Rattle.meter_run.proofs.dry.DryMeterCarrier.carry_out.Goals as goal
+use Rattle.meter_run.proofs.dry.DryMeter.carry_event.Goals as goal
 
 pub perform_all-requires : goal.perform_all-requires
 perform_all-requires g c =

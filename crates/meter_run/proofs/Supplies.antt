@@ -1,0 +1,127 @@
+-- The supply behind events: a meter is off without it, and the steps of a drive with the supply drop at its end.
+use Rattle.std.proofs.Common.{◌≡◌, ◌≢◌, inl, inr, ℕ, zero, suc, ◌+◌, ◌*◌, ◌≤◌, List, [], ◌∷◌, Bool, true, false, None, arith, refl, sym, ap, ◌∙◌}
+use Rattle.std.proofs.lemmas.Bool.{ne_eqb}
+use Rattle.drive_text.specs.Runs.{interval_events, intervals_events}
+use Rattle.outside.specs.declared.board.Board.{Ghosts}
+use Rattle.seal_store.specs.declared.seal.Seal.{Seal}
+use Rattle.tariff_compile.specs.Tables.{TableParts}
+use Rattle.taxi_units.specs.declared.event.Event.{Event}
+use Rattle.taxi_units.specs.declared.event.Event.TheVariants.{Up, Down, Pulses, Tick, Clock, Key}
+use Rattle.taxi_units.specs.declared.event.Operating.{Operating}
+use Rattle.taxi_units.specs.declared.event.Operating.TheVariants.{Off, ForHire, Hired, Stopped}
+use Rattle.totaliser_store.specs.States.{first_state}
+use Rattle.totaliser_store.specs.declared.durable.Durable.{Durable}
+use Rattle.meter_states.specs.Core.{Meets, Plain, Stands}
+use Rattle.meter_states.specs.Facts.{Whole}
+use Rattle.meter_states.specs.Meter.{Meter, Outcome}
+use Rattle.meter_states.specs.Run.{opened, run}
+use Rattle.meter_states.specs.Setting.{Setting, IsSettingOf}
+use Rattle.meter_states.specs.Step.{step, step_in}
+use Rattle.meter_states.specs.declared.act.Act.{Act}
+use Rattle.meter_run.specs.Dry.{Carries, IsReady}
+use Rattle.meter_run.specs.Kept.{StandsWith}
+use Rattle.meter_run.specs.OnStore.{IsReadyOn}
+use Rattle.meter_run.specs.Supply.{KeepsOff, drop_steps, is_supplied, is_supplied_after}
+use Rattle.meter_run.specs.SupplyLaws.{supplied_joined}
+use Rattle.meter_run.specs.declared.dry.DryMeter.{DryMeter}
+use Rattle.meter_run.specs.declared.stored.StoreMeter.{StoreMeter}
+use Rattle.meter_run.proofs.Dropping.{begins, off_of}
+use Rattle.meter_run.proofs.Happening.{refused_event, unknown_off}
+
+never : true ≡ false → ⊥
+never is = absurd cc
+
+-- ---- the meter
+
+-- a meter whose supply drops is off
+dropped_off : (s : Setting) (o : Operating) (m : Meter) → m.operating ≡ o → (step_in s o Down m).next.operating ≡ Off
+dropped_off s Off m is = is
+dropped_off s ForHire m is = refl
+dropped_off s Hired m is = refl
+dropped_off s Stopped m is = refl
+
+-- a meter that is off refuses what isn't the coming of the supply
+stays_off : (s : Setting) (event : Event) (m : Meter) → m.operating ≡ Off → ((second : ℕ) → event ≢ Up second)
+    → (step s event m).next.operating ≡ Off
+stays_off s event m off other =
+    ap (λ (o : Outcome). o.next.operating) (refused_event s event m off other) ∙ off
+
+pub off_after : (s : Setting) (event : Event) (m : Meter) (before : Bool) → (before ≡ false → m.operating ≡ Off)
+    → is_supplied_after before event ≡ false → (step s event m).next.operating ≡ Off
+off_after s (Up second) m before off none = absurd (never none)
+off_after s Down m before off none = dropped_off s m.operating m refl
+off_after s (Pulses count) m before off none = stays_off s (Pulses count) m (off none) (λ second is. absurd cc)
+off_after s Tick m before off none = stays_off s Tick m (off none) (λ second is. absurd cc)
+off_after s (Clock second) m before off none = stays_off s (Clock second) m (off none) (λ second' is. absurd cc)
+off_after s (Key key) m before off none = stays_off s (Key key) m (off none) (λ second is. absurd cc)
+
+pub off_behind : (s : Setting) (events : List Event) (m : Meter) (before : Bool) → (before ≡ false → m.operating ≡ Off)
+    → is_supplied before events ≡ false → (run s events m).next.operating ≡ Off
+off_behind s [] m before off none = off none
+off_behind s (event ∷ events) m before off none =
+    off_behind s events (step s event m).next (is_supplied_after before event) (off_after s event m before off) none
+
+-- ---- the core
+
+-- the core of a state that is off is off
+core_off : (s : Setting) (core : Plain) (m : Meter) → Stands s core m → m.operating ≡ Off → core.operating ≡ Off
+core_off s core m (inl both) off = both.0
+core_off s core m (inr on) off = absurd (on.0 off)
+
+-- an event keeps a core off without the supply
+pub event_keeps_off : (tables : TableParts) (seal : Seal) (event : Event) (core core' : Whole) (d : Durable)
+    (acts : List Act) → IsReady tables seal core d
+    → ((s : Setting) (m : Meter) → IsSettingOf s tables seal → StandsWith s core.plain d m
+    → Meets s core'.plain acts (step s event m))
+    → KeepsOff core.plain (event ∷ []) core'.plain
+event_keeps_off tables seal event core core' d acts ready meets =
+    λ before off none.
+    let way = ready.way in
+    let s = way.setting in
+    let m = way.meter in
+    core_off s core'.plain (step s event m).next (meets s m way.is way.stands).state
+    (off_after s event m before (λ unsupplied. off_of s core m way.stands.core (off unsupplied)) none)
+
+-- a core that is off, and left as it was, is off
+pub unknown_keeps_off : {D L : Type 0} (B : Ghosts D L) (tables : TableParts) (seal : Seal) (x : StoreMeter) (a : D)
+    (events : List Event) → x.known ≡ None → IsReadyOn B tables seal x a → KeepsOff x.core.plain events x.core.plain
+unknown_keeps_off B tables seal x a events unknown ready = λ before off none. unknown_off B tables seal x a unknown ready
+
+-- ---- equal intervals
+
+interval_keeps : (p : ℕ) (before : Bool) → is_supplied before (interval_events p) ≡ before
+interval_keeps zero before = refl
+interval_keeps (suc p) before = rw (ne_eqb (suc p) 0 (λ none. absurd cc)) refl
+
+intervals_keep : (p n : ℕ) (before : Bool) → is_supplied before (intervals_events p n) ≡ before
+intervals_keep p zero before = refl
+intervals_keep p (suc n) before =
+    supplied_joined before (interval_events p) (intervals_events p n)
+    ∙ ap (λ (b : Bool). is_supplied b (intervals_events p n)) (interval_keeps p before) ∙ intervals_keep p n before
+
+pub equal_keep_off : (old new : Plain) (p n : ℕ) → new.operating ≡ old.operating
+    → KeepsOff old (intervals_events p n) new
+equal_keep_off old new p n same = λ before off none. same ∙ off (sym (intervals_keep p n before) ∙ none)
+
+-- ---- a drive
+
+-- a dry meter that began is off behind events without the supply
+pub dry_off : {D L : Type 0} (B : Ghosts D L) (tables : TableParts) (seal : Seal) (x : DryMeter) (a : D) (y : DryMeter)
+    (b : D) (events : List Event) → IsReady tables seal y.core y.durable → x.core.plain.operating ≡ Off
+    → x.durable ≡ first_state → Carries B tables seal x a events y b → is_supplied false events ≡ false
+    → y.core.plain.operating ≡ Off
+dry_off B tables seal x a y b events ready off first carried none =
+    let s = ready.way.setting in
+    let m = opened s first_state in
+    core_off s y.core.plain (run s events m).next
+    (carried.stands s m ready.way.is (begins s x.core x.durable off first)).core
+    (off_behind s events m false (λ unsupplied. refl) none)
+
+-- a drive of so many events, and then the drop, which takes nothing without the supply
+pub drop_bounded : (events : List Event) (n before mid now : ℕ) → mid ≤ before + 64 * n → now ≤ mid + 64
+    → (is_supplied false events ≡ false → now ≡ mid) → now ≤ before + 0 + 64 * n + drop_steps events
+drop_bounded events n before mid now first most idle = by (is_supplied false events) refl
+  where
+    by : (supplied : Bool) → is_supplied false events ≡ supplied → now ≤ before + 0 + 64 * n + drop_steps events
+    by true is = let drops : drop_steps events ≡ 64 = rw is refl in omega (arith, first, most, drops)
+    by false is = let none : now ≡ mid = idle is in omega (arith, first, none)

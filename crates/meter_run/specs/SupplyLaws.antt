@@ -1,0 +1,46 @@
+-- For proofs: the supply behind events that a meter carries out on a store, one list behind another.
+use Rattle.std.proofs.Common.{◌≡◌, List, [], ◌∷◌, ◌++◌, Bool, refl, sym, ◌∙◌}
+use Rattle.outside.specs.Runs.{LeavesNow}
+use Rattle.outside.specs.declared.board.Board.{Ghosts}
+use Rattle.seal_store.specs.declared.seal.Seal.{Seal}
+use Rattle.tariff_compile.specs.Tables.{TableParts}
+use Rattle.taxi_units.specs.declared.event.Event.{Event}
+use Rattle.meter_states.specs.Core.{Plain}
+use Rattle.meter_states.specs.Run.{run}
+use Rattle.meter_run.specs.OnStore.{CarriesEvents, StopsAmid}
+use Rattle.meter_run.specs.StoreLaws.{amid_later, out_none, out_then}
+use Rattle.meter_run.specs.Supply.{KeepsOff, is_supplied, is_supplied_after}
+use Rattle.meter_run.specs.declared.stored.StoreMeter.{StoreMeter}
+
+-- the supply behind two lists of events is that behind the second, from that behind the first on
+pub supplied_joined : (before : Bool) (es fs : List Event)
+    → is_supplied before (es ++ fs) ≡ is_supplied (is_supplied before es) fs
+supplied_joined before [] fs = refl
+supplied_joined before (event ∷ es) fs = supplied_joined (is_supplied_after before event) es fs
+
+pub off_then : (es fs : List Event) (a b c : Plain) → KeepsOff a es b → KeepsOff b fs c → KeepsOff a (es ++ fs) c
+off_then es fs a b c first next =
+    λ before off none. next (is_supplied before es) (first before off) (sym (supplied_joined before es fs) ∙ none)
+
+module _ {D L : Type 0} (B : Ghosts D L) (tables : TableParts) (seal : Seal) where
+  -- a meter and a board carry events out, by the board, the tables and the seal at hand
+  abbrev Carried : List Event → StoreMeter → D → StoreMeter → D → Type 0
+  Carried events x a y b = CarriesEvents B tables seal events x a y b
+
+  -- a meter and a board that is not called carry out no events
+  pub carried_none : (x : StoreMeter) (a : D) → LeavesNow B a → Carried [] x a x a
+  carried_none x a now = record { out = out_none B tables seal x a now; supply = λ before off. off }
+
+  -- events that are carried out, and events behind them that are, are carried out as one list
+  pub carried_then : (es fs : List Event) (x : StoreMeter) (a : D) (y : StoreMeter) (b : D) (z : StoreMeter) (c : D)
+      → Carried es x a y b → Carried fs y b z c → Carried (es ++ fs) x a z c
+  carried_then es fs x a y b z c first next = record {
+    out = out_then B tables seal es fs x a y b z c first.out next.out;
+    supply = off_then es fs x.core.plain y.core.plain z.core.plain first.supply next.supply;
+  }
+
+  -- a board that stops amid events behind others that were carried out stops amid both, joined
+  pub carried_later : (es fs : List Event) (x : StoreMeter) (a : D) (y : StoreMeter) (b c : D) → Carried es x a y b
+      → StopsAmid B tables seal (λ s m. run s fs m) y b c
+      → StopsAmid B tables seal (λ s m. run s (es ++ fs) m) x a c
+  carried_later es fs x a y b c first next = amid_later B tables seal es fs x a y b c first.out next
