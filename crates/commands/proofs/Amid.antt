@@ -1,10 +1,12 @@
 -- The command `seal`: what it leaves of the store.
-use Rattle.std.proofs.Common.{◌≡◌, ◌≢◌, ◌⊎◌, ⊎_elim, inl, inr, ℕ, List, [], Option, None, Some, Result, Ok, Err, refl, sym, ap, subst, ◌∙◌, arith}
+use Rattle.std.proofs.Common.{◌≡◌, ◌≢◌, ◌⊎◌, ⊎_elim, inl, inr, ℕ, List, [], Option, None, Some, Result, Ok, Err, refl}
+use Rattle.std.proofs.Common.{sym, ap, subst, ◌∙◌, get_or}
 use Rattle.std.specs.Prelude.{◌==◌, if◌then◌else◌, is_some, Bool, true, false}
 use Rattle.std.proofs.lemmas.List.{ext_get_or}
 use Rattle.outside.specs.declared.board.Board.{Ghosts}
-use Rattle.outside.specs.Disk.{SameBut}
-use Rattle.outside.specs.Runs.{IsSettled as NothingFlies, KeepsStore, LeavesOnly}
+use Rattle.outside.specs.Disk.{MayLeaveAmid, SameBut}
+use Rattle.outside.specs.Printing.{Begins}
+use Rattle.outside.specs.Runs.{IsSettled as NothingFlies, KeepsStore, LeavesOnly, MayHold}
 use Rattle.outside.proofs.Laws.{leaves_wider}
 use Rattle.slot_store.specs.declared.found.Found.{Found}
 use Rattle.slot_store.specs.declared.found.Found.TheVariants.{Blank, Latest}
@@ -29,15 +31,17 @@ use Rattle.commands.specs.declared.opening.StoreFault.{StoreFault}
 use Rattle.commands.specs.declared.opening.StoreFault.TheVariants as stores
 use Rattle.commands.specs.declared.seal.Base.{Base}
 use Rattle.commands.specs.Call.{IsEnd}
-use Rattle.commands.specs.LastLine.{line_of, status_of}
+use Rattle.commands.specs.LastLine.{line_of, sealed_line, status_of}
 use Rattle.commands.specs.Opening.{opened, opening_of}
-use Rattle.commands.specs.Seal.{HasSealed, IsAmidOf, Seals, over_seal, over_totals, seal_read, sealing_of, sealing_over, sealing_with}
-use Rattle.commands.specs.SealSteps.{RestsAmid}
+use Rattle.commands.specs.Seal.{HasSealed, MayLeaveSealing, Seals, ShowsByteOf, over_seal, over_totals, seal_read}
+use Rattle.commands.specs.Seal.{sealing_of, sealing_over, sealing_with}
+use Rattle.commands.specs.SealSteps.{IsNoSeal, RestsAmid}
 use Rattle.commands.proofs.Openings.{no_fault}
 use Rattle.commands.proofs.Rests.{board_or_not}
-use Rattle.commands.proofs.Sealings.{sealing-made}
+use Rattle.commands.proofs.SealLines.{no_memory_other, not_shown, other_line, read_fault_other}
+use Rattle.commands.proofs.Sealings.{sealing-made, sealing-over}
 
--- ---- the opening image is amid the sealing already
+-- ---- a cut may leave the opening image
 
 -- what a sealing begins with is what was found
 with_found : (old : Option Seal) (base : Base) (r : Result Seal Ended) (s : Sealing) → sealing_with old base r ≡ Ok s → (base.totals ≡ s.totals) × (old ≡ s.old)
@@ -87,15 +91,29 @@ amid_found image tariff params (Ok found) (Ok seal) s one two e =
       seal = inl (subst (λ (o : Option Seal). ShowsSeal image o) over.3 (shows_seal image seal two));
     }
 
-pub amid_already : (image tariff params : List ℕ) → IsAmidOf (sealing_of (opening_of image) tariff params) image image
-amid_already image tariff params = by (sealing_of (opening_of image) tariff params) refl
+-- so it may be left, with a text in which no byte of the line stands
+cut_already : (image tariff params printed text : List ℕ)
+    → ((number : ℕ) → ¬ (ShowsByteOf (sealed_line number) printed text))
+    → MayLeaveSealing (sealing_of (opening_of image) tariff params) image printed image text
+cut_already image tariff params printed text unseen = by (sealing_of (opening_of image) tariff params) refl
   where
-    by : (r : Result Sealing Ended) → sealing_of (opening_of image) tariff params ≡ r → IsAmidOf r image image
+    by : (r : Result Sealing Ended) → sealing_of (opening_of image) tariff params ≡ r
+        → MayLeaveSealing r image printed image text
     by (Err end) is = refl
-    by (Ok s) is =
-        amid_found image tariff params (found_at totals.reads states.number_of 0 image) (found_at seals.reads seals.number_of 1024 image) s
-        ((answer_is totals.reads states.number_of 0 image (found_at totals.reads states.number_of 0 image)).0 refl)
-        ((answer_is seals.reads seals.number_of 1024 image (found_at seals.reads seals.number_of 1024 image)).0 refl) is
+    by (Ok s) is = record {
+      amid =
+          amid_found image tariff params (found_at totals.reads states.number_of 0 image)
+          (found_at seals.reads seals.number_of 1024 image) s
+          ((answer_is totals.reads states.number_of 0 image (found_at totals.reads states.number_of 0 image)).0 refl)
+          ((answer_is seals.reads seals.number_of 1024 image (found_at seals.reads seals.number_of 1024 image)).0 refl)
+          is;
+      behind = λ shown. absurd (unseen s.new.seal_number shown);
+    }
+
+cut_still : (image tariff params printed : List ℕ)
+    → MayLeaveSealing (sealing_of (opening_of image) tariff params) image printed image printed
+cut_still image tariff params printed =
+    cut_already image tariff params printed printed (λ number. not_shown number printed printed refl)
 
 -- ---- the store
 
@@ -107,9 +125,9 @@ stays_settled reads number_of at place image left flying body h same =
     (same_at reads number_of at place image left body h.is_at (record { size = same.size; bytes = λ byte within. same.rest byte (h.quiet byte within) }))
 
 module _ {D L : Type 0} (B : Ghosts D L) where
-  -- what is amid the sealing with the image of the old board
+  -- what a cut may leave of a sealing that began on the old board
   abbrev Amid : Result Sealing Ended → D → List ℕ → List ℕ → Type 0
-  Amid sealing old i x = IsAmidOf sealing (B.image old) i
+  Amid sealing old i x = MayLeaveSealing sealing (B.image old) (B.printed old) i x
 
   -- the sealing of the old board's image with a tariff's text and a parameter text
   abbrev Made : D → (tariff params : List ℕ) → Result Sealing Ended
@@ -121,13 +139,56 @@ module _ {D L : Type 0} (B : Ghosts D L) where
   seals-read tariff params fails old new status not_0 failed synced = record {
     sealed = λ z. absurd (not_0 z);
     leaves = from_sync_as B (IsAsHeld B old) (Amid (Made old tariff params) old) fails (status ≡ 8) old new failed
-        (λ i x held. rw (held.image) (amid_already (B.image old) tariff params)) synced;
+        (λ i x held. rw (held.image, held.text) (cut_still (B.image old) tariff params (B.printed old))) synced;
   }
 
-  pub rests-read : (tariff params image : List ℕ) (new : D) → B.image new ≡ image → NothingFlies B new → RestsAmid B (sealing_of (opening_of image) tariff params) image new
-  rests-read tariff params image new same settled left h =
-      let is : left ≡ image = ext_get_or 0 left (B.image new) h.bytes.size (λ place lt. h.bytes.rest place (settled place)) ∙ same in
-      rw is (amid_already image tariff params)
+  same_left : (image left : List ℕ) (new : D) → B.image new ≡ image → NothingFlies B new
+      → MayHold (B.image new) (B.in_flight new) left → left ≡ image
+  same_left image left new same settled held =
+      ext_get_or 0 left (B.image new) held.bytes.size (λ place lt. held.bytes.rest place (settled place)) ∙ same
+
+  -- a cut while another line is printed, and while one is where nothing is sealed
+  rests-read : (tariff params image printed line : List ℕ) (new : D) → B.image new ≡ image → B.printed new ≡ printed
+      → NothingFlies B new → get_or line 0 0 ≢ 83
+      → RestsAmid B (sealing_of (opening_of image) tariff params) image printed line new
+  rests-read tariff params image printed line new same text settled other left x held begun =
+      let is : left ≡ image = same_left image left new same settled held in
+      rw is (cut_already image tariff params printed x (λ number. other_line line other number printed x
+      (subst (λ (p : List ℕ). Begins p x line) text begun)))
+
+  pub rests-refused : (sealing : Result Sealing Ended) (why : Ended) (image printed line : List ℕ) (new : D)
+      → sealing ≡ Err why → B.image new ≡ image → NothingFlies B new
+      → RestsAmid B sealing image printed line new
+  rests-refused sealing why image printed line new e same settled left x held begun =
+      subst (λ (r : Result Sealing Ended). MayLeaveSealing r image printed left x) (sym e)
+      (same_left image left new same settled held)
+
+  -- no seal was made of the texts
+  pub rests-no_seal : (tariff params image printed : List ℕ) (opening : Opening) (base : Base)
+      (read_failed : ℕ → Type 0) (new : D)
+      → opening_of image ≡ Ok opening
+      → over_totals opening.totals opening.seal ≡ Ok base → B.image new ≡ image → B.printed new ≡ printed
+      → NothingFlies B new → (end : Ended)
+      → IsNoSeal (next_number (found_number base.found)) base.decimals tariff params read_failed end
+      → RestsAmid B (sealing_of (opening_of image) tariff params) image printed (line_of end) new
+  rests-no_seal tariff params image printed opening base read_failed new e f same text settled = by
+    where
+      refused : (end : Ended) → seal_read (next_number (found_number base.found)) base.decimals tariff params ≡ Err end
+          → RestsAmid B (sealing_of (opening_of image) tariff params) image printed (line_of end) new
+      refused end h =
+          rests-refused (sealing_of (opening_of image) tariff params) end image printed (line_of end) new
+          (sealing-over (opening_of image) opening base tariff params (Err end) e f h) same settled
+
+      by : (end : Ended) → IsNoSeal (next_number (found_number base.found)) base.decimals tariff params read_failed end
+          → RestsAmid B (sealing_of (opening_of image) tariff params) image printed (line_of end) new
+      by ended.ReadFault h =
+          rests-read tariff params image printed (line_of ended.ReadFault) new same text settled read_fault_other
+      by ended.NoMemory h =
+          rests-read tariff params image printed (line_of ended.NoMemory) new same text settled no_memory_other
+      by (ended.BadTariff why) h = refused (ended.BadTariff why) h
+      by (ended.OtherDecimals one own) h = refused (ended.OtherDecimals one own) h
+      by (ended.BadParams fault) h = refused (ended.BadParams fault) h
+      by end h = absurd h
 
   -- the seal that was found, as a sealing is given it
   pub found-as : (board : D) (seal : Found Seal) (latest : Option (Place × ℕ)) → latest ≡ seal_found seal → ScannedSeal B board seal → FoundSeal B board latest (old_seal seal)
@@ -135,26 +196,36 @@ module _ {D L : Type 0} (B : Ghosts D L) where
 
   -- the seal was put in, or the board failed amid it
   seals-placed : (tariff params : List ℕ) (s : Sealing) (fails : Type 0) (old mid new : D) (status : ℕ) → Made old tariff params ≡ Ok s → ¬ fails
-      → LeavesFromSync B fails old mid (IsAsHeld B old) → LeavesSealing B s mid new → (status ≡ 0 → IsSealed s (B.image new)) → Seals B (Made old tariff params) old new status
-  seals-placed tariff params s fails old mid new status e went synced placed is =
+      → B.printed mid ≡ B.printed old → LeavesFromSync B fails old mid (IsAsHeld B old) → LeavesSealing B s mid new
+      → (status ≡ 0 → IsSealed s (B.image new))
+      → Seals B (Made old tariff params) old new status
+  seals-placed tariff params s fails old mid new status e went text synced placed is =
       let sealing = Made old tariff params in
       record {
         sealed = λ z. subst (λ (r : Result Sealing Ended). HasSealed r (B.image new)) (sym e) (is z);
-        leaves = goes_on B (IsAsHeld B old) (Amid sealing old) fails (status ≡ 8) old mid new went (λ i x held. rw (held.image) (amid_already (B.image old) tariff params)) synced
+        leaves = goes_on B (IsAsHeld B old) (Amid sealing old) fails (status ≡ 8) old mid new went
+            (λ i x held. rw (held.image, held.text) (cut_still (B.image old) tariff params (B.printed old))) synced
             (leaves_wider B (LeavesBeside (B.image mid) (B.in_flight mid) (B.printed mid) (first_written s.totals) (places_written s.totals) (IsAmid s))
-            (Amid sealing old) mid new (λ i x h. subst (λ (r : Result Sealing Ended). IsAmidOf r (B.image old) i) (sym e) h.stands) placed.leaves);
+            (Amid sealing old) mid new (λ i x h. subst (λ (r : Result Sealing Ended). MayLeaveSealing r (B.image old)
+            (B.printed old) i x) (sym e)
+            (record {
+              amid = h.stands;
+              behind = λ shown. absurd
+                  (not_shown s.new.seal_number (B.printed old) x (h.beside.text ∙ text) shown);
+            })) placed.leaves);
       }
 
   -- the same of what was opened, its base and the seal that was read
   pub seals-over : (tariff params : List ℕ) (r : Result Opening StoreFault) (opening : Opening) (b : Result Base Ended) (base : Base) (number : ℕ) (seal : Seal) (old mid new : D) (status : ℕ)
       → r ≡ Ok opening → (¬ (r ≡ Err stores.BoardFault) → r ≡ opening_of (B.image old)) → b ≡ Ok base → b ≡ over_totals opening.totals opening.seal → number ≡ next_number (found_number base.found)
       → seal_read number base.decimals tariff params ≡ Ok seal → base.found ≡ seal_found opening.seal → ScannedSeal B mid opening.seal
-      → LeavesFromSync B (r ≡ Err stores.BoardFault) old mid (IsAsHeld B old)
+      → B.printed mid ≡ B.printed old → LeavesFromSync B (r ≡ Err stores.BoardFault) old mid (IsAsHeld B old)
       → ((found : Option Seal) → FoundSeal B mid base.found found → LeavesSealing B (record { totals = base.totals; old = found; new = seal }) mid new)
       → (status ≡ 0 → IsSealed (record { totals = base.totals; old = old_seal opening.seal; new = seal }) (B.image new)) → Seals B (Made old tariff params) old new status
-  seals-over tariff params r opening b base number seal old mid new status is exact based answer counted read latest scanned synced placed sealed =
+  seals-over tariff params r opening b base number seal old mid new status is exact based answer counted read latest scanned text synced placed sealed =
       seals-placed tariff params (record { totals = base.totals; old = old_seal opening.seal; new = seal }) (r ≡ Err stores.BoardFault) old mid new status
-      (sealing-made (B.image old) tariff params r opening b base number seal is exact based answer counted read) (no_fault r opening stores.BoardFault is) synced
+      (sealing-made (B.image old) tariff params r opening b base number seal is exact based answer counted read)
+      (no_fault r opening stores.BoardFault is) text synced
       (placed (old_seal opening.seal) (found-as mid opening.seal base.found latest scanned)) sealed
 
   -- the store stands for what the sealing says, also behind a cut
@@ -171,36 +242,41 @@ module _ {D L : Type 0} (B : Ghosts D L) where
   kept_totals None image h = inr h
   kept_totals (Some durable) image h = h
 
-  pub rests-placed : (sealing : Result Sealing Ended) (s : Sealing) (image : List ℕ) (new : D) → sealing ≡ Ok s → KeepsSealed B s.totals s.new new → RestsAmid B sealing image new
-  rests-placed sealing s image new e h left held =
+  pub rests-placed : (sealing : Result Sealing Ended) (s : Sealing) (image printed line : List ℕ) (new : D)
+      → sealing ≡ Ok s → KeepsSealed B s.totals s.new new
+      → RestsAmid B sealing image printed line new
+  rests-placed sealing s image printed line new e h left x held begun =
       let is = sealed_left s new h left held.bytes in
-      subst (λ (r : Result Sealing Ended). IsAmidOf r image left) (sym e) (record { totals = kept_totals s.totals left is.totals; seal = inr is })
+      subst (λ (r : Result Sealing Ended). MayLeaveSealing r image printed left x) (sym e)
+      (record { amid = record { totals = kept_totals s.totals left is.totals; seal = inr is }; behind = λ shown. is })
 
-  -- the last line keeps what was sealed, and is none where the board had failed
-  still_rests : (sealing : Result Sealing Ended) (old synced mid new : D) → LeavesOnly B synced mid (Amid sealing old) → RestsAmid B sealing (B.image old) mid → KeepsStore B mid new
-      → LeavesOnly B synced new (Amid sealing old)
-  still_rests sealing old synced mid new run rests kept = record {
-    later = omega (arith, run.later, kept.later);
-    each = λ i x left. ⊎_elim (run.each i x) (rests i) (kept.before (B.moment synced) i x run.later left);
-    before = λ start i x le left. ⊎_elim (run.before start i x le) (λ held. inr (rests i held)) (kept.before start i x (omega (arith, le, run.later)) left);
-  }
-
+  -- the last line, which is none where the board had failed
   finished : (sealing : Result Sealing Ended) (old mid new : D) (end : Ended) (status : ℕ) → (status_of end ≡ 8 → status ≡ 8)
-      → LeavesFromSync B (status_of end ≡ 8) old mid (Amid sealing old) → (end ≢ ended.BoardFault → RestsAmid B sealing (B.image old) mid) → KeepsStore B mid new → (line_of end ≡ [] → new ≡ mid)
+      → LeavesFromSync B (status_of end ≡ 8) old mid (Amid sealing old)
+      → (end ≢ ended.BoardFault → RestsAmid B sealing (B.image old) (B.printed old) (line_of end) mid)
+      → LeavesOnly B mid new (MayLeaveAmid (B.image mid) (B.in_flight mid) (B.printed mid) (line_of end))
+      → (line_of end ≡ [] → new ≡ mid)
       → (end ≡ ended.BoardFault) ⊎ ((end ≢ ended.BoardFault) × (status_of end ≢ 8)) → LeavesFromSync B (status ≡ 8) old new (Amid sealing old)
-  finished sealing old mid new end status eight leaves rests kept silent (inl is) =
+  finished sealing old mid new end status eight leaves rests line silent (inl is) =
       subst (λ (board : D). LeavesFromSync B (status ≡ 8) old board (Amid sealing old)) (sym (silent (ap line_of is)))
       (from_sync_as B (Amid sealing old) (Amid sealing old) (status_of end ≡ 8) (status ≡ 8) old mid eight (λ i x h. h) leaves)
-  finished sealing old mid new end status eight (inl failed) rests kept silent (inr (good, not_8)) = absurd (not_8 failed.0)
-  finished sealing old mid new end status eight (inr (synced, at, run)) rests kept silent (inr (good, not_8)) =
-      inr (synced, at, still_rests sealing old synced mid new run (rests good) kept)
+  finished sealing old mid new end status eight leaves rests line silent (inr (good, not_8)) =
+      goes_on B (Amid sealing old) (Amid sealing old) (status_of end ≡ 8) (status ≡ 8) old mid new not_8 (λ i x h. h)
+      leaves
+      (leaves_wider B (MayLeaveAmid (B.image mid) (B.in_flight mid) (B.printed mid) (line_of end)) (Amid sealing old)
+      mid new
+      (λ i x amid. rests good i x (record { bytes = amid.bytes; small = amid.small }) amid.text) line)
 
   pub seals-finished : (sealing : Result Sealing Ended) (old mid new : D) (end : Ended) (status : ℕ) (told failed : Type 0) (before now : List ℕ)
-      → Seals B sealing old mid (status_of end) → (end ≢ ended.BoardFault → RestsAmid B sealing (B.image old) mid) → KeepsStore B mid new → (line_of end ≡ [] → new ≡ mid)
+      → Seals B sealing old mid (status_of end)
+      → (end ≢ ended.BoardFault → RestsAmid B sealing (B.image old) (B.printed old) (line_of end) mid)
+      → KeepsStore B mid new
+      → LeavesOnly B mid new (MayLeaveAmid (B.image mid) (B.in_flight mid) (B.printed mid) (line_of end))
+      → (line_of end ≡ [] → new ≡ mid)
       → IsEnd told failed (status_of end) (line_of end) status before now → Seals B sealing old new status
-  seals-finished sealing old mid new end status told failed before now h rests kept silent ends = record {
+  seals-finished sealing old mid new end status told failed before now h rests kept line silent ends = record {
     sealed = λ z. subst (λ (image : List ℕ). HasSealed sealing image) (sym kept.same) (h.sealed (zero z ends));
-    leaves = finished sealing old mid new end status (eight ends) h.leaves rests kept silent (board_or_not end);
+    leaves = finished sealing old mid new end status (eight ends) h.leaves rests line silent (board_or_not end);
   }
     where
       zero : status ≡ 0 → IsEnd told failed (status_of end) (line_of end) status before now → status_of end ≡ 0
@@ -215,4 +291,5 @@ module _ {D L : Type 0} (B : Ghosts D L) where
   pub seals-settled : (tariff params : List ℕ) (old new : D) (status : ℕ) → NothingFlies B old → Seals B (sealing_of (opening_of (B.image old)) tariff params) old new status
       → LeavesOnly B old new (Amid (sealing_of (opening_of (B.image old)) tariff params) old)
   seals-settled tariff params old new status settled h =
-      settled_already B (Amid (sealing_of (opening_of (B.image old)) tariff params) old) (status ≡ 8) old new settled (amid_already (B.image old) tariff params) h.leaves
+      settled_already B (Amid (sealing_of (opening_of (B.image old)) tariff params) old) (status ≡ 8) old new settled
+      (cut_still (B.image old) tariff params (B.printed old)) h.leaves

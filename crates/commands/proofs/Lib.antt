@@ -54,6 +54,8 @@ mod RunCuts
 mod RunEnds
 -- what the command `run` answers, and what it leaves of the store
 mod Running
+-- in which texts no byte of the line `SEALED n` stands
+mod SealLines
 -- what the command `seal` answers
 mod Sealings
 -- the report of a book beside a sealed store

@@ -8,7 +8,7 @@ use Rattle.commands.specs.Call.{HasReadFault}
 use Rattle.commands.specs.Command.{command_of}
 use Rattle.commands.specs.Course.{Command, LooksOnly}
 use Rattle.commands.specs.Ending.{ComesOn, LooksAt}
-use Rattle.commands.specs.LastLine.{status_of}
+use Rattle.commands.specs.LastLine.{line_of, status_of}
 use Rattle.commands.specs.Opening.{opening_of}
 use Rattle.commands.specs.RunSteps.{RunComes}
 use Rattle.commands.specs.Seal.{Seals, sealing_of}
@@ -38,13 +38,14 @@ module _ {E D L : Type 0} (F : FileGhosts E) (B : Ghosts D L) where
     pub fails : (status : ℕ) → c.writes status → c.writes 8
     pub looks : LooksOnly c → B.tells_image → LooksAt B old new ended
 
-  -- a sealing comes to its last line where all holds of it that `Seals` says, and a cut after it leaves what a cut of
-  -- it may leave
+  -- a sealing comes to its last line where all holds of it that `Seals` says, and a cut while that line is printed
+  -- leaves what a cut of the sealing may leave
   pub record SealComes (files : E) (old new : D) (ended : Ended) : Type 0 where
     pub seals : Seals B (sealing_of (opening_of (B.image old)) (F.rest files 1) (F.rest files 2)) old new
         (status_of ended)
     pub rests : ended ≢ BoardFault → RestsAmid B
-        (sealing_of (opening_of (B.image old)) (F.rest files 1) (F.rest files 2)) (B.image old) new
+        (sealing_of (opening_of (B.image old)) (F.rest files 1) (F.rest files 2)) (B.image old) (B.printed old)
+        (line_of ended) new
 
   -- what is said of the command of a row besides
   abbrev pub ComesAs : Row → (files files' : E) (old new : D) → Ended → Type 0

@@ -1,5 +1,6 @@
 -- Rules: the command `seal TARIFF PARAMS`.
-use Rattle.std.specs.Prelude.{◌≡◌, ◌⊎◌, ℕ, ◌+◌, ◌≤◌, ◌==◌, if◌then◌else◌, is_some, List, [], Option, None, Some, Result, Ok, Err}
+use Rattle.std.specs.Prelude.{◌≡◌, ◌⊎◌, ℕ, ◌+◌, ◌<◌, ◌≤◌, ◌==◌, if◌then◌else◌, is_some, List, [], ◌++◌, take, Option}
+use Rattle.std.specs.Prelude.{None, Some, Result, Ok, Err}
 use Rattle.sha2.specs.Sha256.{sha256}
 use Rattle.slot_store.specs.declared.found.Found.{Found}
 use Rattle.slot_store.specs.declared.found.Found.TheVariants.{Blank, Latest}
@@ -146,15 +147,29 @@ abbrev pub HasSealed : Result Sealing Ended → List ℕ → Type 0
 HasSealed (Err ended) image = ⊥
 HasSealed (Ok sealing) image = IsSealed sealing image
 
--- from the opening sync on a cut may leave an image amid the sealing, or the opening image where nothing is sealed
-abbrev pub IsAmidOf : Result Sealing Ended → (image left_image : List ℕ) → Type 0
-IsAmidOf (Err ended) image left_image = left_image ≡ image
-IsAmidOf (Ok sealing) image left_image = IsAmid sealing left_image
+-- a text shows a byte of a line if it is what was `printed` before, and behind that one or more of the line's first
+-- bytes
+pub record ShowsByteOf (line printed text : List ℕ) : Type 0 where
+  pub count : ℕ
+  pub some : 0 < count
+  pub is : text ≡ printed ++ take count line
+
+-- a cut of a sealing may leave an image amid the sealing, and a text that shows a byte of the line `SEALED n` only if
+-- the image has been sealed
+pub record IsSealCut (sealing : Sealing) (printed left_image left_text : List ℕ) : Type 0 where
+  pub amid : IsAmid sealing left_image
+  pub behind : ShowsByteOf (sealed_line sealing.new.seal_number) printed left_text → IsSealed sealing left_image
+
+-- from the opening sync on a cut may leave what a cut of the sealing may leave, or the opening image where nothing is
+-- sealed
+abbrev pub MayLeaveSealing : Result Sealing Ended → (image printed left_image left_text : List ℕ) → Type 0
+MayLeaveSealing (Err ended) image printed left_image left_text = left_image ≡ image
+MayLeaveSealing (Ok sealing) image printed left_image left_text = IsSealCut sealing printed left_image left_text
 
 module _ {D L : Type 0} (B : Ghosts D L) where
   -- a call seals the store where at 0 the store stands for what the sealing says, and a cut from the opening sync on
-  -- leaves an image amid the sealing, and one before that sync has succeeded what it might have left before the call
+  -- leaves what a cut of the sealing may leave, and one before that sync has succeeded what it might have left before
+  -- the call
   pub record Seals (sealing : Result Sealing Ended) (old new : D) (ended : ℕ) : Type 0 where
     pub sealed : ended ≡ 0 → HasSealed sealing (B.image new)
-    pub leaves : LeavesFromSync B (ended ≡ 8) old new
-        (λ left_image left_text. IsAmidOf sealing (B.image old) left_image)
+    pub leaves : LeavesFromSync B (ended ≡ 8) old new (MayLeaveSealing sealing (B.image old) (B.printed old))

@@ -1,10 +1,11 @@
 -- For proofs: how far the command `seal` came before its last line is printed. Seal says what a sealing is.
 use Rattle.std.specs.Prelude.{◌≡◌, ◌⊎◌, ℕ, List, Option, Result, Ok, Err}
+use Rattle.outside.specs.Printing.{Begins}
 use Rattle.outside.specs.Runs.{MayHold}
 use Rattle.outside.specs.declared.board.Board.{Ghosts}
 use Rattle.seal_store.specs.Sealing.{Sealing}
 use Rattle.tariff_syntax.specs.Tree.{Tree}
-use Rattle.commands.specs.Seal.{HasDecimals, IsAmidOf, are_decimals, seal_read}
+use Rattle.commands.specs.Seal.{HasDecimals, MayLeaveSealing, are_decimals, seal_read}
 use Rattle.commands.specs.Tariffs.{tariff_in}
 use Rattle.commands.specs.declared.ending.Ended.{Ended}
 use Rattle.commands.specs.declared.ending.Ended.TheVariants.{BadParams, BadTariff, NoMemory, OtherDecimals, ReadFault}
@@ -36,8 +37,9 @@ IsNoSeal number found tariff params read_failed (BadParams fault) =
 IsNoSeal number found tariff params read_failed ended = ⊥
 
 module _ {D L : Type 0} (B : Ghosts D L) where
-  -- a board rests amid a sealing that began with an image where a cut at it leaves only what a cut of the sealing may
-  -- leave
-  abbrev pub RestsAmid : Result Sealing Ended → (image : List ℕ) → D → Type 0
-  RestsAmid sealing image board =
-      (left_image : List ℕ) → MayHold (B.image board) (B.in_flight board) left_image → IsAmidOf sealing image left_image
+  -- a board rests amid a sealing that began with an image and a printed text where a cut while a last line is printed
+  -- leaves only what a cut of the sealing may leave
+  abbrev pub RestsAmid : Result Sealing Ended → (image printed line : List ℕ) → D → Type 0
+  RestsAmid sealing image printed line board =
+      (left_image left_text : List ℕ) → MayHold (B.image board) (B.in_flight board) left_image
+      → Begins (B.printed board) left_text line → MayLeaveSealing sealing image printed left_image left_text

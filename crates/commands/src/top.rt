@@ -9,7 +9,7 @@ ghost use Rattle.commands.specs.Carried.{CarriesRow};
 ghost use Rattle.commands.specs.Command.{OnlyLooks, called, command};
 ghost use Rattle.commands.specs.Opening.{opening_of};
 ghost use Rattle.commands.specs.Run.{IsRun};
-ghost use Rattle.commands.specs.Seal.{IsAmidOf, Seals, sealing_of};
+ghost use Rattle.commands.specs.Seal.{MayLeaveSealing, Seals, sealing_of};
 ghost use Rattle.commands.specs.Unwritten.{LeavesImage, WritesNothing};
 ghost use Rattle.commands.specs.Words.{row_of};
 
@@ -166,14 +166,15 @@ pub fn taxi<F: Files, B: Board<L>, L: Ledger>(
 
     // Sealing leaves what it says at 0. A cut of the power from its opening sync on leaves the store that was found, or
     // one amid the sealing; a cut before that sync has succeeded leaves what it might have left before the call. So
-    // where nothing was in flight before, a cut at any moment of the call leaves an image amid the sealing.
+    // where nothing was in flight before, a cut at any moment of the call leaves an image amid the sealing. A cut at
+    // which a byte of the line `SEALED n` stands printed leaves the new seal.
     ensures seals { row_of (map string_bytes words.now) ≡ Some Row.Seal → F.tells → B.tells_image
         → Seals B.Board (sealing_of (opening_of (B.image board.old)) (F.rest files.old 1) (F.rest files.old 2))
         board.old board.new result }
     ensures settled { row_of (map string_bytes words.now) ≡ Some Row.Seal → F.tells → B.tells_image
-        → IsSettled B.Board board.old → LeavesOnly B.Board board.old board.new (λ left_image left_text. IsAmidOf
+        → IsSettled B.Board board.old → LeavesOnly B.Board board.old board.new (MayLeaveSealing
         (sealing_of (opening_of (B.image board.old)) (F.rest files.old 1) (F.rest files.old 2))
-        (B.image board.old) left_image) }
+        (B.image board.old) (B.printed board.old)) }
 
     // The headline. A run prints the displays, refusals and receipts that the tariff's text means for its drive, and no
     // others; in the end the store has the state after all its commits. A cut of the power from the run's opening sync

@@ -5,13 +5,15 @@ use Rattle.totaliser_store.specs.declared.durable.Durable.{Durable}
 use Rattle.seal_store.specs.Sealing.{FoundTotals, old_seal}
 use Rattle.seal_store.proofs.Laws.{totals_are_found}
 use Rattle.commands.specs.declared.ending.Ended.{Ended}
+use Rattle.commands.specs.declared.ending.Ended.TheVariants as ended
 use Rattle.commands.specs.declared.opening.StoreFault.TheVariants as stores
 use Rattle.commands.specs.Ending.{ComesOn}
-use Rattle.commands.specs.LastLine.{status_of}
+use Rattle.commands.specs.LastLine.{line_of, status_of}
 use Rattle.commands.specs.Opening.{opening_of, store_ended}
 use Rattle.commands.specs.Seal.{seal_answer, seal_command, sealing_of}
 use Rattle.commands.specs.SealSteps.{IsNoSeal}
-use Rattle.commands.proofs.Amid.{found-as, is_sealed, rests-placed, rests-read, seals-over, seals-read}
+use Rattle.commands.proofs.Amid.{found-as, is_sealed, rests-no_seal, rests-placed, rests-refused, seals-over}
+use Rattle.commands.proofs.Amid.{seals-read}
 use Rattle.commands.proofs.Answering.{comes-barred as comes-barred_by_store, comes-board}
 use Rattle.commands.proofs.Barring.{board_fault-store, not_read-store}
 use Rattle.commands.proofs.Openings.{as_found, as_refused, no_fault, same_fault}
@@ -57,7 +59,12 @@ returns-in-Err-clause-comes g c = λ read tells. record {
       (c.open_store.ensures.synced tells);
   rests = λ good. let rest = g.F.Files.rest c.args.files.now in
       let went : ¬ (c.open_store.result ≡ Err stores.BoardFault) = λ e. good (c.refused_store.ensures ∙ ap store_ended (same_fault c.open_store.result c.in-Err.fault stores.BoardFault c.in-Err.is e)) in
-      rests-read g.B.Board (rest 1) (rest 2) (g.B.Board.image c.args.board.now) c.open_store.new.board (c.open_store.ensures.same went) (c.open_store.ensures.settled tells went);
+      rests-refused g.B.Board _ (store_ended c.in-Err.fault) (g.B.Board.image c.args.board.now)
+      (g.B.Board.printed c.args.board.now) (line_of c.refused_store.result) c.open_store.new.board
+      (ap (λ r. sealing_of r (rest 1) (rest 2)) (as_refused c.open_store.result
+      (opening_of (g.B.Board.image c.args.board.now)) c.in-Err.fault stores.BoardFault c.in-Err.is
+      (λ e. good (c.refused_store.ensures ∙ ap store_ended e)) (c.open_store.ensures.exact tells)))
+      (c.open_store.ensures.same went) (c.open_store.ensures.settled tells went);
 }
 
 -- ---- the store speaks against it
@@ -94,7 +101,14 @@ returns-in-Err-base_of-clause-comes g c = λ read tells. record {
       (λ e. absurd (no_fault c.open_store.result c.in-Ok.opening stores.BoardFault c.in-Ok.is e)) (c.open_store.ensures.synced tells);
   rests = λ good. let rest = g.F.Files.rest c.args.files.now in
       let went : ¬ (c.open_store.result ≡ Err stores.BoardFault) = no_fault c.open_store.result c.in-Ok.opening stores.BoardFault c.in-Ok.is in
-      rests-read g.B.Board (rest 1) (rest 2) (g.B.Board.image c.args.board.now) c.open_store.new.board (c.open_store.ensures.same went) (c.open_store.ensures.settled tells went);
+      let image = g.B.Board.image c.args.board.now in
+      rests-refused g.B.Board _ c.in-Err-base_of.ended image (g.B.Board.printed c.args.board.now)
+      (line_of c.in-Err-base_of.ended) c.open_store.new.board
+      (sealing-barred (opening_of image) c.in-Ok.opening c.in-Err-base_of.ended (rest 1) (rest 2)
+      (as_found c.open_store.result (opening_of image) c.in-Ok.opening stores.BoardFault c.in-Ok.is
+      (c.open_store.ensures.exact tells))
+      (sym c.base_of.ensures.answer ∙ c.in-Err-base_of.is))
+      (c.open_store.ensures.same went) (c.open_store.ensures.settled tells went);
 }
 
 -- ---- no seal is made
@@ -138,7 +152,17 @@ returns-in-Err-read_seal-clause-comes g c = λ read tells. record {
       (λ e. absurd (no_fault c.open_store.result c.in-Ok.opening stores.BoardFault c.in-Ok.is e)) (c.open_store.ensures.synced tells);
   rests = λ good. let rest = g.F.Files.rest c.args.files.now in
       let went : ¬ (c.open_store.result ≡ Err stores.BoardFault) = no_fault c.open_store.result c.in-Ok.opening stores.BoardFault c.in-Ok.is in
-      rests-read g.B.Board (rest 1) (rest 2) (g.B.Board.image c.args.board.now) c.open_store.new.board (c.open_store.ensures.same went) (c.open_store.ensures.settled tells went);
+      let faults = g.F.Files.faults in
+      let image = g.B.Board.image c.args.board.now in
+      let base = c.in-Ok-base_of.base in
+      let end = c.in-Err-read_seal.ended in
+      rests-no_seal g.B.Board (rest 1) (rest 2) image (g.B.Board.printed c.args.board.now) c.in-Ok.opening base
+      (λ word. Rose (faults c.args.files.now word) (faults c.read_seal.new.files word)) c.open_store.new.board
+      (as_found c.open_store.result (opening_of image) c.in-Ok.opening stores.BoardFault c.in-Ok.is (c.open_store.ensures.exact tells)) (sym c.base_of.ensures.answer ∙ c.in-Ok-base_of.is)
+      (c.open_store.ensures.same went) c.open_store.ensures.reads.text (c.open_store.ensures.settled tells went) end
+      (subst (λ (n : ℕ). IsNoSeal n base.decimals (rest 1) (rest 2)
+      (λ word. Rose (faults c.args.files.now word) (faults c.read_seal.new.files word)) end)
+      c.number_after-number.ensures.value (c.read_seal.ensures.refused end read c.in-Err-read_seal.is));
 }
 
 -- ---- the seal is put in
@@ -180,10 +204,13 @@ pub returns-in-Ok-place_seal-clause-comes : goal.returns-in-Ok-place_seal-clause
 returns-in-Ok-place_seal-clause-comes g c = λ read tells. record {
   seals = let rest = g.F.Files.rest c.args.files.now in
       seals-over g.B.Board (rest 1) (rest 2) _ _ _ _ _ _ c.args.board.now c.open_store.new.board c.place_seal.new.board _ c.in-Ok.is (c.open_store.ensures.exact tells) c.in-Ok-base_of.is c.base_of.ensures.answer
-      c.number_after-number.ensures.value (c.in-Ok-read_seal.ensures.read read) c.in-Ok-base_of.ensures.found (c.in-Ok.ensures.opened tells).seal (c.open_store.ensures.synced tells)
+      c.number_after-number.ensures.value (c.in-Ok-read_seal.ensures.read read) c.in-Ok-base_of.ensures.found
+      (c.in-Ok.ensures.opened tells).seal
+      c.open_store.ensures.reads.text (c.open_store.ensures.synced tells)
       (c.place_seal.ensures.any_moment tells) (λ z. is_sealed g.B.Board _ c.place_seal.new.board (c.in-Ok-place_seal.ensures.sealed tells));
   rests = λ good. let rest = g.F.Files.rest c.args.files.now in
-      rests-placed g.B.Board _ _ (g.B.Board.image c.args.board.now) c.place_seal.new.board
+      rests-placed g.B.Board _ _ (g.B.Board.image c.args.board.now) (g.B.Board.printed c.args.board.now)
+      (line_of (ended.Sealed c.number_after-number.result)) c.place_seal.new.board
       (sealing-made (g.B.Board.image c.args.board.now) (rest 1) (rest 2) _ _ _ _ _ _ c.in-Ok.is (c.open_store.ensures.exact tells) c.in-Ok-base_of.is c.base_of.ensures.answer
       c.number_after-number.ensures.value (c.in-Ok-read_seal.ensures.read read))
       (c.in-Ok-place_seal.ensures.sealed tells);
@@ -215,7 +242,9 @@ pub returns-in-Err-place_seal-clause-comes : goal.returns-in-Err-place_seal-clau
 returns-in-Err-place_seal-clause-comes g c = λ read tells. record {
   seals = let rest = g.F.Files.rest c.args.files.now in
       seals-over g.B.Board (rest 1) (rest 2) _ _ _ _ _ _ c.args.board.now c.open_store.new.board c.place_seal.new.board _ c.in-Ok.is (c.open_store.ensures.exact tells) c.in-Ok-base_of.is c.base_of.ensures.answer
-      c.number_after-number.ensures.value (c.in-Ok-read_seal.ensures.read read) c.in-Ok-base_of.ensures.found (c.in-Ok.ensures.opened tells).seal (c.open_store.ensures.synced tells)
+      c.number_after-number.ensures.value (c.in-Ok-read_seal.ensures.read read) c.in-Ok-base_of.ensures.found
+      (c.in-Ok.ensures.opened tells).seal
+      c.open_store.ensures.reads.text (c.open_store.ensures.synced tells)
       (c.place_seal.ensures.any_moment tells) (λ z. absurd cc);
   rests = λ good. absurd (good refl);
 }

@@ -77,7 +77,8 @@ returns-in-Some-clause-seals g c = λ e read tells.
     let comes = comes_as g.F.Files g.B.Board c.in-Some.row rows.Seal c.args.files.now c.carry_out-ended.new.files old mid c.carry_out-ended.result
     (is_seal c.in-Some.row (c.in-Some.ensures ∙ e)) c.carry_out-ended.ensures.comes read tells in
     seals-finished g.B.Board _ old mid new c.carry_out-ended.result c.finish-in-Some.result g.B.Board.tells_text _ (printed mid) (printed new)
-    comes.seals comes.rests c.finish-in-Some.ensures.store c.finish-in-Some.ensures.silent c.finish-in-Some.ensures.ends
+    comes.seals comes.rests c.finish-in-Some.ensures.store c.finish-in-Some.ensures.leaves
+    c.finish-in-Some.ensures.silent c.finish-in-Some.ensures.ends
 
 pub returns-in-Some-clause-settled : goal.returns-in-Some-clause-settled
 returns-in-Some-clause-settled g c = λ is read tells still.
