@@ -1,10 +1,11 @@
 -- The command `seal`: what it leaves of the store.
-use Rattle.std.proofs.Common.{◌≡◌, ◌≢◌, ◌⊎◌, ⊎_elim, inl, inr, ℕ, List, [], Option, None, Some, Result, Ok, Err, refl}
-use Rattle.std.proofs.Common.{sym, ap, subst, ◌∙◌, get_or}
+use Rattle.std.proofs.Common.{◌≡◌, ◌≢◌, ◌⊎◌, ⊎_elim, inl, inr, ℕ, ◌<◌, ◌≤◌, List, [], Option, None, Some, Result, Ok}
+use Rattle.std.proofs.Common.{Err, refl, sym, ap, subst, ◌∙◌, get_or, arith}
 use Rattle.std.specs.Prelude.{◌==◌, if◌then◌else◌, is_some, Bool, true, false}
+use Rattle.std.proofs.lemmas.Bool.{cases_lt}
 use Rattle.std.proofs.lemmas.List.{ext_get_or}
 use Rattle.outside.specs.declared.board.Board.{Ghosts}
-use Rattle.outside.specs.Disk.{MayLeaveAmid, SameBut}
+use Rattle.outside.specs.Disk.{IsWithin, MayLeaveAmid, SameBut}
 use Rattle.outside.specs.Printing.{Begins}
 use Rattle.outside.specs.Runs.{IsSettled as NothingFlies, KeepsStore, LeavesOnly, MayHold}
 use Rattle.outside.proofs.Laws.{leaves_wider}
@@ -15,7 +16,7 @@ use Rattle.slot_store.specs.declared.pair.Place.{Place}
 use Rattle.slot_store.specs.Scan.{IsAnswer, found_at}
 use Rattle.slot_store.specs.Slots.{IsSettled, StandsFor}
 use Rattle.slot_store.specs.Syncs.{IsAsHeld, LeavesFromSync}
-use Rattle.slot_store.specs.Writes.{LeavesBeside}
+use Rattle.slot_store.specs.Writes.{LeavesBeside, WritesIn}
 use Rattle.slot_store.proofs.Laws.{answer_is, at_stands, from_sync_as, goes_on, same_at, settled_already}
 use Rattle.totaliser_store.specs.declared.durable.Durable.{Durable}
 use Rattle.totaliser_store.specs.Reading as totals
@@ -249,6 +250,23 @@ module _ {D L : Type 0} (B : Ghosts D L) where
       let is = sealed_left s new h left held.bytes in
       subst (λ (r : Result Sealing Ended). MayLeaveSealing r image printed left x) (sym e)
       (record { amid = record { totals = kept_totals s.totals left is.totals; seal = inr is }; behind = λ shown. is })
+
+  -- nothing flies where both pairs are settled and nothing flew beside what was written
+  pub settled-sealed : (found : Option Durable) (seal : Seal) (mid new : D) → NothingFlies B mid
+      → WritesIn B (first_written found) (places_written found) mid new
+      → KeepsSealed B found seal new → NothingFlies B new
+  settled-sealed found seal mid new settled writes h place flies =
+      ⊎_elim (settled place) (by found) (writes.flight place flies)
+    where
+      either : place < 2048 → ⊥
+      either below = ⊎_elim
+          (λ (lt : place < 1024). h.totals.1.quiet place (record { low = omega arith; high = omega (arith, lt) }) flies)
+          (λ (le : 1024 ≤ place). h.seal_is.1.quiet place (record { low = le; high = omega (arith, below) }) flies)
+          (cases_lt place 1024)
+
+      by : (f : Option Durable) → IsWithin (first_written f) (places_written f) place → ⊥
+      by None within = either (omega (arith, within.high))
+      by (Some durable) within = either (omega (arith, within.high))
 
   -- the last line, which is none where the board had failed
   finished : (sealing : Result Sealing Ended) (old mid new : D) (end : Ended) (status : ℕ) → (status_of end ≡ 8 → status ≡ 8)

@@ -3,7 +3,7 @@ use Rattle.std.proofs.Common.{◌≡◌, ◌≢◌, ◌⊎◌, inl, inr, ℕ, �
 use Rattle.outside.specs.declared.board.Board.{Ghosts}
 use Rattle.outside.specs.declared.files.Files.{Ghosts as FileGhosts}
 use Rattle.outside.specs.Faults.{Rose}
-use Rattle.outside.specs.Runs.{KeepsStore}
+use Rattle.outside.specs.Runs.{IsSettled, KeepsStore}
 use Rattle.commands.specs.declared.ending.Ended.{Ended}
 use Rattle.commands.specs.declared.ending.Ended.TheVariants as ended
 use Rattle.commands.specs.Call.{HasReadFault, IsCall, IsEnd, MayLack, MayTake}
@@ -57,6 +57,12 @@ module _ {E D L : Type 0} (F : FileGhosts E) (B : Ghosts D L) (files files' : E)
         bytes = bytes-then B old mid new (carried.unwritten still) (bytes-kept B mid new kept);
         same = λ not_8. kept.same ∙ carried.same still (no_board not_8);
       }
+
+  pub rests_after : (command : Command) (before now : ℕ) → KeepsStore B mid new
+      → Carries F B command files files' old mid before now end
+      → command.known F.tells B.tells_image → B.tells_image → command.opens → status ≢ 8 → IsSettled B new
+  rests_after command before now kept carried known told opened not_8 place flies =
+      carried.at_rest known told opened (no_board not_8) place (kept.flight place flies)
 
 -- without a fault of the outside the status is that of the answer, unless memory ran out
 module _ {E D L : Type 0} (F : FileGhosts E) (B : Ghosts D L) (c : Command) (files files' : E) (old new : D) (status : ℕ)

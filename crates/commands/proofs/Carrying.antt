@@ -58,6 +58,7 @@ module _ {E D L : Type 0} (F : FileGhosts E) (B : Ghosts D L) (c : Command) wher
     unwritten = λ not. looked.bytes;
     same = λ not. looked.same;
     fails = λ status w. absurd (none status w);
+    at_rest = λ known told opened good. (looked.looks told).settled good;
     looks = λ looks. looked.looks;
   }
 
@@ -80,6 +81,7 @@ module _ {E D L : Type 0} (F : FileGhosts E) (B : Ghosts D L) (c : Command) wher
     unwritten = λ not. bytes-kept B old new kept;
     same = λ not good. kept.same;
     fails = λ status w. absurd (none status w);
+    at_rest = λ known told opened. absurd (shut opened);
     looks = λ looks. absurd (shut looks.opens);
   }
 
@@ -102,6 +104,7 @@ module _ {E D L : Type 0} (F : FileGhosts E) (B : Ghosts D L) (c : Command) wher
     unwritten = h.unwritten;
     same = h.same;
     fails = h.fails;
+    at_rest = λ told. h.at_rest (known told);
     looks = h.looks;
   }
 
@@ -125,6 +128,7 @@ module _ {E D L : Type 0} (F : FileGhosts E) (B : Ghosts D L) (c : Command) wher
     unwritten = λ not. bytes-kept B board board (keeps_none B board);
     same = λ not good. refl;
     fails = h.fails;
+    at_rest = λ known told opened. absurd (shut opened);
     looks = λ looks. absurd (shut looks.opens);
   }
 

@@ -1,5 +1,6 @@
 -- The command `run`: what it answers and leaves once its drive was carried out, and after its last line.
-use Rattle.std.proofs.Common.{◌≡◌, ◌≢◌, ◌⊎◌, inl, inr, ℕ, List, [], ◌∷◌, ◌++◌, Result, Ok, Err, refl, sym, ap, subst, ◌∙◌}
+use Rattle.std.proofs.Common.{◌≡◌, ◌≢◌, ◌⊎◌, ⊎_elim, inl, inr, ℕ, List, [], ◌∷◌, ◌++◌, Result, Ok, Err, refl, sym, ap}
+use Rattle.std.proofs.Common.{subst, ◌∙◌}
 use Rattle.std.proofs.lemmas.List.{append-nil}
 use Rattle.drive_text.specs.Ending.{DriveEnd, Whole, BadAt, Endless, drive_end}
 use Rattle.outside.specs.declared.board.Board.{Ghosts}
@@ -106,6 +107,11 @@ module _ {E D L : Type 0} (F : FileGhosts E) (B : Ghosts D L) (files files' : E)
         seal_stays = outside_held i held;
       })
 
+      settled-done : NothingFlies B new
+      settled-done place flies =
+          ⊎_elim (settled place) (λ (within : IsOfTotals place). done.opens.settled.quiet place within flies)
+          (beside.flight place flies)
+
     not_refused : (why : Ended) → start_at F B files old ≡ Err why → ⊥
     not_refused why e = by (start_at F B files old) begins e
       where
@@ -151,6 +157,7 @@ module _ {E D L : Type 0} (F : FileGhosts E) (B : Ghosts D L) (files files' : E)
             rests = λ not_board i x held begun.
                 subst (λ (l : List ℕ). MayFind B.tells_text image printed (start_at F B files old) drive l i x) (sym line_at)
                 (rests-done drive (line_of end) done i x held begun);
+            settled = λ not_board. settled-done drive (line_of end) done;
             unwritten = λ why f. absurd (not_refused why f);
             same = λ why f. absurd (not_refused why f);
           }
@@ -182,6 +189,7 @@ module _ {E D L : Type 0} (F : FileGhosts E) (B : Ghosts D L) (files files' : E)
             stands = λ not_board. stands-done h.taken (line_of ended.ReadFault) done;
             leaves = from_sync_as B _ _ fails (status_of ended.ReadFault ≡ 8) old new (λ f. absurd (went f)) (λ i x m. m) (amid h.taken (line_of ended.ReadFault) done.cuts);
             rests = λ not_board i x held begun. rests-done h.taken (line_of ended.ReadFault) done i x held begun;
+            settled = λ not_board. settled-done h.taken (line_of ended.ReadFault) done;
             unwritten = λ why f. absurd (not_refused why f);
             same = λ why f. absurd (not_refused why f);
           }
@@ -204,6 +212,7 @@ module _ {E D L : Type 0} (F : FileGhosts E) (B : Ghosts D L) (files files' : E)
             stands = λ not_board. absurd (not_board refl);
             leaves = from_sync_as B _ _ fails (status_of ended.BoardFault ≡ 8) old new (λ f. refl) (λ i x m. m) (amid h.taken [] part.cuts);
             rests = λ not_board. absurd (not_board refl);
+            settled = λ not_board. absurd (not_board refl);
             unwritten = λ why f. absurd (not_refused why f);
             same = λ why f. absurd (not_refused why f);
           }

@@ -111,6 +111,7 @@ module _ {E D L : Type 0} (F : FileGhosts E) (B : Ghosts D L) (files files' : E)
             let is : i ≡ image = ext_get_or 0 i (B.image new) held.bytes.size (λ place lt. held.bytes.rest place (settled good place)) ∙ same good in
             found-line B.tells_text image printed tariff (start_at F B files old) refl bytes last i x no_bytes is
             (λ t. subst (λ (l : List ℕ). Begins printed x l) (line good) (subst (λ (p : List ℕ). Begins p x (line_of end)) reads.text (text t)));
+        settled = settled;
         unwritten = λ why e. bytes-read B old new reads;
         same = λ why e good. same good;
       }

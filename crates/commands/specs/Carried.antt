@@ -1,7 +1,7 @@
 -- For proofs: how a command was carried out, but for its last line. Call and Course say what a call is.
 use Rattle.std.specs.Prelude.{◌≡◌, ◌≢◌, ℕ, ◌+◌, ◌≤◌, List, [], Some}
 use Rattle.outside.specs.Faults.{Rose}
-use Rattle.outside.specs.Runs.{KeepsStore}
+use Rattle.outside.specs.Runs.{IsSettled, KeepsStore}
 use Rattle.outside.specs.declared.board.Board.{Ghosts}
 use Rattle.outside.specs.declared.files.Files.{Ghosts as FileGhosts}
 use Rattle.commands.specs.Call.{HasReadFault}
@@ -21,8 +21,9 @@ use Rattle.commands.specs.declared.words.Row.TheVariants.{Run, Seal}
 
 module _ {E D L : Type 0} (F : FileGhosts E) (B : Ghosts D L) where
   -- a command was carried out, from its files, board and count of steps to those behind it, where all holds that its
-  -- record says of a call but for the last line, each fault of the outside has its cause, and a command that may write
-  -- at all may have written where the board fails
+  -- record says of a call but for the last line, each fault of the outside has its cause, a command that may write at
+  -- all may have written where the board fails, and one that opens the store leaves nothing in flight unless the board
+  -- failed
   pub record Carries (c : Command) (files files' : E) (old new : D) (before now : ℕ) (ended : Ended) : Type 0 where
     pub ends : c.known F.tells B.tells_image → ComesOn F B c files files' old new ended
     pub steps : (later : ℕ) → later ≤ now + 1
@@ -36,6 +37,7 @@ module _ {E D L : Type 0} (F : FileGhosts E) (B : Ghosts D L) where
     pub unwritten : ¬ c.writes (status_of ended) → KeepsBytes B old new
     pub same : ¬ c.writes (status_of ended) → ended ≢ BoardFault → B.image new ≡ B.image old
     pub fails : (status : ℕ) → c.writes status → c.writes 8
+    pub at_rest : c.known F.tells B.tells_image → B.tells_image → c.opens → ended ≢ BoardFault → IsSettled B new
     pub looks : LooksOnly c → B.tells_image → LooksAt B old new ended
 
   -- a sealing comes to its last line where all holds of it that `Seals` says, and a cut while that line is printed

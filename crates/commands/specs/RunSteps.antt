@@ -1,7 +1,7 @@
 -- For proofs: how far the command `run` came before its last line is printed. Run says what a run is.
 use Rattle.std.specs.Prelude.{◌≡◌, ◌≢◌, ℕ, List, Ok, Err}
 use Rattle.outside.specs.Printing.{Begins}
-use Rattle.outside.specs.Runs.{MayHold}
+use Rattle.outside.specs.Runs.{IsSettled, MayHold}
 use Rattle.outside.specs.declared.board.Board.{Ghosts}
 use Rattle.outside.specs.declared.files.Files.{Ghosts as FileGhosts}
 use Rattle.slot_store.specs.Syncs.{LeavesFromSync}
@@ -84,5 +84,6 @@ module _ {E D L : Type 0} (F : FileGhosts E) (B : Ghosts D L) where
         → MayHold (B.image new) (B.in_flight new) left_image
         → (B.tells_text → Begins (B.printed new) left_text (line_of ended))
         → MayFindIn F B files old comes.course left_image left_text
+    pub settled : ended ≢ BoardFault → IsSettled B new
     pub unwritten : (why : Ended) → start_at F B files old ≡ Err why → KeepsBytes B old new
     pub same : (why : Ended) → start_at F B files old ≡ Err why → ended ≢ BoardFault → B.image new ≡ B.image old

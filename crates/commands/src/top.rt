@@ -1,7 +1,7 @@
 //! The top call: words in, a status out.
 #![tactic(auto, using(crate::proofs::BoardRuns::board_runs))]
 
-ghost use Rattle.std.specs.Prelude.{◌≡◌, ◌⊎◌, ℕ, None, Some, map, string_bytes};
+ghost use Rattle.std.specs.Prelude.{◌≡◌, ◌≢◌, ◌⊎◌, ℕ, None, Some, map, string_bytes};
 ghost use Rattle.outside.specs.Faults.{Rose};
 ghost use Rattle.outside.specs.Runs.{IsSettled, KeepsStore, LeavesOnly};
 ghost use Rattle.commands.specs.Call.{HasReadFault, IsCall, MayLack};
@@ -159,6 +159,10 @@ pub fn taxi<F: Files, B: Board<L>, L: Ledger>(
     ensures kept { ¬ (called (map string_bytes words.now)).opens → KeepsStore B.Board board.old board.new }
     ensures unwritten { ¬ (called (map string_bytes words.now)).writes result
         → WritesNothing B.Board board.old board.new result }
+
+    // A command that opens the store leaves nothing in flight, unless the board failed.
+    ensures at_rest { (called (map string_bytes words.now)).known F.tells B.tells_image → B.tells_image
+        → (called (map string_bytes words.now)).opens → result ≢ 8 → IsSettled B.Board board.new }
 
     // Where a command only looks at the store, a cut of the power from its opening sync on leaves the image as it was.
     ensures looks { OnlyLooks (row_of (map string_bytes words.now)) → B.tells_image

@@ -52,6 +52,8 @@ returns-in-Err-clause-carries g c =
       unwritten = λ not. bytes-read g.B.Board c.args.board.now c.begin.new.board before.opens.reads;
       same = λ not good. before.opens.same (λ f. good (same_fault c.begin.result c.in-Err.why ended.BoardFault c.in-Err.is f));
       fails = λ status w. inr (inr (inr refl));
+      at_rest = λ known told opened good. before.opens.settled told
+          (λ f. good (same_fault c.begin.result c.in-Err.why ended.BoardFault c.in-Err.is f));
       looks = λ looks. absurd (looks.unwritten 8 (inr (inr (inr refl))));
     }
 
@@ -109,5 +111,6 @@ returns-clause-carries g c =
       unwritten = λ not. absurd (not wrote);
       same = λ not. absurd (not wrote);
       fails = λ status w. inr (inr (inr refl));
+      at_rest = λ known told opened. (returns-clause-runs g c known.0 told).settled;
       looks = λ looks. absurd (looks.unwritten 8 (inr (inr (inr refl))));
     }

@@ -13,7 +13,7 @@ use Rattle.commands.specs.Opening.{opening_of, store_ended}
 use Rattle.commands.specs.Seal.{seal_answer, seal_command, sealing_of}
 use Rattle.commands.specs.SealSteps.{IsNoSeal}
 use Rattle.commands.proofs.Amid.{found-as, is_sealed, rests-no_seal, rests-placed, rests-refused, seals-over}
-use Rattle.commands.proofs.Amid.{seals-read}
+use Rattle.commands.proofs.Amid.{seals-read, settled-sealed}
 use Rattle.commands.proofs.Answering.{comes-barred as comes-barred_by_store, comes-board}
 use Rattle.commands.proofs.Barring.{board_fault-store, not_read-store}
 use Rattle.commands.proofs.Openings.{as_found, as_refused, no_fault, same_fault}
@@ -46,6 +46,9 @@ returns-in-Err-clause-carries g c = record {
   unwritten = λ not. bytes-read g.B.Board c.args.board.now c.open_store.new.board c.open_store.ensures.reads;
   same = λ not good. c.open_store.ensures.same (λ e. good (c.refused_store.ensures ∙ ap store_ended (same_fault c.open_store.result c.in-Err.fault stores.BoardFault c.in-Err.is e)));
   fails = λ status w. inr refl;
+  at_rest = λ known told opened good. c.open_store.ensures.settled told
+      (λ e. good (c.refused_store.ensures ∙ ap store_ended (same_fault c.open_store.result c.in-Err.fault
+      stores.BoardFault c.in-Err.is e)));
   looks = λ looks. absurd (looks.unwritten 8 (inr refl));
 }
 
@@ -90,6 +93,8 @@ returns-in-Err-base_of-clause-carries g c = record {
   unwritten = λ not. bytes-read g.B.Board c.args.board.now c.open_store.new.board c.open_store.ensures.reads;
   same = λ not good. c.open_store.ensures.same (no_fault c.open_store.result c.in-Ok.opening stores.BoardFault c.in-Ok.is);
   fails = λ status w. inr refl;
+  at_rest = λ known told opened good. c.open_store.ensures.settled told
+      (no_fault c.open_store.result c.in-Ok.opening stores.BoardFault c.in-Ok.is);
   looks = λ looks. absurd (looks.unwritten 8 (inr refl));
 }
 
@@ -138,6 +143,8 @@ returns-in-Err-read_seal-clause-carries g c = record {
   unwritten = λ not. bytes-read g.B.Board c.args.board.now c.open_store.new.board c.open_store.ensures.reads;
   same = λ not good. c.open_store.ensures.same (no_fault c.open_store.result c.in-Ok.opening stores.BoardFault c.in-Ok.is);
   fails = λ status w. inr refl;
+  at_rest = λ known told opened good. c.open_store.ensures.settled told
+      (no_fault c.open_store.result c.in-Ok.opening stores.BoardFault c.in-Ok.is);
   looks = λ looks. absurd (looks.unwritten 8 (inr refl));
 }
 
@@ -197,6 +204,11 @@ returns-in-Ok-place_seal-clause-carries g c = record {
   unwritten = λ not. absurd (not (inl refl));
   same = λ not good. absurd (not (inl refl));
   fails = λ status w. inr refl;
+  at_rest =
+      λ known told opened good. settled-sealed g.B.Board c.in-Ok-base_of.base.totals _ c.open_store.new.board
+      c.place_seal.new.board
+      (c.open_store.ensures.settled told (no_fault c.open_store.result c.in-Ok.opening stores.BoardFault c.in-Ok.is))
+      c.place_seal.ensures.beside (c.in-Ok-place_seal.ensures.sealed told);
   looks = λ looks. absurd (looks.unwritten 8 (inr refl));
 }
 
@@ -235,6 +247,7 @@ returns-in-Err-place_seal-clause-carries g c = record {
   unwritten = λ not. absurd (not (inr refl));
   same = λ not good. absurd (not (inr refl));
   fails = λ status w. inr refl;
+  at_rest = λ known told opened good. absurd (good refl);
   looks = λ looks. absurd (looks.unwritten 8 (inr refl));
 }
 

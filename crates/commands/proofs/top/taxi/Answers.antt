@@ -1,6 +1,6 @@
-use Rattle.std.proofs.Common.{◌≡◌, ◌∙◌, map, string_bytes, subst, Some}
+use Rattle.std.proofs.Common.{◌≡◌, ◌≢◌, ◌∙◌, map, string_bytes, sym, subst, Some}
 use Rattle.std.specs.Prelude.{Option}
-use Rattle.outside.specs.Runs.{KeepsStore}
+use Rattle.outside.specs.Runs.{IsSettled, KeepsStore}
 use Rattle.outside.proofs.Laws.{keeps_then}
 use Rattle.outside.specs.declared.board.Board.{Ghosts}
 use Rattle.outside.specs.declared.files.Files.{Ghosts as FileGhosts}
@@ -14,7 +14,7 @@ use Rattle.commands.specs.Course.{Answered}
 use Rattle.commands.specs.Run.{run_command}
 use Rattle.commands.specs.Unwritten.{LeavesImage, WritesNothing}
 use Rattle.commands.proofs.Amid.{seals-finished, seals-settled}
-use Rattle.commands.proofs.Calls.{call_course, call_from, completes, nothing_written}
+use Rattle.commands.proofs.Calls.{call_course, call_from, completes, nothing_written, rests_after}
 use Rattle.commands.proofs.Looking.{looks-finished}
 use Rattle.commands.proofs.RunEnds.{run-finished}
 use Rattle.commands.proofs.Unwritten.{bytes-kept, bytes-then}
@@ -114,6 +114,21 @@ returns-in-Some-clause-kept g c =
     subst (λ (o : Option Row). ¬ ((command_of o).opens) → KeepsStore g.B.Board c.args.board.now c.finish-in-Some.new.board)
     c.in-Some.ensures
     (λ not. keeps_then g.B.Board c.args.board.now c.carry_out-ended.new.board c.finish-in-Some.new.board (c.carry_out-ended.ensures.carries.kept not) c.finish-in-Some.ensures.store)
+
+pub returns-in-Some-clause-at_rest : goal.returns-in-Some-clause-at_rest
+returns-in-Some-clause-at_rest g c =
+    subst (λ (o : Option Row). (command_of o).known g.F.Files.tells g.B.Board.tells_image → g.B.Board.tells_image →
+    (command_of o).opens → c.finish-in-Some.result ≢ 8
+    → IsSettled g.B.Board c.finish-in-Some.new.board)
+    c.in-Some.ensures
+    (rests_after g.F.Files g.B.Board c.args.files.now c.carry_out-ended.new.files c.args.board.now
+    c.carry_out-ended.new.board c.finish-in-Some.new.board
+    c.carry_out-ended.result c.finish-in-Some.result c.carry_out-ended.ensures.carries.count c.finish-in-Some.ensures.count c.finish-in-Some.ensures.ends
+    (command_of (Some c.in-Some.row)) c.args.steps.now c.carry_out-ended.new.steps c.finish-in-Some.ensures.store c.carry_out-ended.ensures.carries)
+
+pub returns-in-None-clause-at_rest : goal.returns-in-None-clause-at_rest
+returns-in-None-clause-at_rest g c =
+    λ known told opened. absurd (subst (λ (o : Option Row). (command_of o).opens) (sym c.in-None.ensures) opened)
 
 pub returns-in-Some-clause-looks : goal.returns-in-Some-clause-looks
 returns-in-Some-clause-looks g c =
