@@ -30,7 +30,6 @@ module _ (c : Command) (contents left : ℕ → List ℕ) (image : List ℕ) (re
         course = Answered;
         may = record {
           whole = λ all. absurd (not_all (subst (λ (n : ℕ). c.reads_all n) status all));
-          refused = λ is. untouched;
           bad = λ is. absurd (not_bad (sym status ∙ is));
         };
         stands = inl (record {

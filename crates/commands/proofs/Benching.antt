@@ -10,16 +10,17 @@ use Rattle.verify_bench.specs.declared.reading.ReadingsFault.{ReadingsFault}
 use Rattle.commands.specs.Answer.{Answer}
 use Rattle.commands.specs.Bench.{Terms, bench_answer, bench_command, bench_text, ending_answer, passing_status, readings_answer, terms_of}
 use Rattle.commands.specs.BenchSteps.{HasNoTerms, IsJudged, IsNotJudged, IsStopped}
-use Rattle.commands.specs.Call.{MayTake}
+use Rattle.commands.specs.Call.{LeavesUnread, MayTake}
 use Rattle.commands.specs.Course.{Answered, NoMemory, ReadFailed}
 use Rattle.commands.specs.Ending.{Comes, ended_with}
 use Rattle.commands.specs.LastLine.{line_of, refused_as, status_of}
-use Rattle.commands.specs.Opening.{opening_of}
+use Rattle.commands.specs.Opening.{IsSealedIn, opening_of}
 use Rattle.commands.specs.Pieces.{pieces_of}
 use Rattle.commands.specs.RunSteps.{IsRefusal}
 use Rattle.commands.specs.declared.ending.Ended.{Ended}
 use Rattle.commands.specs.declared.ending.Ended.TheVariants as ended
 use Rattle.commands.proofs.Answering.{comes-board, comes-refusal}
+use Rattle.commands.proofs.Faring.{begins_going}
 use Rattle.commands.proofs.Judging.{judged-over}
 use Rattle.commands.proofs.Showing.{comes-part, comes-whole}
 
@@ -32,9 +33,9 @@ line-passing : (pass : Bool) → line_of (ended_with pass) ≡ []
 line-passing true = refl
 line-passing false = refl
 
-passing-other : (pass : Bool) → (passing_status pass ≢ 2) × (passing_status pass ≢ 3)
-passing-other true = (λ e. absurd (omega arith), λ e. absurd (omega arith))
-passing-other false = (λ e. absurd (omega arith), λ e. absurd (omega arith))
+passing-other : (pass : Bool) → passing_status pass ≢ 3
+passing-other true e = absurd (omega arith)
+passing-other false e = absurd (omega arith)
 
 pub not_fault-passing : (pass : Bool) → (ended_with pass ≢ ended.ReadFault) × (ended_with pass ≢ ended.BoardFault)
 not_fault-passing true = (λ e. absurd cc, λ e. absurd cc)
@@ -103,14 +104,14 @@ module _ (contents left : ℕ → List ℕ) (image : List ℕ) (read_failed : �
     by_readings read whole e = by_end Whole whole ∙ ap (readings_answer terms (contents 2)) e
 
     -- the drive or the readings are refused
-    refuses-with : (end : Ended) → answer ≡ refused_as end → status_of end ≢ 0 → status_of end ≢ 11 → status_of end ≢ 2 → (status_of end ≡ 3 → TellsEnd (contents 2) (left 2)) → now ≡ before → Here end
-    refuses-with end e not_0 not_11 not_2 bad still =
+    refuses-with : (end : Ended) → answer ≡ refused_as end → status_of end ≢ 0 → status_of end ≢ 11
+        → (status_of end ≡ 3 → TellsEnd (contents 2) (left 2)) → now ≡ before → Here end
+    refuses-with end e not_0 not_11 bad still =
         let status : answer.status ≡ status_of end = ap (λ (a : Answer). a.status) e in
         record {
           course = Answered;
           may = record {
             whole = ⊎_elim (λ (is : answer.status ≡ 0). absurd (not_0 (sym status ∙ is))) (λ (is : answer.status ≡ 11). absurd (not_11 (sym status ∙ is)));
-            refused = λ is. absurd (not_2 (sym status ∙ is));
             bad = λ is. bad (sym status ∙ is);
           };
           stands = inl (record {
@@ -149,13 +150,17 @@ module _ (contents left : ℕ → List ℕ) (image : List ℕ) (read_failed : �
       stands = inl (record { status_is = refl; line_is = refl; shown = nothing still });
     }
     comes-not_judged (ended.BadDrive line) still h =
-        refuses-with (ended.BadDrive line) (by_end (BadAt line) h.0) (λ z. absurd (omega arith)) (λ z. absurd (omega arith)) (λ z. absurd (omega arith)) (λ z. h.1) still
+        refuses-with (ended.BadDrive line) (by_end (BadAt line) h.0) (λ z. absurd (omega arith))
+        (λ z. absurd (omega arith)) (λ z. h.1) still
     comes-not_judged ended.EndlessDrive still h =
-        refuses-with ended.EndlessDrive (by_end Endless h.0) (λ z. absurd (omega arith)) (λ z. absurd (omega arith)) (λ z. absurd (omega arith)) (λ z. h.1) still
+        refuses-with ended.EndlessDrive (by_end Endless h.0) (λ z. absurd (omega arith)) (λ z. absurd (omega arith))
+        (λ z. h.1) still
     comes-not_judged (ended.BadReadings row) still h =
-        refuses-with (ended.BadReadings row) (by_readings _ h.0 h.1) (λ z. absurd (omega arith)) (λ z. absurd (omega arith)) (λ z. absurd (omega arith)) (λ z. absurd (omega arith)) still
+        refuses-with (ended.BadReadings row) (by_readings _ h.0 h.1) (λ z. absurd (omega arith))
+        (λ z. absurd (omega arith)) (λ z. absurd (omega arith)) still
     comes-not_judged ended.LongReadings still h =
-        refuses-with ended.LongReadings (by_readings _ h.0 h.1) (λ z. absurd (omega arith)) (λ z. absurd (omega arith)) (λ z. absurd (omega arith)) (λ z. absurd (omega arith)) still
+        refuses-with ended.LongReadings (by_readings _ h.0 h.1) (λ z. absurd (omega arith)) (λ z. absurd (omega arith))
+        (λ z. absurd (omega arith)) still
     comes-not_judged why still h = absurd h
 
   -- the readings were judged
@@ -176,8 +181,7 @@ module _ (contents left : ℕ → List ℕ) (image : List ℕ) (read_failed : �
     may : MayTake bench_command contents left image read_failed failed Answered
     may = record {
       whole = λ is word reads. each_read word reads;
-      refused = λ is. absurd ((passing-other pass).0 (sym status ∙ is));
-      bad = λ is. absurd ((passing-other pass).1 (sym status ∙ is));
+      bad = λ is. absurd (passing-other pass (sym status ∙ is));
     }
 
     pub comes-judged : (told → now ≡ before ++ text) → Here (ended_with pass)
@@ -188,6 +192,26 @@ module _ (contents left : ℕ → List ℕ) (image : List ℕ) (read_failed : �
     pub comes-begun : (told → Begins before now text) → failed → Here ended.BoardFault
     comes-begun begun cause =
         comes-part bench_command contents left image read_failed failed told before now (passing_status pass) text judged may begun cause
+
+-- what is left unread where there are terms, by what the reading of the tariff leaves unread, and that of the others
+pub unread-terms : (contents mid left : ℕ → List ℕ) (image : List ℕ) (terms : Terms)
+    → terms_of (opening_of image) (contents 1) ≡ Ok terms → mid 2 ≡ contents 2
+    → ((other : ℕ) → ¬ ((other ≡ 1) × IsSealedIn image) → mid other ≡ contents other)
+    → ((other : ℕ) → other ≢ 2 → ¬ ((other ≡ 3) × (drive_end (mid 2) ≡ Whole)) → left other ≡ mid other)
+    → LeavesUnread bench_command contents left image
+unread-terms contents mid left image terms are same first later word never =
+    later word (λ e. never [] (inr (inl (e, record { terms = terms; are = are; going = begins_going }))))
+    (λ h. never (contents 2) (inr (inr (
+      h.0,
+      record {
+        terms = terms;
+        are = are;
+        whole = subst
+            (λ (drive : List ℕ). drive_end drive ≡ Whole) same h.1;
+        all = refl;
+      },
+    ))))
+    ∙ first word (λ h. never [] (inl (h.0, (refl, h.1))))
 
 -- the bound of steps by the text that was printed is one by the answer, behind the six of the opening
 pub steps-judged : (contents left : ℕ → List ℕ) (image : List ℕ) {terms : Terms} {text : List ℕ} {pass : Bool} (j : HasJudged contents left image terms text pass) (printed : List ℕ) (before mid last : ℕ)

@@ -6,7 +6,7 @@ use Rattle.outside.specs.Faults.{Rose}
 use Rattle.outside.specs.Runs.{IsSettled, KeepsStore}
 use Rattle.commands.specs.declared.ending.Ended.{Ended}
 use Rattle.commands.specs.declared.ending.Ended.TheVariants as ended
-use Rattle.commands.specs.Call.{HasReadFault, IsCall, IsEnd, MayLack, MayTake}
+use Rattle.commands.specs.Call.{HasReadFault, IsCall, IsEnd, LeavesUnread, MayLack, MayTake}
 use Rattle.commands.specs.Carried.{Carries}
 use Rattle.commands.specs.Course.{Command, Course, Answered, ReadFailed, NoMemory, BoardFailed, status_in, text_in}
 use Rattle.commands.specs.Ending.{ComesOn}
@@ -18,8 +18,10 @@ use Rattle.commands.proofs.Unwritten.{bytes-kept, bytes-then}
 module _ {E D L : Type 0} (F : FileGhosts E) (B : Ghosts D L) (files files' : E) (old mid new : D) (end : Ended) (status : ℕ)
     (count : B.faults old ≤ B.faults mid) (later : B.faults mid ≤ B.faults new)
     (finish : IsEnd B.tells_text (Rose (B.faults mid) (B.faults new)) (status_of end) (line_of end) status (B.printed mid) (B.printed new)) where
-  pub call_from : (command : Command) → ComesOn F B command files files' old mid end → IsCall F B command files files' old new status
-  call_from command h =
+  pub call_from : (command : Command) → ComesOn F B command files files' old mid end
+      → LeavesUnread command (F.rest files) (F.rest files') (B.image old)
+      → IsCall F B command files files' old new status
+  call_from command h unread =
       let more : Rose (B.faults old) (B.faults mid) → Rose (B.faults old) (B.faults new) = λ rose. omega (arith, rose, later) in
       let after : Rose (B.faults mid) (B.faults new) → Rose (B.faults old) (B.faults new) = λ rose. omega (arith, rose, count) in
       record {
@@ -28,11 +30,14 @@ module _ {E D L : Type 0} (F : FileGhosts E) (B : Ghosts D L) (files files' : E)
         ends = ends-with command (F.rest files) (F.rest files') (B.image old) _ (Rose (B.faults old) (B.faults mid)) (Rose (B.faults old) (B.faults new)) B.tells_text
             (B.printed old) (B.printed mid) (B.printed new) end status h more
             (finishes-later B.tells_text (Rose (B.faults mid) (B.faults new)) (Rose (B.faults old) (B.faults new)) end status (B.printed mid) (B.printed new) after finish);
+        unread = unread;
       }
 
-  pub call_course : (command : Command) (h : ComesOn F B command files files' old mid end) → (call_from command h).course ≡ h.course
+  pub call_course : (command : Command) (h : ComesOn F B command files files' old mid end)
+      (unread : LeavesUnread command (F.rest files) (F.rest files') (B.image old))
+      → (call_from command h unread).course ≡ h.course
   unfolding call_from
-  call_course command h = refl
+  call_course command h unread = refl
 
   -- a status with which nothing is written
   status_before : (command : Command) → ((n : ℕ) → command.writes n → command.writes 8) → ¬ (command.writes status) → ¬ (command.writes (status_of end))

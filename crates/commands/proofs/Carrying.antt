@@ -8,7 +8,7 @@ use Rattle.outside.specs.declared.files.Files.{Ghosts as FileGhosts}
 use Rattle.outside.proofs.Laws.{keeps_none}
 use Rattle.commands.specs.declared.ending.Ended.{Ended}
 use Rattle.commands.specs.declared.ending.Ended.TheVariants as ends
-use Rattle.commands.specs.Call.{HasReadFault, MayTake}
+use Rattle.commands.specs.Call.{HasReadFault, LeavesUnread, MayTake}
 use Rattle.commands.specs.Carried.{Carries, no_board, no_files}
 use Rattle.commands.specs.Course.{Command, Course, Answered, ReadFailed, NoMemory, BoardFailed}
 use Rattle.commands.specs.Ending.{Comes, ComesOn, ComesUnprinted, HasCauseOn, IsBrokenOff, IsDue, OnlyLooksAt}
@@ -22,7 +22,7 @@ module _ (c : Command) (contents left : ℕ → List ℕ) (image : List ℕ) (re
     (whole whole' begun begun' : List ℕ → Type 0) (read : (word : ℕ) → read_failed word → read_failed' word) (board : failed → failed')
     (all : (text : List ℕ) → whole text → whole' text) (some : (text : List ℕ) → failed → begun text → begun' text) where
   may-as : (course : Course) → MayTake c contents left image read_failed failed course → MayTake c contents left image read_failed' failed' course
-  may-as Answered h = record { whole = h.whole; refused = h.refused; bad = h.bad }
+  may-as Answered h = record { whole = h.whole; bad = h.bad }
   may-as (ReadFailed word taken) h = record { reads = h.reads; comes = h.comes; failed = read word h.failed; takes = h.takes }
   may-as NoMemory h = record { taken = h.taken; may = h.may; takes = h.takes }
   may-as (BoardFailed taken) h = record { failed = board h.failed; takes = h.takes }
@@ -44,14 +44,17 @@ module _ {E D L : Type 0} (F : FileGhosts E) (B : Ghosts D L) (c : Command) wher
       → (c.known F.tells B.tells_image → ComesOn F B c files files' old new ended)
       → ((later : ℕ) → later ≤ now + 1 → c.steps F.tells B.tells_image (F.rest files) (F.rest files') (B.image old) before later)
       → (ended ≡ ends.ReadFault → HasReadFault F c files files') → HasCauseOn B old new ended
-      → ((word : ℕ) → ¬ (c.reads word) → F.rest files' word ≡ F.rest files word) → ((word : ℕ) → F.faults files word ≤ F.faults files' word)
+      → ((word : ℕ) → ¬ (c.reads word) → F.rest files' word ≡ F.rest files word)
+      → (c.known F.tells B.tells_image → LeavesUnread c (F.rest files) (F.rest files') (B.image old))
+      → ((word : ℕ) → F.faults files word ≤ F.faults files' word)
       → OnlyLooksAt B old new ended → Carries F B c files files' old new before now ended
-  carries-looked files files' old new before now ended opens none comes steps read cause others counts looked = record {
+  carries-looked files files' old new _ _ ended opens none comes steps read cause others unread counts looked = record {
     ends = comes;
     steps = steps;
     read_fault = read;
     board_fault = cause.failed;
     others = others;
+    unread = unread;
     count = cause.count;
     counts = counts;
     kept = λ shut. absurd (shut opens);
@@ -67,14 +70,17 @@ module _ {E D L : Type 0} (F : FileGhosts E) (B : Ghosts D L) (c : Command) wher
       → (c.known F.tells B.tells_image → ComesOn F B c files files' old new ended)
       → ((later : ℕ) → later ≤ now + 1 → c.steps F.tells B.tells_image (F.rest files) (F.rest files') (B.image old) before later)
       → (ended ≡ ends.ReadFault → HasReadFault F c files files') → HasCauseOn B old new ended
-      → ((word : ℕ) → ¬ (c.reads word) → F.rest files' word ≡ F.rest files word) → ((word : ℕ) → F.faults files word ≤ F.faults files' word)
+      → ((word : ℕ) → ¬ (c.reads word) → F.rest files' word ≡ F.rest files word)
+      → (c.known F.tells B.tells_image → LeavesUnread c (F.rest files) (F.rest files') (B.image old))
+      → ((word : ℕ) → F.faults files word ≤ F.faults files' word)
       → KeepsStore B old new → Carries F B c files files' old new before now ended
-  carries-kept files files' old new before now ended shut none comes steps read cause others counts kept = record {
+  carries-kept files files' old new _ _ ended shut none comes steps read cause others unread counts kept = record {
     ends = comes;
     steps = steps;
     read_fault = read;
     board_fault = cause.failed;
     others = others;
+    unread = unread;
     count = cause.count;
     counts = counts;
     kept = λ not. kept;
@@ -98,6 +104,7 @@ module _ {E D L : Type 0} (F : FileGhosts E) (B : Ghosts D L) (c : Command) wher
     read_fault = λ e. absurd (no-rise (h.read_fault e).rose);
     board_fault = h.board_fault;
     others = λ word not. refl;
+    unread = λ told word never. refl;
     count = h.count;
     counts = λ word. omega arith;
     kept = h.kept;
@@ -122,6 +129,7 @@ module _ {E D L : Type 0} (F : FileGhosts E) (B : Ghosts D L) (c : Command) wher
     read_fault = λ e. let fault = h.read_fault e in record { word = fault.word; reads = fault.reads; rose = fault.rose };
     board_fault = λ e. absurd (no-rise (h.board_fault e));
     others = h.others;
+    unread = λ told. h.unread (known told);
     count = omega arith;
     counts = h.counts;
     kept = λ not. keeps_none B board;
@@ -141,10 +149,13 @@ pub carries-said : {E : Type 0} (F : FileGhosts E) (image : List ℕ) (c : Comma
     → (c.known F.tells (Unit {0}) → ComesUnprinted c (F.rest files) (F.rest files') image (λ word. Rose (F.faults files word) (F.faults files' word)) ended)
     → ((later : ℕ) → later ≤ 1 → c.steps F.tells (Unit {0}) (F.rest files) (F.rest files') image 0 later)
     → (ended ≡ ends.ReadFault → HasReadFault F c files files') → ended ≢ ends.BoardFault
-    → ((word : ℕ) → ¬ (c.reads word) → F.rest files' word ≡ F.rest files word) → ((word : ℕ) → F.faults files word ≤ F.faults files' word)
+    → ((word : ℕ) → ¬ (c.reads word) → F.rest files' word ≡ F.rest files word)
+    → (c.known F.tells (Unit {0}) → LeavesUnread c (F.rest files) (F.rest files') image)
+    → ((word : ℕ) → F.faults files word ≤ F.faults files' word)
     → Carries F (no_board image) c files files' tt tt 0 0 ended
-carries-said F image c files files' ended shut none comes steps read not_board others counts =
+carries-said F image c files files' ended shut none comes steps read not_board others unread counts =
     carries-kept F (no_board image) c files files' tt tt 0 0 ended shut none
     (λ told. comes-as c (F.rest files) (F.rest files') image _ _ ⊥ (Rose 0 0) (λ text. text ≡ []) (λ text. Unit {0} → [] ≡ [] ++ text) _ _
     (λ word rose. rose) (λ none. absurd none) (λ text is tells. sym is) (λ text none. absurd none) ended (comes told))
-    steps read (record { count = omega arith; failed = λ e. absurd (not_board e) }) others counts (shut-kept image)
+    steps read (record { count = omega arith; failed = λ e. absurd (not_board e) }) others unread counts
+    (shut-kept image)

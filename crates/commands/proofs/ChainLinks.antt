@@ -139,7 +139,7 @@ module _ (contents left : ℕ → List ℕ) (image : List ℕ) (read_failed : �
 
   pub came : (course : Course) → MayTake run_command contents left image read_failed board_failed course
       → IsEnd told board_failed (status_in run_command contents image course) text ended before now → ended ≢ 8 → ended ≢ 12 → Came course
-  came Answered may (inl whole) not_8 not_12 = (record { whole = may.whole; refused = may.refused; bad = may.bad }, whole.status_is)
+  came Answered may (inl whole) not_8 not_12 = (record { whole = may.whole; bad = may.bad }, whole.status_is)
   came Answered may (inr cut) not_8 not_12 = absurd (not_8 cut.status_is)
   came (ReadFailed word taken) may (inl whole) not_8 not_12 = (record { reads = may.reads; comes = may.comes; failed = may.failed; takes = may.takes }, whole.status_is)
   came (ReadFailed word taken) may (inr cut) not_8 not_12 = absurd (not_8 cut.status_is)
@@ -218,6 +218,7 @@ module _ {D L : Type 0} (B : Ghosts D L) (files left : FilesState) (old new : D)
             status = how.1;
             memory = not_12;
             others = unread;
+            unread = run.call.unread;
             least = omega arith;
             most = omega arith;
             stands = k.stands;

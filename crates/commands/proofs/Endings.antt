@@ -14,7 +14,7 @@ use Rattle.commands.specs.LastLine.{status_of, line_of}
 -- a course stays one where more is known of the faults
 pub may-then : (c : Command) (contents left : ℕ → List ℕ) (image : List ℕ) (read_failed : ℕ → Type 0) (failed failed' : Type 0) → (failed → failed') → (course : Course)
     → MayTake c contents left image read_failed failed course → MayTake c contents left image read_failed failed' course
-may-then c contents left image read_failed failed failed' more Answered h = record { whole = h.whole; refused = h.refused; bad = h.bad }
+may-then c contents left image read_failed failed failed' more Answered h = record { whole = h.whole; bad = h.bad }
 may-then c contents left image read_failed failed failed' more (ReadFailed word taken) h = record { reads = h.reads; comes = h.comes; failed = h.failed; takes = h.takes }
 may-then c contents left image read_failed failed failed' more NoMemory h = record { taken = h.taken; may = h.may; takes = h.takes }
 may-then c contents left image read_failed failed failed' more (BoardFailed taken) h = record { failed = more h.failed; takes = h.takes }

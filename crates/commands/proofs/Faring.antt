@@ -15,7 +15,7 @@ use Rattle.commands.specs.declared.ending.Ended.TheVariants as ended
 use Rattle.commands.specs.declared.tariff.Refusal.{Refusal}
 use Rattle.commands.specs.Answer.{Answer}
 use Rattle.commands.specs.Course.{Answered, ReadFailed, BoardFailed}
-use Rattle.drive_text.specs.Ending.{DriveEnd, Whole, BadAt, Endless, TellsEnd, ShowsEnd, drive_end}
+use Rattle.drive_text.specs.Ending.{DriveEnd, Whole, BadAt, Endless, IsGoing, TellsEnd, ShowsEnd, drive_end}
 use Rattle.meter_run.specs.Drives.{RunsDrive, RunsTo}
 use Rattle.meter_run.specs.Texts.{drive_shown}
 use Rattle.seal_store.specs.declared.seal.Seal.{Seal}
@@ -45,10 +45,10 @@ pub refused-fare : (k : ℕ) (o : Result Tree Refusal) (drive : List ℕ) (why :
 refused-fare k o drive why e = ap (λ (x : Result Tree Refusal). fare_answer k x drive) e
 
 -- how a drive ends
-pub end_of-status : (shown : List ℕ) (reached : DriveEnd) → ((drive_answer shown reached).status ≡ 0 → reached ≡ Whole) × ((drive_answer shown reached).status ≢ 2)
-end_of-status shown Whole = (λ is. refl, λ is. absurd cc)
-end_of-status shown (BadAt n) = (λ is. absurd cc, λ is. absurd cc)
-end_of-status shown Endless = (λ is. absurd cc, λ is. absurd cc)
+pub end_of-status : (shown : List ℕ) (reached : DriveEnd) → (drive_answer shown reached).status ≡ 0 → reached ≡ Whole
+end_of-status shown Whole is = refl
+end_of-status shown (BadAt n) is = absurd cc
+end_of-status shown Endless is = absurd cc
 
 -- a drive that was told whole has nothing left
 pub left-whole : (drive left : List ℕ) → TellsEnd drive left → drive_end drive ≡ Whole → left ≡ []
@@ -77,12 +77,12 @@ module _ (k : ℕ) (contents left : ℕ → List ℕ) (image : List ℕ) (read_f
   to_end end reached h status line shown =
       let e = answer_is ∙ ap (drive_answer (drive_shown (setting_of k t) (contents 2))) h.end_is in
       let status_at : (fare_answer k (tariff_in (contents 1)) (contents 2)).status ≡ (drive_answer (drive_shown (setting_of k t) (contents 2)) reached).status = ap (λ (a : Answer). a.status) e in
-      let known = end_of-status (drive_shown (setting_of k t) (contents 2)) reached in
       record {
         course = Answered;
         may = record {
-          whole = λ zero word reads. one_of contents left word reads read (left-whole (contents 2) (left 2) h.tells (h.end_is ∙ known.0 (sym status_at ∙ zero)));
-          refused = λ two. absurd (known.1 (sym status_at ∙ two));
+          whole = λ zero word reads. one_of contents left word reads read
+              (left-whole (contents 2) (left 2) h.tells (h.end_is ∙ end_of-status
+              (drive_shown (setting_of k t) (contents 2)) reached (sym status_at ∙ zero)));
           bad = λ three. h.tells;
         };
         stands = inl (record {
@@ -121,6 +121,10 @@ module _ (k : ℕ) (contents left : ℕ → List ℕ) (image : List ℕ) (read_f
       started = λ tells. subst (λ (x : List ℕ). Begins before now x) (sym (ap (λ (x : List ℕ). x ++ []) (shown_is h.taken) ∙ append-nil (drive_shown (setting_of k t) h.taken))) (h.printed tells (setting_of k t) is);
     });
   }
+
+-- a drive goes on of which nothing was taken
+pub begins_going : IsGoing []
+begins_going = record { good = refl; few = omega arith }
 
 -- where a run ended so
 pub read_fault-ran : (ran : Result (Unit {0}) RunFault) → ended_by ran ≡ ended.ReadFault → ran ≡ Err faults.ReadFault

@@ -115,9 +115,6 @@ whole_bound told drive left before now tells e h =
 pub refused-gen : (seed trips : ℕ) (o : Result Tree Refusal) (why : Refusal) → o ≡ Err why → gen_answer seed trips o ≡ bad_tariff why
 refused-gen seed trips o why e = ap (gen_answer seed trips) e
 
-zero-two : (n : ℕ) → n ≡ 0 → n ≢ 2
-zero-two n e f = absurd cc
-
 zero-three : (n : ℕ) → n ≡ 0 → n ≢ 3
 zero-three n e f = absurd cc
 
@@ -163,7 +160,6 @@ module _ (seed trips : ℕ) (contents left : ℕ → List ℕ) (image : List ℕ
       course = Answered;
       may = record {
         whole = λ e word reads. absurd reads;
-        refused = λ e. absurd (zero-two _ zero_is e);
         bad = λ e. absurd (zero-three _ zero_is e);
       };
       stands = inl (record { status_is = sym zero_is; line_is = sym no_line; shown = λ tells. printed tells ∙ ap (λ (x : List ℕ). before ++ x) (sym shown_is) });
@@ -174,7 +170,6 @@ module _ (seed trips : ℕ) (contents left : ℕ → List ℕ) (image : List ℕ
       course = Answered;
       may = record {
         whole = λ e word reads. absurd reads;
-        refused = λ e. absurd (zero-two _ zero_is e);
         bad = λ e. absurd (zero-three _ zero_is e);
       };
       stands = inr (record {

@@ -95,7 +95,6 @@ module _ (years : ℕ × ℕ) (contents left : ℕ → List ℕ) (image : List �
         course = Answered;
         may = record {
           whole = λ z. absurd (bad_zero _ status z);
-          refused = λ z. refl;
           bad = λ z. absurd (bad_three _ status z);
         };
         stands = inl (record {
@@ -128,7 +127,6 @@ module _ (years : ℕ × ℕ) (contents left : ℕ → List ℕ) (image : List �
     may : MayTake (offsets_command years) contents left image read_failed failed Answered
     may = record {
       whole = λ z word reads. ap left reads ∙ read;
-      refused = λ z. refl;
       bad = λ z. absurd (zero_three _ zero z);
     }
 

@@ -17,16 +17,11 @@ use Rattle.commands.specs.LastLine.{line_of, status_of}
 use Rattle.commands.specs.Opening.{opening_of, store_of}
 use Rattle.commands.specs.Port.{port_answer, port_command, replies_over, requests_answer}
 
--- a store that is there is refused for nothing
-pub not_refused : (store : Result (Durable × Seal) Ended) (found : Durable × Seal) (why : Ended) → store ≡ Ok found → store ≡ Err why → ⊥
-not_refused store found why e f = absurd cc
-
 -- the status of requests that end so
-status_end : (shown : List ℕ) (reached : StreamEnd)
-    → ((requests_answer shown reached).status ≡ 0 → reached ≡ Whole) × ((requests_answer shown reached).status ≢ 2)
-status_end shown Whole = (λ is. refl, λ is. absurd cc)
-status_end shown (BadAt place) = (λ is. absurd cc, λ is. absurd cc)
-status_end shown Endless = (λ is. absurd cc, λ is. absurd cc)
+status_end : (shown : List ℕ) (reached : StreamEnd) → (requests_answer shown reached).status ≡ 0 → reached ≡ Whole
+status_end shown Whole is = refl
+status_end shown (BadAt place) is = absurd cc
+status_end shown Endless is = absurd cc
 
 -- a stream that was served whole has nothing left
 left_whole : (stream taken left : List ℕ) → ShowsEnd (stream_end stream) taken left → stream_end stream ≡ Whole → left ≡ []
@@ -54,12 +49,11 @@ module _ (contents left : ℕ → List ℕ) (image : List ℕ) (read_failed : �
       let e = answer_is ∙ ap (requests_answer Shown) h.ends.end_is in
       let status_at : (port_answer (store_of (opening_of image)) (contents 1)).status ≡ (requests_answer Shown reached).status =
       ap (λ (a : Answer). a.status) e in
-      let known = status_end Shown reached in
       record {
         course = Answered;
         may = record {
-          whole = λ zero word reads. ap left reads ∙ left_whole (contents 1) h.taken (left 1) h.ends.shows (h.ends.end_is ∙ known.0 (sym status_at ∙ zero));
-          refused = λ two. absurd (known.1 (sym status_at ∙ two));
+          whole = λ zero word reads. ap left reads ∙ left_whole (contents 1) h.taken (left 1) h.ends.shows
+              (h.ends.end_is ∙ status_end Shown reached (sym status_at ∙ zero));
           bad = λ is. record { taken = h.taken; split = h.ends.split; shows = h.ends.shows };
         };
         stands = inl (record {

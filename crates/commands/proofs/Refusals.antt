@@ -29,7 +29,6 @@ module _ (c : Command) (contents left : ℕ → List ℕ) (image : List ℕ) (re
         course = Answered;
         may = record {
           whole = λ all. absurd (not_2 (subst (λ (n : ℕ). c.reads_all n) two all));
-          refused = λ is. untouched;
           bad = λ is. absurd (not_bad 2 c.drive (λ e. absurd cc) (λ e. absurd cc) (sym two ∙ is));
         };
         stands = inl (record {

@@ -136,13 +136,13 @@ module _ {E D L : Type 0} (F : FileGhosts E) (B : Ghosts D L) (files files' : E)
           let e : run_answer (start_at F B files old) drive ≡ drive_answer (texts s.seal (deeds_in s drive)) reached = answer_is ∙ ap (drive_answer (texts s.seal (deeds_in s drive))) h.end_is in
           let status_at : (run_answer (start_at F B files old) drive).status ≡ (drive_answer (texts s.seal (deeds_in s drive)) reached).status = ap (λ (a : Answer). a.status) e in
           let line_at : (run_answer (start_at F B files old) drive).line ≡ line_of end = ap (λ (a : Answer). a.line) e ∙ line in
-          let known = end_of-status (texts s.seal (deeds_in s drive)) reached in
           record {
             comes = record {
               course = Answered;
               may = record {
-                whole = λ zero word reads. one_of (F.rest files) (F.rest files') word reads read (left-whole drive (F.rest files' 2) h.tells (h.end_is ∙ known.0 (sym status_at ∙ zero)));
-                refused = λ two. absurd (known.1 (sym status_at ∙ two));
+                whole = λ zero word reads. one_of (F.rest files) (F.rest files') word reads read
+                    (left-whole drive (F.rest files' 2) h.tells
+                    (h.end_is ∙ end_of-status (texts s.seal (deeds_in s drive)) reached (sym status_at ∙ zero)));
                 bad = λ three. h.tells;
               };
               stands = inl (record {

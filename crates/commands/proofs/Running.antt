@@ -130,7 +130,6 @@ module _ {E D L : Type 0} (F : FileGhosts E) (B : Ghosts D L) (files files' : E)
           course = Answered;
           may = record {
             whole = λ zero. absurd (is.not_0 (sym status ∙ zero));
-            refused = λ two. taken;
             bad = λ three. absurd (is.not_3 (sym status ∙ three));
           };
           stands = inl (record {

@@ -14,6 +14,7 @@ use Rattle.commands.specs.declared.opening.StoreFault.TheVariants as stores
 use Rattle.commands.specs.declared.seal.Base.{Base}
 use Rattle.commands.specs.declared.tariff.Refusal.{Refusal}
 use Rattle.commands.specs.Answer.{Answer}
+use Rattle.commands.specs.Call.{LeavesUnread}
 use Rattle.commands.specs.Course.{Answered, NoMemory, ReadFailed}
 use Rattle.commands.specs.Ending.{Comes}
 use Rattle.commands.specs.LastLine.{sealed_line, status_of}
@@ -139,6 +140,16 @@ not_0-store (stores.BadSlot slot) = λ z. absurd cc
 not_0-store (stores.SameNumber first second) = λ z. absurd cc
 not_0-store stores.BoardFault = λ z. absurd cc
 
+-- what is left unread where the store may be sealed
+pub unread-sealing : (contents left : ℕ → List ℕ) (image : List ℕ) (opening : Opening) (base : Base)
+    → opening_of image ≡ Ok opening → over_totals opening.totals opening.seal ≡ Ok base
+    → ((other : ℕ) → other ≢ 1 → ¬ ((other ≡ 2) × HasDecimals base.decimals (contents 1)) → left other ≡ contents other)
+    → LeavesUnread seal_command contents left image
+unread-sealing contents left image opening base e f read word never =
+    let based : base_in (opening_of image) ≡ Ok base = ap base_in e ∙ f in
+    read word (λ is. never [] (inl (is, record { base = base; is = based })))
+    (λ h. never [] (inr (h.0, record { base = base; is = based; fits = h.1 })))
+
 module _ (contents left : ℕ → List ℕ) (image : List ℕ) (read_failed : ℕ → Type 0) (failed told : Type 0) (before now : List ℕ) (still : now ≡ before) where
   abbrev Ends : Ended → Type 0
   Ends end = Comes seal_command contents left image read_failed failed (λ text. told → now ≡ before ++ text) (λ text. told → Begins before now text) end
@@ -219,7 +230,6 @@ module _ (contents left : ℕ → List ℕ) (image : List ℕ) (read_failed : �
         course = Answered;
         may = record {
           whole = λ zero word. ⊎_elim (λ (w : word ≡ 1). ap left w ∙ one) (λ (w : word ≡ 2). ap left w ∙ two);
-          refused = λ z. refl;
           bad = λ z. absurd (three _ status z);
         };
         stands = inl (record {

@@ -41,8 +41,7 @@ module _ (c : Command) (contents left : ℕ → List ℕ) (image : List ℕ) (re
       });
     }
 
-module _ (c : Command) (contents left : ℕ → List ℕ) (image : List ℕ) (read_failed : ℕ → Type 0) (failed told : Type 0) (before now : List ℕ)
-    (untouched : Takes c.drive contents left []) where
+module _ (c : Command) (contents left : ℕ → List ℕ) (image : List ℕ) (read_failed : ℕ → Type 0) (failed told : Type 0) (before now : List ℕ) where
   module _ (text : List ℕ) (answer : c.answer contents image ≡ shows text) (read : (word : ℕ) → c.reads word → left word ≡ []) where
     zero : (c.answer contents image).status ≡ 0
     zero = ap (λ (a : Answer). a.status) answer
@@ -50,7 +49,6 @@ module _ (c : Command) (contents left : ℕ → List ℕ) (image : List ℕ) (re
     may : MayTake c contents left image read_failed failed Answered
     may = record {
       whole = λ is. read;
-      refused = λ is. untouched;
       bad = λ is. absurd (not_bad 0 c.drive (λ e. absurd cc) (λ e. absurd cc) (sym zero ∙ is));
     }
 
@@ -61,7 +59,8 @@ module _ (c : Command) (contents left : ℕ → List ℕ) (image : List ℕ) (re
     comes-begun begun cause = comes-part c contents left image read_failed failed told before now 0 text answer may begun cause
 
   -- a read failed, or memory ran out, before anything was shown
-  module _ (still : now ≡ before) (quiet : c.shown contents image [] ≡ []) where
+  module _ (untouched : Takes c.drive contents left [])
+      (still : now ≡ before) (quiet : c.shown contents image [] ≡ []) where
     nothing : (text : List ℕ) → text ≡ [] → now ≡ before ++ text
     nothing text e = still ∙ sym (ap (λ (x : List ℕ). before ++ x) e ∙ append-nil before)
 

@@ -37,11 +37,13 @@ module _ {D L : Type 0} (B : Ghosts D L) (c : Command) (contents left : ℕ → 
 
     pub ends-shown : (B.tells_text → B.printed new ≡ B.printed mid ++ printed) → ComesFrom B c contents left read_failed old new ended.Done
     ends-shown whole =
-        comes-shown c contents left (B.image old) read_failed (Rose (B.faults old) (B.faults new)) B.tells_text (B.printed old) (B.printed new) untouched text answered read
+        comes-shown c contents left (B.image old) read_failed (Rose (B.faults old) (B.faults new)) B.tells_text
+        (B.printed old) (B.printed new) text answered read
         (λ t. whole t ∙ ap (λ (x : List ℕ). x ++ printed) opens.reads.text ∙ ap (λ (x : List ℕ). B.printed old ++ x) same)
 
     pub ends-begun : (B.tells_text → Begins (B.printed mid) (B.printed new) printed) → Rose (B.faults mid) (B.faults new) → ComesFrom B c contents left read_failed old new ended.BoardFault
     ends-begun begun rose =
-        comes-begun c contents left (B.image old) read_failed (Rose (B.faults old) (B.faults new)) B.tells_text (B.printed old) (B.printed new) untouched text answered read
+        comes-begun c contents left (B.image old) read_failed (Rose (B.faults old) (B.faults new)) B.tells_text
+        (B.printed old) (B.printed new) text answered read
         (λ t. subst (λ (x : List ℕ). Begins (B.printed old) (B.printed new) x) same (subst (λ (x : List ℕ). Begins x (B.printed new) printed) opens.reads.text (begun t)))
         (omega (arith, rose, opens.count))

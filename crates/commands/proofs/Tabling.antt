@@ -22,9 +22,6 @@ pub refused-tables : (k : ℕ) (o : Result Tree Refusal) (why : Refusal) → o �
 refused-tables k o why e = ap (tables_answer k) e
 
 -- a status that is 0
-zero-two : (n : ℕ) → n ≡ 0 → n ≢ 2
-zero-two n e f = absurd cc
-
 zero-three : (n : ℕ) → n ≡ 0 → n ≢ 3
 zero-three n e f = absurd cc
 
@@ -48,7 +45,6 @@ module _ (k : ℕ) (contents left : ℕ → List ℕ) (image : List ℕ) (read_f
     course = Answered;
     may = record {
       whole = λ is word reads. ap left reads ∙ read;
-      refused = λ is. absurd (zero-two _ zero is);
       bad = λ is. absurd (zero-three _ zero is);
     };
     stands = inl (record { status_is = sym zero; line_is = sym no_line; shown = λ tells. printed tells ∙ ap (λ (x : List ℕ). before ++ x) (sym rows_are) });
@@ -59,7 +55,6 @@ module _ (k : ℕ) (contents left : ℕ → List ℕ) (image : List ℕ) (read_f
     course = Answered;
     may = record {
       whole = λ is word reads. ap left reads ∙ read;
-      refused = λ is. absurd (zero-two _ zero is);
       bad = λ is. absurd (zero-three _ zero is);
     };
     stands = inr (record {

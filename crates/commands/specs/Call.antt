@@ -7,16 +7,20 @@ use Rattle.outside.specs.declared.files.Files.{Ghosts as FileGhosts}
 use Rattle.commands.specs.Course.{Command, Course, Answered, ReadFailed, NoMemory, BoardFailed, status_in, text_in}
 use Rattle.commands.specs.Stream.{Takes, TellsItsEnd, bad_status}
 
+-- a call leaves a word's file unread where its command, with these contents and this image, comes to no read of the
+-- word, whatever bytes of the drive or of the requests were taken
+abbrev pub LeavesUnread : Command → (contents left : ℕ → List ℕ) (image : List ℕ) → Type 0
+LeavesUnread c contents left image =
+    (word : ℕ) → ((taken : List ℕ) → ¬ c.comes_to contents image word taken) → left word ≡ contents word
+
 -- A call of a command is told by what the files held and what is `left` of them, by the opening image, by the words of
 -- whose files a read failed, and by whether the board failed.
 module _ (c : Command) (contents left : ℕ → List ℕ) (image : List ℕ) (read_failed : ℕ → Type 0)
     (board_failed : Type 0) where
   -- a call came to its answer where at a status at which the command has read all, as 0 is, each file that it reads was
-  -- read to its end, at 2 nothing of the drive was taken, and where the drive or the requests are bad the bytes that
-  -- were taken have what is bad
+  -- read to its end, and where the drive or the requests are bad the bytes that were taken have what is bad
   pub record IsAnswered : Type 0 where
     pub whole : c.reads_all (c.answer contents image).status → (word : ℕ) → c.reads word → left word ≡ []
-    pub refused : (c.answer contents image).status ≡ 2 → Takes c.drive contents left []
     pub bad : (c.answer contents image).status ≡ bad_status c.drive → TellsItsEnd c.drive contents left
 
   -- a read of a word's file failed where the command reads the file and had come to it when the bytes `taken` of the
@@ -70,8 +74,8 @@ IsEnd tells_text board_failed status text ended before now =
     IsWhole tells_text status text ended before now ⊎ IsCutShort tells_text board_failed text ended before now
 
 module _ {E D L : Type 0} (F : FileGhosts E) (B : Ghosts D L) where
-  -- a call of a command took a course, and ended with the course's status and text, or with 8 and a beginning of the
-  -- text
+  -- a call of a command took a course, ended with the course's status and text, or with 8 and a beginning of the text,
+  -- and left each file as it was to whose read the command doesn't come
   pub record IsCall (c : Command) (files files' : E) (board board' : D) (ended : ℕ) : Type 0 where
     pub course : Course
     pub may : MayTake c (F.rest files) (F.rest files') (B.image board)
@@ -79,6 +83,7 @@ module _ {E D L : Type 0} (F : FileGhosts E) (B : Ghosts D L) where
     pub ends : IsEnd B.tells_text (Rose (B.faults board) (B.faults board'))
         (status_in c (F.rest files) (B.image board) course) (text_in c (F.rest files) (B.image board) course)
         ended (B.printed board) (B.printed board')
+    pub unread : LeavesUnread c (F.rest files) (F.rest files') (B.image board)
 
 -- a read failed in a call where the count of faults of a file that the command reads has risen
 pub record HasReadFault {E : Type 0} (F : FileGhosts E) (c : Command) (files files' : E) : Type 0 where

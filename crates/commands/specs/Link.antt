@@ -11,7 +11,7 @@ use Rattle.totaliser_store.specs.Sums.{Follows}
 use Rattle.totaliser_store.specs.declared.change.Change.{Change}
 use Rattle.totaliser_store.specs.declared.durable.Durable.{Durable}
 use Rattle.meter_run.specs.Deeds.{Deed, changes_of}
-use Rattle.commands.specs.Call.{MayTake}
+use Rattle.commands.specs.Call.{LeavesUnread, MayTake}
 use Rattle.commands.specs.Course.{Course, line_in, status_in, text_in}
 use Rattle.commands.specs.Opening.{opening_of}
 use Rattle.commands.specs.Run.{IsOfTotals, MayFind, Start, bytes_in, deeds_in, run_command, start_of}
@@ -92,8 +92,9 @@ pub record IsLink (durable : Durable) (image : List ℕ) (link : Link) : Type 0 
       (λ word. Rose link.files.failed link.files_left.failed) ⊥ link.course
   pub status : link.status ≡ status_in run_command (rest_of link.files) image link.course
   pub memory : link.status ≢ 12
-  -- the run read no file but those of its words
+  -- the run read no file but those of its words, and of these none to whose read it didn't come
   pub others : (word : ℕ) → word ≢ 1 → word ≢ 2 → rest_of link.files_left word ≡ rest_of link.files word
+  pub unread : LeavesUnread run_command (rest_of link.files) (rest_of link.files_left) image
   -- the next number is no smaller than the one before, and no greater than with all commits of the run
   pub least : durable.number ≤ link.number
   pub most : link.number ≤ durable.number + length (commits_done image link)

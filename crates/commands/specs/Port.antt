@@ -34,13 +34,8 @@ pub record IsServing (image taken : List ℕ) : Type 0 where
   pub sealed : IsSealedIn image
   pub going : IsGoing taken
 
--- requests are served within their bounds where at most 64 steps are taken for the opening and the last line together,
--- and one for each request in the bytes that were taken; and no byte is taken where there is no sealed store
-pub record IsServedWithin (image_told : Type 0) (image stream left : List ℕ) (before now : ℕ) : Type 0 where
-  pub steps : IsBoundedBy stream left (before + 64) now
-  pub unread : image_told → (why : Ended) → store_of (opening_of image) ≡ Err why → left ≡ stream
-
--- the command `port` opens the store, and then reads its requests and serves them; it takes no memory
+-- the command `port` opens the store, and then reads its requests and serves them, in at most 64 steps for the opening
+-- and the last line together and one for each request in the bytes that were taken; it takes no memory
 abbrev pub port_command : Command
 port_command = record {
   answer = λ contents image. port_answer (store_of (opening_of image)) (contents 1);
@@ -54,5 +49,5 @@ port_command = record {
   opens = Unit {0};
   writes = λ ended. ⊥;
   steps = λ files_tell image_told contents left image before now.
-      files_tell → IsServedWithin image_told image (contents 1) (left 1) before now;
+      files_tell → IsBoundedBy (contents 1) (left 1) (before + 64) now;
 }

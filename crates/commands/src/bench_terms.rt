@@ -4,7 +4,7 @@ ghost use Rattle.outside.specs.Faults.{Rose};
 ghost use Rattle.commands.specs.Bench.{terms_of};
 ghost use Rattle.commands.specs.BenchSteps.{HasNoTerms, terms_in};
 ghost use Rattle.commands.specs.Opened.{OnlyOpens};
-ghost use Rattle.commands.specs.Opening.{opening_of};
+ghost use Rattle.commands.specs.Opening.{IsSealedIn, opening_of};
 
 use crate::ending::Ended;
 use crate::sealed::open_sealed;
@@ -39,6 +39,8 @@ pub fn open_terms<F: Files, B: Board<L>, L: Ledger>(
     ensures opens { OnlyOpens B.Board (IsErrOf result Ended.BoardFault) board.old board.new }
     ensures read_fault { result ≡ Err Ended.ReadFault → Rose (F.faults files.old 1) (F.faults files.new 1) }
     ensures others { (other : ℕ) → other ≢ 1 → F.rest files.new other ≡ F.rest files.old other }
+    ensures unread { B.tells_image → (other : ℕ) → ¬ ((other ≡ 1) × IsSealedIn (B.image board.old))
+        → F.rest files.new other ≡ F.rest files.old other }
     ensures counts { (other : ℕ) → F.faults files.old other ≤ F.faults files.new other }
     ensures steps { steps.new ≤ steps.old + 6 }
 {

@@ -1,5 +1,6 @@
 //! Judges readings by a drive.
 ghost use Rattle.std.specs.Prelude.{◌≡◌, ◌≢◌, ◌⊎◌, ℕ, ◌≤◌, [], All, flat_map, IfOk, OnOk, Ok, Err};
+ghost use Rattle.drive_text.specs.Ending.{Whole, drive_end};
 ghost use Rattle.drive_text.specs.Ranges.{IsRunInRange};
 ghost use Rattle.drive_text.specs.Runs.{run_events};
 ghost use Rattle.outside.specs.Faults.{Rose};
@@ -45,6 +46,8 @@ pub fn judge_drive<F: Files>(
         → Rose (F.faults files.old 2) (F.faults files.new 2) ⊎ Rose (F.faults files.old 3) (F.faults files.new 3) }
     ensures not_board { result ≢ Err Ended.BoardFault }
     ensures others { (other : ℕ) → other ≢ 2 → other ≢ 3 → F.rest files.new other ≡ F.rest files.old other }
+    ensures unread { F.tells → (other : ℕ) → other ≢ 2 → ¬ ((other ≡ 3) × (drive_end (F.rest files.old 2) ≡ Whole))
+        → F.rest files.new other ≡ F.rest files.old other }
     ensures counts { (other : ℕ) → F.faults files.old other ≤ F.faults files.new other }
 {
     let runs = match read_drive(alloc, files, 2) {

@@ -6,6 +6,7 @@ ghost use Rattle.meter_states.specs.Fits.{Fits};
 ghost use Rattle.seal_store.specs.Ranges.{IsSeal};
 ghost use Rattle.commands.specs.Carried.{Carries};
 ghost use Rattle.commands.specs.Opened.{OnlyOpens};
+ghost use Rattle.commands.specs.Opening.{IsSealedIn};
 ghost use Rattle.commands.specs.Run.{does_hold_fit, run_command};
 ghost use Rattle.commands.specs.RunSteps.{AreNoTables, AreSealedTables, HasBegun, HasNotBegun, RunComes};
 
@@ -77,6 +78,8 @@ fn begin<F: Files, B: Board<L>, L: Ledger>(
     ensures refused { F.tells → B.tells_image → IfErr result (HasNotBegun (B.image board.old) (F.rest files.old 1)
         (Rose (F.faults files.old 1) (F.faults files.new 1)) (Rose (B.faults board.old) (B.faults board.new))) }
     ensures opens { OnlyOpens B.Board (IsErrOf result Ended.BoardFault) board.old board.new }
+    ensures unread { B.tells_image → (other : ℕ) → ¬ ((other ≡ 1) × IsSealedIn (B.image board.old))
+        → F.rest files.new other ≡ F.rest files.old other }
     ensures read_fault { result ≡ Err Ended.ReadFault → Rose (F.faults files.old 1) (F.faults files.new 1) }
     ensures others { (other : ℕ) → other ≢ 1 → F.rest files.new other ≡ F.rest files.old other }
     ensures counts { (other : ℕ) → F.faults files.old other ≤ F.faults files.new other }

@@ -8,7 +8,7 @@ ghost use Rattle.seal_store.specs.Sealing.{found_number, next_number, seal_found
 ghost use Rattle.commands.specs.Carried.{Carries, SealComes};
 ghost use Rattle.commands.specs.Opened.{IsSoundOpening};
 ghost use Rattle.commands.specs.SealSteps.{IsNoSeal, IsNoTariff, IsTariffWith};
-ghost use Rattle.commands.specs.Seal.{seal_command, seal_read};
+ghost use Rattle.commands.specs.Seal.{HasDecimals, seal_command, seal_read};
 ghost use Rattle.commands.specs.Seal as spec;
 
 use crate::ending::{Ended, refused_by, refused_params, refused_store};
@@ -136,6 +136,8 @@ fn read_seal<F: Files>(
         ⊎ Rose (F.faults files.old 2) (F.faults files.new 2) }
     ensures not_board { result ≢ Err Ended.BoardFault }
     ensures others { (other : ℕ) → other ≢ 1 → other ≢ 2 → F.rest files.new other ≡ F.rest files.old other }
+    ensures unread { F.tells → (other : ℕ) → other ≢ 1 → ¬ ((other ≡ 2) × HasDecimals found (F.rest files.old 1))
+        → F.rest files.new other ≡ F.rest files.old other }
     ensures counts { (other : ℕ) → F.faults files.old other ≤ F.faults files.new other }
 {
     let text = match text_of_word(alloc, files, 1) {

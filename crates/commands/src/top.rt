@@ -129,7 +129,8 @@ pub fn taxi<F: Files, B: Board<L>, L: Ledger>(
     board: &mut B,
     steps: &mut Steps<L>,
 ) -> u8
-    // A call takes a course that its words, their files' contents and the opening image allow, and ends as it says.
+    // A call takes a course that its words, their files' contents and the opening image allow, ends as it says, and
+    // leaves each file unread to whose read the command doesn't come, as the drive's where the tariff is refused.
     ensures call { (called (map string_bytes words.now)).known F.tells B.tells_image
         → IsCall F.Files B.Board (called (map string_bytes words.now)) files.old files.new board.old board.new result }
 

@@ -1,4 +1,4 @@
-use Rattle.std.proofs.Common.{◌≢◌, ◌∙◌, ◌++◌, ℕ, List, Err, refl, sym, ap, subst, arith, inl, inr, ⊎_elim}
+use Rattle.std.proofs.Common.{◌≢◌, ◌∙◌, [], ◌++◌, ℕ, List, Err, refl, sym, ap, subst, arith, inl, inr, ⊎_elim}
 use Rattle.std.specs.Prelude.{is_err}
 use Rattle.outside.specs.Faults.{Rose}
 use Rattle.outside.specs.Printing.{Begins}
@@ -8,7 +8,8 @@ use Rattle.commands.specs.Ending.{ComesOn}
 use Rattle.commands.specs.declared.ending.Ended.{Ended}
 use Rattle.commands.specs.declared.ending.Ended.TheVariants as ended
 use Rattle.commands.proofs.Carrying.{carries-looked}
-use Rattle.commands.proofs.Benching.{comes-begun, comes-judged, comes-no_terms, comes-not_judged, has_judged, not_fault-passing, steps-judged}
+use Rattle.commands.proofs.Benching.{comes-begun, comes-judged, comes-no_terms, comes-not_judged, has_judged}
+use Rattle.commands.proofs.Benching.{not_fault-passing, steps-judged, unread-terms}
 use Rattle.commands.proofs.Judging.{not_judged-as, not_judged-over}
 use Rattle.commands.proofs.Looking.{looks-kept, looks-only}
 use Rattle.commands.proofs.Openings.{no_fault, same_fault}
@@ -38,6 +39,7 @@ returns-in-Err g c =
     (λ e. record { word = 1; reads = inl refl; rose = c.open_terms.ensures.read_fault (c.in-Err.is ∙ ap Err e) })
     (record { count = c.open_terms.ensures.opens.count; failed = λ e. c.open_terms.ensures.opens.cause (c.in-Err.is ∙ ap Err e) })
     (λ word not. c.open_terms.ensures.others word (λ e. not (inl e)))
+    (λ known word never. c.open_terms.ensures.unread known.1 word (λ h. never [] (inl (h.0, (refl, h.1)))))
     (c.open_terms.ensures.counts)
     (record {
       bytes = bytes-read g.B.Board c.args.board.now c.open_terms.new.board c.open_terms.ensures.opens.reads;
@@ -81,6 +83,11 @@ returns-in-Err-judge_drive g c =
     (c.judge_drive.ensures.read_fault (c.in-Err-judge_drive.is ∙ ap Err e)))
     (record { count = c.open_terms.ensures.opens.count; failed = λ e. absurd (c.judge_drive.ensures.not_board (c.in-Err-judge_drive.is ∙ ap Err e)) })
     (λ word not. c.judge_drive.ensures.others word (λ e. not (inr (inl e))) (λ e. not (inr (inr e))) ∙ c.open_terms.ensures.others word (λ e. not (inl e)))
+    (λ known. let rest = g.F.Files.rest in
+    unread-terms (rest c.args.files.now) (rest c.open_terms.new.files) (rest c.judge_drive.new.files)
+    (g.B.Board.image c.args.board.now) (terms_in c.in-Ok.terms)
+    (c.in-Ok.ensures.found known.0 known.1) (c.open_terms.ensures.others 2 two-one)
+    (c.open_terms.ensures.unread known.1) (c.judge_drive.ensures.unread known.0))
     (λ word. omega (arith, c.open_terms.ensures.counts word, c.judge_drive.ensures.counts word))
     (record {
       bytes = bytes-read g.B.Board c.args.board.now c.open_terms.new.board c.open_terms.ensures.opens.reads;
@@ -112,6 +119,11 @@ returns-in-Ok-print_text g c =
     (λ e. absurd ((not_fault-passing c.in-Ok-judge_drive.judgement.pass).0 (sym c.ended.ensures ∙ e)))
     (record { count = omega (arith, c.open_terms.ensures.opens.count, c.print_text.ensures.cause.later); failed = λ e. absurd ((not_fault-passing c.in-Ok-judge_drive.judgement.pass).1 (sym c.ended.ensures ∙ e)) })
     (λ word not. c.judge_drive.ensures.others word (λ e. not (inr (inl e))) (λ e. not (inr (inr e))) ∙ c.open_terms.ensures.others word (λ e. not (inl e)))
+    (λ known. let rest = g.F.Files.rest in
+    unread-terms (rest c.args.files.now) (rest c.open_terms.new.files) (rest c.judge_drive.new.files)
+    (g.B.Board.image c.args.board.now) (terms_in c.in-Ok.terms)
+    (c.in-Ok.ensures.found known.0 known.1) (c.open_terms.ensures.others 2 two-one)
+    (c.open_terms.ensures.unread known.1) (c.judge_drive.ensures.unread known.0))
     (λ word. omega (arith, c.open_terms.ensures.counts word, c.judge_drive.ensures.counts word))
     (record {
       bytes = bytes-then g.B.Board c.args.board.now c.open_terms.new.board c.print_text.new.board (bytes-read g.B.Board c.args.board.now c.open_terms.new.board c.open_terms.ensures.opens.reads)
@@ -148,6 +160,11 @@ returns g c =
     (λ e. absurd cc)
     (record { count = omega (arith, c.open_terms.ensures.opens.count, c.print_text.ensures.cause.later); failed = λ e. omega (arith, c.print_text.ensures.cause.failed (ap is_err c.in-Err-print_text.is), c.open_terms.ensures.opens.count) })
     (λ word not. c.judge_drive.ensures.others word (λ e. not (inr (inl e))) (λ e. not (inr (inr e))) ∙ c.open_terms.ensures.others word (λ e. not (inl e)))
+    (λ known. let rest = g.F.Files.rest in
+    unread-terms (rest c.args.files.now) (rest c.open_terms.new.files) (rest c.judge_drive.new.files)
+    (g.B.Board.image c.args.board.now) (terms_in c.in-Ok.terms)
+    (c.in-Ok.ensures.found known.0 known.1) (c.open_terms.ensures.others 2 two-one)
+    (c.open_terms.ensures.unread known.1) (c.judge_drive.ensures.unread known.0))
     (λ word. omega (arith, c.open_terms.ensures.counts word, c.judge_drive.ensures.counts word))
     (record {
       bytes = bytes-then g.B.Board c.args.board.now c.open_terms.new.board c.print_text.new.board (bytes-read g.B.Board c.args.board.now c.open_terms.new.board c.open_terms.ensures.opens.reads)

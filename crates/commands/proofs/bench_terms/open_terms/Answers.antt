@@ -52,3 +52,27 @@ returns-clause-found g c = λ tells told.
 pub returns-clause-opens : goal.returns-clause-opens
 returns-clause-opens g c =
     opens-behind g.B.Board c.open_sealed.result _ _ c.args.board.now c.open_sealed.new.board c.in_ok-seal.was (λ e. absurd cc) c.open_sealed.ensures.opens
+
+-- ---- what is left unread
+
+pub returns-in_err-checked-clause-unread : goal.returns-in_err-checked-clause-unread
+returns-in_err-checked-clause-unread g c = λ told other never.
+    c.read_sealed.ensures.others other (λ e. never (
+      e,
+      record {
+        store = _;
+        is = as_found c.open_sealed.result _ _
+            ended.BoardFault c.in_ok-seal.was (c.open_sealed.ensures.exact told);
+      },
+    ))
+
+pub returns-clause-unread : goal.returns-clause-unread
+returns-clause-unread g c = λ told other never.
+    c.read_sealed.ensures.others other (λ e. never (
+      e,
+      record {
+        store = _;
+        is = as_found c.open_sealed.result _ _
+            ended.BoardFault c.in_ok-seal.was (c.open_sealed.ensures.exact told);
+      },
+    ))

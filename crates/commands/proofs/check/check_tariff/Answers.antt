@@ -1,4 +1,4 @@
-use Rattle.std.proofs.Common.{◌∙◌, Err, refl, ap, arith, rules}
+use Rattle.std.proofs.Common.{◌∙◌, [], Err, refl, ap, arith, rules}
 use Rattle.commands.specs.Check.{check_command}
 use Rattle.commands.specs.Tariffs.{tariff_in}
 use Rattle.commands.proofs.Carrying.{carries-said}
@@ -9,7 +9,9 @@ use Rattle.commands.proofs.check.check_tariff.Goals as goal
 pub returns-in-Ok : goal.returns-in-Ok
 returns-in-Ok g c = λ image.
     carries-said g.F.Files image check_command c.args.files.now c.read_tariff.new.files _ (λ none. none) (λ status w. w)
-    (λ tells. search rules) (λ later le. omega (arith, le)) (λ e. absurd cc) (λ e. absurd cc) c.read_tariff.ensures.others c.read_tariff.ensures.counts
+    (λ tells. search rules) (λ later le. omega (arith, le)) (λ e. absurd cc) (λ e. absurd cc)
+    c.read_tariff.ensures.others (λ tells word never. c.read_tariff.ensures.others word (never []))
+    c.read_tariff.ensures.counts
 
 pub returns-in-Err : goal.returns-in-Err
 returns-in-Err g c = λ image.
@@ -19,4 +21,5 @@ returns-in-Err g c = λ image.
     (comes-refused check_command (rest c.args.files.now) (rest c.read_tariff.new.files) image _ refl tt (λ e. absurd cc) c.in-Err.fault refl refl refl
     (λ e. c.read_tariff.ensures.read_fault (c.in-Err.is ∙ ap Err e))
     (λ why e. refused-check (tariff_in (rest c.args.files.now 1)) why (c.read_tariff.ensures.refused why tells (c.in-Err.is ∙ ap Err e)))))
-    (λ later le. omega (arith, le)) (search rules) (search rules) c.read_tariff.ensures.others c.read_tariff.ensures.counts
+    (λ later le. omega (arith, le)) (search rules) (search rules) c.read_tariff.ensures.others
+    (λ tells word never. c.read_tariff.ensures.others word (never [])) c.read_tariff.ensures.counts

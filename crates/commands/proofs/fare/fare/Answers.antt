@@ -7,7 +7,8 @@ use Rattle.commands.specs.Fare.{fare_command, setting_of}
 use Rattle.commands.specs.Tariffs.{tariff_in}
 use Rattle.commands.proofs.Carrying.{carries-kept}
 use Rattle.commands.proofs.Endings.{comes-unprinted}
-use Rattle.commands.proofs.Faring.{comes-ran, shows_nothing, board_fault-ran, refused-fare, read_fault-ran}
+use Rattle.commands.proofs.Faring.{begins_going, comes-ran, shows_nothing, board_fault-ran, refused-fare}
+use Rattle.commands.proofs.Faring.{read_fault-ran}
 use Rattle.commands.proofs.Refusals.{comes-refused}
 use Rattle.commands.proofs.fare.fare.Goals as goal
 
@@ -45,7 +46,9 @@ returns-in-Err g c =
     })
     (search rules)
     (search rules)
-    (λ word not. c.tables_of_word.ensures.others word (λ e. not (inl e))) c.tables_of_word.ensures.counts (keeps_none g.B.Board c.args.board.now)
+    (λ word not. c.tables_of_word.ensures.others word (λ e. not (inl e)))
+    (λ tells word never. c.tables_of_word.ensures.others word (λ e. never [] (inl (e, refl))))
+    c.tables_of_word.ensures.counts (keeps_none g.B.Board c.args.board.now)
 
 pub returns : goal.returns
 returns g c =
@@ -84,4 +87,14 @@ returns g c =
       count = c.dry_run-ran.ensures.count;
       failed = λ e. c.dry_run-ran.ensures.board_fault (board_fault-ran c.dry_run-ran.result (sym c.ended_of.ensures ∙ e));
     })
-    (λ word not. c.dry_run-ran.ensures.others word (λ e. not (inr e)) ∙ c.tables_of_word.ensures.others word (λ e. not (inl e))) (λ word. omega (arith, c.tables_of_word.ensures.counts word, c.dry_run-ran.ensures.counts word)) (c.dry_run-ran.ensures.store)
+    (λ word not. c.dry_run-ran.ensures.others word (λ e. not (inr e)) ∙ c.tables_of_word.ensures.others word
+    (λ e. not (inl e)))
+    (λ tells word never.
+    let made = c.in-Ok.ensures.found tells in
+    c.dry_run-ran.ensures.others word (λ e. never [] (inr (
+      e,
+      record { tree = made.tree; sound = made.sound; going = begins_going },
+    )))
+    ∙ c.tables_of_word.ensures.others word (λ e. never [] (inl (e, refl))))
+    (λ word. omega (arith, c.tables_of_word.ensures.counts word, c.dry_run-ran.ensures.counts word))
+    (c.dry_run-ran.ensures.store)

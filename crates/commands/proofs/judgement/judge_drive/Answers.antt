@@ -71,3 +71,20 @@ returns-clause-refused g c = λ why tells e.
     subst (λ (x : List ℕ). IsWholeDrive (rest files 2) x c.in-Ok.runs.items) (sym (c.readings_of_word.ensures.others 2 (two-three 2 refl))) (c.in-Ok.ensures.whole tells) in
     subst (λ (w : Ended). IsNotJudged terms (rest files 2) (rest new 2) (rest files 3) failed text_failed w) (same_fault _ _ _ refl e)
     (not_judged-memory terms (rest files 2) (rest new 2) (rest files 3) failed text_failed c.in-Ok.runs.items whole)
+
+-- ---- what is left unread
+
+pub returns-in_err-readings-clause-unread : goal.returns-in_err-readings-clause-unread
+returns-in_err-readings-clause-unread g c = λ tells other not_2 never.
+    c.readings_of_word.ensures.others other (λ e. never (e, (c.in-Ok.ensures.whole tells).end_is)) ∙
+    c.read_drive.ensures.others other not_2
+
+pub returns-in-Ok-judge_readings-clause-unread : goal.returns-in-Ok-judge_readings-clause-unread
+returns-in-Ok-judge_readings-clause-unread g c = λ tells other not_2 never.
+    c.readings_of_word.ensures.others other (λ e. never (e, (c.in-Ok.ensures.whole tells).end_is)) ∙
+    c.read_drive.ensures.others other not_2
+
+pub returns-clause-unread : goal.returns-clause-unread
+returns-clause-unread g c = λ tells other not_2 never.
+    c.readings_of_word.ensures.others other (λ e. never (e, (c.in-Ok.ensures.whole tells).end_is)) ∙
+    c.read_drive.ensures.others other not_2

@@ -1,4 +1,4 @@
-use Rattle.std.proofs.Common.{◌∙◌, ℕ, Err, refl, ap, arith, rules}
+use Rattle.std.proofs.Common.{◌∙◌, ℕ, [], Err, refl, ap, arith, rules}
 use Rattle.std.specs.Prelude.{is_err}
 use Rattle.outside.proofs.Laws.{keeps_none}
 use Rattle.offset_rules.specs.Pairs.{pairs_of}
@@ -17,7 +17,9 @@ returns-in-Err g c =
     (comes-refused c.args.years (rest c.args.files.now) (rest c.rules_of_word.new.files) (g.B.Board.image c.args.board.now) _ _ _ printed printed c.in-Err.fault refl
     (λ e. c.rules_of_word.ensures.read_fault (c.in-Err.is ∙ ap Err e))
     (λ why e. c.rules_of_word.ensures.refused why tells (c.in-Err.is ∙ ap Err e))))
-    (λ later le. omega (arith, le)) (search rules) (search rules) c.rules_of_word.ensures.others c.rules_of_word.ensures.counts (search (rules, keeps_none))
+    (λ later le. omega (arith, le)) (search rules) (search rules) c.rules_of_word.ensures.others
+    (λ tells word never. c.rules_of_word.ensures.others word (never [])) c.rules_of_word.ensures.counts
+    (search (rules, keeps_none))
 
 pub returns-in-Ok-print_pairs : goal.returns-in-Ok-print_pairs
 returns-in-Ok-print_pairs g c =
@@ -29,7 +31,12 @@ returns-in-Ok-print_pairs g c =
     rule c.as_slice.result.now (c.in-Ok.ensures.found tells)
     (c.as_slice.ensures.value ∙ c.pairs-pairs.ensures.value ∙ ap (λ (years : ℕ × ℕ). pairs_of rule years.0 years.1) c.bounds-first.ensures.value)
     (c.in-Ok.ensures.ended tells) c.in-Ok-print_pairs.ensures.whole)
-    (λ later le. search (rules, le)) (λ e. absurd cc) (record { count = c.print_pairs.ensures.cause.later; failed = λ e. absurd cc }) c.rules_of_word.ensures.others c.rules_of_word.ensures.counts c.print_pairs.ensures.store
+    (λ later le. search (rules, le)) (λ e. absurd cc) (record {
+      count = c.print_pairs.ensures.cause.later;
+      failed = λ e.
+          absurd cc;
+    }) c.rules_of_word.ensures.others (λ tells word never. c.rules_of_word.ensures.others word (never []))
+    c.rules_of_word.ensures.counts c.print_pairs.ensures.store
 
 pub returns-in-Err-print_pairs : goal.returns-in-Err-print_pairs
 returns-in-Err-print_pairs g c =
@@ -41,4 +48,10 @@ returns-in-Err-print_pairs g c =
     rule c.as_slice.result.now (c.in-Ok.ensures.found tells)
     (c.as_slice.ensures.value ∙ c.pairs-pairs.ensures.value ∙ ap (λ (years : ℕ × ℕ). pairs_of rule years.0 years.1) c.bounds-first.ensures.value)
     (c.in-Ok.ensures.ended tells) c.print_pairs.ensures.begun (c.print_pairs.ensures.cause.failed (ap is_err c.in-Err-print_pairs.is)))
-    (λ later le. search (rules, le)) (λ e. absurd cc) (record { count = c.print_pairs.ensures.cause.later; failed = λ e. c.print_pairs.ensures.cause.failed (ap is_err c.in-Err-print_pairs.is) }) c.rules_of_word.ensures.others c.rules_of_word.ensures.counts c.print_pairs.ensures.store
+    (λ later le. search (rules, le)) (λ e. absurd cc) (record {
+      count = c.print_pairs.ensures.cause.later;
+      failed = λ e.
+          c.print_pairs.ensures.cause.failed (ap is_err c.in-Err-print_pairs.is);
+    }) c.rules_of_word.ensures.others
+    (λ tells word never. c.rules_of_word.ensures.others word (never [])) c.rules_of_word.ensures.counts
+    c.print_pairs.ensures.store

@@ -9,7 +9,7 @@ use Rattle.commands.specs.Port.{port_answer, port_command}
 use Rattle.commands.proofs.Carrying.{carries-looked}
 use Rattle.commands.proofs.Looking.{looks-behind}
 use Rattle.commands.proofs.Openings.{as_found, no_fault}
-use Rattle.commands.proofs.Porting.{board_fault-served, comes-served, not_refused, read_fault-served}
+use Rattle.commands.proofs.Porting.{board_fault-served, comes-served, read_fault-served}
 use Rattle.commands.proofs.StoreTexts.{ends-barred}
 use Rattle.commands.proofs.port.serve_requests.Goals as goal
 
@@ -22,10 +22,13 @@ returns-in-Err g c =
     ends-barred g.B.Board port_command rest rest _ c.args.board.now c.open_sealed.new.board (λ (r : Result (Durable × Seal) Ended). port_answer r (rest 1)) refl (record { bytes = refl })
     c.open_sealed.result (c.open_sealed.ensures.exact known.1) c.open_sealed.ensures.opens (λ e. absurd cc) (λ e. absurd cc) c.in-Err.why c.in-Err.is c.in-Err.ensures.barred refl)
     (λ later le tells. record {
-      steps = record { taken = []; split = record { bytes = refl }; bound = omega (arith, le, c.open_sealed.ensures.steps) };
-      unread = λ told why refused. refl;
+      taken = [];
+      split = record { bytes = refl };
+      bound = omega
+          (arith, le, c.open_sealed.ensures.steps);
     })
-    (λ e. absurd (c.in-Err.ensures.not_read e)) (search rules) (λ word not. refl) (λ word. omega arith) (search rules)
+    (λ e. absurd (c.in-Err.ensures.not_read e)) (search rules) (λ word not. refl) (λ known word never. refl)
+    (λ word. omega arith) (search rules)
 
 -- the requests are served
 pub returns : goal.returns
@@ -47,11 +50,7 @@ returns g c =
     (λ e. omega (arith, served.ensures.board_fault e, opened.opens.count))))
     (λ later le tells.
     let h = c.serve-served.ensures.steps tells in
-    record {
-      steps = record { taken = h.taken; split = h.split; bound = omega (arith, le, h.bound, c.open_sealed.ensures.steps) };
-      unread = λ told why refused.
-          absurd (not_refused _ c.in-Ok.store why (as_found c.open_sealed.result _ c.in-Ok.store ended.BoardFault c.in-Ok.is (c.open_sealed.ensures.exact told)) refused);
-    })
+    record { taken = h.taken; split = h.split; bound = omega (arith, le, h.bound, c.open_sealed.ensures.steps) })
     (λ e. record {
       word = 1;
       reads = refl;
@@ -61,7 +60,19 @@ returns g c =
       count = omega (arith, c.serve-served.ensures.count, c.open_sealed.ensures.opens.count);
       failed = λ e. omega (arith, c.serve-served.ensures.board_fault (board_fault-served c.serve-served.result (sym c.ended_of_serving.ensures ∙ e)), c.open_sealed.ensures.opens.count);
     })
-    c.serve-served.ensures.others c.serve-served.ensures.counts
+    c.serve-served.ensures.others
+    (λ known word never. c.serve-served.ensures.others word (λ e. never [] (
+      e,
+      record {
+        sealed = record {
+          store = c.in-Ok.store;
+          is = as_found c.open_sealed.result _ c.in-Ok.store ended.BoardFault
+              c.in-Ok.is (c.open_sealed.ensures.exact known.1);
+        };
+        going = record { good = refl; few = omega arith };
+      },
+    )))
+    c.serve-served.ensures.counts
     (looks-behind g.B.Board _ c.ended_of_serving.result c.args.board.now c.open_sealed.new.board c.serve-served.new.board
     (no_fault c.open_sealed.result c.in-Ok.store ended.BoardFault c.in-Ok.is) c.open_sealed.ensures.opens
     (g.met.B.Board.only_now c.open_sealed.new.board) c.serve-served.ensures.store)

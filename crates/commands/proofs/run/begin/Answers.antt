@@ -87,3 +87,44 @@ returns-clause-begun g c = λ tells told.
 pub returns-clause-opens : goal.returns-clause-opens
 returns-clause-opens g c =
     opens-behind g.B.Board c.open_sealed.result (c.in_ok-durable.durable, c.in_ok-durable.seal) _ c.args.board.now c.open_sealed.new.board c.in_ok-durable.was (λ e. absurd cc) c.open_sealed.ensures.opens
+
+-- ---- what is left unread
+
+pub returns-in_err-tables-clause-unread : goal.returns-in_err-tables-clause-unread
+returns-in_err-tables-clause-unread g c = λ told other never.
+    let store : Durable × Seal = (c.in_ok-durable.durable, c.in_ok-durable.seal) in
+    c.read_tables.ensures.others other
+    (λ e. never (
+      e,
+      record {
+        store = store;
+        is = as_found c.open_sealed.result _ store ended.BoardFault
+            c.in_ok-durable.was (c.open_sealed.ensures.exact told);
+      },
+    ))
+
+pub returns-then-not-hold_fits-clause-unread : goal.returns-then-not-hold_fits-clause-unread
+returns-then-not-hold_fits-clause-unread g c = λ told other never.
+    let store : Durable × Seal = (c.in_ok-durable.durable, c.in_ok-durable.seal) in
+    c.read_tables.ensures.others other
+    (λ e. never (
+      e,
+      record {
+        store = store;
+        is = as_found c.open_sealed.result _ store ended.BoardFault
+            c.in_ok-durable.was (c.open_sealed.ensures.exact told);
+      },
+    ))
+
+pub returns-clause-unread : goal.returns-clause-unread
+returns-clause-unread g c = λ told other never.
+    let store : Durable × Seal = (c.in_ok-durable.durable, c.in_ok-durable.seal) in
+    c.read_tables.ensures.others other
+    (λ e. never (
+      e,
+      record {
+        store = store;
+        is = as_found c.open_sealed.result _ store ended.BoardFault
+            c.in_ok-durable.was (c.open_sealed.ensures.exact told);
+      },
+    ))

@@ -9,7 +9,7 @@ use Rattle.commands.specs.declared.ending.Ended.TheVariants as ended
 use Rattle.commands.specs.LastLine.{status_of}
 use Rattle.commands.specs.Run.{run_command, setting_in, tables_in}
 use Rattle.commands.specs.RunSteps.{RunComes}
-use Rattle.commands.proofs.Faring.{read_fault-ran}
+use Rattle.commands.proofs.Faring.{begins_going, read_fault-ran}
 use Rattle.commands.proofs.Openings.{no_fault, same_fault}
 use Rattle.commands.proofs.RunEnds.{ran-comes, ran-writes}
 use Rattle.commands.proofs.Running.{comes-not_begun}
@@ -46,6 +46,7 @@ returns-in-Err-clause-carries g c =
       read_fault = search rules;
       board_fault = λ e. before.opens.cause (c.in-Err.is ∙ ap Err e);
       others = λ word not. before.others word (λ e. not (inl e));
+      unread = λ known word never. before.unread known.1 word (λ h. never [] (inl (h.0, (refl, h.1))));
       count = before.opens.count;
       counts = before.counts;
       kept = λ shut. absurd (shut tt);
@@ -105,6 +106,15 @@ returns-clause-carries g c =
           record { word = 2; reads = inr refl; rose = omega (arith, failed, before.counts 2) };
       board_fault = search rules;
       others = λ word not. ran.others word (λ e. not (inr e)) ∙ before.others word (λ e. not (inl e));
+      unread = λ known word never. let begun = c.in-Ok.ensures.begun known.0 known.1 in
+          ran.others word (λ e. never [] (inr (
+            e,
+            record {
+              start = begun.start;
+              begins = begun.is;
+              going = begins_going;
+            },
+          ))) ∙ before.unread known.1 word (λ h. never [] (inl (h.0, (refl, h.1))));
       count = search rules;
       counts = λ word. omega (arith, before.counts word, ran.counts word);
       kept = λ shut. absurd (shut tt);

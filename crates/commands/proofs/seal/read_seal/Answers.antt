@@ -1,6 +1,7 @@
 use Rattle.std.proofs.Common.{◌∙◌, ℕ, List, Err, refl, ap, subst}
 use Rattle.std.proofs.lemmas.Result.{err_from_is_err_and}
 use Rattle.outside.specs.Faults.{Rose}
+use Rattle.commands.specs.Seal.{HasDecimals}
 use Rattle.commands.specs.SealSteps.{IsNoSeal}
 use Rattle.commands.proofs.Openings.{same_fault}
 use Rattle.commands.proofs.Sealings.{no_seal-tariff, no_tariff-fault}
@@ -32,3 +33,17 @@ returns-in_err-decimals-clause-not_board g c =
     rw (p.1, p.2) (λ e.
     let end = c.in_err-decimals.field-0.0 in
     (no_tariff-fault c.args.found c.as_slice.result.now end (c.decimals_of.ensures.refused end c.in_err-decimals.was)).1 (same_fault _ _ _ refl e))
+
+-- ---- what is left unread
+
+pub returns-in-Err-read_parameters-clause-unread : goal.returns-in-Err-read_parameters-clause-unread
+returns-in-Err-read_parameters-clause-unread g c = λ read other not_1 never.
+    let has = subst (λ (x : List ℕ). HasDecimals c.args.found x) (c.as_slice.ensures.value ∙ c.in-Ok.ensures.text read)
+    c.in_ok-decimals.ensures.sound.has in
+    c.read_parameters.ensures.others other (λ e. never (e, has)) ∙ c.text_of_word.ensures.others other not_1
+
+pub returns-clause-unread : goal.returns-clause-unread
+returns-clause-unread g c = λ read other not_1 never.
+    let has = subst (λ (x : List ℕ). HasDecimals c.args.found x) (c.as_slice.ensures.value ∙ c.in-Ok.ensures.text read)
+    c.in_ok-decimals.ensures.sound.has in
+    c.read_parameters.ensures.others other (λ e. never (e, has)) ∙ c.text_of_word.ensures.others other not_1

@@ -17,7 +17,8 @@ use Rattle.commands.proofs.Amid.{seals-read, settled-sealed}
 use Rattle.commands.proofs.Answering.{comes-barred as comes-barred_by_store, comes-board}
 use Rattle.commands.proofs.Barring.{board_fault-store, not_read-store}
 use Rattle.commands.proofs.Openings.{as_found, as_refused, no_fault, same_fault}
-use Rattle.commands.proofs.Sealings.{barred-fault, comes-barred, comes-no_seal, comes-sealed, not_0-barred, not_0-no_seal, not_0-store, sealing-barred, sealing-made}
+use Rattle.commands.proofs.Sealings.{barred-fault, comes-barred, comes-no_seal, comes-sealed, not_0-barred}
+use Rattle.commands.proofs.Sealings.{not_0-no_seal, not_0-store, sealing-barred, sealing-made, unread-sealing}
 use Rattle.commands.proofs.Unwritten.{bytes-read}
 use Rattle.commands.proofs.seal.seal_store.Goals as goal
 
@@ -40,6 +41,7 @@ returns-in-Err-clause-carries g c = record {
   read_fault = λ e. absurd (not_read-store c.in-Err.fault (sym c.refused_store.ensures ∙ e));
   board_fault = λ e. c.open_store.ensures.cause (c.in-Err.is ∙ ap Err (board_fault-store c.in-Err.fault (sym c.refused_store.ensures ∙ e)));
   others = λ word not. refl;
+  unread = λ known word never. refl;
   count = c.open_store.ensures.count;
   counts = λ word. omega arith;
   kept = λ shut. absurd (shut tt);
@@ -87,6 +89,7 @@ returns-in-Err-base_of-clause-carries g c = record {
   board_fault = λ e.
       absurd ((barred-fault c.in-Err-base_of.ended (c.base_of.ensures.refused c.in-Err-base_of.ended c.in-Err-base_of.is)).1 e);
   others = λ word not. refl;
+  unread = λ known word never. refl;
   count = c.open_store.ensures.count;
   counts = λ word. omega arith;
   kept = λ shut. absurd (shut tt);
@@ -137,6 +140,12 @@ returns-in-Err-read_seal-clause-carries g c = record {
       (c.read_seal.ensures.read_fault (c.in-Err-read_seal.is ∙ ap Err e));
   board_fault = λ e. absurd (c.read_seal.ensures.not_board (c.in-Err-read_seal.is ∙ ap Err e));
   others = λ word not. c.read_seal.ensures.others word (λ e. not (inl e)) (λ e. not (inr e));
+  unread =
+      λ known. unread-sealing (g.F.Files.rest c.args.files.now) (g.F.Files.rest c.read_seal.new.files)
+      (g.B.Board.image c.args.board.now) c.in-Ok.opening c.in-Ok-base_of.base
+      (as_found c.open_store.result (opening_of (g.B.Board.image c.args.board.now)) c.in-Ok.opening stores.BoardFault
+      c.in-Ok.is (c.open_store.ensures.exact known.1))
+      (sym c.base_of.ensures.answer ∙ c.in-Ok-base_of.is) (c.read_seal.ensures.unread known.0);
   count = c.open_store.ensures.count;
   counts = c.read_seal.ensures.counts;
   kept = λ shut. absurd (shut tt);
@@ -198,6 +207,12 @@ returns-in-Ok-place_seal-clause-carries g c = record {
   read_fault = λ e. absurd cc;
   board_fault = λ e. absurd cc;
   others = λ word not. c.read_seal.ensures.others word (λ e. not (inl e)) (λ e. not (inr e));
+  unread =
+      λ known. unread-sealing (g.F.Files.rest c.args.files.now) (g.F.Files.rest c.read_seal.new.files)
+      (g.B.Board.image c.args.board.now) c.in-Ok.opening c.in-Ok-base_of.base
+      (as_found c.open_store.result (opening_of (g.B.Board.image c.args.board.now)) c.in-Ok.opening stores.BoardFault
+      c.in-Ok.is (c.open_store.ensures.exact known.1))
+      (sym c.base_of.ensures.answer ∙ c.in-Ok-base_of.is) (c.read_seal.ensures.unread known.0);
   count = omega (arith, c.open_store.ensures.count, c.place_seal.ensures.cause.later);
   counts = c.read_seal.ensures.counts;
   kept = λ shut. absurd (shut tt);
@@ -241,6 +256,12 @@ returns-in-Err-place_seal-clause-carries g c = record {
   read_fault = λ e. absurd cc;
   board_fault = λ e. omega (arith, c.place_seal.ensures.cause.failed (ap is_err c.in-Err-place_seal.is), c.open_store.ensures.count);
   others = λ word not. c.read_seal.ensures.others word (λ e. not (inl e)) (λ e. not (inr e));
+  unread =
+      λ known. unread-sealing (g.F.Files.rest c.args.files.now) (g.F.Files.rest c.read_seal.new.files)
+      (g.B.Board.image c.args.board.now) c.in-Ok.opening c.in-Ok-base_of.base
+      (as_found c.open_store.result (opening_of (g.B.Board.image c.args.board.now)) c.in-Ok.opening stores.BoardFault
+      c.in-Ok.is (c.open_store.ensures.exact known.1))
+      (sym c.base_of.ensures.answer ∙ c.in-Ok-base_of.is) (c.read_seal.ensures.unread known.0);
   count = omega (arith, c.open_store.ensures.count, c.place_seal.ensures.cause.later);
   counts = c.read_seal.ensures.counts;
   kept = λ shut. absurd (shut tt);

@@ -1,4 +1,4 @@
-use Rattle.std.proofs.Common.{◌∙◌, Result, Err, refl, sym, ap, arith, rules, length}
+use Rattle.std.proofs.Common.{◌∙◌, [], Result, Err, refl, sym, ap, arith, rules, length}
 use Rattle.std.specs.Prelude.{is_err}
 use Rattle.totaliser_store.specs.declared.durable.Durable.{Durable}
 use Rattle.seal_store.specs.declared.seal.Seal.{Seal}
@@ -21,7 +21,8 @@ returns-in-Err g c =
     ends-barred g.B.Board shifts_command rest rest _ c.args.board.now c.open_sealed.new.board (λ (o : Result (Durable × Seal) Ended). shifts_answer o (rest 1)) refl refl
     c.open_sealed.result (c.open_sealed.ensures.exact known.1) c.open_sealed.ensures.opens (λ e. absurd cc) (λ e. absurd cc) c.in-Err.why c.in-Err.is c.in-Err.ensures.barred refl)
     (λ later le. record { by_report = λ tells told. omega (arith, le, c.open_sealed.ensures.steps); by_book = λ tells. omega (arith, le, c.open_sealed.ensures.steps) })
-    (λ e. absurd (c.in-Err.ensures.not_read e)) (search rules) (λ word not. refl) (λ word. omega arith)
+    (λ e. absurd (c.in-Err.ensures.not_read e)) (search rules) (λ word not. refl) (λ known word never. refl)
+    (λ word. omega arith)
     (search rules)
 
 -- there is no report
@@ -41,7 +42,16 @@ returns-in-Err-report_of_word g c =
     (search rules) (record {
       count = c.open_sealed.ensures.opens.count;
       failed = λ e. absurd (not_board-report c.in-Err-report_of_word.fault (sym c.refused_report.ensures ∙ e));
-    }) c.report_of_word.ensures.others c.report_of_word.ensures.counts
+    }) c.report_of_word.ensures.others
+    (λ known word never. c.report_of_word.ensures.others word (λ e. never [] (
+      e,
+      record {
+        store = c.in-Ok.store;
+        is = as_found c.open_sealed.result _ c.in-Ok.store ended.BoardFault c.in-Ok.is
+            (c.open_sealed.ensures.exact known.1);
+      },
+    )))
+    c.report_of_word.ensures.counts
     (looks-opened g.B.Board _ c.refused_report.result c.args.board.now c.open_sealed.new.board
     (λ f. absurd (no_fault c.open_sealed.result c.in-Ok.store ended.BoardFault c.in-Ok.is f)) c.open_sealed.ensures.opens)
 
@@ -61,7 +71,23 @@ returns-in-Ok-print_text g c =
           c.as_slice.ensures.value c.open_sealed.ensures.steps c.print_text.ensures.steps in omega (arith, le, bound);
       by_book = λ tells. omega (arith, le, ap length c.as_slice.ensures.value, c.in-Ok-report_of_word.ensures.short tells, c.open_sealed.ensures.steps, c.print_text.ensures.steps);
     })
-    (λ e. absurd cc) (record { count = omega (arith, c.open_sealed.ensures.opens.count, c.print_text.ensures.cause.later); failed = λ e. absurd cc }) c.report_of_word.ensures.others c.report_of_word.ensures.counts
+    (λ e. absurd cc) (record {
+      count = omega (
+        arith,
+        c.open_sealed.ensures.opens.count,
+        c.print_text.ensures.cause.later,
+      );
+      failed = λ e. absurd cc;
+    }) c.report_of_word.ensures.others
+    (λ known word never. c.report_of_word.ensures.others word (λ e. never [] (
+      e,
+      record {
+        store = c.in-Ok.store;
+        is = as_found c.open_sealed.result _ c.in-Ok.store ended.BoardFault c.in-Ok.is
+            (c.open_sealed.ensures.exact known.1);
+      },
+    )))
+    c.report_of_word.ensures.counts
     (looks-behind g.B.Board _ ended.Done c.args.board.now c.open_sealed.new.board c.print_text.new.board
     (no_fault c.open_sealed.result c.in-Ok.store ended.BoardFault c.in-Ok.is) c.open_sealed.ensures.opens
     (g.met.B.Board.only_now c.open_sealed.new.board) c.print_text.ensures.store)
@@ -87,7 +113,16 @@ returns g c =
     record {
       count = omega (arith, failed.later, c.open_sealed.ensures.opens.count);
       failed = λ e. omega (arith, failed.failed (ap is_err c.in-Err-print_text.is), c.open_sealed.ensures.opens.count);
-    }) c.report_of_word.ensures.others c.report_of_word.ensures.counts
+    }) c.report_of_word.ensures.others
+    (λ known word never. c.report_of_word.ensures.others word (λ e. never [] (
+      e,
+      record {
+        store = c.in-Ok.store;
+        is = as_found c.open_sealed.result _ c.in-Ok.store ended.BoardFault c.in-Ok.is
+            (c.open_sealed.ensures.exact known.1);
+      },
+    )))
+    c.report_of_word.ensures.counts
     (looks-behind g.B.Board _ ended.BoardFault c.args.board.now c.open_sealed.new.board c.print_text.new.board
     (no_fault c.open_sealed.result c.in-Ok.store ended.BoardFault c.in-Ok.is) c.open_sealed.ensures.opens
     (g.met.B.Board.only_now c.open_sealed.new.board) c.print_text.ensures.store)

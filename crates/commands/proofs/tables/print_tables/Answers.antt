@@ -1,4 +1,4 @@
-use Rattle.std.proofs.Common.{◌∙◌, Err, refl, ap, arith, rules}
+use Rattle.std.proofs.Common.{◌∙◌, [], Err, refl, ap, arith, rules}
 use Rattle.std.specs.Prelude.{is_err}
 use Rattle.outside.proofs.Laws.{keeps_none}
 use Rattle.commands.specs.declared.ending.Ended.TheVariants as ended
@@ -25,7 +25,8 @@ returns-in-Err g c =
     (λ later le tells. omega (arith, le))
     (search rules)
     (search rules)
-    c.tables_of_word.ensures.others c.tables_of_word.ensures.counts (keeps_none g.B.Board c.args.board.now)
+    c.tables_of_word.ensures.others (λ tells word never. c.tables_of_word.ensures.others word (never []))
+    c.tables_of_word.ensures.counts (keeps_none g.B.Board c.args.board.now)
 
 pub returns-in-Ok-print_rows : goal.returns-in-Ok-print_rows
 returns-in-Ok-print_rows g c =
@@ -40,7 +41,8 @@ returns-in-Ok-print_rows g c =
     rw made.sound (grind (arith, le, made.value, c.print_rows.ensures.steps)))
     (λ e. absurd cc)
     (record { count = c.print_rows.ensures.cause.later; failed = λ e. absurd cc })
-    c.tables_of_word.ensures.others c.tables_of_word.ensures.counts (c.print_rows.ensures.store)
+    c.tables_of_word.ensures.others (λ tells word never. c.tables_of_word.ensures.others word (never []))
+    c.tables_of_word.ensures.counts (c.print_rows.ensures.store)
 
 pub returns : goal.returns
 returns g c =
@@ -56,4 +58,5 @@ returns g c =
     rw made.sound (grind (arith, le, made.value, c.print_rows.ensures.steps)))
     (λ e. absurd cc)
     (record { count = c.print_rows.ensures.cause.later; failed = λ e. c.print_rows.ensures.cause.failed (ap is_err c.in-Err-print_rows.is) })
-    c.tables_of_word.ensures.others c.tables_of_word.ensures.counts (c.print_rows.ensures.store)
+    c.tables_of_word.ensures.others (λ tells word never. c.tables_of_word.ensures.others word (never []))
+    c.tables_of_word.ensures.counts (c.print_rows.ensures.store)

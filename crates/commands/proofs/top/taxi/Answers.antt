@@ -1,4 +1,4 @@
-use Rattle.std.proofs.Common.{◌≡◌, ◌≢◌, ◌∙◌, map, string_bytes, sym, subst, Some}
+use Rattle.std.proofs.Common.{◌≡◌, ◌≢◌, ◌∙◌, map, string_bytes, refl, sym, subst, Some}
 use Rattle.std.specs.Prelude.{Option}
 use Rattle.outside.specs.Runs.{IsSettled, KeepsStore}
 use Rattle.outside.proofs.Laws.{keeps_then}
@@ -7,7 +7,7 @@ use Rattle.outside.specs.declared.files.Files.{Ghosts as FileGhosts}
 use Rattle.commands.specs.declared.ending.Ended.{Ended}
 use Rattle.commands.specs.declared.words.Row.{Row}
 use Rattle.commands.specs.declared.words.Row.TheVariants as rows
-use Rattle.commands.specs.Call.{IsCall}
+use Rattle.commands.specs.Call.{IsCall, LeavesUnread}
 use Rattle.commands.specs.Carried.{ComesAs}
 use Rattle.commands.specs.Command.{OnlyLooks, called, command_of}
 use Rattle.commands.specs.Course.{Answered}
@@ -37,7 +37,8 @@ returns-in-Some-clause-call g c =
     c.in-Some.ensures
     (λ known. call_from g.F.Files g.B.Board c.args.files.now c.carry_out-ended.new.files c.args.board.now c.carry_out-ended.new.board c.finish-in-Some.new.board
     c.carry_out-ended.result c.finish-in-Some.result c.carry_out-ended.ensures.carries.count c.finish-in-Some.ensures.count c.finish-in-Some.ensures.ends
-    (command_of (Some c.in-Some.row)) (c.carry_out-ended.ensures.carries.ends known))
+    (command_of (Some c.in-Some.row)) (c.carry_out-ended.ensures.carries.ends known)
+    (c.carry_out-ended.ensures.carries.unread known))
 
 pub returns-in-None-clause-call : goal.returns-in-None-clause-call
 returns-in-None-clause-call g c =
@@ -46,8 +47,9 @@ returns-in-None-clause-call g c =
     c.in-None.ensures
     (λ known. record {
       course = Answered;
-      may = record { whole = λ e. absurd cc; refused = λ e. absurd cc; bad = λ e. absurd cc };
+      may = record { whole = λ e. absurd cc; bad = λ e. absurd cc };
       ends = c.finish.ensures.ends;
+      unread = λ word never. refl;
     })
 
 pub returns-in-None-clause-complete : goal.returns-in-None-clause-complete
@@ -101,9 +103,15 @@ returns-in-Some-clause-runs g c = λ e read tells.
     let end = c.carry_out-ended.result in
     let status = c.finish-in-Some.result in
     let comes = comes_as g.F.Files g.B.Board c.in-Some.row rows.Run files files' old mid end (is_run c.in-Some.row (c.in-Some.ensures ∙ e)) c.carry_out-ended.ensures.comes read tells in
-    let call = call_from g.F.Files g.B.Board files files' old mid new end status c.carry_out-ended.ensures.carries.count c.finish-in-Some.ensures.count c.finish-in-Some.ensures.ends run_command comes.comes in
+    let unread : LeavesUnread run_command (g.F.Files.rest files) (g.F.Files.rest files') (g.B.Board.image old) =
+    subst (λ (o : Option Row). (command_of o).known g.F.Files.tells g.B.Board.tells_image → LeavesUnread (command_of o)
+    (g.F.Files.rest files) (g.F.Files.rest files') (g.B.Board.image old))
+    (c.in-Some.ensures ∙ e) c.carry_out-ended.ensures.carries.unread (read, tells) in
+    let call = call_from g.F.Files g.B.Board files files' old mid new end status c.carry_out-ended.ensures.carries.count
+    c.finish-in-Some.ensures.count c.finish-in-Some.ensures.ends run_command comes.comes unread in
     run-finished g.F.Files g.B.Board files files' old mid new end status comes c.finish-in-Some.ensures.store c.finish-in-Some.ensures.leaves c.finish-in-Some.ensures.silent
-    call (call_course g.F.Files g.B.Board files files' old mid new end status c.carry_out-ended.ensures.carries.count c.finish-in-Some.ensures.count c.finish-in-Some.ensures.ends run_command comes.comes)
+    call (call_course g.F.Files g.B.Board files files' old mid new end status c.carry_out-ended.ensures.carries.count
+    c.finish-in-Some.ensures.count c.finish-in-Some.ensures.ends run_command comes.comes unread)
     c.finish-in-Some.ensures.ends (λ bytes. bytes-then g.B.Board old mid new bytes (bytes-kept g.B.Board mid new c.finish-in-Some.ensures.store))
 
 pub returns-in-None-clause-runs : goal.returns-in-None-clause-runs
