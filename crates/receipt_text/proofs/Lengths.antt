@@ -50,7 +50,7 @@ stamp_len stamp is =
     let date = date_len stamp.year stamp.month stamp.date (omega (arith, is.year)) (omega (arith, is.date)) (omega (arith, is.date, small)) in
     omega (arith, length-append (date_text stamp.year stamp.month stamp.date) (codes " " ++ time_text stamp.second), date, time_len stamp.second is.second)
 
-day_len : (day : ℤ) → pos 10957 ≤ℤ day → day ≤ℤ pos 84005 → length (day_text day) ≡ 10
+pub day_len : (day : ℤ) → pos 10957 ≤ℤ day → day ≤ℤ pos 84005 → length (day_text day) ≡ 10
 unfolding day_text
 day_len day low high =
     let n = unsigned_abs day in

@@ -47,13 +47,14 @@ pub(crate) fn put_stamp(line: &mut Line, stamp: &Stamp) -> Result<(), LineFull>
     put_time(line, stamp.second)
 }
 
-/// Appends the date of a day number of the years 2000 to 2199, as YYYY-MM-DD. `LineFull` where it doesn't fit. The
-/// form is this project's own.
+/// Appends the date of a day number of the years 2000 to 2199, as YYYY-MM-DD, which has 10 bytes. `LineFull` where it
+/// doesn't fit. The form is this project's own.
 #[tactic(auto, unfolding(crate::specs::Receipts::day_text))]
 pub fn put_day(line: &mut Line, day: i32) -> Result<(), LineFull>
     requires { IsDay day }
     ensures variant { IsOk result ↔ (array_vec_len line.old + length (day_text day) ≤ line_size) }
     ensures ok { OnOk result (line.new.items ≡ line.old.items ++ day_text day) }
+    ensures size { length (day_text day) ≡ 10 }
 {
     let date = date_of_day(day as u32);
     put_date(line, date.year, date.month, date.date)
