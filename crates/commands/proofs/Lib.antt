@@ -30,6 +30,10 @@ mod Endings
 mod Faring
 -- the test whether a held trip fits the tables decides it
 mod Fitting
+-- a form is its own form
+mod FormLaws
+-- the printed form of a text's tariff
+mod Forms
 -- the drive of the command `gen`, over a new store
 mod Generating
 -- readings that are judged by a drive, and why nothing is judged
@@ -56,6 +60,10 @@ mod RunEnds
 mod Running
 -- in which texts no byte of the line `SEALED n` stands
 mod SealLines
+-- the text of what a store was sealed with is read as the parameters of its seal
+mod SealedLaws
+-- the text of what a store was sealed with, part by part
+mod SealedTexts
 -- what the command `seal` answers
 mod Sealings
 -- the report of a book beside a sealed store

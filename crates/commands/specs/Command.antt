@@ -5,6 +5,7 @@ use Rattle.commands.specs.Bench.{bench_command}
 use Rattle.commands.specs.Check.{check_command}
 use Rattle.commands.specs.Course.{Command, LooksOnly}
 use Rattle.commands.specs.Fare.{fare_command}
+use Rattle.commands.specs.Form.{form_command}
 use Rattle.commands.specs.Generate.{gen_command}
 use Rattle.commands.specs.Mark.{mark_command}
 use Rattle.commands.specs.NoCommand.{no_command}
@@ -12,13 +13,14 @@ use Rattle.commands.specs.Offsets.{offsets_command}
 use Rattle.commands.specs.Port.{port_command}
 use Rattle.commands.specs.Run.{run_command}
 use Rattle.commands.specs.Seal.{seal_command}
+use Rattle.commands.specs.Sealed.{sealed_command}
 use Rattle.commands.specs.Shifts.{shifts_command}
 use Rattle.commands.specs.Tables.{tables_command}
 use Rattle.commands.specs.Totals.{totals_command}
 use Rattle.commands.specs.Words.{row_of}
 use Rattle.commands.specs.declared.words.Row.{Row}
 use Rattle.commands.specs.declared.words.Row.TheVariants.{Check, Tables, Fare, Totals, Seal, Run, Bench, Gen}
-use Rattle.commands.specs.declared.words.Row.TheVariants.{Port, Offsets, Mark, Shifts}
+use Rattle.commands.specs.declared.words.Row.TheVariants.{Port, Offsets, Mark, Shifts, Sealed, Form}
 
 -- each row of words is a command, and words that are no row are refused
 abbrev pub command_of : Option Row → Command
@@ -35,19 +37,22 @@ command_of (Some Port) = port_command
 command_of (Some (Offsets years)) = offsets_command years
 command_of (Some (Mark driver)) = mark_command driver
 command_of (Some Shifts) = shifts_command
+command_of (Some Sealed) = sealed_command
+command_of (Some Form) = form_command
 
--- words only look at the store where their command opens the store and writes nothing; these commands are the five of
--- `IsLook`, as the law five_commands_only_look says
+-- words only look at the store where their command opens the store and writes nothing; these commands are the six of
+-- `IsLook`, as the law six_commands_only_look says
 abbrev pub OnlyLooks : Option Row → Type 0
 OnlyLooks row = LooksOnly (command_of row)
 
--- a row is a look at the store where it is one of `totals`, `bench`, `port`, `mark` and `shifts`
+-- a row is a look at the store where it is one of `totals`, `bench`, `port`, `mark`, `shifts` and `sealed`
 abbrev pub IsLook : Option Row → Type 0
 IsLook (Some Totals) = Unit {0}
 IsLook (Some Bench) = Unit {0}
 IsLook (Some Port) = Unit {0}
 IsLook (Some (Mark driver)) = Unit {0}
 IsLook (Some Shifts) = Unit {0}
+IsLook (Some Sealed) = Unit {0}
 IsLook row = ⊥
 
 -- words call the command of the row that they are

@@ -12,12 +12,14 @@ pub mod Years
 pub mod NumberLine
 pub mod Opening
 pub mod Pieces
+pub mod SealedText
 pub mod Tariffs
 pub mod TotalsText
 -- Rules: the commands. The headline is `IsRun` in Run
 pub mod Bench
 pub mod Check
 pub mod Fare
+pub mod Form
 pub mod Generate
 pub mod Mark
 pub mod NoCommand
@@ -25,6 +27,7 @@ pub mod Offsets
 pub mod Port
 pub mod Run
 pub mod Seal
+pub mod Sealed
 pub mod Shifts
 pub mod Tables
 pub mod Totals
@@ -36,6 +39,7 @@ pub mod BenchSteps
 pub mod Carried
 pub mod ChainSteps
 pub mod Ending
+pub mod FormSteps
 pub mod Opened
 pub mod RunSteps
 pub mod SealSteps

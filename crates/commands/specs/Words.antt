@@ -9,7 +9,7 @@ use Rattle.shift_book.specs.Reading.{driver_of}
 use Rattle.commands.specs.Years.{years_of}
 use Rattle.commands.specs.declared.words.Row.{Row}
 use Rattle.commands.specs.declared.words.Row.TheVariants.{Check, Tables, Fare, Totals, Seal, Run, Bench, Gen}
-use Rattle.commands.specs.declared.words.Row.TheVariants.{Port, Offsets, Mark, Shifts}
+use Rattle.commands.specs.declared.words.Row.TheVariants.{Port, Offsets, Mark, Shifts, Sealed, Form}
 
 -- a word is a constant where a number was read of it with nothing left, of at most 6 digits and from 500 to 200,000
 abbrev pub constant_in : List ℕ → Option (ℕ × List ℕ) → Option ℕ
@@ -56,17 +56,20 @@ signs_on driver = Mark (Some (record { items = driver }))
 abbrev pub is_word : List ℕ → List ℕ → Bool
 is_word word name = pointwise nat_eq word name
 
--- the row of one word is `totals`
+-- the row of one word is `totals` or `sealed`
 abbrev pub one_word : (command : List ℕ) → Option Row
-one_word command = if is_word command (codes "totals") then Some Totals else None
+one_word command =
+    if is_word command (codes "totals") then Some Totals
+    else (if is_word command (codes "sealed") then Some Sealed else None)
 
--- the row of two words is `check TARIFF`, `port REQUESTS`, `mark off` or `shifts BOOK`
+-- the row of two words is `check TARIFF`, `port REQUESTS`, `mark off`, `shifts BOOK` or `form TARIFF`
 abbrev pub two_words : (command last : List ℕ) → Option Row
 two_words command last =
     if is_word command (codes "check") then Some Check
     else (if is_word command (codes "port") then Some Port
     else (if (is_word command (codes "mark") && is_word last (codes "off")) then Some (Mark None)
-    else (if is_word command (codes "shifts") then Some Shifts else None)))
+    else (if is_word command (codes "shifts") then Some Shifts
+    else (if is_word command (codes "form") then Some Form else None))))
 
 -- the row of three words is `tables TARIFF CONSTANT`, `seal TARIFF PARAMS`, `run TARIFF DRIVE`, `gen SEED N` or
 -- `mark on DRIVER`; `driver_of` gives a word as a driver where it is 1 to 16 of the characters A to Z, 0 to 9 and -,

@@ -3,8 +3,8 @@ ghost use Rattle.std.specs.Prelude.{◌↔◌, Option};
 ghost use Rattle.commands.specs.Command.{IsLook, OnlyLooks};
 ghost use Rattle.commands.specs.declared.words.Row as rows;
 
-/// The commands that open the store and write nothing, at whatever status, are `totals`, `bench`, `port`, `mark` and
-/// `shifts`, and no others.
-pub fn five_commands_only_look()
+/// The commands that open the store and write nothing, at whatever status, are `totals`, `bench`, `port`, `mark`,
+/// `shifts` and `sealed`, and no others.
+pub fn six_commands_only_look()
     ensures { (row : Option rows.Row) → OnlyLooks row ↔ IsLook row }
 {}

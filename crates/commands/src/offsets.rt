@@ -86,7 +86,7 @@ fn rules_of_word<F: Files>(files: &mut F, word: usize) -> Result<Rules, RulesFau
 }
 
 /// Prints the lines of a list of offsets, one after the other.
-fn print_pairs<B: Board<L>, L: Ledger>(
+pub fn print_pairs<B: Board<L>, L: Ledger>(
     pairs: &[(u64, i32)],
     board: &mut B,
     steps: &mut Steps<L>,

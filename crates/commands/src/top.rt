@@ -17,12 +17,14 @@ use crate::bench::bench;
 use crate::check::check_tariff;
 use crate::ending::{Ended, finish};
 use crate::fare::fare;
+use crate::form::print_form;
 use crate::generate::generate;
 use crate::mark::print_mark;
 use crate::offsets::print_offsets;
 use crate::port::serve_requests;
 use crate::run::run;
 use crate::seal::seal_store;
+use crate::sealed_params::print_sealed;
 use crate::shifts::print_shifts;
 use crate::tables::print_tables;
 use crate::totals::print_store;
@@ -55,6 +57,8 @@ fn carry_out<F: Files, B: Board<L>, L: Ledger>(
         Row::Offsets(years) => print_offsets(years, files, board, steps),
         Row::Mark(driver) => print_mark(driver, board, steps),
         Row::Shifts => print_shifts(alloc, files, board, steps),
+        Row::Sealed => print_sealed(board, steps),
+        Row::Form => print_form(alloc, files, board, steps),
     }
 }
 
@@ -79,6 +83,8 @@ fn carry_out<F: Files, B: Board<L>, L: Ledger>(
 ///   signs off
 /// - `shifts BOOK`: what the totals grew by in the shifts of a book of marks, for each driver, and while nobody
 ///   was on
+/// - `sealed`: what the store was sealed with, as a text of parameters
+/// - `form TARIFF`: the printed form of the tariff, sound or not
 ///
 /// The statuses, their last lines, and when they come. A command looks at its words, at the store and at its
 /// files in the order of docs/FORMATS.md, and answers the first thing that is wrong: so 'exactly where' is said
@@ -88,12 +94,12 @@ fn carry_out<F: Files, B: Board<L>, L: Ledger>(
 ///   passes
 /// - 1, `BAD WORDS`: exactly where the words are no command
 /// - 2, `BAD TARIFF` with `TooLong`, `Syntax n` or the fault: exactly where the tariff has more than 65,536
-///   bytes, its line n is the first that is no line of a tariff, or this is its first fault
+///   bytes, its line n is the first that is no line of a tariff, or, but for `form`, this is its first fault
 /// - 3, `BAD DRIVE n` or `BAD DRIVE TOO LONG`, for `fare`, `run` and `bench`: exactly where line n is the first
 ///   that is no line of a drive, or where 2^40 bytes were taken, none of their lines is bad, and the end wasn't
 ///   told
-/// - 4, `NOT SEALED`, for `totals`, `run`, `bench`, `port`, `mark` and `shifts`: exactly where the store's pair of
-///   totals or of seals is blank
+/// - 4, `NOT SEALED`, for `totals`, `run`, `bench`, `port`, `mark`, `shifts` and `sealed`: exactly where the store's
+///   pair of totals or of seals is blank
 /// - 5, `BAD STORE s`, `BAD STORE s t` or `BAD STORE TRIP`, for a command that opens the store: exactly where slot
 ///   s is open and its body isn't read, where slots s and t are open with bodies of one number, or, for `run`, where
 ///   the held trip doesn't fit the tariff
@@ -106,8 +112,8 @@ fn carry_out<F: Files, B: Board<L>, L: Ledger>(
 ///   of readings, or the readings have more than 1,048,576 bytes
 /// - 11, no line: exactly where a row of the report of `bench` doesn't pass; the output is whole, and each file was
 ///   read to its end
-/// - 12, `NO MEMORY`: never for `totals`, `port`, `mark`, `offsets` and refused words; else free, before anything is
-///   printed or written and, but for `bench`, before the first byte of the drive is taken
+/// - 12, `NO MEMORY`: never for `totals`, `port`, `mark`, `offsets`, `sealed` and refused words; else free, before
+///   anything is printed or written and, but for `bench`, before the first byte of the drive is taken
 /// - 13, `TRIP HELD`, for `seal`: exactly where the totals of the store hold a trip
 /// - 14, `SEAL ENDED`, for `seal`: exactly where the found seal has the last number, 10^15
 /// - 15, `OTHER DECIMALS x y`, for `seal`: exactly where the found seal has x decimals, and the tariff y, which is
@@ -152,7 +158,7 @@ pub fn taxi<F: Files, B: Board<L>, L: Ledger>(
 
     // One step for the last line, one for each row of tables, at most 31 for offsets, 64 for an opening of the store,
     // 64 for each event of a drive that is run and for the supply drop at its end, one for each 512 bytes that are
-    // printed of a bench, one for each reply, and two for each byte of a shift book.
+    // printed of a bench or of a form, one for each reply, and two for each byte of a shift book.
     ensures steps { (called (map string_bytes words.now)).steps F.tells B.tells_image
         (F.rest files.old) (F.rest files.new) (B.image board.old) steps.old steps.new }
 

@@ -70,6 +70,10 @@ pub enum Row {
     Mark(Option<ArrayVec<u8, 16>>),
     /// `shifts BOOK`
     Shifts,
+    /// `sealed`
+    Sealed,
+    /// `form TARIFF`
+    Form,
 }
 
 /// The constant that a word is: 1 to 6 digits, 500 to 200,000.
@@ -157,6 +161,8 @@ fn one_word(command: &[u8]) -> Option<Row>
 {
     if is_word(command, b"totals") {
         Some(Row::Totals)
+    } else if is_word(command, b"sealed") {
+        Some(Row::Sealed)
     } else {
         None
     }
@@ -174,6 +180,8 @@ fn two_words(command: &[u8], last: &[u8]) -> Option<Row>
         Some(Row::Mark(None))
     } else if is_word(command, b"shifts") {
         Some(Row::Shifts)
+    } else if is_word(command, b"form") {
+        Some(Row::Form)
     } else {
         None
     }

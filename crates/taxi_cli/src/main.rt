@@ -12,6 +12,8 @@ mod failure_tests;
 #[cfg(test)]
 mod fare_tests;
 #[cfg(test)]
+mod form_tests;
+#[cfg(test)]
 mod generate_tests;
 #[cfg(test)]
 mod growth_tests;
@@ -25,6 +27,8 @@ mod port_tests;
 mod run_tests;
 #[cfg(test)]
 mod seal_tests;
+#[cfg(test)]
+mod sealed_tests;
 #[cfg(test)]
 mod shifts_tests;
 #[cfg(test)]

@@ -84,7 +84,13 @@ const SAME_TOTALS: &[(usize, u8)] = &[
     (1023, 2),
 ];
 
-const BAD_SEAL: &[(usize, u8)] = &[(196, 1), (211, 0x01), (212, 0x7c), (511, 2), (1535, 2)];
+pub(crate) const BAD_SEAL: &[(usize, u8)] = &[
+    (196, 1),
+    (211, 0x01),
+    (212, 0x7c),
+    (511, 2),
+    (1535, 2),
+];
 
 /// An image with other bytes at these places.
 pub(crate) fn with_bytes(image: &[u8; 2048], bytes: &[(usize, u8)]) -> [u8; 2048] {

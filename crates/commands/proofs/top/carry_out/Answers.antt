@@ -3,6 +3,7 @@ use Rattle.commands.specs.Check.{check_command}
 use Rattle.commands.specs.Totals.{totals_command}
 use Rattle.commands.specs.Generate.{gen_command}
 use Rattle.commands.specs.Mark.{mark_command}
+use Rattle.commands.specs.Sealed.{sealed_command}
 use Rattle.commands.proofs.Carrying.{carries-shut, carries-unread}
 use Rattle.commands.proofs.top.carry_out.Goals as goal
 
@@ -31,6 +32,15 @@ returns-in-Mark g c = record {
       (carries-unread g.F.Files g.B.Board (mark_command c.in-Mark.driver) c.args.files.now c.args.board.now c.print_mark.new.board c.args.steps.now c.print_mark.new.steps c.print_mark.result
       (λ told. told) (λ later h. h) (c.print_mark.ensures (g.F.Files.rest c.args.files.now)));
   comes = rw c.in-Mark.is tt;
+}
+
+pub returns-in-Sealed : goal.returns-in-Sealed
+returns-in-Sealed g c = record {
+  carries = rw c.in-Sealed.is
+      (carries-unread g.F.Files g.B.Board sealed_command c.args.files.now c.args.board.now c.print_sealed.new.board
+      c.args.steps.now c.print_sealed.new.steps c.print_sealed.result
+      (λ told. told) (λ later h. h) (c.print_sealed.ensures (g.F.Files.rest c.args.files.now)));
+  comes = rw c.in-Sealed.is tt;
 }
 
 pub returns-in-Gen : goal.returns-in-Gen

@@ -2,7 +2,7 @@ use Rattle.std.proofs.Common.{◌↔◌, Option, Some, inl, inr, refl}
 use Rattle.commands.specs.Command.{IsLook, OnlyLooks}
 use Rattle.commands.specs.declared.words.Row.{Row}
 use Rattle.commands.specs.declared.words.Row.TheVariants as rows
-use Rattle.commands.proofs.command_laws.five_commands_only_look.Goals as goal
+use Rattle.commands.proofs.command_laws.six_commands_only_look.Goals as goal
 
 looks_by_name : (row : Option Row) → OnlyLooks row → IsLook row
 looks_by_name (Some rows.Totals) h = tt
@@ -10,6 +10,7 @@ looks_by_name (Some rows.Bench) h = tt
 looks_by_name (Some rows.Port) h = tt
 looks_by_name (Some (rows.Mark driver)) h = tt
 looks_by_name (Some rows.Shifts) h = tt
+looks_by_name (Some rows.Sealed) h = tt
 looks_by_name (Some rows.Seal) h = h.unwritten 0 (inl refl)
 looks_by_name (Some rows.Run) h = h.unwritten 0 (inl refl)
 looks_by_name row h = absurd h.opens
@@ -20,6 +21,7 @@ looks_by_record (Some rows.Bench) h = record { opens = tt; unwritten = λ status
 looks_by_record (Some rows.Port) h = record { opens = tt; unwritten = λ status w. w }
 looks_by_record (Some (rows.Mark driver)) h = record { opens = tt; unwritten = λ status w. w }
 looks_by_record (Some rows.Shifts) h = record { opens = tt; unwritten = λ status w. w }
+looks_by_record (Some rows.Sealed) h = record { opens = tt; unwritten = λ status w. w }
 looks_by_record row h = absurd h
 
 pub returns : goal.returns

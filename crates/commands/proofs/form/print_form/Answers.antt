@@ -1,0 +1,76 @@
+use Rattle.std.proofs.Common.{◌∙◌, ℕ, List, Err, refl, sym, ap, subst, arith, rules}
+use Rattle.std.specs.Prelude.{is_err}
+use Rattle.outside.proofs.Laws.{keeps_none}
+use Rattle.commands.specs.declared.ending.Ended.TheVariants as ended
+use Rattle.commands.specs.Form.{form_command}
+use Rattle.commands.specs.FormSteps.{IsFormOf}
+use Rattle.commands.proofs.Carrying.{carries-kept}
+use Rattle.commands.proofs.Endings.{comes-unprinted}
+use Rattle.commands.proofs.Forms.{form_in_pieces, form_shown, refused-form}
+use Rattle.commands.proofs.Refusals.{comes-refused}
+use Rattle.commands.proofs.Showing.{comes-begun, comes-shown}
+use Rattle.commands.proofs.form.print_form.Goals as goal
+
+-- the tariff wasn't read
+pub returns-in-Err : goal.returns-in-Err
+returns-in-Err g c =
+    let rest = g.F.Files.rest in
+    let files = c.args.files.now in
+    let files' = c.form_of_word.new.files in
+    let board = c.args.board.now in
+    let steps = c.args.steps.now in
+    carries-kept g.F.Files g.B.Board form_command files files' board board steps steps _ (λ none. none) (λ status w. w)
+    (λ tells. rw c.refused_by.ensures
+    (comes-unprinted form_command (rest files) (rest files') (g.B.Board.image board) _ _ _ (g.B.Board.printed board) _
+    (comes-refused form_command (rest files) (rest files') (g.B.Board.image board) _ refl tt (λ e. absurd cc)
+    c.in-Err.fault refl refl refl (λ e. c.form_of_word.ensures.read_fault (c.in-Err.is ∙ ap Err e))
+    (λ why e. refused-form (rest files 1) why (c.form_of_word.ensures.refused why tells (c.in-Err.is ∙ ap Err e))))))
+    (λ later le tells. omega (arith, le)) (search rules) (search rules)
+    c.form_of_word.ensures.others c.form_of_word.ensures.counts (keeps_none g.B.Board board)
+
+-- the form is printed
+pub returns-in-Ok-print_text : goal.returns-in-Ok-print_text
+returns-in-Ok-print_text g c =
+    let rest = g.F.Files.rest in
+    let printed = g.B.Board.printed in
+    let files = c.args.files.now in
+    let files' = c.form_of_word.new.files in
+    let board = c.args.board.now in
+    let board' = c.print_text.new.board in
+    let form = c.as_slice.result.now in
+    let made : g.F.Files.tells → IsFormOf (rest files 1) form = λ tells.
+    subst (λ (x : List ℕ). IsFormOf (rest files 1) x) (sym c.as_slice.ensures.value)
+    (c.in-Ok.ensures.found tells) in
+    carries-kept g.F.Files g.B.Board form_command files files' board board' c.args.steps.now c.print_text.new.steps
+    ended.Done (λ none. none) (λ status w. w)
+    (λ tells. comes-shown form_command (rest files) (rest files') (g.B.Board.image board) _ _ _ (printed board)
+    (printed board') refl form (form_shown (rest files 1) form (made tells))
+    (λ word reads. ap (rest files') reads ∙ c.in-Ok.ensures.ended tells) c.in-Ok-print_text.ensures.whole)
+    (λ later le tells.
+    omega (arith, le, c.print_text.ensures.steps, form_in_pieces (rest files 1) form (made tells)))
+    (λ e. absurd cc) (record { count = c.print_text.ensures.cause.later; failed = λ e. absurd cc })
+    c.form_of_word.ensures.others c.form_of_word.ensures.counts c.print_text.ensures.store
+
+-- the board fails
+pub returns : goal.returns
+returns g c =
+    let rest = g.F.Files.rest in
+    let printed = g.B.Board.printed in
+    let files = c.args.files.now in
+    let files' = c.form_of_word.new.files in
+    let board = c.args.board.now in
+    let board' = c.print_text.new.board in
+    let form = c.as_slice.result.now in
+    let failed = c.print_text.ensures.cause.failed (ap is_err c.in-Err-print_text.is) in
+    let made : g.F.Files.tells → IsFormOf (rest files 1) form = λ tells.
+    subst (λ (x : List ℕ). IsFormOf (rest files 1) x) (sym c.as_slice.ensures.value)
+    (c.in-Ok.ensures.found tells) in
+    carries-kept g.F.Files g.B.Board form_command files files' board board' c.args.steps.now c.print_text.new.steps
+    ended.BoardFault (λ none. none) (λ status w. w)
+    (λ tells. comes-begun form_command (rest files) (rest files') (g.B.Board.image board) _ _ _ (printed board)
+    (printed board') refl form (form_shown (rest files 1) form (made tells))
+    (λ word reads. ap (rest files') reads ∙ c.in-Ok.ensures.ended tells) c.print_text.ensures.begun failed)
+    (λ later le tells.
+    omega (arith, le, c.print_text.ensures.steps, form_in_pieces (rest files 1) form (made tells)))
+    (λ e. absurd cc) (record { count = c.print_text.ensures.cause.later; failed = λ e. failed })
+    c.form_of_word.ensures.others c.form_of_word.ensures.counts c.print_text.ensures.store

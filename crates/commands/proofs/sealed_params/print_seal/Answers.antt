@@ -1,0 +1,82 @@
+use Rattle.std.proofs.Common.{◌≡◌, ◌∙◌, ◌++◌, ◌∷◌, ℕ, ℤ, List, [], ap, subst, FitsSigned, w32, rules}
+use Rattle.std.proofs.lemmas.Int.{to_z-of_z}
+use Rattle.std.proofs.lemmas.Result.{on_ok_weaker}
+use Rattle.outside.specs.Printing.{Begins}
+use Rattle.offset_rules.specs.Texts.{offset_lines}
+use Rattle.seal_store.specs.PlainText.{ended_text, secured_line}
+use Rattle.commands.specs.SealedText.{sealed_text}
+use Rattle.commands.proofs.SealedTexts.{begun_first, begun_second, begun_third, heading_of, printed_as, printed_whole}
+use Rattle.commands.proofs.SealedTexts.{text_parts}
+use Rattle.commands.proofs.sealed_params.print_seal.Goals as goal
+
+-- ---- the first print
+
+pub returns-in_err-print-clause-begun : goal.returns-in_err-print-clause-begun
+returns-in_err-print-clause-begun g c = λ told.
+    let printed = g.B.Board.printed in
+    let seal = c.args.seal.now in
+    let old = printed c.args.board.now in
+    let new = printed c.print.new.self in
+    begun_first old old old new (heading_of seal) (offset_lines seal.params.offsets)
+    (ended_text (secured_line seal.params.secured ∷ [])) (sealed_text seal) (text_parts seal)
+    (subst (λ (x : List ℕ). Begins old new x) (c.as_slice.ensures.value ∙ c.sealed_heading-heading.ensures.text)
+    (c.print.ensures.begun told))
+
+-- ---- the lines of the offsets
+
+pub returns-in_err-print_pairs-clause-begun : goal.returns-in_err-print_pairs-clause-begun
+returns-in_err-print_pairs-clause-begun g c = λ told.
+    let printed = g.B.Board.printed in
+    let seal = c.args.seal.now in
+    let old = printed c.args.board.now in
+    let mid = printed c.print.new.self in
+    let new = printed c.print_pairs.new.board in
+    begun_second old mid mid new (heading_of seal) (offset_lines seal.params.offsets)
+    (ended_text (secured_line seal.params.secured ∷ [])) (sealed_text seal) (text_parts seal)
+    (printed_as old mid _ (heading_of seal) (c.as_slice.ensures.value ∙ c.sealed_heading-heading.ensures.text)
+    (c.in_ok-print.ensures.whole told))
+    (subst (λ (x : List ℕ). Begins mid new x) (ap offset_lines c.pairs.ensures.value)
+    (c.print_pairs.ensures.begun told))
+
+-- ---- the date of securing
+
+pub returns-clause-begun : goal.returns-clause-begun
+returns-clause-begun g c = λ told.
+    let printed = g.B.Board.printed in
+    let seal = c.args.seal.now in
+    let old = printed c.args.board.now in
+    let mid = printed c.print.new.self in
+    let late = printed c.print_pairs.new.board in
+    let new = printed c.print-2.new.self in
+    let fits : FitsSigned w32 seal.params.secured = search rules in
+    let last_is = c.as_slice-2.ensures.value ∙ c.secured_line-last.ensures.text
+    ∙ ap (λ (day : ℤ). ended_text (secured_line day ∷ [])) (to_z-of_z w32 seal.params.secured fits) in
+    begun_third old mid late new (heading_of seal) (offset_lines seal.params.offsets)
+    (ended_text (secured_line seal.params.secured ∷ [])) (sealed_text seal) (text_parts seal)
+    (printed_as old mid _ (heading_of seal) (c.as_slice.ensures.value ∙ c.sealed_heading-heading.ensures.text)
+    (c.in_ok-print.ensures.whole told))
+    (printed_as mid late _ (offset_lines seal.params.offsets) (ap offset_lines c.pairs.ensures.value)
+    (c.in_ok-print_pairs.ensures.whole told))
+    (subst (λ (x : List ℕ). Begins late new x) last_is (c.print-2.ensures.begun told))
+
+pub returns-clause-whole : goal.returns-clause-whole
+returns-clause-whole g c = λ told.
+    let printed = g.B.Board.printed in
+    let seal = c.args.seal.now in
+    let old = printed c.args.board.now in
+    let mid = printed c.print.new.self in
+    let late = printed c.print_pairs.new.board in
+    let new = printed c.print-2.new.self in
+    let fits : FitsSigned w32 seal.params.secured = search rules in
+    let last_is = c.as_slice-2.ensures.value ∙ c.secured_line-last.ensures.text
+    ∙ ap (λ (day : ℤ). ended_text (secured_line day ∷ [])) (to_z-of_z w32 seal.params.secured fits) in
+    on_ok_weaker c.print-2.result
+    (λ (third : new ≡ late ++ c.as_slice-2.result.now).
+    printed_whole old mid late new (heading_of seal) (offset_lines seal.params.offsets)
+    (ended_text (secured_line seal.params.secured ∷ [])) (sealed_text seal) (text_parts seal)
+    (printed_as old mid _ (heading_of seal) (c.as_slice.ensures.value ∙ c.sealed_heading-heading.ensures.text)
+    (c.in_ok-print.ensures.whole told))
+    (printed_as mid late _ (offset_lines seal.params.offsets) (ap offset_lines c.pairs.ensures.value)
+    (c.in_ok-print_pairs.ensures.whole told))
+    (printed_as late new _ (ended_text (secured_line seal.params.secured ∷ [])) last_is third))
+    (c.print-2.ensures.whole told)
