@@ -9,6 +9,7 @@
 #   meaning_of    prints what a status means, given the status and the words
 #   question_of   sets `file`, the file at fault, and `question`, what is asked for the fault again, given status and words
 #   help_on_fault prints what a fault is, given its words, and fails where there is no such fault
+#   warn_behind   says what to mind behind a call that ended with 0, given its words; mostly nothing
 #
 # A command is judged and carried out by the program alone. Words go to it as they are, and its output isn't touched.
 
@@ -119,9 +120,9 @@ run_program() {
   exit "$status"
 }
 
-# Says what a status other than 0 means behind a call.
+# Says what a status other than 0 means behind a call, and what to mind behind one that ended with 0.
 report() {
-  [ "$1" -ne 0 ] || return 0
+  if [ "$1" -eq 0 ]; then warn_behind "${@:2}"; return; fi
   say "status $1: $(meaning_of "$@")"
   say_where "$@"
 }

@@ -13,11 +13,12 @@ _taxi() {
     esac
   done
   case "$((COMP_CWORD - at)) ${COMP_WORDS[at]}" in
-    '0 '*) choices='check tables fare seal run bench totals port gen offsets mark shifts help version' ;;
-    '1 help') choices='check tables fare seal run bench totals port gen offsets mark shifts' ;;
+    '0 '*) choices='check form tables fare seal run bench totals sealed port gen offsets mark shifts help version' ;;
+    '1 help') choices='check form tables fare seal run bench totals sealed port gen offsets mark shifts' ;;
     '2 tables') ;;
     '3 fare') ;;
     '1 totals') ;;
+    '1 sealed') ;;
     '1 gen') ;;
     '2 gen') ;;
     '2 offsets') ;;
