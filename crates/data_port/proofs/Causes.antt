@@ -5,12 +5,14 @@ use Rattle.data_port.specs.declared.serving.PortFault.{PortFault}
 use Rattle.data_port.specs.declared.serving.PortFault.TheVariants.{BoardFault, Frame}
 
 -- a call that didn't fail left the count
-pub left_if_not : {A E : Type 0} {before now : ℕ} (r : Result A E) → is_err r ≡ false → HasCause before now r → now ≡ before
+pub left_if_not : {A E : Type 0} {before now : ℕ} (r : Result A E) → is_err r ≡ false → HasCause before now r
+    → now ≡ before
 left_if_not (Ok value) fine cause = cause.kept refl
 left_if_not (Err fault) fine cause = absurd (let bad : true ≡ false = fine in cc)
 
 -- a stream's end is no fault of the board
-pub end_is_not : (P : ℕ → Type 0) (r : Result (Unit {0}) PortFault) → OnErr r ((place : ℕ) × (r ≡ Err (Frame place)) × P place)
+pub end_is_not : (P : ℕ → Type 0) (r : Result (Unit {0}) PortFault)
+    → OnErr r ((place : ℕ) × (r ≡ Err (Frame place)) × P place)
     → r ≡ Err BoardFault → ⊥
 end_is_not P (Ok done) ended fault = absurd cc
 end_is_not P (Err why) ended fault = absurd (let bad : Frame ended.0 ≡ BoardFault = cc in cc)

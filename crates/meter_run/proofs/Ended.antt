@@ -28,9 +28,12 @@ board_only same = absurd cc
 -- a run that no board broke off answers no fault of the board, and one of a read only if a read failed
 pub no_board_fault : (stop : Stop) (r : Result (Unit {0}) RunFault) → r ≡ answer_of stop → r ≡ Err faults.BoardFault → ⊥
 no_board_fault stops.Whole r is fault = absurd (let bad : Ok tt ≡ fails faults.BoardFault = sym is ∙ fault in cc)
-no_board_fault (stops.BadLine line) r is fault = absurd (let bad : fails (faults.BadDrive line) ≡ fails faults.BoardFault = sym is ∙ fault in cc)
-no_board_fault stops.TooLong r is fault = absurd (let bad : fails faults.TooLong ≡ fails faults.BoardFault = sym is ∙ fault in cc)
-no_board_fault stops.ReadFault r is fault = absurd (let bad : fails faults.ReadFault ≡ fails faults.BoardFault = sym is ∙ fault in cc)
+no_board_fault (stops.BadLine line) r is fault =
+    absurd (let bad : fails (faults.BadDrive line) ≡ fails faults.BoardFault = sym is ∙ fault in cc)
+no_board_fault stops.TooLong r is fault =
+    absurd (let bad : fails faults.TooLong ≡ fails faults.BoardFault = sym is ∙ fault in cc)
+no_board_fault stops.ReadFault r is fault =
+    absurd (let bad : fails faults.ReadFault ≡ fails faults.BoardFault = sym is ∙ fault in cc)
 
 abbrev stopped : (F : Type 0) → Stop → Result Stop F
 stopped F stop = Ok stop

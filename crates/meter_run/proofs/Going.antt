@@ -45,7 +45,11 @@ pub went_wrong : {T E U F : Type 0} (before mid now : ℕ) (e : E) (r : Result U
     → HasCause {T = T} {E = E} mid now (Err e) → HasCause before now r
 went_wrong before mid now e (Ok x) wrong first cause = absurd (let bad : false ≡ true = wrong in cc)
 went_wrong before mid now e (Err fault) wrong first cause =
-    record { kept = λ ok. absurd (let bad : false ≡ true = ok in cc); failed = λ err. rose_behind before mid now first (cause.failed refl) }
+    record {
+      kept = λ ok. absurd (let bad : false ≡ true = ok in cc);
+      failed = λ err. rose_behind before mid now first
+          (cause.failed refl);
+    }
 
 -- what is absent isn't there
 pub not_some : {A : Type 0} (o : Option A) (x : A) → o ≡ None → o ≡ Some x → ⊥

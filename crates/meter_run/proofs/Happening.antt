@@ -261,7 +261,8 @@ module _ {D L : Type 0} (B : Ghosts D L) (tables : TableParts) (seal : Seal) whe
         beside = λ told. beside_then B a b c (beside told) (h.beside told);
       }
 
-      pub found_attempted : {T E : Type 0} (r : Result T E) (y : StoreMeter) (c : D) → B.faults b ≡ B.faults a → Attempts B tables seal (λ s m. step s (Up second) m) found b r y c
+      pub found_attempted : {T E : Type 0} (r : Result T E) (y : StoreMeter) (c : D) → B.faults b ≡ B.faults a
+          → Attempts B tables seal (λ s m. step s (Up second) m) found b r y c
           → Attempts B tables seal (λ s m. step s (Up second) m) x a r y c
       found_attempted r y c same h = record {
         ready = h.ready;

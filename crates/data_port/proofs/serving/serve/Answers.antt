@@ -63,7 +63,8 @@ loop-left-preserved g c =
           c.serve_piece.new.port c.front-bytes.result.now (g.F.Files.rest c.read_piece.new.files c.args.word) (g.B.Board.printed c.serve_piece.new.board) (c.loop-left.left - c.in-Ok.count) c.serve_piece.new.steps (λ k. c.in-Ok.ensures.taken k ∙ ap (λ (l : List ℕ). l ++ (g.F.Files.rest c.read_piece.new.files c.args.word)) (sym c.front-bytes.ensures))
           serves.0 serves.1 fewer serves.2 c.serve_piece.ensures.steps;
       others = λ other ne. c.read_piece.ensures.others other ne ∙ c.loop-left.invariant.others other ne;
-      counts = λ other. left_by_ok c.read_piece.result _ c.in-Ok.is (c.read_piece.ensures.counts other) ∙ c.loop-left.invariant.counts other;
+      counts = λ other. left_by_ok c.read_piece.result _ c.in-Ok.is (c.read_piece.ensures.counts other)
+          ∙ c.loop-left.invariant.counts other;
       faults = c.in_ok-serve_piece.ensures.board_fault.kept (λ no. absurd cc) ∙ c.loop-left.invariant.faults;
       store = keeps_then g.B.Board c.args.board.now c.loop-left.board c.serve_piece.new.board c.loop-left.invariant.store c.serve_piece.ensures.store;
     }
@@ -100,21 +101,25 @@ returns-in-Err-clause-read_fault g c same = rose_behind _ _ _ (c.loop-left.invar
 
 pub returns-then-count-eq0-clause-counts : goal.returns-then-count-eq0-clause-counts
 returns-then-count-eq0-clause-counts g c other =
-    may_rise_not (left_by_ok c.read_piece.result _ c.in-Ok.is (c.read_piece.ensures.counts other) ∙ c.loop-left.invariant.counts other)
+    may_rise_not (left_by_ok c.read_piece.result _ c.in-Ok.is (c.read_piece.ensures.counts other)
+    ∙ c.loop-left.invariant.counts other)
 
 pub returns-in-Err-clause-counts : goal.returns-in-Err-clause-counts
 returns-in-Err-clause-counts g c other =
-    may_rise_behind (c.loop-left.invariant.counts other) (may_rise_more (λ failed. refl) (c.read_piece.ensures.counts other))
+    may_rise_behind (c.loop-left.invariant.counts other) (may_rise_more (λ failed. refl)
+    (c.read_piece.ensures.counts other))
 
 pub returns-in_err-serve_piece-clause-counts : goal.returns-in_err-serve_piece-clause-counts
 returns-in_err-serve_piece-clause-counts g c other =
-    may_rise_not (left_by_ok c.read_piece.result _ c.in-Ok.is (c.read_piece.ensures.counts other) ∙ c.loop-left.invariant.counts other)
+    may_rise_not (left_by_ok c.read_piece.result _ c.in-Ok.is (c.read_piece.ensures.counts other)
+    ∙ c.loop-left.invariant.counts other)
 
 pub returns-clause-counts : goal.returns-clause-counts
 returns-clause-counts g c other = may_rise_not (c.loop-left.invariant.counts other)
 
 pub returns-then-count-eq0-clause-board_fault : goal.returns-then-count-eq0-clause-board_fault
-returns-then-count-eq0-clause-board_fault g c = rises_not (end_is_not _ c.end.result c.end.ensures.bad) c.loop-left.invariant.faults
+returns-then-count-eq0-clause-board_fault g c = rises_not (end_is_not _ c.end.result c.end.ensures.bad)
+    c.loop-left.invariant.faults
 
 pub returns-in-Err-clause-board_fault : goal.returns-in-Err-clause-board_fault
 returns-in-Err-clause-board_fault g c = rises_not (read_is_no_fault ⊥) c.loop-left.invariant.faults
@@ -125,4 +130,5 @@ returns-in_err-serve_piece-clause-board_fault g c =
     rw (p.1, p.2) (rises_behind c.loop-left.invariant.faults c.in_err-serve_piece.ensures.board_fault)
 
 pub returns-clause-board_fault : goal.returns-clause-board_fault
-returns-clause-board_fault g c = rises_not (λ same. absurd (let bad : TooLong ≡ BoardFault = cc in cc)) c.loop-left.invariant.faults
+returns-clause-board_fault g c = rises_not (λ same. absurd (let bad : TooLong ≡ BoardFault = cc in cc))
+    c.loop-left.invariant.faults

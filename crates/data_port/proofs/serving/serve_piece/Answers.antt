@@ -37,7 +37,8 @@ loop-rest-preserved g c = record {
       c.feed-fed.new.self c.behind-left.result.now (g.B.Board.printed c.print_replies.new.board) c.as_slice.result.now c.print_replies.new.steps c.in-Ok.count c.requires.sense
       c.in-Ok.ensures.within c.behind-left.ensures c.in-Ok.ensures.taken (takes_by c.loop-rest.port c.loop-rest.rest.now c.new-requests.result.items c.feed-fed.new.out.items c.as_slice.result.now c.in-Ok.count c.new-requests.ensures c.as_slice.ensures.value c.in-Ok.ensures.requests)
       c.in-Ok.ensures.stands.2 c.in-Ok.ensures.count (λ t. ok_of c.print_replies.result _ (sym c.is_err.ensures.value ∙ c.if-is_err.false) (c.print_replies.ensures.whole t)) c.print_replies.ensures.steps;
-  faults = left_if_not c.print_replies.result (sym c.is_err.ensures.value ∙ c.if-is_err.false) c.print_replies.ensures.cause ∙ c.loop-rest.invariant.faults;
+  faults = left_if_not c.print_replies.result (sym c.is_err.ensures.value ∙ c.if-is_err.false)
+      c.print_replies.ensures.cause ∙ c.loop-rest.invariant.faults;
   store = keeps_then g.B.Board c.args.board.now c.loop-rest.board c.print_replies.new.board c.loop-rest.invariant.store c.print_replies.ensures.store;
 }
 
@@ -85,11 +86,13 @@ returns-clause-steps g c =
 
 pub returns-then-is_err-clause-board_fault : goal.returns-then-is_err-clause-board_fault
 returns-then-is_err-clause-board_fault g c = rises_by refl
-    (rose_behind _ _ _ c.loop-rest.invariant.faults (c.print_replies.ensures.cause.failed (sym c.is_err.ensures.value ∙ c.if-is_err.true)))
+    (rose_behind _ _ _ c.loop-rest.invariant.faults (c.print_replies.ensures.cause.failed
+    (sym c.is_err.ensures.value ∙ c.if-is_err.true)))
 
 pub returns-in-Err-clause-board_fault : goal.returns-in-Err-clause-board_fault
 returns-in-Err-clause-board_fault g c = rises_not (bad_is_no_fault c.in-Err.bad.place ⊥)
-    (left_if_not c.print_replies.result (sym c.is_err.ensures.value ∙ c.if-is_err.false) c.print_replies.ensures.cause ∙ c.loop-rest.invariant.faults)
+    (left_if_not c.print_replies.result (sym c.is_err.ensures.value ∙ c.if-is_err.false) c.print_replies.ensures.cause
+    ∙ c.loop-rest.invariant.faults)
 
 pub returns-clause-board_fault : goal.returns-clause-board_fault
 returns-clause-board_fault g c = rises_not (end_is_no_fault ⊥) c.loop-rest.invariant.faults

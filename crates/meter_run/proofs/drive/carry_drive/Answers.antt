@@ -42,7 +42,9 @@ returns-in_err-carry_runs-clause-carried g c = not_ok _ c.from_residual.result _
 
 pub returns-in_err-carry_runs-clause-cause : goal.returns-in_err-carry_runs-clause-cause
 returns-in_err-carry_runs-clause-cause g c =
-    went_wrong (g.B.Board.faults c.args.board.now) (g.B.Board.faults c.loop-stop.board) (g.B.Board.faults c.carry_runs.new.board) _ c.from_residual.result c.from_residual.ensures.0 c.loop-stop.invariant.faults c.in_err-carry_runs.ensures.cause
+    went_wrong (g.B.Board.faults c.args.board.now) (g.B.Board.faults c.loop-stop.board)
+    (g.B.Board.faults c.carry_runs.new.board) _ c.from_residual.result c.from_residual.ensures.0
+    c.loop-stop.invariant.faults c.in_err-carry_runs.ensures.cause
 
 pub returns-in_err-carry_runs-clause-others : goal.returns-in_err-carry_runs-clause-others
 returns-in_err-carry_runs-clause-others g c = λ other differs. c.next-stop.ensures.others other differs ∙ c.loop-stop.invariant.others other differs
@@ -98,16 +100,19 @@ returns-in-Some-clause-broke_off g c = tt
 
 pub returns-in-Some-clause-read_fault : goal.returns-in-Some-clause-read_fault
 returns-in-Some-clause-read_fault g c = λ ok.
-    rose_behind (g.F.Files.faults c.args.files.now c.args.word) (g.F.Files.faults c.loop-stop.files c.args.word) (g.F.Files.faults c.next-stop.new.files c.args.word)
+    rose_behind (g.F.Files.faults c.args.files.now c.args.word) (g.F.Files.faults c.loop-stop.files c.args.word)
+    (g.F.Files.faults c.next-stop.new.files c.args.word)
     (c.loop-stop.invariant.counts c.args.word) (c.next-stop.ensures.read_fault (c.in-Some.is ∙ ap Some (stop_of _ _ _ ok)))
 
 pub returns-in-Some-clause-counts : goal.returns-in-Some-clause-counts
 returns-in-Some-clause-counts g c = λ other. may_rise_behind (c.loop-stop.invariant.counts other)
-    (may_rise_more (λ fault. inl (ap Ok (same_stop c.next-stop.result _ _ c.in-Some.is fault))) (c.next-stop.ensures.counts other))
+    (may_rise_more (λ fault. inl (ap Ok (same_stop c.next-stop.result _ _ c.in-Some.is fault)))
+    (c.next-stop.ensures.counts other))
 
 pub returns-in-Some-clause-cause : goal.returns-in-Some-clause-cause
 returns-in-Some-clause-cause g c =
-    went_well (g.B.Board.faults c.args.board.now) (g.B.Board.faults c.carry_runs.new.board) _ (counts_more _ _ _ c.loop-stop.invariant.faults (c.in_ok-carry_runs.ensures.cause.kept refl))
+    went_well (g.B.Board.faults c.args.board.now) (g.B.Board.faults c.carry_runs.new.board) _
+    (counts_more _ _ _ c.loop-stop.invariant.faults (c.in_ok-carry_runs.ensures.cause.kept refl))
 
 pub returns-in-Some-clause-others : goal.returns-in-Some-clause-others
 returns-in-Some-clause-others g c = λ other differs. c.next-stop.ensures.others other differs ∙ c.loop-stop.invariant.others other differs
@@ -136,5 +141,6 @@ loop-stop-preserved g c =
           (subst (λ (rs : List Run). IsBounded c.loop-stop.steps c.carry_runs.new.steps (flat_map run_events rs)) c.as_slice.ensures.value c.carry_runs.ensures.steps);
       faults = counts_more _ _ _ c.loop-stop.invariant.faults (c.in_ok-carry_runs.ensures.cause.kept refl);
       others = λ other differs. c.next-stop.ensures.others other differs ∙ c.loop-stop.invariant.others other differs;
-      counts = λ other. counts_more _ _ _ (c.loop-stop.invariant.counts other) ((c.next-stop.ensures.counts other).kept (λ fault. not_some c.next-stop.result _ c.in_default.is fault));
+      counts = λ other. counts_more _ _ _ (c.loop-stop.invariant.counts other)
+          ((c.next-stop.ensures.counts other).kept (λ fault. not_some c.next-stop.result _ c.in_default.is fault));
     }

@@ -42,7 +42,9 @@ returns-in_err-perform-clause-whole g c = λ told. not_ok _ c.from_residual.resu
 
 pub returns-in_err-perform-clause-cause : goal.returns-in_err-perform-clause-cause
 returns-in_err-perform-clause-cause g c =
-    went_wrong (g.B.Board.faults c.args.board.now) (g.B.Board.faults c.loop-act.board) (g.B.Board.faults c.perform.new.board) _ c.from_residual.result c.from_residual.ensures.0 c.loop-act.invariant.faults c.in_err-perform.ensures.cause
+    went_wrong (g.B.Board.faults c.args.board.now) (g.B.Board.faults c.loop-act.board)
+    (g.B.Board.faults c.perform.new.board) _ c.from_residual.result c.from_residual.ensures.0
+    c.loop-act.invariant.faults c.in_err-perform.ensures.cause
 
 pub returns-in_err-perform-clause-steps : goal.returns-in_err-perform-clause-steps
 returns-in_err-perform-clause-steps g c = omega (arith, c.loop-act-test.true, c.loop-act.invariant.steps, c.perform.ensures.steps)

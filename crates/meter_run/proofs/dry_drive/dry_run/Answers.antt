@@ -94,21 +94,25 @@ pub returns-in-Err-clause-read_fault : goal.returns-in-Err-clause-read_fault
 returns-in-Err-clause-read_fault g c = λ is. absurd (board_only is)
 
 pub returns-in-Ok-drop_at_end-clause-store : goal.returns-in-Ok-drop_at_end-clause-store
-returns-in-Ok-drop_at_end-clause-store g c = keeps_then g.B.Board c.args.board.now c.carry_drive.new.board c.drop_at_end.new.board c.in-Ok.ensures.carried.carried.store c.drop_at_end.ensures.store
+returns-in-Ok-drop_at_end-clause-store g c = keeps_then g.B.Board c.args.board.now c.carry_drive.new.board
+    c.drop_at_end.new.board c.in-Ok.ensures.carried.carried.store c.drop_at_end.ensures.store
 
 pub returns-in-Err-drop_at_end-clause-store : goal.returns-in-Err-drop_at_end-clause-store
-returns-in-Err-drop_at_end-clause-store g c = keeps_then g.B.Board c.args.board.now c.carry_drive.new.board c.drop_at_end.new.board c.in-Ok.ensures.carried.carried.store c.drop_at_end.ensures.store
+returns-in-Err-drop_at_end-clause-store g c = keeps_then g.B.Board c.args.board.now c.carry_drive.new.board
+    c.drop_at_end.new.board c.in-Ok.ensures.carried.carried.store c.drop_at_end.ensures.store
 
 pub returns-in-Err-clause-store : goal.returns-in-Err-clause-store
 returns-in-Err-clause-store g c = c.in-Err.ensures.broke_off.broke_off.store
 
 pub returns-in-Ok-drop_at_end-clause-board_fault : goal.returns-in-Ok-drop_at_end-clause-board_fault
-returns-in-Ok-drop_at_end-clause-board_fault g c = rises_not (no_board_fault c.in-Ok.stop c.answer.result c.answer.ensures)
+returns-in-Ok-drop_at_end-clause-board_fault g c = rises_not (no_board_fault c.in-Ok.stop c.answer.result
+    c.answer.ensures)
     (c.in-Ok-drop_at_end.ensures.cause.kept refl ∙ c.in-Ok.ensures.cause.kept refl)
 
 pub returns-in-Err-drop_at_end-clause-board_fault : goal.returns-in-Err-drop_at_end-clause-board_fault
 returns-in-Err-drop_at_end-clause-board_fault g c = rises_by refl
-    (rose_behind (g.B.Board.faults c.args.board.now) (g.B.Board.faults c.carry_drive.new.board) (g.B.Board.faults c.drop_at_end.new.board)
+    (rose_behind (g.B.Board.faults c.args.board.now) (g.B.Board.faults c.carry_drive.new.board)
+    (g.B.Board.faults c.drop_at_end.new.board)
     (c.in-Ok.ensures.cause.kept refl) (c.in-Err-drop_at_end.ensures.cause.failed refl))
 
 pub returns-in-Err-clause-board_fault : goal.returns-in-Err-clause-board_fault
@@ -119,7 +123,8 @@ returns-in-Ok-drop_at_end-clause-counts g c = λ other.
     may_rise_more (read_failed c.in-Ok.stop c.answer.result c.answer.ensures) (c.in-Ok.ensures.counts other)
 
 pub returns-in-Err-drop_at_end-clause-counts : goal.returns-in-Err-drop_at_end-clause-counts
-returns-in-Err-drop_at_end-clause-counts g c = λ other. may_rise_more (λ failed. inr refl) (c.carry_drive.ensures.counts other)
+returns-in-Err-drop_at_end-clause-counts g c = λ other. may_rise_more (λ failed. inr refl)
+    (c.carry_drive.ensures.counts other)
 
 pub returns-in-Err-clause-counts : goal.returns-in-Err-clause-counts
 returns-in-Err-clause-counts g c = λ other. may_rise_more (λ failed. inr refl) (c.carry_drive.ensures.counts other)

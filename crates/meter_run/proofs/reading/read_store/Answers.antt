@@ -144,11 +144,13 @@ returns-in-Err-SameNumber-clause-steps g c = few c.args.steps.now c.scan.new.ste
 -- ---- the board's count
 
 pub returns-in-Ok-Latest-clause-cause : goal.returns-in-Ok-Latest-clause-cause
-returns-in-Ok-Latest-clause-cause g c = went_well (g.B.Board.faults c.args.board.now) (g.B.Board.faults c.scan.new.board) _
+returns-in-Ok-Latest-clause-cause g c = went_well (g.B.Board.faults c.args.board.now)
+    (g.B.Board.faults c.scan.new.board) _
     (c.in-Ok-Latest.ensures.cause.kept (λ no. absurd cc))
 
 pub returns-in-Ok-Blank-clause-cause : goal.returns-in-Ok-Blank-clause-cause
-returns-in-Ok-Blank-clause-cause g c = went_well (g.B.Board.faults c.args.board.now) (g.B.Board.faults c.scan.new.board) _
+returns-in-Ok-Blank-clause-cause g c = went_well (g.B.Board.faults c.args.board.now)
+    (g.B.Board.faults c.scan.new.board) _
     (c.in-Ok-Blank.ensures.cause.kept (λ no. absurd cc))
 
 pub returns-in-Err-DeviceFailed-clause-cause : goal.returns-in-Err-DeviceFailed-clause-cause
@@ -158,9 +160,11 @@ returns-in-Err-DeviceFailed-clause-cause g c = record {
 }
 
 pub returns-in-Err-BadBody-clause-cause : goal.returns-in-Err-BadBody-clause-cause
-returns-in-Err-BadBody-clause-cause g c = went_well (g.B.Board.faults c.args.board.now) (g.B.Board.faults c.scan.new.board) _
+returns-in-Err-BadBody-clause-cause g c = went_well (g.B.Board.faults c.args.board.now)
+    (g.B.Board.faults c.scan.new.board) _
     (c.in-Err-BadBody.ensures.cause.kept (λ no. absurd (cc c.in-Err-BadBody.field-0-is)))
 
 pub returns-in-Err-SameNumber-clause-cause : goal.returns-in-Err-SameNumber-clause-cause
-returns-in-Err-SameNumber-clause-cause g c = went_well (g.B.Board.faults c.args.board.now) (g.B.Board.faults c.scan.new.board) _
+returns-in-Err-SameNumber-clause-cause g c = went_well (g.B.Board.faults c.args.board.now)
+    (g.B.Board.faults c.scan.new.board) _
     (c.in-Err-SameNumber.ensures.cause.kept (λ no. absurd (cc c.in-Err-SameNumber.field-0-is)))

@@ -62,7 +62,9 @@ returns-in_err-carry_interval-clause-carried g c = not_ok _ c.from_residual.resu
 
 pub returns-in_err-carry_interval-clause-cause : goal.returns-in_err-carry_interval-clause-cause
 returns-in_err-carry_interval-clause-cause g c =
-    went_wrong (g.B.Board.faults c.args.board.now) (g.B.Board.faults c.loop-done.board) (g.B.Board.faults c.carry_interval.new.board) _ c.from_residual.result c.from_residual.ensures.0 c.loop-done.invariant.faults c.in_err-carry_interval.ensures.cause
+    went_wrong (g.B.Board.faults c.args.board.now) (g.B.Board.faults c.loop-done.board)
+    (g.B.Board.faults c.carry_interval.new.board) _ c.from_residual.result c.from_residual.ensures.0
+    c.loop-done.invariant.faults c.in_err-carry_interval.ensures.cause
 
 pub returns-clause-ready : goal.returns-clause-ready
 returns-clause-ready g c = c.loop-done.invariant.ready

@@ -47,7 +47,9 @@ returns-in_err-carry_run-clause-carried g c = not_ok _ c.from_residual.result _ 
 
 pub returns-in_err-carry_run-clause-cause : goal.returns-in_err-carry_run-clause-cause
 returns-in_err-carry_run-clause-cause g c =
-    went_wrong (g.B.Board.faults c.args.board.now) (g.B.Board.faults c.loop-run.board) (g.B.Board.faults c.carry_run.new.board) _ c.from_residual.result c.from_residual.ensures.0 c.loop-run.invariant.faults c.in_err-carry_run.ensures.cause
+    went_wrong (g.B.Board.faults c.args.board.now) (g.B.Board.faults c.loop-run.board)
+    (g.B.Board.faults c.carry_run.new.board) _ c.from_residual.result c.from_residual.ensures.0
+    c.loop-run.invariant.faults c.in_err-carry_run.ensures.cause
 
 pub returns-clause-ready : goal.returns-clause-ready
 returns-clause-ready g c = c.loop-run.invariant.ready

@@ -57,7 +57,8 @@ returns-in-Ok-end-clause-complete g c = λ tells whole calm still.
 
 pub returns-in-Err-end-clause-complete : goal.returns-in-Err-end-clause-complete
 returns-in-Err-end-clause-complete g c = λ tells whole calm still.
-    absurd (still (rose_behind (g.B.Board.faults c.args.board.now) (g.B.Board.faults c.carry_drive.new.board) (g.B.Board.faults c.end.new.board) (c.in-Ok.ensures.cause.kept refl) (c.in-Err-end.ensures.cause.failed refl)))
+    absurd (still (rose_behind (g.B.Board.faults c.args.board.now) (g.B.Board.faults c.carry_drive.new.board)
+    (g.B.Board.faults c.end.new.board) (c.in-Ok.ensures.cause.kept refl) (c.in-Err-end.ensures.cause.failed refl)))
 
 pub returns-in-Err-clause-complete : goal.returns-in-Err-clause-complete
 returns-in-Err-clause-complete g c = λ tells whole calm still. absurd (still (c.in-Err.ensures.cause.failed refl))
@@ -112,7 +113,8 @@ returns-in-Ok-end-clause-board_fault g c = rises_not (no_board_fault c.in-Ok.sto
 
 pub returns-in-Err-end-clause-board_fault : goal.returns-in-Err-end-clause-board_fault
 returns-in-Err-end-clause-board_fault g c = rises_by refl
-    (rose_behind (g.B.Board.faults c.args.board.now) (g.B.Board.faults c.carry_drive.new.board) (g.B.Board.faults c.end.new.board)
+    (rose_behind (g.B.Board.faults c.args.board.now) (g.B.Board.faults c.carry_drive.new.board)
+    (g.B.Board.faults c.end.new.board)
     (c.in-Ok.ensures.cause.kept refl) (c.in-Err-end.ensures.cause.failed refl))
 
 pub returns-in-Err-clause-board_fault : goal.returns-in-Err-clause-board_fault

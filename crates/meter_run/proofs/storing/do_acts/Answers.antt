@@ -87,7 +87,9 @@ returns-in_err-do_act-clause-whole g c = λ told. not_ok _ c.from_residual.resul
 
 pub returns-in_err-do_act-clause-cause : goal.returns-in_err-do_act-clause-cause
 returns-in_err-do_act-clause-cause g c =
-    went_wrong (g.B.Board.faults c.args.board.now) (g.B.Board.faults c.loop-act.board) (g.B.Board.faults c.do_act.new.board) _ c.from_residual.result c.from_residual.ensures.0 c.loop-act.invariant.faults c.in_err-do_act.ensures.cause
+    went_wrong (g.B.Board.faults c.args.board.now) (g.B.Board.faults c.loop-act.board)
+    (g.B.Board.faults c.do_act.new.board) _ c.from_residual.result c.from_residual.ensures.0
+    c.loop-act.invariant.faults c.in_err-do_act.ensures.cause
 
 pub returns-clause-durable : goal.returns-clause-durable
 returns-clause-durable g c = c.loop-act.invariant.durable ∙ ap (after_acts c.args.known.now.durable) (take_all c.loop-act.act-index c.args.acts.now c.loop-act-test.false)

@@ -43,4 +43,5 @@ pub returns-clause-read_fault : goal.returns-clause-read_fault
 returns-clause-read_fault g c = λ fault. absurd (c.feed.ensures.no_fault fault)
 
 pub returns-clause-counts : goal.returns-clause-counts
-returns-clause-counts g c = λ other. may_rise_not ((c.fill.ensures.counts other).kept (λ fault. not_some c.fill.result _ c.in_default.is fault))
+returns-clause-counts g c = λ other. may_rise_not ((c.fill.ensures.counts other).kept
+    (λ fault. not_some c.fill.result _ c.in_default.is fault))

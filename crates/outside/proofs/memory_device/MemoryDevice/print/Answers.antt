@@ -17,7 +17,8 @@ returns g c =
       image = print_image (held_by old) (held_by new) c.args.bytes.now came;
       flight = λ place flies. subst (λ (r : List (ℕ × ℕ)). IsInSome r place) (print_ranges (held_by old) (held_by new) c.args.bytes.now came) flies;
       time = time_of_print old new c.args.bytes.now came time;
-      cause = cause_is old new (Print c.args.bytes.now) c.keep_print.result c.keep_print.ensures.kept c.keep_print.ensures.failed;
+      cause = cause_is old new (Print c.args.bytes.now) c.keep_print.result c.keep_print.ensures.kept
+          c.keep_print.ensures.failed;
       kept = c.keep_print.ensures.kept;
       failed = c.keep_print.ensures.failed;
     })

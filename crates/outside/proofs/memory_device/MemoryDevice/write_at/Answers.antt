@@ -18,7 +18,8 @@ returns g c =
       flight = write_flight (held_by old) (held_by new) c.args.at c.args.bytes.now came;
       text = write_text (held_by old) (held_by new) c.args.at c.args.bytes.now came;
       time = time_of_call old new (Write c.args.at c.args.bytes.now) (λ i x amid. amid) time;
-      cause = cause_is old new (Write c.args.at c.args.bytes.now) c.keep_write.result c.keep_write.ensures.kept c.keep_write.ensures.failed;
+      cause = cause_is old new (Write c.args.at c.args.bytes.now) c.keep_write.result c.keep_write.ensures.kept
+          c.keep_write.ensures.failed;
       kept = c.keep_write.ensures.kept;
       failed = c.keep_write.ensures.failed;
     })
