@@ -2,28 +2,31 @@
 use Rattle.std.proofs.Common.{◌≡◌, ◌≢◌, ◌⊎◌, inl, inr, ℕ, ◌≤◌, List, refl, sym, ap, subst, ◌∙◌, arith}
 use Rattle.outside.specs.declared.board.Board.{Ghosts}
 use Rattle.outside.specs.declared.files.Files.{Ghosts as FileGhosts}
-use Rattle.outside.specs.Faults.{Rose}
+use Rattle.outside.specs.Faults.{RisesOnlyIf, Rose}
 use Rattle.outside.specs.Runs.{IsSettled, KeepsStore}
 use Rattle.commands.specs.declared.ending.Ended.{Ended}
 use Rattle.commands.specs.declared.ending.Ended.TheVariants as ended
 use Rattle.commands.specs.Call.{HasReadFault, IsCall, IsEnd, LeavesUnread, MayLack, MayTake}
 use Rattle.commands.specs.Carried.{Carries}
 use Rattle.commands.specs.Course.{Command, Course, Answered, ReadFailed, NoMemory, BoardFailed, status_in, text_in}
-use Rattle.commands.specs.Ending.{ComesOn}
+use Rattle.commands.specs.Ending.{ComesOn, HasCauseOn}
 use Rattle.commands.specs.LastLine.{line_of, status_of}
 use Rattle.commands.specs.Unwritten.{WritesNothing}
+use Rattle.commands.proofs.Counting.{rose_after, rose_before}
 use Rattle.commands.proofs.Endings.{ends-with, finishes-later, may-then}
 use Rattle.commands.proofs.Unwritten.{bytes-kept, bytes-then}
 
 module _ {E D L : Type 0} (F : FileGhosts E) (B : Ghosts D L) (files files' : E) (old mid new : D) (end : Ended) (status : ℕ)
-    (count : B.faults old ≤ B.faults mid) (later : B.faults mid ≤ B.faults new)
+    (cause : HasCauseOn B old mid end) (later : RisesOnlyIf (status ≢ status_of end) (B.faults mid) (B.faults new))
     (finish : IsEnd B.tells_text (Rose (B.faults mid) (B.faults new)) (status_of end) (line_of end) status (B.printed mid) (B.printed new)) where
   pub call_from : (command : Command) → ComesOn F B command files files' old mid end
       → LeavesUnread command (F.rest files) (F.rest files') (B.image old)
       → IsCall F B command files files' old new status
   call_from command h unread =
-      let more : Rose (B.faults old) (B.faults mid) → Rose (B.faults old) (B.faults new) = λ rose. omega (arith, rose, later) in
-      let after : Rose (B.faults mid) (B.faults new) → Rose (B.faults old) (B.faults new) = λ rose. omega (arith, rose, count) in
+      let more : Rose (B.faults old) (B.faults mid) → Rose (B.faults old) (B.faults new) =
+      rose_before B old mid new end status cause later finish in
+      let after : Rose (B.faults mid) (B.faults new) → Rose (B.faults old) (B.faults new) =
+      rose_after B old mid new end status cause later finish in
       record {
         course = h.course;
         may = may-then command (F.rest files) (F.rest files') (B.image old) _ (Rose (B.faults old) (B.faults mid)) (Rose (B.faults old) (B.faults new)) more h.course h.may;

@@ -46,7 +46,7 @@ module _ {E D L : Type 0} (F : FileGhosts E) (B : Ghosts D L) (c : Command) wher
       → (ended ≡ ends.ReadFault → HasReadFault F c files files') → HasCauseOn B old new ended
       → ((word : ℕ) → ¬ (c.reads word) → F.rest files' word ≡ F.rest files word)
       → (c.known F.tells B.tells_image → LeavesUnread c (F.rest files) (F.rest files') (B.image old))
-      → ((word : ℕ) → F.faults files word ≤ F.faults files' word)
+      → (ended ≢ ends.ReadFault → ended ≢ ends.BoardFault → (word : ℕ) → F.faults files' word ≡ F.faults files word)
       → OnlyLooksAt B old new ended → Carries F B c files files' old new before now ended
   carries-looked files files' old new _ _ ended opens none comes steps read cause others unread counts looked = record {
     ends = comes;
@@ -72,7 +72,7 @@ module _ {E D L : Type 0} (F : FileGhosts E) (B : Ghosts D L) (c : Command) wher
       → (ended ≡ ends.ReadFault → HasReadFault F c files files') → HasCauseOn B old new ended
       → ((word : ℕ) → ¬ (c.reads word) → F.rest files' word ≡ F.rest files word)
       → (c.known F.tells B.tells_image → LeavesUnread c (F.rest files) (F.rest files') (B.image old))
-      → ((word : ℕ) → F.faults files word ≤ F.faults files' word)
+      → (ended ≢ ends.ReadFault → ended ≢ ends.BoardFault → (word : ℕ) → F.faults files' word ≡ F.faults files word)
       → KeepsStore B old new → Carries F B c files files' old new before now ended
   carries-kept files files' old new _ _ ended shut none comes steps read cause others unread counts kept = record {
     ends = comes;
@@ -106,7 +106,7 @@ module _ {E D L : Type 0} (F : FileGhosts E) (B : Ghosts D L) (c : Command) wher
     others = λ word not. refl;
     unread = λ told word never. refl;
     count = h.count;
-    counts = λ word. omega arith;
+    counts = λ read board word. refl;
     kept = h.kept;
     unwritten = h.unwritten;
     same = h.same;
@@ -130,7 +130,7 @@ module _ {E D L : Type 0} (F : FileGhosts E) (B : Ghosts D L) (c : Command) wher
     board_fault = λ e. absurd (no-rise (h.board_fault e));
     others = h.others;
     unread = λ told. h.unread (known told);
-    count = omega arith;
+    count = λ good. refl;
     counts = h.counts;
     kept = λ not. keeps_none B board;
     unwritten = λ not. bytes-kept B board board (keeps_none B board);
@@ -151,11 +151,11 @@ pub carries-said : {E : Type 0} (F : FileGhosts E) (image : List ℕ) (c : Comma
     → (ended ≡ ends.ReadFault → HasReadFault F c files files') → ended ≢ ends.BoardFault
     → ((word : ℕ) → ¬ (c.reads word) → F.rest files' word ≡ F.rest files word)
     → (c.known F.tells (Unit {0}) → LeavesUnread c (F.rest files) (F.rest files') image)
-    → ((word : ℕ) → F.faults files word ≤ F.faults files' word)
+    → (ended ≢ ends.ReadFault → ended ≢ ends.BoardFault → (word : ℕ) → F.faults files' word ≡ F.faults files word)
     → Carries F (no_board image) c files files' tt tt 0 0 ended
 carries-said F image c files files' ended shut none comes steps read not_board others unread counts =
     carries-kept F (no_board image) c files files' tt tt 0 0 ended shut none
     (λ told. comes-as c (F.rest files) (F.rest files') image _ _ ⊥ (Rose 0 0) (λ text. text ≡ []) (λ text. Unit {0} → [] ≡ [] ++ text) _ _
     (λ word rose. rose) (λ none. absurd none) (λ text is tells. sym is) (λ text none. absurd none) ended (comes told))
-    steps read (record { count = omega arith; failed = λ e. absurd (not_board e) }) others unread counts
+    steps read (record { count = λ good. refl; failed = λ e. absurd (not_board e) }) others unread counts
     (shut-kept image)

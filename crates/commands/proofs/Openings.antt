@@ -76,7 +76,7 @@ opens-as B fails fails' old new more fewer h =
       synced = λ told. from_sync_as B held held fails fails' old new more (λ i x is. is) (h.synced told);
       settled = λ told good. h.settled told (λ f. good (more f));
       same = λ good. h.same (λ f. good (more f));
-      count = h.count;
+      count = λ good. h.count (λ f. good (more f));
       cause = λ f. h.cause (fewer f);
     }
 

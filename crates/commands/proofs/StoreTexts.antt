@@ -15,7 +15,7 @@ use Rattle.commands.specs.Opened.{IsBarred, OnlyOpens}
 use Rattle.commands.specs.Opening.{opening_of, store_of}
 use Rattle.commands.specs.Stream.{Takes}
 use Rattle.commands.proofs.Answering.{comes-barred}
-use Rattle.commands.proofs.Openings.{as_found, as_refused}
+use Rattle.commands.proofs.Openings.{as_found, as_refused, no_fault}
 use Rattle.commands.proofs.Showing.{comes-begun, comes-shown}
 
 -- a command whose answer is one to the store that it opened, over the boards before and behind the opening
@@ -46,4 +46,4 @@ module _ {D L : Type 0} (B : Ghosts D L) (c : Command) (contents left : ℕ → 
         comes-begun c contents left (B.image old) read_failed (Rose (B.faults old) (B.faults new)) B.tells_text
         (B.printed old) (B.printed new) text answered read
         (λ t. subst (λ (x : List ℕ). Begins (B.printed old) (B.printed new) x) same (subst (λ (x : List ℕ). Begins x (B.printed new) printed) opens.reads.text (begun t)))
-        (omega (arith, rose, opens.count))
+        (omega (arith, rose, opens.count (no_fault r store ended.BoardFault e)))

@@ -32,8 +32,8 @@ module _ {E D L : Type 0} (F : FileGhosts E) (B : Ghosts D L) where
     pub board_fault : ended ≡ BoardFault → Rose (B.faults old) (B.faults new)
     pub others : (word : ℕ) → ¬ c.reads word → F.rest files' word ≡ F.rest files word
     pub unread : c.known F.tells B.tells_image → LeavesUnread c (F.rest files) (F.rest files') (B.image old)
-    pub count : B.faults old ≤ B.faults new
-    pub counts : (word : ℕ) → F.faults files word ≤ F.faults files' word
+    pub count : ended ≢ BoardFault → B.faults new ≡ B.faults old
+    pub counts : ended ≢ ReadFault → ended ≢ BoardFault → (word : ℕ) → F.faults files' word ≡ F.faults files word
     pub kept : ¬ c.opens → KeepsStore B old new
     pub unwritten : ¬ c.writes (status_of ended) → KeepsBytes B old new
     pub same : ¬ c.writes (status_of ended) → ended ≢ BoardFault → B.image new ≡ B.image old

@@ -140,7 +140,8 @@ module _ {D L : Type 0} (B : Ghosts D L) where
     pub same : ended ≢ BoardFault → B.image new ≡ B.image old
     pub looks : B.tells_image → LooksAt old new ended
 
-  -- a command ended with its cause where the board's count of faults hasn't fallen, and has risen if the board failed
+  -- a command ended with its cause if the board's count of faults rose where the board failed, and is as it was where
+  -- it didn't
   pub record HasCauseOn (old new : D) (ended : Ended) : Type 0 where
-    pub count : B.faults old ≤ B.faults new
+    pub count : ended ≢ BoardFault → B.faults new ≡ B.faults old
     pub failed : ended ≡ BoardFault → Rose (B.faults old) (B.faults new)

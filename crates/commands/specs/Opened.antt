@@ -38,12 +38,12 @@ module _ {D L : Type 0} (B : Ghosts D L) where
   IsOpenedWith board durable = (place : Place) × states.KeepsState B place board durable
 
   -- a call only opens the store where it only reads, a cut from its opening sync on leaves the store as it was, unless
-  -- the call `fails` nothing is in flight and no byte has changed, and it fails only where the board's count of faults
-  -- has risen
+  -- the call `fails` nothing is in flight and no byte has changed, and the board's count of faults rose if it fails and
+  -- is as it was if it doesn't
   pub record OnlyOpens (fails : Type 0) (old new : D) : Type 0 where
     pub reads : ReadsOnly B old new
     pub synced : B.tells_image → LeavesFromSync B fails old new (IsAsHeld B old)
     pub settled : B.tells_image → ¬ fails → IsSettled B new
     pub same : ¬ fails → B.image new ≡ B.image old
-    pub count : B.faults old ≤ B.faults new
+    pub count : ¬ fails → B.faults new ≡ B.faults old
     pub cause : fails → Rose (B.faults old) (B.faults new)

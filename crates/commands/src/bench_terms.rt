@@ -41,7 +41,7 @@ pub fn open_terms<F: Files, B: Board<L>, L: Ledger>(
     ensures others { (other : ℕ) → other ≢ 1 → F.rest files.new other ≡ F.rest files.old other }
     ensures unread { B.tells_image → (other : ℕ) → ¬ ((other ≡ 1) × IsSealedIn (B.image board.old))
         → F.rest files.new other ≡ F.rest files.old other }
-    ensures counts { (other : ℕ) → F.faults files.old other ≤ F.faults files.new other }
+    ensures counts { result ≢ Err Ended.ReadFault → (other : ℕ) → F.faults files.new other ≡ F.faults files.old other }
     ensures steps { steps.new ≤ steps.old + 6 }
 {
     let (_, seal) = open_sealed(board, steps)?;

@@ -1,6 +1,6 @@
 //! How a command ends: its last line, and its status.
-ghost use Rattle.std.specs.Prelude.{◌≡◌, ◌+◌, ◌≤◌, []};
-ghost use Rattle.outside.specs.Faults.{Rose};
+ghost use Rattle.std.specs.Prelude.{◌≡◌, ◌≢◌, ◌+◌, ◌≤◌, []};
+ghost use Rattle.outside.specs.Faults.{RisesOnlyIf, Rose};
 ghost use Rattle.outside.specs.Disk.{MayLeaveAmid};
 ghost use Rattle.outside.specs.Runs.{KeepsStore, LeavesOnly};
 ghost use Rattle.commands.specs.Call.{IsEnd};
@@ -184,7 +184,7 @@ fn status(ended: Ended) -> u8
 pub fn finish<B: Board<L>, L: Ledger>(ended: Ended, board: &mut B, steps: &mut Steps<L>) -> u8
     ensures ends { IsEnd B.tells_text (Rose (B.faults board.old) (B.faults board.new)) (status_of ended) (line_of ended)
         result (B.printed board.old) (B.printed board.new) }
-    ensures count { B.faults board.old ≤ B.faults board.new }
+    ensures count { RisesOnlyIf (result ≢ status_of ended) (B.faults board.old) (B.faults board.new) }
     ensures steps { steps.new ≤ steps.old + 1 }
     ensures store { KeepsStore B.Board board.old board.new }
     ensures leaves { LeavesOnly B.Board board.old board.new

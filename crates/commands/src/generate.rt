@@ -119,7 +119,6 @@ fn latest_in(found: Found<Durable>) -> Option<Durable>
 fn state_in<B: Board<L>, L: Ledger>(board: &mut B, steps: &mut Steps<L>) -> Option<Durable>
     ensures has { B.tells_image → ¬ Rose (B.faults board.old) (B.faults board.new)
         → (durable : Durable) → HasState (B.image board.old) durable → result ≡ Some durable }
-    ensures count { B.faults board.old ≤ B.faults board.new }
     ensures steps { steps.new ≤ steps.old + 3 }
 {
     match scan::<Durable, B, L>(board, 0, steps) {

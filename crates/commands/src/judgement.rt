@@ -1,5 +1,5 @@
 //! Judges readings by a drive.
-ghost use Rattle.std.specs.Prelude.{◌≡◌, ◌≢◌, ◌⊎◌, ℕ, ◌≤◌, [], All, flat_map, IfOk, OnOk, Ok, Err};
+ghost use Rattle.std.specs.Prelude.{◌≡◌, ◌≢◌, ◌⊎◌, ℕ, [], All, flat_map, IfOk, OnOk, Ok, Err};
 ghost use Rattle.drive_text.specs.Ending.{Whole, drive_end};
 ghost use Rattle.drive_text.specs.Ranges.{IsRunInRange};
 ghost use Rattle.drive_text.specs.Runs.{run_events};
@@ -48,7 +48,7 @@ pub fn judge_drive<F: Files>(
     ensures others { (other : ℕ) → other ≢ 2 → other ≢ 3 → F.rest files.new other ≡ F.rest files.old other }
     ensures unread { F.tells → (other : ℕ) → other ≢ 2 → ¬ ((other ≡ 3) × (drive_end (F.rest files.old 2) ≡ Whole))
         → F.rest files.new other ≡ F.rest files.old other }
-    ensures counts { (other : ℕ) → F.faults files.old other ≤ F.faults files.new other }
+    ensures counts { result ≢ Err Ended.ReadFault → (other : ℕ) → F.faults files.new other ≡ F.faults files.old other }
 {
     let runs = match read_drive(alloc, files, 2) {
         Ok(runs) => runs,
@@ -100,7 +100,7 @@ fn readings_of_word<F: Files>(
     ensures read_fault { result ≡ Err Ended.ReadFault → Rose (F.faults files.old word) (F.faults files.new word) }
     ensures not_board { result ≢ Err Ended.BoardFault }
     ensures others { (other : ℕ) → other ≢ word → F.rest files.new other ≡ F.rest files.old other }
-    ensures counts { (other : ℕ) → F.faults files.old other ≤ F.faults files.new other }
+    ensures counts { result ≢ Err Ended.ReadFault → (other : ℕ) → F.faults files.new other ≡ F.faults files.old other }
 {
     match read_text(alloc, files, word, MOST) {
         Ok(text) => match read_readings(alloc, text.as_slice(), decimals) {

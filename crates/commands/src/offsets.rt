@@ -72,7 +72,8 @@ fn rules_of_word<F: Files>(files: &mut F, word: usize) -> Result<Rules, RulesFau
         → rules_read (F.rest files.old word) ≡ Err why }
     ensures read_fault { result ≡ Err RulesFault.ReadFault → Rose (F.faults files.old word) (F.faults files.new word) }
     ensures others { (other : ℕ) → other ≢ word → F.rest files.new other ≡ F.rest files.old other }
-    ensures counts { (other : ℕ) → F.faults files.old other ≤ F.faults files.new other }
+    ensures counts { result ≢ Err RulesFault.ReadFault
+        → (other : ℕ) → F.faults files.new other ≡ F.faults files.old other }
 {
     let mut text = [0; ROOM];
     match read_whole(files, word, &mut text) {

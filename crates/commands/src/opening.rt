@@ -51,7 +51,7 @@ pub fn open_store<B: Board<L>, L: Ledger>(
         board.old board.new (IsAsHeld B.Board board.old) }
     ensures settled { B.tells_image → ¬ IsErrOf result StoreFault.BoardFault → IsSettled B.Board board.new }
     ensures same { ¬ IsErrOf result StoreFault.BoardFault → B.image board.new ≡ B.image board.old }
-    ensures count { B.faults board.old ≤ B.faults board.new }
+    ensures count { ¬ IsErrOf result StoreFault.BoardFault → B.faults board.new ≡ B.faults board.old }
     ensures cause { IsErrOf result StoreFault.BoardFault → Rose (B.faults board.old) (B.faults board.new) }
     ensures steps { steps.new ≤ steps.old + 6 }
 {

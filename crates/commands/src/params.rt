@@ -1,5 +1,5 @@
 //! Reads the parameters of a word.
-ghost use Rattle.std.specs.Prelude.{◌≡◌, ◌≢◌, ℕ, ◌≤◌, [], IfOk, OnOk, Err};
+ghost use Rattle.std.specs.Prelude.{◌≡◌, ◌≢◌, ℕ, [], IfOk, OnOk, Err};
 ghost use Rattle.outside.specs.Faults.{Rose};
 ghost use Rattle.seal_store.specs.Ranges.{IsParams};
 ghost use Rattle.seal_store.specs.Reading.{params_read};
@@ -36,7 +36,8 @@ pub fn read_parameters<F: Files>(
         → params_read (F.rest files.old word) ≡ Err why }
     ensures read_fault { result ≡ Err ParamsFault.ReadFault → Rose (F.faults files.old word) (F.faults files.new word) }
     ensures others { (other : ℕ) → other ≢ word → F.rest files.new other ≡ F.rest files.old other }
-    ensures counts { (other : ℕ) → F.faults files.old other ≤ F.faults files.new other }
+    ensures counts { result ≢ Err ParamsFault.ReadFault
+        → (other : ℕ) → F.faults files.new other ≡ F.faults files.old other }
 {
     match read_text(alloc, files, word, MOST) {
         Ok(text) => match read_params(text.as_slice()) {

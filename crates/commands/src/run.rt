@@ -41,7 +41,7 @@ fn read_tables<F: Files>(alloc: Global, files: &mut F, seal: &Seal) -> Result<Ta
     ensures read_fault { result ≡ Err Ended.ReadFault → Rose (F.faults files.old 1) (F.faults files.new 1) }
     ensures not_board { result ≢ Err Ended.BoardFault }
     ensures others { (other : ℕ) → other ≢ 1 → F.rest files.new other ≡ F.rest files.old other }
-    ensures counts { (other : ℕ) → F.faults files.old other ≤ F.faults files.new other }
+    ensures counts { result ≢ Err Ended.ReadFault → (other : ℕ) → F.faults files.new other ≡ F.faults files.old other }
 {
     let checked = read_sealed(alloc, files, &seal.digest)?;
     match compile(alloc, &checked, seal.params.constant) {
@@ -82,7 +82,7 @@ fn begin<F: Files, B: Board<L>, L: Ledger>(
         → F.rest files.new other ≡ F.rest files.old other }
     ensures read_fault { result ≡ Err Ended.ReadFault → Rose (F.faults files.old 1) (F.faults files.new 1) }
     ensures others { (other : ℕ) → other ≢ 1 → F.rest files.new other ≡ F.rest files.old other }
-    ensures counts { (other : ℕ) → F.faults files.old other ≤ F.faults files.new other }
+    ensures counts { result ≢ Err Ended.ReadFault → (other : ℕ) → F.faults files.new other ≡ F.faults files.old other }
     ensures steps { steps.new ≤ steps.old + 22 }
 {
     let (durable, seal) = open_sealed(board, steps)?;

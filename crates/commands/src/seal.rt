@@ -138,7 +138,7 @@ fn read_seal<F: Files>(
     ensures others { (other : ℕ) → other ≢ 1 → other ≢ 2 → F.rest files.new other ≡ F.rest files.old other }
     ensures unread { F.tells → (other : ℕ) → other ≢ 1 → ¬ ((other ≡ 2) × HasDecimals found (F.rest files.old 1))
         → F.rest files.new other ≡ F.rest files.old other }
-    ensures counts { (other : ℕ) → F.faults files.old other ≤ F.faults files.new other }
+    ensures counts { result ≢ Err Ended.ReadFault → (other : ℕ) → F.faults files.new other ≡ F.faults files.old other }
 {
     let text = match text_of_word(alloc, files, 1) {
         Ok(text) => text,

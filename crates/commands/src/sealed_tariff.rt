@@ -60,7 +60,7 @@ pub fn read_sealed<F: Files>(
     ensures read_fault { result ≡ Err Ended.ReadFault → Rose (F.faults files.old 1) (F.faults files.new 1) }
     ensures not_board { result ≢ Err Ended.BoardFault }
     ensures others { (other : ℕ) → other ≢ 1 → F.rest files.new other ≡ F.rest files.old other }
-    ensures counts { (other : ℕ) → F.faults files.old other ≤ F.faults files.new other }
+    ensures counts { result ≢ Err Ended.ReadFault → (other : ℕ) → F.faults files.new other ≡ F.faults files.old other }
 {
     let text = match text_of_word(alloc, files, 1) {
         Ok(text) => text,

@@ -97,7 +97,8 @@ fn report_of_word<F: Files>(
     ensures read_fault { result ≡ Err ReportFault.ReadFault
         → Rose (F.faults files.old word) (F.faults files.new word) }
     ensures others { (other : ℕ) → other ≢ word → F.rest files.new other ≡ F.rest files.old other }
-    ensures counts { (other : ℕ) → F.faults files.old other ≤ F.faults files.new other }
+    ensures counts { result ≢ Err ReportFault.ReadFault
+        → (other : ℕ) → F.faults files.new other ≡ F.faults files.old other }
 {
     match read_text(alloc, files, word, MOST) {
         Ok(text) => report_of_text(alloc, text.as_slice(), now, decimals),

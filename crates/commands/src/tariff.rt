@@ -53,7 +53,8 @@ pub fn text_of_word<F: Files>(
         → (why ≡ Refusal.TooLong) × (65536 < length (F.rest files.old word)) }
     ensures read_fault { result ≡ Err TextFault.ReadFault → Rose (F.faults files.old word) (F.faults files.new word) }
     ensures others { (other : ℕ) → other ≢ word → F.rest files.new other ≡ F.rest files.old other }
-    ensures counts { (other : ℕ) → F.faults files.old other ≤ F.faults files.new other }
+    ensures counts { result ≢ Err TextFault.ReadFault
+        → (other : ℕ) → F.faults files.new other ≡ F.faults files.old other }
 {
     match read_text(alloc, files, word, MOST) {
         Ok(text) => Ok(text),
@@ -103,7 +104,8 @@ pub fn read_tariff<F: Files>(
         → tariff_in (F.rest files.old word) ≡ Err why }
     ensures read_fault { result ≡ Err TextFault.ReadFault → Rose (F.faults files.old word) (F.faults files.new word) }
     ensures others { (other : ℕ) → other ≢ word → F.rest files.new other ≡ F.rest files.old other }
-    ensures counts { (other : ℕ) → F.faults files.old other ≤ F.faults files.new other }
+    ensures counts { result ≢ Err TextFault.ReadFault
+        → (other : ℕ) → F.faults files.new other ≡ F.faults files.old other }
 {
     let text = text_of_word(alloc, files, word)?;
     tariff_of_text(alloc, text.as_slice())
@@ -138,7 +140,8 @@ pub fn tables_of_word<F: Files>(
         → tariff_in (F.rest files.old word) ≡ Err why }
     ensures read_fault { result ≡ Err TextFault.ReadFault → Rose (F.faults files.old word) (F.faults files.new word) }
     ensures others { (other : ℕ) → other ≢ word → F.rest files.new other ≡ F.rest files.old other }
-    ensures counts { (other : ℕ) → F.faults files.old other ≤ F.faults files.new other }
+    ensures counts { result ≢ Err TextFault.ReadFault
+        → (other : ℕ) → F.faults files.new other ≡ F.faults files.old other }
 {
     let text = text_of_word(alloc, files, word)?;
     tables_of_text(alloc, text.as_slice(), constant)

@@ -2,7 +2,7 @@
 #![tactic(auto, using(crate::proofs::BoardRuns::board_runs))]
 
 ghost use Rattle.std.specs.Prelude.{◌≡◌, ◌≢◌, ◌⊎◌, ℕ, None, Some, map, string_bytes};
-ghost use Rattle.outside.specs.Faults.{Rose};
+ghost use Rattle.outside.specs.Faults.{RisesOnlyIf, Rose};
 ghost use Rattle.outside.specs.Runs.{IsSettled, KeepsStore, LeavesOnly};
 ghost use Rattle.commands.specs.Call.{HasReadFault, IsCall, MayLack};
 ghost use Rattle.commands.specs.Carried.{CarriesRow};
@@ -105,8 +105,8 @@ fn carry_out<F: Files, B: Board<L>, L: Ledger>(
 ///   the held trip doesn't fit the tariff
 /// - 6, `WRONG TARIFF x y`, for `run` and `bench`: exactly where the sealed digest x and that of the tariff's text,
 ///   y, differ
-/// - 7, `READ FAULT`: only where the count of faults of a file that the command reads rose
-/// - 8, no line: only where the board's count of faults rose
+/// - 7, `READ FAULT`: only where the count of faults of a file that the command reads rose by one
+/// - 8, no line: exactly where the board's count of faults rose, by one
 /// - 9, `BAD PARAMS` with the fault, for `seal`: exactly where the parameters have this first fault
 /// - 10, `BAD READINGS n` or `BAD READINGS TOO LONG`, for `bench`: exactly where row n is the first that is no row
 ///   of readings, or the readings have more than 1,048,576 bytes
@@ -145,9 +145,11 @@ pub fn taxi<F: Files, B: Board<L>, L: Ledger>(
     ensures others { (word : ℕ) → ¬ (called (map string_bytes words.now)).reads word
         → F.rest files.new word ≡ F.rest files.old word }
 
-    // Each of the faults of the outside has its cause, whatever is told.
+    // Each of the faults of the outside has its cause, whatever is told: at 7 the count of a file that the command reads
+    // rose by one, at 8 the board's, at each other status no count of a file, and at each but 8 the board's is as it was.
     ensures read_fault { result ≡ 7 → HasReadFault F.Files (called (map string_bytes words.now)) files.old files.new }
-    ensures board_fault { result ≡ 8 → Rose (B.faults board.old) (B.faults board.new) }
+    ensures board_fault { RisesOnlyIf (result ≡ 8) (B.faults board.old) (B.faults board.new) }
+    ensures unfailed { result ≢ 7 → result ≢ 8 → (word : ℕ) → F.faults files.new word ≡ F.faults files.old word }
 
     // Where no count rose, the status is that of the answer, unless memory ran out.
     ensures complete { (called (map string_bytes words.now)).known F.tells B.tells_image

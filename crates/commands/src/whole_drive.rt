@@ -1,5 +1,5 @@
 //! Reads a drive whole into memory.
-ghost use Rattle.std.specs.Prelude.{◌≡◌, ◌≢◌, ℕ, ◌≤◌, All, IfOk, IfErr, Err};
+ghost use Rattle.std.specs.Prelude.{◌≡◌, ◌≢◌, ◌↔◌, ℕ, All, IfOk, IfErr, IsTrue, Err, Some};
 ghost use Rattle.drive_text.specs.Ranges.{IsRunInRange};
 ghost use Rattle.outside.specs.Faults.{Rose};
 ghost use Rattle.commands.specs.BenchSteps.{IsNoDrive, IsWholeDrive, fault_by};
@@ -35,13 +35,17 @@ pub fn read_drive<F: Files>(
     ensures refused { F.tells → IfErr result (IsNoDrive (F.rest files.old word) (F.rest files.new word)) }
     ensures read_fault { result ≡ Err DriveFault.ReadFault → Rose (F.faults files.old word) (F.faults files.new word) }
     ensures others { (other : ℕ) → other ≢ word → F.rest files.new other ≡ F.rest files.old other }
-    ensures counts { (other : ℕ) → F.faults files.old other ≤ F.faults files.new other }
+    ensures counts { result ≢ Err DriveFault.ReadFault
+        → (other : ℕ) → F.faults files.new other ≡ F.faults files.old other }
 {
     let mut source = Source::new();
     let mut part: ArrayVec<Run, 64> = ArrayVec::new();
     let mut runs = Vec::new(alloc);
     loop {
         let stop = source.next(files, word, &mut part);
+        if has_failed(stop) {
+            return Err(DriveFault::ReadFault);
+        }
         match runs.extend_from_slice(part.as_slice()) {
             Ok(()) => {}
             Err(_) => return Err(DriveFault::NoMemory),
@@ -52,6 +56,16 @@ pub fn read_drive<F: Files>(
                 Some(fault) => Err(fault),
             };
         }
+    }
+}
+
+/// Whether the reading of a drive stopped because a read failed.
+fn has_failed(stop: Option<Stop>) -> bool
+    ensures { IsTrue result ↔ (stop ≡ Some Stop.ReadFault) }
+{
+    match stop {
+        Some(Stop::ReadFault) => true,
+        _ => false,
     }
 }
 

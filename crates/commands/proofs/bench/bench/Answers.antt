@@ -37,10 +37,16 @@ returns-in-Err g c =
     (record { bytes = sym (c.open_terms.ensures.others 2 two-one) }) c.open_terms.ensures.opens.reads.text c.in-Err.why (c.in-Err.ensures.refused tells told))
     (λ later le tells told. omega (arith, le, c.open_terms.ensures.steps))
     (λ e. record { word = 1; reads = inl refl; rose = c.open_terms.ensures.read_fault (c.in-Err.is ∙ ap Err e) })
-    (record { count = c.open_terms.ensures.opens.count; failed = λ e. c.open_terms.ensures.opens.cause (c.in-Err.is ∙ ap Err e) })
+    (record {
+      count = λ good. c.open_terms.ensures.opens.count
+          (λ f. good (same_fault c.open_terms.result c.in-Err.why ended.BoardFault c.in-Err.is f));
+      failed = λ e.
+          c.open_terms.ensures.opens.cause (c.in-Err.is ∙ ap Err e);
+    })
     (λ word not. c.open_terms.ensures.others word (λ e. not (inl e)))
     (λ known word never. c.open_terms.ensures.unread known.1 word (λ h. never [] (inl (h.0, (refl, h.1)))))
-    (c.open_terms.ensures.counts)
+    (λ read good. c.open_terms.ensures.counts (λ f. read (same_fault c.open_terms.result c.in-Err.why ended.ReadFault
+    c.in-Err.is f)))
     (record {
       bytes = bytes-read g.B.Board c.args.board.now c.open_terms.new.board c.open_terms.ensures.opens.reads;
       same = λ good. c.open_terms.ensures.opens.same (λ f. good (same_fault c.open_terms.result c.in-Err.why ended.BoardFault c.in-Err.is f));
@@ -68,7 +74,17 @@ returns-in-Err-judge_drive g c =
     let of_files = not_judged-over terms (rest mid 2) (rest files 2) (rest new 2) (rest mid 3) (rest files 3) drive_failed text_failed why (c.open_terms.ensures.others 2 two-one)
     (c.open_terms.ensures.others 3 three-one) (c.judge_drive.ensures.refused why tells c.in-Err-judge_drive.is) in
     let later = not_judged-as terms (rest files 2) (rest new 2) (rest files 3) drive_failed text_failed (Rose (faults files 2) (faults new 2)) (Rose (faults files 3) (faults new 3))
-    (λ rose. omega (arith, rose, c.open_terms.ensures.counts 2)) (λ rose. omega (arith, rose, c.open_terms.ensures.counts 3)) why of_files in
+    (λ rose. omega (
+      arith,
+      rose,
+      c.open_terms.ensures.counts (no_fault c.open_terms.result c.in-Ok.terms
+          ended.ReadFault c.in-Ok.is) 2,
+    )) (λ rose. omega (
+      arith,
+      rose,
+      c.open_terms.ensures.counts
+          (no_fault c.open_terms.result c.in-Ok.terms ended.ReadFault c.in-Ok.is) 3,
+    )) why of_files in
     comes-not_judged (rest files) (rest new) (g.B.Board.image c.args.board.now) (λ word. Rose (faults files word) (faults new word))
     (Rose (g.B.Board.faults c.args.board.now) (g.B.Board.faults c.open_terms.new.board)) g.B.Board.tells_text (printed c.args.board.now) (printed c.open_terms.new.board)
     terms (c.in-Ok.ensures.found tells told) why c.open_terms.ensures.opens.reads.text later)
@@ -78,17 +94,42 @@ returns-in-Err-judge_drive g c =
     let mid = c.open_terms.new.files in
     let new = c.judge_drive.new.files in
     ⊎_elim
-    (λ (rose : Rose (faults mid 2) (faults new 2)). record { word = 2; reads = inr (inl refl); rose = omega (arith, rose, c.open_terms.ensures.counts 2) })
-    (λ (rose : Rose (faults mid 3) (faults new 3)). record { word = 3; reads = inr (inr refl); rose = omega (arith, rose, c.open_terms.ensures.counts 3) })
+    (λ (rose : Rose (faults mid 2) (faults new 2)). record {
+      word = 2;
+      reads = inr (inl refl);
+      rose = omega (
+        arith,
+        rose,
+        c.open_terms.ensures.counts (no_fault c.open_terms.result c.in-Ok.terms ended.ReadFault
+            c.in-Ok.is) 2,
+      );
+    })
+    (λ (rose : Rose (faults mid 3) (faults new 3)). record {
+      word = 3;
+      reads = inr (inr refl);
+      rose = omega (
+        arith,
+        rose,
+        c.open_terms.ensures.counts (no_fault c.open_terms.result c.in-Ok.terms ended.ReadFault
+            c.in-Ok.is) 3,
+      );
+    })
     (c.judge_drive.ensures.read_fault (c.in-Err-judge_drive.is ∙ ap Err e)))
-    (record { count = c.open_terms.ensures.opens.count; failed = λ e. absurd (c.judge_drive.ensures.not_board (c.in-Err-judge_drive.is ∙ ap Err e)) })
+    (record {
+      count = λ good. c.open_terms.ensures.opens.count
+          (no_fault c.open_terms.result c.in-Ok.terms ended.BoardFault c.in-Ok.is);
+      failed = λ e. absurd
+          (c.judge_drive.ensures.not_board (c.in-Err-judge_drive.is ∙ ap Err e));
+    })
     (λ word not. c.judge_drive.ensures.others word (λ e. not (inr (inl e))) (λ e. not (inr (inr e))) ∙ c.open_terms.ensures.others word (λ e. not (inl e)))
     (λ known. let rest = g.F.Files.rest in
     unread-terms (rest c.args.files.now) (rest c.open_terms.new.files) (rest c.judge_drive.new.files)
     (g.B.Board.image c.args.board.now) (terms_in c.in-Ok.terms)
     (c.in-Ok.ensures.found known.0 known.1) (c.open_terms.ensures.others 2 two-one)
     (c.open_terms.ensures.unread known.1) (c.judge_drive.ensures.unread known.0))
-    (λ word. omega (arith, c.open_terms.ensures.counts word, c.judge_drive.ensures.counts word))
+    (λ read good word. c.judge_drive.ensures.counts (λ f. read
+    (same_fault c.judge_drive.result c.in-Err-judge_drive.why ended.ReadFault c.in-Err-judge_drive.is f)) word
+    ∙ c.open_terms.ensures.counts (no_fault c.open_terms.result c.in-Ok.terms ended.ReadFault c.in-Ok.is) word)
     (record {
       bytes = bytes-read g.B.Board c.args.board.now c.open_terms.new.board c.open_terms.ensures.opens.reads;
       same = λ good. c.open_terms.ensures.opens.same (no_fault c.open_terms.result c.in-Ok.terms ended.BoardFault c.in-Ok.is);
@@ -117,14 +158,20 @@ returns-in-Ok-print_text g c =
     c.open_terms.ensures.others c.judge_drive.ensures.others (c.in-Ok-judge_drive.ensures.judged tells) (c.in-Ok-judge_drive.ensures.ended tells))
     c.as_slice.result.now _ _ _ c.open_terms.ensures.steps c.as_slice.ensures.value c.print_text.ensures.steps in omega (arith, le, bound))
     (λ e. absurd ((not_fault-passing c.in-Ok-judge_drive.judgement.pass).0 (sym c.ended.ensures ∙ e)))
-    (record { count = omega (arith, c.open_terms.ensures.opens.count, c.print_text.ensures.cause.later); failed = λ e. absurd ((not_fault-passing c.in-Ok-judge_drive.judgement.pass).1 (sym c.ended.ensures ∙ e)) })
+    (record {
+      count = λ good. c.in-Ok-print_text.ensures.cause.kept refl
+          ∙ c.open_terms.ensures.opens.count (no_fault c.open_terms.result c.in-Ok.terms ended.BoardFault c.in-Ok.is);
+      failed = λ e. absurd ((not_fault-passing c.in-Ok-judge_drive.judgement.pass).1 (sym c.ended.ensures ∙ e));
+    })
     (λ word not. c.judge_drive.ensures.others word (λ e. not (inr (inl e))) (λ e. not (inr (inr e))) ∙ c.open_terms.ensures.others word (λ e. not (inl e)))
     (λ known. let rest = g.F.Files.rest in
     unread-terms (rest c.args.files.now) (rest c.open_terms.new.files) (rest c.judge_drive.new.files)
     (g.B.Board.image c.args.board.now) (terms_in c.in-Ok.terms)
     (c.in-Ok.ensures.found known.0 known.1) (c.open_terms.ensures.others 2 two-one)
     (c.open_terms.ensures.unread known.1) (c.judge_drive.ensures.unread known.0))
-    (λ word. omega (arith, c.open_terms.ensures.counts word, c.judge_drive.ensures.counts word))
+    (λ read good word. c.judge_drive.ensures.counts (no_fault c.judge_drive.result c.in-Ok-judge_drive.judgement
+    ended.ReadFault c.in-Ok-judge_drive.is) word
+    ∙ c.open_terms.ensures.counts (no_fault c.open_terms.result c.in-Ok.terms ended.ReadFault c.in-Ok.is) word)
     (record {
       bytes = bytes-then g.B.Board c.args.board.now c.open_terms.new.board c.print_text.new.board (bytes-read g.B.Board c.args.board.now c.open_terms.new.board c.open_terms.ensures.opens.reads)
           (bytes-kept g.B.Board c.open_terms.new.board c.print_text.new.board c.print_text.ensures.store);
@@ -150,7 +197,11 @@ returns g c =
     comes-begun (rest c.args.files.now) (rest c.judge_drive.new.files) (g.B.Board.image c.args.board.now) _ _ g.B.Board.tells_text (printed c.args.board.now) (printed last) j
     (λ t. subst (λ (x : List ℕ). Begins (printed c.args.board.now) (printed last) x) c.as_slice.ensures.value
     (subst (λ (x : List ℕ). Begins x (printed last) c.as_slice.result.now) c.open_terms.ensures.opens.reads.text (c.print_text.ensures.begun t)))
-    (omega (arith, c.print_text.ensures.cause.failed (ap is_err c.in-Err-print_text.is), c.open_terms.ensures.opens.count)))
+    (omega (
+      arith,
+      c.print_text.ensures.cause.failed (ap is_err c.in-Err-print_text.is),
+      c.open_terms.ensures.opens.count (no_fault c.open_terms.result c.in-Ok.terms ended.BoardFault c.in-Ok.is),
+    )))
     (λ later le tells told.
     let rest = g.F.Files.rest in
     let bound = steps-judged (rest c.args.files.now) (rest c.judge_drive.new.files) (g.B.Board.image c.args.board.now)
@@ -158,14 +209,24 @@ returns g c =
     c.open_terms.ensures.others c.judge_drive.ensures.others (c.in-Ok-judge_drive.ensures.judged tells) (c.in-Ok-judge_drive.ensures.ended tells))
     c.as_slice.result.now _ _ _ c.open_terms.ensures.steps c.as_slice.ensures.value c.print_text.ensures.steps in omega (arith, le, bound))
     (λ e. absurd cc)
-    (record { count = omega (arith, c.open_terms.ensures.opens.count, c.print_text.ensures.cause.later); failed = λ e. omega (arith, c.print_text.ensures.cause.failed (ap is_err c.in-Err-print_text.is), c.open_terms.ensures.opens.count) })
+    (record {
+      count = λ good. absurd (good refl);
+      failed = λ e. omega (
+        arith,
+        c.print_text.ensures.cause.failed (ap is_err c.in-Err-print_text.is),
+        c.open_terms.ensures.opens.count
+            (no_fault c.open_terms.result c.in-Ok.terms ended.BoardFault c.in-Ok.is),
+      );
+    })
     (λ word not. c.judge_drive.ensures.others word (λ e. not (inr (inl e))) (λ e. not (inr (inr e))) ∙ c.open_terms.ensures.others word (λ e. not (inl e)))
     (λ known. let rest = g.F.Files.rest in
     unread-terms (rest c.args.files.now) (rest c.open_terms.new.files) (rest c.judge_drive.new.files)
     (g.B.Board.image c.args.board.now) (terms_in c.in-Ok.terms)
     (c.in-Ok.ensures.found known.0 known.1) (c.open_terms.ensures.others 2 two-one)
     (c.open_terms.ensures.unread known.1) (c.judge_drive.ensures.unread known.0))
-    (λ word. omega (arith, c.open_terms.ensures.counts word, c.judge_drive.ensures.counts word))
+    (λ read good word. c.judge_drive.ensures.counts (no_fault c.judge_drive.result c.in-Ok-judge_drive.judgement
+    ended.ReadFault c.in-Ok-judge_drive.is) word
+    ∙ c.open_terms.ensures.counts (no_fault c.open_terms.result c.in-Ok.terms ended.ReadFault c.in-Ok.is) word)
     (record {
       bytes = bytes-then g.B.Board c.args.board.now c.open_terms.new.board c.print_text.new.board (bytes-read g.B.Board c.args.board.now c.open_terms.new.board c.open_terms.ensures.opens.reads)
           (bytes-kept g.B.Board c.open_terms.new.board c.print_text.new.board c.print_text.ensures.store);

@@ -1,4 +1,8 @@
 use Rattle.std.proofs.Common.{◌∙◌, [], Err, refl, ap, arith, rules}
+use Rattle.commands.proofs.Openings.{no_fault}
+use Rattle.commands.proofs.Counting.{unless_read}
+use Rattle.commands.specs.Ending.{ended_for}
+use Rattle.commands.specs.declared.tariff.TextFault.TheVariants as texts
 use Rattle.commands.specs.Check.{check_command}
 use Rattle.commands.specs.Tariffs.{tariff_in}
 use Rattle.commands.proofs.Carrying.{carries-said}
@@ -11,7 +15,7 @@ returns-in-Ok g c = λ image.
     carries-said g.F.Files image check_command c.args.files.now c.read_tariff.new.files _ (λ none. none) (λ status w. w)
     (λ tells. search rules) (λ later le. omega (arith, le)) (λ e. absurd cc) (λ e. absurd cc)
     c.read_tariff.ensures.others (λ tells word never. c.read_tariff.ensures.others word (never []))
-    c.read_tariff.ensures.counts
+    (λ read good. c.read_tariff.ensures.counts (no_fault c.read_tariff.result c.in-Ok.checked texts.ReadFault c.in-Ok.is))
 
 pub returns-in-Err : goal.returns-in-Err
 returns-in-Err g c = λ image.
@@ -22,4 +26,6 @@ returns-in-Err g c = λ image.
     (λ e. c.read_tariff.ensures.read_fault (c.in-Err.is ∙ ap Err e))
     (λ why e. refused-check (tariff_in (rest c.args.files.now 1)) why (c.read_tariff.ensures.refused why tells (c.in-Err.is ∙ ap Err e)))))
     (λ later le. omega (arith, le)) (search rules) (search rules) c.read_tariff.ensures.others
-    (λ tells word never. c.read_tariff.ensures.others word (never [])) c.read_tariff.ensures.counts
+    (λ tells word never. c.read_tariff.ensures.others word (never []))
+    (unless_read c.read_tariff.result c.in-Err.fault texts.ReadFault ended_for c.in-Err.is c.refused_by.ensures
+    refl c.read_tariff.ensures.counts)

@@ -1,8 +1,12 @@
-use Rattle.std.proofs.Common.{◌≡◌, ◌≢◌, ◌∙◌, ℕ, List, [], Err, refl, sym, ap, arith, rules, inl, inr}
+use Rattle.std.proofs.Common.{◌≡◌, ◌≢◌, ◌∙◌, ℕ, List, [], Err, refl, sym, ap, arith, rules, inl, inr, ⊎_elim}
 use Rattle.tariff_compile.specs.Tables.{TableParts}
 use Rattle.meter_states.specs.Setting.{IsSealOf, IsSettingOf, IsTariffOf}
 use Rattle.drive_text.specs.Ending.{IsSplit}
 use Rattle.outside.proofs.Laws.{keeps_none}
+use Rattle.commands.specs.declared.tariff.TextFault.TheVariants as texts
+use Rattle.commands.specs.Ending.{ended_by, ended_for}
+use Rattle.commands.proofs.Counting.{unless_read}
+use Rattle.commands.proofs.Openings.{no_fault}
 use Rattle.commands.specs.Fare.{fare_command, setting_of}
 use Rattle.commands.specs.Tariffs.{tariff_in}
 use Rattle.commands.proofs.Carrying.{carries-kept}
@@ -48,7 +52,8 @@ returns-in-Err g c =
     (search rules)
     (λ word not. c.tables_of_word.ensures.others word (λ e. not (inl e)))
     (λ tells word never. c.tables_of_word.ensures.others word (λ e. never [] (inl (e, refl))))
-    c.tables_of_word.ensures.counts (keeps_none g.B.Board c.args.board.now)
+    (unless_read c.tables_of_word.result c.in-Err.fault texts.ReadFault ended_for c.in-Err.is c.refused_by.ensures
+    refl c.tables_of_word.ensures.counts) (keeps_none g.B.Board c.args.board.now)
 
 pub returns : goal.returns
 returns g c =
@@ -70,8 +75,13 @@ returns g c =
     (comes-ran k (rest c.args.files.now) (rest c.dry_run-ran.new.files) (g.B.Board.image c.args.board.now) _ _ _
     (g.B.Board.printed c.args.board.now) (g.B.Board.printed c.dry_run-ran.new.board) tables seal t made.sound is read
     c.dry_run-ran.result runs
-    (λ e. omega (arith, c.dry_run-ran.ensures.read_fault e, c.tables_of_word.ensures.counts 2))
-    c.dry_run-ran.ensures.board_fault))
+    (λ e. omega (
+      arith,
+      c.dry_run-ran.ensures.read_fault e,
+      c.tables_of_word.ensures.counts
+          (no_fault c.tables_of_word.result c.in-Ok.tables texts.ReadFault c.in-Ok.is) 2,
+    ))
+    c.dry_run-ran.ensures.board_fault.rose))
     (λ later le.
     let h = c.dry_run-ran.ensures.steps in
     record {
@@ -82,13 +92,23 @@ returns g c =
     })
     (λ e.
     let failed = c.dry_run-ran.ensures.read_fault (read_fault-ran c.dry_run-ran.result (sym c.ended_of.ensures ∙ e)) in
-    record { word = 2; reads = inr refl; rose = omega (arith, failed, c.tables_of_word.ensures.counts 2) })
-    (record {
-      count = c.dry_run-ran.ensures.count;
-      failed = λ e. c.dry_run-ran.ensures.board_fault (board_fault-ran c.dry_run-ran.result (sym c.ended_of.ensures ∙ e));
+    record {
+      word = 2;
+      reads = inr refl;
+      rose = omega (
+        arith,
+        failed,
+        c.tables_of_word.ensures.counts
+            (no_fault c.tables_of_word.result c.in-Ok.tables texts.ReadFault c.in-Ok.is) 2,
+      );
     })
-    (λ word not. c.dry_run-ran.ensures.others word (λ e. not (inr e)) ∙ c.tables_of_word.ensures.others word
-    (λ e. not (inl e)))
+    (record {
+      count = λ good. c.dry_run-ran.ensures.board_fault.kept (λ f. good (c.ended_of.ensures ∙ ap ended_by f));
+      failed = λ e. c.dry_run-ran.ensures.board_fault.rose (board_fault-ran c.dry_run-ran.result
+          (sym c.ended_of.ensures ∙ e));
+    })
+    (λ word not. c.dry_run-ran.ensures.others word (λ e. not (inr e))
+    ∙ c.tables_of_word.ensures.others word (λ e. not (inl e)))
     (λ tells word never.
     let made = c.in-Ok.ensures.found tells in
     c.dry_run-ran.ensures.others word (λ e. never [] (inr (
@@ -96,5 +116,8 @@ returns g c =
       record { tree = made.tree; sound = made.sound; going = begins_going },
     )))
     ∙ c.tables_of_word.ensures.others word (λ e. never [] (inl (e, refl))))
-    (λ word. omega (arith, c.tables_of_word.ensures.counts word, c.dry_run-ran.ensures.counts word))
-    (c.dry_run-ran.ensures.store)
+    (λ read good word.
+    (c.dry_run-ran.ensures.counts word).kept (λ failed. ⊎_elim (λ f. read (c.ended_of.ensures ∙ ap ended_by f))
+    (λ f. good (c.ended_of.ensures ∙ ap ended_by f)) failed)
+    ∙ c.tables_of_word.ensures.counts (no_fault c.tables_of_word.result c.in-Ok.tables texts.ReadFault c.in-Ok.is)
+    word) (c.dry_run-ran.ensures.store)

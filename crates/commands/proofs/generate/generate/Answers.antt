@@ -24,7 +24,7 @@ returns-in-Err g c = λ contents.
     (λ why e. subst (λ (x : List ℕ). tariff_in x ≡ Err why) c.city_tariff-text.ensures (c.tables_of_text.ensures.refused why (c.in-Err.is ∙ ap Err e))))))
     (λ later le. omega (arith, le)) (search rules)
     (search rules)
-    (λ word not. refl) (λ known word never. refl) (λ word. omega arith) (keeps_none g.B.Board c.args.board.now)
+    (λ word not. refl) (λ known word never. refl) (λ read good word. refl) (keeps_none g.B.Board c.args.board.now)
 
 pub state_of_drive-durable-requires-clause-setting : goal.state_of_drive-durable-requires-clause-setting
 state_of_drive-durable-requires-clause-setting g c = let made = c.in-Ok.ensures.found in (
@@ -47,10 +47,9 @@ returns-in-Ok-print g c = λ contents.
     (text_is c.args.seed c.args.trips c.decimals-decimals.result c.state_of_drive-durable.result t c.in-Ok.tables (made.value ∙ ap (tables_of made.tree) c.ten_thousand-constant.ensures) c.decimals-decimals.ensures.value (c.state_of_drive-durable.ensures.state (generated_setting t) is))
     (λ tells. c.in-Ok-print.ensures.whole tells ∙ ap (λ (x : List ℕ). printed c.args.board.now ++ x) (c.as_slice.ensures.value ∙ c.summary-line.ensures.text)))
     (λ later le. omega (arith, le, c.state_of_drive-durable.ensures.steps, c.print.ensures.step)) (λ e. absurd cc)
-    (record { count = c.print.ensures.cause.later; failed = λ e. absurd cc })
-    (λ word not. refl) (λ known word never. refl) (λ word. omega arith)
-    (keeps_print g.B.Board c.args.board.now c.print.new.self _ c.print.ensures.image c.print.ensures.flight
-    c.print.ensures.time)
+    (record { count = λ good. c.in-Ok-print.ensures.cause.kept refl; failed = λ e. absurd cc })
+    (λ word not. refl) (λ known word never. refl) (λ read good word. refl) (keeps_print g.B.Board c.args.board.now c.print.new.self _
+    c.print.ensures.image c.print.ensures.flight c.print.ensures.time)
 
 pub returns : goal.returns
 returns g c = λ contents.
@@ -67,7 +66,10 @@ returns g c = λ contents.
     (λ tells. subst (λ (x : List ℕ). Begins (printed c.args.board.now) (printed c.print.new.self) x) (c.as_slice.ensures.value ∙ c.summary-line.ensures.text) (c.print.ensures.begun tells))
     (c.print.ensures.cause.failed (ap is_err c.in-Err-print.is)))
     (λ later le. omega (arith, le, c.state_of_drive-durable.ensures.steps, c.print.ensures.step)) (λ e. absurd cc)
-    (record { count = c.print.ensures.cause.later; failed = λ e. c.print.ensures.cause.failed (ap is_err c.in-Err-print.is) })
-    (λ word not. refl) (λ known word never. refl) (λ word. omega arith)
-    (keeps_print g.B.Board c.args.board.now c.print.new.self _ c.print.ensures.image c.print.ensures.flight
-    c.print.ensures.time)
+    (record {
+      count = λ good. absurd (good refl);
+      failed = λ e. c.print.ensures.cause.failed
+          (ap is_err c.in-Err-print.is);
+    })
+    (λ word not. refl) (λ known word never. refl) (λ read good word. refl) (keeps_print g.B.Board c.args.board.now c.print.new.self _
+    c.print.ensures.image c.print.ensures.flight c.print.ensures.time)

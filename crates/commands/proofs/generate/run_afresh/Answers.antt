@@ -1,4 +1,4 @@
-use Rattle.std.proofs.Common.{ap, arith}
+use Rattle.std.proofs.Common.{ap, arith, refl}
 use Rattle.std.specs.Prelude.{is_err}
 use Rattle.slot_store.proofs.Laws.{at_stands}
 use Rattle.totaliser_store.specs.Reading as totals
@@ -21,7 +21,8 @@ returns-in-Err-clause-state g c = λ tells told whole calm still s is. absurd (s
 pub returns-in-Err-run_events-clause-state : goal.returns-in-Err-run_events-clause-state
 returns-in-Err-run_events-clause-state g c = λ tells told whole calm still s is.
     absurd (not_failed c.run_events.result
-    (c.run_events.ensures.complete tells whole calm (λ rose. still (omega (arith, rose, c.place_seal.ensures.cause.later)))) (ap is_err c.in-Err-run_events.is))
+    (c.run_events.ensures.complete tells whole calm (λ rose. still
+    (omega (arith, rose, c.in-Ok.ensures.cause.kept refl)))) (ap is_err c.in-Err-run_events.is))
 
 -- ---- it was
 
@@ -33,7 +34,12 @@ returns-in-Ok-run_events-clause-state g c = λ tells told whole calm still s is.
     let opens : OpensWith g.B.Board tables c.place_seal.new.board first_state = record { place = placed.totals.0; settled = placed.totals.1; fits = λ trip e. absurd cc } in
     let done = ((c.in-Ok-run_events.ensures.ends tells).runs told s first_state is opens).opens in
     let stands : HasState (g.B.Board.image c.run_events.new.board) (state_after s (g.F.Files.rest c.args.files.now 0)) = at_stands totals.reads states.number_of 0 done.place _ _ done.settled.is_at in
-    c.state_in.ensures.has told (λ rose. still (omega (arith, rose, c.place_seal.ensures.cause.later, c.run_events.ensures.count))) _ stands
+    c.state_in.ensures.has told (λ rose. still (omega (
+      arith,
+      rose,
+      c.in-Ok.ensures.cause.kept refl,
+      c.in-Ok-run_events.ensures.board_fault.kept (λ bad. absurd cc),
+    ))) _ stands
 
 pub returns-in-Ok-run_events-clause-steps : goal.returns-in-Ok-run_events-clause-steps
 returns-in-Ok-run_events-clause-steps g c = λ tells told whole calm still s is.

@@ -4,8 +4,9 @@ use Rattle.outside.specs.Faults.{Rose}
 use Rattle.tariff_syntax.specs.declared.tariff.Tariff.{Tariff}
 use Rattle.commands.specs.BenchSteps.{IsNoReadings, IsNotJudged, IsWholeDrive, terms_in}
 use Rattle.commands.specs.declared.ending.Ended.{Ended}
+use Rattle.commands.specs.declared.whole_drive.DriveFault.TheVariants as drives
 use Rattle.commands.proofs.Judging.{no_readings-as, not_board-drive, not_judged-drive, not_judged-memory, not_judged-readings, read_fault-drive}
-use Rattle.commands.proofs.Openings.{same_fault}
+use Rattle.commands.proofs.Openings.{same_fault, no_fault}
 use Rattle.commands.proofs.judgement.judge_drive.Goals as goal
 
 two-three : (n : ℕ) → n ≡ 2 → n ≢ 3
@@ -52,7 +53,13 @@ returns-in_err-readings-clause-refused g c =
     subst (λ (x : List ℕ). IsNoReadings c.tariff.result.now.decimals x first_failed end) (c.read_drive.ensures.others 3 (three-two 3 refl)) first in
     let of_tariff : IsNoReadings terms.tree.decimals (rest files 3) first_failed end =
     subst (λ (t : Tariff). IsNoReadings t.decimals (rest files 3) first_failed end) c.tariff.ensures.value of_text in
-    let later = no_readings-as terms.tree.decimals (rest files 3) first_failed text_failed end (λ rose. omega (arith, rose, c.read_drive.ensures.counts 3)) of_tariff in
+    let later = no_readings-as terms.tree.decimals (rest files 3) first_failed text_failed end
+    (λ rose. omega (
+      arith,
+      rose,
+      c.read_drive.ensures.counts
+          (no_fault c.read_drive.result c.in-Ok.runs drives.ReadFault c.in-Ok.is) 3,
+    )) of_tariff in
     let whole : IsWholeDrive (rest files 2) (rest new 2) c.in-Ok.runs.items =
     subst (λ (x : List ℕ). IsWholeDrive (rest files 2) x c.in-Ok.runs.items) (sym (c.readings_of_word.ensures.others 2 (two-three 2 refl))) (c.in-Ok.ensures.whole tells) in
     subst (λ (w : Ended). IsNotJudged terms (rest files 2) (rest new 2) (rest files 3) failed text_failed w) (same_fault _ _ _ refl e)

@@ -18,7 +18,7 @@ returns-in-Err g c = λ contents.
     (λ tells. ends-barred g.B.Board (mark_command c.args.driver) contents contents _ c.args.board.now c.open_sealed.new.board (mark_answer c.args.driver) refl refl
     c.open_sealed.result (c.open_sealed.ensures.exact tells) c.open_sealed.ensures.opens (λ e. absurd cc) (λ e. absurd cc) c.in-Err.why c.in-Err.is c.in-Err.ensures.barred refl)
     (λ later le. omega (arith, le, c.open_sealed.ensures.steps)) (search rules) (search rules) (λ word not. refl)
-    (λ known word never. refl) (λ word. omega arith) (search rules)
+    (λ known word never. refl) (λ read good word. refl) (search rules)
 
 -- the mark is printed
 pub returns-in-Ok-print : goal.returns-in-Ok-print
@@ -30,10 +30,10 @@ returns-in-Ok-print g c = λ contents.
     refl (c.as_slice.ensures.value ∙ c.mark_line-line.ensures.text) (λ word reads. absurd reads) c.print.new.self c.in-Ok-print.ensures.whole)
     (λ later le. omega (arith, le, c.open_sealed.ensures.steps, c.print.ensures.step)) (λ e. absurd cc)
     (record {
-      count = omega (arith, c.open_sealed.ensures.opens.count, c.print.ensures.cause.later);
-      failed = λ e.
-          absurd cc;
-    }) (λ word not. refl) (λ known word never. refl) (λ word. omega arith)
+      count = λ good. c.in-Ok-print.ensures.cause.kept refl
+          ∙ c.open_sealed.ensures.opens.count (no_fault c.open_sealed.result c.in-Ok.store ended.BoardFault c.in-Ok.is);
+      failed = λ e. absurd cc;
+    }) (λ word not. refl) (λ known word never. refl) (λ read good word. refl)
     (looks-behind g.B.Board _ ended.Done c.args.board.now mid c.print.new.self (no_fault c.open_sealed.result c.in-Ok.store ended.BoardFault c.in-Ok.is) c.open_sealed.ensures.opens
     (g.met.B.Board.only_now mid) (keeps_print g.B.Board mid c.print.new.self _ c.print.ensures.image c.print.ensures.flight c.print.ensures.time))
 
@@ -47,7 +47,15 @@ returns-in-Err-print g c = λ contents.
     c.open_sealed.result (c.open_sealed.ensures.exact tells) c.open_sealed.ensures.opens c.in-Ok.store c.in-Ok.is (mark_text (mark_of c.args.driver c.in-Ok.store.0)) c.as_slice.result.now
     refl (c.as_slice.ensures.value ∙ c.mark_line-line.ensures.text) (λ word reads. absurd reads) c.print.new.self c.print.ensures.begun failed)
     (λ later le. omega (arith, le, c.open_sealed.ensures.steps, c.print.ensures.step)) (λ e. absurd cc)
-    (record { count = omega (arith, c.open_sealed.ensures.opens.count, c.print.ensures.cause.later); failed = λ e. omega (arith, c.open_sealed.ensures.opens.count, failed) })
-    (λ word not. refl) (λ known word never. refl) (λ word. omega arith)
+    (record {
+      count = λ good. absurd (good refl);
+      failed = λ e. omega (
+        arith,
+        c.open_sealed.ensures.opens.count (no_fault c.open_sealed.result c.in-Ok.store ended.BoardFault
+            c.in-Ok.is),
+        failed,
+      );
+    })
+    (λ word not. refl) (λ known word never. refl) (λ read good word. refl)
     (looks-behind g.B.Board _ ended.BoardFault c.args.board.now mid c.print.new.self (no_fault c.open_sealed.result c.in-Ok.store ended.BoardFault c.in-Ok.is) c.open_sealed.ensures.opens
     (g.met.B.Board.only_now mid) (keeps_print g.B.Board mid c.print.new.self _ c.print.ensures.image c.print.ensures.flight c.print.ensures.time))

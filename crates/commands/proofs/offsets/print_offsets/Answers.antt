@@ -2,7 +2,11 @@ use Rattle.std.proofs.Common.{◌∙◌, ℕ, [], Err, refl, ap, arith, rules}
 use Rattle.std.specs.Prelude.{is_err}
 use Rattle.outside.proofs.Laws.{keeps_none}
 use Rattle.offset_rules.specs.Pairs.{pairs_of}
+use Rattle.commands.proofs.Openings.{no_fault}
+use Rattle.commands.proofs.Counting.{unless_read}
+use Rattle.commands.specs.Ending.{ended_for_rules}
 use Rattle.commands.specs.declared.ending.Ended.TheVariants as ended
+use Rattle.commands.specs.declared.offsets.RulesFault.TheVariants as rules
 use Rattle.commands.specs.Offsets.{offsets_command}
 use Rattle.commands.proofs.Carrying.{carries-kept}
 use Rattle.commands.proofs.Listing.{comes-lines, comes-lines_begun, comes-refused}
@@ -18,8 +22,9 @@ returns-in-Err g c =
     (λ e. c.rules_of_word.ensures.read_fault (c.in-Err.is ∙ ap Err e))
     (λ why e. c.rules_of_word.ensures.refused why tells (c.in-Err.is ∙ ap Err e))))
     (λ later le. omega (arith, le)) (search rules) (search rules) c.rules_of_word.ensures.others
-    (λ tells word never. c.rules_of_word.ensures.others word (never [])) c.rules_of_word.ensures.counts
-    (search (rules, keeps_none))
+    (λ tells word never. c.rules_of_word.ensures.others word (never []))
+    (unless_read c.rules_of_word.result c.in-Err.fault rules.ReadFault ended_for_rules c.in-Err.is
+    c.refused_rules.ensures refl c.rules_of_word.ensures.counts) (search (rules, keeps_none))
 
 pub returns-in-Ok-print_pairs : goal.returns-in-Ok-print_pairs
 returns-in-Ok-print_pairs g c =
@@ -31,12 +36,11 @@ returns-in-Ok-print_pairs g c =
     rule c.as_slice.result.now (c.in-Ok.ensures.found tells)
     (c.as_slice.ensures.value ∙ c.pairs-pairs.ensures.value ∙ ap (λ (years : ℕ × ℕ). pairs_of rule years.0 years.1) c.bounds-first.ensures.value)
     (c.in-Ok.ensures.ended tells) c.in-Ok-print_pairs.ensures.whole)
-    (λ later le. search (rules, le)) (λ e. absurd cc) (record {
-      count = c.print_pairs.ensures.cause.later;
-      failed = λ e.
-          absurd cc;
-    }) c.rules_of_word.ensures.others (λ tells word never. c.rules_of_word.ensures.others word (never []))
-    c.rules_of_word.ensures.counts c.print_pairs.ensures.store
+    (λ later le. search (rules, le)) (λ e. absurd cc)
+    (record { count = λ good. c.in-Ok-print_pairs.ensures.cause.kept refl; failed = λ e. absurd cc })
+    c.rules_of_word.ensures.others (λ tells word never. c.rules_of_word.ensures.others word (never []))
+    (λ read good. c.rules_of_word.ensures.counts (no_fault c.rules_of_word.result c.in-Ok.rules rules.ReadFault c.in-Ok.is))
+    c.print_pairs.ensures.store
 
 pub returns-in-Err-print_pairs : goal.returns-in-Err-print_pairs
 returns-in-Err-print_pairs g c =
@@ -49,9 +53,9 @@ returns-in-Err-print_pairs g c =
     (c.as_slice.ensures.value ∙ c.pairs-pairs.ensures.value ∙ ap (λ (years : ℕ × ℕ). pairs_of rule years.0 years.1) c.bounds-first.ensures.value)
     (c.in-Ok.ensures.ended tells) c.print_pairs.ensures.begun (c.print_pairs.ensures.cause.failed (ap is_err c.in-Err-print_pairs.is)))
     (λ later le. search (rules, le)) (λ e. absurd cc) (record {
-      count = c.print_pairs.ensures.cause.later;
-      failed = λ e.
-          c.print_pairs.ensures.cause.failed (ap is_err c.in-Err-print_pairs.is);
-    }) c.rules_of_word.ensures.others
-    (λ tells word never. c.rules_of_word.ensures.others word (never [])) c.rules_of_word.ensures.counts
+      count = λ good. absurd (good refl);
+      failed = λ e. c.print_pairs.ensures.cause.failed (ap is_err c.in-Err-print_pairs.is);
+    })
+    c.rules_of_word.ensures.others (λ tells word never. c.rules_of_word.ensures.others word (never []))
+    (λ read good. c.rules_of_word.ensures.counts (no_fault c.rules_of_word.result c.in-Ok.rules rules.ReadFault c.in-Ok.is))
     c.print_pairs.ensures.store

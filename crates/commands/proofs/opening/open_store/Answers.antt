@@ -25,7 +25,7 @@ returns-in-Err-clause-same g c = λ good.
 pub returns-in-Err-clause-cause : goal.returns-in-Err-clause-cause
 returns-in-Err-clause-cause g c = λ e.
     let failed = failed_from 0 c.in-Err.fault (sym c.fault_of_pair.ensures ∙ same_fault _ _ _ refl e) in
-    c.scan.ensures.cause (c.in-Err.is ∙ ap Err failed)
+    c.scan.ensures.cause.rose (c.in-Err.is ∙ ap Err failed)
 
 pub returns-in-Err-scan-clause-exact : goal.returns-in-Err-scan-clause-exact
 returns-in-Err-scan-clause-exact g c = λ tells good.
@@ -55,7 +55,12 @@ returns-in-Err-scan-clause-same g c = λ good.
 pub returns-in-Err-scan-clause-cause : goal.returns-in-Err-scan-clause-cause
 returns-in-Err-scan-clause-cause g c = λ e.
     let failed = failed_from 2 c.in-Err-scan.fault (sym c.fault_of_pair-in-Err-scan.ensures ∙ same_fault _ _ _ refl e) in
-    omega (arith, c.scan-2.ensures.cause (c.in-Err-scan.is ∙ ap Err failed), c.scan.ensures.faults)
+    omega (
+      arith,
+      c.scan-2.ensures.cause.rose (c.in-Err-scan.is ∙ ap Err failed),
+      c.scan.ensures.cause.kept
+          (no_fault c.scan.result c.in-Ok.found slots.DeviceFailed c.in-Ok.is),
+    )
 
 pub returns-clause-exact : goal.returns-clause-exact
 returns-clause-exact g c = λ tells good.
@@ -117,3 +122,21 @@ returns-clause-synced g c = λ tells.
 
 pub returns-clause-settled : goal.returns-clause-settled
 returns-clause-settled g c = λ tells good. c.scan-2.ensures.durable tells (no_fault c.scan-2.result c.in-Ok-scan.found slots.DeviceFailed c.in-Ok-scan.is)
+
+-- ---- the board's count
+
+pub returns-in-Err-clause-count : goal.returns-in-Err-clause-count
+returns-in-Err-clause-count g c = λ good.
+    c.scan.ensures.cause.kept (λ e. good (ap Err (c.fault_of_pair.ensures
+    ∙ ap (fault_from 0) (same_fault c.scan.result c.in-Err.fault slots.DeviceFailed c.in-Err.is e))))
+
+pub returns-in-Err-scan-clause-count : goal.returns-in-Err-scan-clause-count
+returns-in-Err-scan-clause-count g c = λ good.
+    c.scan-2.ensures.cause.kept (λ e. good (ap Err (c.fault_of_pair-in-Err-scan.ensures
+    ∙ ap (fault_from 2) (same_fault c.scan-2.result c.in-Err-scan.fault slots.DeviceFailed c.in-Err-scan.is e))))
+    ∙ c.scan.ensures.cause.kept (no_fault c.scan.result c.in-Ok.found slots.DeviceFailed c.in-Ok.is)
+
+pub returns-clause-count : goal.returns-clause-count
+returns-clause-count g c = λ good.
+    c.scan-2.ensures.cause.kept (no_fault c.scan-2.result c.in-Ok-scan.found slots.DeviceFailed c.in-Ok-scan.is)
+    ∙ c.scan.ensures.cause.kept (no_fault c.scan.result c.in-Ok.found slots.DeviceFailed c.in-Ok.is)

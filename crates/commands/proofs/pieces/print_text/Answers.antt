@@ -1,4 +1,4 @@
-use Rattle.std.proofs.Common.{rules, ◌≡◌, ◌∙◌, ◌+◌, ◌≤◌, ◌<◌, ◌++◌, ℕ, List, length, min, take, drop, sym, ap, subst, arith, append_assoc}
+use Rattle.std.proofs.Common.{rules, ◌≡◌, ◌∙◌, ◌+◌, ◌≤◌, ◌<◌, ◌++◌, ℕ, List, length, min, take, drop, sym, ap, subst, arith, append_assoc, refl}
 use Rattle.std.proofs.lemmas.List.{take-append-drop}
 use Rattle.outside.specs.Printing.{Begins}
 use Rattle.outside.proofs.Laws.{begins_after, begins_more, keeps_print, keeps_then}
@@ -44,7 +44,7 @@ loop-rest-preserved g c =
       printed = λ told.
           c.in_ok-print.ensures.whole told ∙ ap (λ (x : List ℕ). x ++ piece) (inv.printed told)
           ∙ append_assoc (printed c.args.board.now) inv.done piece;
-      faults = omega (arith, inv.faults, c.print.ensures.cause.later);
+      faults = c.in_ok-print.ensures.cause.kept refl ∙ inv.faults;
       store = keeps_then g.B.Board c.args.board.now c.loop-rest.board c.print.new.self inv.store (keeps_print g.B.Board c.loop-rest.board c.print.new.self _ c.print.ensures.image c.print.ensures.flight c.print.ensures.time);
       steps = one_piece c.print.new.steps c.loop-rest.steps (length rest) c.min.result (length more) (pieces_of (length c.args.text.now)) c.args.steps.now
           c.print.ensures.step c.min.ensures c.split_at.ensures.back_len (search rules) inv.steps;

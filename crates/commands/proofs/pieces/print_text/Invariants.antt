@@ -9,7 +9,7 @@ invariant-loop-rest g l = record {
   done : List ℕ;
   split : l.fn.text ≡ done ++ l.rest;
   printed : g.B.Board.tells_text → g.B.Board.printed l.board ≡ g.B.Board.printed l.fn.board ++ done;
-  faults : g.B.Board.faults l.fn.board ≤ g.B.Board.faults l.board;
+  faults : g.B.Board.faults l.board ≡ g.B.Board.faults l.fn.board;
   store : KeepsStore g.B.Board l.fn.board l.board;
   steps : l.steps + pieces_of (length l.rest) ≤ l.fn.steps + pieces_of (length l.fn.text);
 }

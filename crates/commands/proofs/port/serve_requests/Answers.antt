@@ -1,10 +1,10 @@
-use Rattle.std.proofs.Common.{◌∙◌, ℕ, List, [], Result, refl, sym, subst, arith, rules}
+use Rattle.std.proofs.Common.{◌∙◌, ℕ, List, [], Result, refl, sym, subst, arith, rules, ap}
 use Rattle.data_port.specs.Serving.{Serves}
 use Rattle.totaliser_store.specs.declared.durable.Durable.{Durable}
 use Rattle.seal_store.specs.declared.seal.Seal.{Seal}
 use Rattle.commands.specs.declared.ending.Ended.{Ended}
 use Rattle.commands.specs.declared.ending.Ended.TheVariants as ended
-use Rattle.commands.specs.Ending.{ComesOn}
+use Rattle.commands.specs.Ending.{ComesOn, ended_serving}
 use Rattle.commands.specs.Port.{port_answer, port_command}
 use Rattle.commands.proofs.Carrying.{carries-looked}
 use Rattle.commands.proofs.Looking.{looks-behind}
@@ -27,8 +27,8 @@ returns-in-Err g c =
       bound = omega
           (arith, le, c.open_sealed.ensures.steps);
     })
-    (λ e. absurd (c.in-Err.ensures.not_read e)) (search rules) (λ word not. refl) (λ known word never. refl)
-    (λ word. omega arith) (search rules)
+    (λ e. absurd (c.in-Err.ensures.not_read e)) (search rules) (λ word not. refl) (λ known word never. refl) (λ read good word. refl)
+    (search rules)
 
 -- the requests are served
 pub returns : goal.returns
@@ -47,7 +47,12 @@ returns g c =
     subst (λ (end : Ended). ComesOn g.F.Files g.B.Board port_command c.args.files.now served.new.files c.args.board.now served.new.board end) (sym c.ended_of_serving.ensures)
     (comes-served (rest c.args.files.now) (rest served.new.files) image _ _ g.B.Board.tells_text (printed c.args.board.now) (printed served.new.board) store.0 store.1
     (as_found c.open_sealed.result _ store ended.BoardFault c.in-Ok.is (opened.exact known.1)) served.result serves served.ensures.read_fault
-    (λ e. omega (arith, served.ensures.board_fault e, opened.opens.count))))
+    (λ e. omega (
+      arith,
+      served.ensures.board_fault.rose e,
+      opened.opens.count
+          (no_fault c.open_sealed.result c.in-Ok.store ended.BoardFault c.in-Ok.is),
+    ))))
     (λ later le tells.
     let h = c.serve-served.ensures.steps tells in
     record { taken = h.taken; split = h.split; bound = omega (arith, le, h.bound, c.open_sealed.ensures.steps) })
@@ -57,8 +62,17 @@ returns g c =
       rose = c.serve-served.ensures.read_fault (read_fault-served c.serve-served.result (sym c.ended_of_serving.ensures ∙ e));
     })
     (record {
-      count = omega (arith, c.serve-served.ensures.count, c.open_sealed.ensures.opens.count);
-      failed = λ e. omega (arith, c.serve-served.ensures.board_fault (board_fault-served c.serve-served.result (sym c.ended_of_serving.ensures ∙ e)), c.open_sealed.ensures.opens.count);
+      count = λ good. c.serve-served.ensures.board_fault.kept
+          (λ f. good (c.ended_of_serving.ensures ∙ ap ended_serving f))
+          ∙ c.open_sealed.ensures.opens.count (no_fault c.open_sealed.result c.in-Ok.store ended.BoardFault
+          c.in-Ok.is);
+      failed = λ e. omega (
+        arith,
+        c.serve-served.ensures.board_fault.rose
+            (board_fault-served c.serve-served.result (sym c.ended_of_serving.ensures ∙ e)),
+        c.open_sealed.ensures.opens.count (no_fault c.open_sealed.result c.in-Ok.store ended.BoardFault
+            c.in-Ok.is),
+      );
     })
     c.serve-served.ensures.others
     (λ known word never. c.serve-served.ensures.others word (λ e. never [] (
@@ -72,7 +86,8 @@ returns g c =
         going = record { good = refl; few = omega arith };
       },
     )))
-    c.serve-served.ensures.counts
+    (λ read good word. (c.serve-served.ensures.counts word).kept
+    (λ f. read (c.ended_of_serving.ensures ∙ ap ended_serving f)))
     (looks-behind g.B.Board _ c.ended_of_serving.result c.args.board.now c.open_sealed.new.board c.serve-served.new.board
     (no_fault c.open_sealed.result c.in-Ok.store ended.BoardFault c.in-Ok.is) c.open_sealed.ensures.opens
     (g.met.B.Board.only_now c.open_sealed.new.board) c.serve-served.ensures.store)

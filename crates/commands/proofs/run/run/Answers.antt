@@ -1,15 +1,16 @@
-use Rattle.std.proofs.Common.{◌≡◌, ◌≢◌, ◌∙◌, ℕ, List, [], Err, refl, sym, ap, subst, arith, inl, inr, rules}
+use Rattle.std.proofs.Common.{◌≡◌, ◌≢◌, ◌∙◌, ℕ, List, [], Err, refl, sym, ap, subst, arith, inl, inr, rules, ⊎_elim}
 use Rattle.std.specs.Prelude.{IsErrOf}
 use Rattle.meter_run.specs.Runs.{EndsRun, OpensWith}
 use Rattle.meter_states.specs.Setting.{IsSettingOf}
 use Rattle.seal_store.specs.declared.seal.Seal.{Seal}
 use Rattle.tariff_compile.specs.Tables.{IsTablesOf, TableParts}
+use Rattle.commands.specs.Ending.{ended_by}
 use Rattle.commands.specs.declared.ending.Ended.{Ended}
 use Rattle.commands.specs.declared.ending.Ended.TheVariants as ended
 use Rattle.commands.specs.LastLine.{status_of}
 use Rattle.commands.specs.Run.{run_command, setting_in, tables_in}
 use Rattle.commands.specs.RunSteps.{RunComes}
-use Rattle.commands.proofs.Faring.{begins_going, read_fault-ran}
+use Rattle.commands.proofs.Faring.{begins_going, board_fault-ran, read_fault-ran}
 use Rattle.commands.proofs.Openings.{no_fault, same_fault}
 use Rattle.commands.proofs.RunEnds.{ran-comes, ran-writes}
 use Rattle.commands.proofs.Running.{comes-not_begun}
@@ -47,8 +48,10 @@ returns-in-Err-clause-carries g c =
       board_fault = λ e. before.opens.cause (c.in-Err.is ∙ ap Err e);
       others = λ word not. before.others word (λ e. not (inl e));
       unread = λ known word never. before.unread known.1 word (λ h. never [] (inl (h.0, (refl, h.1))));
-      count = before.opens.count;
-      counts = before.counts;
+      count = λ good. before.opens.count (λ f. good (same_fault c.begin.result c.in-Err.why ended.BoardFault
+          c.in-Err.is f));
+      counts = λ read good. before.counts (λ f. read (same_fault c.begin.result c.in-Err.why ended.ReadFault
+          c.in-Err.is f));
       kept = λ shut. absurd (shut tt);
       unwritten = λ not. bytes-read g.B.Board c.args.board.now c.begin.new.board before.opens.reads;
       same = λ not good. before.opens.same (λ f. good (same_fault c.begin.result c.in-Err.why ended.BoardFault c.in-Err.is f));
@@ -85,8 +88,13 @@ returns-clause-runs g c = λ tells told.
     subst (λ (end : Ended). RunComes g.F.Files g.B.Board files c.run_events-ran.new.files old new end) (sym c.ended_of.ensures)
     (ran-comes g.F.Files g.B.Board files c.run_events-ran.new.files old mid new s begun.is told is opens (IsErrOf c.begin.result ended.BoardFault) went
     (before.opens.synced told) (before.opens.settled told went) (before.opens.same went) before.opens.reads.text (c.run_events-ran.ensures.beside told) read c.run_events-ran.result ends
-    (λ e. omega (arith, c.run_events-ran.ensures.read_fault e, before.counts 2))
-    (λ e. omega (arith, c.run_events-ran.ensures.board_fault e, before.opens.count)))
+    (λ e. omega (
+      arith,
+      c.run_events-ran.ensures.read_fault e,
+      before.counts
+          (no_fault c.begin.result c.in-Ok.begun ended.ReadFault c.in-Ok.is) 2,
+    ))
+    (λ e. omega (arith, c.run_events-ran.ensures.board_fault.rose e, before.opens.count went)))
 
 pub returns-clause-carries : goal.returns-clause-carries
 returns-clause-carries g c =
@@ -103,8 +111,21 @@ returns-clause-carries g c =
       };
       read_fault = λ e.
           let failed = ran.read_fault (read_fault-ran c.run_events-ran.result (sym c.ended_of.ensures ∙ e)) in
-          record { word = 2; reads = inr refl; rose = omega (arith, failed, before.counts 2) };
-      board_fault = search rules;
+          record {
+            word = 2;
+            reads = inr refl;
+            rose = omega (
+              arith,
+              failed,
+              before.counts
+                  (no_fault c.begin.result c.in-Ok.begun ended.ReadFault c.in-Ok.is) 2,
+            );
+          };
+      board_fault = λ e. omega (
+        arith,
+        ran.board_fault.rose (board_fault-ran c.run_events-ran.result (sym c.ended_of.ensures ∙ e)),
+        before.opens.count (no_fault c.begin.result c.in-Ok.begun ended.BoardFault c.in-Ok.is),
+      );
       others = λ word not. ran.others word (λ e. not (inr e)) ∙ before.others word (λ e. not (inl e));
       unread = λ known word never. let begun = c.in-Ok.ensures.begun known.0 known.1 in
           ran.others word (λ e. never [] (inr (
@@ -115,8 +136,12 @@ returns-clause-carries g c =
               going = begins_going;
             },
           ))) ∙ before.unread known.1 word (λ h. never [] (inl (h.0, (refl, h.1))));
-      count = search rules;
-      counts = λ word. omega (arith, before.counts word, ran.counts word);
+      count = λ good. ran.board_fault.kept (λ f. good (c.ended_of.ensures ∙ ap ended_by f))
+          ∙ before.opens.count (no_fault c.begin.result c.in-Ok.begun ended.BoardFault c.in-Ok.is);
+      counts = λ read good word.
+          (ran.counts word).kept (λ failed. ⊎_elim (λ f. read (c.ended_of.ensures ∙ ap ended_by f))
+          (λ f. good (c.ended_of.ensures ∙ ap ended_by f)) failed)
+          ∙ before.counts (no_fault c.begin.result c.in-Ok.begun ended.ReadFault c.in-Ok.is) word;
       kept = λ shut. absurd (shut tt);
       unwritten = λ not. absurd (not wrote);
       same = λ not. absurd (not wrote);

@@ -42,8 +42,9 @@ returns-in-Err-clause-carries g c = record {
   board_fault = λ e. c.open_store.ensures.cause (c.in-Err.is ∙ ap Err (board_fault-store c.in-Err.fault (sym c.refused_store.ensures ∙ e)));
   others = λ word not. refl;
   unread = λ known word never. refl;
-  count = c.open_store.ensures.count;
-  counts = λ word. omega arith;
+  count = λ good. c.open_store.ensures.count (λ e. good (c.refused_store.ensures
+      ∙ ap store_ended (same_fault c.open_store.result c.in-Err.fault stores.BoardFault c.in-Err.is e)));
+  counts = λ read good word. refl;
   kept = λ shut. absurd (shut tt);
   unwritten = λ not. bytes-read g.B.Board c.args.board.now c.open_store.new.board c.open_store.ensures.reads;
   same = λ not good. c.open_store.ensures.same (λ e. good (c.refused_store.ensures ∙ ap store_ended (same_fault c.open_store.result c.in-Err.fault stores.BoardFault c.in-Err.is e)));
@@ -90,8 +91,9 @@ returns-in-Err-base_of-clause-carries g c = record {
       absurd ((barred-fault c.in-Err-base_of.ended (c.base_of.ensures.refused c.in-Err-base_of.ended c.in-Err-base_of.is)).1 e);
   others = λ word not. refl;
   unread = λ known word never. refl;
-  count = c.open_store.ensures.count;
-  counts = λ word. omega arith;
+  count = λ good. c.open_store.ensures.count (no_fault c.open_store.result c.in-Ok.opening stores.BoardFault
+      c.in-Ok.is);
+  counts = λ read good word. refl;
   kept = λ shut. absurd (shut tt);
   unwritten = λ not. bytes-read g.B.Board c.args.board.now c.open_store.new.board c.open_store.ensures.reads;
   same = λ not good. c.open_store.ensures.same (no_fault c.open_store.result c.in-Ok.opening stores.BoardFault c.in-Ok.is);
@@ -146,8 +148,10 @@ returns-in-Err-read_seal-clause-carries g c = record {
       (as_found c.open_store.result (opening_of (g.B.Board.image c.args.board.now)) c.in-Ok.opening stores.BoardFault
       c.in-Ok.is (c.open_store.ensures.exact known.1))
       (sym c.base_of.ensures.answer ∙ c.in-Ok-base_of.is) (c.read_seal.ensures.unread known.0);
-  count = c.open_store.ensures.count;
-  counts = c.read_seal.ensures.counts;
+  count = λ good. c.open_store.ensures.count (no_fault c.open_store.result c.in-Ok.opening stores.BoardFault
+      c.in-Ok.is);
+  counts = λ read good. c.read_seal.ensures.counts (λ e. read
+      (same_fault c.read_seal.result _ _ c.in-Err-read_seal.is e));
   kept = λ shut. absurd (shut tt);
   unwritten = λ not. bytes-read g.B.Board c.args.board.now c.open_store.new.board c.open_store.ensures.reads;
   same = λ not good. c.open_store.ensures.same (no_fault c.open_store.result c.in-Ok.opening stores.BoardFault c.in-Ok.is);
@@ -213,8 +217,9 @@ returns-in-Ok-place_seal-clause-carries g c = record {
       (as_found c.open_store.result (opening_of (g.B.Board.image c.args.board.now)) c.in-Ok.opening stores.BoardFault
       c.in-Ok.is (c.open_store.ensures.exact known.1))
       (sym c.base_of.ensures.answer ∙ c.in-Ok-base_of.is) (c.read_seal.ensures.unread known.0);
-  count = omega (arith, c.open_store.ensures.count, c.place_seal.ensures.cause.later);
-  counts = c.read_seal.ensures.counts;
+  count = λ good. c.in-Ok-place_seal.ensures.cause.kept refl ∙ c.open_store.ensures.count
+      (no_fault c.open_store.result c.in-Ok.opening stores.BoardFault c.in-Ok.is);
+  counts = λ read good. c.read_seal.ensures.counts (no_fault c.read_seal.result _ _ c.in-Ok-read_seal.is);
   kept = λ shut. absurd (shut tt);
   unwritten = λ not. absurd (not (inl refl));
   same = λ not good. absurd (not (inl refl));
@@ -251,10 +256,21 @@ returns-in-Err-place_seal-clause-carries g c = record {
       let printed = g.B.Board.printed in
       comes-board seal_command (rest c.args.files.now) (rest c.read_seal.new.files) image _ _ g.B.Board.tells_text (printed c.args.board.now) (printed c.place_seal.new.board) refl
       (c.place_seal.ensures.beside.text ∙ c.open_store.ensures.reads.text)
-      (omega (arith, c.place_seal.ensures.cause.failed (ap is_err c.in-Err-place_seal.is), c.open_store.ensures.count));
+      (omega (
+        arith,
+        c.place_seal.ensures.cause.failed (ap is_err c.in-Err-place_seal.is),
+        c.open_store.ensures.count
+            (no_fault c.open_store.result c.in-Ok.opening stores.BoardFault c.in-Ok.is),
+      ));
   steps = λ later le. search (rules, le);
   read_fault = λ e. absurd cc;
-  board_fault = λ e. omega (arith, c.place_seal.ensures.cause.failed (ap is_err c.in-Err-place_seal.is), c.open_store.ensures.count);
+  board_fault = λ e. omega (
+    arith,
+    c.place_seal.ensures.cause.failed
+        (ap is_err c.in-Err-place_seal.is),
+    c.open_store.ensures.count
+        (no_fault c.open_store.result c.in-Ok.opening stores.BoardFault c.in-Ok.is),
+  );
   others = λ word not. c.read_seal.ensures.others word (λ e. not (inl e)) (λ e. not (inr e));
   unread =
       λ known. unread-sealing (g.F.Files.rest c.args.files.now) (g.F.Files.rest c.read_seal.new.files)
@@ -262,8 +278,8 @@ returns-in-Err-place_seal-clause-carries g c = record {
       (as_found c.open_store.result (opening_of (g.B.Board.image c.args.board.now)) c.in-Ok.opening stores.BoardFault
       c.in-Ok.is (c.open_store.ensures.exact known.1))
       (sym c.base_of.ensures.answer ∙ c.in-Ok-base_of.is) (c.read_seal.ensures.unread known.0);
-  count = omega (arith, c.open_store.ensures.count, c.place_seal.ensures.cause.later);
-  counts = c.read_seal.ensures.counts;
+  count = λ good. absurd (good refl);
+  counts = λ read good. c.read_seal.ensures.counts (no_fault c.read_seal.result _ _ c.in-Ok-read_seal.is);
   kept = λ shut. absurd (shut tt);
   unwritten = λ not. absurd (not (inr refl));
   same = λ not good. absurd (not (inr refl));

@@ -29,7 +29,8 @@ returns-in-Err-clause-not_read g c = λ e. not_read-store c.in-Err.fault (sym c.
 
 pub returns-in-Err-clause-cause : goal.returns-in-Err-clause-cause
 returns-in-Err-clause-cause g c = record {
-  count = c.open_store.ensures.count;
+  count = λ good. c.open_store.ensures.count (λ f. good (c.refused_store.ensures
+      ∙ ap store_ended (same_fault c.open_store.result c.in-Err.fault stores.BoardFault c.in-Err.is f)));
   failed = λ e. c.open_store.ensures.cause (c.in-Err.is ∙ ap Err (board_fault-store c.in-Err.fault (sym c.refused_store.ensures ∙ e)));
 }
 
@@ -80,7 +81,11 @@ pub returns-in-None-clause-barred : goal.returns-in-None-clause-barred
 returns-in-None-clause-barred g c = inl refl
 
 pub returns-in-None-clause-cause : goal.returns-in-None-clause-cause
-returns-in-None-clause-cause g c = record { count = c.open_store.ensures.count; failed = λ e. absurd cc }
+returns-in-None-clause-cause g c = record {
+  count = λ good. c.open_store.ensures.count (no_fault c.open_store.result c.in-Ok.opening stores.BoardFault
+      c.in-Ok.is);
+  failed = λ e. absurd cc;
+}
 
 pub returns-in-None-clause-looks : goal.returns-in-None-clause-looks
 returns-in-None-clause-looks g c =

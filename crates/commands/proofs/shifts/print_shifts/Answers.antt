@@ -2,8 +2,11 @@ use Rattle.std.proofs.Common.{◌∙◌, [], Result, Err, refl, sym, ap, arith, 
 use Rattle.std.specs.Prelude.{is_err}
 use Rattle.totaliser_store.specs.declared.durable.Durable.{Durable}
 use Rattle.seal_store.specs.declared.seal.Seal.{Seal}
+use Rattle.commands.proofs.Counting.{unless_read}
+use Rattle.commands.specs.Ending.{ended_for_report}
 use Rattle.commands.specs.declared.ending.Ended.{Ended}
 use Rattle.commands.specs.declared.ending.Ended.TheVariants as ended
+use Rattle.commands.specs.declared.shifts.ReportFault.TheVariants as reports
 use Rattle.commands.specs.Shifts.{shifts_answer, shifts_command}
 use Rattle.commands.proofs.Carrying.{carries-looked}
 use Rattle.commands.proofs.Looking.{looks-behind, looks-opened}
@@ -21,8 +24,7 @@ returns-in-Err g c =
     ends-barred g.B.Board shifts_command rest rest _ c.args.board.now c.open_sealed.new.board (λ (o : Result (Durable × Seal) Ended). shifts_answer o (rest 1)) refl refl
     c.open_sealed.result (c.open_sealed.ensures.exact known.1) c.open_sealed.ensures.opens (λ e. absurd cc) (λ e. absurd cc) c.in-Err.why c.in-Err.is c.in-Err.ensures.barred refl)
     (λ later le. record { by_report = λ tells told. omega (arith, le, c.open_sealed.ensures.steps); by_book = λ tells. omega (arith, le, c.open_sealed.ensures.steps) })
-    (λ e. absurd (c.in-Err.ensures.not_read e)) (search rules) (λ word not. refl) (λ known word never. refl)
-    (λ word. omega arith)
+    (λ e. absurd (c.in-Err.ensures.not_read e)) (search rules) (λ word not. refl) (λ known word never. refl) (λ read good word. refl)
     (search rules)
 
 -- there is no report
@@ -40,7 +42,8 @@ returns-in-Err-report_of_word g c =
     (λ why e. c.report_of_word.ensures.refused why known.0 (c.in-Err-report_of_word.is ∙ ap Err e))))
     (λ later le. record { by_report = λ tells told. omega (arith, le, c.open_sealed.ensures.steps); by_book = λ tells. omega (arith, le, c.open_sealed.ensures.steps) })
     (search rules) (record {
-      count = c.open_sealed.ensures.opens.count;
+      count = λ good. c.open_sealed.ensures.opens.count (no_fault c.open_sealed.result c.in-Ok.store ended.BoardFault
+          c.in-Ok.is);
       failed = λ e. absurd (not_board-report c.in-Err-report_of_word.fault (sym c.refused_report.ensures ∙ e));
     }) c.report_of_word.ensures.others
     (λ known word never. c.report_of_word.ensures.others word (λ e. never [] (
@@ -51,7 +54,9 @@ returns-in-Err-report_of_word g c =
             (c.open_sealed.ensures.exact known.1);
       },
     )))
-    c.report_of_word.ensures.counts
+    (unless_read c.report_of_word.result c.in-Err-report_of_word.fault reports.ReadFault ended_for_report
+    c.in-Err-report_of_word.is
+    c.refused_report.ensures refl c.report_of_word.ensures.counts)
     (looks-opened g.B.Board _ c.refused_report.result c.args.board.now c.open_sealed.new.board
     (λ f. absurd (no_fault c.open_sealed.result c.in-Ok.store ended.BoardFault c.in-Ok.is f)) c.open_sealed.ensures.opens)
 
@@ -72,11 +77,8 @@ returns-in-Ok-print_text g c =
       by_book = λ tells. omega (arith, le, ap length c.as_slice.ensures.value, c.in-Ok-report_of_word.ensures.short tells, c.open_sealed.ensures.steps, c.print_text.ensures.steps);
     })
     (λ e. absurd cc) (record {
-      count = omega (
-        arith,
-        c.open_sealed.ensures.opens.count,
-        c.print_text.ensures.cause.later,
-      );
+      count = λ good. c.in-Ok-print_text.ensures.cause.kept refl
+          ∙ c.open_sealed.ensures.opens.count (no_fault c.open_sealed.result c.in-Ok.store ended.BoardFault c.in-Ok.is);
       failed = λ e. absurd cc;
     }) c.report_of_word.ensures.others
     (λ known word never. c.report_of_word.ensures.others word (λ e. never [] (
@@ -87,7 +89,8 @@ returns-in-Ok-print_text g c =
             (c.open_sealed.ensures.exact known.1);
       },
     )))
-    c.report_of_word.ensures.counts
+    (λ read good. c.report_of_word.ensures.counts (no_fault c.report_of_word.result c.in-Ok-report_of_word.report
+    reports.ReadFault c.in-Ok-report_of_word.is))
     (looks-behind g.B.Board _ ended.Done c.args.board.now c.open_sealed.new.board c.print_text.new.board
     (no_fault c.open_sealed.result c.in-Ok.store ended.BoardFault c.in-Ok.is) c.open_sealed.ensures.opens
     (g.met.B.Board.only_now c.open_sealed.new.board) c.print_text.ensures.store)
@@ -111,8 +114,13 @@ returns g c =
     })
     (λ e. absurd cc) (let failed = c.print_text.ensures.cause in
     record {
-      count = omega (arith, failed.later, c.open_sealed.ensures.opens.count);
-      failed = λ e. omega (arith, failed.failed (ap is_err c.in-Err-print_text.is), c.open_sealed.ensures.opens.count);
+      count = λ good. absurd (good refl);
+      failed = λ e. omega (
+        arith,
+        failed.failed (ap is_err c.in-Err-print_text.is),
+        c.open_sealed.ensures.opens.count
+            (no_fault c.open_sealed.result c.in-Ok.store ended.BoardFault c.in-Ok.is),
+      );
     }) c.report_of_word.ensures.others
     (λ known word never. c.report_of_word.ensures.others word (λ e. never [] (
       e,
@@ -122,7 +130,8 @@ returns g c =
             (c.open_sealed.ensures.exact known.1);
       },
     )))
-    c.report_of_word.ensures.counts
+    (λ read good. c.report_of_word.ensures.counts (no_fault c.report_of_word.result c.in-Ok-report_of_word.report
+    reports.ReadFault c.in-Ok-report_of_word.is))
     (looks-behind g.B.Board _ ended.BoardFault c.args.board.now c.open_sealed.new.board c.print_text.new.board
     (no_fault c.open_sealed.result c.in-Ok.store ended.BoardFault c.in-Ok.is) c.open_sealed.ensures.opens
     (g.met.B.Board.only_now c.open_sealed.new.board) c.print_text.ensures.store)

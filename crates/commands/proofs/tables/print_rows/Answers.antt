@@ -1,4 +1,4 @@
-use Rattle.std.proofs.Common.{◌≡◌, ◌∙◌, ◌++◌, ℕ, List, append_assoc, sym, ap, arith}
+use Rattle.std.proofs.Common.{◌≡◌, ◌∙◌, ◌++◌, ℕ, List, append_assoc, sym, ap, arith, refl}
 use Rattle.std.specs.List.{flat_map, range_with_len}
 use Rattle.outside.proofs.Laws.{begins_whole}
 use Rattle.tariff_compile.specs.Rows.{row_count, row_text, rows_text}
@@ -24,7 +24,7 @@ loop-i-preserved g c =
           ∙ ap (λ (t : List ℕ). t ++ row i) (c.loop-i.invariant.printed tells)
           ∙ append_assoc (printed c.args.board.now) (flat_map row (range_with_len 0 i)) (row i)
           ∙ ap (λ (t : List ℕ). printed c.args.board.now ++ t) (sym (rows-more row i));
-      faults = omega (arith, c.loop-i.invariant.faults, c.print.ensures.cause.later);
+      faults = c.in_ok-print.ensures.cause.kept refl ∙ c.loop-i.invariant.faults;
       store = keeps_then g.B.Board c.args.board.now c.loop-i.board c.print.new.self c.loop-i.invariant.store (keeps_print g.B.Board c.loop-i.board c.print.new.self _ c.print.ensures.image c.print.ensures.flight c.print.ensures.time);
       steps = omega (arith, c.loop-i.invariant.steps, c.print.ensures.step);
     }

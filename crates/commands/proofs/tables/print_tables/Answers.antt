@@ -1,7 +1,11 @@
 use Rattle.std.proofs.Common.{◌∙◌, [], Err, refl, ap, arith, rules}
 use Rattle.std.specs.Prelude.{is_err}
 use Rattle.outside.proofs.Laws.{keeps_none}
+use Rattle.commands.proofs.Openings.{no_fault}
+use Rattle.commands.proofs.Counting.{unless_read}
+use Rattle.commands.specs.Ending.{ended_for}
 use Rattle.commands.specs.declared.ending.Ended.TheVariants as ended
+use Rattle.commands.specs.declared.tariff.TextFault.TheVariants as texts
 use Rattle.commands.specs.Tables.{tables_command}
 use Rattle.commands.specs.Tariffs.{tariff_in}
 use Rattle.commands.proofs.Carrying.{carries-kept}
@@ -25,8 +29,10 @@ returns-in-Err g c =
     (λ later le tells. omega (arith, le))
     (search rules)
     (search rules)
-    c.tables_of_word.ensures.others (λ tells word never. c.tables_of_word.ensures.others word (never []))
-    c.tables_of_word.ensures.counts (keeps_none g.B.Board c.args.board.now)
+    c.tables_of_word.ensures.others
+    (λ tells word never. c.tables_of_word.ensures.others word (never []))
+    (unless_read c.tables_of_word.result c.in-Err.fault texts.ReadFault ended_for
+    c.in-Err.is c.refused_by.ensures refl c.tables_of_word.ensures.counts) (keeps_none g.B.Board c.args.board.now)
 
 pub returns-in-Ok-print_rows : goal.returns-in-Ok-print_rows
 returns-in-Ok-print_rows g c =
@@ -40,9 +46,11 @@ returns-in-Ok-print_rows g c =
     let made = c.in-Ok.ensures.found tells in
     rw made.sound (grind (arith, le, made.value, c.print_rows.ensures.steps)))
     (λ e. absurd cc)
-    (record { count = c.print_rows.ensures.cause.later; failed = λ e. absurd cc })
-    c.tables_of_word.ensures.others (λ tells word never. c.tables_of_word.ensures.others word (never []))
-    c.tables_of_word.ensures.counts (c.print_rows.ensures.store)
+    (record { count = λ good. c.in-Ok-print_rows.ensures.cause.kept refl; failed = λ e. absurd cc })
+    c.tables_of_word.ensures.others
+    (λ tells word never. c.tables_of_word.ensures.others word (never []))
+    (λ read good. c.tables_of_word.ensures.counts (no_fault c.tables_of_word.result c.in-Ok.tables texts.ReadFault c.in-Ok.is))
+    (c.print_rows.ensures.store)
 
 pub returns : goal.returns
 returns g c =
@@ -57,6 +65,12 @@ returns g c =
     let made = c.in-Ok.ensures.found tells in
     rw made.sound (grind (arith, le, made.value, c.print_rows.ensures.steps)))
     (λ e. absurd cc)
-    (record { count = c.print_rows.ensures.cause.later; failed = λ e. c.print_rows.ensures.cause.failed (ap is_err c.in-Err-print_rows.is) })
-    c.tables_of_word.ensures.others (λ tells word never. c.tables_of_word.ensures.others word (never []))
-    c.tables_of_word.ensures.counts (c.print_rows.ensures.store)
+    (record {
+      count = λ good. absurd (good refl);
+      failed = λ e. c.print_rows.ensures.cause.failed
+          (ap is_err c.in-Err-print_rows.is);
+    })
+    c.tables_of_word.ensures.others
+    (λ tells word never. c.tables_of_word.ensures.others word (never []))
+    (λ read good. c.tables_of_word.ensures.counts (no_fault c.tables_of_word.result c.in-Ok.tables texts.ReadFault c.in-Ok.is))
+    (c.print_rows.ensures.store)

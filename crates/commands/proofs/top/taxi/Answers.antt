@@ -4,7 +4,9 @@ use Rattle.outside.specs.Runs.{IsSettled, KeepsStore}
 use Rattle.outside.proofs.Laws.{keeps_then}
 use Rattle.outside.specs.declared.board.Board.{Ghosts}
 use Rattle.outside.specs.declared.files.Files.{Ghosts as FileGhosts}
+use Rattle.commands.proofs.Counting.{board_counts, cause_carried, files_left}
 use Rattle.commands.specs.declared.ending.Ended.{Ended}
+use Rattle.commands.specs.declared.ending.Ended.TheVariants as ended
 use Rattle.commands.specs.declared.words.Row.{Row}
 use Rattle.commands.specs.declared.words.Row.TheVariants as rows
 use Rattle.commands.specs.Call.{IsCall, LeavesUnread}
@@ -36,7 +38,8 @@ returns-in-Some-clause-call g c =
     → IsCall g.F.Files g.B.Board (command_of o) c.args.files.now c.carry_out-ended.new.files c.args.board.now c.finish-in-Some.new.board c.finish-in-Some.result)
     c.in-Some.ensures
     (λ known. call_from g.F.Files g.B.Board c.args.files.now c.carry_out-ended.new.files c.args.board.now c.carry_out-ended.new.board c.finish-in-Some.new.board
-    c.carry_out-ended.result c.finish-in-Some.result c.carry_out-ended.ensures.carries.count c.finish-in-Some.ensures.count c.finish-in-Some.ensures.ends
+    c.carry_out-ended.result c.finish-in-Some.result (cause_carried c.carry_out-ended.ensures.carries)
+    c.finish-in-Some.ensures.count c.finish-in-Some.ensures.ends
     (command_of (Some c.in-Some.row)) (c.carry_out-ended.ensures.carries.ends known)
     (c.carry_out-ended.ensures.carries.unread known))
 
@@ -67,7 +70,8 @@ returns-in-Some-clause-unwritten g c =
     subst (λ (o : Option Row). ¬ ((command_of o).writes c.finish-in-Some.result) → WritesNothing g.B.Board c.args.board.now c.finish-in-Some.new.board c.finish-in-Some.result)
     c.in-Some.ensures
     (nothing_written g.F.Files g.B.Board c.args.files.now c.carry_out-ended.new.files c.args.board.now c.carry_out-ended.new.board c.finish-in-Some.new.board
-    c.carry_out-ended.result c.finish-in-Some.result c.carry_out-ended.ensures.carries.count c.finish-in-Some.ensures.count c.finish-in-Some.ensures.ends
+    c.carry_out-ended.result c.finish-in-Some.result (cause_carried c.carry_out-ended.ensures.carries)
+    c.finish-in-Some.ensures.count c.finish-in-Some.ensures.ends
     (command_of (Some c.in-Some.row)) c.args.steps.now c.carry_out-ended.new.steps c.finish-in-Some.ensures.store c.carry_out-ended.ensures.carries)
 
 pub returns-in-Some-clause-seals : goal.returns-in-Some-clause-seals
@@ -107,11 +111,13 @@ returns-in-Some-clause-runs g c = λ e read tells.
     subst (λ (o : Option Row). (command_of o).known g.F.Files.tells g.B.Board.tells_image → LeavesUnread (command_of o)
     (g.F.Files.rest files) (g.F.Files.rest files') (g.B.Board.image old))
     (c.in-Some.ensures ∙ e) c.carry_out-ended.ensures.carries.unread (read, tells) in
-    let call = call_from g.F.Files g.B.Board files files' old mid new end status c.carry_out-ended.ensures.carries.count
-    c.finish-in-Some.ensures.count c.finish-in-Some.ensures.ends run_command comes.comes unread in
+    let call = call_from g.F.Files g.B.Board files files' old mid new end status
+    (cause_carried c.carry_out-ended.ensures.carries) c.finish-in-Some.ensures.count c.finish-in-Some.ensures.ends
+    run_command comes.comes unread in
     run-finished g.F.Files g.B.Board files files' old mid new end status comes c.finish-in-Some.ensures.store c.finish-in-Some.ensures.leaves c.finish-in-Some.ensures.silent
-    call (call_course g.F.Files g.B.Board files files' old mid new end status c.carry_out-ended.ensures.carries.count
-    c.finish-in-Some.ensures.count c.finish-in-Some.ensures.ends run_command comes.comes unread)
+    call (call_course g.F.Files g.B.Board files files' old mid new end status
+    (cause_carried c.carry_out-ended.ensures.carries) c.finish-in-Some.ensures.count c.finish-in-Some.ensures.ends
+    run_command comes.comes unread)
     c.finish-in-Some.ensures.ends (λ bytes. bytes-then g.B.Board old mid new bytes (bytes-kept g.B.Board mid new c.finish-in-Some.ensures.store))
 
 pub returns-in-None-clause-runs : goal.returns-in-None-clause-runs
@@ -153,3 +159,26 @@ returns-in-Some-clause-steps g c =
     subst (λ (o : Option Row). (command_of o).steps g.F.Files.tells g.B.Board.tells_image (rest c.args.files.now) (rest c.carry_out-ended.new.files) image c.args.steps.now c.finish-in-Some.new.steps)
     c.in-Some.ensures
     (c.carry_out-ended.ensures.carries.steps c.finish-in-Some.new.steps c.finish-in-Some.ensures.steps)
+
+pub returns-in-Some-clause-board_fault : goal.returns-in-Some-clause-board_fault
+returns-in-Some-clause-board_fault g c =
+    board_counts g.B.Board c.args.board.now c.carry_out-ended.new.board c.finish-in-Some.new.board
+    c.carry_out-ended.result
+    c.finish-in-Some.result (cause_carried c.carry_out-ended.ensures.carries) c.finish-in-Some.ensures.count
+    c.finish-in-Some.ensures.ends
+
+pub returns-in-None-clause-board_fault : goal.returns-in-None-clause-board_fault
+returns-in-None-clause-board_fault g c =
+    board_counts g.B.Board c.args.board.now c.args.board.now c.finish.new.board ended.BadWords c.finish.result
+    (record { count = λ good. refl; failed = λ failed. absurd cc }) c.finish.ensures.count c.finish.ensures.ends
+
+pub returns-in-Some-clause-unfailed : goal.returns-in-Some-clause-unfailed
+returns-in-Some-clause-unfailed g c =
+    files_left g.B.Board c.args.board.now c.carry_out-ended.new.board c.finish-in-Some.new.board
+    c.carry_out-ended.result
+    c.finish-in-Some.result (cause_carried c.carry_out-ended.ensures.carries) c.finish-in-Some.ensures.count
+    c.finish-in-Some.ensures.ends (g.F.Files.faults c.args.files.now) (g.F.Files.faults c.carry_out-ended.new.files)
+    c.carry_out-ended.ensures.carries.counts
+
+pub returns-in-None-clause-unfailed : goal.returns-in-None-clause-unfailed
+returns-in-None-clause-unfailed g c = λ read board word. refl

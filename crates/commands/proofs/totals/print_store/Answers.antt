@@ -1,4 +1,4 @@
-use Rattle.std.proofs.Common.{refl, ap, arith, rules}
+use Rattle.std.proofs.Common.{refl, ap, arith, rules, ◌∙◌}
 use Rattle.std.specs.Prelude.{is_err}
 use Rattle.commands.specs.Carried.{no_files}
 use Rattle.commands.specs.declared.ending.Ended.TheVariants as ended
@@ -17,7 +17,7 @@ returns-in-Err g c = λ contents.
     (λ tells. ends-barred g.B.Board totals_command contents contents _ c.args.board.now c.open_sealed.new.board totals_answer refl refl
     c.open_sealed.result (c.open_sealed.ensures.exact tells) c.open_sealed.ensures.opens (λ e. absurd cc) (λ e. absurd cc) c.in-Err.why c.in-Err.is c.in-Err.ensures.barred refl)
     (λ later le. omega (arith, le, c.open_sealed.ensures.steps)) (search rules) (search rules) (λ word not. refl)
-    (λ known word never. refl) (λ word. omega arith) (search rules)
+    (λ known word never. refl) (λ read good word. refl) (search rules)
 
 -- the totals are printed
 pub returns-in-Ok-print_totals : goal.returns-in-Ok-print_totals
@@ -29,9 +29,10 @@ returns-in-Ok-print_totals g c = λ contents.
     refl refl (λ word reads. absurd reads) c.print_totals.new.board c.in-Ok-print_totals.ensures.whole)
     (λ later le. omega (arith, le, c.open_sealed.ensures.steps, c.print_totals.ensures.steps)) (λ e. absurd cc)
     (record {
-      count = omega (arith, c.open_sealed.ensures.opens.count, c.print_totals.ensures.cause.later);
+      count = λ good. c.in-Ok-print_totals.ensures.cause.kept refl
+          ∙ c.open_sealed.ensures.opens.count (no_fault c.open_sealed.result c.in-Ok.store ended.BoardFault c.in-Ok.is);
       failed = λ e. absurd cc;
-    }) (λ word not. refl) (λ known word never. refl) (λ word. omega arith)
+    }) (λ word not. refl) (λ known word never. refl) (λ read good word. refl)
     (looks-behind g.B.Board _ ended.Done c.args.board.now c.open_sealed.new.board c.print_totals.new.board
     (no_fault c.open_sealed.result c.in-Ok.store ended.BoardFault c.in-Ok.is) c.open_sealed.ensures.opens
     (g.met.B.Board.only_now c.open_sealed.new.board) c.print_totals.ensures.store)
@@ -46,9 +47,14 @@ returns-in-Err-print_totals g c = λ contents.
     refl refl (λ word reads. absurd reads) c.print_totals.new.board c.print_totals.ensures.begun (c.print_totals.ensures.cause.failed (ap is_err c.in-Err-print_totals.is)))
     (λ later le. omega (arith, le, c.open_sealed.ensures.steps, c.print_totals.ensures.steps)) (λ e. absurd cc)
     (record {
-      count = omega (arith, c.open_sealed.ensures.opens.count, c.print_totals.ensures.cause.later);
-      failed = λ e. omega (arith, c.open_sealed.ensures.opens.count, c.print_totals.ensures.cause.failed (ap is_err c.in-Err-print_totals.is));
-    }) (λ word not. refl) (λ known word never. refl) (λ word. omega arith)
+      count = λ good. absurd (good refl);
+      failed = λ e. omega (
+        arith,
+        c.open_sealed.ensures.opens.count
+            (no_fault c.open_sealed.result c.in-Ok.store ended.BoardFault c.in-Ok.is),
+        c.print_totals.ensures.cause.failed (ap is_err c.in-Err-print_totals.is),
+      );
+    }) (λ word not. refl) (λ known word never. refl) (λ read good word. refl)
     (looks-behind g.B.Board _ ended.BoardFault c.args.board.now c.open_sealed.new.board c.print_totals.new.board
     (no_fault c.open_sealed.result c.in-Ok.store ended.BoardFault c.in-Ok.is) c.open_sealed.ensures.opens
     (g.met.B.Board.only_now c.open_sealed.new.board) c.print_totals.ensures.store)

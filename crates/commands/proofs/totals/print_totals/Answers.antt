@@ -25,7 +25,7 @@ loop-place-init g c =
           c.in_ok-print.ensures.whole tells
           ∙ ap (λ (t : List ℕ). old ++ t) (c.as_slice.ensures.value ∙ c.heading-line.ensures.text)
           ∙ sym (append-nil (old ++ heading_text c.args.decimals c.args.durable.now));
-      faults = omega (arith, c.print.ensures.cause.later);
+      faults = c.in_ok-print.ensures.cause.kept refl;
       store = keeps_print g.B.Board c.args.board.now c.print.new.self _ c.print.ensures.image c.print.ensures.flight c.print.ensures.time;
       steps = omega (arith, c.print.ensures.step);
     }
@@ -52,7 +52,7 @@ loop-place-preserved g c =
           ∙ ap (λ (t : List ℕ). t ++ row i) (c.loop-place.invariant.printed tells)
           ∙ append_assoc start (flat_map row (range_with_len 0 i)) (row i)
           ∙ ap (λ (t : List ℕ). start ++ t) (sym (rows-more row i));
-      faults = omega (arith, c.loop-place.invariant.faults, c.print_position.ensures.cause.later);
+      faults = c.in_ok-print_position.ensures.cause.kept refl ∙ c.loop-place.invariant.faults;
       store = keeps_then g.B.Board c.args.board.now c.loop-place.board c.print_position.new.board c.loop-place.invariant.store c.print_position.ensures.store;
       steps = omega (arith, c.loop-place.invariant.steps, c.print_position.ensures.steps);
     }

@@ -1,0 +1,104 @@
+-- What the counts of faults say of a command, from the calls that it made.
+use Rattle.std.proofs.Common.{◌≡◌, ◌≢◌, ◌⊎◌, ◌↔◌, inl, inr, ℕ, Bool, true, false, Option, Some, None, Result, Err, sym, ap, subst, ◌∙◌}
+use Rattle.outside.proofs.Laws.{rose_behind}
+use Rattle.outside.specs.Faults.{RisesOnlyIf, Rose}
+use Rattle.outside.specs.declared.board.Board.{Ghosts}
+use Rattle.outside.specs.declared.files.Files.{Ghosts as FileGhosts}
+use Rattle.commands.specs.Call.{IsEnd}
+use Rattle.commands.specs.Carried.{Carries}
+use Rattle.commands.specs.Course.{Command}
+use Rattle.commands.specs.Ending.{HasCauseOn}
+use Rattle.commands.specs.LastLine.{line_of, status_of}
+use Rattle.commands.specs.declared.ending.Ended.{Ended}
+use Rattle.commands.specs.declared.ending.Ended.TheVariants.{BoardFault, ReadFault}
+use Rattle.commands.proofs.Openings.{same_fault}
+use Rattle.commands.proofs.Rests.{board_or_not}
+
+-- what is absent isn't there
+pub not_some : {A : Type 0} (o : Option A) (x : A) → o ≡ None → o ≡ Some x → ⊥
+not_some o x none some = by (sym none ∙ some)
+  where
+    by : None ≡ Some x → ⊥
+    by bad = absurd cc
+
+-- what a test tells where it holds doesn't hold where the test fails
+pub not_true : {P : Type 0} (test : Bool) → test ≡ false → ((test ≡ true) ↔ P) → P → ⊥
+not_true test fails tells p = by (sym fails ∙ tells.1 p)
+  where
+    by : false ≡ true → ⊥
+    by bad = absurd cc
+
+-- a command that ended by the fault of a call, which wasn't of a read, left what the call left
+pub unless_read : {T E P : Type 0} {ended : Ended} (r : Result T E) (fault read : E) (end : E → Ended) → r ≡ Err fault
+    → ended ≡ end fault → end read ≡ ReadFault → (r ≢ Err read → P) → ended ≢ ReadFault → ended ≢ BoardFault → P
+unless_read r fault read end is ended_is end_is left not_read not_board =
+    left (λ failed. not_read (ended_is ∙ ap end (same_fault r fault read is failed) ∙ end_is))
+
+-- a command that was carried out ended with its cause
+pub cause_carried : {E D L : Type 0} {F : FileGhosts E} {B : Ghosts D L} {c : Command} {files files' : E} {old new : D}
+    {before now : ℕ} {ended : Ended} → Carries F B c files files' old new before now ended → HasCauseOn B old new ended
+cause_carried h = record { count = h.count; failed = h.board_fault }
+
+-- ---- over the last line
+
+module _ {D L : Type 0} (B : Ghosts D L) (old mid new : D) (end : Ended) (status : ℕ) (cause : HasCauseOn B old mid end)
+    (later : RisesOnlyIf (status ≢ status_of end) (B.faults mid) (B.faults new))
+    (finish : IsEnd B.tells_text (Rose (B.faults mid) (B.faults new)) (status_of end) (line_of end) status
+    (B.printed mid) (B.printed new)) where
+  abbrev Finishes : Type 0
+  Finishes = IsEnd B.tells_text (Rose (B.faults mid) (B.faults new)) (status_of end) (line_of end) status
+      (B.printed mid) (B.printed new)
+
+  abbrev FailsOrNot : Type 0
+  FailsOrNot = (end ≡ BoardFault) ⊎ ((end ≢ BoardFault) × (status_of end ≢ 8))
+
+  -- the last line leaves the count, unless it wasn't printed
+  left : status ≡ status_of end → B.faults new ≡ B.faults mid
+  left same = later.kept (λ differs. differs same)
+
+  left_by : status ≡ status_of end → Rose (B.faults old) (B.faults mid) → Rose (B.faults old) (B.faults new)
+  left_by same rose = subst (λ (count : ℕ). Rose (B.faults old) count) (sym (left same)) rose
+
+  eighth : Finishes → status_of end ≡ 8 → status ≡ status_of end
+  eighth (inl whole) is = whole.status_is
+  eighth (inr cut) is = cut.status_is ∙ sym is
+
+  risen : FailsOrNot → Finishes → status ≡ 8 → Rose (B.faults old) (B.faults new)
+  risen (inl failed) h is = left_by (eighth h (ap status_of failed)) (cause.failed failed)
+  risen (inr good) h is = rose_behind (B.faults old) (B.faults mid) (B.faults new) (cause.count good.0)
+      (later.rose (λ same. good.1 (sym same ∙ is)))
+
+  stayed : Finishes → status ≢ 8 → B.faults new ≡ B.faults old
+  stayed (inl whole) not_8 = left whole.status_is ∙ cause.count (λ failed. not_8 (whole.status_is ∙ ap status_of failed))
+  stayed (inr cut) not_8 = absurd (not_8 cut.status_is)
+
+  -- the board's count rose exactly with the status 8
+  pub board_counts : RisesOnlyIf (status ≡ 8) (B.faults old) (B.faults new)
+  board_counts = record { kept = stayed finish; rose = risen (board_or_not end) finish }
+
+  -- a count that rose before the last line, or at it, rose over both
+  rose_early : FailsOrNot → Finishes → Rose (B.faults old) (B.faults mid) → Rose (B.faults old) (B.faults new)
+  rose_early (inl failed) h rose = left_by (eighth h (ap status_of failed)) rose
+  rose_early (inr good) (inl whole) rose = left_by whole.status_is rose
+  rose_early (inr good) (inr cut) rose = risen (inr good) (inr cut) cut.status_is
+
+  rose_late : FailsOrNot → Finishes → Rose (B.faults mid) (B.faults new) → Rose (B.faults old) (B.faults new)
+  rose_late (inl failed) h rose = left_by (eighth h (ap status_of failed)) (cause.failed failed)
+  rose_late (inr good) h rose =
+      rose_behind (B.faults old) (B.faults mid) (B.faults new) (cause.count good.0) rose
+
+  pub rose_before : Rose (B.faults old) (B.faults mid) → Rose (B.faults old) (B.faults new)
+  rose_before = rose_early (board_or_not end) finish
+
+  pub rose_after : Rose (B.faults mid) (B.faults new) → Rose (B.faults old) (B.faults new)
+  rose_after = rose_late (board_or_not end) finish
+
+  -- no file's count rose, unless a read or the board failed
+  pub files_left : (counts count' : ℕ → ℕ) → (end ≢ ReadFault → end ≢ BoardFault → (word : ℕ) → count' word ≡ counts word)
+      → status ≢ 7 → status ≢ 8 → (word : ℕ) → count' word ≡ counts word
+  files_left counts count' stay not_7 not_8 = by finish
+    where
+      by : Finishes → (word : ℕ) → count' word ≡ counts word
+      by (inl whole) = stay (λ failed. not_7 (whole.status_is ∙ ap status_of failed))
+          (λ failed. not_8 (whole.status_is ∙ ap status_of failed))
+      by (inr cut) = absurd (not_8 cut.status_is)
