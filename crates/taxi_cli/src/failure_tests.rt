@@ -43,7 +43,8 @@ fn must_go_on(alloc: Global, board: &MemoryBoard, number: u64, fills: &[Fill]) -
     Ok(())
 }
 
-/// Fails unless the run breaks off where this call of the board fails, and another goes on over what it leaves.
+/// Fails unless the run breaks off where this call of the board fails, with no other call behind it, and another run
+/// goes on over what it leaves.
 fn must_break_off(
     alloc: Global,
     whole: &MemoryBoard,
@@ -52,6 +53,11 @@ fn must_break_off(
 ) -> Result<(), Fail> {
     let (board, status) = ran(alloc, image, HELD, &[number], &[])?;
     must_at(status == 8, "another status at call", number)?;
+    must_at(
+        board.calls() == number,
+        "another call behind call",
+        number,
+    )?;
     must_at(
         whole.printed().starts_with(board.printed()),
         "another text at call",
