@@ -1,5 +1,5 @@
 -- For proofs: what an opening of the store leaves. Opening says what an image stands for.
-use Rattle.std.specs.Prelude.{◌≡◌, ◌⊎◌, ◌≤◌}
+use Rattle.std.specs.Prelude.{◌≡◌, ◌⊎◌}
 use Rattle.outside.specs.Faults.{Rose}
 use Rattle.outside.specs.Runs.{IsSettled}
 use Rattle.outside.specs.declared.board.Board.{Ghosts}

@@ -1,5 +1,5 @@
 //! The command `form`.
-ghost use Rattle.std.specs.Prelude.{◌≡◌, ◌≢◌, ℕ, ◌≤◌, [], IfOk, OnOk, Err};
+ghost use Rattle.std.specs.Prelude.{◌≡◌, ◌≢◌, ℕ, [], IfOk, OnOk, Err};
 ghost use Rattle.outside.specs.Faults.{Rose};
 ghost use Rattle.commands.specs.Carried.{Carries};
 ghost use Rattle.commands.specs.Form.{form_command, tree_in};
@@ -61,7 +61,8 @@ fn form_of_word<F: Files>(alloc: Global, files: &mut F, word: usize) -> Result<V
         → tree_in (F.rest files.old word) ≡ Err why }
     ensures read_fault { result ≡ Err TextFault.ReadFault → Rose (F.faults files.old word) (F.faults files.new word) }
     ensures others { (other : ℕ) → other ≢ word → F.rest files.new other ≡ F.rest files.old other }
-    ensures counts { (other : ℕ) → F.faults files.old other ≤ F.faults files.new other }
+    ensures counts { result ≢ Err TextFault.ReadFault
+        → (other : ℕ) → F.faults files.new other ≡ F.faults files.old other }
 {
     let text = text_of_word(alloc, files, word)?;
     form_of_text(alloc, text.as_slice())

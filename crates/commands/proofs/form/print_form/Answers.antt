@@ -1,12 +1,16 @@
-use Rattle.std.proofs.Common.{◌∙◌, ℕ, List, Err, refl, sym, ap, subst, arith, rules}
+use Rattle.std.proofs.Common.{◌∙◌, ℕ, List, [], Err, refl, sym, ap, subst, arith, rules}
 use Rattle.std.specs.Prelude.{is_err}
 use Rattle.outside.proofs.Laws.{keeps_none}
 use Rattle.commands.specs.declared.ending.Ended.TheVariants as ended
+use Rattle.commands.specs.declared.tariff.TextFault.TheVariants as texts
+use Rattle.commands.specs.Ending.{ended_for}
 use Rattle.commands.specs.Form.{form_command}
 use Rattle.commands.specs.FormSteps.{IsFormOf}
 use Rattle.commands.proofs.Carrying.{carries-kept}
+use Rattle.commands.proofs.Counting.{unless_read}
 use Rattle.commands.proofs.Endings.{comes-unprinted}
 use Rattle.commands.proofs.Forms.{form_in_pieces, form_shown, refused-form}
+use Rattle.commands.proofs.Openings.{no_fault}
 use Rattle.commands.proofs.Refusals.{comes-refused}
 use Rattle.commands.proofs.Showing.{comes-begun, comes-shown}
 use Rattle.commands.proofs.form.print_form.Goals as goal
@@ -26,7 +30,10 @@ returns-in-Err g c =
     c.in-Err.fault refl refl refl (λ e. c.form_of_word.ensures.read_fault (c.in-Err.is ∙ ap Err e))
     (λ why e. refused-form (rest files 1) why (c.form_of_word.ensures.refused why tells (c.in-Err.is ∙ ap Err e))))))
     (λ later le tells. omega (arith, le)) (search rules) (search rules)
-    c.form_of_word.ensures.others c.form_of_word.ensures.counts (keeps_none g.B.Board board)
+    c.form_of_word.ensures.others
+    (λ tells word never. c.form_of_word.ensures.others word (never []))
+    (unless_read c.form_of_word.result c.in-Err.fault texts.ReadFault ended_for c.in-Err.is c.refused_by.ensures
+    refl c.form_of_word.ensures.counts) (keeps_none g.B.Board board)
 
 -- the form is printed
 pub returns-in-Ok-print_text : goal.returns-in-Ok-print_text
@@ -44,12 +51,15 @@ returns-in-Ok-print_text g c =
     carries-kept g.F.Files g.B.Board form_command files files' board board' c.args.steps.now c.print_text.new.steps
     ended.Done (λ none. none) (λ status w. w)
     (λ tells. comes-shown form_command (rest files) (rest files') (g.B.Board.image board) _ _ _ (printed board)
-    (printed board') refl form (form_shown (rest files 1) form (made tells))
+    (printed board') form (form_shown (rest files 1) form (made tells))
     (λ word reads. ap (rest files') reads ∙ c.in-Ok.ensures.ended tells) c.in-Ok-print_text.ensures.whole)
     (λ later le tells.
     omega (arith, le, c.print_text.ensures.steps, form_in_pieces (rest files 1) form (made tells)))
-    (λ e. absurd cc) (record { count = c.print_text.ensures.cause.later; failed = λ e. absurd cc })
-    c.form_of_word.ensures.others c.form_of_word.ensures.counts c.print_text.ensures.store
+    (λ e. absurd cc) (record { count = λ good. c.in-Ok-print_text.ensures.cause.kept refl; failed = λ e. absurd cc })
+    c.form_of_word.ensures.others
+    (λ tells word never. c.form_of_word.ensures.others word (never []))
+    (λ read good. c.form_of_word.ensures.counts (no_fault c.form_of_word.result c.in-Ok.form texts.ReadFault c.in-Ok.is))
+    c.print_text.ensures.store
 
 -- the board fails
 pub returns : goal.returns
@@ -68,9 +78,12 @@ returns g c =
     carries-kept g.F.Files g.B.Board form_command files files' board board' c.args.steps.now c.print_text.new.steps
     ended.BoardFault (λ none. none) (λ status w. w)
     (λ tells. comes-begun form_command (rest files) (rest files') (g.B.Board.image board) _ _ _ (printed board)
-    (printed board') refl form (form_shown (rest files 1) form (made tells))
+    (printed board') form (form_shown (rest files 1) form (made tells))
     (λ word reads. ap (rest files') reads ∙ c.in-Ok.ensures.ended tells) c.print_text.ensures.begun failed)
     (λ later le tells.
     omega (arith, le, c.print_text.ensures.steps, form_in_pieces (rest files 1) form (made tells)))
-    (λ e. absurd cc) (record { count = c.print_text.ensures.cause.later; failed = λ e. failed })
-    c.form_of_word.ensures.others c.form_of_word.ensures.counts c.print_text.ensures.store
+    (λ e. absurd cc) (record { count = λ good. absurd (good refl); failed = λ e. failed })
+    c.form_of_word.ensures.others
+    (λ tells word never. c.form_of_word.ensures.others word (never []))
+    (λ read good. c.form_of_word.ensures.counts (no_fault c.form_of_word.result c.in-Ok.form texts.ReadFault c.in-Ok.is))
+    c.print_text.ensures.store

@@ -1,4 +1,4 @@
-use Rattle.std.proofs.Common.{refl, ap, arith, rules}
+use Rattle.std.proofs.Common.{◌∙◌, refl, ap, arith, rules}
 use Rattle.std.specs.Prelude.{is_err}
 use Rattle.commands.specs.Carried.{no_files}
 use Rattle.commands.specs.declared.ending.Ended.TheVariants as ended
@@ -22,7 +22,7 @@ returns-in-Err g c = λ contents.
     (c.open_sealed.ensures.exact tells) c.open_sealed.ensures.opens (λ e. absurd cc) (λ e. absurd cc) c.in-Err.why
     c.in-Err.is c.in-Err.ensures.barred refl)
     (λ later le. omega (arith, le, c.open_sealed.ensures.steps)) (search rules) (search rules) (λ word not. refl)
-    (λ word. omega arith) (search rules)
+    (λ known word never. refl) (λ read good word. refl) (search rules)
 
 -- the seal is printed
 pub returns-in-Ok-print_seal : goal.returns-in-Ok-print_seal
@@ -39,10 +39,11 @@ returns-in-Ok-print_seal g c = λ contents.
     (λ word reads. absurd reads) new c.in-Ok-print_seal.ensures.whole)
     (λ later le. omega (arith, le, c.open_sealed.ensures.steps, c.print_seal.ensures.steps)) (λ e. absurd cc)
     (record {
-      count = omega (arith, c.open_sealed.ensures.opens.count, c.print_seal.ensures.cause.later);
+      count = λ good. c.in-Ok-print_seal.ensures.cause.kept refl
+          ∙ c.open_sealed.ensures.opens.count (no_fault c.open_sealed.result c.in-Ok.store ended.BoardFault c.in-Ok.is);
       failed = λ e. absurd cc;
     })
-    (λ word not. refl) (λ word. omega arith)
+    (λ word not. refl) (λ known word never. refl) (λ read good word. refl)
     (looks-behind g.B.Board _ ended.Done old mid new
     (no_fault c.open_sealed.result c.in-Ok.store ended.BoardFault c.in-Ok.is) c.open_sealed.ensures.opens
     (g.met.B.Board.only_now mid) c.print_seal.ensures.store)
@@ -63,10 +64,15 @@ returns-in-Err-print_seal g c = λ contents.
     (λ word reads. absurd reads) new c.print_seal.ensures.begun failed)
     (λ later le. omega (arith, le, c.open_sealed.ensures.steps, c.print_seal.ensures.steps)) (λ e. absurd cc)
     (record {
-      count = omega (arith, c.open_sealed.ensures.opens.count, c.print_seal.ensures.cause.later);
-      failed = λ e. omega (arith, c.open_sealed.ensures.opens.count, failed);
+      count = λ good. absurd (good refl);
+      failed = λ e. omega (
+        arith,
+        c.open_sealed.ensures.opens.count (no_fault c.open_sealed.result c.in-Ok.store ended.BoardFault
+            c.in-Ok.is),
+        failed,
+      );
     })
-    (λ word not. refl) (λ word. omega arith)
+    (λ word not. refl) (λ known word never. refl) (λ read good word. refl)
     (looks-behind g.B.Board _ ended.BoardFault old mid new
     (no_fault c.open_sealed.result c.in-Ok.store ended.BoardFault c.in-Ok.is) c.open_sealed.ensures.opens
     (g.met.B.Board.only_now mid) c.print_seal.ensures.store)

@@ -137,7 +137,8 @@ returns-in-Some-clause-at_rest g c =
     c.in-Some.ensures
     (rests_after g.F.Files g.B.Board c.args.files.now c.carry_out-ended.new.files c.args.board.now
     c.carry_out-ended.new.board c.finish-in-Some.new.board
-    c.carry_out-ended.result c.finish-in-Some.result c.carry_out-ended.ensures.carries.count c.finish-in-Some.ensures.count c.finish-in-Some.ensures.ends
+    c.carry_out-ended.result c.finish-in-Some.result (cause_carried c.carry_out-ended.ensures.carries)
+    c.finish-in-Some.ensures.count c.finish-in-Some.ensures.ends
     (command_of (Some c.in-Some.row)) c.args.steps.now c.carry_out-ended.new.steps c.finish-in-Some.ensures.store c.carry_out-ended.ensures.carries)
 
 pub returns-in-None-clause-at_rest : goal.returns-in-None-clause-at_rest
