@@ -145,8 +145,8 @@ pub fn taxi<F: Files, B: Board<L>, L: Ledger>(
     ensures others { (word : ℕ) → ¬ (called (map string_bytes words.now)).reads word
         → F.rest files.new word ≡ F.rest files.old word }
 
-    // Each of the faults of the outside has its cause, whatever is told: at 7 the count of a file that the command reads
-    // rose by one, at 8 the board's, at each other status no count of a file, and at each but 8 the board's is as it was.
+    // Each of the faults of the outside has its cause, whatever is told: at 7 the count of a file that the command
+    // reads rose by one, and at 8 the board's. At each other status no count rose, and the board's didn't at 7.
     ensures read_fault { result ≡ 7 → HasReadFault F.Files (called (map string_bytes words.now)) files.old files.new }
     ensures board_fault { RisesOnlyIf (result ≡ 8) (B.faults board.old) (B.faults board.new) }
     ensures unfailed { result ≢ 7 → result ≢ 8 → (word : ℕ) → F.faults files.new word ≡ F.faults files.old word }
