@@ -7,7 +7,7 @@ use Rattle.outside.specs.declared.files.Files.{Ghosts as FileGhosts}
 use Rattle.outside.specs.declared.replay.Fill.{Fill}
 use Rattle.outside.specs.Disk.{SameBut}
 use Rattle.outside.specs.Faults.{Rose}
-use Rattle.outside.specs.MemoryBoard.{BoardState, image_of, left_since_of, text_of}
+use Rattle.outside.specs.MemoryBoard.{BoardState, image_of, left_since_of, new_board, text_of}
 use Rattle.outside.specs.MemoryFiles.{FilesState, rest_of}
 use Rattle.outside.specs.Printing.{Begins}
 use Rattle.outside.specs.Runs.{IsSettled as NothingFlies}
@@ -24,6 +24,7 @@ use Rattle.commands.specs.Call.{IsEnd, MayTake}
 use Rattle.commands.specs.Command.{command_of}
 use Rattle.commands.specs.Course.{Course, Answered, ReadFailed, NoMemory, BoardFailed, line_in, status_in, text_in}
 use Rattle.commands.specs.Link.{IsLeftInside, call_of, deeds_from, text_before}
+use Rattle.commands.specs.Chain.{Ran}
 use Rattle.commands.specs.ChainSteps.{HasLink}
 use Rattle.commands.specs.Opening.{opening_of}
 use Rattle.commands.specs.Run.{IsOfTotals, IsRun, MayFind, Stands, Start, bytes_in, deeds_in, run_command, start_of}
@@ -194,12 +195,14 @@ module _ {D L : Type 0} (B : Ghosts D L) (files left : FilesState) (old new : D)
 
   -- the board of the run, as a board in memory
   module _ (board : BoardState) (prints : B.printed new ≡ text_of board) (since : (i x : List ℕ) → left_since_of board 0 i x → B.left_since new (B.moment old) i x) where
-    pub linked : (d : Durable) → HasState image d → (cut : Option (ℕ × Fill)) (i : List ℕ)
+    pub linked : {ran : Ran} → ran files (new_board image []) left board ended
+        → (d : Durable) → HasState image d → (cut : Option (ℕ × Fill)) (i : List ℕ)
         → B.left_since new (B.moment old) i (text_before cut board) ⊎ ((i ≡ image) × (text_before cut board ≡ []))
         → B.image new ≡ image_of board → (cut ≡ None → i ≡ image_of board) → ((fill : Fill) → cut ≡ Some (0, fill) → i ≡ image)
         → ((call : ℕ) (fill : Fill) → cut ≡ Some (call, fill) → call ≢ 0 → IsLeftInside board (call_of board call) i)
-        → (number : ℕ) → ((e : Durable) → HasState i e → number ≡ e.number) → HasLink d image files left cut ended i number
-    linked d has cut i left_so image_is uncut none inside number number_is =
+        → (number : ℕ) → ((e : Durable) → HasState i e → number ≡ e.number)
+        → HasLink ran d image files left cut ended i number
+    linked call d has cut i left_so image_is uncut none inside number number_is =
         let pair = pair_of i (text_before cut board) left_so in
         let whole : cut ≡ None → i ≡ B.image new = λ is. uncut is ∙ sym image_is in
         let k = keeps image (rest_of files 1) d has begun refl bytes line i (text_before cut board) pair in
@@ -241,6 +244,7 @@ module _ {D L : Type 0} (B : Ghosts D L) (files left : FilesState) (old new : D)
             seal_stays = seal_same image (rest_of files 1) d has begun bytes line i (text_before cut board) pair;
             pair = pair;
           };
+          call = call;
           files_are = refl;
           left_are = refl;
           cut_is = refl;

@@ -23,7 +23,7 @@ use Rattle.totaliser_store.specs.declared.entry.Entry.{Entry}
 use Rattle.totaliser_store.specs.declared.totals.Totals.{Totals}
 use Rattle.totaliser_store.specs.declared.trip.Trip.{Trip}
 use Rattle.totaliser_store.proofs.Laws.{changes_add_up}
-use Rattle.commands.specs.Chain.{HasChain, IsChain, last_image, last_state, prefixes_of}
+use Rattle.commands.specs.Chain.{HasChain, IsChain, Ran, last_image, last_state, prefixes_of}
 use Rattle.commands.specs.Link.{Link, prefix_of}
 use Rattle.commands.specs.Run.{IsOfTotals}
 use Rattle.commands.proofs.ChainScan.{seal_at}
@@ -114,8 +114,9 @@ chain-bytes d image [] chain = same_outside image image refl
 chain-bytes d image (link ∷ links) chain =
     outside_then image link.image (last_image link.image links) chain.0.seal_stays (chain-bytes link.found link.image links chain.1)
 
-pub chain-last : (d : Durable) (image : List ℕ) (files left : List FilesState) (cuts : List (Option (ℕ × Fill))) (last : List ℕ) (answers : List (ℕ × ℕ))
-    → HasChain d image files left cuts last answers → SameBut IsOfTotals image last
+pub chain-last : {ran : Ran} (d : Durable) (image : List ℕ) (files left : List FilesState)
+    (cuts : List (Option (ℕ × Fill))) (last : List ℕ) (answers : List (ℕ × ℕ))
+    → HasChain ran d image files left cuts last answers → SameBut IsOfTotals image last
 chain-last d image files left cuts last answers h = subst (λ (l : List ℕ). SameBut IsOfTotals image l) h.last_is (chain-bytes d image h.links h.chain)
 
 -- and so the seal does

@@ -1,5 +1,6 @@
 -- Rules: a chain of runs and cuts of the power, in which each run is made over the image that the one before it left.
 use Rattle.std.specs.Prelude.{◌≡◌, ℕ, ◌<◌, List, [], ◌∷◌, ◌++◌, length, map, Option, Ok}
+use Rattle.outside.specs.MemoryBoard.{BoardState, new_board}
 use Rattle.outside.specs.MemoryFiles.{FilesState}
 use Rattle.outside.specs.declared.replay.Fill.{Fill}
 use Rattle.seal_store.specs.Sealing.{HasSeal}
@@ -41,12 +42,27 @@ abbrev pub prefixes_of : Durable → (image : List ℕ) → List Link → List C
 prefixes_of durable image [] = []
 prefixes_of durable image (link ∷ links) = prefix_of durable image link ++ prefixes_of link.found link.image links
 
--- a call has made a chain of runs where the runs have the files `files` before them and `files_left` behind them, the
--- cuts `cuts` and the answers `answers`, and the last image is that of the call and stands for the last state
-pub record HasChain (durable : Durable) (image : List ℕ) (files files_left : List FilesState)
+-- what the calls of a program may leave is a relation: it holds of the files and the board with which a call is made,
+-- and of the files, the board and the status that the call may leave
+abbrev pub Ran : Type 1
+Ran = (files : FilesState) → (board : BoardState) → (files_left : FilesState) → (board_left : BoardState)
+    → (status : ℕ) → Type 0
+
+-- runs are calls of a program where each was made with the files before it and a new board, which has the image that is
+-- left before it and of which no call is to fail, and left the files behind it, its board and its status
+abbrev pub AreCalls : Ran → (image : List ℕ) → List Link → Type 0
+AreCalls ran image [] = Unit {0}
+AreCalls ran image (link ∷ links) =
+    ran link.files (new_board image []) link.files_left link.board link.status × AreCalls ran link.image links
+
+-- a call has made a chain of runs of a program where they are calls of the program, have the files `files` before them
+-- and `files_left` behind them, the cuts `cuts` and the answers `answers`, and the last image is that of the call and
+-- stands for the last state
+pub record HasChain (ran : Ran) (durable : Durable) (image : List ℕ) (files files_left : List FilesState)
     (cuts : List (Option (ℕ × Fill))) (last : List ℕ) (answers : List (ℕ × ℕ)) : Type 0 where
   pub links : List Link
   pub chain : IsChain durable image links
+  pub calls : AreCalls ran image links
   pub files_are : map (λ (link : Link). link.files) links ≡ files
   pub left_are : map (λ (link : Link). link.files_left) links ≡ files_left
   pub cuts_are : map (λ (link : Link). link.cut) links ≡ cuts

@@ -34,6 +34,7 @@ pub mod Totals
 -- Rules: any chain of runs and cuts of the power
 pub mod Chain
 pub mod Link
+pub mod MemoryRuns
 -- For proofs
 pub mod BenchSteps
 pub mod Carried

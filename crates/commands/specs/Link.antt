@@ -84,7 +84,8 @@ abbrev pub prefix_of : (durable : Durable) (image : List ℕ) → Link → List 
 prefix_of durable image link = take (link.number - durable.number) (commits_done image link)
 
 -- A run of a chain is one over an image that stands for a durable state, where its course, its status, its commits, the
--- next image and what had been printed are as the fields say.
+-- next image and what had been printed are as the fields say. That its board is the one that the run was carried out on
+-- is said of the runs of a chain, by AreCalls in Chain.
 pub record IsLink (durable : Durable) (image : List ℕ) (link : Link) : Type 0 where
   -- the run came to its answer over the whole drive, with the status of the command's definition, or to a read that
   -- failed, with 7; memory didn't run out, and the board didn't fail

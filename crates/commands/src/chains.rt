@@ -16,7 +16,7 @@ ghost use Rattle.commands.specs.declared.words.Row.TheVariants.{Run};
 
 use crate::ending::{BOARD_FAULT, NO_MEMORY};
 use crate::opening::{open_store, sealed_store};
-use crate::top::taxi;
+use crate::program::Program;
 use outside::{Fill, MemoryBoard, MemoryFiles, QuietBoard, STORE_SIZE};
 use slot_store::{Found, scan};
 use std::alloc::Global;
@@ -82,7 +82,7 @@ fn left_by(
 
 /// One run of a chain, over an image. Its board in memory fails nowhere by its list, so it fails only for want
 /// of memory.
-fn run_over<L: Ledger>(
+fn run_over<P: Program<L>, L: Ledger>(
     alloc: Global,
     words: &[String],
     files: &mut MemoryFiles,
@@ -92,10 +92,10 @@ fn run_over<L: Ledger>(
 ) -> Result<Left, NoMemory>
     requires { row_of (map string_bytes words.now) ≡ Some Run }
     ensures { (durable : Durable) → HasState image.now durable → IfOk result (λ left.
-        HasLink durable image.now files.old files.new cut left.status left.image left.number) }
+        HasLink P.ran durable image.now files.old files.new cut left.status left.image left.number) }
 {
     let mut board = MemoryBoard::new(alloc, image, &[])?;
-    let status = taxi(alloc, words, files, &mut board, steps);
+    let status = P::run(alloc, words, files, &mut board, steps);
     if status == BOARD_FAULT || status == NO_MEMORY {
         return Err(NoMemory);
     }
@@ -109,8 +109,8 @@ fn run_over<L: Ledger>(
 }
 
 /// Makes runs with the words `run TARIFF DRIVE`, one after the other: the first over the given image, each
-/// other one over the image that was left by the one before it. The i-th run has the i-th files, and a
-/// board in memory that fails nowhere by its list.
+/// other one over the image that was left by the one before it. The i-th run is one call of the program, with
+/// the i-th files and a new board in memory, which fails nowhere by its list.
 ///
 /// The i-th cut says what the i-th run leaves. For `Some((call, fill))` it is what a cut of the power leaves
 /// inside the board's call with that number, as `MemoryBoard::cut` gives it; a number above that of the last
@@ -118,9 +118,9 @@ fn run_over<L: Ledger>(
 ///
 /// The answer is the image at the end, and for each run its status and the number of the totals in the
 /// image that it left. `NoMemory` comes only where there is no memory: a run that ends with 8 or 12 is
-/// answered so. Which calls a run makes of its board, and what a fill makes of the bytes in flight, is shown
-/// by tests alone. All of it is this project's own.
-pub fn chain<L: Ledger>(
+/// answered so. It is proved of any program. Which calls those of `Taximeter` make of their boards, and what a
+/// fill makes of the bytes in flight, is shown by tests alone. All of it is this project's own.
+pub fn chain<P: Program<L>, L: Ledger>(
     alloc: Global,
     words: &[String],
     files: &mut [MemoryFiles],
@@ -135,9 +135,10 @@ pub fn chain<L: Ledger>(
     // From the first to the last each run comes to its answer's status or to 7, where a read of its files failed, and
     // leaves an image that stands for the state after some of its commits, from the first on: as many as the number
     // says, all where there was no cut, none where the cut's call is 0. That image is what the run's board holds inside
-    // the call of the cut, but for the bytes in flight there.
+    // the call of the cut, but for the bytes in flight there. The run's board is the one that the run's call of the
+    // program left of a new board with the image before: of any program, what a call left is told by that call alone.
     ensures chain { (durable : Durable) → HasState image.now durable → IfOk result (λ ended.
-        HasChain durable image.now files.old files.new cuts.now ended.0 ended.1.items) }
+        HasChain P.ran durable image.now files.old files.new cuts.now ended.0 ended.1.items) }
 
     // The bytes from 1,024 on stay, and so the image at the end stands for the same seal.
     ensures bytes { IfOk result (λ ended. SameBut IsOfTotals image.now ended.0) }
@@ -146,7 +147,7 @@ pub fn chain<L: Ledger>(
     let mut last = *image;
     let mut answers = Vec::new(alloc);
     for i in 0..files.len() {
-        let left = run_over(alloc, words, &mut files[i], &last, cuts[i], steps)?;
+        let left = run_over::<P, L>(alloc, words, &mut files[i], &last, cuts[i], steps)?;
         let Ok(()) = answers.push((left.status, left.number)) else {
             return Err(NoMemory);
         };

@@ -4,7 +4,7 @@ ghost use Rattle.std.specs.Prelude.{◌≡◌, ◌<◌};
 use crate::run_tests::{HELD, HIRING, sealed};
 use crate::store_tests::filled_or;
 use crate::tests::{A, P, files_of, must, must_behind, strings};
-use commands::{Row, chain, may_begin, row_in};
+use commands::{Row, Taximeter, chain, may_begin, row_in};
 use outside::{Fill, MemoryFiles};
 use std::alloc::Global;
 use std::marker::Brand;
@@ -43,7 +43,7 @@ fn counted<L: Ledger>(
         _ => return Err(Fail::new("the words are none of a run")),
     }
     if may_begin(image, &mut steps) {
-        return match chain(alloc, words, files, image, cuts, &mut steps) {
+        return match chain::<Taximeter, L>(alloc, words, files, image, cuts, &mut steps) {
             Ok(ended) => Ok(ended),
             Err(_) => Err(Fail::new("there is no memory")),
         };

@@ -8,6 +8,7 @@ use Rattle.commands.proofs.chains.chain.Given as goal
 abbrev pub invariant-loop-i : goal.invariant-loop-i
 invariant-loop-i g l = record {
   so_far : (d : Durable) → HasState l.fn.image d
-      → HasChain d l.fn.image (take l.i l.fn.files) (take l.i l.files) (take l.i l.cuts) l.last l.answers.items;
+      → HasChain g.P.Program.ran d l.fn.image (take l.i l.fn.files) (take l.i l.files) (take l.i l.cuts) l.last
+      l.answers.items;
   rest : drop l.i l.files ≡ drop l.i l.fn.files;
 }
