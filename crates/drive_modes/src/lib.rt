@@ -14,6 +14,3 @@ pub use charges::{
 };
 pub use meterage::{Meterage, Rounding, fares_add_up, steps_are_whole_steps};
 pub use speed::cross_over;
-
-#[cfg(test)]
-mod tests;

@@ -7,8 +7,6 @@ mod meaning;
 mod reader;
 mod run;
 mod state;
-#[cfg(test)]
-mod tests;
 mod written;
 
 pub use ending::bytes_tell_how_a_drive_ends;

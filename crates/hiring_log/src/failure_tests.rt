@@ -1,8 +1,7 @@
 //! Each failure of the outside in turn, at each place of a filing, over rolls and logs in memory.
 use crate::cut_tests::{DONE, Left, OPENED, SHUT, WRITTEN, goes_on, must_go_on};
 use crate::keep_log_tests::{
-    FILE, SHOW, called, failing, filed, filed_behind, filed_to, filing, image_of, is_end, must,
-    must_at, receipts, zeros,
+    FILE, SHOW, called, failing, filed, filed_to, filing, image_of, is_end, must, must_at, receipts,
 };
 use crate::memory_log::MemoryLog;
 use crate::roll_tests::put_receipt;
@@ -209,24 +208,4 @@ fn each_read_of_a_roll_fails(rt: HostRuntime) -> Result<(), Fail> {
     let last = last_of_five(rt.alloc(), &roll, &whole)?;
     must_at(last == 100, "another last receipt", last as u64)?;
     must_read_no_more(rt.alloc(), &roll)
-}
-
-/// Fails unless the first receipt of a beginning of a roll is filed alone, and the second by the whole roll.
-fn must_file_later(alloc: Global, zeros: &[u8], roll: &[u8], length: usize) -> Result<(), Fail> {
-    let torn = roll.get(..length).ok_or("no beginning")?;
-    let image = filed_behind(alloc, zeros, torn, "FILED 1\n")?;
-    filed_behind(alloc, &image, roll, "FILED 1\n")?;
-    Ok(())
-}
-
-/// A roll of two receipts, which are as long as each other, ends at each byte of the last one: that is filed only where
-/// it is whole, and is filed then, by the next roll, where it wasn't.
-#[test]
-fn rolls_that_end_in_their_last_receipt(rt: HostRuntime) -> Result<(), Fail> {
-    let roll = receipts(rt.alloc(), 2, 3)?;
-    let zeros = zeros(rt.alloc())?;
-    for length in roll.len() / 2..roll.len() {
-        must_file_later(rt.alloc(), &zeros, &roll, length)?;
-    }
-    Ok(())
 }

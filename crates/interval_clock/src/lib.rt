@@ -14,6 +14,3 @@ pub use clock::{Clock, ClockBack};
 pub use day_numbers::{CalendarDate, date_of_day, dates_have_day_numbers, day_number};
 pub use local_time::{LocalTime, civil, local_times_add_up};
 pub use offsets::{GREATEST_OFFSET, OffsetFault, Offsets, the_last_pair_begun_is_in_force};
-
-#[cfg(test)]
-mod tests;

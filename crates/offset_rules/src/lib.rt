@@ -21,6 +21,3 @@ pub use list_laws::{lists_follow_their_rule, lists_have_each_change, seconds_hav
 pub use reading::read_rules;
 pub use rules::{Change, Rules};
 pub use text_laws::{plain_texts_are_read_back, texts_say_rules_line_by_line};
-
-#[cfg(test)]
-mod tests;

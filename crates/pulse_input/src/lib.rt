@@ -9,6 +9,3 @@ mod gate;
 pub use constant::{BadConstant, Constant, GREATEST_CONSTANT, LEAST_CONSTANT};
 pub use distance::{distances_are_whole_millimetres, millimetres, reached};
 pub use gate::{Gate, a_gate_counts_the_sum};
-
-#[cfg(test)]
-mod tests;

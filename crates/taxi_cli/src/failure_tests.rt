@@ -1,9 +1,7 @@
-//! Each failure of the outside in turn, at each place of a run, and stores that no run begins with.
+//! Each failure of the outside in turn, at each place of a run.
 use crate::chain_tests::chained;
 use crate::run_tests::{HELD, HIRING, RUN, has_totals, sealed};
-use crate::tests::{
-    A, CALM, P, Stored, called, cut_in, must, must_answer, must_answer_over, must_at, must_behind,
-};
+use crate::tests::{A, P, called, cut_in, must, must_at, must_behind};
 use outside::{Fill, MemoryBoard};
 use std::alloc::Global;
 use std::test::Fail;
@@ -89,45 +87,6 @@ fn runs_go_on_after_each_failed_call(rt: HostRuntime) -> Result<(), Fail> {
     must_break_off_all(rt.alloc(), &whole, &image, 28)
 }
 
-/// Fails unless a drive that ends at this place is carried out where a line ended there, and is else bad in this line.
-fn must_be_cut_short(
-    alloc: Global,
-    image: &[u8; 2048],
-    place: usize,
-    line: u64,
-    ended: bool,
-) -> Result<(), Fail> {
-    let drive = HIRING.get(..place).ok_or("no beginning")?;
-    let (board, status) = ran(alloc, image, drive, &[], &[])?;
-    let last = format!(in alloc; "BAD DRIVE {line}\n")?;
-    let is_bad = status == 3 && board.printed().ends_with(last.as_bytes());
-    must_at(
-        (ended && status == 0) || (!ended && is_bad),
-        "another end in line",
-        line,
-    )
-}
-
-/// Fails unless a drive that is cut short at any place ends as it should.
-fn must_be_cut_short_all(alloc: Global, image: &[u8; 2048], drive: &[u8]) -> Result<(), Fail> {
-    let mut lines = 1;
-    let mut ended = true;
-    for place in 0..drive.len() {
-        must_be_cut_short(alloc, image, place, lines, ended)?;
-        ended = drive[place] == b'\n';
-        if ended && lines < 100 {
-            lines += 1;
-        }
-    }
-    must(ended && lines == 9, "other lines", "a hiring")
-}
-
-/// A drive ends at each of its places.
-#[test]
-fn drives_cut_short(rt: HostRuntime) -> Result<(), Fail> {
-    must_be_cut_short_all(rt.alloc(), &sealed(rt.alloc(), A, P)?, HIRING.as_bytes())
-}
-
 /// The reads of a hiring's files, of the tariff, its bytes and its end, and of the drive likewise, and how the totals
 /// begin where each fails. Before the last read all events of the drive were carried out.
 const READS: &[(u64, &str)] = &[
@@ -179,70 +138,4 @@ fn each_read_fails(rt: HostRuntime) -> Result<(), Fail> {
     must_fail_to_read_all(rt.alloc(), &image, READS)?;
     let (_, status) = ran(rt.alloc(), &image, HIRING, &[], &[5])?;
     must_at(status == 0, "another status at read", 5)
-}
-
-/// An image with other bytes from a place on.
-fn changed(image: &[u8; 2048], place: usize, bytes: &[u8]) -> [u8; 2048] {
-    let mut changed = *image;
-    let mut at = place;
-    for byte in bytes {
-        if at < 2048 {
-            changed[at] = *byte;
-            at += 1;
-        }
-    }
-    changed
-}
-
-/// Stores that aren't sealed, or of which a slot isn't read: of one byte throughout, or a sealed one with other bytes.
-const REFUSED: &[Stored] = &[
-    (
-        Some(0xFF),
-        &[],
-        (RUN, &[A, HIRING], CALM, &["NOT SEALED\n"], 4),
-    ),
-    (
-        Some(0xA5),
-        &[],
-        (RUN, &[A, HIRING], CALM, &["BAD STORE 0\n"], 5),
-    ),
-    (
-        None,
-        &[(511, 3)],
-        (RUN, &[A, HIRING], CALM, &["BAD STORE 0\n"], 5),
-    ),
-    (
-        None,
-        &[(512, 0xA5)],
-        (RUN, &[A, HIRING], CALM, &["BAD STORE 1\n"], 5),
-    ),
-    (
-        None,
-        &[(1024, 0)],
-        (RUN, &[A, HIRING], CALM, &["NOT SEALED\n"], 4),
-    ),
-];
-
-/// Fails unless a run over a store has this line for its answer, with 5.
-fn must_refuse(alloc: Global, image: &[u8; 2048], line: &str) -> Result<(), Fail> {
-    must_answer(alloc, image, RUN, &[A, HIRING], CALM, &[line], 5)
-}
-
-/// And a store with its first slot in the place of the second.
-#[test]
-fn stores_that_are_refused(rt: HostRuntime) -> Result<(), Fail> {
-    let image = sealed(rt.alloc(), A, P)?;
-    must_answer_over(rt.alloc(), &image, REFUSED)?;
-    let doubled = changed(&image, 512, &image[..512]);
-    must_refuse(rt.alloc(), &doubled, "BAD STORE 0 1\n")
-}
-
-/// A store whose held trip has another rest than a trip may have.
-#[test]
-fn a_trip_that_is_refused(rt: HostRuntime) -> Result<(), Fail> {
-    let image = sealed(rt.alloc(), A, P)?;
-    let (held, _) = ran(rt.alloc(), &image, "U 1767225600\nK H\nI 0 1\n", &[], &[])?;
-    let rest = 29_584_800_000_u128.to_be_bytes();
-    let image = changed(held.image(), 657, &rest);
-    must_refuse(rt.alloc(), &image, "BAD STORE TRIP\n")
 }

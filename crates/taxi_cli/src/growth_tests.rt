@@ -1,15 +1,9 @@
 //! A run over a board in memory, for bench/growths, which refuses one growth of memory after the other in it.
-use crate::run_tests::{HIRING, ROWS, RUN, is_made_of};
-use crate::store_tests::{SECOND_LAYOUT, image_of};
+use crate::run_tests::{HIRING, RUN, SHOWN, is_made_of};
+use crate::store_tests::{DIGEST, SECOND_LAYOUT, image_of};
 use crate::tests::{A, call};
 use outside::MemoryBoard;
 use std::test::Fail;
-
-/// The SHA-256 of the tariff A, as sha256sum gives it.
-const DIGEST: [u8; 32] = [
-    0x26, 0x45, 0x76, 0x24, 0x09, 0xb7, 0x0e, 0x5a, 0xb7, 0x2a, 0x0a, 0x80, 0x3b, 0x7d, 0x1a, 0x34,
-    0x13, 0x73, 0x26, 0x4e, 0x56, 0x97, 0x1a, 0x8f, 0x44, 0xcb, 0x19, 0x69, 0x48, 0x9d, 0x5f, 0x9b,
-];
 
 /// A store as sealing leaves it, made without memory: number 1, totals of zero, no held trip.
 fn sealed_image() -> [u8; 2048] {
@@ -42,14 +36,13 @@ fn a_hiring(rt: HostRuntime) -> Result<(), Fail> {
     let image = sealed_image();
     let mut board = MemoryBoard::new(rt.alloc(), &image, &[])?;
     let status = call(rt.alloc(), RUN, &[A, HIRING], &[], &mut board)?;
-    let pieces = ROWS[0].3;
-    if status == 0 && is_made_of(board.printed(), pieces) {
+    if status == 0 && is_made_of(board.printed(), SHOWN) {
         return Ok(());
     }
     if status == 12 && board.printed() == b"NO MEMORY\n".as_slice() && *board.image() == image {
         return Err(Fail::new("memory ran out before the run"));
     }
-    if status == 8 && board.refused() > 0 && begins(board.printed(), pieces) {
+    if status == 8 && board.refused() > 0 && begins(board.printed(), SHOWN) {
         return Err(Fail::new("the board had no memory"));
     }
     Err(Fail::new("the run ended otherwise"))

@@ -10,17 +10,11 @@ mod chain_tests;
 #[cfg(test)]
 mod failure_tests;
 #[cfg(test)]
-mod fare_tests;
-#[cfg(test)]
 mod form_tests;
-#[cfg(test)]
-mod generate_tests;
 #[cfg(test)]
 mod growth_tests;
 #[cfg(test)]
 mod many_cuts_tests;
-#[cfg(test)]
-mod offsets_tests;
 #[cfg(test)]
 mod port_tests;
 #[cfg(test)]

@@ -1,185 +1,11 @@
-//! Sealings, over boards in memory.
-use crate::store_tests::{SECOND_LAYOUT, SUMMARY, image_of, with_bytes};
-use crate::tests::{
-    A, CALM, Call, P, Stored, ZEROS, call, called, cut_in, cuts_of, joined, must, must_answer_all,
-    must_answer_over, must_behind,
-};
+//! Sealings over boards in memory, with a cut in each call, and with each call failing.
+use crate::store_tests::{SECOND_LAYOUT, image_of};
+use crate::tests::{A, P, ZEROS, called, cut_in, cuts_of, must, must_at, must_behind};
 use outside::{Fill, MemoryBoard};
 use std::alloc::Global;
 use std::test::Fail;
 
 const WORDS: &[&str] = &["seal", "t", "p"];
-
-/// The bytes that a sealing of a store of zeros leaves, by their places, but for the digest: totals of
-/// nothing with number 1, and the seal with the parameters.
-const SEALED: &[(usize, u8)] = &[
-    (0, 0xa5),
-    (8, 1),
-    (511, 2),
-    (1024, 0xa5),
-    (1032, 1),
-    (1033, 0x4c),
-    (1034, 0x58),
-    (1035, 0x2d),
-    (1036, 0x34),
-    (1037, 0x37),
-    (1038, 0x31),
-    (1039, 0x31),
-    (1051, 0x27),
-    (1052, 0x10),
-    (1055, 0x3c),
-    (1090, 0x4f),
-    (1091, 0xc7),
-    (1092, 1),
-    (1097, 0x38),
-    (1098, 0x6d),
-    (1099, 0x43),
-    (1100, 0x80),
-    (1103, 0x0e),
-    (1104, 0x10),
-    (1477, 2),
-    (1535, 1),
-];
-
-/// What sha256sum gives of the tariff's text.
-const DIGEST: [u8; 32] = [
-    0x26, 0x45, 0x76, 0x24, 0x09, 0xb7, 0x0e, 0x5a, 0xb7, 0x2a, 0x0a, 0x80, 0x3b, 0x7d, 0x1a, 0x34,
-    0x13, 0x73, 0x26, 0x4e, 0x56, 0x97, 0x1a, 0x8f, 0x44, 0xcb, 0x19, 0x69, 0x48, 0x9d, 0x5f, 0x9b,
-];
-
-/// Whether an image is zeros but for the bytes of a first sealing.
-fn is_first_sealing(image: &[u8; 2048]) -> bool {
-    let mut wanted = with_bytes(ZEROS, SEALED);
-    wanted[1056..1088].copy_from_slice(&DIGEST);
-    *image == wanted
-}
-
-/// Fails unless a sealing of a board succeeds, and leaves the store of a first sealing or another one, with its totals.
-fn must_seal(alloc: Global, board: &mut MemoryBoard, first: bool) -> Result<(), Fail> {
-    let status = call(alloc, WORDS, &[A, P], &[], board)?;
-    let is_sealed = status == 0 && is_first_sealing(board.image()) == first;
-    must(is_sealed, "another store", "sealed")?;
-    let has_totals = board.image().starts_with(&[0xa5, 0, 0, 0, 0, 0, 0, 0, 1]);
-    must(has_totals, "other totals", "sealed")
-}
-
-#[test]
-fn sealing_a_store_of_zeros(rt: HostRuntime) -> Result<(), Fail> {
-    let mut board = MemoryBoard::new(rt.alloc(), ZEROS, &[])?;
-    must_seal(rt.alloc(), &mut board, true)?;
-    must_seal(rt.alloc(), &mut board, false)?;
-    let is_printed = board.printed() == b"SEALED 1\nSEALED 2\n".as_slice();
-    must(is_printed, "another text", "sealed")
-}
-
-#[test]
-fn sealing_over_totals(rt: HostRuntime) -> Result<(), Fail> {
-    let mut board = MemoryBoard::new(rt.alloc(), &image_of(SECOND_LAYOUT), &[])?;
-    let sealed = call(rt.alloc(), WORDS, &[A, P], &[], &mut board)?;
-    must(sealed == 0, "another status", "a sealing")?;
-    let status = call(rt.alloc(), &["totals"], &[], &[], &mut board)?;
-    must(status == 0, "another status", "totals")?;
-    let rest = "LAYOUT 2\nBEFORE 0 0.00\nPOSITION 1 1 3.80\n";
-    let output = joined(rt.alloc(), &["SEALED 2\n", SUMMARY, rest])?;
-    must(
-        board.printed() == output.as_bytes(),
-        "another text",
-        "totals",
-    )
-}
-
-/// Texts that are refused over the sealed store.
-const REFUSED: &[Call] = &[
-    (
-        WORDS,
-        &[
-            "decimals 3\nstep 0.200\ninitial 3.800\nrate 0.200 per 117.4 m, 0.200 per 25.2 s\n",
-            P,
-        ],
-        CALM,
-        &["OTHER DECIMALS 2 3\n"],
-        15,
-    ),
-    (
-        WORDS,
-        &[
-            A,
-            "taxi LX-4711\nconstant 10000\nmode single\noffset 946684800 3600\nsecured 2025-12-01\n",
-        ],
-        CALM,
-        &["BAD PARAMS Missing Hold\n"],
-        9,
-    ),
-    (
-        WORDS,
-        &[
-            A,
-            "taxi LX-4711\nconstant 10000\nmode triple\nhold 60\noffset 946684800 3600\nsecured 2025-12-01\n",
-        ],
-        CALM,
-        &["BAD PARAMS BadValue 3\n"],
-        9,
-    ),
-    (
-        WORDS,
-        &[A, "taxi LX-4711\ntaxi LX-4711\n"],
-        CALM,
-        &["BAD PARAMS Twice Taxi\n"],
-        9,
-    ),
-    (WORDS, &["", P], CALM, &["BAD TARIFF NoStep\n"], 2),
-];
-
-#[test]
-fn refused_sealings(rt: HostRuntime) -> Result<(), Fail> {
-    must_answer_all(rt.alloc(), &image_of(SECOND_LAYOUT), REFUSED)
-}
-
-/// A sealed store with a trip that is held since 2026-01-01T00:00Z, in position 1 and zone 1.
-const HELD: &[(usize, u8)] = &[
-    (81, 1),
-    (86, 0x69),
-    (87, 0x55),
-    (88, 0xb9),
-    (89, 0x00),
-    (94, 0x69),
-    (95, 0x55),
-    (96, 0xb9),
-    (99, 1),
-    (100, 1),
-    (196, 1),
-    (211, 0x01),
-    (212, 0x7c),
-    (511, 2),
-    (1535, 1),
-];
-
-/// A sealed store whose seal has the last number.
-const LAST: &[(usize, u8)] = &[
-    (196, 1),
-    (211, 0x01),
-    (212, 0x7c),
-    (511, 2),
-    (1026, 0x03),
-    (1027, 0x8d),
-    (1028, 0x7e),
-    (1029, 0xa4),
-    (1030, 0xc6),
-    (1031, 0x80),
-    (1032, 0),
-    (1535, 1),
-];
-
-/// What the sealed store has other.
-const NOT_SEALED: &[Stored] = &[
-    (None, HELD, (WORDS, &[A, P], CALM, &["TRIP HELD\n"], 13)),
-    (None, LAST, (WORDS, &[A, P], CALM, &["SEAL ENDED\n"], 14)),
-];
-
-#[test]
-fn stores_that_are_not_sealed(rt: HostRuntime) -> Result<(), Fail> {
-    must_answer_over(rt.alloc(), &image_of(&[]), NOT_SEALED)
-}
 
 /// What a call of these words prints over what a cut in a sealing left, and its status.
 fn call_after_cut(
@@ -267,4 +93,27 @@ fn cuts_through_a_second_sealing(rt: HostRuntime) -> Result<(), Fail> {
     must(status == 0, "another status", "sealed")?;
     let cuts = cuts_of(rt.alloc(), sealed.calls())?;
     must_be_sealed_all(rt.alloc(), &sealed, &image, cuts.as_slice())
+}
+
+/// Fails unless a first sealing of which this call fails makes no other behind it, and prints nothing, and the next
+/// call finds what it may where all that was written is there.
+fn must_break_off(alloc: Global, failed: u64) -> Result<(), Fail> {
+    let (sealed, status) = called(alloc, WORDS, &[A, P], ZEROS, &[failed], &[])?;
+    let is_last = status == 8 && sealed.calls() == failed && sealed.printed().is_empty();
+    must_at(is_last, "another end at call", failed)?;
+    must_be_cut(alloc, &sealed, failed, Fill::New)
+}
+
+/// Fails unless a first sealing breaks off so at each of its calls.
+fn must_break_off_all(alloc: Global, calls: u64) -> Result<(), Fail> {
+    for failed in 1..=calls {
+        must_break_off(alloc, failed)?;
+    }
+    Ok(())
+}
+
+/// Each call of the board that fails in a first sealing: six of two scans, eight that write and sync, and a print.
+#[test]
+fn failing_boards(rt: HostRuntime) -> Result<(), Fail> {
+    must_break_off_all(rt.alloc(), 15)
 }

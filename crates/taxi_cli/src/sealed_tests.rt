@@ -1,8 +1,7 @@
 //! What a store was sealed with, printed and sealed again, over boards in memory.
-use crate::store_tests::{BAD_SEAL, SECOND_LAYOUT, image_of};
+use crate::store_tests::{SECOND_LAYOUT, image_of};
 use crate::tests::{
-    A, CALM, Call, P, Stored, ZEROS, called, must, must_answer, must_answer_all, must_answer_over,
-    must_at,
+    A, CALM, Call, P, ZEROS, called, must, must_answer, must_answer_all, must_at,
 };
 use outside::MemoryBoard;
 use std::alloc::Global;
@@ -39,17 +38,6 @@ const CALLS: &[Call] = &[
 #[test]
 fn sealed_stores(rt: HostRuntime) -> Result<(), Fail> {
     must_answer_all(rt.alloc(), &image_of(SECOND_LAYOUT), CALLS)
-}
-
-/// Stores that were not sealed, or whose seal isn't read.
-const REFUSED: &[Stored] = &[
-    (Some(0), &[], (SEALED, &[], CALM, &["NOT SEALED\n"], 4)),
-    (None, BAD_SEAL, (SEALED, &[], CALM, &["BAD STORE 2\n"], 5)),
-];
-
-#[test]
-fn stores_without_a_seal(rt: HostRuntime) -> Result<(), Fail> {
-    must_answer_over(rt.alloc(), &image_of(&[]), REFUSED)
 }
 
 /// Tariffs, parameters as they are sealed, and what is printed of them. The digests are those of sha256sum.

@@ -1,9 +1,9 @@
-//! Marks and reports, over files and boards in memory.
-use crate::run_tests::{HIRING, RUN, ran, sealed};
+//! Marks and reports over boards in memory, with reads and calls of the board failing, and with cuts.
+use crate::run_tests::{HIRING, ran, sealed};
 use crate::store_tests::{SECOND_LAYOUT, image_of};
 use crate::tests::{
-    A, CALM, Call, P, Stored, called, cut_in, cuts_of, joined, must, must_answer, must_answer_all,
-    must_answer_over, must_behind, repeated,
+    A, CALM, Call, P, called, cut_in, cuts_of, joined, must, must_answer, must_answer_all,
+    must_behind, repeated,
 };
 use outside::{Fill, MemoryBoard};
 use std::alloc::Global;
@@ -31,199 +31,6 @@ const OFF: &[&str] = &["mark", "off"];
 const NOTHING_SHARED: &str =
     "SHIFT 1 ANNA 0 0.000 0.000 0.00 0.00\nDRIVER ANNA 0 0.000 0.000 0.00 0.00\n\
      UNSIGNED 0 0.000 0.000 0.00 0.00\nGROWTH 0 0.000 0.000 0.00 0.00\n";
-
-/// Words over a store of one hiring.
-const MARKS: &[Call] = &[
-    (
-        &["mark", "on", "ANNA"],
-        &[""],
-        CALM,
-        &["ON ANNA 2 234800 234800 1 0 380\n"],
-        0,
-    ),
-    (
-        &["mark", "on", "-"],
-        &[""],
-        CALM,
-        &["ON - 2 234800 234800 1 0 380\n"],
-        0,
-    ),
-    (
-        &["mark", "on", "ABCDEFGHIJKLMN-0"],
-        &[""],
-        CALM,
-        &["ON ABCDEFGHIJKLMN-0 2 234800 234800 1 0 380\n"],
-        0,
-    ),
-    (&["mark", "off"], &[""], CALM, &[OFF_AFTER], 0),
-    (&["mark"], &[""], CALM, &["BAD WORDS\n"], 1),
-    (&["mark", "on"], &[""], CALM, &["BAD WORDS\n"], 1),
-    (&["mark", "on", ""], &[""], CALM, &["BAD WORDS\n"], 1),
-    (&["mark", "on", "anna"], &[""], CALM, &["BAD WORDS\n"], 1),
-    (&["mark", "on", "A B"], &[""], CALM, &["BAD WORDS\n"], 1),
-    (
-        &["mark", "on", "ABCDEFGHIJKLMN-01"],
-        &[""],
-        CALM,
-        &["BAD WORDS\n"],
-        1,
-    ),
-    (&["mark", "off", "ANNA"], &[""], CALM, &["BAD WORDS\n"], 1),
-    (&["mark", "ON", "ANNA"], &[""], CALM, &["BAD WORDS\n"], 1),
-    (&["shifts"], &[""], CALM, &["BAD WORDS\n"], 1),
-    (&["shifts", "b", "c"], &[""], CALM, &["BAD WORDS\n"], 1),
-];
-
-#[test]
-fn marks(rt: HostRuntime) -> Result<(), Fail> {
-    must_answer_all(rt.alloc(), &image_of(SECOND_LAYOUT), MARKS)
-}
-
-/// A seal whose body isn't read.
-const BAD_SEAL: &[(usize, u8)] = &[(196, 1), (211, 0x01), (212, 0x7c), (511, 2), (1535, 2)];
-
-/// Stores that are refused before the book is read: of one byte throughout, or the sealed one with these bytes more.
-const WITHOUT_MARKS: &[Stored] = &[
-    (Some(0), &[], (OFF, &[SHIFT], (0, 1), &["NOT SEALED\n"], 4)),
-    (
-        None,
-        BAD_SEAL,
-        (OFF, &[SHIFT], (0, 1), &["BAD STORE 2\n"], 5),
-    ),
-    (
-        Some(0),
-        &[],
-        (SHIFTS, &[SHIFT], (0, 1), &["NOT SEALED\n"], 4),
-    ),
-    (
-        None,
-        BAD_SEAL,
-        (SHIFTS, &[SHIFT], (0, 1), &["BAD STORE 2\n"], 5),
-    ),
-];
-
-#[test]
-fn stores_without_marks(rt: HostRuntime) -> Result<(), Fail> {
-    must_answer_over(rt.alloc(), &image_of(&[]), WITHOUT_MARKS)
-}
-
-/// Books beside a store of one hiring.
-const BOOKS: &[Call] = &[
-    (
-        SHIFTS,
-        &[""],
-        CALM,
-        &["UNSIGNED 0 0.000 0.000 0.00 0.00\nGROWTH 0 0.000 0.000 0.00 0.00\n"],
-        0,
-    ),
-    (SHIFTS, &[SHIFT], CALM, &[SHARED], 0),
-    (SHIFTS, &[ON_AT_FIRST], CALM, &[SHARED], 0),
-    (
-        SHIFTS,
-        &[
-            "ON ZOE 1 0 0 0 0 0\nOFF 1 1000 1000 1 0 80\nON ANNA 1 4000 4000 1 0 280\n\
-         OFF 1 4800 4800 1 0 280\nON ZOE 2 4801 4802 1 0 280\n",
-        ],
-        CALM,
-        &[
-            "SHIFT 1 ZOE 1 1.000 1.000 0.80 0.00\nSHIFT 2 ANNA 0 0.800 0.800 0.00 0.00\n\
-         SHIFT 3 ZOE 0 229.999 229.998 1.00 0.00\nDRIVER ANNA 0 0.800 0.800 0.00 0.00\n\
-         DRIVER ZOE 1 230.999 230.998 1.80 0.00\nUNSIGNED 0 3.001 3.002 2.00 0.00\n\
-         GROWTH 1 234.800 234.800 3.80 0.00\n",
-        ],
-        0,
-    ),
-    (
-        SHIFTS,
-        &["ON ANNA 1 0 0 0 0 0\nON ANNA 1 0 0 0 0 0\n"],
-        CALM,
-        &["BAD BOOK 2\n"],
-        18,
-    ),
-    (
-        SHIFTS,
-        &["ON ANNA 1 0 0 0 0 0\nOFF 2 234800 234800 1 0 380"],
-        CALM,
-        &["BAD BOOK 2\n"],
-        18,
-    ),
-    (
-        SHIFTS,
-        &["ON ANNA 1 0 0 0 0 0\r\n"],
-        CALM,
-        &["BAD BOOK 1\n"],
-        18,
-    ),
-    (
-        SHIFTS,
-        &["ON ANNA 01 0 0 0 0 0\n"],
-        CALM,
-        &["BAD BOOK 1\n"],
-        18,
-    ),
-    (
-        SHIFTS,
-        &["ON ABCDEFGHIJKLMN-01 1 0 0 0 0 0\n"],
-        CALM,
-        &["BAD BOOK 1\n"],
-        18,
-    ),
-    (
-        SHIFTS,
-        &["ON ANNA 1 340282366920938463463374607431768211455 0 0 0 0\n"],
-        CALM,
-        &["BAD BOOK 1\n"],
-        18,
-    ),
-    (
-        SHIFTS,
-        &["ON ANNA 1 340282366920938463463374607431768211456 0 0 0 0\n"],
-        CALM,
-        &["BAD BOOK 1\n"],
-        18,
-    ),
-    (
-        SHIFTS,
-        &["ON ANNA 2 234800 234800 1 0 381\n"],
-        CALM,
-        &["BAD BOOK 1\n"],
-        18,
-    ),
-    (
-        SHIFTS,
-        &["ON ANNA 3 0 0 0 0 0\n"],
-        CALM,
-        &["BAD BOOK 1\n"],
-        18,
-    ),
-    (
-        SHIFTS,
-        &["ON ANNA 2 234800 234800 1 0 380\n\n"],
-        CALM,
-        &["BAD BOOK 2\n"],
-        18,
-    ),
-];
-
-#[test]
-fn reports(rt: HostRuntime) -> Result<(), Fail> {
-    must_answer_all(rt.alloc(), &image_of(SECOND_LAYOUT), BOOKS)
-}
-
-/// Fails unless a book of this number of bytes has this answer, whatever stands in it.
-fn must_be_long(alloc: Global, size: usize, output: &str) -> Result<(), Fail> {
-    let more = size.saturating_sub(ON_AT_FIRST.len());
-    let book = repeated(alloc, ON_AT_FIRST, "x", more)?;
-    let image = image_of(SECOND_LAYOUT);
-    must_answer(alloc, &image, SHIFTS, &[book.as_str()], CALM, &[output], 18)
-}
-
-/// A book of 1,048,576 bytes, and of one byte more.
-#[test]
-fn the_longest_books(rt: HostRuntime) -> Result<(), Fail> {
-    must_be_long(rt.alloc(), 1_048_576, "BAD BOOK 2\n")?;
-    must_be_long(rt.alloc(), 1_048_577, "BAD BOOK TOO LONG\n")
-}
 
 /// Each read of the book that fails: reads 1 and 2 are those of a short one. And each call of the board: six open the
 /// store, and then one print a mark, and each 512 bytes of a report.
@@ -270,24 +77,6 @@ fn a_report_in_pieces(rt: HostRuntime) -> Result<(), Fail> {
         "another text",
         "broken off",
     )
-}
-
-/// The store that was sealed and ran a hiring, and then roamed 100 km.
-fn after_roaming(alloc: Global) -> Result<[u8; 2048], Fail> {
-    let (board, _) = ran(alloc, A, P, HIRING)?;
-    let texts = [A, "U 1767225600\nI 2000 500\n"];
-    let (board, _) = called(alloc, RUN, &texts, board.image(), &[], &[])?;
-    Ok(*board.image())
-}
-
-/// What grew behind the last mark, while nobody was on, is nobody's.
-#[test]
-fn roaming_behind_a_shift(rt: HostRuntime) -> Result<(), Fail> {
-    let image = after_roaming(rt.alloc())?;
-    let output =
-        "SHIFT 1 ANNA 1 234.800 234.800 3.80 0.00\nDRIVER ANNA 1 234.800 234.800 3.80 0.00\n\
-         UNSIGNED 0 100000.000 0.000 0.00 0.00\nGROWTH 1 100234.800 234.800 3.80 0.00\n";
-    must_answer(rt.alloc(), &image, SHIFTS, &[SHIFT], CALM, &[output], 0)
 }
 
 /// Fails unless the store has the hiring or not after a cut in this call of its run, the mark off says which, and the

@@ -1,5 +1,5 @@
 //! Calls that open the store, over boards in memory.
-use crate::tests::{CALM, Call, Stored, ZEROS, must_answer, must_answer_all, must_answer_over};
+use crate::tests::{CALM, Call, ZEROS, must_answer_all};
 use std::test::Fail;
 
 const WORDS: &[&str] = &["totals"];
@@ -42,8 +42,8 @@ const STORE: &[(usize, u8)] = &[
     (1477, 2),
 ];
 
-/// What layout 1 has more, and layout 2 with a share of position 1, and a store that breaks its sums.
-pub(crate) const FIRST_LAYOUT: &[(usize, u8)] = &[(511, 1), (1535, 1)];
+/// What layout 1 has more, and layout 2 with a share of position 1.
+const FIRST_LAYOUT: &[(usize, u8)] = &[(511, 1), (1535, 1)];
 
 pub(crate) const SECOND_LAYOUT: &[(usize, u8)] = &[
     (196, 1),
@@ -51,45 +51,6 @@ pub(crate) const SECOND_LAYOUT: &[(usize, u8)] = &[
     (212, 0x7c),
     (511, 2),
     (1535, 1),
-];
-
-const TOO_MANY_BEFORE: &[(usize, u8)] = &[
-    (196, 1),
-    (211, 0x01),
-    (212, 0x7c),
-    (412, 1),
-    (511, 2),
-    (1535, 1),
-];
-
-const NO_SEAL: &[(usize, u8)] = &[(196, 1), (211, 0x01), (212, 0x7c), (511, 2), (1024, 0)];
-
-/// Second slots that are open with the number of the first.
-const SAME_TOTALS: &[(usize, u8)] = &[
-    (196, 1),
-    (211, 0x01),
-    (212, 0x7c),
-    (511, 2),
-    (512, 0xa5),
-    (520, 2),
-    (534, 0x03),
-    (535, 0x95),
-    (536, 0x30),
-    (560, 1),
-    (591, 0x01),
-    (592, 0x7c),
-    (708, 1),
-    (723, 0x01),
-    (724, 0x7c),
-    (1023, 2),
-];
-
-pub(crate) const BAD_SEAL: &[(usize, u8)] = &[
-    (196, 1),
-    (211, 0x01),
-    (212, 0x7c),
-    (511, 2),
-    (1535, 2),
 ];
 
 /// An image with other bytes at these places.
@@ -116,77 +77,60 @@ pub(crate) fn image_of(more: &[(usize, u8)]) -> [u8; 2048] {
     with_bytes(&with_bytes(ZEROS, STORE), more)
 }
 
-/// A sealed store whose second seal is the first again.
-fn same_seals() -> [u8; 2048] {
-    let mut image = image_of(SECOND_LAYOUT);
-    for place in 1024..1536 {
-        image[place + 512] = image[place];
-    }
+/// The SHA-256 of the tariff A, as sha256sum gives it.
+pub(crate) const DIGEST: [u8; 32] = [
+    0x26, 0x45, 0x76, 0x24, 0x09, 0xb7, 0x0e, 0x5a, 0xb7, 0x2a, 0x0a, 0x80, 0x3b, 0x7d, 0x1a, 0x34,
+    0x13, 0x73, 0x26, 0x4e, 0x56, 0x97, 0x1a, 0x8f, 0x44, 0xcb, 0x19, 0x69, 0x48, 0x9d, 0x5f, 0x9b,
+];
+
+/// The store in layout 1, sealed with tariff A.
+pub(crate) fn first_layout() -> [u8; 2048] {
+    let mut image = image_of(FIRST_LAYOUT);
+    image[1056..1088].copy_from_slice(&DIGEST);
     image
 }
 
-pub(crate) const SUMMARY: &str =
+const SUMMARY: &str =
     "NUMBER 2\nDISTANCE 234.800 m\nHIRED 234.800 m\nHIRINGS 1\nSUPPLEMENTS 0.00\nFARE 3.80\nHELD no\n";
 
-/// What the store has more, and what `totals` prints behind the summary.
-const TOTALS: &[Stored] = &[
-    (
-        None,
-        FIRST_LAYOUT,
-        (WORDS, &[], CALM, &[SUMMARY, "LAYOUT 1\nBEFORE 1 3.80\n"], 0),
-    ),
-    (
-        None,
-        SECOND_LAYOUT,
-        (
-            WORDS,
-            &[],
-            CALM,
-            &[SUMMARY, "LAYOUT 2\nBEFORE 0 0.00\nPOSITION 1 1 3.80\n"],
-            0,
-        ),
-    ),
-];
+/// Asks for the store's number, which is 2.
+const NUMBER: &str = "\x02\x01\x06\x03";
 
-#[test]
-fn totals(rt: HostRuntime) -> Result<(), Fail> {
-    must_answer_over(rt.alloc(), &image_of(&[]), TOTALS)
-}
+const OF_NUMBER: &str = "\x02\0\x09\x06\0\0\0\0\0\0\0\x02\x03";
 
-/// Stores that aren't sealed or are bad: zeros, or what the sealed store has more; the output and the status.
-const WITHOUT_TOTALS: &[Stored] = &[
-    (None, NO_SEAL, (WORDS, &[], CALM, &["NOT SEALED\n"], 4)),
+const SHARED: &str =
+    "SHIFT 1 ANNA 1 234.800 234.800 3.80 0.00\nDRIVER ANNA 1 234.800 234.800 3.80 0.00\n\
+     UNSIGNED 0 0.000 0.000 0.00 0.00\nGROWTH 1 234.800 234.800 3.80 0.00\n";
+
+/// Each command that only looks at the store, but `bench`.
+const LOOKS: &[Call] = &[
     (
-        None,
-        TOO_MANY_BEFORE,
-        (WORDS, &[], CALM, &["BAD STORE 0\n"], 5),
-    ),
-    (None, BAD_SEAL, (WORDS, &[], CALM, &["BAD STORE 2\n"], 5)),
-    (
-        None,
-        SAME_TOTALS,
-        (WORDS, &[], CALM, &["BAD STORE 0 1\n"], 5),
-    ),
-    (Some(0), &[], (WORDS, &[], CALM, &["NOT SEALED\n"], 4)),
-];
-
-#[test]
-fn stores_without_totals(rt: HostRuntime) -> Result<(), Fail> {
-    must_answer_over(rt.alloc(), &image_of(&[]), WITHOUT_TOTALS)
-}
-
-/// A second seal with the number of the first.
-#[test]
-fn seals_of_one_number(rt: HostRuntime) -> Result<(), Fail> {
-    must_answer(
-        rt.alloc(),
-        &same_seals(),
         WORDS,
         &[],
         CALM,
-        &["BAD STORE 2 3\n"],
-        5,
-    )
+        &[SUMMARY, "LAYOUT 2\nBEFORE 0 0.00\nPOSITION 1 1 3.80\n"],
+        0,
+    ),
+    (&["port", "r"], &[NUMBER], CALM, &[OF_NUMBER], 0),
+    (
+        &["mark", "on", "ANNA"],
+        &[],
+        CALM,
+        &["ON ANNA 2 234800 234800 1 0 380\n"],
+        0,
+    ),
+    (
+        &["shifts", "b"],
+        &["ON ANNA 1 0 0 0 0 0\n"],
+        CALM,
+        &[SHARED],
+        0,
+    ),
+];
+
+#[test]
+fn commands_that_look(rt: HostRuntime) -> Result<(), Fail> {
+    must_answer_all(rt.alloc(), &image_of(SECOND_LAYOUT), LOOKS)
 }
 
 /// Each call of the board fails in turn.

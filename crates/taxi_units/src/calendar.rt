@@ -88,6 +88,3 @@ fn days_in(lengths: &[u16]) -> u16
 {
     lengths.iter().sum()
 }
-
-#[cfg(test)]
-mod tests;

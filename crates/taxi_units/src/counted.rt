@@ -150,6 +150,3 @@ pub fn each_step_halves()
     ensures { (spent bound width half : ℕ) → EndsWithin spent bound width → 0 < width → half ≤ width / 2
         → EndsWithin (spent + 1) bound half }
 {}
-
-#[cfg(test)]
-mod tests;

@@ -181,6 +181,3 @@ fn number_from(start: u64, digits: &[u8]) -> Option<u64>
     }
     Some(number)
 }
-
-#[cfg(test)]
-mod tests;

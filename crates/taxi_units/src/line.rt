@@ -113,6 +113,3 @@ fn push_padded(draft: &mut Draft, value: u64, width: u8)
         draft.push(b'0' + (value % 10) as u8);
     }
 }
-
-#[cfg(test)]
-mod tests;

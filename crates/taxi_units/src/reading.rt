@@ -8,6 +8,3 @@ pub fn word<'a>(bytes: &'a [u8], word: &[u8]) -> Option<&'a [u8]>
 {
     bytes.strip_prefix(word)
 }
-
-#[cfg(test)]
-mod tests;

@@ -1,5 +1,2 @@
-//! Texts of tariffs: what they are read as, what their conditions mean, and how they are printed.
-
-mod meaning;
-mod parsing;
+//! Tests of tariff_syntax: what texts say, by their printed forms, which no command prints.
 mod writing;

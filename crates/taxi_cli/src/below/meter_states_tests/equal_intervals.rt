@@ -3,8 +3,9 @@
 ghost use Rattle.std.specs.Prelude.{◌≡◌, ◌<◌, ◌≤◌, ◌+◌};
 ghost use Rattle.meter_states.specs.Lawful.{IsLawful};
 
-use super::drives::{DOUBLE, SINGLE, Secured, acts_at_first, have_constant_of, is_timely, setting};
+use super::drives::{acts_at_first, have_constant_of, is_timely, setting};
 use super::equal_rows::{AHEAD, BEHIND, ROWS, Row};
+use drive_modes::Mode;
 use meter_states::Core;
 use seal_store::Seal;
 use std::alloc::Global;
@@ -148,31 +149,26 @@ fn take_rows<L: Ledger>(blank: Blank, rt: &impl Abort, tables: &Tables, seal: &S
     );
 }
 
-/// Each beginning of the rows under a tariff and a seal.
-fn take_rows_under(
-    alloc: Global,
-    rt: &impl Abort,
-    text: &str,
-    secured: &Secured,
-) -> Result<(), Fail> {
-    let (tables, seal) = setting(alloc, text, secured)?;
+/// Each beginning of the rows under a tariff and a mode.
+fn take_rows_under(alloc: Global, rt: &impl Abort, text: &str, mode: Mode) -> Result<(), Fail> {
+    let (tables, seal) = setting(alloc, text, mode)?;
     for count in 1..=ROWS.len() {
         take_rows::<Brand>(Blank::new(1), rt, &tables, &seal, &ROWS[..count]);
     }
     Ok(())
 }
 
-const SETTINGS: &[(&str, Secured)] = &[
-    (AHEAD, SINGLE),
-    (AHEAD, DOUBLE),
-    (BEHIND, SINGLE),
-    (BEHIND, DOUBLE),
+const SETTINGS: &[(&str, Mode)] = &[
+    (AHEAD, Mode::Single),
+    (AHEAD, Mode::Double),
+    (BEHIND, Mode::Single),
+    (BEHIND, Mode::Double),
 ];
 
 #[test]
 fn carries_out_many_intervals_at_once(rt: HostRuntime) -> Result<(), Fail> {
-    for (text, secured) in SETTINGS {
-        take_rows_under(rt.alloc(), &rt, text, secured)?;
+    for (text, mode) in SETTINGS {
+        take_rows_under(rt.alloc(), &rt, text, *mode)?;
     }
     Ok(())
 }

@@ -1,6 +1,13 @@
 //! Tariffs and rows of equal intervals.
-use super::expected::{FIRST, HIRE, STOP, UP};
 use taxi_units::{Event, Key};
+
+const FIRST: u64 = 1_767_225_600;
+
+const UP: Event = Event::Up(FIRST);
+
+const HIRE: Event = Event::Key(Key::Hire);
+
+const STOP: Event = Event::Key(Key::Stop);
 
 /// Rates that change at 700 m and at a minute, ahead and behind.
 pub(super) const AHEAD: &str = "decimals 2

@@ -60,6 +60,24 @@ initial 1.00 covers 0.00 when after 0.5 s or holiday or day mon..fri
         "initial 1 when date 02-28 .. 03-01 and time 00:05..23:59",
         "decimals 2\ninitial 1.00 covers 0.00 when date 02-28..03-01 and time 00:05..23:59\n",
     ),
+    (
+        "\n# by day\ndecimals 1 # of ten\n\nstep 0.2 ahead\nstep 1\npositions 2\nzones 3\n\t\n\
+         holiday 2026-01-06\nsupplement 2 1.5 max 4",
+        "decimals 1\nstep 0.2 ahead\nstep 1.0 behind\npositions 2\nzones 3\nholiday 2026-01-06\n\
+         supplement 2 1.5 max 4\n",
+    ),
+    (
+        "initial 3.8 covers 0.4 when not (position 2 or zone 3 and holiday)\n\
+         initial 3 when zone 1 or zone 2 or zone 3\n\
+         rate 0.2 per 117.4 m, 0.3 per 25.2 s when time 22:00..06:05 and day sat..mon\n\n\
+         rate 1 per 2 m, 3 per 4 s when (day sun)\n\
+         minimum 6 when date 02-28..03-01 and after 1.5 m or after 2.5 s\nminimum 0",
+        "decimals 2\ninitial 3.80 covers 0.40 when not (position 2 or zone 3 and holiday)\n\
+         initial 3.00 covers 0.00 when zone 1 or zone 2 or zone 3\n\
+         rate 0.20 per 117.4 m, 0.30 per 25.2 s when time 22:00..06:05 and day sat..mon\n\
+         rate 1.00 per 2.0 m, 3.00 per 4.0 s when day sun\n\
+         minimum 6.00 when date 02-28..03-01 and after 1.5 m or after 2.5 s\nminimum 0.00\n",
+    ),
 ];
 
 /// The printed form of a text's tariff.

@@ -1,4 +1,0 @@
-use Rattle.taxi_cli.proofs.below.tariff_calendar_tests.holidays_of.Given as goal
-
-abbrev pub ghosts-is_holiday : goal.ghosts-is_holiday
-ghosts-is_holiday a = record { name = a.blank.name; parts = a.blank.parts }
