@@ -4,7 +4,7 @@ use crate::keep_log_tests::{
     FILE, SHOW, called, failing, filed, filed_to, filing, image_of, is_end, must, must_at, receipts,
 };
 use crate::memory_log::MemoryLog;
-use crate::roll_tests::put_receipt;
+use crate::receipt_tests::put_receipt;
 use std::alloc::Global;
 use std::test::Fail;
 

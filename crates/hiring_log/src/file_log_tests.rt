@@ -1,10 +1,9 @@
 //! The log of the system. Each test works in a new folder of its own.
 ghost use Rattle.std.specs.Prelude.{◌≡◌, ◌<◌};
 
-use crate::file_log::FileLog;
-use crate::keep_log::keep_log;
 use crate::keep_log_tests::{must, must_at};
-use crate::roll_tests::put_receipt;
+use crate::receipt_tests::put_receipt;
+use log_commands::{FileLog, keep_log};
 use outside::HostFiles;
 use std::io::ErrorKind;
 use std::marker::Brand;

@@ -2,9 +2,9 @@
 //! docs/FORMATS.md.
 ghost use Rattle.std.specs.Prelude.{◌≡◌, ◌<◌};
 
-use crate::keep_log::keep_log;
 use crate::memory_log::MemoryLog;
-use crate::roll_tests::put_receipt;
+use crate::receipt_tests::put_receipt;
+use log_commands::keep_log;
 use outside::MemoryFiles;
 use std::alloc::Global;
 use std::marker::Brand;

@@ -1,56 +1,31 @@
-//! The hiring log: the last 256 receipts of a taxi, in a file of its own, taken from a roll of printed
-//! output, and kept over cuts of the power. All of it is this project's own.
+//! The hiring log: the program, and the tests that go through it.
 #![tactic(auto)]
 
-mod appending;
 #[cfg(test)]
 mod cut_tests;
-mod durable;
-mod ending;
-mod entries;
 #[cfg(test)]
 mod failure_tests;
-mod file_log;
 #[cfg(test)]
 mod file_log_tests;
-mod file_roll;
-mod filing;
-mod filing_laws;
-mod finding;
-mod front;
 #[cfg(test)]
 mod growth_tests;
-mod keep_log;
 #[cfg(test)]
 mod keep_log_tests;
-mod log_board;
-mod log_laws;
-mod log_record;
-mod look;
 #[cfg(test)]
 mod memory_log;
 #[cfg(test)]
 mod memory_log_tests;
-mod newest;
-mod roll;
 #[cfg(test)]
-mod roll_tests;
-mod row;
-mod scanning;
-mod show;
-mod slot_record;
-mod tail;
-mod words;
+mod receipt_tests;
 
 ghost use Rattle.std.specs.Prelude.{◌≡◌, ◌<◌};
 
-use file_log::FileLog;
+use log_commands::{Call, FileLog, call_in, keep_log};
 use outside::{HostFiles, program_words};
 use std::marker::Brand;
 use std::process::ExitCode;
 use std::sync::ledger::{Blank, Ledger};
 use taxi_units::Steps;
-use words::{Call, call_in};
 
 /// Files a roll or shows the log, as the words of the program say, under its one counter of steps.
 fn status<L: Ledger>(rt: HostRuntime, blank: Blank) -> u8
@@ -68,7 +43,7 @@ fn status<L: Ledger>(rt: HostRuntime, blank: Blank) -> u8
         Some(Call::File) => FileLog::to_write(rt, rt.alloc()),
         _ => FileLog::to_read(rt, rt.alloc()),
     };
-    keep_log::keep_log(words.as_slice(), &mut files, &mut log, &mut steps)
+    keep_log(words.as_slice(), &mut files, &mut log, &mut steps)
 }
 
 fn main(rt: HostRuntime) -> ExitCode {

@@ -5,9 +5,9 @@ ghost use Rattle.outside.specs.Disk.{piece_size, IsPiece, SameBut};
 ghost use Rattle.outside.specs.MemoryBoard.{Memory, IsNew, new_board, faults_of, held_inside, image_of, in_flight_of, left_since_of, moment_of, text_of};
 ghost use Rattle.outside.specs.MemoryCalls.{PrintsPiece, ReadsPiece, SyncsStore, WritesPiece};
 ghost use Rattle.outside.specs.MomentLaws.{counts_now, only_now};
-ghost use Rattle.hiring_log.specs.Slots.{log_size};
+ghost use Rattle.log_commands.specs.Slots.{log_size};
 
-use crate::log_board::{LOG_SIZE, LogBoard};
+use log_commands::{LOG_SIZE, LogBoard};
 use outside::{Failed, Fill, MemoryDevice};
 use std::alloc::Global;
 use std::marker::Model;

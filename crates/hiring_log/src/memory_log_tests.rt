@@ -3,8 +3,8 @@ ghost use Rattle.std.specs.Prelude.{◌≡◌, ◌<◌};
 
 use crate::cut_tests::cut;
 use crate::keep_log_tests::{log_of, must, must_at, zeros};
-use crate::log_board::LogBoard;
 use crate::memory_log::MemoryLog;
+use log_commands::LogBoard;
 use outside::Fill;
 use std::alloc::Global;
 use std::marker::Brand;

@@ -1,6 +1,0 @@
-use Rattle.std.proofs.Common.{refl}
-use Rattle.hiring_log.proofs.Rolls.{starts}
-use Rattle.hiring_log.proofs.roll.Roll.new.Goals as goal
-
-pub returns-clause-start : goal.returns-clause-start
-returns-clause-start c = λ roll. starts roll _ refl refl refl

@@ -1,0 +1,46 @@
+-- For proofs: where a reader of a roll stands, and what it has read. Reads, in Roll, says what a roll has.
+use Rattle.std.specs.Prelude.{◌≡◌, ◌≢◌, ℕ, ◌+◌, List, [], ◌++◌, length, Option, Some, None, is_some}
+use Rattle.log_commands.specs.Looking.{MayFollow}
+use Rattle.log_commands.specs.Record.{Record}
+use Rattle.log_commands.specs.Roll.{Reads, roll_limit}
+pub use Rattle.log_commands.specs.Roll.{roll_limit}
+use Rattle.log_commands.specs.declared.roll.RollEnd.{RollEnd}
+use Rattle.log_commands.specs.declared.roll.RollEnd.TheVariants.{Whole, TooLong, ReadFault}
+
+-- a reader's place is the bytes taken that it hasn't looked through to the end, how many more it may take, and why it
+-- takes no more, where it doesn't
+pub record Place : Type 0 where
+  pub ahead : List ℕ
+  pub left : ℕ
+  pub end : Option RollEnd
+
+-- a reader takes no more bytes for a reason that holds: nothing is left of the file, or no more may be taken
+abbrev pub EndsBy : Option RollEnd → (left : ℕ) → (rest : List ℕ) → Type 0
+EndsBy None left rest = Unit {0}
+EndsBy (Some Whole) left rest = rest ≡ []
+EndsBy (Some TooLong) left rest = left ≡ 0
+EndsBy (Some ReadFault) left rest = Unit {0}
+
+-- a reader is over for a reason where it takes no more bytes for it, and has looked all through
+abbrev pub IsOver : Place → RollEnd → Type 0
+IsOver place end = (place.end ≡ Some end) × (place.ahead ≡ [])
+
+-- a reader fails in a call if it then takes no more bytes because a read failed, and that wasn't so before
+abbrev pub FailsNow : (old new : Place) → Type 0
+FailsNow old new = (new.end ≡ Some ReadFault) × (old.end ≢ Some ReadFault)
+
+-- a reader has read receipts of a roll, of which `rest` is left in the file, where reading the bytes taken gives them,
+-- whatever bytes may follow
+pub record HasRead (roll : List ℕ) (place : Place) (rest : List ℕ) (receipts : List Record) : Type 0 where
+  pub taken : List ℕ
+  pub roll_is : roll ≡ taken ++ rest
+  pub count : length taken + place.left ≡ roll_limit
+  pub reads : (more : List ℕ) → MayFollow (is_some place.end) more
+      → Reads (taken ++ more) receipts (place.ahead ++ more)
+  pub ends : EndsBy place.end place.left rest
+
+-- a reader goes on from one place to another, over bytes of the file, where it then has read more receipts
+abbrev pub GoesOn : (old new : Place) → (rest rest' : List ℕ) → (more : List Record) → Type 0
+GoesOn old new rest rest' more =
+    (roll : List ℕ) (receipts : List Record) → HasRead roll old rest receipts
+    → HasRead roll new rest' (receipts ++ more)

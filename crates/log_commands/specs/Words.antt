@@ -1,0 +1,23 @@
+-- Rules: which words are a command.
+use Rattle.std.specs.Prelude.{ℕ, Bool, List, [], ◌∷◌, Option, Some, None, if◌then◌else◌, nat_eq, codes}
+use Rattle.std.specs.Cmp.Lexicographic.{pointwise}
+use Rattle.log_commands.specs.declared.words.Call.{Call}
+use Rattle.log_commands.specs.declared.words.Call.TheVariants.{File, Show}
+
+-- the test `is_word` is true where a word has the same bytes as a name
+abbrev pub is_word : List ℕ → List ℕ → Bool
+is_word word name = pointwise nat_eq word name
+
+-- one word is a command where it is `show`
+abbrev pub one_word : (command : List ℕ) → Option Call
+one_word command = if is_word command (codes "show") then Some Show else None
+
+-- two words are a command where the first is `file`, and the second then names the roll
+abbrev pub two_words : (command : List ℕ) → Option Call
+two_words command = if is_word command (codes "file") then Some File else None
+
+-- words call for `show`, for `file ROLL`, or for nothing
+abbrev pub call_of : List (List ℕ) → Option Call
+call_of (command ∷ []) = one_word command
+call_of (command ∷ roll ∷ []) = two_words command
+call_of words = None

@@ -1,0 +1,35 @@
+//! A receipt at the front of a part of a roll.
+ghost use Rattle.std.specs.Prelude.{◌≡◌, ◌≢◌, ℕ, ◌<◌, ◌≤◌, ◌++◌, length, drop, slice_index, IfSome, IfNone};
+ghost use Rattle.log_commands.specs.Record.{IsRecord};
+ghost use Rattle.log_commands.specs.Roll.{BeginsWithNone};
+
+use crate::log_record::LogRecord;
+use arrayvec::ArrayVec;
+use receipt_text::receipt_in_front;
+
+/// How many bytes stand before the first with which a receipt can begin: all, where there is none.
+pub(crate) fn before_letter(text: &[u8]) -> usize
+    ensures within { result ≤ length text.now }
+    ensures others { (k : ℕ) → k < result → slice_index text.now k ≢ 82 }
+{
+    text.iter()
+        .position(|byte| *byte == b'R')
+        .unwrap_or(text.len())
+}
+
+/// The receipt with which a text begins.
+pub(crate) fn record_in_front(text: &[u8]) -> Option<LogRecord>
+    ensures record { IfSome result IsRecord }
+    ensures front { IfSome result (λ r. text.now ≡ r.text ++ drop (length r.text) text.now) }
+    ensures none { IfNone result (BeginsWithNone text.now) }
+{
+    let (receipt, part, count) = receipt_in_front(text)?;
+    let (front, _) = text.split_at(count);
+    let mut text = ArrayVec::new();
+    text.try_extend_from_slice(front).unwrap();
+    Some(LogRecord {
+        text,
+        number: receipt.number,
+        taxi: part.taxi,
+    })
+}

@@ -1,0 +1,88 @@
+//! A record's bytes in its slot, behind the gate.
+ghost use Rattle.std.specs.Prelude.{◌≡◌, ℕ, ◌+◌, ◌≤◌, ◌++◌, ◌↔◌, length, replicate, take, drop, Some, IsTrue};
+ghost use Rattle.arrayvec.specs.ArrayVec.{array_vec_len};
+ghost use Rattle.log_commands.specs.Record.{Record, IsRecord};
+ghost use Rattle.log_commands.specs.Slots.{Spells, IsRecordOf, spelling};
+
+use crate::log_record::{LONGEST, LogRecord};
+use arrayvec::ArrayVec;
+use receipt_text::{read_receipt, receipts_are_short};
+use slot_store::{Spelled, eight_at, put_bytes, two_at};
+
+/// Appends zeros, for which there is room.
+fn put_zeros(out: &mut Spelled, count: usize)
+    requires { array_vec_len out.old + count ≤ 511 }
+    ensures items { out.new.items ≡ out.old.items ++ replicate count 0 }
+    ensures len { array_vec_len out.new ≡ array_vec_len out.old + count }
+{
+    for _i in 0..count {
+        put_bytes(out, &[0]);
+    }
+}
+
+/// The bytes of a record at a place in the log.
+pub(crate) fn spelled(place: u64, text: &[u8]) -> Spelled
+    requires { length text.now ≤ 480 }
+    ensures items { result.items ≡ spelling place text.now }
+    ensures len { array_vec_len result ≡ 511 }
+{
+    let mut out = Spelled::new();
+    put_bytes(&mut out, &place.to_be_bytes());
+    put_bytes(&mut out, &(text.len() as u16).to_be_bytes());
+    put_bytes(&mut out, text);
+    put_zeros(&mut out, 500 - text.len());
+    put_bytes(&mut out, &[1]);
+    out
+}
+
+/// The record whose text this is.
+pub(crate) fn record_of(text: &[u8]) -> Option<LogRecord>
+    ensures { (it : Record) → (result ≡ Some it) ↔ IsRecordOf text.now it }
+{
+    let (receipt, part) = read_receipt(text)?;
+    receipts_are_short();
+    let mut copy = ArrayVec::new();
+    copy.try_extend_from_slice(text).unwrap();
+    Some(LogRecord {
+        text: copy,
+        number: receipt.number,
+        taxi: part.taxi,
+    })
+}
+
+/// Whether the bytes behind a slot's gate are this record's, at this place in the log.
+fn spells(bytes: &[u8], place: u64, it: &LogRecord) -> bool
+    requires { IsRecord it.now }
+    ensures { IsTrue result ↔ Spells bytes.now place it.now }
+{
+    if place == 0 || place > it.number {
+        return false;
+    }
+    spelled(place, it.text.as_slice()).as_slice() == bytes
+}
+
+/// The place in the log and the record that the bytes behind a slot's gate are. `None` exactly where
+/// they are none.
+pub(crate) fn record_in(bytes: &[u8]) -> Option<(u64, LogRecord)>
+    requires { length bytes.now ≡ 511 }
+    ensures { (place : ℕ) (it : Record) → (result ≡ Some (place, it)) ↔ Spells bytes.now place it }
+{
+    let place = eight_at(bytes, 0);
+    let count = two_at(bytes, 8) as usize;
+    if count > LONGEST {
+        return None;
+    }
+    let record = record_of(text_in(bytes, count))?;
+    if !spells(bytes, place, &record) {
+        return None;
+    }
+    Some((place, record))
+}
+
+/// The text of a record's bytes.
+fn text_in(bytes: &[u8], count: usize) -> &[u8]
+    requires { 10 + count ≤ length bytes.now }
+    ensures { result.now ≡ take count (drop 10 bytes.now) }
+{
+    &bytes[10..10 + count]
+}

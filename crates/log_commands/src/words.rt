@@ -1,0 +1,53 @@
+//! The words of a command.
+ghost use Rattle.std.specs.Prelude.{◌≡◌, map, string_bytes};
+ghost use Rattle.log_commands.specs.Words.{call_of};
+ghost use Rattle.log_commands.specs.Words as spec;
+
+/// A command that the program knows.
+#[derive(Clone, Copy)]
+pub enum Call {
+    /// `file ROLL`
+    File,
+    /// `show`
+    Show,
+}
+
+/// Whether a word is this one.
+fn is_word(word: &[u8], name: &[u8]) -> bool
+    ensures { result ≡ spec.is_word word.now name.now }
+{
+    word == name
+}
+
+/// The command of one word.
+fn one_word(command: &[u8]) -> Option<Call>
+    ensures { result ≡ spec.one_word command.now }
+{
+    if is_word(command, b"show") {
+        Some(Call::Show)
+    } else {
+        None
+    }
+}
+
+/// The command of two words.
+fn two_words(command: &[u8]) -> Option<Call>
+    ensures { result ≡ spec.two_words command.now }
+{
+    if is_word(command, b"file") {
+        Some(Call::File)
+    } else {
+        None
+    }
+}
+
+/// The command that words are. None where the program knows none such.
+pub fn call_in(words: &[String]) -> Option<Call>
+    ensures { result ≡ call_of (map string_bytes words.now) }
+{
+    match words {
+        [command] => one_word(command.as_bytes()),
+        [command, _] => two_words(command.as_bytes()),
+        _ => None,
+    }
+}
