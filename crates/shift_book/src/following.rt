@@ -36,7 +36,8 @@ pub(crate) fn next_mark<'a>(
 /// Whether a mark whose driver is as said may follow these marks beside a store with these numbers.
 fn may_follow(marks: &[Mark], mark: &Mark, limit: &Numbers) -> bool
     requires { HasDriver mark.now.on mark.now.driver }
-    ensures { (now : Durable) → limit.now ≡ numbers_in now → IsTrue result ↔ MayFollow now (last_of marks.now) mark.now }
+    ensures { (now : Durable) → limit.now ≡ numbers_in now
+        → IsTrue result ↔ MayFollow now (last_of marks.now) mark.now }
 {
     let numbers = mark.numbers();
     if !is_nowhere_less(&numbers, limit) {

@@ -51,11 +51,7 @@ fn must_break_off(
 ) -> Result<(), Fail> {
     let (board, status) = ran(alloc, image, HELD, &[number], &[])?;
     must_at(status == 8, "another status at call", number)?;
-    must_at(
-        board.calls() == number,
-        "another call behind call",
-        number,
-    )?;
+    must_at(board.calls() == number, "another call behind call", number)?;
     must_at(
         whole.printed().starts_with(board.printed()),
         "another text at call",

@@ -51,12 +51,15 @@ fn forms(rt: HostRuntime) -> Result<(), Fail> {
     must_answer_all(rt.alloc(), SEVENS, FORMS)
 }
 
+/// The prints of a form of three pieces, and how many bytes stand before each.
+const PIECES: &[(u64, usize)] = &[(1, 0), (2, 512), (3, 1024)];
+
 /// Fails unless a form breaks off in front of the piece whose print fails.
-fn must_break_off(alloc: Global, form: &str, number: usize) -> Result<(), Fail> {
-    let (board, status) = called(alloc, FORM, &[form], SEVENS, &[number as u64], &[])?;
-    let front = form.get(..(number - 1) * 512).ok_or("no beginning")?;
+fn must_break_off(alloc: Global, form: &str, number: u64, before: usize) -> Result<(), Fail> {
+    let (board, status) = called(alloc, FORM, &[form], SEVENS, &[number], &[])?;
+    let front = form.get(..before).ok_or("no beginning")?;
     let is_begun = status == 8 && board.printed() == front.as_bytes();
-    must_at(is_begun, "another end at call", number as u64)
+    must_at(is_begun, "another end at call", number)
 }
 
 /// A form of three pieces, each of which fails in turn.
@@ -65,8 +68,8 @@ fn forms_are_printed_in_pieces(rt: HostRuntime) -> Result<(), Fail> {
     let form = repeated(rt.alloc(), "decimals 2\n", "holiday 2026-01-01\n", 60)?;
     let text = form.as_str();
     must_answer(rt.alloc(), SEVENS, FORM, &[text], CALM, &[text], 0)?;
-    for number in 1..=3usize {
-        must_break_off(rt.alloc(), text, number)?;
+    for (number, before) in PIECES {
+        must_break_off(rt.alloc(), text, *number, *before)?;
     }
     Ok(())
 }

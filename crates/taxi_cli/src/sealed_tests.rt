@@ -1,8 +1,6 @@
 //! What a store was sealed with, printed and sealed again, over boards in memory.
 use crate::store_tests::{SECOND_LAYOUT, image_of};
-use crate::tests::{
-    A, CALM, Call, P, ZEROS, called, must, must_answer, must_answer_all, must_at,
-};
+use crate::tests::{A, CALM, Call, P, ZEROS, called, must, must_answer, must_answer_all, must_at};
 use outside::MemoryBoard;
 use std::alloc::Global;
 use std::test::Fail;

@@ -1,4 +1,4 @@
-use Rattle.std.proofs.Common.{◌↔◌, Option, Some, inl, inr, refl}
+use Rattle.std.proofs.Common.{Option, Some, inl, refl}
 use Rattle.commands.specs.Command.{IsLook, OnlyLooks}
 use Rattle.commands.specs.declared.words.Row.{Row}
 use Rattle.commands.specs.declared.words.Row.TheVariants as rows
