@@ -21,7 +21,7 @@ use Rattle.totaliser_store.specs.declared.trip.Trip as store
 use Rattle.meter_states.specs.Charge.{charge_at}
 use Rattle.meter_states.specs.Core.{Plain, Follows, plain_of}
 use Rattle.meter_states.specs.EqualStages.{HasTaken, LastsFrom, charged, passed, unfilled}
-use Rattle.meter_states.specs.Equals.{IsStill, MayBeCharged, display_by, intervals_of, roams, spare_of}
+use Rattle.meter_states.specs.Equals.{IsStill, MayBeCharged, MayGo, MayGoIn, display_by, intervals_of, roams, spare_of}
 use Rattle.meter_states.specs.Interval.{context_of, context_on, counted_in, pulses_so_far, roaming_with, ticks_so_far}
 use Rattle.meter_states.specs.Lawful.{IsBetweenEvents, IsTripBeside}
 use Rattle.meter_states.specs.Meter.{Meter}
@@ -346,3 +346,12 @@ taken-none {p} {inside} {core} count view on = record {
 -- the pulses of a trip
 pub pulses-few : {p : TableParts} {number : ℕ} {t : store.Trip} → IsTripBeside p (number + 0) 8639999 t → number ≤ 2000000000000001 → t.pulses ≤ 5000000000000000000
 pulses-few beside few = omega (arith, beside.pulses, beside.range.ticks, few)
+
+-- a core stops at the count, or where no further interval may go in its operating position
+pub full-in : (tables : TableParts) (seal : Seal) (facts : Facts) (p : ℕ) (core : Plain) (o : Operating)
+    (taken count : ℕ) (Stop : Type 0) → core.operating ≡ o
+    → (Stop → MayGoIn tables seal facts p core o → ⊥) → (taken ≡ count) ⊎ Stop → (taken ≡ count)
+    ⊎ ¬ MayGo tables seal facts p core
+full-in tables seal facts p core o taken count Stop at ends (inl is) = inl is
+full-in tables seal facts p core o taken count Stop at ends (inr stop) = inr (λ may. ends stop (subst
+    (MayGoIn tables seal facts p core) at may.goes))

@@ -1,7 +1,9 @@
 -- What a key does in its row of operating position and key, as a stage of an event.
-use Rattle.std.proofs.Common.{◌≡◌, ℕ, ◌+◌, ◌≤◌, List, [], ◌∷◌, ◌++◌, length, ◌⊎◌, Option, Some, None, refl, ap, sym, subst, ◌∙◌, inl, inr, arith}
+use Rattle.std.proofs.Common.{◌≡◌, ℕ, ◌+◌, ◌<◌, ◌≤◌, List, [], ◌∷◌, ◌++◌, length, ◌⊎◌, Option, Some, None, refl, ap, sym, subst, ◌∙◌, inl, inr, arith}
+use Rattle.std.proofs.lemmas.Grind.{common_steps}
 use Rattle.seal_store.specs.declared.seal.Seal.{Seal}
 use Rattle.tariff_compile.specs.Tables.{TableParts}
+use Rattle.tariff_compile.specs.declared.parts.Supplement.{Supplement}
 use Rattle.taxi_units.specs.declared.event.Key.{Key}
 use Rattle.taxi_units.specs.declared.event.Key.TheVariants as keys
 use Rattle.taxi_units.specs.declared.event.Operating.{Operating}
@@ -10,11 +12,13 @@ use Rattle.taxi_units.specs.declared.event.Why.{Why}
 use Rattle.taxi_units.specs.declared.event.Why.TheVariants.{NotNow}
 use Rattle.meter_states.specs.Acts.{StayLawful}
 use Rattle.meter_states.specs.Core.{Plain, Follows, plain_of}
-use Rattle.meter_states.specs.Keys.{key_in, key_pressed, latch_pressed}
+use Rattle.meter_states.specs.Keys.{extra_added_to, key_in, key_pressed, latch_pressed}
 use Rattle.meter_states.specs.Lawful.{HasTrip, IsAmidEvent, pressing_steps}
 use Rattle.meter_states.specs.Meter.{Meter, Outcome, quiet, refused}
 use Rattle.meter_states.specs.Setting.{Setting, IsSettingOf}
 use Rattle.meter_states.specs.Stages.{ClosesTrip, CommitsNothing, IsReadyForKey, MayClose, Stage}
+use Rattle.meter_states.specs.Supplements.{times}
+use Rattle.meter_states.specs.Trip.{Trip, with_extra}
 use Rattle.meter_states.specs.declared.act.Act.{Act}
 use Rattle.meter_states.specs.declared.act.Act.TheVariants.{Refuse}
 use Rattle.meter_states.proofs.Outcomes.{quiet-follows}
@@ -66,6 +70,7 @@ moves-row {p} {seal} {inside} {old} {acts} {key} k on to view is at ready has ro
     let none = few-none 0 acts ready.room in
     record {
       lawful = record {
+        compiled = amid.compiled;
         on = has (subst (λ (o : Operating). HasTrip o inside.trip) at amid.on);
         position = amid.position;
         zone = amid.zone;
@@ -200,3 +205,16 @@ pressed-closes {p} {seal} {inside} {old} {new} {before} {acts} key view waits x 
       subst (λ (o : Option Key). Follows s new before acts (latch_pressed s o m)) (sym latch)
       (x.follows s (record m { latch = None }) setting (ap (λ (c : Plain). record c { latch = None }) (view ∙ e)));
 }
+
+-- a supplement that may be had once more is added
+extra-some : (n : ℕ) (supplement : Supplement) (m : Meter) (t : Trip) → times n t.extras < supplement.max
+    → extra_added_to n supplement (Some t) m ≡ quiet (record m { trip = Some (with_extra n t) })
+extra-some n supplement m t few = grind (arith, common_steps)
+
+pub extra-more : (n : ℕ) (supplement : Supplement) (m : Meter) (t : Trip) → m.trip ≡ Some t
+    → times n t.extras < supplement.max → extra_added_to n supplement m.trip m ≡ quiet (record m {
+      trip = Some
+          (with_extra n t);
+    })
+extra-more n supplement m t has few = ap (λ (o : Option Trip). extra_added_to n supplement o m) has
+    ∙ extra-some n supplement m t few

@@ -7,7 +7,7 @@ use Rattle.taxi_units.specs.declared.event.Operating.TheVariants.{Off, ForHire, 
 use Rattle.totaliser_store.specs.Ranges.{last_number}
 use Rattle.totaliser_store.specs.declared.trip.Trip.{Trip}
 use Rattle.meter_states.specs.Core.{Plain, Stands, plain_of}
-use Rattle.meter_states.specs.Lawful.{HasTrip, IsAmidEvent, IsBetweenEvents, IsPowered, IsTripBeside, IsTripInRange}
+use Rattle.meter_states.specs.Lawful.{HasBegunBy, HasTrip, IsAmidEvent, IsBetweenEvents, IsPowered, IsTripBeside, IsTripInRange}
 use Rattle.meter_states.specs.Meter.{Meter}
 use Rattle.meter_states.specs.Setting.{Setting}
 
@@ -37,6 +37,7 @@ trip-longer : (p : TableParts) (number : ℕ) (trip : Option Trip) → IsTripInR
 trip-longer p number None range = tt
 trip-longer p number (Some t) range = record {
   range = record {
+    compiled = range.range.compiled;
     started = range.range.started;
     roam = range.range.roam;
     ticks = omega (arith, range.range.ticks);
@@ -56,6 +57,7 @@ trip-longer p number (Some t) range = record {
 within : {p : TableParts} {ticks most spare ticks' most' spare' : ℕ} {core : Plain} (latch : Option Key) → core.roam ≤ most' → IsTripInRange p (core.number + spare') ticks' core.trip
     → IsPowered p ticks most spare core → IsPowered p ticks' most' spare' (record core { latch = latch })
 within latch roam trip on = record {
+  compiled = on.compiled;
   on = on.on;
   position = on.position;
   zone = on.zone;
@@ -105,6 +107,7 @@ powered-entered {p} {core} hire some on =
     let none : core.trip ≡ None = subst (λ (o : Operating). HasTrip o core.trip) hire on.on in
     let few = on.ended some in
     record {
+      compiled = on.compiled;
       on = on.on;
       position = on.position;
       zone = on.zone;
@@ -129,3 +132,51 @@ roaming-beside n room = omega arith
 -- the pulses of a trip
 pub pulses-below : {p : TableParts} {number : ℕ} {t : Trip} → IsTripBeside p (number + 0) 8639999 t → number ≤ 2000000000000001 → t.pulses ≤ 9000000000000000000
 pulses-below beside few = omega (arith, beside.pulses, beside.range.ticks, few)
+
+-- a core with another count of pulses in its interval
+pub powered-gated : {p : TableParts} {ticks most spare : ℕ} {core : Plain} (gate : ℕ) → gate ≤ 2000
+    → IsPowered p ticks most spare core → IsPowered p ticks most spare (record core { gate = gate })
+powered-gated gate few on = record {
+  compiled = on.compiled;
+  on = on.on;
+  position = on.position;
+  zone = on.zone;
+  clock = on.clock;
+  began = on.began;
+  gate = few;
+  roam = on.roam;
+  none = on.none;
+  ended = on.ended;
+  number = on.number;
+  held = on.held;
+  begun = on.begun;
+  trip = on.trip;
+}
+
+has-other : (operating : Operating) (t u : Trip) (o : Option Trip) → o ≡ Some t → HasTrip operating o
+    → HasTrip operating (Some u)
+has-other Off t u o is has = absurd has
+has-other ForHire t u o is none = absurd cc
+has-other Hired t u o is has = λ none. absurd cc
+has-other Stopped t u o is has = λ none. absurd cc
+
+-- a core with another trip that began with its own
+pub powered-trip : {p : TableParts} {ticks ticks' most spare spare' : ℕ} {core : Plain} (t u : Trip) → core.trip
+    ≡ Some t → u.started ≡ t.started → IsTripBeside p (core.number + spare') ticks' u
+    → IsPowered p ticks most spare core → IsPowered p ticks' most spare' (record core { trip = Some u })
+powered-trip {core = core} t u has started beside on = record {
+  compiled = on.compiled;
+  on = has-other core.operating t u core.trip has on.on;
+  position = on.position;
+  zone = on.zone;
+  clock = on.clock;
+  began = on.began;
+  gate = on.gate;
+  roam = on.roam;
+  none = λ there. on.none (some-there t has);
+  ended = on.ended;
+  number = on.number;
+  held = λ there. on.held (some-there t has);
+  begun = subst (λ (n : ℕ). n ≤ core.clock) (sym started) (subst (HasBegunBy core.clock) has on.begun);
+  trip = beside;
+}

@@ -1,5 +1,5 @@
 -- The supplements of tables are those of the tariff.
-use Rattle.std.proofs.Common.{◌≡◌, ◌≢◌, ℕ, zero, suc, ltb, Bool, true, ◌+◌, ◌<◌, ◌≤◌, Option, Some, None, false, get_or, length, refl, ap, sym, ◌∙◌, arith}
+use Rattle.std.proofs.Common.{◌≡◌, ◌≢◌, ℕ, zero, suc, ltb, Bool, true, ◌+◌, ◌<◌, ◌≤◌, All, List, [], ◌∷◌, Option, Some, None, false, get_or, length, refl, ap, sym, ◌∙◌, arith}
 use Rattle.std.specs.Option.{option_map}
 use Rattle.std.proofs.lemmas.Bool.{ltb-false, ltb-true}
 use Rattle.std.proofs.lemmas.List.FromFn.{get_or-map-range_with_len, length-map-range_with_len}
@@ -9,10 +9,13 @@ use Rattle.tariff_check.specs.Faults.{IsSound}
 use Rattle.tariff_check.specs.Parts.{SupplementNumbers, supplement_of}
 use Rattle.tariff_compile.specs.Tables.{IsCompiled, IsTablesOf, TableParts, supplement_at}
 use Rattle.tariff_compile.specs.Tables as tables
+use Rattle.tariff_compile.specs.declared.parts.Supplement.{Supplement}
 use Rattle.tariff_syntax.specs.Tree.{Tree}
 use Rattle.tariff_syntax.specs.Writable.{IsFromTo, IsWritable}
-use Rattle.meter_states.specs.Supplements.{amount_in, most_in, supplement_in}
-use Rattle.meter_states.proofs.Amounts.{AreBounded}
+use Rattle.meter_states.specs.Supplements.{AreAllowed, amount_in, amounts_from, most_in, supplement_in}
+use Rattle.totaliser_store.specs.declared.trip.Trip.{Trip}
+use Rattle.meter_states.specs.Lawful.{IsTrip}
+use Rattle.meter_states.proofs.Amounts.{AreBounded, allowed-few, amounts-most}
 
 -- a tariff has no supplement of another number than 1 to 16
 pub supplement-none : (t : Tree) (n : ℕ) → IsWritable t → (IsFromTo 1 16 n → ⊥) → supplement_at t n ≡ None
@@ -69,3 +72,35 @@ bounded p compiled =
       amount = λ n. rw (supplement-in t p n is) (bounded-by t n (supplement_of t.lines n) is.writable is.sound refl).0;
       most = λ n. rw (supplement-in t p n is) (bounded-by t n (supplement_of t.lines n) is.writable is.sound refl).1;
     }
+
+-- the counts of no supplements
+abbrev pub zeros : ℕ → List ℕ
+zeros zero = []
+zeros (suc count) = 0 ∷ zeros count
+
+-- a trip in its ranges has each supplement at most 99 times
+pub counts-few : (p : TableParts) (most : ℕ) (trip : Trip) → IsTrip p most trip → All (λ count. count ≤ 99) trip.extras
+counts-few p most trip range = allowed-few (supplement_in p) 1 trip.extras (bounded p range.compiled) range.counts
+
+-- and they come to at most 1,584,000,000
+pub extras-few : (p : TableParts) (most : ℕ) (trip : Trip) → IsTrip p most trip → trip.extras_sum ≤ 1584000000
+extras-few p most trip range =
+    let sum = amounts-most (supplement_in p) 1 trip.extras (bounded p range.compiled) range.counts in
+    omega (arith, sum, range.extras, range.extras_sum)
+
+-- no supplements are allowed, and come to nothing
+none-allowed : (supplement : ℕ → Option Supplement) (first count : ℕ) → AreAllowed supplement first (zeros count)
+none-allowed supplement first zero = tt
+none-allowed supplement first (suc count) = (omega arith, none-allowed supplement (first + 1) count)
+
+none-amounts : (supplement : ℕ → Option Supplement) (first count : ℕ) → amounts_from supplement first (zeros count) ≡ 0
+none-amounts supplement first zero = refl
+none-amounts supplement first (suc count) =
+    let rest = none-amounts supplement (first + 1) count in
+    omega (arith, rest)
+
+pub begun-allowed : (p : TableParts) → AreAllowed (supplement_in p) 1 (zeros 16)
+begun-allowed p = none-allowed (supplement_in p) 1 16
+
+pub begun-amounts : (p : TableParts) → 0 ≡ amounts_from (supplement_in p) 1 (zeros 16)
+begun-amounts p = sym (none-amounts (supplement_in p) 1 16)

@@ -1,6 +1,6 @@
 -- Rules: which cores are lawful.
 use Rattle.std.specs.Prelude.{◌≡◌, ◌≢◌, ◌⊎◌, Bool, true, false, ℕ, ◌+◌, ◌*◌, ◌<◌, ◌≤◌, Option, Some, None, length}
-use Rattle.tariff_compile.specs.Tables.{TableParts}
+use Rattle.tariff_compile.specs.Tables.{IsCompiled, TableParts}
 use Rattle.taxi_units.specs.Money.{largest_amount}
 use Rattle.taxi_units.specs.Time.{IsSecond, last_tick}
 use Rattle.taxi_units.specs.declared.event.Event.{Event}
@@ -20,8 +20,10 @@ IsTimely (events.Up second) = IsSecond second
 IsTimely (events.Clock second) = IsSecond second
 IsTimely event = Unit {0}
 
--- a saved trip is in range where it has at most `most` ticks, fits the tables, and has its numbers in their ranges
+-- a saved trip is in range under the tables of a tariff where it has at most `most` ticks, fits the tables, and has its
+-- numbers in their ranges
 pub record IsTrip (tables : TableParts) (most : ℕ) (trip : Trip) : Type 0 where
+  pub compiled : IsCompiled tables
   pub started : IsSecond trip.started
   pub roam : trip.roam ≤ roaming_amid
   pub ticks : trip.ticks ≤ most
@@ -57,10 +59,11 @@ HasTrip ForHire trip = trip ≡ None
 HasTrip Hired trip = trip ≢ None
 HasTrip Stopped trip = trip ≢ None
 
--- a powered core is in its ranges where at most `ticks` ticks of its trip have passed, it has at most `most` roaming
--- pulses, and its other numbers are in range; `spare` is 1 where the trip has pulses of an unfinished interval that the
--- store doesn't have yet
+-- a powered core is in its ranges under the tables of a tariff where at most `ticks` ticks of its trip have passed, it
+-- has at most `most` roaming pulses, and its other numbers are in range; `spare` is 1 where the trip has pulses of an
+-- unfinished interval that the store doesn't have yet
 pub record IsPowered (tables : TableParts) (ticks most spare : ℕ) (core : Plain) : Type 0 where
+  pub compiled : IsCompiled tables
   pub on : HasTrip core.operating core.trip
   pub position : (1 ≤ core.position) × (core.position ≤ tables.positions)
   pub zone : (1 ≤ core.zone) × (core.zone ≤ tables.zones)

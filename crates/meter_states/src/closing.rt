@@ -1,5 +1,6 @@
 //! Entries: of a trip that is closed, with its receipt directly behind, and of roaming.
 ghost use Rattle.std.specs.Prelude.{◌≡◌, ◌≢◌, ◌⊎◌, ◌<◌, ◌≤◌, ◌+◌, ℕ, All, None, Some, length};
+ghost use Rattle.seal_store.specs.declared.seal.Seal.{Seal};
 ghost use Rattle.taxi_units.specs.Time.{IsSecond, last_tick, longest_trip};
 ghost use Rattle.taxi_units.specs.declared.event.Operating.TheVariants.{ForHire};
 ghost use Rattle.taxi_units.specs.declared.receipt.Kind.TheVariants.{Roam};
@@ -9,7 +10,7 @@ ghost use Rattle.meter_states.specs.Closing.{holds_end, number_most, roaming_ami
 ghost use Rattle.meter_states.specs.Core.{Follows, plain_of};
 ghost use Rattle.meter_states.specs.Lawful.{IsAmidEvent, IsBetweenEvents, IsPowered, IsTripBeside};
 ghost use Rattle.meter_states.specs.Meter.{Meter, entered, printed};
-ghost use Rattle.meter_states.specs.Setting.{Setting, IsSettingOf};
+ghost use Rattle.meter_states.specs.Setting.{Setting, IsSettingOf, IsTariffOf};
 ghost use Rattle.meter_states.specs.Stages.{FollowsStage};
 ghost use Rattle.meter_states.specs.Trip as model;
 
@@ -48,7 +49,6 @@ impl State {
             (λ s. closed s closing.kind closing.finish) }
         ensures steps { steps.new ≤ steps.old + 12 }
     {
-        tables.are_fit();
         self.operating = Operating::ForHire;
         if let Some(trip) = self.trip {
             self.trip = None;
@@ -80,12 +80,12 @@ impl State {
             → Follows s self.new acts.old.items acts.new.items (trip_closed s closing.kind closing.finish (Some t) m) }
         ensures steps { steps.new ≤ steps.old + 12 }
     {
-        self.enter_trip(closing.kind, trip, tables, seal, acts);
+        self.enter_trip(closing.kind, trip, tables, acts);
         self.print_receipt(closing, trip, tables, seal, acts, steps);
     }
 
     /// A trip is entered.
-    fn enter_trip(&mut self, kind: Kind, trip: &Trip, tables: &Tables, seal: &Seal, acts: &mut Acts)
+    fn enter_trip(&mut self, kind: Kind, trip: &Trip, tables: &Tables, acts: &mut Acts)
         requires range { IsTripBeside tables.now (self.old.number + 1) longest_trip trip.now }
         requires number { self.old.number ≤ holds_end }
         requires position { (1 ≤ self.old.position) × (self.old.position ≤ 9) }
@@ -94,11 +94,11 @@ impl State {
         ensures number { self.new ≡ record self.old { number = self.old.number + 1 } }
         ensures few { length acts.new.items ≤ length acts.old.items + 1 }
         ensures ranges { StayLawful tables.now self.old.number acts.old.items acts.new.items }
-        ensures follows { (s : Setting) (m : Meter) (t : model.Trip) → IsSettingOf s tables.now seal.now
+        ensures follows { (s : Setting) (m : Meter) (t : model.Trip) → IsTariffOf s tables.now
             → trip.now ≡ model.saved_of s t → self.old ≡ plain_of s m
             → Follows s self.new acts.old.items acts.new.items (entered (entry_of s kind m.position t) m) }
     {
-        acts.push(Act::Enter(entry(kind, self.position, trip, self.number, tables)));
+        acts.push(Act::Enter(entry(kind, self.position, trip, tables)));
         self.number += 1;
     }
 
@@ -139,7 +139,7 @@ impl State {
     }
 
     /// Roaming pulses are entered for hire where they are many.
-    pub(crate) fn check_roaming(&mut self, tables: &Tables, seal: &Seal, acts: &mut Acts)
+    pub(crate) fn check_roaming(&mut self, tables: &Tables, acts: &mut Acts)
         requires lawful { IsAmidEvent tables.now self.old }
         requires room { (length acts.old.items ≤ 1) ⊎ ((length acts.old.items ≤ 3) × (self.old.roam ≡ 0)) }
         ensures lawful { IsBetweenEvents tables.now self.new }
@@ -147,16 +147,16 @@ impl State {
         ensures ranges { (number : ℕ) → (self.old.number ≡ number) ⊎ (self.old.roam ≡ 0)
             → All (IsLawfulAct tables.now number) acts.old.items
             → All (IsLawfulAct tables.now number) acts.new.items }
-        ensures follows { FollowsStage tables.now seal.now self.old self.new acts.old.items acts.new.items
-            roaming_checked }
+        ensures follows { (seal : Seal)
+            → FollowsStage tables.now seal self.old self.new acts.old.items acts.new.items roaming_checked }
     {
         if matches!(self.operating, Operating::ForHire) && self.roam >= ROAMING_MOST {
-            self.enter_roaming(tables, seal, acts);
+            self.enter_roaming(tables, acts);
         }
     }
 
     /// Roaming pulses are entered, and are then none.
-    pub(crate) fn enter_roaming(&mut self, tables: &Tables, seal: &Seal, acts: &mut Acts)
+    pub(crate) fn enter_roaming(&mut self, tables: &Tables, acts: &mut Acts)
         requires lawful { IsPowered tables.now last_tick roaming_amid 1 self.old }
         requires hire { self.old.operating ≡ ForHire }
         requires some { 0 < self.old.roam }
@@ -164,8 +164,8 @@ impl State {
         ensures lawful { IsBetweenEvents tables.now self.new }
         ensures few { length acts.new.items ≤ length acts.old.items + 1 }
         ensures ranges { StayLawful tables.now self.old.number acts.old.items acts.new.items }
-        ensures follows { FollowsStage tables.now seal.now self.old self.new acts.old.items acts.new.items
-            roaming_entered }
+        ensures follows { (seal : Seal)
+            → FollowsStage tables.now seal self.old self.new acts.old.items acts.new.items roaming_entered }
     {
         acts.push(Act::Enter(roaming_entry(self.roam, tables)));
         self.number += 1;

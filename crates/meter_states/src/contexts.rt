@@ -1,5 +1,6 @@
 //! The context of an interval, and what the interval weighs in it.
 ghost use Rattle.std.specs.Prelude.{◌≡◌, ◌≤◌, ◌+◌, Some};
+ghost use Rattle.seal_store.specs.declared.seal.Seal.{Seal};
 ghost use Rattle.tariff_compile.specs.Tables.{AreFit, IsInRangeFor, rate_by};
 ghost use Rattle.taxi_units.specs.Time.{IsSecond, longest_trip};
 ghost use Rattle.totaliser_store.specs.declared.trip.Trip as store;
@@ -39,8 +40,8 @@ impl State {
         ensures steps { steps.new ≤ steps.old + 36 }
     {
         let local = facts.local_at(self.began, tables, seal, steps);
-        let x = self.context_on(&local, tables, seal);
-        facts.rate_at(&x, tables, seal, steps)
+        let x = self.context_on(&local, tables);
+        facts.rate_at(&x, tables, steps)
     }
 
     /// The context at a second. At most 14 steps.
@@ -59,18 +60,18 @@ impl State {
         ensures steps { steps.new ≤ steps.old + 14 }
     {
         let local = local_facts(second, tables, seal, steps);
-        self.context_on(&local, tables, seal)
+        self.context_on(&local, tables)
     }
 
     /// The context at a local time.
-    pub(crate) fn context_on(&self, local: &LocalFacts, tables: &Tables, seal: &Seal) -> Context
+    pub(crate) fn context_on(&self, local: &LocalFacts, tables: &Tables) -> Context
         requires lawful { IsPowered tables.now longest_trip roaming_amid 1 self.now }
-        requires local { AreLocal tables.now seal.now local.now }
-        ensures value { (s : Setting) (m : Meter) → IsSettingOf s tables.now seal.now → self.now ≡ plain_of s m
+        ensures value { (seal : Seal) (s : Setting) (m : Meter) → AreLocal tables.now seal local.now
+            → IsSettingOf s tables.now seal → self.now ≡ plain_of s m
             → result ≡ context_on s (local_at s local.now.second) m }
         ensures exact { (t : store.Trip) → self.now.trip ≡ Some t
             → result ≡ context_by tables.now local.now self.now t }
-        ensures range { IsInRangeFor tables.now result }
+        ensures range { (seal : Seal) → AreLocal tables.now seal local.now → IsInRangeFor tables.now result }
     {
         Context {
             constant: tables.constant(),
@@ -80,8 +81,8 @@ impl State {
             month_day: local.month_day,
             holiday: local.holiday,
             minute: local.minute,
-            pulses: self.pulses(tables),
-            ticks: self.ticks(tables),
+            pulses: self.pulses(),
+            ticks: self.ticks(),
         }
     }
 }

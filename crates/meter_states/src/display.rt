@@ -1,5 +1,6 @@
 //! The display.
 ghost use Rattle.std.specs.Prelude.{◌≡◌, ◌≤◌, ℕ, All, length};
+ghost use Rattle.seal_store.specs.declared.seal.Seal.{Seal};
 ghost use Rattle.taxi_units.specs.Shown.{IsShown};
 ghost use Rattle.meter_states.specs.Acts.{IsLawfulAct};
 ghost use Rattle.meter_states.specs.Core.{plain_of};
@@ -7,28 +8,28 @@ ghost use Rattle.meter_states.specs.Display.{display_of, extras_shown, fare_show
 ghost use Rattle.meter_states.specs.Equals.{display_by, extras_by, fare_by};
 ghost use Rattle.meter_states.specs.Lawful.{IsBetweenEvents};
 ghost use Rattle.meter_states.specs.Meter.{Meter};
-ghost use Rattle.meter_states.specs.Setting.{Setting, IsSettingOf};
+ghost use Rattle.meter_states.specs.Setting.{Setting, IsTariffOf};
 ghost use Rattle.meter_states.specs.Stages.{FollowsStage};
 
 use crate::act::{Act, Acts};
 use crate::meter_state::State;
 use crate::shown::is_shown;
 use crate::trip::fare;
-use seal_store::Seal;
 use tariff_compile::Tables;
 use taxi_units::Display;
 
 impl State {
     /// The display is shown where it differs from the one that was shown last.
-    pub(crate) fn show(&mut self, tables: &Tables, seal: &Seal, acts: &mut Acts)
+    pub(crate) fn show(&mut self, tables: &Tables, acts: &mut Acts)
         requires lawful { IsBetweenEvents tables.now self.old }
         requires room { length acts.old.items ≤ 3 }
         ensures lawful { IsBetweenEvents tables.now self.new }
         ensures ranges { (number : ℕ) → All (IsLawfulAct tables.now number) acts.old.items
             → All (IsLawfulAct tables.now number) acts.new.items }
-        ensures follows { FollowsStage tables.now seal.now self.old self.new acts.old.items acts.new.items shown }
+        ensures follows { (seal : Seal)
+            → FollowsStage tables.now seal self.old self.new acts.old.items acts.new.items shown }
     {
-        let display = self.display(tables, seal);
+        let display = self.display(tables);
         if !is_shown(&self.shown, &display) {
             acts.push(Act::Show(display));
         }
@@ -36,9 +37,9 @@ impl State {
     }
 
     /// What is shown now.
-    pub(crate) fn display(&self, tables: &Tables, seal: &Seal) -> Display
+    pub(crate) fn display(&self, tables: &Tables) -> Display
         requires lawful { IsBetweenEvents tables.now self.now }
-        ensures value { (s : Setting) (m : Meter) → IsSettingOf s tables.now seal.now → self.now ≡ plain_of s m
+        ensures value { (s : Setting) (m : Meter) → IsTariffOf s tables.now → self.now ≡ plain_of s m
             → result ≡ display_of s m }
         ensures exact { result ≡ display_by tables.now self.now }
         ensures range { IsShown result }
@@ -47,16 +48,16 @@ impl State {
             operating: self.operating,
             position: self.position,
             zone: self.zone,
-            fare: self.fare(tables, seal),
-            supplements: self.supplements(tables, seal),
+            fare: self.fare(tables),
+            supplements: self.supplements(),
             decimals: tables.decimals(),
         }
     }
 
     /// The fare of the trip, 0 without one.
-    fn fare(&self, tables: &Tables, seal: &Seal) -> u64
+    fn fare(&self, tables: &Tables) -> u64
         requires lawful { IsBetweenEvents tables.now self.now }
-        ensures value { (s : Setting) (m : Meter) → IsSettingOf s tables.now seal.now → self.now ≡ plain_of s m
+        ensures value { (s : Setting) (m : Meter) → IsTariffOf s tables.now → self.now ≡ plain_of s m
             → result ≡ fare_shown s m.trip }
         ensures exact { result ≡ fare_by tables.now self.now.trip }
     {
@@ -67,9 +68,8 @@ impl State {
     }
 
     /// The amounts of its supplements, 0 without one.
-    fn supplements(&self, tables: &Tables, seal: &Seal) -> u64
-        ensures value { (s : Setting) (m : Meter) → IsSettingOf s tables.now seal.now → self.now ≡ plain_of s m
-            → result ≡ extras_shown s m.trip }
+    fn supplements(&self) -> u64
+        ensures value { (s : Setting) (m : Meter) → self.now ≡ plain_of s m → result ≡ extras_shown s m.trip }
         ensures exact { result ≡ extras_by self.now.trip }
     {
         match &self.trip {

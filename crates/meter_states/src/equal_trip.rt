@@ -1,5 +1,6 @@
 //! Trips after equal intervals, and how many there may be.
 ghost use Rattle.std.specs.Prelude.{◌≡◌, ◌≤◌, ◌<◌, ◌⊎◌, ◌+◌, ◌*◌, ◌^◌};
+ghost use Rattle.tariff_compile.specs.Tables.{TableParts};
 ghost use Rattle.taxi_units.specs.Time.{last_tick};
 ghost use Rattle.meter_states.specs.EqualStages as stages;
 ghost use Rattle.meter_states.specs.Equals as model;
@@ -38,7 +39,6 @@ pub(crate) fn spare(trip: &Trip, tables: &Tables) -> u128
         trip.now.meterage }
     ensures most { result ≤ 3 * 10 ^ 31 }
 {
-    tables.are_fit();
     let meterage = trip.meterage;
     let all = meterage.cover_left + (modulus(tables) - 1 - meterage.rest);
     match tables.rounding() {
@@ -54,31 +54,29 @@ pub(crate) fn spare(trip: &Trip, tables: &Tables) -> u128
 }
 
 /// The trip has `count` intervals more that ended in Stopped.
-pub(crate) fn add_passed(trip: &mut Trip, tables: &Tables, pulses: u32, count: u32)
+pub(crate) fn add_passed(trip: &mut Trip, pulses: u32, count: u32)
     requires pulses { pulses ≤ 2000 }
     requires few { trip.old.pulses ≤ 5000000000000000000 }
-    requires range { IsTrip tables.now last_tick trip.old }
     requires short { trip.old.ticks + count ≤ last_tick }
     ensures value { trip.new ≡ stages.passed pulses count trip.old }
-    ensures range { IsTrip tables.now last_tick trip.new }
+    ensures range { (tables : TableParts) → IsTrip tables last_tick trip.old → IsTrip tables last_tick trip.new }
 {
     trip.pulses += count as u64 * pulses as u64;
     trip.ticks += count;
 }
 
 /// The trip has `count` intervals more that ended in Hired, whose charges fill no display step.
-pub(crate) fn add_charged(trip: &mut Trip, tables: &Tables, pulses: u32, charge: u128, count: u32)
+pub(crate) fn add_charged(trip: &mut Trip, pulses: u32, charge: u128, count: u32)
     requires pulses { pulses ≤ 2000 }
     requires few { trip.old.pulses ≤ 5000000000000000000 }
-    requires range { IsTrip tables.now last_tick trip.old }
     requires short { trip.old.ticks + count ≤ last_tick }
-    requires spare { count * charge ≤ model.spare_of tables.now.rounding (tables.now.step * tables.now.measure)
-        trip.old.meterage }
+    requires rest { trip.old.meterage.rest ≤ 2 * 10 ^ 29 }
     requires most { count * charge ≤ 3 * 10 ^ 31 }
     ensures value { trip.new ≡ stages.charged pulses charge count trip.old }
-    ensures range { IsTrip tables.now last_tick trip.new }
+    ensures range { (tables : TableParts) → IsTrip tables last_tick trip.old
+        → count * charge ≤ model.spare_of tables.rounding (tables.step * tables.measure) trip.old.meterage
+        → IsTrip tables last_tick trip.new }
 {
-    tables.are_fit();
     let all = count as u128 * charge;
     trip.meterage.rest += all.saturating_sub(trip.meterage.cover_left);
     trip.meterage.cover_left = trip.meterage.cover_left.saturating_sub(all);

@@ -1,15 +1,17 @@
 //! Equal measuring intervals that are carried out at once.
 ghost use Rattle.std.specs.Prelude.{◌≡◌, ◌≤◌, ◌⊎◌, ◌↔◌, ◌+◌, ◌*◌, [], IfSome, IsNone, IsTrue, None, Some};
+ghost use Rattle.std.specs.Option.{ForSome};
 ghost use Rattle.tariff_compile.specs.Near.{IsNear};
-ghost use Rattle.tariff_compile.specs.Tables.{AreFit, IsInRangeFor, rate_by};
+ghost use Rattle.seal_store.specs.declared.seal.Seal.{Seal};
+ghost use Rattle.tariff_compile.specs.Tables.{AreFit, IsInRangeFor, TableParts, rate_by};
 ghost use Rattle.tariff_syntax.specs.declared.context.Context.{Context};
 ghost use Rattle.taxi_units.specs.declared.event.Operating.TheVariants.{ForHire, Hired, Stopped};
 ghost use Rattle.totaliser_store.specs.declared.trip.Trip as store;
 ghost use Rattle.meter_states.specs.Core.{Meets, Stands, plain_of};
 ghost use Rattle.meter_states.specs.EqualStages.{FollowsIntervals, HasTaken, LastsFrom};
 ghost use Rattle.meter_states.specs.Equals.{IsStill, MayBeCharged, MayGo, Outlasts, Serve, intervals_of, roams};
-ghost use Rattle.meter_states.specs.Facts.{AreTrue};
-ghost use Rattle.meter_states.specs.Closing.{roaming_most};
+ghost use Rattle.meter_states.specs.Facts.{AreLasting, AreTrue};
+ghost use Rattle.meter_states.specs.Closing.{roaming_between, roaming_most};
 ghost use Rattle.meter_states.specs.Interval.{context_of};
 ghost use Rattle.meter_states.specs.Lawful.{IsBetweenEvents, IsLawful};
 ghost use Rattle.meter_states.specs.Meter.{Meter};
@@ -75,24 +77,24 @@ impl State {
         if pulses > 2000 {
             return 0;
         }
-        if !self.is_still(tables, seal) {
+        if !self.is_still(tables) {
             return 0;
         }
         match self.operating {
             Operating::Off => 0,
-            Operating::ForHire => self.roam_equal(tables, seal, pulses, count),
+            Operating::ForHire => self.roam_equal(pulses, count),
             Operating::Hired => self.charge_equal(facts, tables, seal, pulses, count),
-            Operating::Stopped => self.pass_equal(tables, seal, pulses, count),
+            Operating::Stopped => self.pass_equal(pulses, count),
         }
     }
 
     /// Whether the interval began at the clock's second and has no pulses yet, no key waits, and the
     /// display is shown.
-    fn is_still(&self, tables: &Tables, seal: &Seal) -> bool
+    fn is_still(&self, tables: &Tables) -> bool
         requires lawful { IsBetweenEvents tables.now self.now }
         ensures { IsTrue result ↔ IsStill tables.now self.now }
     {
-        let display = self.display(tables, seal);
+        let display = self.display(tables);
         let mut gate = self.gate;
         gate.take() == 0
             && self.began == self.clock.second()
@@ -101,16 +103,16 @@ impl State {
     }
 
     /// As many of `count` equal intervals for hire as enter no roaming.
-    fn roam_equal(&mut self, tables: &Tables, seal: &Seal, pulses: u32, count: u32) -> u32
-        requires lawful { IsBetweenEvents tables.now self.old }
+    fn roam_equal(&mut self, pulses: u32, count: u32) -> u32
         requires hire { self.old.operating ≡ ForHire }
-        requires still { IsStill tables.now self.old }
+        requires roam { self.old.roam ≤ roaming_between }
         requires pulses { pulses ≤ 2000 }
-        ensures taken { HasTaken tables.now count self.old self.new result }
+        ensures taken { (tables : TableParts) → IsBetweenEvents tables self.old
+            → HasTaken tables count self.old self.new result }
         ensures full { (result ≡ count) ⊎ (roaming_most ≤ self.new.roam + roams self.new.number pulses) }
-        ensures follows { FollowsIntervals tables.now seal.now self.old self.new pulses result }
+        ensures follows { (tables : TableParts) (seal : Seal) → IsBetweenEvents tables self.old
+            → IsStill tables self.old → FollowsIntervals tables seal self.old self.new pulses result }
     {
-        tables.are_fit();
         let each = roams(self.number, pulses);
         let n = most_times(count, (ROAMING_MOST - 1 - self.roam) as u128, each as u128);
         self.roam += n * each;
@@ -118,21 +120,21 @@ impl State {
     }
 
     /// As many of `count` equal intervals in Stopped as don't end the trip.
-    fn pass_equal(&mut self, tables: &Tables, seal: &Seal, pulses: u32, count: u32) -> u32
-        requires lawful { IsBetweenEvents tables.now self.old }
+    fn pass_equal(&mut self, pulses: u32, count: u32) -> u32
+        requires lawful { (tables : TableParts) × IsBetweenEvents tables self.old }
         requires stopped { self.old.operating ≡ Stopped }
-        requires still { IsStill tables.now self.old }
         requires pulses { pulses ≤ 2000 }
-        ensures taken { HasTaken tables.now count self.old self.new result }
+        ensures taken { (tables : TableParts) → IsBetweenEvents tables self.old
+            → HasTaken tables count self.old self.new result }
         ensures full { (result ≡ count) ⊎ ¬ Outlasts self.new }
-        ensures follows { FollowsIntervals tables.now seal.now self.old self.new pulses result }
+        ensures follows { (tables : TableParts) (seal : Seal) → IsBetweenEvents tables self.old
+            → IsStill tables self.old → FollowsIntervals tables seal self.old self.new pulses result }
     {
         let Some(trip) = &mut self.trip else {
             return 0;
         };
-        tables.are_fit();
         let n = count.min(LONGEST_TRIP - 1 - trip.ticks);
-        add_passed(trip, tables, pulses, n);
+        add_passed(trip, pulses, n);
         n
     }
 
@@ -154,31 +156,32 @@ impl State {
         ensures full { (result ≡ count) ⊎ ¬ MayBeCharged tables.now seal.now facts.now pulses self.new }
         ensures follows { FollowsIntervals tables.now seal.now self.old self.new pulses result }
     {
-        let Some(lasting) = self.kept_rate(facts, tables, seal) else {
+        let Some(lasting) = self.kept_rate(facts, tables) else {
             return 0;
         };
         let Some(trip) = &mut self.trip else {
             return 0;
         };
-        tables.are_fit();
         let each = charge(seal.params.mode, lasting.weights, pulses);
         let few = count.min(LONGEST_TRIP - 1 - trip.ticks);
         let longest = most_times(few, lasting.longer as u128, 1);
         let near = most_times(longest, lasting.further as u128, pulses as u128);
         let n = most_times(near, spare(trip, tables), each);
-        add_charged(trip, tables, pulses, each, n);
+        add_charged(trip, pulses, each, n);
         n
     }
 
     /// What the running interval weighs, and for how many further pulses and ticks, where that is kept.
-    fn kept_rate(&self, facts: &Facts, tables: &Tables, seal: &Seal) -> Option<Lasting>
+    fn kept_rate(&self, facts: &Facts, tables: &Tables) -> Option<Lasting>
         requires lawful { IsBetweenEvents tables.now self.now }
-        requires facts { AreTrue tables.now seal.now facts.now }
+        requires lasting { ForSome facts.now.rate (AreLasting tables.now) }
         ensures fit { IfSome result (λ lasting. AreFit tables.now.measure lasting.weights) }
-        ensures range { IfSome result (λ lasting. (s : Setting) (m : Meter) → IsSettingOf s tables.now seal.now
-            → self.now ≡ plain_of s m → IsInRangeFor tables.now (context_of s m)) }
-        ensures near { IfSome result (λ lasting. (s : Setting) (m : Meter) (y : Context)
-            → IsSettingOf s tables.now seal.now → self.now ≡ plain_of s m → IsInRangeFor tables.now y
+        ensures range { IfSome result (λ lasting. (seal : Seal) (s : Setting) (m : Meter)
+            → AreTrue tables.now seal facts.now → IsSettingOf s tables.now seal → self.now ≡ plain_of s m
+            → IsInRangeFor tables.now (context_of s m)) }
+        ensures near { IfSome result (λ lasting. (seal : Seal) (s : Setting) (m : Meter) (y : Context)
+            → AreTrue tables.now seal facts.now → IsSettingOf s tables.now seal → self.now ≡ plain_of s m
+            → IsInRangeFor tables.now y
             → IsNear lasting.further lasting.longer (context_of s m) y
             → lasting.weights ≡ rate_by s.tariff tables.now.constant y) }
         ensures lasts { IfSome result (λ lasting. (t : store.Trip) (rate : RateFacts) → self.now.trip ≡ Some t
@@ -186,8 +189,8 @@ impl State {
         ensures none { IsNone result → (t : store.Trip) → self.now.trip ≡ Some t
             → ¬ Serve tables.now facts.now self.now t }
     {
-        let local = facts.kept_local(self.began, tables, seal)?;
-        let x = self.context_on(&local, tables, seal);
-        facts.kept_rate(&x, tables, seal)
+        let local = facts.kept_local(self.began)?;
+        let x = self.context_on(&local, tables);
+        facts.kept_rate(&x)
     }
 }

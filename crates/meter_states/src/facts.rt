@@ -1,6 +1,7 @@
 //! The facts that a core keeps: the local time of a second, and what an interval weighs while no cut is
 //! passed.
 ghost use Rattle.std.specs.Prelude.{◌≡◌, ◌≢◌, ◌≤◌, ◌+◌, ◌↔◌, IfSome, IsNone, IsTrue, Some};
+ghost use Rattle.std.specs.Option.{ForSome};
 ghost use Rattle.tariff_compile.specs.Near.{IsNear};
 ghost use Rattle.tariff_compile.specs.Tables.{AreFit, IsInRangeFor, IsTablesOf, TableParts, rate_by};
 ghost use Rattle.tariff_syntax.specs.Tree.{Tree};
@@ -8,7 +9,7 @@ ghost use Rattle.tariff_syntax.specs.declared.context.Context.{Context};
 ghost use Rattle.seal_store.specs.declared.seal.Seal.{Seal};
 ghost use Rattle.taxi_units.specs.Time.{IsSecond};
 ghost use Rattle.meter_states.specs.EqualStages.{LastsFrom};
-ghost use Rattle.meter_states.specs.Facts.{AreLocal, AreTrue};
+ghost use Rattle.meter_states.specs.Facts.{AreLasting, AreLocal, AreTrue};
 ghost use Rattle.meter_states.specs.declared.facts.LocalFacts.{LocalFacts};
 ghost use Rattle.meter_states.specs.declared.facts.RateFacts.{RateFacts};
 
@@ -111,10 +112,8 @@ impl Facts {
     }
 
     /// The local time of a second, where it is kept.
-    pub(crate) fn kept_local(&self, second: u64, tables: &Tables, seal: &Seal) -> Option<LocalFacts>
-        requires facts { AreTrue tables.now seal.now self.now }
+    pub(crate) fn kept_local(&self, second: u64) -> Option<LocalFacts>
         ensures second { IfSome result (λ local. local.second ≡ second) }
-        ensures local { IfSome result (AreLocal tables.now seal.now) }
         ensures kept { IfSome result (λ local. self.now.local ≡ Some local) }
         ensures none { IsNone result → (local : LocalFacts) → self.now.local ≡ Some local → local.second ≢ second }
     {
@@ -126,12 +125,12 @@ impl Facts {
 
     /// The weights of a context, and for how many further pulses and ticks they are the same, where that is
     /// kept.
-    pub(crate) fn kept_rate(&self, x: &Context, tables: &Tables, seal: &Seal) -> Option<Lasting>
-        requires facts { AreTrue tables.now seal.now self.now }
-        ensures fit { IfSome result (λ lasting. AreFit tables.now.measure lasting.weights) }
-        ensures near { IfSome result (λ lasting. (t : Tree) (y : Context) → IsTablesOf t tables.now
-            → IsInRangeFor tables.now y → IsNear lasting.further lasting.longer x.now y
-            → lasting.weights ≡ rate_by t tables.now.constant y) }
+    pub(crate) fn kept_rate(&self, x: &Context) -> Option<Lasting>
+        ensures fit { IfSome result (λ lasting. (tables : TableParts) → ForSome self.now.rate (AreLasting tables)
+            → AreFit tables.measure lasting.weights) }
+        ensures near { IfSome result (λ lasting. (tables : TableParts) (t : Tree) (y : Context)
+            → ForSome self.now.rate (AreLasting tables) → IsTablesOf t tables → IsInRangeFor tables y
+            → IsNear lasting.further lasting.longer x.now y → lasting.weights ≡ rate_by t tables.constant y) }
         ensures lasts { IfSome result (λ lasting. (rate : RateFacts) → self.now.rate ≡ Some rate
             → LastsFrom rate x.now.pulses x.now.ticks lasting) }
         ensures none { IsNone result → (rate : RateFacts) → self.now.rate ≡ Some rate
@@ -158,7 +157,7 @@ impl Facts {
         ensures local { AreLocal tables.now seal.now result }
         ensures steps { steps.new ≤ steps.old + 14 }
     {
-        if let Some(local) = self.kept_local(second, tables, seal) {
+        if let Some(local) = self.kept_local(second) {
             return local;
         }
         let local = local_facts(second, tables, seal, steps);
@@ -171,12 +170,12 @@ impl Facts {
         &mut self,
         x: &Context,
         tables: &Tables,
-        seal: &Seal,
         steps: &mut Steps<L>,
     ) -> Weights
         requires range { IsInRangeFor tables.now x.now }
-        requires facts { AreTrue tables.now seal.now self.old }
-        ensures facts { AreTrue tables.now seal.now self.new }
+        requires lasting { ForSome self.old.rate (AreLasting tables.now) }
+        ensures lasting { ForSome self.new.rate (AreLasting tables.now) }
+        ensures local { self.new.local ≡ self.old.local }
         ensures tree { (t : Tree) → IsTablesOf t tables.now → result ≡ rate_by t tables.now.constant x.now }
         ensures fit { AreFit tables.now.measure result }
         ensures steps { steps.new ≤ steps.old + 22 }

@@ -1,5 +1,6 @@
 //! The measuring interval: its pulses, the context of its beginning, and what it becomes at its end.
 ghost use Rattle.std.specs.Prelude.{◌≡◌, ◌≤◌, ◌+◌, ◌≢◌, [], None, sum};
+ghost use Rattle.tariff_compile.specs.Tables.{TableParts};
 ghost use Rattle.taxi_units.specs.Time.{last_tick, longest_trip};
 ghost use Rattle.taxi_units.specs.declared.event.Operating.TheVariants.{ForHire, Hired, Stopped};
 ghost use Rattle.meter_states.specs.Acts.{StayLawful};
@@ -25,11 +26,11 @@ pub(crate) const HIRINGS_END: u64 = 1_000_000_000_000_000;
 
 impl State {
     /// The interval takes the pulses that it has room for, and the others are refused.
-    pub(crate) fn take_pulses(&mut self, tables: &Tables, n: u32, acts: &mut Acts)
-        requires lawful { IsBetweenEvents tables.now self.old }
+    pub(crate) fn take_pulses(&mut self, n: u32, acts: &mut Acts)
+        requires gate { self.old.gate ≤ 2000 }
         requires room { acts.old.items ≡ [] }
-        ensures lawful { IsBetweenEvents tables.now self.new }
-        ensures ranges { StayLawful tables.now self.old.number acts.old.items acts.new.items }
+        ensures lawful { (tables : TableParts) → IsBetweenEvents tables self.old → IsBetweenEvents tables self.new }
+        ensures ranges { (tables : TableParts) → StayLawful tables self.old.number acts.old.items acts.new.items }
         ensures follows { (s : Setting) (m : Meter) → self.old ≡ plain_of s m
             → Follows s self.new acts.old.items acts.new.items (pulses_taken n m) }
     {
@@ -58,17 +59,17 @@ impl State {
     {
         match self.operating {
             Operating::Off => {}
-            Operating::ForHire => self.roam_interval(tables),
+            Operating::ForHire => self.roam_interval(),
             Operating::Hired => self.charge_interval(facts, tables, seal, steps),
-            Operating::Stopped => self.pass_interval(tables),
+            Operating::Stopped => self.pass_interval(),
         }
     }
 
     /// The interval roams, while the store takes hirings.
-    fn roam_interval(&mut self, tables: &Tables)
-        requires lawful { IsBetweenEvents tables.now self.old }
+    fn roam_interval(&mut self)
         requires hire { self.old.operating ≡ ForHire }
-        ensures lawful { IsAmidEvent tables.now self.new }
+        requires roam { self.old.roam ≤ roaming_between }
+        ensures lawful { (tables : TableParts) → IsBetweenEvents tables self.old → IsAmidEvent tables self.new }
         ensures same { (self.new.operating ≡ self.old.operating) × (self.new.number ≡ self.old.number) }
         ensures state { (s : Setting) (m : Meter) → self.old ≡ plain_of s m
             → self.new ≡ plain_of s (counted_in s ForHire (sum m.taken) m) }
@@ -105,48 +106,53 @@ impl State {
     }
 
     /// The interval passes.
-    fn pass_interval(&mut self, tables: &Tables)
-        requires lawful { IsBetweenEvents tables.now self.old }
+    fn pass_interval(&mut self)
+        requires lawful { (tables : TableParts) × IsBetweenEvents tables self.old }
         requires on { self.old.operating ≡ Stopped }
-        ensures lawful { IsPowered tables.now longest_trip roaming_between 0 self.new }
+        ensures lawful { (tables : TableParts) → IsBetweenEvents tables self.old
+            → IsPowered tables longest_trip roaming_between 0 self.new }
         ensures same { (self.new.operating ≡ self.old.operating) × (self.new.number ≡ self.old.number) }
         ensures state { (s : Setting) (m : Meter) → self.old ≡ plain_of s m
             → self.new ≡ plain_of s (counted_in s Stopped (sum m.taken) m) }
     {
         let pulses = self.gate.take();
-        if let Some(trip) = &mut self.trip {
-            add_stopped(trip, tables, pulses);
-        }
+        let Some(trip) = &mut self.trip else {
+            return;
+        };
+        add_stopped(trip, pulses);
     }
 
     /// A supply drop leaves the interval unfinished.
-    pub(crate) fn leave_interval(&mut self, tables: &Tables)
-        requires lawful { IsBetweenEvents tables.now self.old }
-        ensures lawful { IsPowered tables.now last_tick roaming_amid 1 self.new }
+    pub(crate) fn leave_interval(&mut self)
+        requires lawful { (tables : TableParts) × IsBetweenEvents tables self.old }
+        ensures lawful { (tables : TableParts) → IsBetweenEvents tables self.old
+            → IsPowered tables last_tick roaming_amid 1 self.new }
         ensures same { (self.new.operating ≡ self.old.operating) × (self.new.number ≡ self.old.number) }
         ensures state { (s : Setting) (m : Meter) → self.old ≡ plain_of s m
             → self.new ≡ plain_of s (interval_left m).next }
     {
         match self.operating {
             Operating::Off => {}
-            Operating::ForHire => self.roam_interval(tables),
-            Operating::Hired => self.leave_trip(tables),
-            Operating::Stopped => self.leave_trip(tables),
+            Operating::ForHire => self.roam_interval(),
+            Operating::Hired => self.leave_trip(),
+            Operating::Stopped => self.leave_trip(),
         }
     }
 
     /// The trip takes the pulses of the unfinished interval.
-    fn leave_trip(&mut self, tables: &Tables)
-        requires lawful { IsBetweenEvents tables.now self.old }
+    fn leave_trip(&mut self)
+        requires lawful { (tables : TableParts) × IsBetweenEvents tables self.old }
         requires trip { self.old.trip ≢ None }
-        ensures lawful { IsPowered tables.now last_tick roaming_between 1 self.new }
+        ensures lawful { (tables : TableParts) → IsBetweenEvents tables self.old
+            → IsPowered tables last_tick roaming_between 1 self.new }
         ensures same { (self.new.operating ≡ self.old.operating) × (self.new.number ≡ self.old.number) }
         ensures state { (s : Setting) (m : Meter) → self.old ≡ plain_of s m
             → self.new ≡ plain_of s (left_in Hired (sum m.taken) m) }
     {
         let pulses = self.gate.take();
-        if let Some(trip) = &mut self.trip {
-            add_rest(trip, tables, pulses);
-        }
+        let Some(trip) = &mut self.trip else {
+            return;
+        };
+        add_rest(trip, pulses);
     }
 }

@@ -1,6 +1,7 @@
 //! What keys do.
 ghost use Rattle.std.specs.Prelude.{◌≡◌, ◌≢◌, ◌≤◌, ◌+◌, None, Some};
-ghost use Rattle.tariff_compile.specs.Tables.{IsFitInitial, initial_by, supplement_at};
+ghost use Rattle.seal_store.specs.declared.seal.Seal.{Seal};
+ghost use Rattle.tariff_compile.specs.Tables.{IsFitInitial, TableParts, initial_by, supplement_at};
 ghost use Rattle.taxi_units.specs.declared.event.Operating.TheVariants.{ForHire};
 ghost use Rattle.taxi_units.specs.declared.receipt.Kind.TheVariants.{Closed};
 ghost use Rattle.meter_states.specs.Closing.{closed};
@@ -82,10 +83,10 @@ impl State {
     }
 
     /// A tariff position is chosen.
-    pub(crate) fn set_position(&mut self, n: u8, tables: &Tables, seal: &Seal, acts: &mut Acts)
+    pub(crate) fn set_position(&mut self, n: u8, tables: &Tables, acts: &mut Acts)
         requires ready { IsReadyForKey tables.now self.old acts.old.items }
-        ensures stage { CommitsNothing tables.now seal.now self.old self.new acts.old.items acts.new.items
-            (λ s. position_set s n) }
+        ensures stage { (seal : Seal) → CommitsNothing tables.now seal self.old self.new acts.old.items
+            acts.new.items (λ s. position_set s n) }
     {
         if n < 1 || n > tables.positions() {
             refuse(Why::NoSuch, acts);
@@ -95,10 +96,10 @@ impl State {
     }
 
     /// A zone is chosen.
-    pub(crate) fn set_zone(&mut self, n: u8, tables: &Tables, seal: &Seal, acts: &mut Acts)
+    pub(crate) fn set_zone(&mut self, n: u8, tables: &Tables, acts: &mut Acts)
         requires ready { IsReadyForKey tables.now self.old acts.old.items }
-        ensures stage { CommitsNothing tables.now seal.now self.old self.new acts.old.items acts.new.items
-            (λ s. zone_set s n) }
+        ensures stage { (seal : Seal) → CommitsNothing tables.now seal self.old self.new acts.old.items
+            acts.new.items (λ s. zone_set s n) }
     {
         if n < 1 || n > tables.zones() {
             refuse(Why::NoSuch, acts);
@@ -112,36 +113,30 @@ impl State {
         &mut self,
         n: u8,
         tables: &Tables,
-        seal: &Seal,
         acts: &mut Acts,
         steps: &mut Steps<L>,
     )
         requires ready { IsReadyForKey tables.now self.old acts.old.items }
-        ensures stage { CommitsNothing tables.now seal.now self.old self.new acts.old.items acts.new.items
-            (λ s. extra_added n (supplement_at s.tariff n)) }
+        ensures stage { (seal : Seal) → CommitsNothing tables.now seal self.old self.new acts.old.items
+            acts.new.items (λ s. extra_added n (supplement_at s.tariff n)) }
         ensures steps { steps.new ≤ steps.old + 1 }
     {
         let Some(supplement) = find_supplement(tables, n, steps) else {
             refuse(Why::NoSuch, acts);
             return;
         };
-        self.add_found(n, supplement, tables, seal, acts);
+        self.add_found(n, supplement, acts);
     }
 
     /// A supplement that the tariff has is added, up to its most.
-    fn add_found(
-        &mut self,
-        n: u8,
-        supplement: Supplement,
-        tables: &Tables,
-        seal: &Seal,
-        acts: &mut Acts,
-    )
-        requires ready { IsReadyForKey tables.now self.old acts.old.items }
+    fn add_found(&mut self, n: u8, supplement: Supplement, acts: &mut Acts)
+        requires ready { (tables : TableParts) × IsReadyForKey tables self.old acts.old.items }
         requires number { (1 ≤ n) × (n ≤ 16) }
-        requires found { supplement_in tables.now n ≡ Some supplement }
         requires amount { supplement.amount ≤ 1000000 }
-        ensures stage { CommitsNothing tables.now seal.now self.old self.new acts.old.items acts.new.items
+        requires most { supplement.max ≤ 99 }
+        ensures stage { (tables : TableParts) (seal : Seal) → IsReadyForKey tables self.old acts.old.items
+            → supplement_in tables n ≡ Some supplement
+            → CommitsNothing tables seal self.old self.new acts.old.items acts.new.items
             (λ s m. extra_added_to n supplement m.trip m) }
     {
         let Some(trip) = &mut self.trip else {
@@ -151,6 +146,6 @@ impl State {
             refuse(Why::AtMost, acts);
             return;
         }
-        add_extra(trip, tables, n, supplement);
+        add_extra(trip, n, supplement);
     }
 }

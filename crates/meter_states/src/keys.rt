@@ -1,5 +1,6 @@
 //! Keys: one may wait for the end of the interval, and acts then.
 ghost use Rattle.std.specs.Prelude.{◌≡◌, ◌≤◌, ◌+◌, [], None, Some};
+ghost use Rattle.tariff_compile.specs.Tables.{TableParts};
 ghost use Rattle.taxi_units.specs.declared.event.Operating.TheVariants.{ForHire};
 ghost use Rattle.meter_states.specs.Acts.{StayLawful};
 ghost use Rattle.meter_states.specs.Core.{Follows, plain_of};
@@ -18,11 +19,10 @@ use taxi_units::{Key, Operating, Steps, Why};
 
 impl State {
     /// A key waits for the end of the interval, where none does.
-    pub(crate) fn take_key(&mut self, tables: &Tables, key: Key, acts: &mut Acts)
-        requires lawful { IsBetweenEvents tables.now self.old }
+    pub(crate) fn take_key(&mut self, key: Key, acts: &mut Acts)
         requires room { acts.old.items ≡ [] }
-        ensures lawful { IsBetweenEvents tables.now self.new }
-        ensures ranges { StayLawful tables.now self.old.number acts.old.items acts.new.items }
+        ensures lawful { (tables : TableParts) → IsBetweenEvents tables self.old → IsBetweenEvents tables self.new }
+        ensures ranges { (tables : TableParts) → StayLawful tables self.old.number acts.old.items acts.new.items }
         ensures follows { (s : Setting) (m : Meter) → self.old ≡ plain_of s m
             → Follows s self.new acts.old.items acts.new.items (latched m.latch key m) }
     {
@@ -74,12 +74,12 @@ impl State {
                 self.operating = Operating::Stopped;
             }
             (Key::Clear, Operating::Stopped) => self.clear(tables, seal, acts, steps),
-            (Key::Position(n), Operating::ForHire) => self.set_position(n, tables, seal, acts),
-            (Key::Position(n), Operating::Hired) => self.set_position(n, tables, seal, acts),
-            (Key::Zone(n), Operating::ForHire) => self.set_zone(n, tables, seal, acts),
-            (Key::Zone(n), Operating::Hired) => self.set_zone(n, tables, seal, acts),
-            (Key::Extra(n), Operating::Hired) => self.add_extra(n, tables, seal, acts, steps),
-            (Key::Extra(n), Operating::Stopped) => self.add_extra(n, tables, seal, acts, steps),
+            (Key::Position(n), Operating::ForHire) => self.set_position(n, tables, acts),
+            (Key::Position(n), Operating::Hired) => self.set_position(n, tables, acts),
+            (Key::Zone(n), Operating::ForHire) => self.set_zone(n, tables, acts),
+            (Key::Zone(n), Operating::Hired) => self.set_zone(n, tables, acts),
+            (Key::Extra(n), Operating::Hired) => self.add_extra(n, tables, acts, steps),
+            (Key::Extra(n), Operating::Stopped) => self.add_extra(n, tables, acts, steps),
             _ => refuse(Why::NotNow, acts),
         }
     }

@@ -1,7 +1,7 @@
 //! What the core looks up: in the tables, and in the seal's offsets.
 ghost use Rattle.std.specs.Prelude.{◌≡◌, ◌+◌, ◌*◌, ◌^◌, ◌<◌, ◌≤◌, ◌≢◌, None};
 ghost use Rattle.pulse_input.specs.Distance.{millimetres_of};
-ghost use Rattle.tariff_compile.specs.Tables.{supplement_at};
+ghost use Rattle.tariff_compile.specs.Tables.{IsFit, supplement_at};
 ghost use Rattle.taxi_units.specs.Shown.{IsStamp};
 ghost use Rattle.taxi_units.specs.Time.{IsSecond};
 ghost use Rattle.meter_states.specs.Setting.{Setting, IsSealOf, IsTariffOf, modulus_of, stamp_at};
@@ -20,6 +20,7 @@ pub(crate) fn modulus(tables: &Tables) -> u128
     ensures setting { (s : Setting) → IsTariffOf s tables.now → result ≡ modulus_of s }
     ensures least { 1 ≤ result }
     ensures most { result ≤ 2 * 10 ^ 29 }
+    ensures fit { IsFit tables.now }
 {
     u128::from(tables.step()) * tables.measure()
 }
@@ -29,9 +30,7 @@ pub(crate) fn distance(tables: &Tables, pulses: u64) -> u128
     ensures value { result ≡ millimetres_of tables.now.constant pulses }
     ensures most { result ≤ 2000 * pulses }
 {
-    let constant = tables.constant();
-    constant.get();
-    millimetres(constant, pulses)
+    millimetres(tables.constant(), pulses)
 }
 
 /// The supplement of a number, where the tariff has one. One step.
@@ -47,7 +46,6 @@ pub(crate) fn find_supplement<L: Ledger>(
     ensures most { most_in result ≤ 99 }
     ensures steps { steps.new ≡ steps.old + 1 }
 {
-    tables.measure();
     tables.supplement(number, steps)
 }
 

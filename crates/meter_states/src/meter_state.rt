@@ -1,5 +1,6 @@
 //! The state of the meter, as the core keeps it.
 ghost use Rattle.std.specs.Prelude.{◌≡◌, ◌≤◌, None, Some};
+ghost use Rattle.tariff_compile.specs.Tables.{TableParts};
 ghost use Rattle.taxi_units.specs.Time.{longest_trip};
 ghost use Rattle.taxi_units.specs.declared.event.Operating.TheVariants.{Off};
 ghost use Rattle.totaliser_store.specs.declared.trip.Trip as store;
@@ -14,7 +15,6 @@ ghost use Rattle.meter_states.specs.Supply as supply;
 use interval_clock::Clock;
 use pulse_input::Gate;
 use std::marker::Model;
-use tariff_compile::Tables;
 use taxi_units::{Display, FIRST_SECOND, Key, Operating};
 use totaliser_store::Trip;
 
@@ -110,11 +110,11 @@ impl State {
     }
 
     /// The pulses of the trip so far.
-    pub(crate) fn pulses(&self, tables: &Tables) -> u64
-        requires lawful { IsPowered tables.now longest_trip roaming_amid 1 self.now }
+    pub(crate) fn pulses(&self) -> u64
         ensures state { (s : Setting) (m : Meter) → self.now ≡ plain_of s m → result ≡ interval.pulses_so_far m.trip }
         ensures exact { (t : store.Trip) → self.now.trip ≡ Some t → result ≡ t.pulses }
-        ensures range { result ≤ 5000000000000000000 }
+        ensures range { (tables : TableParts) → IsPowered tables longest_trip roaming_amid 1 self.now
+            → result ≤ 5000000000000000000 }
     {
         match &self.trip {
             None => 0,
@@ -123,11 +123,11 @@ impl State {
     }
 
     /// The ticks of the trip so far.
-    pub(crate) fn ticks(&self, tables: &Tables) -> u32
-        requires lawful { IsPowered tables.now longest_trip roaming_amid 1 self.now }
+    pub(crate) fn ticks(&self) -> u32
         ensures state { (s : Setting) (m : Meter) → self.now ≡ plain_of s m → result ≡ interval.ticks_so_far m.trip }
         ensures exact { (t : store.Trip) → self.now.trip ≡ Some t → result ≡ t.ticks }
-        ensures range { result ≤ longest_trip }
+        ensures range { (tables : TableParts) → IsPowered tables longest_trip roaming_amid 1 self.now
+            → result ≤ longest_trip }
     {
         match &self.trip {
             None => 0,

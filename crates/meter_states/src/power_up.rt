@@ -1,6 +1,7 @@
 //! What the coming of the supply finds.
 ghost use Rattle.std.specs.Prelude.{◌≡◌, ◌≤◌, ◌+◌, [], All, None, Some, option_map, length};
 ghost use Rattle.std.specs.Option.{ForSome};
+ghost use Rattle.tariff_compile.specs.Tables.{TableParts};
 ghost use Rattle.taxi_units.specs.Time.{IsSecond};
 ghost use Rattle.taxi_units.specs.declared.event.Operating.TheVariants.{ForHire};
 ghost use Rattle.totaliser_store.specs.Ranges.{IsDurable, IsHeld};
@@ -49,11 +50,11 @@ impl Core {
             → Meets s result.0.plain result.1.items (model.supply_came s second m) }
         ensures steps { steps.new ≤ steps.old + 12 }
     {
-        tables.are_fit();
+        tables.known();
         let mut state = State::idle(Operating::ForHire, durable.number, second);
         let mut acts = Acts::new();
         state.take_hold(durable.hold, second, tables, seal, &mut acts, steps);
-        state.show(tables, seal, &mut acts);
+        state.show(tables, &mut acts);
         let facts = Facts::none();
         (Core { state, facts }, acts)
     }
@@ -116,22 +117,20 @@ impl State {
         ensures steps { steps.new ≤ steps.old + 12 }
     {
         if is_within_hold(&held, second, seal) {
-            self.go_on(held, tables, seal);
+            self.go_on(held);
         } else {
             self.abort(&held, tables, seal, acts, steps);
         }
     }
 
     /// A held trip goes on, with its position and zone.
-    fn go_on(&mut self, held: Trip, tables: &Tables, seal: &Seal)
-        requires lawful { IsBetweenEvents tables.now self.old }
+    fn go_on(&mut self, held: Trip)
         requires begun { held.started ≤ self.old.clock }
         requires new { (self.old.roam ≡ 0) × (self.old.trip ≡ None) }
         requires range { IsHeld self.old.number held }
-        requires fits { Fits tables.now held }
-        ensures lawful { IsBetweenEvents tables.now self.new }
-        ensures state { (s : Setting) (m : Meter) → IsSettingOf s tables.now seal.now
-            → Some (forgotten held) ≡ option_map (trips.saved_of s) m.trip
+        ensures lawful { (tables : TableParts) → IsBetweenEvents tables self.old → Fits tables held
+            → IsBetweenEvents tables self.new }
+        ensures state { (s : Setting) (m : Meter) → Some (forgotten held) ≡ option_map (trips.saved_of s) m.trip
             → self.old ≡ plain_of s (record m { trip = None })
             → self.new ≡ plain_of s (model.resumed held m).next }
     {

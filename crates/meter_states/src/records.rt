@@ -10,7 +10,7 @@ ghost use Rattle.meter_states.specs.Setting.{Setting, IsSettingOf, IsTariffOf};
 ghost use Rattle.meter_states.specs.Trip as trips;
 
 use crate::lookups::{distance, stamp};
-use crate::trip::{display_steps, extras_are_few, fare};
+use crate::trip::{display_steps, fare};
 use seal_store::Seal;
 use std::sync::ledger::Ledger;
 use tariff_compile::Tables;
@@ -24,18 +24,16 @@ pub(crate) struct Closing {
     pub(crate) finish: u64,
 }
 
-/// The entry of a trip that is closed at a tariff position, where the store has a number.
-pub(crate) fn entry(kind: Kind, position: u8, trip: &Trip, number: u64, tables: &Tables) -> Entry
-    requires range { IsTripBeside tables.now (number + 1) longest_trip trip.now }
+/// The entry of a trip that is closed at a tariff position.
+pub(crate) fn entry(kind: Kind, position: u8, trip: &Trip, tables: &Tables) -> Entry
+    requires range { IsTripBeside tables.now model.number_most longest_trip trip.now }
     requires position { (1 ≤ position) × (position ≤ 9) }
-    requires number { number ≤ model.holds_end }
     requires kind { kind ≢ Roam }
     ensures value { (s : Setting) (t : trips.Trip) → IsTariffOf s tables.now → trip.now ≡ trips.saved_of s t
         → result ≡ model.entry_of s kind position t }
     ensures range { IsEntry result }
     ensures kind { result.kind ≡ kind }
 {
-    extras_are_few(trip, tables);
     Entry {
         kind,
         roam_mm: distance(tables, trip.roam as u64),
@@ -83,7 +81,6 @@ pub(crate) fn receipt<L: Ledger>(
     ensures range { IsReceipt result }
     ensures steps { steps.new ≤ steps.old + 12 }
 {
-    extras_are_few(trip, tables);
     let start = stamp(seal, trip.started, steps);
     let finish = stamp(seal, closing.finish, steps);
     Receipt {

@@ -1,5 +1,6 @@
 //! What each event does.
 ghost use Rattle.std.specs.Prelude.{◌≡◌, ◌≢◌, ◌≤◌, ◌+◌, ◌⊎◌, ◌↔◌, ℕ, [], All, IsTrue};
+ghost use Rattle.tariff_compile.specs.Tables.{TableParts};
 ghost use Rattle.taxi_units.specs.Time.{IsSecond};
 ghost use Rattle.taxi_units.specs.declared.event.Event.TheVariants.{Up};
 ghost use Rattle.taxi_units.specs.declared.event.Operating.TheVariants.{Off};
@@ -120,20 +121,19 @@ impl State {
         match event {
             Event::Up(_) => refuse(Why::Powered, acts),
             Event::Down => self.drop_supply(tables, seal, acts, steps),
-            Event::Pulses(n) => self.take_pulses(tables, n, acts),
+            Event::Pulses(n) => self.take_pulses(n, acts),
             Event::Tick => self.tick(facts, tables, seal, acts, steps),
-            Event::Clock(second) => self.read_clock(tables, second, acts),
-            Event::Key(key) => self.take_key(tables, key, acts),
+            Event::Clock(second) => self.read_clock(second, acts),
+            Event::Key(key) => self.take_key(key, acts),
         }
     }
 
     /// The clock is read: in a trip it doesn't go back.
-    fn read_clock(&mut self, tables: &Tables, second: u64, acts: &mut Acts)
-        requires lawful { IsBetweenEvents tables.now self.old }
+    fn read_clock(&mut self, second: u64, acts: &mut Acts)
         requires second { IsSecond second }
         requires room { acts.old.items ≡ [] }
-        ensures lawful { IsBetweenEvents tables.now self.new }
-        ensures ranges { StayLawful tables.now self.old.number acts.old.items acts.new.items }
+        ensures lawful { (tables : TableParts) → IsBetweenEvents tables self.old → IsBetweenEvents tables self.new }
+        ensures ranges { (tables : TableParts) → StayLawful tables self.old.number acts.old.items acts.new.items }
         ensures follows { (s : Setting) (m : Meter) → self.old ≡ plain_of s m
             → Follows s self.new acts.old.items acts.new.items (clock_read m.operating second m) }
     {

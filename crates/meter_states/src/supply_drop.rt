@@ -1,5 +1,6 @@
 //! What a supply drop leaves.
 ghost use Rattle.std.specs.Prelude.{◌≡◌, ◌<◌, ◌≤◌, ◌+◌, [], None, Some};
+ghost use Rattle.tariff_compile.specs.Tables.{TableParts};
 ghost use Rattle.taxi_units.specs.Time.{last_tick};
 ghost use Rattle.taxi_units.specs.declared.event.Operating.TheVariants.{Off};
 ghost use Rattle.totaliser_store.specs.Ranges.{IsTrip};
@@ -16,10 +17,8 @@ ghost use Rattle.meter_states.specs.Supply as model;
 ghost use Rattle.meter_states.specs.Trip as trips;
 
 use crate::act::{Act, Acts};
-use crate::lookups::modulus;
 use crate::meter_state::State;
 use crate::records::Closing;
-use crate::trip::extras_are_few;
 use seal_store::Seal;
 use std::sync::ledger::Ledger;
 use tariff_compile::Tables;
@@ -46,7 +45,7 @@ impl State {
             → acts.new.items ≡ (model.supply_dropped s m).acts }
         ensures steps { steps.new ≤ steps.old + 12 }
     {
-        self.leave_interval(tables);
+        self.leave_interval();
         self.keep(tables, seal, acts, steps);
         *self = State::off();
     }
@@ -70,12 +69,12 @@ impl State {
         match self.trip {
             None => {
                 if self.roam > 0 {
-                    self.enter_roaming(tables, seal, acts);
+                    self.enter_roaming(tables, acts);
                 }
             }
             Some(trip) => {
                 if self.number < HOLDS_END {
-                    self.hold(trip, tables, seal, acts);
+                    self.hold(trip, acts);
                 } else {
                     let closing = Closing {
                         kind: Kind::Aborted,
@@ -88,24 +87,25 @@ impl State {
     }
 
     /// The trip is held.
-    fn hold(&mut self, trip: Trip, tables: &Tables, seal: &Seal, acts: &mut Acts)
-        requires lawful { IsPowered tables.now last_tick roaming_amid 1 self.old }
+    fn hold(&mut self, trip: Trip, acts: &mut Acts)
+        requires lawful { (tables : TableParts) × IsPowered tables last_tick roaming_amid 1 self.old }
         requires trip { self.old.trip ≡ Some trip }
         requires number { self.old.number < holds_end }
         requires room { acts.old.items ≡ [] }
-        ensures ranges { StayLawful tables.now self.old.number acts.old.items acts.new.items }
-        ensures follows { (s : Setting) (m : Meter) (t : trips.Trip) → IsSettingOf s tables.now seal.now
+        ensures ranges { (tables : TableParts) → IsPowered tables last_tick roaming_amid 1 self.old
+            → StayLawful tables self.old.number acts.old.items acts.new.items }
+        ensures follows { (s : Setting) (m : Meter) (t : trips.Trip)
             → trip ≡ trips.saved_of s t → self.old ≡ plain_of s m
             → Follows s self.new acts.old.items acts.new.items
             (held (trips.held_trip s m.clock (model.is_stopped m.operating) m.position m.zone t) m) }
     {
-        acts.push(Act::Hold(self.held_form(trip, tables)));
+        acts.push(Act::Hold(self.held_form(trip)));
         self.number += 1;
     }
 
     /// The trip as it is held.
-    fn held_form(&self, trip: Trip, tables: &Tables) -> Trip
-        requires lawful { IsPowered tables.now last_tick roaming_amid 1 self.now }
+    fn held_form(&self, trip: Trip) -> Trip
+        requires lawful { (tables : TableParts) × IsPowered tables last_tick roaming_amid 1 self.now }
         requires trip { self.now.trip ≡ Some trip }
         ensures value { result ≡ record trip {
           saved = self.now.clock;
@@ -114,11 +114,9 @@ impl State {
           zone = self.now.zone;
         } }
         ensures range { IsTrip (self.now.number + 1) result }
-        ensures fits { Fits tables.now result }
+        ensures fits { (tables : TableParts) → IsPowered tables last_tick roaming_amid 1 self.now
+            → Fits tables result }
     {
-        tables.are_fit();
-        extras_are_few(&trip, tables);
-        modulus(tables);
         Trip {
             saved: self.clock.second(),
             stopped: self.is_stopped(),

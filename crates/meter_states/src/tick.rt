@@ -1,5 +1,6 @@
 //! The tick, which ends a measuring interval.
 ghost use Rattle.std.specs.Prelude.{◌≡◌, ◌≢◌, ◌≤◌, ◌+◌, [], None, IsTrue, false, nat_le};
+ghost use Rattle.tariff_compile.specs.Tables.{TableParts};
 ghost use Rattle.taxi_units.specs.Time.{longest_trip};
 ghost use Rattle.meter_states.specs.Acts.{StayLawful};
 ghost use Rattle.meter_states.specs.Closing.{roaming_amid};
@@ -42,8 +43,8 @@ impl State {
     {
         self.count_interval(facts, tables, seal, steps);
         self.expire_or_press(tables, seal, acts, steps);
-        self.check_roaming(tables, seal, acts);
-        self.show(tables, seal, acts);
+        self.check_roaming(tables, acts);
+        self.show(tables, acts);
         let second = self.clock.second();
         self.began = second;
     }
@@ -63,7 +64,7 @@ impl State {
             expired_or_pressed }
         ensures steps { steps.new ≤ steps.old + pressing_steps self.old.operating }
     {
-        if self.is_long(tables) {
+        if self.is_long() {
             self.expire(tables, seal, acts, steps);
         } else {
             self.press(tables, seal, acts, steps);
@@ -71,12 +72,12 @@ impl State {
     }
 
     /// Whether the trip has reached its longest time.
-    fn is_long(&self, tables: &Tables) -> bool
-        requires lawful { IsPowered tables.now longest_trip roaming_amid 0 self.now }
+    fn is_long(&self) -> bool
         ensures state { (s : Setting) (m : Meter) → self.now ≡ plain_of s m
             → result ≡ nat_le longest_trip (ticks_so_far m.trip) }
         ensures long { IsTrue result → self.now.trip ≢ None }
-        ensures short { result ≡ false → IsAmidEvent tables.now self.now }
+        ensures short { (tables : TableParts) → IsPowered tables longest_trip roaming_amid 0 self.now
+            → result ≡ false → IsAmidEvent tables self.now }
     {
         match &self.trip {
             None => false,

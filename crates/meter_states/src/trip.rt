@@ -1,7 +1,7 @@
 //! The saved form of a trip: what begins it, and what an interval and a supplement add.
-ghost use Rattle.std.specs.Prelude.{◌≡◌, ◌+◌, ◌-◌, ◌^◌, ◌<◌, ◌≤◌, All, Some, slice_index};
+ghost use Rattle.std.specs.Prelude.{◌≡◌, ◌+◌, ◌-◌, ◌^◌, ◌<◌, ◌≤◌, Some, slice_index};
 ghost use Rattle.drive_modes.specs.Fare.{shown_fare, steps_of};
-ghost use Rattle.tariff_compile.specs.Tables.{AreFit, IsFitInitial, rate_by};
+ghost use Rattle.tariff_compile.specs.Tables.{AreFit, IsFitInitial, TableParts, rate_by};
 ghost use Rattle.tariff_syntax.specs.declared.context.Context.{Context};
 ghost use Rattle.taxi_units.specs.Money.{largest_amount};
 ghost use Rattle.taxi_units.specs.Time.{IsSecond, last_tick, longest_trip};
@@ -31,7 +31,6 @@ pub(crate) fn begun(tables: &Tables, fee: Initial, second: u64, roam: u32) -> Tr
     ensures none { (result.pulses ≡ 0) × (result.ticks ≡ 0) }
     ensures started { result.started ≡ second }
 {
-    tables.are_fit();
     Trip {
         started: second,
         saved: 0,
@@ -68,7 +67,6 @@ pub(crate) fn add_hired(
     ensures counts { (trip.new.pulses ≡ trip.old.pulses + pulses) × (trip.new.ticks ≡ trip.old.ticks + 1) }
     ensures started { trip.new.started ≡ trip.old.started }
 {
-    tables.are_fit();
     add_charge(
         &mut trip.meterage,
         charge(seal.params.mode, weights, pulses),
@@ -79,13 +77,13 @@ pub(crate) fn add_hired(
 }
 
 /// The trip has an interval more that ended in Stopped.
-pub(crate) fn add_stopped(trip: &mut Trip, tables: &Tables, pulses: u32)
+pub(crate) fn add_stopped(trip: &mut Trip, pulses: u32)
     requires pulses { pulses ≤ 2000 }
     requires few { trip.old.pulses ≤ 9000000000000000000 }
-    requires range { IsTrip tables.now last_tick trip.old }
+    requires short { trip.old.ticks ≤ last_tick }
     ensures saved { (s : Setting) (t : model.Trip) → trip.old ≡ model.saved_of s t
         → trip.new ≡ model.saved_of s (model.with_part (model.InStopped pulses) t) }
-    ensures range { IsTrip tables.now longest_trip trip.new }
+    ensures range { (tables : TableParts) → IsTrip tables last_tick trip.old → IsTrip tables longest_trip trip.new }
     ensures counts { (trip.new.pulses ≡ trip.old.pulses + pulses) × (trip.new.ticks ≡ trip.old.ticks + 1) }
     ensures started { trip.new.started ≡ trip.old.started }
 {
@@ -94,27 +92,16 @@ pub(crate) fn add_stopped(trip: &mut Trip, tables: &Tables, pulses: u32)
 }
 
 /// The trip has the pulses of an interval that was left unfinished.
-pub(crate) fn add_rest(trip: &mut Trip, tables: &Tables, pulses: u32)
+pub(crate) fn add_rest(trip: &mut Trip, pulses: u32)
     requires pulses { pulses ≤ 2000 }
     requires few { trip.old.pulses ≤ 9000000000000000000 }
-    requires range { IsTrip tables.now last_tick trip.old }
     ensures saved { (s : Setting) (t : model.Trip) → trip.old ≡ model.saved_of s t
         → trip.new ≡ model.saved_of s (model.with_part (model.Rest pulses) t) }
-    ensures range { IsTrip tables.now last_tick trip.new }
+    ensures range { (tables : TableParts) → IsTrip tables last_tick trip.old → IsTrip tables last_tick trip.new }
     ensures counts { (trip.new.pulses ≡ trip.old.pulses + pulses) × (trip.new.ticks ≡ trip.old.ticks) }
     ensures started { trip.new.started ≡ trip.old.started }
 {
     trip.pulses += pulses as u64;
-}
-
-/// What is known of the supplements of a trip: how often each was added at most, and what they come to at
-/// most.
-pub(crate) fn extras_are_few(trip: &Trip, tables: &Tables)
-    requires range { IsTrip tables.now longest_trip trip.now }
-    ensures counts { All (λ count. count ≤ 99) trip.now.extras }
-    ensures sum { trip.now.extras_sum ≤ 1584000000 }
-{
-    tables.measure();
 }
 
 /// The display steps that are shown.
@@ -150,19 +137,20 @@ pub(crate) fn times(trip: &Trip, number: u8) -> u8
 }
 
 /// The trip has a supplement of the tariff more, which it hasn't had as often as it may.
-pub(crate) fn add_extra(trip: &mut Trip, tables: &Tables, number: u8, supplement: Supplement)
+pub(crate) fn add_extra(trip: &mut Trip, number: u8, supplement: Supplement)
     requires number { (1 ≤ number) × (number ≤ 16) }
-    requires found { supplement_in tables.now number ≡ Some supplement }
-    requires amount { supplement.amount ≤ 1000000 }
     requires few { slice_index trip.old.extras (number - 1) < supplement.max }
-    requires range { IsTrip tables.now last_tick trip.old }
-    ensures saved { (s : Setting) (t : model.Trip) → IsTariffOf s tables.now → trip.old ≡ model.saved_of s t
+    requires most { supplement.max ≤ 99 }
+    requires amount { supplement.amount ≤ 1000000 }
+    requires sum { trip.old.extras_sum ≤ 1584000000 }
+    ensures saved { (tables : TableParts) (s : Setting) (t : model.Trip)
+        → supplement_in tables number ≡ Some supplement → IsTariffOf s tables → trip.old ≡ model.saved_of s t
         → trip.new ≡ model.saved_of s (model.with_extra number t) }
-    ensures range { IsTrip tables.now last_tick trip.new }
+    ensures range { (tables : TableParts) → supplement_in tables number ≡ Some supplement
+        → IsTrip tables last_tick trip.old → IsTrip tables last_tick trip.new }
     ensures counts { (trip.new.pulses ≡ trip.old.pulses) × (trip.new.ticks ≡ trip.old.ticks) }
     ensures started { trip.new.started ≡ trip.old.started }
 {
-    extras_are_few(trip, tables);
     trip.extras[number as usize - 1] += 1;
     trip.extras_sum += supplement.amount;
 }

@@ -6,10 +6,10 @@ use Rattle.tariff_check.specs.Cells.{cells_of}
 use Rattle.tariff_check.specs.Faults.{IsSound}
 use Rattle.tariff_compile.specs.Cells.{IsBefore, IsBelow, bands_of, cell_count, cell_number, places_of}
 use Rattle.tariff_compile.specs.Rows.{all_rows, row_count, row_text}
-use Rattle.tariff_compile.specs.Tables.{HasAmountsOf, HasLinesOf, HasWeightsOf, TableParts, cell_of, initial_by, rate_by, tables_of}
+use Rattle.tariff_compile.specs.Tables.{HasAmountsOf, HasLinesOf, HasWeightsOf, IsCompiled, IsFit, TableParts, cell_of, initial_by, rate_by, tables_of}
 use Rattle.tariff_compile.specs.declared.parts.Bands.{Bands}
 use Rattle.tariff_compile.specs.declared.parts.CellLines.{CellLines}
-use Rattle.tariff_compile.proofs.Compiled.{cell_count-cells_of, has_amounts, has_weights, length-all_cells}
+use Rattle.tariff_compile.proofs.Compiled.{cell_count-cells_of, has_amounts, has_weights, length-all_cells, tables_fit}
 use Rattle.tariff_compile.proofs.Looked.{cell_names_lines}
 use Rattle.tariff_compile.proofs.Numbering.{bands_of-cell_number, bands_of-place, cell_number-bands_of, cell_number-order, cell_number_below}
 use Rattle.tariff_compile.proofs.RowOrder.{length-all_rows, row_text-at}
@@ -38,6 +38,9 @@ cells_are_numbered_in_order-place sizes cell within = (bands_of-place sizes cell
 
 pub cells_are_numbered_in_order-order : (sizes bands later : Bands) → IsBelow sizes bands → IsBelow sizes later → IsBefore (places_of bands) (places_of later) → cell_number sizes bands < cell_number sizes later
 cells_are_numbered_in_order-order sizes bands later below also before = cell_number-order sizes bands later below before
+
+pub tables_are_fit : (tables : TableParts) → IsCompiled tables → IsFit tables
+tables_are_fit = tables_fit
 
 pub rows_are_in_order-count : (tables : TableParts) → length (all_rows tables) ≡ row_count tables
 rows_are_in_order-count = length-all_rows

@@ -2,6 +2,7 @@
 ghost use Rattle.std.specs.Prelude.{◌≡◌, ℕ, [], ◌∷◌, ◌+◌, ◌*◌, ◌^◌, ◌<◌, ◌≤◌, ◌≤ℤ◌, ◌++◌, ◌↔◌, true, pos, length, min, slice_index, IsOk, OnOk, OnErr};
 ghost use Rattle.arrayvec.specs.ArrayVec.{array_vec_len};
 ghost use Rattle.interval_clock.specs.Calendar.{IsDateOf};
+ghost use Rattle.pulse_input.specs.Constant.{least_constant, greatest_constant};
 ghost use Rattle.tariff_calendar.specs.Lists.{has_day, has_days, is_holiday};
 ghost use Rattle.tariff_compile.specs.Cells.{IsBelow, cell_number};
 ghost use Rattle.tariff_compile.specs.Near.{IsNear};
@@ -176,9 +177,11 @@ impl Tables {
         Counted::of(self.minimums.as_slice()).read(number as usize - 1, steps)
     }
 
-    /// What is known of each value of the type: how large its numbers are.
-    pub fn are_fit(&self)
-        ensures { IsFit self.now }
+    /// Says what the type keeps of each of its values: they are the tables of a tariff, and their numbers are
+    /// within their limits. It does nothing.
+    pub fn known(&self)
+        ensures compiled { IsCompiled self.now }
+        ensures fit { IsFit self.now }
     {
         let _ = &self.measure;
     }
@@ -200,13 +203,15 @@ impl Tables {
     /// outside 1 to 16. One step.
     pub fn supplement<L: Ledger>(&self, number: u8, steps: &mut Steps<L>) -> Option<Supplement>
         ensures tree { (t : Tree) → IsTablesOf t self.now → result ≡ supplement_at t number }
+        ensures compiled { IsCompiled self.now }
         ensures steps { steps.new ≡ steps.old + 1 }
     {
+        let supplements = Counted::of(self.supplements.as_slice());
         if number < 1 || number > 16 {
             steps.spend();
             return None;
         }
-        Counted::of(self.supplements.as_slice()).read(number as usize - 1, steps)
+        supplements.read(number as usize - 1, steps)
     }
 
     /// M, the constant times the common measure: a unit of charge is 1/M of the smallest money unit.
@@ -215,6 +220,7 @@ impl Tables {
         ensures positive { 0 < result }
         ensures most { result ≤ 2 * 10 ^ 23 }
         ensures compiled { IsCompiled self.now }
+        ensures fit { IsFit self.now }
     {
         self.measure
     }
@@ -259,9 +265,10 @@ impl Tables {
         self.zones
     }
 
-    /// The constant of the taximeter.
+    /// The constant of the taximeter, 500 to 200,000 pulses a kilometre.
     pub fn constant(&self) -> Constant
-        ensures { result ≡ self.now.constant }
+        ensures value { result ≡ self.now.constant }
+        ensures range { (least_constant ≤ result) × (result ≤ greatest_constant) }
     {
         self.constant
     }

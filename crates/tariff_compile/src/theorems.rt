@@ -6,7 +6,7 @@ ghost use Rattle.tariff_check.specs.Cells.{cells_of};
 ghost use Rattle.tariff_check.specs.Faults.{IsSound};
 ghost use Rattle.tariff_compile.specs.Cells.{IsBefore, IsBelow, bands_of, cell_count, cell_number, places_of};
 ghost use Rattle.tariff_compile.specs.Rows.{all_rows, row_count, row_text};
-ghost use Rattle.tariff_compile.specs.Tables.{HasAmountsOf, HasLinesOf, HasWeightsOf, TableParts, cell_of, initial_by, rate_by, tables_of};
+ghost use Rattle.tariff_compile.specs.Tables.{HasAmountsOf, HasLinesOf, HasWeightsOf, IsCompiled, IsFit, TableParts, cell_of, initial_by, rate_by, tables_of};
 ghost use Rattle.tariff_compile.specs.declared.parts.Bands.{Bands};
 ghost use Rattle.tariff_compile.specs.declared.parts.CellLines.{CellLines};
 ghost use Rattle.tariff_syntax.specs.Tree.{Tree};
@@ -33,6 +33,11 @@ pub fn cells_are_numbered_in_order()
         → IsBelow sizes (bands_of sizes cell) × (cell_number sizes (bands_of sizes cell) ≡ cell) }
     ensures order { (sizes bands later : Bands) → IsBelow sizes bands → IsBelow sizes later
         → IsBefore (places_of bands) (places_of later) → cell_number sizes bands < cell_number sizes later }
+{}
+
+/// The law of numbers: tables of a tariff have them within their limits.
+pub fn tables_are_fit()
+    ensures { (tables : TableParts) → IsCompiled tables → IsFit tables }
 {}
 
 /// The law of rows: they are the measure, the rates, the initial hire fees and the minimum fares from 1, and

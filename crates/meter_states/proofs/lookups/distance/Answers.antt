@@ -13,5 +13,4 @@ at-most k p least =
 
 pub returns-clause-most : goal.returns-clause-most
 returns-clause-most c =
-    let least : 500 ≤ c.constant-constant.result = omega (arith, c.get.ensures.value, c.get.ensures.least) in
-    rw c.millimetres.ensures (at-most c.constant-constant.result c.args.pulses least)
+    rw c.millimetres.ensures (at-most c.constant.result c.args.pulses c.constant.ensures.range.0)

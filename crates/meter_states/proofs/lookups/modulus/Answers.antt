@@ -19,3 +19,6 @@ returns-clause-least c = product-some (rw c.from.ensures c.step.ensures.positive
 
 pub returns-clause-most : goal.returns-clause-most
 returns-clause-most c = mul-le c.from.result c.measure.result (10 ^ 6) (2 * 10 ^ 23) (rw c.from.ensures c.step.ensures.most) c.measure.ensures.most
+
+pub returns-clause-fit : goal.returns-clause-fit
+returns-clause-fit c = c.measure.ensures.fit

@@ -5,6 +5,7 @@ use Rattle.taxi_units.specs.declared.receipt.Kind.TheVariants.{Closed, Aborted, 
 use Rattle.totaliser_store.specs.declared.trip.Trip as store
 use Rattle.totaliser_store.specs.Entries.{is_of_hiring}
 use Rattle.meter_states.proofs.SameParts.{entry-same}
+use Rattle.meter_states.proofs.TableSupplements.{extras-few}
 use Rattle.meter_states.proofs.records.entry.Goals as goal
 
 -- each kind but roaming closes a hiring
@@ -20,13 +21,10 @@ returns-clause-range c =
     record {
       distance = omega (arith, range.pulses, range.range.ticks, range.range.roam);
       fare = c.fare.ensures.most;
-      supplements = c.extras_are_few.ensures.sum;
+      supplements = extras-few c.args.tables.now 8640000 c.args.trip.now range.range;
       position = λ closes. c.requires.position;
       roaming = λ roams. absurd (closes_one c.args.kind c.requires.kind roams);
     }
-
-pub extras_are_few-requires : goal.extras_are_few-requires
-extras_are_few-requires c = record { range = c.requires.range.range }
 
 pub fare-requires : goal.fare-requires
 fare-requires c = record { range = c.requires.range.range }

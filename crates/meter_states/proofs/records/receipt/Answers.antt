@@ -5,6 +5,7 @@ use Rattle.totaliser_store.specs.declared.trip.Trip as store
 use Rattle.meter_states.specs.Setting.{stamp_at}
 use Rattle.meter_states.proofs.Settings.{decimals-is, step-is}
 use Rattle.meter_states.proofs.SameParts.{receipt-same}
+use Rattle.meter_states.proofs.TableSupplements.{extras-few}
 use Rattle.meter_states.proofs.records.receipt.Goals as goal
 
 pub returns-clause-range : goal.returns-clause-range
@@ -28,12 +29,9 @@ returns-clause-range g c =
       steps = c.display_steps.ensures.most;
       step = (omega arith, c.step.ensures.most);
       fare = shown;
-      supplements = c.extras_are_few.ensures.sum;
+      supplements = extras-few c.args.tables.now 8640000 trip range.range;
       decimals = c.decimals.ensures.most;
     }
-
-pub extras_are_few-requires : goal.extras_are_few-requires
-extras_are_few-requires g c = record { range = c.requires.range.range }
 
 pub stamp-start-requires : goal.stamp-start-requires
 stamp-start-requires g c = c.requires.range.range.started

@@ -9,26 +9,25 @@ use Rattle.meter_states.proofs.Trips.{extra-saved}
 use Rattle.meter_states.proofs.trip.add_extra.Goals as goal
 
 pub returns-clause-saved : goal.returns-clause-saved
-returns-clause-saved c = λ s t is e.
+returns-clause-saved c = λ p s t found is e.
     let n = c.args.number in
     let amount : c.args.supplement.amount ≡ amount_in (supplement_at s.tariff n) =
-    ap amount_in (sym c.requires.found) ∙ ap amount_in (supplement-in s.tariff c.args.tables.now n is.compiled) in
+    ap amount_in (sym found) ∙ ap amount_in (supplement-in s.tariff p n is.compiled) in
     extra-saved s t n c.args.supplement.amount c.args.trip.now (omega arith) (omega arith) amount e
 
 pub returns-clause-range : goal.returns-clause-range
-returns-clause-range c =
-    let p = c.args.tables.now in
+returns-clause-range c = λ p is range.
     let n = c.args.number in
     let i = n - 1 in
     let counts = c.args.trip.now.extras in
-    let range = c.requires.range in
     let same : 1 + i ≡ n = omega arith in
-    let found : supplement_in p (1 + i) ≡ Some c.args.supplement = ap (supplement_in p) same ∙ c.requires.found in
+    let found : supplement_in p (1 + i) ≡ Some c.args.supplement = ap (supplement_in p) same ∙ is in
     let most : get_or counts i 0 < most_in (supplement_in p (1 + i)) = subst (λ (o : Option Supplement). get_or counts i 0 < most_in o) (sym found) c.requires.few in
     let within : i < length counts = omega (arith, range.extras) in
     let sum = amounts-more (supplement_in p) 1 i counts within in
     let amount : amount_in (supplement_in p (1 + i)) ≡ c.args.supplement.amount = ap amount_in found in
     record {
+      compiled = range.compiled;
       started = range.started;
       roam = range.roam;
       ticks = range.ticks;

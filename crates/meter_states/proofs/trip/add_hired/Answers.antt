@@ -33,7 +33,7 @@ returns-clause-saved c = λ s t x is by e.
 pub add_charge-requires-clause-steps : goal.add_charge-requires-clause-steps
 add_charge-requires-clause-steps c =
     let p = c.args.tables.now in
-    let fit = c.are_fit.ensures in
+    let fit = c.modulus.ensures.fit in
     let most : c.charge.result ≤ 40001000000 * p.measure = rw c.charge.ensures.charge (charge-most _ c.args.weights c.args.pulses p.measure c.requires.pulses c.requires.weights.pulse_units c.requires.weights.tick_units) in
     let filled = steps-most c.args.trip.now.meterage.rest c.charge.result c.args.trip.now.meterage.cover_left p.step p.measure fit.step.0 fit.measure.0 c.requires.range.rest most in
     rw c.modulus.ensures.value (omega (arith, filled, c.requires.range.steps, c.requires.range.ticks))
@@ -41,12 +41,13 @@ add_charge-requires-clause-steps c =
 pub returns-clause-range : goal.returns-clause-range
 returns-clause-range c =
     let p = c.args.tables.now in
-    let fit = c.are_fit.ensures in
+    let fit = c.modulus.ensures.fit in
     let range = c.requires.range in
     let most : c.charge.result ≤ 40001000000 * p.measure = rw c.charge.ensures.charge (charge-most _ c.args.weights c.args.pulses p.measure c.requires.pulses c.requires.weights.pulse_units c.requires.weights.tick_units) in
     let filled = steps-most c.args.trip.now.meterage.rest c.charge.result c.args.trip.now.meterage.cover_left p.step p.measure fit.step.0 fit.measure.0 range.rest most in
     let steps = rw c.modulus.ensures.value at (ap (λ (m : Meterage). m.steps_full) c.add_charge.ensures.exact) in
     record {
+      compiled = range.compiled;
       started = range.started;
       roam = range.roam;
       ticks = omega (arith, range.ticks);

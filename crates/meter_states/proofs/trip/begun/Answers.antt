@@ -1,4 +1,8 @@
-use Rattle.meter_states.proofs.Settings.{modulus-some}
+use Rattle.std.proofs.Common.{◌*◌, ◌<◌, ◌≤◌, ℕ, ap, refl, subst, arith}
+use Rattle.std.proofs.Math.Nat.{mul-le-mul_right}
+use Rattle.drive_modes.specs.declared.meterage.Meterage.{Meterage}
+use Rattle.meter_states.proofs.Settings.{modulus-some, product-some}
+use Rattle.meter_states.proofs.TableSupplements.{begun-allowed, begun-amounts}
 use Rattle.meter_states.proofs.Trips.{begun-saved}
 use Rattle.meter_states.specs.Setting.{modulus_of}
 use Rattle.meter_states.proofs.trip.begun.Goals as goal
@@ -6,4 +10,30 @@ use Rattle.meter_states.proofs.trip.begun.Goals as goal
 pub returns-clause-saved : goal.returns-clause-saved
 returns-clause-saved c = λ s is.
     begun-saved s c.args.tables.now c.args.fee c.args.second c.args.roam c.start.result is
-    (rw (← c.measure.ensures.value) (c.start.ensures.sum (modulus_of s) (modulus-some s c.args.tables.now is c.are_fit.ensures)))
+    (rw (← c.measure.ensures.value) (c.start.ensures.sum (modulus_of s)
+    (modulus-some s c.args.tables.now is c.measure.ensures.fit)))
+
+pub returns-clause-range : goal.returns-clause-range
+returns-clause-range c =
+    let p = c.args.tables.now in
+    let fit = c.measure.ensures.fit in
+    let made = c.start.ensures.exact in
+    let step : 0 < p.step = omega (arith, fit.step.0) in
+    let cover = ap (λ (m : Meterage). m.cover_left) made in
+    let most : c.args.fee.covers * c.measure.result ≤ 99999999 * c.measure.result = mul-le-mul_right c.measure.result
+    c.requires.fee.covers in
+    record {
+      compiled = c.measure.ensures.compiled;
+      started = c.requires.second;
+      roam = c.requires.roam;
+      ticks = omega arith;
+      initial = c.requires.fee.amount;
+      minimum = c.requires.fee.minimum;
+      cover = subst (λ (n : ℕ). c.start.result.cover_left ≤ 99999999 * n) c.measure.ensures.value (omega
+          (arith, cover, most));
+      steps = omega (arith, ap (λ (m : Meterage). m.steps_full) made);
+      rest = omega (arith, ap (λ (m : Meterage). m.rest) made, product-some step fit.measure.0);
+      extras = refl;
+      counts = begun-allowed p;
+      extras_sum = begun-amounts p;
+    }

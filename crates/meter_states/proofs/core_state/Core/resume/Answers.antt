@@ -1,7 +1,13 @@
-use Rattle.std.proofs.Common.{◌≡◌, ℕ, All, refl, ap, subst, inr, arith}
+use Rattle.std.proofs.Common.{◌≡◌, ℕ, All, List, [], None, rules, refl, ap, sym, subst, inr, ◌∙◌, arith}
+use Rattle.totaliser_store.specs.declared.durable.Durable.{Durable}
 use Rattle.meter_states.specs.Acts.{IsLawfulAct}
-use Rattle.meter_states.specs.Core.{Plain}
+use Rattle.meter_states.specs.Core.{Follows, Plain, plain_of}
+use Rattle.meter_states.specs.Display.{shown}
+use Rattle.meter_states.specs.Meter.{Meter}
+use Rattle.meter_states.specs.Supply.{hold_taken, powered, supply_came}
+use Rattle.meter_states.specs.declared.act.Act.{Act}
 use Rattle.meter_states.proofs.ActRanges.{acts-keep}
+use Rattle.meter_states.proofs.Outcomes.{follows-meets, follows-then}
 use Rattle.meter_states.proofs.core_state.Core.resume.Goals as goal
 
 pub returns-clause-ranges : goal.returns-clause-ranges
@@ -21,3 +27,22 @@ returns-clause-commits g c =
 
 pub returns-clause-lawful : goal.returns-clause-lawful
 returns-clause-lawful g c = record { powered = inr c.show.ensures.lawful; facts = c.none-facts.ensures c.args.tables.now c.args.seal.now }
+
+pub returns-clause-meets : goal.returns-clause-meets
+returns-clause-meets g c = λ s m is durable saved.
+    let n = powered c.args.second m in
+    let start : c.idle-state.result ≡ plain_of s (record n { trip = None }) = c.idle-state.ensures ∙ ap (λ
+    (d : Durable). record (plain_of s (record n { trip = None })) { number = d.number }) (sym durable) in
+    let empty = c.new-acts.result.items in
+    let none : c.new-acts.result.items ≡ [] = search rules in
+    let middle = c.take_hold.new.acts.items in
+    let acts = c.show.new.acts.items in
+    let first = subst (λ (d : Durable). Follows s c.take_hold.new.self empty middle
+    (hold_taken s c.args.second d.hold n)) (sym durable) (c.take_hold.ensures.follows s n is saved start) in
+    let taken = hold_taken s c.args.second m.durable.hold n in
+    let second = c.show.ensures.follows c.args.seal.now s taken.next is first.state in
+    let all = follows-then s c.take_hold.new.self c.show.new.self empty middle acts taken (λ
+    (k : Meter). shown s k) first second in
+    follows-meets s c.args.tables.now 8639999 999999 0 c.show.new.self acts
+    (supply_came s c.args.second m) c.show.ensures.lawful
+    (subst (λ (l : List Act). Follows s c.show.new.self l acts (supply_came s c.args.second m)) none all)

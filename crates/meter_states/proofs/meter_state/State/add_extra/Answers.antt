@@ -5,7 +5,7 @@ use Rattle.taxi_units.specs.declared.event.Why.TheVariants.{NoSuch}
 use Rattle.meter_states.specs.Keys.{extra_added, extra_added_to}
 use Rattle.meter_states.specs.Meter.{Meter}
 use Rattle.meter_states.specs.Setting.{Setting}
-use Rattle.meter_states.specs.Supplements.{amount_in}
+use Rattle.meter_states.specs.Supplements.{amount_in, most_in}
 use Rattle.meter_states.proofs.KeyStages.{commits-as, refuses-stage, steps-same}
 use Rattle.meter_states.proofs.Powered.{some-there}
 use Rattle.meter_states.proofs.Pushes.{room-none}
@@ -15,7 +15,7 @@ pub refuse-requires : goal.refuse-requires
 refuse-requires g c = room-none c.args.acts.now.items c.requires.ready.room
 
 pub returns-in_default-clause-stage : goal.returns-in_default-clause-stage
-returns-in_default-clause-stage g c =
+returns-in_default-clause-stage g c = λ seal.
     refuses-stage NoSuch (λ (s : Setting) (m : Meter). extra_added c.args.n (supplement_at s.tariff c.args.n) m) c.requires.ready c.refuse.ensures
     (λ s m is. ap (λ (o : Option Supplement). extra_added c.args.n o m) (sym (c.find_supplement.ensures.tree s is.tariff) ∙ c.in_default.is))
 
@@ -23,20 +23,24 @@ pub returns-in_default-clause-steps : goal.returns-in_default-clause-steps
 returns-in_default-clause-steps g c = steps-same c.find_supplement.new.steps c.args.steps.now c.find_supplement.ensures.steps
 
 pub add_found-requires-clause-ready : goal.add_found-requires-clause-ready
-add_found-requires-clause-ready g c = c.requires.ready
+add_found-requires-clause-ready g c = (c.args.tables.now, c.requires.ready)
 
 pub add_found-requires-clause-number : goal.add_found-requires-clause-number
 add_found-requires-clause-number g c = c.find_supplement.ensures.number (some-there c.in-Some.supplement c.in-Some.is)
 
-pub add_found-requires-clause-found : goal.add_found-requires-clause-found
-add_found-requires-clause-found g c = sym c.find_supplement.ensures.value ∙ c.in-Some.is
-
 pub add_found-requires-clause-amount : goal.add_found-requires-clause-amount
 add_found-requires-clause-amount g c = subst (λ (o : Option Supplement). amount_in o ≤ 1000000) c.in-Some.is c.find_supplement.ensures.amount
 
+pub add_found-requires-clause-most : goal.add_found-requires-clause-most
+add_found-requires-clause-most g c = subst (λ
+    (o : Option Supplement). most_in o ≤ 99) c.in-Some.is c.find_supplement.ensures.most
+
 pub returns-clause-stage : goal.returns-clause-stage
-returns-clause-stage g c =
-    commits-as (λ (s : Setting) (m : Meter). extra_added_to c.args.n c.in-Some.supplement m.trip m) (λ (s : Setting) (m : Meter). extra_added c.args.n (supplement_at s.tariff c.args.n) m) c.add_found.ensures.stage
+returns-clause-stage g c = λ seal.
+    commits-as (λ (s : Setting) (m : Meter). extra_added_to c.args.n c.in-Some.supplement m.trip m) (λ (s : Setting)
+    (m : Meter). extra_added c.args.n (supplement_at s.tariff c.args.n) m)
+    (c.add_found.ensures.stage c.args.tables.now seal c.requires.ready (sym c.find_supplement.ensures.value
+    ∙ c.in-Some.is))
     (λ s m is. ap (λ (o : Option Supplement). extra_added c.args.n o m) (sym (c.find_supplement.ensures.tree s is.tariff) ∙ c.in-Some.is))
 
 pub returns-clause-steps : goal.returns-clause-steps

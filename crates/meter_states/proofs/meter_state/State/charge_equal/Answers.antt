@@ -1,17 +1,22 @@
-use Rattle.std.proofs.Common.{◌≡◌, ℕ, ◌+◌, ◌*◌, ◌<◌, ◌≤◌, ◌⊎◌, inr, [], Some, refl, ap, sym, subst, ◌∙◌, arith}
+use Rattle.std.proofs.Common.{◌≡◌, ℕ, ◌+◌, ◌*◌, ◌^◌, ◌<◌, ◌≤◌, ◌⊎◌, inr, [], Some, refl, ap, sym, subst, ◌∙◌, arith}
 use Rattle.std.proofs.Math.Nat.{mul-le-mul_left, mul-le-mul_right}
+use Rattle.std.proofs.lemmas.Nat.{mul-le}
+use Rattle.tariff_compile.proofs.Laws.{tables_are_fit}
 use Rattle.tariff_syntax.specs.declared.context.Context.{Context}
+use Rattle.totaliser_store.specs.declared.trip.Trip as store
 use Rattle.meter_states.specs.Charge.{charge_at}
 use Rattle.meter_states.specs.Core.{Plain, Follows, plain_of}
 use Rattle.meter_states.specs.EqualStages.{charged}
 use Rattle.meter_states.specs.Equals.{intervals_of, spare_of}
 use Rattle.meter_states.specs.Interval.{context_of}
+use Rattle.meter_states.specs.Lawful.{IsBetweenEvents}
 use Rattle.meter_states.specs.Meter.{Meter, quiet}
 use Rattle.meter_states.specs.Run.{run}
 use Rattle.meter_states.specs.Setting.{modulus_of}
 use Rattle.taxi_units.specs.Time.{longest_trip}
 use Rattle.meter_states.proofs.EqualIntervals.{charge-by-weights, charged-full, context-later, hired-equal, near-later, pulses-few, range-later, taken-none}
 use Rattle.meter_states.proofs.Outcomes.{quiet-follows}
+use Rattle.meter_states.proofs.Powered.{powered-trip}
 use Rattle.meter_states.proofs.Settings.{modulus-is, modulus-some}
 use Rattle.meter_states.proofs.meter_state.State.charge_equal.Goals as goal
 
@@ -24,7 +29,7 @@ returns-clause-follows c = λ s m is e.
     let n = c.most_times-n.result in
     let t = c.in-Some-trip.trip in
     let lasting = c.in-Some.lasting in
-    let some = modulus-some s tables is.tariff c.are_fit.ensures in
+    let some = modulus-some s tables is.tariff (tables_are_fit tables c.requires.lawful.compiled) in
     let has : core.trip ≡ Some t = sym (ap (λ (p : Plain). p.trip) c.self.view_is) ∙ c.in-Some-trip.is in
     let range = rw has at c.requires.lawful.trip in
     let fewer : n ≤ c.most_times-longest.result = omega (arith, c.most_times-n.ensures.most, c.most_times-near.ensures.most) in
@@ -42,9 +47,10 @@ returns-clause-follows c = λ s m is e.
     let far : i * p ≤ lasting.further = omega (arith, less, c.most_times-near.ensures.room) in
     let slow : i * p ≤ i * 2000 = mul-le-mul_left i c.requires.pulses in
     let near = near-later s m t p i lasting.further lasting.longer saved far (omega (arith, below, long)) in
-    let y_in = range-later tables x (t.pulses + i * p) (t.ticks + i) (c.in-Some.ensures.range s m is e)
+    let y_in = range-later tables x (t.pulses + i * p) (t.ticks + i)
+    (c.in-Some.ensures.range c.args.seal.now s m c.requires.facts is e)
     (omega (arith, slow, below, short, range.pulses, c.requires.lawful.number.1)) (omega (arith, below, short)) in
-    let weights = c.in-Some.ensures.near s m y is e y_in near in
+    let weights = c.in-Some.ensures.near c.args.seal.now s m y c.requires.facts is e y_in near in
     ap (λ (y : Context). charge_at s y p) (context-later s m k core t (charged p q i t) e has same)
     ∙ sym (c.charge-each.ensures.charge ∙ charge-by-weights s tables c.args.seal.now y p lasting.weights is weights) in
     let all = hired-equal s tables p q n m core t is.tariff some c.requires.pulses e c.requires.hired has c.requires.still c.requires.lawful.roam short rest spare charge in
@@ -53,8 +59,8 @@ returns-clause-follows c = λ s m is e.
 pub kept_rate-requires-clause-lawful : goal.kept_rate-requires-clause-lawful
 kept_rate-requires-clause-lawful c = c.requires.lawful
 
-pub kept_rate-requires-clause-facts : goal.kept_rate-requires-clause-facts
-kept_rate-requires-clause-facts c = c.requires.facts
+pub kept_rate-requires-clause-lasting : goal.kept_rate-requires-clause-lasting
+kept_rate-requires-clause-lasting c = c.requires.facts.rate
 
 pub returns-in_default-clause-taken : goal.returns-in_default-clause-taken
 returns-in_default-clause-taken c = taken-none c.args.count refl c.requires.lawful
@@ -92,14 +98,13 @@ add_charged-requires-clause-few c =
     let range = rw has at c.requires.lawful.trip in
     pulses-few range c.requires.lawful.number.1
 
-pub add_charged-requires-clause-range : goal.add_charged-requires-clause-range
-add_charged-requires-clause-range c =
+pub add_charged-requires-clause-rest : goal.add_charged-requires-clause-rest
+add_charged-requires-clause-rest c =
+    let tables = c.args.tables.now in
     let has = sym (ap (λ (p : Plain). p.trip) c.self.view_is) ∙ c.in-Some-trip.is in
     let range = rw has at c.requires.lawful.trip in
-    range.range
-
-pub add_charged-requires-clause-spare : goal.add_charged-requires-clause-spare
-add_charged-requires-clause-spare c = rw c.spare.ensures.value at c.most_times-n.ensures.room
+    let fit = tables_are_fit tables c.requires.lawful.compiled in
+    omega (arith, range.range.rest, mul-le tables.step tables.measure (10 ^ 6) (2 * 10 ^ 23) fit.step.1 fit.measure.1)
 
 pub returns-in_default-clause-full : goal.returns-in_default-clause-full
 returns-in_default-clause-full c = inr (λ may. c.in_default.ensures.none refl may.outlasts.trip may.outlasts.has may.serve)
@@ -116,3 +121,35 @@ returns-clause-full c =
     let full = rw c.spare.ensures.value at c.most_times-n.ensures.full in
     charged-full tables c.args.seal.now c.args.facts.now c.args.pulses c.charge-each.result n c.most_times-near.result c.most_times-longest.result c.min-few.result c.args.count _ t c.add_charged.new.trip c.in-Some.lasting refl
     c.add_charged.ensures.value c.charge-each.ensures.charge (λ rate is. c.in-Some.ensures.lasts t rate has is) range.range.rest spare few c.most_times-longest.ensures.full c.most_times-near.ensures.full full
+
+pub returns-clause-taken : goal.returns-clause-taken
+returns-clause-taken c =
+    let tables = c.args.tables.now in
+    let on = c.requires.lawful in
+    let n = c.most_times-n.result in
+    let t = c.in-Some-trip.trip in
+    let u = c.add_charged.new.trip in
+    let value = c.add_charged.ensures.value in
+    let has : c.args.self.now.trip ≡ Some t = sym (ap (λ (p : Plain). p.trip) c.self.view_is) ∙ c.in-Some-trip.is in
+    let beside = rw has at on.trip in
+    let room = rw c.spare.ensures.value at c.most_times-n.ensures.room in
+    let few : n * c.args.pulses ≤ n * 2000 = mul-le-mul_left n c.requires.pulses in
+    let pulses = ap (λ (x : store.Trip). x.pulses) value in
+    let ticks = ap (λ (x : store.Trip). x.ticks) value in
+    record {
+      lawful = subst (λ (q : Plain). IsBetweenEvents tables (record q { trip = Some u })) (sym c.self.view_is)
+          (powered-trip t u has (ap (λ (x : store.Trip). x.started) value)
+          (record {
+            range = c.add_charged.ensures.range tables beside.range room;
+            pulses = omega
+                (arith, beside.pulses, few, pulses, ticks);
+          }) on);
+      most = omega (
+        arith,
+        c.most_times-n.ensures.most,
+        c.most_times-near.ensures.most,
+        c.most_times-longest.ensures.most,
+        c.min-few.ensures,
+      );
+      same = (ap (λ (q : Plain). q.operating) c.self.view_is, ap (λ (q : Plain). q.number) c.self.view_is);
+    }

@@ -33,8 +33,9 @@ returns-then-self-ge-ROAMING_MOST-clause-ranges c = λ number same.
     (subst (λ (p : Plain). 1000000 ≤ p.roam) c.self.view_is c.if-self-ge-ROAMING_MOST.true) c.enter_roaming.ensures.ranges
 
 pub returns-then-self-ge-ROAMING_MOST-clause-follows : goal.returns-then-self-ge-ROAMING_MOST-clause-follows
-returns-then-self-ge-ROAMING_MOST-clause-follows c = λ s m is e.
+returns-then-self-ge-ROAMING_MOST-clause-follows c = λ seal s m is e.
     let here : c.self.inside.operating ≡ ForHire = elim c.match-matches.branch [ in-ForHire w ↦ w.in-ForHire.is | in_default w ↦ absurd cc ] in
     let hire = sym (ap (λ (p : Plain). p.operating) (c.self.view_is ∙ e)) ∙ here in
     let many = subst (λ (p : Plain). 1000000 ≤ p.roam) (c.self.view_is ∙ e) c.if-self-ge-ROAMING_MOST.true in
-    subst (λ (o : Outcome). Follows s c.enter_roaming.new.self c.args.acts.now.items c.enter_roaming.new.acts.items o) (sym (checked-many s m hire many)) (c.enter_roaming.ensures.follows s m is e)
+    subst (λ (o : Outcome). Follows s c.enter_roaming.new.self c.args.acts.now.items c.enter_roaming.new.acts.items o)
+    (sym (checked-many s m hire many)) (c.enter_roaming.ensures.follows seal s m is e)

@@ -15,7 +15,8 @@ pub close-requires-clause-trip : goal.close-requires-clause-trip
 close-requires-clause-trip g c = c.requires.trip
 
 pub close-requires-clause-finish : goal.close-requires-clause-finish
-close-requires-clause-finish g c = subst IsSecond (sym (c.second.ensures ∙ ap (λ (p : Plain). p.clock) c.self.view_is)) c.requires.ready.lawful.clock
+close-requires-clause-finish g c = subst IsSecond (sym (c.second.ensures ∙ ap (λ
+    (p : Plain). p.clock) c.self.view_is)) c.requires.ready.lawful.clock
 
 pub close-requires-clause-room : goal.close-requires-clause-room
 close-requires-clause-room g c = few-none 1 c.args.acts.now.items c.requires.ready.room
@@ -27,7 +28,8 @@ returns-clause-stage g c = record {
   roam = c.close.ensures.roam;
   ranges = c.close.ensures.ranges;
   follows = λ s m is e. subst (λ (o : Outcome). Follows s c.close.new.self c.args.acts.now.items c.close.new.acts.items o)
-      (ap (λ (n : ℕ). closed s Closed n m) (c.second.ensures ∙ ap (λ (p : Plain). p.clock) (c.self.view_is ∙ e))) (c.close.ensures.follows s m is e);
+      (ap (λ (n : ℕ). closed s Closed n m) (c.second.ensures ∙ ap (λ (p : Plain). p.clock) (c.self.view_is ∙ e)))
+      (c.close.ensures.follows s m is e);
 }
 
 pub returns-clause-steps : goal.returns-clause-steps

@@ -7,8 +7,8 @@ use Rattle.meter_states.proofs.Outcomes.{not_off}
 use Rattle.meter_states.proofs.Powered.{powered-longer, powered-wider}
 use Rattle.meter_states.proofs.meter_state.State.count_interval.Goals as goal
 
-pub roam_interval-requires-clause-lawful : goal.roam_interval-requires-clause-lawful
-roam_interval-requires-clause-lawful g c = c.requires.lawful
+pub roam_interval-requires-clause-roam : goal.roam_interval-requires-clause-roam
+roam_interval-requires-clause-roam g c = c.requires.lawful.roam
 
 pub roam_interval-requires-clause-hire : goal.roam_interval-requires-clause-hire
 roam_interval-requires-clause-hire g c = sym (ap (λ (p : Plain). p.operating) c.self.view_is) ∙ c.in-ForHire.is
@@ -38,7 +38,8 @@ pub returns-in-Off-clause-steps : goal.returns-in-Off-clause-steps
 returns-in-Off-clause-steps g c = absurd (not_off c.args.self.now.operating c.args.self.now.trip c.requires.lawful.on (sym (ap (λ (p : Plain). p.operating) c.self.view_is) ∙ c.in-Off.is))
 
 pub returns-in-ForHire-clause-lawful : goal.returns-in-ForHire-clause-lawful
-returns-in-ForHire-clause-lawful g c = powered-longer c.roam_interval.ensures.lawful
+returns-in-ForHire-clause-lawful g c = powered-longer
+    (c.roam_interval.ensures.lawful c.args.tables.now c.requires.lawful)
 
 pub returns-in-ForHire-clause-facts : goal.returns-in-ForHire-clause-facts
 returns-in-ForHire-clause-facts g c = c.requires.facts
@@ -70,3 +71,10 @@ returns-in-Stopped-clause-facts g c = c.requires.facts
 
 pub returns-in-Hired-clause-steps : goal.returns-in-Hired-clause-steps
 returns-in-Hired-clause-steps g c = subst (λ (o : Operating). c.charge_interval.new.steps ≤ c.args.steps.now + counting_steps o) (sym (sym (ap (λ (p : Plain). p.operating) c.self.view_is) ∙ c.in-Hired.is)) c.charge_interval.ensures.steps
+
+pub pass_interval-requires-clause-lawful : goal.pass_interval-requires-clause-lawful
+pass_interval-requires-clause-lawful g c = (c.args.tables.now, c.requires.lawful)
+
+pub returns-in-Stopped-clause-lawful : goal.returns-in-Stopped-clause-lawful
+returns-in-Stopped-clause-lawful g c = powered-wider
+    (c.pass_interval.ensures.lawful c.args.tables.now c.requires.lawful)

@@ -26,7 +26,7 @@ returns-clause-ranges c =
     (record { room = roaming-beside c.args.self.now.number room; range = c.roaming_entry.ensures.range; roaming = λ roams. room })
 
 pub returns-clause-follows : goal.returns-clause-follows
-returns-clause-follows c = λ s m is e. record {
+returns-clause-follows c = λ seal s m is e. record {
   state = ap (λ (p : Plain). record p { roam = 0; number = p.number + 1 }) (c.self.view_is ∙ e);
   done = c.push.ensures.items
       ∙ ap (λ (x : store.Entry). c.args.acts.now.items ++ Enter x ∷ [])

@@ -1,21 +1,21 @@
-use Rattle.std.proofs.Common.{◌+◌, ◌≤◌, [], ◌∷◌, ◌++◌, ap, sym, subst, ◌∙◌}
+use Rattle.std.proofs.Common.{◌+◌, ◌≤◌, [], ◌∷◌, ◌++◌, ap, sym, subst, ◌∙◌, arith}
 use Rattle.totaliser_store.specs.Ranges.{last_number}
 use Rattle.totaliser_store.specs.declared.entry.Entry as store
 use Rattle.meter_states.specs.Closing.{entry_of}
 use Rattle.meter_states.specs.Core.{Plain}
-use Rattle.meter_states.specs.Lawful.{IsTripBeside}
 use Rattle.meter_states.specs.declared.act.Act.TheVariants.{Enter}
 use Rattle.meter_states.proofs.Pushes.{closing-room, few-more, lawful-more}
 use Rattle.meter_states.proofs.meter_state.State.enter_trip.Goals as goal
 
 pub entry-requires-clause-range : goal.entry-requires-clause-range
-entry-requires-clause-range c = subst (λ (p : Plain). IsTripBeside c.args.tables.now (p.number + 1) 8640000 c.args.trip.now) (sym c.self.view_is) c.requires.range
+entry-requires-clause-range c = record {
+  range = c.requires.range.range;
+  pulses = omega
+      (arith, c.requires.range.pulses, c.requires.number);
+}
 
 pub entry-requires-clause-position : goal.entry-requires-clause-position
 entry-requires-clause-position c = subst (λ (p : Plain). (1 ≤ p.position) × (p.position ≤ 9)) (sym c.self.view_is) c.requires.position
-
-pub entry-requires-clause-number : goal.entry-requires-clause-number
-entry-requires-clause-number c = subst (λ (p : Plain). p.number ≤ 2000000000000000) (sym c.self.view_is) c.requires.number
 
 pub entry-requires-clause-kind : goal.entry-requires-clause-kind
 entry-requires-clause-kind c = c.requires.kind
@@ -40,5 +40,6 @@ returns-clause-follows c = λ s m t is saved e. record {
   state = ap (λ (p : Plain). record p { number = p.number + 1 }) (c.self.view_is ∙ e);
   done = c.push.ensures.items
       ∙ ap (λ (x : store.Entry). c.args.acts.now.items ++ Enter x ∷ [])
-      (c.entry.ensures.value s t is.tariff saved ∙ ap (λ (p : Plain). entry_of s c.args.kind p.position t) (c.self.view_is ∙ e));
+      (c.entry.ensures.value s t is saved ∙ ap (λ (p : Plain). entry_of s c.args.kind p.position t) (c.self.view_is
+      ∙ e));
 }

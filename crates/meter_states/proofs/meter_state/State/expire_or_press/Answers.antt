@@ -8,9 +8,6 @@ use Rattle.meter_states.proofs.Powered.{between-amid}
 use Rattle.meter_states.proofs.Pushes.{few-longer}
 use Rattle.meter_states.proofs.meter_state.State.expire_or_press.Goals as goal
 
-pub is_long-requires : goal.is_long-requires
-is_long-requires g c = record { lawful = c.requires.lawful }
-
 pub expire-requires-clause-lawful : goal.expire-requires-clause-lawful
 expire-requires-clause-lawful g c = c.requires.lawful
 
@@ -21,7 +18,10 @@ pub expire-requires-clause-room : goal.expire-requires-clause-room
 expire-requires-clause-room g c = c.requires.room
 
 pub press-requires : goal.press-requires
-press-requires g c = record { ready = record { lawful = c.is_long.ensures.short c.if-is_long.false; room = c.requires.room } }
+press-requires g c = record {
+  ready = record
+      { lawful = c.is_long.ensures.short c.args.tables.now c.requires.lawful c.if-is_long.false; room = c.requires.room };
+}
 
 pub returns-then-is_long-clause-stage : goal.returns-then-is_long-clause-stage
 returns-then-is_long-clause-stage g c =

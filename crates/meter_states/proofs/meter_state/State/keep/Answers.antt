@@ -23,7 +23,7 @@ pub enter_roaming-requires-clause-room : goal.enter_roaming-requires-clause-room
 enter_roaming-requires-clause-room g c = few-none 3 c.args.acts.now.items c.requires.room
 
 pub hold-requires-clause-lawful : goal.hold-requires-clause-lawful
-hold-requires-clause-lawful g c = c.requires.lawful
+hold-requires-clause-lawful g c = (c.args.tables.now, c.requires.lawful)
 
 pub hold-requires-clause-trip : goal.hold-requires-clause-trip
 hold-requires-clause-trip g c = sym (ap (λ (p : Plain). p.trip) c.self.view_is) ∙ c.in-Some.is
@@ -44,7 +44,8 @@ pub close-requires-clause-kind : goal.close-requires-clause-kind
 close-requires-clause-kind g c = aborted-closes
 
 pub close-requires-clause-finish : goal.close-requires-clause-finish
-close-requires-clause-finish g c = subst IsSecond (sym (c.second.ensures ∙ ap (λ (p : Plain). p.clock) c.self.view_is)) c.requires.lawful.clock
+close-requires-clause-finish g c = subst IsSecond (sym (c.second.ensures ∙ ap (λ
+    (p : Plain). p.clock) c.self.view_is)) c.requires.lawful.clock
 
 pub close-requires-clause-room : goal.close-requires-clause-room
 close-requires-clause-room g c = few-none 1 c.args.acts.now.items c.requires.room
@@ -56,7 +57,8 @@ pub returns-then-self-gt0-clause-follows : goal.returns-then-self-gt0-clause-fol
 returns-then-self-gt0-clause-follows g c = λ s m is e.
     let none = sym (ap (λ (p : Plain). p.trip) (c.self.view_is ∙ e)) ∙ c.in-None.is in
     let some = subst (λ (p : Plain). 0 < p.roam) (c.self.view_is ∙ e) c.if-self-gt0.true in
-    subst (λ (o : Outcome). Follows s c.enter_roaming.new.self c.args.acts.now.items c.enter_roaming.new.acts.items o) (sym (kept-roams s m m.trip none some)) (c.enter_roaming.ensures.follows s m is e)
+    subst (λ (o : Outcome). Follows s c.enter_roaming.new.self c.args.acts.now.items c.enter_roaming.new.acts.items o)
+    (sym (kept-roams s m m.trip none some)) (c.enter_roaming.ensures.follows c.args.seal.now s m is e)
 
 pub returns-else-self-gt0-clause-ranges : goal.returns-else-self-gt0-clause-ranges
 returns-else-self-gt0-clause-ranges g c = λ before. before
@@ -68,13 +70,14 @@ returns-else-self-gt0-clause-follows g c = λ s m is e.
     subst (λ (o : Outcome). Follows s c.args.self.now c.args.acts.now.items c.args.acts.now.items o) (sym (kept-quiet s m m.trip none few)) (quiet-follows s c.args.self.now c.args.acts.now.items m e)
 
 pub returns-then-self-lt-HOLDS_END-clause-ranges : goal.returns-then-self-lt-HOLDS_END-clause-ranges
-returns-then-self-lt-HOLDS_END-clause-ranges g c = c.hold.ensures.ranges
+returns-then-self-lt-HOLDS_END-clause-ranges g c = c.hold.ensures.ranges c.args.tables.now c.requires.lawful
 
 pub returns-then-self-lt-HOLDS_END-clause-follows : goal.returns-then-self-lt-HOLDS_END-clause-follows
 returns-then-self-lt-HOLDS_END-clause-follows g c = λ s m is e.
     let has = trip-saved s m.trip c.in-Some.trip (sym (ap (λ (p : Plain). p.trip) (c.self.view_is ∙ e)) ∙ c.in-Some.is) in
     let few = subst (λ (p : Plain). p.number < 2000000000000000) (c.self.view_is ∙ e) c.if-self-lt-HOLDS_END.true in
-    subst (λ (o : Outcome). Follows s c.hold.new.self c.args.acts.now.items c.hold.new.acts.items o) (sym (kept-held s m has.0 has.1 few)) (c.hold.ensures.follows s m has.0 is has.2 e)
+    subst (λ (o : Outcome). Follows s c.hold.new.self c.args.acts.now.items c.hold.new.acts.items o) (sym
+    (kept-held s m has.0 has.1 few)) (c.hold.ensures.follows s m has.0 has.2 e)
 
 pub returns-else-self-lt-HOLDS_END-clause-ranges : goal.returns-else-self-lt-HOLDS_END-clause-ranges
 returns-else-self-lt-HOLDS_END-clause-ranges g c = c.close.ensures.ranges
@@ -83,7 +86,8 @@ pub returns-else-self-lt-HOLDS_END-clause-follows : goal.returns-else-self-lt-HO
 returns-else-self-lt-HOLDS_END-clause-follows g c = λ s m is e.
     let has = trip-saved s m.trip c.in-Some.trip (sym (ap (λ (p : Plain). p.trip) (c.self.view_is ∙ e)) ∙ c.in-Some.is) in
     let many = subst (λ (p : Plain). 2000000000000000 ≤ p.number) (c.self.view_is ∙ e) c.if-self-lt-HOLDS_END.false in
-    let same = ap (λ (n : ℕ). closed s Aborted n m) (c.second.ensures ∙ ap (λ (p : Plain). p.clock) (c.self.view_is ∙ e)) ∙ sym (kept-closed s m has.0 has.1 many) in
+    let same = ap (λ (n : ℕ). closed s Aborted n m) (c.second.ensures ∙ ap (λ (p : Plain). p.clock) (c.self.view_is
+    ∙ e)) ∙ sym (kept-closed s m has.0 has.1 many) in
     subst (λ (o : Outcome). Follows s c.close.new.self c.args.acts.now.items c.close.new.acts.items o) same (c.close.ensures.follows s m is e)
 
 pub returns-else-self-lt-HOLDS_END-clause-steps : goal.returns-else-self-lt-HOLDS_END-clause-steps

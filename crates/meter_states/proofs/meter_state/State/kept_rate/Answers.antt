@@ -9,16 +9,24 @@ use Rattle.meter_states.specs.Setting.{local_at}
 use Rattle.meter_states.proofs.meter_state.State.kept_rate.Goals as goal
 
 pub returns-clause-near : goal.returns-clause-near
-returns-clause-near c = IfSome_then c.kept_rate.result c.kept_rate.ensures.near (λ lasting near s m y is e y_in is_near.
+returns-clause-near c = IfSome_then c.kept_rate.result c.kept_rate.ensures.near
+    (λ lasting near seal s m y facts is e y_in is_near.
     let began : c.in_ok-local.local.second ≡ m.began = c.in_ok-local.ensures.second ∙ ap (λ (p : Plain). p.began) (c.self.view_is ∙ e) in
-    let same : c.context_on-x.result ≡ context_of s m = c.context_on-x.ensures.value s m is e ∙ ap (λ (second : ℕ). context_on s (local_at s second) m) began in
-    near s.tariff y is.tariff.compiled y_in (subst (λ (x : Context). IsNear lasting.further lasting.longer x y) (sym same) is_near))
+    let same : c.context_on-x.result ≡ context_of s m = c.context_on-x.ensures.value seal s m
+    (facts.local _ c.in_ok-local.ensures.kept) is e ∙ ap (λ (second : ℕ). context_on s
+    (local_at s second) m) began in
+    near c.args.tables.now s.tariff y c.requires.lasting is.tariff.compiled y_in (subst (λ
+    (x : Context). IsNear lasting.further lasting.longer x y) (sym same) is_near))
 
 pub returns-clause-fit : goal.returns-clause-fit
-returns-clause-fit c = c.kept_rate.ensures.fit
+returns-clause-fit c = IfSome_then c.kept_rate.result c.kept_rate.ensures.fit
+    (λ lasting fit. fit c.args.tables.now c.requires.lasting)
 
 pub returns-clause-range : goal.returns-clause-range
-returns-clause-range c = IfSome_then c.kept_rate.result c.kept_rate.ensures.fit (λ lasting fit s m is e.
+returns-clause-range c = IfSome_then c.kept_rate.result c.kept_rate.ensures.fit (λ lasting fit seal s m facts is e.
     let began : c.in_ok-local.local.second ≡ m.began = c.in_ok-local.ensures.second ∙ ap (λ (p : Plain). p.began) (c.self.view_is ∙ e) in
-    let same : c.context_on-x.result ≡ context_of s m = c.context_on-x.ensures.value s m is e ∙ ap (λ (second : ℕ). context_on s (local_at s second) m) began in
-    subst (IsInRangeFor c.args.tables.now) same c.context_on-x.ensures.range)
+    let same : c.context_on-x.result ≡ context_of s m = c.context_on-x.ensures.value seal s m
+    (facts.local _ c.in_ok-local.ensures.kept) is e ∙ ap (λ (second : ℕ). context_on s
+    (local_at s second) m) began in
+    subst (IsInRangeFor c.args.tables.now) same (c.context_on-x.ensures.range seal
+    (facts.local _ c.in_ok-local.ensures.kept)))

@@ -46,37 +46,49 @@ pub returns-in-Clear-Stopped-clause-steps : goal.returns-in-Clear-Stopped-clause
 returns-in-Clear-Stopped-clause-steps g c = steps-row c.clear.new.steps c.args.steps.now Stopped c.self.view_is c.in-Clear-Stopped.is-1 c.clear.ensures.steps
 
 pub returns-in-Position-ForHire-clause-stage : goal.returns-in-Position-ForHire-clause-stage
-returns-in-Position-ForHire-clause-stage g c = commits-row (keys.Position c.in-Position-ForHire.n) ForHire c.self.view_is c.in-Position-ForHire.is-0 c.in-Position-ForHire.is-1 c.set_position.ensures.stage
+returns-in-Position-ForHire-clause-stage g c = commits-row
+    (keys.Position c.in-Position-ForHire.n) ForHire c.self.view_is c.in-Position-ForHire.is-0
+    c.in-Position-ForHire.is-1 (c.set_position.ensures.stage c.args.seal.now)
 
 pub returns-in-Position-ForHire-clause-steps : goal.returns-in-Position-ForHire-clause-steps
 returns-in-Position-ForHire-clause-steps g c = steps-none c.args.steps.now c.args.self.now.operating
 
 pub returns-in-Position-Hired-clause-stage : goal.returns-in-Position-Hired-clause-stage
-returns-in-Position-Hired-clause-stage g c = commits-row (keys.Position c.in-Position-Hired.n) Hired c.self.view_is c.in-Position-Hired.is-0 c.in-Position-Hired.is-1 c.set_position-in-Position-Hired.ensures.stage
+returns-in-Position-Hired-clause-stage g c = commits-row
+    (keys.Position c.in-Position-Hired.n) Hired c.self.view_is c.in-Position-Hired.is-0 c.in-Position-Hired.is-1
+    (c.set_position-in-Position-Hired.ensures.stage c.args.seal.now)
 
 pub returns-in-Position-Hired-clause-steps : goal.returns-in-Position-Hired-clause-steps
 returns-in-Position-Hired-clause-steps g c = steps-none c.args.steps.now c.args.self.now.operating
 
 pub returns-in-Zone-ForHire-clause-stage : goal.returns-in-Zone-ForHire-clause-stage
-returns-in-Zone-ForHire-clause-stage g c = commits-row (keys.Zone c.in-Zone-ForHire.n) ForHire c.self.view_is c.in-Zone-ForHire.is-0 c.in-Zone-ForHire.is-1 c.set_zone.ensures.stage
+returns-in-Zone-ForHire-clause-stage g c = commits-row
+    (keys.Zone c.in-Zone-ForHire.n) ForHire c.self.view_is c.in-Zone-ForHire.is-0 c.in-Zone-ForHire.is-1
+    (c.set_zone.ensures.stage c.args.seal.now)
 
 pub returns-in-Zone-ForHire-clause-steps : goal.returns-in-Zone-ForHire-clause-steps
 returns-in-Zone-ForHire-clause-steps g c = steps-none c.args.steps.now c.args.self.now.operating
 
 pub returns-in-Zone-Hired-clause-stage : goal.returns-in-Zone-Hired-clause-stage
-returns-in-Zone-Hired-clause-stage g c = commits-row (keys.Zone c.in-Zone-Hired.n) Hired c.self.view_is c.in-Zone-Hired.is-0 c.in-Zone-Hired.is-1 c.set_zone-in-Zone-Hired.ensures.stage
+returns-in-Zone-Hired-clause-stage g c = commits-row
+    (keys.Zone c.in-Zone-Hired.n) Hired c.self.view_is c.in-Zone-Hired.is-0 c.in-Zone-Hired.is-1
+    (c.set_zone-in-Zone-Hired.ensures.stage c.args.seal.now)
 
 pub returns-in-Zone-Hired-clause-steps : goal.returns-in-Zone-Hired-clause-steps
 returns-in-Zone-Hired-clause-steps g c = steps-none c.args.steps.now c.args.self.now.operating
 
 pub returns-in-Extra-Hired-clause-stage : goal.returns-in-Extra-Hired-clause-stage
-returns-in-Extra-Hired-clause-stage g c = commits-row (keys.Extra c.in-Extra-Hired.n) Hired c.self.view_is c.in-Extra-Hired.is-0 c.in-Extra-Hired.is-1 c.add_extra.ensures.stage
+returns-in-Extra-Hired-clause-stage g c = commits-row
+    (keys.Extra c.in-Extra-Hired.n) Hired c.self.view_is c.in-Extra-Hired.is-0 c.in-Extra-Hired.is-1
+    (c.add_extra.ensures.stage c.args.seal.now)
 
 pub returns-in-Extra-Hired-clause-steps : goal.returns-in-Extra-Hired-clause-steps
 returns-in-Extra-Hired-clause-steps g c = steps-one c.add_extra.new.steps c.args.steps.now c.args.self.now.operating c.add_extra.ensures.steps
 
 pub returns-in-Extra-Stopped-clause-stage : goal.returns-in-Extra-Stopped-clause-stage
-returns-in-Extra-Stopped-clause-stage g c = commits-row (keys.Extra c.in-Extra-Stopped.n) Stopped c.self.view_is c.in-Extra-Stopped.is-0 c.in-Extra-Stopped.is-1 c.add_extra-in-Extra-Stopped.ensures.stage
+returns-in-Extra-Stopped-clause-stage g c = commits-row
+    (keys.Extra c.in-Extra-Stopped.n) Stopped c.self.view_is c.in-Extra-Stopped.is-0 c.in-Extra-Stopped.is-1
+    (c.add_extra-in-Extra-Stopped.ensures.stage c.args.seal.now)
 
 pub returns-in-Extra-Stopped-clause-steps : goal.returns-in-Extra-Stopped-clause-steps
 returns-in-Extra-Stopped-clause-steps g c = steps-one c.add_extra-in-Extra-Stopped.new.steps c.args.steps.now c.args.self.now.operating c.add_extra-in-Extra-Stopped.ensures.steps

@@ -1,4 +1,5 @@
 use Rattle.std.proofs.Common.{◌≡◌, ◌+◌, ◌*◌, ◌≤◌, [], None, sym, subst, arith}
+use Rattle.tariff_compile.proofs.Laws.{tables_are_fit}
 use Rattle.meter_states.specs.Core.{Plain, Follows}
 use Rattle.meter_states.specs.Equals.{intervals_of, roams}
 use Rattle.meter_states.specs.Run.{run}
@@ -7,16 +8,15 @@ use Rattle.meter_states.proofs.Settings.{modulus-some}
 use Rattle.meter_states.proofs.meter_state.State.roam_equal.Goals as goal
 
 pub returns-clause-follows : goal.returns-clause-follows
-returns-clause-follows c = λ s m is e.
+returns-clause-follows c = λ tables seal on still s m is e.
     let core = c.args.self.now in
-    let tables = c.args.tables.now in
     let p = c.args.pulses in
     let n = c.most_times-n.result in
-    let some = modulus-some s tables is.tariff c.are_fit.ensures in
-    let none : core.trip ≡ None = rw c.requires.hire at c.requires.lawful.on in
-    let roam : c.self.inside.roam ≤ 999999 = rw (← c.self.view_is) at c.requires.lawful.roam in
+    let some = modulus-some s tables is.tariff (tables_are_fit tables on.compiled) in
+    let none : core.trip ≡ None = rw c.requires.hire at on.on in
+    let roam : c.self.inside.roam ≤ 999999 = rw (← c.self.view_is) at c.requires.roam in
     let raw : c.self.inside.roam + n * c.roams-each.result ≤ 999999 = omega (arith, c.most_times-n.ensures.room, roam) in
     let few : c.self.inside.roam + n * roams c.self.inside.number p ≤ 999999 = rw c.roams-each.ensures.value at raw in
     let all = subst (λ (x : Plain). x.roam + n * roams x.number p ≤ 999999 → Follows s (record x { roam = x.roam + n * roams x.number p }) [] [] (run s (intervals_of p n) m)) (sym c.self.view_is)
-    (hire-equal s tables p n m core is.tariff some c.requires.pulses e c.requires.hire none c.requires.still) few in
+    (hire-equal s tables p n m core is.tariff some c.requires.pulses e c.requires.hire none still) few in
     rw c.roams-each.ensures.value all

@@ -15,11 +15,8 @@ drop_supply-requires-clause-lawful g c = c.requires.lawful
 pub drop_supply-requires-clause-room : goal.drop_supply-requires-clause-room
 drop_supply-requires-clause-room g c = c.requires.room
 
-pub take_pulses-requires-clause-lawful : goal.take_pulses-requires-clause-lawful
-take_pulses-requires-clause-lawful g c = c.requires.lawful
-
-pub take_pulses-requires-clause-room : goal.take_pulses-requires-clause-room
-take_pulses-requires-clause-room g c = c.requires.room
+pub take_pulses-requires : goal.take_pulses-requires
+take_pulses-requires g c = record { gate = c.requires.lawful.gate; room = c.requires.room }
 
 pub tick-requires-clause-lawful : goal.tick-requires-clause-lawful
 tick-requires-clause-lawful g c = c.requires.lawful
@@ -30,56 +27,56 @@ tick-requires-clause-facts g c = c.requires.facts
 pub tick-requires-clause-room : goal.tick-requires-clause-room
 tick-requires-clause-room g c = c.requires.room
 
-pub read_clock-requires-clause-lawful : goal.read_clock-requires-clause-lawful
-read_clock-requires-clause-lawful g c = c.requires.lawful
-
 pub read_clock-requires-clause-room : goal.read_clock-requires-clause-room
 read_clock-requires-clause-room g c = c.requires.room
 
-pub take_key-requires-clause-lawful : goal.take_key-requires-clause-lawful
-take_key-requires-clause-lawful g c = c.requires.lawful
-
-pub take_key-requires-clause-room : goal.take_key-requires-clause-room
-take_key-requires-clause-room g c = c.requires.room
+pub take_key-requires : goal.take_key-requires
+take_key-requires g c = record { room = c.requires.room }
 
 pub returns-in-Pulses-clause-lawful : goal.returns-in-Pulses-clause-lawful
-returns-in-Pulses-clause-lawful g c = inr c.take_pulses.ensures.lawful
+returns-in-Pulses-clause-lawful g c = inr (c.take_pulses.ensures.lawful c.args.tables.now c.requires.lawful)
 
 pub returns-in-Pulses-clause-facts : goal.returns-in-Pulses-clause-facts
 returns-in-Pulses-clause-facts g c = c.requires.facts
 
 pub returns-in-Pulses-clause-ranges : goal.returns-in-Pulses-clause-ranges
-returns-in-Pulses-clause-ranges g c = c.take_pulses.ensures.ranges
+returns-in-Pulses-clause-ranges g c = c.take_pulses.ensures.ranges c.args.tables.now
 
 pub returns-in-Pulses-clause-meets : goal.returns-in-Pulses-clause-meets
 returns-in-Pulses-clause-meets g c = λ s m is e.
-    follows-event s c.args.tables.now c.take_pulses.new.self c.args.acts.now.items c.take_pulses.new.acts.items c.args.event (events.Pulses c.in-Pulses.n) m c.in-Pulses.is c.requires.room c.take_pulses.ensures.lawful (c.take_pulses.ensures.follows s m e)
+    follows-event s c.args.tables.now c.take_pulses.new.self c.args.acts.now.items c.take_pulses.new.acts.items
+    c.args.event (events.Pulses c.in-Pulses.n) m c.in-Pulses.is c.requires.room
+    (c.take_pulses.ensures.lawful c.args.tables.now c.requires.lawful) (c.take_pulses.ensures.follows s m e)
 
 pub returns-in-Clock-clause-lawful : goal.returns-in-Clock-clause-lawful
-returns-in-Clock-clause-lawful g c = inr c.read_clock.ensures.lawful
+returns-in-Clock-clause-lawful g c = inr (c.read_clock.ensures.lawful c.args.tables.now c.requires.lawful)
 
 pub returns-in-Clock-clause-facts : goal.returns-in-Clock-clause-facts
 returns-in-Clock-clause-facts g c = c.requires.facts
 
 pub returns-in-Clock-clause-ranges : goal.returns-in-Clock-clause-ranges
-returns-in-Clock-clause-ranges g c = c.read_clock.ensures.ranges
+returns-in-Clock-clause-ranges g c = c.read_clock.ensures.ranges c.args.tables.now
 
 pub returns-in-Clock-clause-meets : goal.returns-in-Clock-clause-meets
 returns-in-Clock-clause-meets g c = λ s m is e.
-    follows-event s c.args.tables.now c.read_clock.new.self c.args.acts.now.items c.read_clock.new.acts.items c.args.event (events.Clock c.in-Clock.second) m c.in-Clock.is c.requires.room c.read_clock.ensures.lawful (c.read_clock.ensures.follows s m e)
+    follows-event s c.args.tables.now c.read_clock.new.self c.args.acts.now.items c.read_clock.new.acts.items
+    c.args.event (events.Clock c.in-Clock.second) m c.in-Clock.is c.requires.room
+    (c.read_clock.ensures.lawful c.args.tables.now c.requires.lawful) (c.read_clock.ensures.follows s m e)
 
 pub returns-in-Key-clause-lawful : goal.returns-in-Key-clause-lawful
-returns-in-Key-clause-lawful g c = inr c.take_key.ensures.lawful
+returns-in-Key-clause-lawful g c = inr (c.take_key.ensures.lawful c.args.tables.now c.requires.lawful)
 
 pub returns-in-Key-clause-facts : goal.returns-in-Key-clause-facts
 returns-in-Key-clause-facts g c = c.requires.facts
 
 pub returns-in-Key-clause-ranges : goal.returns-in-Key-clause-ranges
-returns-in-Key-clause-ranges g c = c.take_key.ensures.ranges
+returns-in-Key-clause-ranges g c = c.take_key.ensures.ranges c.args.tables.now
 
 pub returns-in-Key-clause-meets : goal.returns-in-Key-clause-meets
 returns-in-Key-clause-meets g c = λ s m is e.
-    follows-event s c.args.tables.now c.take_key.new.self c.args.acts.now.items c.take_key.new.acts.items c.args.event (events.Key c.in-Key.key) m c.in-Key.is c.requires.room c.take_key.ensures.lawful (c.take_key.ensures.follows s m e)
+    follows-event s c.args.tables.now c.take_key.new.self c.args.acts.now.items c.take_key.new.acts.items c.args.event
+    (events.Key c.in-Key.key) m c.in-Key.is c.requires.room
+    (c.take_key.ensures.lawful c.args.tables.now c.requires.lawful) (c.take_key.ensures.follows s m e)
 
 pub returns-in-Tick-clause-lawful : goal.returns-in-Tick-clause-lawful
 returns-in-Tick-clause-lawful g c = inr c.tick.ensures.lawful

@@ -10,9 +10,6 @@ use Rattle.meter_states.proofs.meter_state.State.take_held.Goals as goal
 pub is_within_hold-requires : goal.is_within_hold-requires
 is_within_hold-requires g c = held-second c.requires.range
 
-pub go_on-requires-clause-lawful : goal.go_on-requires-clause-lawful
-go_on-requires-clause-lawful g c = c.requires.lawful
-
 pub go_on-requires-clause-begun : goal.go_on-requires-clause-begun
 go_on-requires-clause-begun g c = begun-by c.requires.range (c.is_within_hold.ensures.later c.if-is_within_hold.true) c.requires.second
 
@@ -22,11 +19,9 @@ go_on-requires-clause-new g c = c.requires.new
 pub go_on-requires-clause-range : goal.go_on-requires-clause-range
 go_on-requires-clause-range g c = c.requires.range
 
-pub go_on-requires-clause-fits : goal.go_on-requires-clause-fits
-go_on-requires-clause-fits g c = c.requires.fits
-
 pub returns-then-is_within_hold-clause-lawful : goal.returns-then-is_within_hold-clause-lawful
-returns-then-is_within_hold-clause-lawful g c = c.go_on.ensures.lawful
+returns-then-is_within_hold-clause-lawful g c = c.go_on.ensures.lawful c.args.tables.now c.requires.lawful
+    c.requires.fits
 
 pub returns-then-is_within_hold-clause-few : goal.returns-then-is_within_hold-clause-few
 returns-then-is_within_hold-clause-few g c = few-none 2 c.args.acts.now.items c.requires.room
@@ -40,4 +35,4 @@ returns-then-is_within_hold-clause-follows g c = λ s m is saved e.
     let acts = c.args.acts.now.items in
     let within = sym (c.is_within_hold.ensures.value s is.secured) ∙ c.if-is_within_hold.true in
     subst (λ (o : Outcome). Follows s c.go_on.new.self acts acts o) (sym (hold-resumed s c.args.second held m within))
-    (quiet-follows s c.go_on.new.self acts (resumed held m).next (c.go_on.ensures.state s m is saved e))
+    (quiet-follows s c.go_on.new.self acts (resumed held m).next (c.go_on.ensures.state s m saved e))

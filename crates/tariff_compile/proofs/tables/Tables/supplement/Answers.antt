@@ -12,5 +12,6 @@ returns-then-number-lt1-clause-tree g c = λ t is. supplement-none t c.args.self
 pub returns-clause-tree : goal.returns-clause-tree
 returns-clause-tree g c = λ t is.
     c.read.ensures.value c.read.result
-    ∙ (ap (λ (list : List (Option Supplement)). get_or list (c.args.number - 1) c.read.result) (c.of.ensures ∙ (c.as_slice.ensures.value ∙ ap (λ (p : TableParts). p.supplements) c.self.view_is))
+    ∙ (ap (λ (list : List (Option Supplement)). get_or list (c.args.number - 1) c.read.result)
+    (c.of-supplements.ensures ∙ (c.as_slice.ensures.value ∙ ap (λ (p : TableParts). p.supplements) c.self.view_is))
     ∙ supplement-there t c.args.self.now c.args.number c.read.result is (omega arith, omega arith))

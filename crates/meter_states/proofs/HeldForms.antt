@@ -1,0 +1,55 @@
+-- A trip of a powered core, as it is held, is in the ranges of the store and fits the tables.
+use Rattle.std.proofs.Common.{◌≡◌, ◌+◌, ◌*◌, ◌^◌, ◌<◌, ◌≤◌, Bool, Option, Some, subst, arith}
+use Rattle.std.proofs.lemmas.Nat.{mul-le}
+use Rattle.tariff_compile.specs.Tables.{TableParts}
+use Rattle.tariff_compile.proofs.Laws.{tables_are_fit}
+use Rattle.totaliser_store.specs.Ranges as store
+use Rattle.totaliser_store.specs.declared.trip.Trip.{Trip}
+use Rattle.meter_states.specs.Core.{Plain}
+use Rattle.meter_states.specs.Fits.{Fits}
+use Rattle.meter_states.specs.Lawful.{HasBegunBy, IsPowered, IsTripInRange}
+use Rattle.meter_states.proofs.TableSupplements.{counts-few, extras-few}
+
+-- a trip as a core holds it
+abbrev pub held_by : Plain → (stopped : Bool) → Trip → Trip
+held_by core stopped trip = record trip
+    { saved = core.clock; stopped = stopped; position = core.position; zone = core.zone }
+
+pub held-range : (p : TableParts) (core : Plain) (stopped : Bool) (trip : Trip) → IsPowered p 8639999 1001999 1 core
+    → core.trip ≡ Some trip
+    → store.IsTrip (core.number + 1) (held_by core stopped trip)
+held-range p core stopped trip on has =
+    let beside = subst (IsTripInRange p (core.number + 1) 8639999) has on.trip in
+    let range = beside.range in
+    let fit = tables_are_fit p on.compiled in
+    let modulus = mul-le p.step p.measure (10 ^ 6) (2 * 10 ^ 23) fit.step.1 fit.measure.1 in
+    record {
+      started = range.started;
+      saved = (subst (HasBegunBy core.clock) has on.begun, on.clock.1);
+      position = (on.position.0, omega (arith, on.position.1, fit.positions.1));
+      zone = (on.zone.0, omega (arith, on.zone.1, fit.zones.1));
+      roam = range.roam;
+      pulses = beside.pulses;
+      ticks = range.ticks;
+      initial = range.initial;
+      cover_left = omega (arith, range.cover, fit.measure.1);
+      steps_full = range.steps;
+      rest = omega (arith, range.rest, modulus);
+      extras = (range.extras, counts-few p 8639999 trip range);
+      extras_sum = extras-few p 8639999 trip range;
+      minimum = range.minimum;
+    }
+
+pub held-fits : (p : TableParts) (core : Plain) (stopped : Bool) (trip : Trip) → IsPowered p 8639999 1001999 1 core
+    → core.trip ≡ Some trip
+    → Fits p (held_by core stopped trip)
+held-fits p core stopped trip on has =
+    let range = (subst (IsTripInRange p (core.number + 1) 8639999) has on.trip).range in
+    record {
+      position = on.position;
+      zone = on.zone;
+      rest = range.rest;
+      cover = range.cover;
+      counts = range.counts;
+      extras_sum = range.extras_sum;
+    }

@@ -1,7 +1,0 @@
-use Rattle.std.proofs.Common.{subst}
-use Rattle.tariff_compile.specs.Tables.{IsCompiled}
-use Rattle.tariff_compile.proofs.Compiled.{tables_fit}
-use Rattle.tariff_compile.proofs.tables.Tables.are_fit.Goals as goal
-
-pub returns : goal.returns
-returns c = tables_fit c.args.self.now (subst IsCompiled c.self.view_is c.self.invariant)
