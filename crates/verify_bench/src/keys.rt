@@ -4,6 +4,7 @@
 ghost use Rattle.std.specs.Prelude.{Some, OnOk};
 ghost use Rattle.meter_states.specs.Keys.{extra_added, hiring, key_in, latched, position_set, zone_set};
 ghost use Rattle.meter_states.specs.Setting.{Setting};
+ghost use Rattle.seal_store.specs.declared.seal.Seal.{Seal};
 ghost use Rattle.tariff_compile.specs.Tables.{supplement_at};
 ghost use Rattle.taxi_units.specs.Time.{last_tick};
 ghost use Rattle.verify_bench.specs.Settings.{setting_of};
@@ -58,9 +59,9 @@ impl PlainMeter {
     }
 
     /// A tariff position is set.
-    fn set_position(&mut self, number: u8, checked: &Checked, seal: &Seal)
+    fn set_position(&mut self, number: u8, checked: &Checked)
         requires sound { IsSound last_tick 0 self.old }
-        ensures moves { GoesThroughQuietly (setting_of checked.now seal.now) (λ s. position_set s number)
+        ensures moves { (seal : Seal) → GoesThroughQuietly (setting_of checked.now seal) (λ s. position_set s number)
             self.old self.new }
         ensures sound { IsSound last_tick 0 self.new }
     {
@@ -70,9 +71,9 @@ impl PlainMeter {
     }
 
     /// A zone is set.
-    fn set_zone(&mut self, number: u8, checked: &Checked, seal: &Seal)
+    fn set_zone(&mut self, number: u8, checked: &Checked)
         requires sound { IsSound last_tick 0 self.old }
-        ensures moves { GoesThroughQuietly (setting_of checked.now seal.now) (λ s. zone_set s number)
+        ensures moves { (seal : Seal) → GoesThroughQuietly (setting_of checked.now seal) (λ s. zone_set s number)
             self.old self.new }
         ensures sound { IsSound last_tick 0 self.new }
     {
@@ -82,9 +83,9 @@ impl PlainMeter {
     }
 
     /// A supplement is added to the trip, where the tariff has it, up to its most.
-    fn add_supplement(&mut self, number: u8, checked: &Checked, seal: &Seal) -> Result<(), NoMemory>
+    fn add_supplement(&mut self, number: u8, checked: &Checked) -> Result<(), NoMemory>
         requires sound { IsSound last_tick 0 self.old }
-        ensures moves { OnOk result (GoesThroughQuietly (setting_of checked.now seal.now)
+        ensures moves { OnOk result ((seal : Seal) → GoesThroughQuietly (setting_of checked.now seal)
             (λ s. extra_added number (supplement_at s.tariff number)) self.old self.new) }
         ensures sound { OnOk result (IsSound last_tick 0 self.new) }
     {
@@ -143,15 +144,15 @@ impl PlainMeter {
             }
             (Key::Clear, Operating::Stopped) => self.close(Kind::Closed, checked, seal, found),
             (Key::Position(number), Operating::ForHire | Operating::Hired) => {
-                self.set_position(number, checked, seal);
+                self.set_position(number, checked);
                 Ok(())
             }
             (Key::Zone(number), Operating::ForHire | Operating::Hired) => {
-                self.set_zone(number, checked, seal);
+                self.set_zone(number, checked);
                 Ok(())
             }
             (Key::Extra(number), Operating::Hired | Operating::Stopped) => {
-                self.add_supplement(number, checked, seal)
+                self.add_supplement(number, checked)
             }
             _ => Ok(()),
         }

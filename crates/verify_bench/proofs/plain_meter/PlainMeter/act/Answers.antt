@@ -17,7 +17,7 @@ pub returns-in-Position-ForHire-clause-moves : goal.returns-in-Position-ForHire-
 returns-in-Position-ForHire-clause-moves g c m stands =
     let list = c.args.found.now.items in
     let at : (c.args.self.now.operating ≡ ForHire) ⊎ (c.args.self.now.operating ≡ Hired) = search rules in
-    let moves = c.set_position.ensures.moves (ticks_so_far m.trip) list m stands in
+    let moves = c.set_position.ensures.moves c.args.seal.now (ticks_so_far m.trip) list m stands in
     acts_by_either (setting_of c.args.checked.now c.args.seal.now) (ticks_so_far m.trip) list list c.set_position.new.self m c.args.key (keys.Position c.in-Position-ForHire.number) c.args.self.now.operating ForHire Hired
     c.in-Position-ForHire.is-0 stands.operating at moves moves
 
@@ -25,7 +25,7 @@ pub returns-in-Zone-ForHire-clause-moves : goal.returns-in-Zone-ForHire-clause-m
 returns-in-Zone-ForHire-clause-moves g c m stands =
     let list = c.args.found.now.items in
     let at : (c.args.self.now.operating ≡ ForHire) ⊎ (c.args.self.now.operating ≡ Hired) = search rules in
-    let moves = c.set_zone.ensures.moves (ticks_so_far m.trip) list m stands in
+    let moves = c.set_zone.ensures.moves c.args.seal.now (ticks_so_far m.trip) list m stands in
     acts_by_either (setting_of c.args.checked.now c.args.seal.now) (ticks_so_far m.trip) list list c.set_zone.new.self m c.args.key (keys.Zone c.in-Zone-ForHire.number) c.args.self.now.operating ForHire Hired
     c.in-Zone-ForHire.is-0 stands.operating at moves moves
 
@@ -34,5 +34,7 @@ returns-in-Extra-Hired-clause-moves g c =
     let list = c.args.found.now.items in
     let at : (c.args.self.now.operating ≡ Hired) ⊎ (c.args.self.now.operating ≡ Stopped) = search rules in
     on_ok_weaker c.add_supplement.result (λ goes m stands. acts_by_either (setting_of c.args.checked.now c.args.seal.now) (ticks_so_far m.trip) list list c.add_supplement.new.self m c.args.key
-    (keys.Extra c.in-Extra-Hired.number) c.args.self.now.operating Hired Stopped c.in-Extra-Hired.is-0 stands.operating at (goes (ticks_so_far m.trip) list m stands) (goes (ticks_so_far m.trip) list m stands))
+    (keys.Extra c.in-Extra-Hired.number) c.args.self.now.operating Hired Stopped c.in-Extra-Hired.is-0 stands.operating
+    at (goes c.args.seal.now (ticks_so_far m.trip) list m stands) (goes c.args.seal.now
+    (ticks_so_far m.trip) list m stands))
     c.add_supplement.ensures.moves

@@ -10,4 +10,5 @@ returns-in-Some-clause-moves c =
     let is : supplement_at (tree_of c.args.checked.now) c.args.number ≡ Some c.in-Some.supplement =
     sym (rw (c.as_slice.ensures, c.tariff.ensures.value) at c.supplement_at.ensures) ∙ c.in-Some.is
     in
-    on_ok_weaker c.add_up_to.result (λ moves ticks found m stands. rw is (moves (setting_of c.args.checked.now c.args.seal.now) ticks found m stands)) c.add_up_to.ensures.moves
+    on_ok_weaker c.add_up_to.result (λ moves seal ticks found m stands. rw is (moves
+    (setting_of c.args.checked.now seal) ticks found m stands)) c.add_up_to.ensures.moves
