@@ -8,7 +8,7 @@ use Rattle.outside.specs.declared.files.Files.{Ghosts as FileGhosts}
 use Rattle.outside.proofs.Laws.{keeps_none}
 use Rattle.commands.specs.declared.ending.Ended.{Ended}
 use Rattle.commands.specs.declared.ending.Ended.TheVariants as ends
-use Rattle.commands.specs.Call.{HasReadFault, LeavesUnread, MayTake}
+use Rattle.commands.specs.Call.{LeavesUnread, MayTake, StopsReading}
 use Rattle.commands.specs.Carried.{Carries, no_board, no_files}
 use Rattle.commands.specs.Course.{Command, Course, Answered, ReadFailed, NoMemory, BoardFailed}
 use Rattle.commands.specs.Ending.{Comes, ComesOn, ComesUnprinted, HasCauseOn, IsBrokenOff, IsDue, OnlyLooksAt}
@@ -43,7 +43,7 @@ module _ {E D L : Type 0} (F : FileGhosts E) (B : Ghosts D L) (c : Command) wher
   pub carries-looked : (files files' : E) (old new : D) (before now : ℕ) (ended : Ended) → c.opens → ((status : ℕ) → ¬ (c.writes status))
       → (c.known F.tells B.tells_image → ComesOn F B c files files' old new ended)
       → ((later : ℕ) → later ≤ now + 1 → c.steps F.tells B.tells_image (F.rest files) (F.rest files') (B.image old) before later)
-      → (ended ≡ ends.ReadFault → HasReadFault F c files files') → HasCauseOn B old new ended
+      → (ended ≡ ends.ReadFault → StopsReading F c files files') → HasCauseOn B old new ended
       → ((word : ℕ) → ¬ (c.reads word) → F.rest files' word ≡ F.rest files word)
       → (c.known F.tells B.tells_image → LeavesUnread c (F.rest files) (F.rest files') (B.image old))
       → (ended ≢ ends.ReadFault → ended ≢ ends.BoardFault → (word : ℕ) → F.faults files' word ≡ F.faults files word)
@@ -69,7 +69,7 @@ module _ {E D L : Type 0} (F : FileGhosts E) (B : Ghosts D L) (c : Command) wher
   pub carries-kept : (files files' : E) (old new : D) (before now : ℕ) (ended : Ended) → ¬ c.opens → ((status : ℕ) → ¬ (c.writes status))
       → (c.known F.tells B.tells_image → ComesOn F B c files files' old new ended)
       → ((later : ℕ) → later ≤ now + 1 → c.steps F.tells B.tells_image (F.rest files) (F.rest files') (B.image old) before later)
-      → (ended ≡ ends.ReadFault → HasReadFault F c files files') → HasCauseOn B old new ended
+      → (ended ≡ ends.ReadFault → StopsReading F c files files') → HasCauseOn B old new ended
       → ((word : ℕ) → ¬ (c.reads word) → F.rest files' word ≡ F.rest files word)
       → (c.known F.tells B.tells_image → LeavesUnread c (F.rest files) (F.rest files') (B.image old))
       → (ended ≢ ends.ReadFault → ended ≢ ends.BoardFault → (word : ℕ) → F.faults files' word ≡ F.faults files word)
@@ -126,7 +126,7 @@ module _ {E D L : Type 0} (F : FileGhosts E) (B : Ghosts D L) (c : Command) wher
         (λ text. Unit {0} → [] ≡ [] ++ text) (λ text. B.tells_text → B.printed board ≡ B.printed board ++ text) _ _
         (λ word rose. rose) (λ rose. absurd (no-rise rose)) (λ text is tells. cc (is tt, append-nil (B.printed board))) (λ text rose. absurd (no-rise rose)) ended (h.ends (known told));
     steps = steps h.steps;
-    read_fault = λ e. let fault = h.read_fault e in record { word = fault.word; reads = fault.reads; rose = fault.rose };
+    read_fault = λ e. let fault = h.read_fault e in record { word = fault.word; reads = fault.reads; rose = fault.rose; behind = fault.behind };
     board_fault = λ e. absurd (no-rise (h.board_fault e));
     others = h.others;
     unread = λ told. h.unread (known told);
@@ -148,7 +148,7 @@ shut-kept image = record { same = refl; flight = λ place flies. flies; later = 
 pub carries-said : {E : Type 0} (F : FileGhosts E) (image : List ℕ) (c : Command) (files files' : E) (ended : Ended) → ¬ c.opens → ((status : ℕ) → ¬ (c.writes status))
     → (c.known F.tells (Unit {0}) → ComesUnprinted c (F.rest files) (F.rest files') image (λ word. Rose (F.faults files word) (F.faults files' word)) ended)
     → ((later : ℕ) → later ≤ 1 → c.steps F.tells (Unit {0}) (F.rest files) (F.rest files') image 0 later)
-    → (ended ≡ ends.ReadFault → HasReadFault F c files files') → ended ≢ ends.BoardFault
+    → (ended ≡ ends.ReadFault → StopsReading F c files files') → ended ≢ ends.BoardFault
     → ((word : ℕ) → ¬ (c.reads word) → F.rest files' word ≡ F.rest files word)
     → (c.known F.tells (Unit {0}) → LeavesUnread c (F.rest files) (F.rest files') image)
     → (ended ≢ ends.ReadFault → ended ≢ ends.BoardFault → (word : ℕ) → F.faults files' word ≡ F.faults files word)

@@ -1,15 +1,24 @@
 -- What the counts of faults say of a command, from the calls that it made.
-use Rattle.std.proofs.Common.{◌≡◌, ◌≢◌, ◌⊎◌, ◌↔◌, inl, inr, ℕ, Bool, true, false, Option, Some, None, Result, Err, sym, ap, subst, ◌∙◌}
+use Rattle.std.proofs.Common.{◌≡◌, ◌≢◌, ◌⊎◌, ◌↔◌, inl, inr, ℕ, Bool, true, false, Option, Some, None, Result, Err, refl, sym, ap, subst, ◌∙◌, arith}
 use Rattle.outside.proofs.Laws.{rose_behind}
 use Rattle.outside.specs.Faults.{RisesOnlyIf, Rose}
 use Rattle.outside.specs.declared.board.Board.{Ghosts}
 use Rattle.outside.specs.declared.files.Files.{Ghosts as FileGhosts}
-use Rattle.commands.specs.Call.{IsEnd}
+use Rattle.commands.specs.Call.{IsEnd, StopsReading}
 use Rattle.commands.specs.Carried.{Carries}
 use Rattle.commands.specs.Course.{Command}
-use Rattle.commands.specs.Ending.{HasCauseOn}
+use Rattle.commands.specs.Ending.{HasCauseOn, ended_for, ended_for_report, ended_for_rules}
 use Rattle.commands.specs.LastLine.{line_of, status_of}
+use Rattle.commands.specs.Shifts.{ended_for_book}
 use Rattle.commands.specs.declared.ending.Ended.{Ended}
+use Rattle.commands.specs.declared.offsets.RulesFault.{RulesFault}
+use Rattle.commands.specs.declared.offsets.RulesFault.TheVariants as rules
+use Rattle.commands.specs.declared.shifts.ReportFault.{ReportFault}
+use Rattle.commands.specs.declared.shifts.ReportFault.TheVariants as reports
+use Rattle.commands.specs.declared.tariff.TextFault.{TextFault}
+use Rattle.commands.specs.declared.tariff.TextFault.TheVariants as texts
+use Rattle.shift_book.specs.declared.book.BookFault.{BookFault}
+use Rattle.shift_book.specs.declared.book.BookFault.TheVariants as books
 use Rattle.commands.specs.declared.ending.Ended.TheVariants.{BoardFault, ReadFault}
 use Rattle.commands.proofs.Openings.{same_fault}
 use Rattle.commands.proofs.Rests.{board_or_not}
@@ -38,6 +47,48 @@ unless_read r fault read end is ended_is end_is left not_read not_board =
 pub cause_carried : {E D L : Type 0} {F : FileGhosts E} {B : Ghosts D L} {c : Command} {files files' : E} {old new : D}
     {before now : ℕ} {ended : Ended} → Carries F B c files files' old new before now ended → HasCauseOn B old new ended
 cause_carried h = record { count = h.count; failed = h.board_fault }
+
+-- ---- where a call stopped reading
+
+pub read_fault-text : (fault : TextFault) → ended_for fault ≡ ReadFault → fault ≡ texts.ReadFault
+read_fault-text texts.ReadFault e = refl
+read_fault-text (texts.Refused why) e = absurd cc
+read_fault-text texts.NoMemory e = absurd cc
+
+pub read_fault-rules : (fault : RulesFault) → ended_for_rules fault ≡ ReadFault → fault ≡ rules.ReadFault
+read_fault-rules rules.ReadFault e = refl
+read_fault-rules (rules.Refused why) e = absurd cc
+
+not_read-book : (fault : BookFault) → ended_for_book fault ≡ ReadFault → ⊥
+not_read-book books.TooLong e = absurd cc
+not_read-book (books.BadLine line) e = absurd cc
+not_read-book books.NoMemory e = absurd cc
+
+pub read_fault-report : (fault : ReportFault) → ended_for_report fault ≡ ReadFault → fault ≡ reports.ReadFault
+read_fault-report reports.ReadFault e = refl
+read_fault-report (reports.Refused fault) e = absurd (not_read-book fault e)
+read_fault-report reports.NoMemory e = absurd cc
+
+-- a call stopped reading at a word where it read no other
+pub stops_at : {E : Type 0} {F : FileGhosts E} {c : Command} {files files' : E} (word : ℕ) → c.reads word
+    → Rose (F.faults files word) (F.faults files' word)
+    → ((other : ℕ) → other ≢ word → F.rest files' other ≡ F.rest files other) → StopsReading F c files files'
+stops_at word reads rose others = record {
+  word = word;
+  reads = reads;
+  rose = rose;
+  behind = λ other lt. others other (λ e. absurd (omega (arith, lt, e)));
+}
+
+-- and so by the fault of the one function that read it
+pub stops_by : {E T X : Type 0} {F : FileGhosts E} {c : Command} {files files' : E} {ended : Ended} (word : ℕ)
+    (r : Result T X) (fault read : X) (end : X → Ended) → r ≡ Err fault → ended ≡ end fault
+    → (end fault ≡ ReadFault → fault ≡ read) → c.reads word
+    → (r ≡ Err read → Rose (F.faults files word) (F.faults files' word))
+    → ((other : ℕ) → other ≢ word → F.rest files' other ≡ F.rest files other) → ended ≡ ReadFault
+    → StopsReading F c files files'
+stops_by word r fault read end is ended_is only reads rose others e =
+    stops_at word reads (rose (is ∙ ap Err (only (sym ended_is ∙ e)))) others
 
 -- ---- over the last line
 

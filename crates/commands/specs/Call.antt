@@ -1,5 +1,5 @@
 -- Rules: what holds of a call, by the contents of its files, the opening image, and which counts of faults rose.
-use Rattle.std.specs.Prelude.{◌≡◌, ◌⊎◌, ℕ, List, [], ◌++◌}
+use Rattle.std.specs.Prelude.{◌≡◌, ◌⊎◌, ℕ, ◌<◌, List, [], ◌++◌}
 use Rattle.outside.specs.Faults.{Rose}
 use Rattle.outside.specs.Printing.{Begins}
 use Rattle.outside.specs.declared.board.Board.{Ghosts}
@@ -84,6 +84,14 @@ module _ {E D L : Type 0} (F : FileGhosts E) (B : Ghosts D L) where
         (status_in c (F.rest files) (B.image board) course) (text_in c (F.rest files) (B.image board) course)
         ended (B.printed board) (B.printed board')
     pub unread : LeavesUnread c (F.rest files) (F.rest files') (B.image board)
+
+-- a call stopped reading at a word if it reads the word's file, the count of that file's faults rose, and the files of
+-- all words behind it are as they were
+pub record StopsReading {E : Type 0} (F : FileGhosts E) (c : Command) (files files' : E) : Type 0 where
+  pub word : ℕ
+  pub reads : c.reads word
+  pub rose : Rose (F.faults files word) (F.faults files' word)
+  pub behind : (other : ℕ) → word < other → F.rest files' other ≡ F.rest files other
 
 -- a read failed in a call where the count of faults of a file that the command reads has risen
 pub record HasReadFault {E : Type 0} (F : FileGhosts E) (c : Command) (files files' : E) : Type 0 where

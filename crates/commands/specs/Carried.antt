@@ -4,7 +4,7 @@ use Rattle.outside.specs.Faults.{Rose}
 use Rattle.outside.specs.Runs.{IsSettled, KeepsStore}
 use Rattle.outside.specs.declared.board.Board.{Ghosts}
 use Rattle.outside.specs.declared.files.Files.{Ghosts as FileGhosts}
-use Rattle.commands.specs.Call.{HasReadFault, LeavesUnread}
+use Rattle.commands.specs.Call.{LeavesUnread, StopsReading}
 use Rattle.commands.specs.Command.{command_of}
 use Rattle.commands.specs.Course.{Command, LooksOnly}
 use Rattle.commands.specs.Ending.{ComesOn, LooksAt}
@@ -28,7 +28,7 @@ module _ {E D L : Type 0} (F : FileGhosts E) (B : Ghosts D L) where
     pub ends : c.known F.tells B.tells_image → ComesOn F B c files files' old new ended
     pub steps : (later : ℕ) → later ≤ now + 1
         → c.steps F.tells B.tells_image (F.rest files) (F.rest files') (B.image old) before later
-    pub read_fault : ended ≡ ReadFault → HasReadFault F c files files'
+    pub read_fault : ended ≡ ReadFault → StopsReading F c files files'
     pub board_fault : ended ≡ BoardFault → Rose (B.faults old) (B.faults new)
     pub others : (word : ℕ) → ¬ c.reads word → F.rest files' word ≡ F.rest files word
     pub unread : c.known F.tells B.tells_image → LeavesUnread c (F.rest files) (F.rest files') (B.image old)

@@ -42,8 +42,9 @@ pub fn judge_drive<F: Files>(
     ensures refused { (why : Ended) → F.tells → result ≡ Err why → IsNotJudged (terms_in terms.now)
         (F.rest files.old 2) (F.rest files.new 2) (F.rest files.old 3)
         (Rose (F.faults files.old 2) (F.faults files.new 2)) (Rose (F.faults files.old 3) (F.faults files.new 3)) why }
-    ensures read_fault { result ≡ Err Ended.ReadFault
-        → Rose (F.faults files.old 2) (F.faults files.new 2) ⊎ Rose (F.faults files.old 3) (F.faults files.new 3) }
+    ensures read_fault { result ≡ Err Ended.ReadFault → (Rose (F.faults files.old 2) (F.faults files.new 2)
+        × ((other : ℕ) → other ≢ 2 → F.rest files.new other ≡ F.rest files.old other))
+        ⊎ Rose (F.faults files.old 3) (F.faults files.new 3) }
     ensures not_board { result ≢ Err Ended.BoardFault }
     ensures others { (other : ℕ) → other ≢ 2 → other ≢ 3 → F.rest files.new other ≡ F.rest files.old other }
     ensures unread { F.tells → (other : ℕ) → other ≢ 2 → ¬ ((other ≡ 3) × (drive_end (F.rest files.old 2) ≡ Whole))

@@ -132,7 +132,8 @@ fn read_seal<F: Files>(
     ensures refused { (ended : Ended) → F.tells → result ≡ Err ended
         → IsNoSeal number found (F.rest files.old 1) (F.rest files.old 2)
         (λ word. Rose (F.faults files.old word) (F.faults files.new word)) ended }
-    ensures read_fault { result ≡ Err Ended.ReadFault → Rose (F.faults files.old 1) (F.faults files.new 1)
+    ensures read_fault { result ≡ Err Ended.ReadFault → (Rose (F.faults files.old 1) (F.faults files.new 1)
+        × ((other : ℕ) → other ≢ 1 → F.rest files.new other ≡ F.rest files.old other))
         ⊎ Rose (F.faults files.old 2) (F.faults files.new 2) }
     ensures not_board { result ≢ Err Ended.BoardFault }
     ensures others { (other : ℕ) → other ≢ 1 → other ≢ 2 → F.rest files.new other ≡ F.rest files.old other }

@@ -4,7 +4,7 @@
 ghost use Rattle.std.specs.Prelude.{◌≡◌, ◌≢◌, ◌⊎◌, ℕ, None, Some, map, string_bytes};
 ghost use Rattle.outside.specs.Faults.{RisesOnlyIf, Rose};
 ghost use Rattle.outside.specs.Runs.{IsSettled, KeepsStore, LeavesOnly};
-ghost use Rattle.commands.specs.Call.{HasReadFault, IsCall, MayLack};
+ghost use Rattle.commands.specs.Call.{HasReadFault, IsCall, MayLack, StopsReading};
 ghost use Rattle.commands.specs.Carried.{CarriesRow};
 ghost use Rattle.commands.specs.Command.{OnlyLooks, called, command};
 ghost use Rattle.commands.specs.Opening.{opening_of};
@@ -146,8 +146,9 @@ pub fn taxi<F: Files, B: Board<L>, L: Ledger>(
         → F.rest files.new word ≡ F.rest files.old word }
 
     // Each of the faults of the outside has its cause, whatever is told: at 7 the count of a file that the command
-    // reads rose by one, and at 8 the board's. At each other status no count rose, and the board's didn't at 7.
-    ensures read_fault { result ≡ 7 → HasReadFault F.Files (called (map string_bytes words.now)) files.old files.new }
+    // reads rose by one, and no word behind it was read; at 8 the board's rose. At each other status no count rose, and
+    // the board's didn't at 7.
+    ensures read_fault { result ≡ 7 → StopsReading F.Files (called (map string_bytes words.now)) files.old files.new }
     ensures board_fault { RisesOnlyIf (result ≡ 8) (B.faults board.old) (B.faults board.new) }
     ensures unfailed { result ≢ 7 → result ≢ 8 → (word : ℕ) → F.faults files.new word ≡ F.faults files.old word }
 

@@ -1,4 +1,4 @@
-use Rattle.std.proofs.Common.{◌≢◌, ◌∙◌, [], ◌++◌, ℕ, List, Err, refl, sym, ap, subst, arith, inl, inr, ⊎_elim}
+use Rattle.std.proofs.Common.{◌≡◌, ◌≢◌, ◌∙◌, [], ◌++◌, ℕ, List, Err, refl, sym, ap, subst, arith, inl, inr, ⊎_elim}
 use Rattle.std.specs.Prelude.{is_err}
 use Rattle.outside.specs.Faults.{Rose}
 use Rattle.outside.specs.Printing.{Begins}
@@ -12,6 +12,7 @@ use Rattle.commands.proofs.Benching.{comes-begun, comes-judged, comes-no_terms, 
 use Rattle.commands.proofs.Benching.{not_fault-passing, steps-judged, unread-terms}
 use Rattle.commands.proofs.Judging.{not_judged-as, not_judged-over}
 use Rattle.commands.proofs.Looking.{looks-kept, looks-only}
+use Rattle.commands.proofs.Counting.{stops_at}
 use Rattle.commands.proofs.Openings.{no_fault, same_fault}
 use Rattle.commands.proofs.Unwritten.{bytes-kept, bytes-read, bytes-then}
 use Rattle.commands.proofs.bench.bench.Goals as goal
@@ -36,7 +37,7 @@ returns-in-Err g c =
     (Rose (g.B.Board.faults c.args.board.now) (g.B.Board.faults c.open_terms.new.board)) g.B.Board.tells_text (printed c.args.board.now) (printed c.open_terms.new.board)
     (record { bytes = sym (c.open_terms.ensures.others 2 two-one) }) c.open_terms.ensures.opens.reads.text c.in-Err.why (c.in-Err.ensures.refused tells told))
     (λ later le tells told. omega (arith, le, c.open_terms.ensures.steps))
-    (λ e. record { word = 1; reads = inl refl; rose = c.open_terms.ensures.read_fault (c.in-Err.is ∙ ap Err e) })
+    (λ e. stops_at 1 (inl refl) (c.open_terms.ensures.read_fault (c.in-Err.is ∙ ap Err e)) c.open_terms.ensures.others)
     (record {
       count = λ good. c.open_terms.ensures.opens.count
           (λ f. good (same_fault c.open_terms.result c.in-Err.why ended.BoardFault c.in-Err.is f));
@@ -94,15 +95,18 @@ returns-in-Err-judge_drive g c =
     let mid = c.open_terms.new.files in
     let new = c.judge_drive.new.files in
     ⊎_elim
-    (λ (rose : Rose (faults mid 2) (faults new 2)). record {
+    (λ (failed : Rose (faults mid 2) (faults new 2)
+    × ((other : ℕ) → other ≢ 2 → g.F.Files.rest new other ≡ g.F.Files.rest mid other)). record {
       word = 2;
       reads = inr (inl refl);
       rose = omega (
         arith,
-        rose,
+        failed.0,
         c.open_terms.ensures.counts (no_fault c.open_terms.result c.in-Ok.terms ended.ReadFault
             c.in-Ok.is) 2,
       );
+      behind = λ other lt. failed.1 other (λ is. absurd (omega (arith, lt, is)))
+          ∙ c.open_terms.ensures.others other (λ is. absurd (omega (arith, lt, is)));
     })
     (λ (rose : Rose (faults mid 3) (faults new 3)). record {
       word = 3;
@@ -113,6 +117,9 @@ returns-in-Err-judge_drive g c =
         c.open_terms.ensures.counts (no_fault c.open_terms.result c.in-Ok.terms ended.ReadFault
             c.in-Ok.is) 3,
       );
+      behind = λ other lt. c.judge_drive.ensures.others other (λ is. absurd (omega (arith, lt, is)))
+          (λ is. absurd (omega (arith, lt, is)))
+          ∙ c.open_terms.ensures.others other (λ is. absurd (omega (arith, lt, is)));
     })
     (c.judge_drive.ensures.read_fault (c.in-Err-judge_drive.is ∙ ap Err e)))
     (record {

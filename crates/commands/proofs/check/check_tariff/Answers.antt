@@ -1,6 +1,6 @@
 use Rattle.std.proofs.Common.{◌∙◌, [], Err, refl, ap, arith, rules}
 use Rattle.commands.proofs.Openings.{no_fault}
-use Rattle.commands.proofs.Counting.{unless_read}
+use Rattle.commands.proofs.Counting.{read_fault-text, stops_by, unless_read}
 use Rattle.commands.specs.Ending.{ended_for}
 use Rattle.commands.specs.declared.tariff.TextFault.TheVariants as texts
 use Rattle.commands.specs.Check.{check_command}
@@ -25,7 +25,10 @@ returns-in-Err g c = λ image.
     (comes-refused check_command (rest c.args.files.now) (rest c.read_tariff.new.files) image _ refl tt (λ e. absurd cc) c.in-Err.fault refl refl refl
     (λ e. c.read_tariff.ensures.read_fault (c.in-Err.is ∙ ap Err e))
     (λ why e. refused-check (tariff_in (rest c.args.files.now 1)) why (c.read_tariff.ensures.refused why tells (c.in-Err.is ∙ ap Err e)))))
-    (λ later le. omega (arith, le)) (search rules) (search rules) c.read_tariff.ensures.others
+    (λ later le. omega (arith, le))
+    (stops_by 1 c.read_tariff.result c.in-Err.fault texts.ReadFault ended_for c.in-Err.is c.refused_by.ensures
+    (read_fault-text c.in-Err.fault) refl c.read_tariff.ensures.read_fault c.read_tariff.ensures.others)
+    (search rules) c.read_tariff.ensures.others
     (λ tells word never. c.read_tariff.ensures.others word (never []))
     (unless_read c.read_tariff.result c.in-Err.fault texts.ReadFault ended_for c.in-Err.is c.refused_by.ensures
     refl c.read_tariff.ensures.counts)

@@ -5,7 +5,7 @@ use Rattle.drive_text.specs.Ending.{IsSplit}
 use Rattle.outside.proofs.Laws.{keeps_none}
 use Rattle.commands.specs.declared.tariff.TextFault.TheVariants as texts
 use Rattle.commands.specs.Ending.{ended_by, ended_for}
-use Rattle.commands.proofs.Counting.{unless_read}
+use Rattle.commands.proofs.Counting.{read_fault-text, stops_by, unless_read}
 use Rattle.commands.proofs.Openings.{no_fault}
 use Rattle.commands.specs.Fare.{fare_command, setting_of}
 use Rattle.commands.specs.Tariffs.{tariff_in}
@@ -48,7 +48,8 @@ returns-in-Err g c =
           (c.tables_of_word.ensures.others 2 (two-one 2 refl));
       bound = omega (arith, le);
     })
-    (search rules)
+    (stops_by 1 c.tables_of_word.result c.in-Err.fault texts.ReadFault ended_for c.in-Err.is c.refused_by.ensures
+    (read_fault-text c.in-Err.fault) (inl refl) c.tables_of_word.ensures.read_fault c.tables_of_word.ensures.others)
     (search rules)
     (λ word not. c.tables_of_word.ensures.others word (λ e. not (inl e)))
     (λ tells word never. c.tables_of_word.ensures.others word (λ e. never [] (inl (e, refl))))
@@ -101,6 +102,8 @@ returns g c =
         c.tables_of_word.ensures.counts
             (no_fault c.tables_of_word.result c.in-Ok.tables texts.ReadFault c.in-Ok.is) 2,
       );
+      behind = λ other lt. c.dry_run-ran.ensures.others other (λ e. absurd (omega (arith, lt, e)))
+          ∙ c.tables_of_word.ensures.others other (λ e. absurd (omega (arith, lt, e)));
     })
     (record {
       count = λ good. c.dry_run-ran.ensures.board_fault.kept (λ f. good (c.ended_of.ensures ∙ ap ended_by f));

@@ -7,7 +7,7 @@ use Rattle.commands.specs.Ending.{ended_for}
 use Rattle.commands.specs.Form.{form_command}
 use Rattle.commands.specs.FormSteps.{IsFormOf}
 use Rattle.commands.proofs.Carrying.{carries-kept}
-use Rattle.commands.proofs.Counting.{unless_read}
+use Rattle.commands.proofs.Counting.{read_fault-text, stops_by, unless_read}
 use Rattle.commands.proofs.Endings.{comes-unprinted}
 use Rattle.commands.proofs.Forms.{form_in_pieces, form_shown, refused-form}
 use Rattle.commands.proofs.Openings.{no_fault}
@@ -29,7 +29,10 @@ returns-in-Err g c =
     (comes-refused form_command (rest files) (rest files') (g.B.Board.image board) _ refl tt (λ e. absurd cc)
     c.in-Err.fault refl refl refl (λ e. c.form_of_word.ensures.read_fault (c.in-Err.is ∙ ap Err e))
     (λ why e. refused-form (rest files 1) why (c.form_of_word.ensures.refused why tells (c.in-Err.is ∙ ap Err e))))))
-    (λ later le tells. omega (arith, le)) (search rules) (search rules)
+    (λ later le tells. omega (arith, le))
+    (stops_by 1 c.form_of_word.result c.in-Err.fault texts.ReadFault ended_for c.in-Err.is c.refused_by.ensures
+    (read_fault-text c.in-Err.fault) refl c.form_of_word.ensures.read_fault c.form_of_word.ensures.others)
+    (search rules)
     c.form_of_word.ensures.others
     (λ tells word never. c.form_of_word.ensures.others word (never []))
     (unless_read c.form_of_word.result c.in-Err.fault texts.ReadFault ended_for c.in-Err.is c.refused_by.ensures

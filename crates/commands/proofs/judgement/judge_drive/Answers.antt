@@ -29,7 +29,11 @@ returns-in-Err-clause-refused g c = λ why tells e.
 
 pub returns-in-Err-clause-read_fault : goal.returns-in-Err-clause-read_fault
 returns-in-Err-clause-read_fault g c = λ e.
-    inl (c.read_drive.ensures.read_fault (c.in-Err.is ∙ ap Err (read_fault-drive c.in-Err.fault (sym c.refused_drive.ensures ∙ same_fault _ _ _ refl e))))
+    inl (
+      c.read_drive.ensures.read_fault (c.in-Err.is ∙ ap Err
+          (read_fault-drive c.in-Err.fault (sym c.refused_drive.ensures ∙ same_fault _ _ _ refl e))),
+      c.read_drive.ensures.others,
+    )
 
 pub returns-in-Err-clause-not_board : goal.returns-in-Err-clause-not_board
 returns-in-Err-clause-not_board g c = λ e. not_board-drive c.in-Err.fault (sym c.refused_drive.ensures ∙ same_fault _ _ _ refl e)

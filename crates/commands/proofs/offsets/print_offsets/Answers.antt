@@ -3,7 +3,7 @@ use Rattle.std.specs.Prelude.{is_err}
 use Rattle.outside.proofs.Laws.{keeps_none}
 use Rattle.offset_rules.specs.Pairs.{pairs_of}
 use Rattle.commands.proofs.Openings.{no_fault}
-use Rattle.commands.proofs.Counting.{unless_read}
+use Rattle.commands.proofs.Counting.{read_fault-rules, stops_by, unless_read}
 use Rattle.commands.specs.Ending.{ended_for_rules}
 use Rattle.commands.specs.declared.ending.Ended.TheVariants as ended
 use Rattle.commands.specs.declared.offsets.RulesFault.TheVariants as rules
@@ -21,7 +21,10 @@ returns-in-Err g c =
     (comes-refused c.args.years (rest c.args.files.now) (rest c.rules_of_word.new.files) (g.B.Board.image c.args.board.now) _ _ _ printed printed c.in-Err.fault refl
     (λ e. c.rules_of_word.ensures.read_fault (c.in-Err.is ∙ ap Err e))
     (λ why e. c.rules_of_word.ensures.refused why tells (c.in-Err.is ∙ ap Err e))))
-    (λ later le. omega (arith, le)) (search rules) (search rules) c.rules_of_word.ensures.others
+    (λ later le. omega (arith, le))
+    (stops_by 1 c.rules_of_word.result c.in-Err.fault rules.ReadFault ended_for_rules c.in-Err.is c.refused_rules.ensures
+    (read_fault-rules c.in-Err.fault) refl c.rules_of_word.ensures.read_fault c.rules_of_word.ensures.others)
+    (search rules) c.rules_of_word.ensures.others
     (λ tells word never. c.rules_of_word.ensures.others word (never []))
     (unless_read c.rules_of_word.result c.in-Err.fault rules.ReadFault ended_for_rules c.in-Err.is
     c.refused_rules.ensures refl c.rules_of_word.ensures.counts) (search (rules, keeps_none))

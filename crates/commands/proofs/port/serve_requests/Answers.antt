@@ -60,6 +60,7 @@ returns g c =
       word = 1;
       reads = refl;
       rose = c.serve-served.ensures.read_fault (read_fault-served c.serve-served.result (sym c.ended_of_serving.ensures ∙ e));
+      behind = λ other lt. c.serve-served.ensures.others other (λ is. absurd (omega (arith, lt, is)));
     })
     (record {
       count = λ good. c.serve-served.ensures.board_fault.kept

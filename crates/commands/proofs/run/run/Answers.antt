@@ -1,4 +1,4 @@
-use Rattle.std.proofs.Common.{◌≡◌, ◌≢◌, ◌∙◌, ℕ, List, [], Err, refl, sym, ap, subst, arith, inl, inr, rules, ⊎_elim}
+use Rattle.std.proofs.Common.{◌≡◌, ◌≢◌, ◌∙◌, ℕ, List, [], Err, refl, sym, ap, subst, arith, inl, inr, ⊎_elim}
 use Rattle.std.specs.Prelude.{IsErrOf}
 use Rattle.meter_run.specs.Runs.{EndsRun, OpensWith}
 use Rattle.meter_states.specs.Setting.{IsSettingOf}
@@ -11,6 +11,7 @@ use Rattle.commands.specs.LastLine.{status_of}
 use Rattle.commands.specs.Run.{run_command, setting_in, tables_in}
 use Rattle.commands.specs.RunSteps.{RunComes}
 use Rattle.commands.proofs.Faring.{begins_going, board_fault-ran, read_fault-ran}
+use Rattle.commands.proofs.Counting.{stops_at}
 use Rattle.commands.proofs.Openings.{no_fault, same_fault}
 use Rattle.commands.proofs.RunEnds.{ran-comes, ran-writes}
 use Rattle.commands.proofs.Running.{comes-not_begun}
@@ -44,7 +45,7 @@ returns-in-Err-clause-carries g c =
         split = λ tells. record { bytes = sym (before.others 2 (two-one 2 refl)) };
         bound = omega (arith, le, before.steps);
       };
-      read_fault = search rules;
+      read_fault = λ e. stops_at 1 (inl refl) (before.read_fault (c.in-Err.is ∙ ap Err e)) before.others;
       board_fault = λ e. before.opens.cause (c.in-Err.is ∙ ap Err e);
       others = λ word not. before.others word (λ e. not (inl e));
       unread = λ known word never. before.unread known.1 word (λ h. never [] (inl (h.0, (refl, h.1))));
@@ -120,6 +121,8 @@ returns-clause-carries g c =
               before.counts
                   (no_fault c.begin.result c.in-Ok.begun ended.ReadFault c.in-Ok.is) 2,
             );
+            behind = λ other lt. ran.others other (λ is. absurd (omega (arith, lt, is)))
+                ∙ before.others other (λ is. absurd (omega (arith, lt, is)));
           };
       board_fault = λ e. omega (
         arith,

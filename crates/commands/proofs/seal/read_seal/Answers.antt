@@ -1,8 +1,9 @@
-use Rattle.std.proofs.Common.{◌∙◌, ℕ, List, Err, refl, ap, subst}
+use Rattle.std.proofs.Common.{◌∙◌, ℕ, List, Err, inl, refl, sym, ap, subst}
 use Rattle.std.proofs.lemmas.Result.{err_from_is_err_and}
 use Rattle.outside.specs.Faults.{Rose}
 use Rattle.commands.specs.Seal.{HasDecimals}
 use Rattle.commands.specs.SealSteps.{IsNoSeal}
+use Rattle.commands.proofs.Counting.{read_fault-text}
 use Rattle.commands.proofs.Openings.{same_fault}
 use Rattle.commands.proofs.Sealings.{no_seal-tariff, no_tariff-fault}
 use Rattle.commands.proofs.seal.read_seal.Goals as goal
@@ -33,6 +34,14 @@ returns-in_err-decimals-clause-not_board g c =
     rw (p.1, p.2) (λ e.
     let end = c.in_err-decimals.field-0.0 in
     (no_tariff-fault c.args.found c.as_slice.result.now end (c.decimals_of.ensures.refused end c.in_err-decimals.was)).1 (same_fault _ _ _ refl e))
+
+pub returns-in-Err-clause-read_fault : goal.returns-in-Err-clause-read_fault
+returns-in-Err-clause-read_fault g c = λ e.
+    inl (
+      c.text_of_word.ensures.read_fault (c.in-Err.is ∙ ap Err
+          (read_fault-text c.in-Err.fault (sym c.refused_by.ensures ∙ same_fault _ _ _ refl e))),
+      c.text_of_word.ensures.others,
+    )
 
 -- ---- what is left unread
 

@@ -16,6 +16,7 @@ use Rattle.commands.proofs.Amid.{found-as, is_sealed, rests-no_seal, rests-place
 use Rattle.commands.proofs.Amid.{seals-read, settled-sealed}
 use Rattle.commands.proofs.Answering.{comes-barred as comes-barred_by_store, comes-board}
 use Rattle.commands.proofs.Barring.{board_fault-store, not_read-store}
+use Rattle.commands.proofs.Counting.{stops_at}
 use Rattle.commands.proofs.Openings.{as_found, as_refused, no_fault, same_fault}
 use Rattle.commands.proofs.Sealings.{barred-fault, comes-barred, comes-no_seal, comes-sealed, not_0-barred}
 use Rattle.commands.proofs.Sealings.{not_0-no_seal, not_0-store, sealing-barred, sealing-made, unread-sealing}
@@ -138,7 +139,14 @@ returns-in-Err-read_seal-clause-carries g c = record {
       c.number_after-number.ensures.value (c.read_seal.ensures.refused end read c.in-Err-read_seal.is));
   steps = λ later le. search (rules, le);
   read_fault = λ e.
-      ⊎_elim (λ one. record { word = 1; reads = inl refl; rose = one }) (λ two. record { word = 2; reads = inr refl; rose = two })
+      ⊎_elim (λ one. stops_at 1 (inl refl) one.0 one.1)
+      (λ two. record {
+        word = 2;
+        reads = inr refl;
+        rose = two;
+        behind = λ other lt. c.read_seal.ensures.others other (λ is. absurd (omega (arith, lt, is)))
+            (λ is. absurd (omega (arith, lt, is)));
+      })
       (c.read_seal.ensures.read_fault (c.in-Err-read_seal.is ∙ ap Err e));
   board_fault = λ e. absurd (c.read_seal.ensures.not_board (c.in-Err-read_seal.is ∙ ap Err e));
   others = λ word not. c.read_seal.ensures.others word (λ e. not (inl e)) (λ e. not (inr e));

@@ -2,7 +2,7 @@ use Rattle.std.proofs.Common.{◌∙◌, [], Result, Err, refl, sym, ap, arith, 
 use Rattle.std.specs.Prelude.{is_err}
 use Rattle.totaliser_store.specs.declared.durable.Durable.{Durable}
 use Rattle.seal_store.specs.declared.seal.Seal.{Seal}
-use Rattle.commands.proofs.Counting.{unless_read}
+use Rattle.commands.proofs.Counting.{read_fault-report, stops_by, unless_read}
 use Rattle.commands.specs.Ending.{ended_for_report}
 use Rattle.commands.specs.declared.ending.Ended.{Ended}
 use Rattle.commands.specs.declared.ending.Ended.TheVariants as ended
@@ -41,7 +41,9 @@ returns-in-Err-report_of_word g c =
     (λ e. c.report_of_word.ensures.read_fault (c.in-Err-report_of_word.is ∙ ap Err e))
     (λ why e. c.report_of_word.ensures.refused why known.0 (c.in-Err-report_of_word.is ∙ ap Err e))))
     (λ later le. record { by_report = λ tells told. omega (arith, le, c.open_sealed.ensures.steps); by_book = λ tells. omega (arith, le, c.open_sealed.ensures.steps) })
-    (search rules) (record {
+    (stops_by 1 c.report_of_word.result c.in-Err-report_of_word.fault reports.ReadFault ended_for_report c.in-Err-report_of_word.is c.refused_report.ensures
+    (read_fault-report c.in-Err-report_of_word.fault) refl c.report_of_word.ensures.read_fault c.report_of_word.ensures.others)
+    (record {
       count = λ good. c.open_sealed.ensures.opens.count (no_fault c.open_sealed.result c.in-Ok.store ended.BoardFault
           c.in-Ok.is);
       failed = λ e. absurd (not_board-report c.in-Err-report_of_word.fault (sym c.refused_report.ensures ∙ e));

@@ -2,7 +2,7 @@ use Rattle.std.proofs.Common.{◌∙◌, [], Err, refl, ap, arith, rules}
 use Rattle.std.specs.Prelude.{is_err}
 use Rattle.outside.proofs.Laws.{keeps_none}
 use Rattle.commands.proofs.Openings.{no_fault}
-use Rattle.commands.proofs.Counting.{unless_read}
+use Rattle.commands.proofs.Counting.{read_fault-text, stops_by, unless_read}
 use Rattle.commands.specs.Ending.{ended_for}
 use Rattle.commands.specs.declared.ending.Ended.TheVariants as ended
 use Rattle.commands.specs.declared.tariff.TextFault.TheVariants as texts
@@ -27,7 +27,8 @@ returns-in-Err g c =
     (λ e. c.tables_of_word.ensures.read_fault (c.in-Err.is ∙ ap Err e))
     (λ why e. refused-tables k (tariff_in (rest c.args.files.now 1)) why (c.tables_of_word.ensures.refused why tells (c.in-Err.is ∙ ap Err e))))))
     (λ later le tells. omega (arith, le))
-    (search rules)
+    (stops_by 1 c.tables_of_word.result c.in-Err.fault texts.ReadFault ended_for c.in-Err.is c.refused_by.ensures
+    (read_fault-text c.in-Err.fault) refl c.tables_of_word.ensures.read_fault c.tables_of_word.ensures.others)
     (search rules)
     c.tables_of_word.ensures.others
     (λ tells word never. c.tables_of_word.ensures.others word (never []))
