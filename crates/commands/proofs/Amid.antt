@@ -23,6 +23,7 @@ use Rattle.totaliser_store.specs.Reading as totals
 use Rattle.totaliser_store.specs.Stored as states
 use Rattle.seal_store.specs.declared.seal.Seal.{Seal}
 use Rattle.seal_store.specs.Decoding as seals
+use Rattle.seal_store.specs.Limits.{last_seal_number}
 use Rattle.seal_store.specs.Sealing.{FoundSeal, IsAmid, IsSealed, KeepsSealed, KeepsTotals, LeavesSealing, ScannedSeal, Sealing, ShowsSeal, first_written, found_number, next_number, old_seal, places_written, seal_found, totals_after, totals_found}
 use Rattle.seal_store.proofs.Laws.{seal_is_found}
 use Rattle.commands.specs.declared.ending.Ended.{Ended}
@@ -51,7 +52,7 @@ with_found old base (Ok seal) s e = let same : sealing_with old base (Ok seal) �
 
 base_seal : (t : Option Durable) (seal : Found Seal) (base : Base) → over_seal t seal ≡ Ok base → t ≡ base.totals
 base_seal t Blank base e = cc
-base_seal t (Latest place seal) base e = by (seal.seal_number == 1000000000000000) e
+base_seal t (Latest place seal) base e = by (seal.seal_number == last_seal_number) e
   where
     by : (last : Bool) → (if last then Err ended.SealEnded else Ok (record { totals = t; found = Some (place, seal.seal_number); decimals = Some seal.decimals })) ≡ Ok base → t ≡ base.totals
     by true f = absurd cc

@@ -10,6 +10,7 @@ use Rattle.totaliser_store.specs.declared.trip.Trip.{Trip}
 use Rattle.meter_states.specs.Fits.{Fits}
 use Rattle.meter_states.specs.Supplements.{AreAllowed, amounts_from, most_in, supplement_in}
 use Rattle.commands.specs.Run.{are_allowed, does_fit, does_hold_fit}
+use Rattle.taxi_units.specs.Money.{largest_amount}
 
 Decides-are_allowed : (supplement : ℕ → Option Supplement) (first : ℕ) (counts : List ℕ) → Decides (are_allowed supplement first counts) (AreAllowed supplement first counts)
 Decides-are_allowed supplement first [] = (λ e. tt, λ is. refl)
@@ -33,7 +34,7 @@ Decides-does_fit tables trip =
     (Decides-and _ _ (Decides-leb 1 trip.zone)
     (Decides-and _ _ (Decides-leb trip.zone tables.zones)
     (Decides-and _ _ (Decides-ltb trip.meterage.rest (tables.step * tables.measure))
-    (Decides-and _ _ (Decides-leb trip.meterage.cover_left (99999999 * tables.measure))
+    (Decides-and _ _ (Decides-leb trip.meterage.cover_left (largest_amount * tables.measure))
     (Decides-and _ _ (Decides-are_allowed (supplement_in tables) 1 trip.extras)
     (Decides-eqb trip.extras_sum (amounts_from (supplement_in tables) 1 trip.extras)))))))))
 

@@ -9,6 +9,7 @@ use Rattle.totaliser_store.specs.declared.durable.Durable.{Durable}
 use Rattle.seal_store.specs.declared.params.Params.{Params}
 use Rattle.seal_store.specs.declared.params.ParamFault.{ParamFault}
 use Rattle.seal_store.specs.declared.seal.Seal.{Seal}
+use Rattle.seal_store.specs.Limits.{last_seal_number}
 use Rattle.seal_store.specs.Reading.{params_read}
 use Rattle.seal_store.specs.Sealing.{IsAmid, IsSealed, Sealing, found_number, next_number, old_seal}
 use Rattle.outside.specs.declared.board.Board.{Ghosts}
@@ -33,7 +34,7 @@ use Rattle.commands.specs.declared.tariff.Refusal.{Refusal}
 abbrev pub over_seal : Option Durable → Found Seal → Result Base Ended
 over_seal totals Blank = Ok (record { totals = totals; found = None; decimals = None })
 over_seal totals (Latest place seal) =
-    if seal.seal_number == 1000000000000000 then Err SealEnded
+    if seal.seal_number == last_seal_number then Err SealEnded
     else Ok (record { totals = totals; found = Some (place, seal.seal_number); decimals = Some seal.decimals })
 
 -- the base of a sealing has the found totals, where they hold no trip; a held trip is the end `TripHeld`

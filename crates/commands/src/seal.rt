@@ -1,8 +1,9 @@
 //! The command `seal`.
-ghost use Rattle.std.specs.Prelude.{◌≡◌, ◌≢◌, ◌⊎◌, ◌+◌, ◌<◌, ◌≤◌, ◌^◌, ℕ, [], IfOk, OnOk, Ok, Err};
+ghost use Rattle.std.specs.Prelude.{◌≡◌, ◌≢◌, ◌⊎◌, ◌+◌, ◌<◌, ◌≤◌, ℕ, [], IfOk, OnOk, Ok, Err};
 ghost use Rattle.std.specs.Option.{ForSome};
 ghost use Rattle.outside.specs.Faults.{Rose};
 ghost use Rattle.slot_store.specs.Scan.{IsSound};
+ghost use Rattle.seal_store.specs.Limits.{last_seal_number};
 ghost use Rattle.seal_store.specs.Ranges.{IsSeal};
 ghost use Rattle.seal_store.specs.Sealing.{found_number, next_number, seal_found, totals_found};
 ghost use Rattle.commands.specs.Carried.{Carries, SealComes};
@@ -16,16 +17,13 @@ use crate::opening::{Opening, open_store};
 use crate::params::read_parameters;
 use crate::tariff::{tariff_of_text, text_of_word};
 use outside::{Board, Files};
-use seal_store::{Seal, place_seal};
+use seal_store::{LAST_SEAL_NUMBER, Seal, place_seal};
 use sha2::{Digest, Sha256};
 use slot_store::{Found, Place};
 use std::alloc::Global;
 use std::sync::ledger::Ledger;
 use taxi_units::Steps;
 use totaliser_store::Durable;
-
-/// The number of the last seal.
-const LAST: u64 = 1_000_000_000_000_000;
 
 /// What a sealing goes over: the totals and the seal that were found, and the decimals of that seal.
 #[derive(Drop)]
@@ -42,7 +40,7 @@ fn base_of(opening: Opening) -> Result<Base, Ended>
     ensures totals { IfOk result (λ base. base.totals ≡ totals_found opening.totals) }
     ensures found { IfOk result (λ base. base.found ≡ seal_found opening.seal) }
     ensures slot { IfOk result (λ base. ForSome base.found (λ latest. latest.0.slot ≤ 1)) }
-    ensures number { IfOk result (λ base. ForSome base.found (λ latest. latest.1 < 10 ^ 15)) }
+    ensures number { IfOk result (λ base. ForSome base.found (λ latest. latest.1 < last_seal_number)) }
     ensures refused { (ended : Ended) → result ≡ Err ended → (ended ≡ Ended.TripHeld) ⊎ (ended ≡ Ended.SealEnded) }
 {
     match opening.totals {
@@ -63,7 +61,7 @@ fn over_seal(totals: Option<Durable>, seal: Found<Seal>) -> Result<Base, Ended>
     ensures totals { IfOk result (λ base. base.totals ≡ totals) }
     ensures found { IfOk result (λ base. base.found ≡ seal_found seal) }
     ensures slot { IfOk result (λ base. ForSome base.found (λ latest. latest.0.slot ≤ 1)) }
-    ensures number { IfOk result (λ base. ForSome base.found (λ latest. latest.1 < 10 ^ 15)) }
+    ensures number { IfOk result (λ base. ForSome base.found (λ latest. latest.1 < last_seal_number)) }
     ensures refused { (ended : Ended) → result ≡ Err ended → ended ≡ Ended.SealEnded }
 {
     match seal {
@@ -73,7 +71,7 @@ fn over_seal(totals: Option<Durable>, seal: Found<Seal>) -> Result<Base, Ended>
             decimals: None,
         }),
         Found::Latest { place, body: seal } => {
-            if seal.seal_number == LAST {
+            if seal.seal_number == LAST_SEAL_NUMBER {
                 return Err(Ended::SealEnded);
             }
             Ok(Base {
@@ -122,7 +120,7 @@ fn read_seal<F: Files>(
     number: u64,
     found: Option<u8>,
 ) -> Result<Seal, Ended>
-    requires { 1 ≤ number × number ≤ 10 ^ 15 }
+    requires { 1 ≤ number × number ≤ last_seal_number }
     ensures valid { IfOk result IsSeal }
     ensures number { IfOk result (λ seal. seal.seal_number ≡ number) }
     ensures read { F.tells
@@ -160,9 +158,9 @@ fn read_seal<F: Files>(
 
 /// The number of the seal that is put in.
 fn number_after(found: Option<(Place, u64)>) -> u64
-    requires { ForSome found (λ latest. latest.1 < 10 ^ 15) }
+    requires { ForSome found (λ latest. latest.1 < last_seal_number) }
     ensures value { result ≡ next_number (found_number found) }
-    ensures range { 1 ≤ result × result ≤ 10 ^ 15 }
+    ensures range { 1 ≤ result × result ≤ last_seal_number }
 {
     match found {
         None => 1,

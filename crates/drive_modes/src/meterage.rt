@@ -2,8 +2,11 @@
 //! and rounded is this project's own rule.
 ghost use Rattle.std.specs.Prelude.{◌≡◌, ℕ, ◌+◌, ◌-◌, ◌*◌, ◌/◌, ◌^◌, ◌<◌, ◌≤◌, ◌↔◌, List, sum};
 ghost use Rattle.std.specs.List.{fold};
-ghost use Rattle.drive_modes.specs.Fare.{Opening, added, largest_fare, opening_of, quotient, saved, shown_fare};
+ghost use Rattle.drive_modes.specs.Fare.{Opening, added, opening_of, quotient, saved, shown_fare};
 ghost use Rattle.drive_modes.specs.Fare.{steps_above, steps_of};
+ghost use Rattle.taxi_units.specs.Money.{largest_amount};
+
+use taxi_units::LARGEST_AMOUNT;
 
 /// Whether the fare is shown behind what was driven or ahead of it.
 #[derive(Clone, Copy, Debug, PartialEq, Eq)]
@@ -34,14 +37,11 @@ pub struct Meterage {
     pub rest: u128,
 }
 
-/// The largest fare that is shown, in the smallest units of money.
-const LARGEST_FARE: u128 = 99_999_999;
-
 impl Meterage {
     /// The start of a trip whose initial hire fee covers `covers` of the smallest units of money, at most
     /// 99,999,999, where `measure` units of charge, at most 2 * 10^23, make one of them.
     pub fn start(covers: u64, measure: u128) -> Meterage
-        requires covers { covers ≤ largest_fare }
+        requires covers { covers ≤ largest_amount }
         requires measure { measure ≤ 2 * 10 ^ 23 }
         ensures exact { result ≡ record { cover_left = covers * measure; steps_full = 0; rest = 0 } }
         ensures sum { (modulus : ℕ) → 0 < modulus
@@ -105,8 +105,8 @@ impl Meterage {
     /// most 99,999,999, where that is more. A greater fare than 99,999,999 is shown as that.
     pub fn shown(&self, initial: u64, minimum: u64, step: u64, rounding: Rounding) -> u64
         requires steps { self.now.steps_full ≤ 4 * 10 ^ 17 }
-        requires initial { initial ≤ largest_fare }
-        requires minimum { minimum ≤ largest_fare }
+        requires initial { initial ≤ largest_amount }
+        requires minimum { minimum ≤ largest_amount }
         requires step { step ≤ 1000000 }
         ensures exact { result ≡ shown_fare initial minimum step (steps_of rounding self.now) }
         ensures sum { (cover above modulus charged : ℕ)
@@ -114,10 +114,10 @@ impl Meterage {
             0 < modulus → self.now ≡ saved opening charged
             → result ≡ shown_fare initial minimum step (steps_above rounding opening charged) }
         ensures least { minimum ≤ result }
-        ensures most { result ≤ largest_fare }
+        ensures most { result ≤ largest_amount }
     {
         let fare = initial as u128 + step as u128 * self.steps(rounding) as u128;
-        fare.max(minimum as u128).min(LARGEST_FARE) as u64
+        fare.max(minimum as u128).min(LARGEST_AMOUNT as u128) as u64
     }
 }
 

@@ -10,7 +10,7 @@ use Rattle.taxi_units.specs.declared.receipt.Kind.{Kind}
 use Rattle.totaliser_store.specs.Entries.{is_of_hiring}
 use Rattle.totaliser_store.specs.declared.durable.Durable.{Durable}
 use Rattle.totaliser_store.specs.declared.trip.Trip as store
-use Rattle.meter_states.specs.Closing.{closed, trip_closed, roaming_checked, roaming_checked_in, roaming_entered, roaming_most}
+use Rattle.meter_states.specs.Closing.{closed, trip_closed, roaming_checked, roaming_checked_in, roaming_entered}
 use Rattle.meter_states.specs.Display.{display_of, is_shown, shown}
 use Rattle.meter_states.specs.Interval.{interval_begun, pulses_taken, room_of}
 use Rattle.meter_states.specs.Keys.{latched}
@@ -23,6 +23,7 @@ use Rattle.meter_states.specs.declared.act.Act.TheVariants.{Show, Refuse}
 use Rattle.meter_run.specs.Commits.{after_acts, commits_in}
 use Rattle.meter_run.specs.Kept.{IsKept, IsKeptIn}
 use Rattle.meter_run.proofs.Committing.{after_append, commits_append}
+use Rattle.taxi_units.specs.Limits.{roaming_most}
 
 -- what an outcome leaves is kept, it commits at most that number of times, and its durable state is that after its acts
 pub record Leaves (s : Setting) (d : Durable) (most : ℕ) (o : Outcome) : Type 0 where

@@ -15,7 +15,7 @@ use Rattle.tariff_compile.specs.Tables.{supplement_at}
 use Rattle.tariff_compile.specs.declared.parts.Supplement.{Supplement}
 use Rattle.totaliser_store.specs.declared.durable.Durable.{Durable}
 use Rattle.totaliser_store.specs.declared.trip.Trip as store
-use Rattle.meter_states.specs.Closing.{closed, holds_end, hirings_end, roaming_entered}
+use Rattle.meter_states.specs.Closing.{closed, roaming_entered}
 use Rattle.meter_states.specs.Core.{forgotten}
 use Rattle.meter_states.specs.Display.{shown}
 use Rattle.meter_states.specs.Interval.{context_of, roaming_with}
@@ -28,6 +28,7 @@ use Rattle.meter_states.specs.Supplements.{times}
 use Rattle.meter_states.specs.Trip.{Trip, saved_of, held_trip, with_extra, with_part, Rest, InHired, InStopped, ticks_of}
 use Rattle.meter_run.specs.Kept.{IsKept, IsKeptIn}
 use Rattle.meter_run.proofs.Sound.{Leaves, after_key, closing, either, latch_refusing, latching, more, reading, refusing, rest_of, rest_quiet, showing, still, taking, followed}
+use Rattle.taxi_units.specs.Limits.{hirings_end, last_number}
 
 -- ---- meters in each operating position, as they are kept
 
@@ -181,7 +182,7 @@ hire_drop s m =
 trip_drop : (s : Setting) (operating : Operating) (t : Trip) (m : Meter) → Leaves s m.durable 1 (kept s (Some t) (in_trip operating t m) >>= (λ m. turned_off m))
 trip_drop s operating t m =
     let n = in_trip operating t m in
-    either (λ o. Leaves s m.durable 1 (o >>= (λ m. turned_off m))) (nat_lt m.durable.number holds_end)
+    either (λ o. Leaves s m.durable 1 (o >>= (λ m. turned_off m))) (nat_lt m.durable.number last_number)
     (held (held_trip s m.clock (is_stopped operating) m.position m.zone t) n) (closed s kinds.Aborted m.clock n)
     (record { kept = refl; few = omega arith; durable = refl }) (record { kept = refl; few = omega arith; durable = refl })
 

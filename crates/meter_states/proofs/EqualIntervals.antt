@@ -35,6 +35,7 @@ use Rattle.meter_states.proofs.Charges.{charge-at}
 use Rattle.meter_states.proofs.Meterages.{added-less, sum-added}
 use Rattle.meter_states.proofs.Quiet.{interval-follows, intervals-follow, ticks_by}
 use Rattle.meter_states.proofs.Trips.{hired-saved}
+use Rattle.taxi_units.specs.Limits.{roaming_between}
 
 on_in : (operating other : Operating) → operating ≡ other → other ≢ Off → operating ≢ Off
 on_in operating other is on off = on (sym is ∙ off)
@@ -63,13 +64,13 @@ times-fewer i k q most below few =
     let less : suc i * q ≤ k * q = mul-le-mul_right q below in
     omega (arith, less, few)
 
-below-roam : (roam q i k : ℕ) → i < k → roam + k * q ≤ 999999 → roam + suc i * q ≤ 999999
+below-roam : (roam q i k : ℕ) → i < k → roam + k * q ≤ roaming_between → roam + suc i * q ≤ roaming_between
 below-roam roam q i k below few =
     let less : suc i * q ≤ k * q = mul-le-mul_right q below in
     omega (arith, less, few)
 
 pub hire-equal : (s : Setting) (tables : TableParts) (p k : ℕ) (m : Meter) (c : Plain) → IsTariffOf s tables → 0 < modulus_of s → p ≤ 2000 → c ≡ plain_of s m → c.operating ≡ ForHire → c.trip ≡ None → IsStill tables c
-    → c.roam + k * roams c.number p ≤ 999999 → Follows s (record c { roam = c.roam + k * roams c.number p }) [] [] (run s (intervals_of p k) m)
+    → c.roam + k * roams c.number p ≤ roaming_between → Follows s (record c { roam = c.roam + k * roams c.number p }) [] [] (run s (intervals_of p k) m)
 hire-equal s tables p k m c is some most e hire none still few =
     let q = roams c.number p in
     let start : record c { roam = c.roam + 0 * q } ≡ c = ap (λ (x : ℕ). record c { roam = x }) (omega arith) in
@@ -117,7 +118,7 @@ stopped-counted s p i n c t stopped gate began e =
     ∙ ap (λ (o : Operating). plain_of s (record (counted_in s o p n) { began = (counted_in s o p n).clock })) (sym stopped)
 
 pub stopped-equal : (s : Setting) (tables : TableParts) (p k : ℕ) (m : Meter) (c : Plain) (t : store.Trip) → IsTariffOf s tables → 0 < modulus_of s → p ≤ 2000 → c ≡ plain_of s m → c.operating ≡ Stopped → c.trip ≡ Some t → IsStill tables c
-    → c.roam ≤ 999999 → t.ticks + k ≤ 8639999 → Follows s (record c { trip = Some (passed p k t) }) [] [] (run s (intervals_of p k) m)
+    → c.roam ≤ roaming_between → t.ticks + k ≤ 8639999 → Follows s (record c { trip = Some (passed p k t) }) [] [] (run s (intervals_of p k) m)
 stopped-equal s tables p k m c t is some most e stopped has still roam short =
     let start : record c { trip = Some (passed p 0 t) } ≡ c = ap (λ (x : store.Trip). record c { trip = Some x }) (none-passed p t) ∙ ap (λ (x : Option store.Trip). record c { trip = x }) (sym has) in
     let shown : c.shown ≡ Some (display_by tables (record c { trip = Some t })) = still.shown ∙ ap (λ (x : Option store.Trip). Some (display_by tables (record c { trip = x }))) has in
@@ -220,7 +221,7 @@ abbrev display_at : TableParts → Plain → store.Trip → (steps : ℕ) → Di
 display_at tables c t n = record { operating = c.operating; position = c.position; zone = c.zone; fare = shown_fare t.initial t.minimum tables.step n; supplements = t.extras_sum; decimals = tables.decimals }
 
 pub hired-equal : (s : Setting) (tables : TableParts) (p q k : ℕ) (m : Meter) (c : Plain) (t : store.Trip) → IsTariffOf s tables → 0 < modulus_of s → p ≤ 2000 → c ≡ plain_of s m → c.operating ≡ Hired → c.trip ≡ Some t → IsStill tables c
-    → c.roam ≤ 999999 → t.ticks + k ≤ 8639999 → t.meterage.rest < modulus_of s → k * q ≤ spare_of tables.rounding (modulus_of s) t.meterage
+    → c.roam ≤ roaming_between → t.ticks + k ≤ 8639999 → t.meterage.rest < modulus_of s → k * q ≤ spare_of tables.rounding (modulus_of s) t.meterage
     → ((i : ℕ) (n : Meter) → i < k → record c { trip = Some (charged p q i t) } ≡ plain_of s n → charge_at s (context_of s n) p ≡ q)
     → Follows s (record c { trip = Some (charged p q k t) }) [] [] (run s (intervals_of p k) m)
 hired-equal s tables p q k m c t is some most e hired has still roam short rest spare charge =

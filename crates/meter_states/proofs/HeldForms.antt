@@ -9,13 +9,14 @@ use Rattle.meter_states.specs.Core.{Plain}
 use Rattle.meter_states.specs.Fits.{Fits}
 use Rattle.meter_states.specs.Lawful.{HasBegunBy, IsPowered, IsTripInRange}
 use Rattle.meter_states.proofs.TableSupplements.{counts-few, extras-few}
+use Rattle.taxi_units.specs.Limits.{roaming_amid}
 
 -- a trip as a core holds it
 abbrev pub held_by : Plain → (stopped : Bool) → Trip → Trip
 held_by core stopped trip = record trip
     { saved = core.clock; stopped = stopped; position = core.position; zone = core.zone }
 
-pub held-range : (p : TableParts) (core : Plain) (stopped : Bool) (trip : Trip) → IsPowered p 8639999 1001999 1 core
+pub held-range : (p : TableParts) (core : Plain) (stopped : Bool) (trip : Trip) → IsPowered p 8639999 roaming_amid 1 core
     → core.trip ≡ Some trip
     → store.IsTrip (core.number + 1) (held_by core stopped trip)
 held-range p core stopped trip on has =
@@ -40,7 +41,7 @@ held-range p core stopped trip on has =
       minimum = range.minimum;
     }
 
-pub held-fits : (p : TableParts) (core : Plain) (stopped : Bool) (trip : Trip) → IsPowered p 8639999 1001999 1 core
+pub held-fits : (p : TableParts) (core : Plain) (stopped : Bool) (trip : Trip) → IsPowered p 8639999 roaming_amid 1 core
     → core.trip ≡ Some trip
     → Fits p (held_by core stopped trip)
 held-fits p core stopped trip on has =

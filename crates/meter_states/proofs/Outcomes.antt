@@ -17,6 +17,7 @@ use Rattle.meter_states.specs.Supply.{supply_dropped}
 use Rattle.meter_states.specs.Trip as model
 use Rattle.meter_states.specs.Trip.{saved_of}
 use Rattle.meter_states.specs.declared.act.Act.{Act}
+use Rattle.taxi_units.specs.Limits.{roaming_between}
 
 pub not_off : (operating : Operating) (trip : Option Trip) → HasTrip operating trip → operating ≢ Off
 not_off operating trip has = λ is. subst (λ (o : Operating). HasTrip o trip) is has
@@ -32,7 +33,7 @@ pub follows-event : (s : Setting) (p : TableParts) (core : Plain) (before acts :
     → Meets s core acts (powered_step s event m)
 follows-event s p core before acts event e m is none on f =
     let first = subst (λ (l : List Act). Follows s core l acts (powered_step s e m)) none f in
-    subst (λ (x : Event). Meets s core acts (powered_step s x m)) (sym is) (follows-meets s p 8639999 999999 0 core acts (powered_step s e m) on first)
+    subst (λ (x : Event). Meets s core acts (powered_step s x m)) (sym is) (follows-meets s p 8639999 roaming_between 0 core acts (powered_step s e m) on first)
 
 -- a drop of the supply turns the meter off
 pub dropped-meets : (s : Setting) (core : Plain) (acts : List Act) (event : Event) (m : Meter) → event ≡ Down → core.operating ≡ Off → acts ≡ (supply_dropped s m).acts → Meets s core acts (powered_step s event m)

@@ -4,12 +4,12 @@ use Rattle.tariff_compile.specs.Tables.{TableParts}
 use Rattle.taxi_units.specs.declared.event.Key.{Key}
 use Rattle.taxi_units.specs.declared.event.Operating.{Operating}
 use Rattle.taxi_units.specs.declared.event.Operating.TheVariants.{Off, ForHire, Hired, Stopped}
-use Rattle.totaliser_store.specs.Ranges.{last_number}
 use Rattle.totaliser_store.specs.declared.trip.Trip.{Trip}
 use Rattle.meter_states.specs.Core.{Plain, Stands, plain_of}
 use Rattle.meter_states.specs.Lawful.{HasBegunBy, HasTrip, IsAmidEvent, IsBetweenEvents, IsPowered, IsTripBeside, IsTripInRange}
 use Rattle.meter_states.specs.Meter.{Meter}
 use Rattle.meter_states.specs.Setting.{Setting}
+use Rattle.taxi_units.specs.Limits.{last_number, roaming_amid, roaming_between}
 
 -- a meter without a trip is for hire
 pub none-hires : (operating : Operating) (trip : Option Trip) → HasTrip operating trip → trip ≡ None → operating ≡ ForHire
@@ -82,7 +82,7 @@ pub powered-longer : {p : TableParts} {most spare : ℕ} {core : Plain} → IsPo
 powered-longer {p} {core = core} on = powered-within on.roam (trip-longer p _ core.trip on.trip) on
 
 -- a core with few roaming pulses may have more
-pub powered-wider : {p : TableParts} {ticks spare : ℕ} {core : Plain} → IsPowered p ticks 999999 spare core → IsPowered p ticks 1001999 spare core
+pub powered-wider : {p : TableParts} {ticks spare : ℕ} {core : Plain} → IsPowered p ticks roaming_between spare core → IsPowered p ticks roaming_amid spare core
 powered-wider on = powered-within (omega (arith, on.roam)) on.trip on
 
 -- what is between two events is amid one
@@ -98,11 +98,11 @@ pub trip-spare : (p : TableParts) (number most : ℕ) (trip : Option Trip) → I
 trip-spare p number most None range = tt
 trip-spare p number most (Some t) range = record { range = range.range; pulses = omega (arith, range.pulses) }
 
-pub amid-closes : {p : TableParts} {core : Plain} → IsAmidEvent p core → IsPowered p 8640000 1001999 1 core
+pub amid-closes : {p : TableParts} {core : Plain} → IsAmidEvent p core → IsPowered p 8640000 roaming_amid 1 core
 amid-closes {p} {core} on = powered-within on.roam (trip-spare p core.number 8640000 core.trip (trip-longer p (core.number + 0) core.trip on.trip)) on
 
 -- a core for hire whose roaming pulses are entered
-pub powered-entered : {p : TableParts} {core : Plain} → core.operating ≡ ForHire → 0 < core.roam → IsPowered p 8639999 1001999 1 core → IsBetweenEvents p (record core { roam = 0; number = core.number + 1 })
+pub powered-entered : {p : TableParts} {core : Plain} → core.operating ≡ ForHire → 0 < core.roam → IsPowered p 8639999 roaming_amid 1 core → IsBetweenEvents p (record core { roam = 0; number = core.number + 1 })
 powered-entered {p} {core} hire some on =
     let none : core.trip ≡ None = subst (λ (o : Operating). HasTrip o core.trip) hire on.on in
     let few = on.ended some in

@@ -14,7 +14,7 @@ use Rattle.taxi_units.specs.declared.event.Operating.{Operating}
 use Rattle.taxi_units.specs.declared.event.Operating.TheVariants.{Off, ForHire, Hired, Stopped}
 use Rattle.taxi_units.specs.declared.receipt.Display.{Display}
 use Rattle.totaliser_store.specs.declared.trip.Trip as store
-use Rattle.meter_states.specs.Closing.{roaming_checked, roaming_checked_in, roaming_entered, roaming_most}
+use Rattle.meter_states.specs.Closing.{roaming_checked, roaming_checked_in, roaming_entered}
 use Rattle.meter_states.specs.Core.{Plain, Follows, plain_of}
 use Rattle.meter_states.specs.Display.{display_of, extras_shown, fare_shown, is_shown, same_display, shown}
 use Rattle.meter_states.specs.Equals.{IsStill, display_by, extras_by, fare_by, interval_of, intervals_of}
@@ -31,6 +31,7 @@ use Rattle.meter_states.proofs.Fares.{above-more}
 use Rattle.meter_states.proofs.Outcomes.{follows-then}
 use Rattle.meter_states.proofs.Runs.{run-append}
 use Rattle.meter_states.proofs.Settings.{rounding-is, step-is}
+use Rattle.taxi_units.specs.Limits.{roaming_between, roaming_most}
 
 -- as many intervals as the cores that they lead through
 pub intervals-follow : (s : Setting) (p k : ℕ) (f : ℕ → Plain) (m : Meter) → ((i : ℕ) (n : Meter) → i < k → f i ≡ plain_of s n → Follows s (f (suc i)) [] [] (run s (interval_of p) n))
@@ -155,7 +156,7 @@ below-false : (most n : ℕ) → n < most → nat_le most n ≡ false
 below-false most n below = grind (arith, common_steps)
 
 -- an interval that leads from a still core to a still core
-pub interval-follows : (s : Setting) (tables : TableParts) (p : ℕ) (m : Meter) (d : Plain) → IsTariffOf s tables → 0 < modulus_of s → m.operating ≢ Off → sum m.taken ≡ 0 → p ≤ 2000 → IsStill tables d → ticks_by d.trip ≤ 8639999 → d.roam ≤ 999999
+pub interval-follows : (s : Setting) (tables : TableParts) (p : ℕ) (m : Meter) (d : Plain) → IsTariffOf s tables → 0 < modulus_of s → m.operating ≢ Off → sum m.taken ≡ 0 → p ≤ 2000 → IsStill tables d → ticks_by d.trip ≤ 8639999 → d.roam ≤ roaming_between
     → d ≡ plain_of s (record (counted_in s m.operating p m) { began = (counted_in s m.operating p m).clock }) → Follows s d [] [] (run s (interval_of p) m)
 interval-follows s tables p m d is some on none most still short few e =
     let n = counted_in s m.operating p m in

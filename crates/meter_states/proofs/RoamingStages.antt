@@ -12,6 +12,7 @@ use Rattle.meter_states.specs.Meter.{Meter}
 use Rattle.meter_states.specs.Setting.{Setting}
 use Rattle.meter_states.specs.declared.act.Act.{Act}
 use Rattle.meter_states.proofs.Powered.{powered-within, trip-spare}
+use Rattle.taxi_units.specs.Limits.{roaming_amid}
 
 many-in : (s : Setting) (m : Meter) → 1000000 ≤ sum m.roaming → roaming_checked_in s ForHire m ≡ roaming_entered s m
 many-in s m many = grind (arith, common_steps)
@@ -35,5 +36,5 @@ pub lawful-entered : (p : TableParts) (n number roam : ℕ) (before acts : List 
 lawful-entered p n number roam before acts (inl x) many stay = subst (λ (k : ℕ). StayLawful p k before acts) x stay
 lawful-entered p n number roam before acts (inr x) many stay = absurd (omega arith)
 
-pub amid-enters : {p : TableParts} {core : Plain} → IsAmidEvent p core → IsPowered p 8639999 1001999 1 core
+pub amid-enters : {p : TableParts} {core : Plain} → IsAmidEvent p core → IsPowered p 8639999 roaming_amid 1 core
 amid-enters {p} {core} on = powered-within on.roam (trip-spare p core.number 8639999 core.trip on.trip) on

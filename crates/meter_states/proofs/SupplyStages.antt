@@ -10,6 +10,7 @@ use Rattle.meter_states.specs.Meter.{Meter, quiet, held}
 use Rattle.meter_states.specs.Setting.{Setting}
 use Rattle.meter_states.specs.Supply.{hold_taken, is_stopped, is_within_hold, kept, resumed, trip_kept}
 use Rattle.meter_states.specs.Trip.{Trip, held_trip, saved_of}
+use Rattle.taxi_units.specs.Limits.{last_number}
 
 pub aborted-closes : Aborted ≡ Roam → ⊥
 aborted-closes is = cc
@@ -28,17 +29,17 @@ pub kept-quiet : (s : Setting) (m : Meter) (trip : Option Trip) → option_map (
 kept-quiet s m None e none = roams-none s m none
 kept-quiet s m (Some t) e none = absurd cc
 
-trip-held : (s : Setting) (m : Meter) (t : Trip) → m.durable.number < 2000000000000000 → trip_kept s t m ≡ held (held_trip s m.clock (is_stopped m.operating) m.position m.zone t) m
+trip-held : (s : Setting) (m : Meter) (t : Trip) → m.durable.number < last_number → trip_kept s t m ≡ held (held_trip s m.clock (is_stopped m.operating) m.position m.zone t) m
 trip-held s m t few = grind (arith, common_steps)
 
-trip-closed : (s : Setting) (m : Meter) (t : Trip) → 2000000000000000 ≤ m.durable.number → trip_kept s t m ≡ closed s Aborted m.clock m
+trip-closed : (s : Setting) (m : Meter) (t : Trip) → last_number ≤ m.durable.number → trip_kept s t m ≡ closed s Aborted m.clock m
 trip-closed s m t many = grind (arith, common_steps)
 
-pub kept-held : (s : Setting) (m : Meter) (t : Trip) → m.trip ≡ Some t → m.durable.number < 2000000000000000
+pub kept-held : (s : Setting) (m : Meter) (t : Trip) → m.trip ≡ Some t → m.durable.number < last_number
     → kept s m.trip m ≡ held (held_trip s m.clock (is_stopped m.operating) m.position m.zone t) m
 kept-held s m t is few = ap (λ (o : Option Trip). kept s o m) is ∙ trip-held s m t few
 
-pub kept-closed : (s : Setting) (m : Meter) (t : Trip) → m.trip ≡ Some t → 2000000000000000 ≤ m.durable.number → kept s m.trip m ≡ closed s Aborted m.clock m
+pub kept-closed : (s : Setting) (m : Meter) (t : Trip) → m.trip ≡ Some t → last_number ≤ m.durable.number → kept s m.trip m ≡ closed s Aborted m.clock m
 kept-closed s m t is many = ap (λ (o : Option Trip). kept s o m) is ∙ trip-closed s m t many
 
 pub hold-resumed : (s : Setting) (second : ℕ) (h : store.Trip) (m : Meter) → is_within_hold s second h ≡ true → hold_taken s second (Some h) m ≡ resumed h m

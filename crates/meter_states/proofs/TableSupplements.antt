@@ -16,6 +16,7 @@ use Rattle.meter_states.specs.Supplements.{AreAllowed, amount_in, amounts_from, 
 use Rattle.totaliser_store.specs.declared.trip.Trip.{Trip}
 use Rattle.meter_states.specs.Lawful.{IsTrip}
 use Rattle.meter_states.proofs.Amounts.{AreBounded, allowed-few, amounts-most}
+use Rattle.taxi_units.specs.Limits.{largest_supplements}
 
 -- a tariff has no supplement of another number than 1 to 16
 pub supplement-none : (t : Tree) (n : ℕ) → IsWritable t → (IsFromTo 1 16 n → ⊥) → supplement_at t n ≡ None
@@ -83,7 +84,7 @@ pub counts-few : (p : TableParts) (most : ℕ) (trip : Trip) → IsTrip p most t
 counts-few p most trip range = allowed-few (supplement_in p) 1 trip.extras (bounded p range.compiled) range.counts
 
 -- and they come to at most 1,584,000,000
-pub extras-few : (p : TableParts) (most : ℕ) (trip : Trip) → IsTrip p most trip → trip.extras_sum ≤ 1584000000
+pub extras-few : (p : TableParts) (most : ℕ) (trip : Trip) → IsTrip p most trip → trip.extras_sum ≤ largest_supplements
 extras-few p most trip range =
     let sum = amounts-most (supplement_in p) 1 trip.extras (bounded p range.compiled) range.counts in
     omega (arith, sum, range.extras, range.extras_sum)

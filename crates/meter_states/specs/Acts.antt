@@ -3,7 +3,7 @@ use Rattle.std.specs.Prelude.{◌≡◌, ℕ, ◌+◌, ◌≤◌, false, List, A
 use Rattle.tariff_compile.specs.Tables.{TableParts}
 use Rattle.taxi_units.specs.Shown.{IsShown, IsReceipt}
 use Rattle.totaliser_store.specs.Entries.{closes}
-use Rattle.totaliser_store.specs.Ranges.{last_number, IsDurable, IsEntry, IsTrip}
+use Rattle.totaliser_store.specs.Ranges.{IsDurable, IsEntry, IsTrip}
 use Rattle.totaliser_store.specs.States.{after}
 use Rattle.totaliser_store.specs.declared.change.Change.TheVariants as changes
 use Rattle.totaliser_store.specs.declared.durable.Durable.{Durable}
@@ -12,6 +12,7 @@ use Rattle.totaliser_store.specs.declared.trip.Trip.{Trip}
 use Rattle.meter_states.specs.Fits.{Fits}
 use Rattle.meter_states.specs.declared.act.Act.{Act}
 use Rattle.meter_states.specs.declared.act.Act.TheVariants.{Show, Refuse, Enter, Hold, Receipt}
+use Rattle.taxi_units.specs.Limits.{last_number}
 
 -- an entry may be made beside a store's number of at most 2 * 10^15 where it is in its ranges; an entry of roaming
 -- leaves room for the entry of a trip

@@ -11,6 +11,7 @@ use Rattle.meter_states.specs.Meter.{Meter, Outcome, ◌>>=◌, quiet, entered, 
 use Rattle.meter_states.specs.Setting.{Setting, stamp_at, step_of}
 use Rattle.meter_states.specs.Supplements.{amounts_of}
 use Rattle.meter_states.specs.Trip.{Trip, fare_of, pulses_of, steps_shown}
+use Rattle.taxi_units.specs.Limits.{roaming_most}
 
 -- the entry of a trip that is closed at a tariff position has its kind, its distances, its fare and its supplements
 abbrev pub entry_of : Setting → Kind → (position : ℕ) → Trip → Entry
@@ -52,30 +53,6 @@ trip_closed s kind finish (Some t) m = do
 -- a meter that closes its trip enters it, prints its receipt, has no trip then, and is for hire
 abbrev pub closed : Setting → Kind → (finish : ℕ) → Meter → Outcome
 closed s kind finish m = trip_closed s kind finish m.trip (record m { operating = ForHire; trip = None })
-
--- the store takes no hiring and no roaming from the number 10^15 on
-abbrev pub hirings_end : ℕ
-hirings_end = 1000000000000000
-
--- the store takes no held trip from the number 2 * 10^15 on
-abbrev pub holds_end : ℕ
-holds_end = 2000000000000000
-
--- the store's number is at most 2 * 10^15 + 1, one more than the last with which a trip may be held
-abbrev pub number_most : ℕ
-number_most = 2000000000000001
-
--- roaming pulses are entered as soon as they are 1,000,000
-abbrev pub roaming_most : ℕ
-roaming_most = 1000000
-
--- a meter between two events has at most this many roaming pulses, one fewer than are entered
-abbrev pub roaming_between : ℕ
-roaming_between = 999999
-
--- a meter amid an event has at most this many roaming pulses, which is 2,000 more, those of one interval
-abbrev pub roaming_amid : ℕ
-roaming_amid = 1001999
 
 -- the entry of roaming has the distance alone
 abbrev pub roaming_entry : Setting → (pulses : ℕ) → Entry

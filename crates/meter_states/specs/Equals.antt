@@ -16,11 +16,11 @@ use Rattle.taxi_units.specs.declared.event.Operating.{Operating}
 use Rattle.taxi_units.specs.declared.event.Operating.TheVariants.{Off, ForHire, Hired, Stopped}
 use Rattle.taxi_units.specs.declared.receipt.Display.{Display}
 use Rattle.totaliser_store.specs.declared.trip.Trip.{Trip}
-use Rattle.meter_states.specs.Closing.{hirings_end, roaming_most}
 use Rattle.meter_states.specs.Core.{Plain}
 use Rattle.meter_states.specs.declared.facts.Facts.{Facts}
 use Rattle.meter_states.specs.declared.facts.LocalFacts.{LocalFacts}
 use Rattle.meter_states.specs.declared.facts.RateFacts.{RateFacts}
+use Rattle.taxi_units.specs.Limits.{hirings_end, roaming_most}
 
 -- a measuring interval has the event of its pulses, if it has any, and then the tick at its end
 abbrev pub interval_of : (pulses : ℕ) → List Event

@@ -6,11 +6,11 @@ use Rattle.tariff_syntax.specs.declared.context.Context.{Context}
 use Rattle.taxi_units.specs.declared.event.Operating.{Operating}
 use Rattle.taxi_units.specs.declared.event.Operating.TheVariants.{Off, ForHire, Hired, Stopped}
 use Rattle.taxi_units.specs.declared.event.Why.TheVariants.{TooFast}
-use Rattle.meter_states.specs.Closing.{hirings_end}
 use Rattle.meter_states.specs.Meter.{Meter, Outcome, quiet}
 use Rattle.meter_states.specs.Setting.{Setting, local_at}
 use Rattle.meter_states.specs.Trip.{Trip, Part, InHired, InStopped, Rest, with_part, pulses_of, ticks_of}
 use Rattle.meter_states.specs.declared.act.Act.TheVariants.{Refuse}
+use Rattle.taxi_units.specs.Limits.{hirings_end}
 
 -- the running interval has room for as many pulses as are left of 2,000 behind those that it has taken
 abbrev pub room_of : Meter → ℕ

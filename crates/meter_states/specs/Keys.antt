@@ -9,12 +9,13 @@ use Rattle.taxi_units.specs.declared.event.Operating.{Operating}
 use Rattle.taxi_units.specs.declared.event.Operating.TheVariants.{ForHire, Hired, Stopped}
 use Rattle.taxi_units.specs.declared.event.Why.TheVariants.{NotNow, KeyWaiting, NoSuch, AtMost, Ended}
 use Rattle.taxi_units.specs.declared.receipt.Kind.TheVariants.{Closed}
-use Rattle.meter_states.specs.Closing.{closed, hirings_end}
+use Rattle.meter_states.specs.Closing.{closed}
 use Rattle.meter_states.specs.Interval.{context_now}
 use Rattle.meter_states.specs.Meter.{Meter, Outcome, quiet, refused}
 use Rattle.meter_states.specs.Setting.{Setting}
 use Rattle.meter_states.specs.Supplements.{times}
 use Rattle.meter_states.specs.Trip.{Trip, begun, with_extra}
+use Rattle.taxi_units.specs.Limits.{hirings_end}
 
 -- a key that is pressed waits for the end of the interval, and is refused where another one waits
 abbrev pub latched : Option Key → Key → Meter → Outcome

@@ -9,10 +9,10 @@ use Rattle.taxi_units.specs.declared.event.Operating.{Operating}
 use Rattle.taxi_units.specs.declared.event.Operating.TheVariants.{Off, ForHire, Hired, Stopped}
 use Rattle.totaliser_store.specs.declared.trip.Trip.{Trip}
 use Rattle.seal_store.specs.declared.seal.Seal.{Seal}
-use Rattle.meter_states.specs.Closing.{hirings_end, holds_end, number_most, roaming_amid, roaming_between}
 use Rattle.meter_states.specs.Core.{Plain}
 use Rattle.meter_states.specs.Facts.{AreTrue, Whole}
 use Rattle.meter_states.specs.Supplements.{AreAllowed, amounts_from, supplement_in}
+use Rattle.taxi_units.specs.Limits.{hirings_end, last_number, number_most, roaming_amid, roaming_between}
 
 -- an event is timely where its second, if it has one, is of the years 2000 to 2199
 abbrev pub IsTimely : Event → Type 0
@@ -74,7 +74,7 @@ pub record IsPowered (tables : TableParts) (ticks most spare : ℕ) (core : Plai
   pub none : core.trip ≢ None → core.roam ≡ 0
   pub ended : 0 < core.roam → core.number < hirings_end
   pub number : (1 ≤ core.number) × (core.number ≤ number_most)
-  pub held : core.trip ≢ None → core.number ≤ holds_end
+  pub held : core.trip ≢ None → core.number ≤ last_number
   pub begun : HasBegunBy core.clock core.trip
   pub trip : IsTripInRange tables (core.number + spare) ticks core.trip
 

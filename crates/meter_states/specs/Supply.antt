@@ -4,12 +4,13 @@ use Rattle.taxi_units.specs.declared.event.Operating.{Operating}
 use Rattle.taxi_units.specs.declared.event.Operating.TheVariants.{Off, ForHire, Hired, Stopped}
 use Rattle.taxi_units.specs.declared.receipt.Kind.TheVariants.{Aborted}
 use Rattle.totaliser_store.specs.declared.trip.Trip as store
-use Rattle.meter_states.specs.Closing.{closed, holds_end, roaming_entered}
+use Rattle.meter_states.specs.Closing.{closed, roaming_entered}
 use Rattle.meter_states.specs.Display.{shown}
 use Rattle.meter_states.specs.Interval.{interval_left}
 use Rattle.meter_states.specs.Meter.{Meter, Outcome, ◌>>=◌, quiet, held}
 use Rattle.meter_states.specs.Setting.{Setting}
 use Rattle.meter_states.specs.Trip.{Trip, held_trip}
+use Rattle.taxi_units.specs.Limits.{last_number}
 
 -- the test `is_stopped` is true where an operating position is Stopped
 abbrev pub is_stopped : Operating → Bool
@@ -21,7 +22,7 @@ is_stopped Stopped = true
 -- a trip is held at a supply drop, or closed as aborted where the store takes no held trip
 abbrev pub trip_kept : Setting → Trip → Meter → Outcome
 trip_kept s t m =
-    if nat_lt m.durable.number holds_end
+    if nat_lt m.durable.number last_number
     then held (held_trip s m.clock (is_stopped m.operating) m.position m.zone t) m
     else closed s Aborted m.clock m
 

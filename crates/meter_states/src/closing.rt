@@ -6,13 +6,13 @@ ghost use Rattle.taxi_units.specs.declared.event.Operating.TheVariants.{ForHire}
 ghost use Rattle.taxi_units.specs.declared.receipt.Kind.TheVariants.{Roam};
 ghost use Rattle.meter_states.specs.Acts.{IsLawfulAct, StayLawful};
 ghost use Rattle.meter_states.specs.Closing.{closed, entry_of, receipt_of, roaming_checked, roaming_entered, trip_closed};
-ghost use Rattle.meter_states.specs.Closing.{holds_end, number_most, roaming_amid};
 ghost use Rattle.meter_states.specs.Core.{Follows, plain_of};
 ghost use Rattle.meter_states.specs.Lawful.{IsAmidEvent, IsBetweenEvents, IsPowered, IsTripBeside};
 ghost use Rattle.meter_states.specs.Meter.{Meter, entered, printed};
 ghost use Rattle.meter_states.specs.Setting.{Setting, IsSettingOf, IsTariffOf};
 ghost use Rattle.meter_states.specs.Stages.{FollowsStage};
 ghost use Rattle.meter_states.specs.Trip as model;
+ghost use Rattle.taxi_units.specs.Limits.{last_number, number_most, roaming_amid};
 
 use crate::act::{Act, Acts};
 use crate::meter_state::State;
@@ -20,11 +20,8 @@ use crate::records::{Closing, entry, receipt, roaming_entry};
 use seal_store::Seal;
 use std::sync::ledger::Ledger;
 use tariff_compile::Tables;
-use taxi_units::{Kind, Operating, Steps};
+use taxi_units::{Kind, Operating, ROAMING_MOST, Steps};
 use totaliser_store::Trip;
-
-/// Roaming pulses are entered as soon as they are this many.
-pub(crate) const ROAMING_MOST: u32 = 1_000_000;
 
 impl State {
     /// The trip is closed, and the meter is for hire. At most 12 steps.
@@ -67,7 +64,7 @@ impl State {
         steps: &mut Steps<L>,
     )
         requires range { IsTripBeside tables.now (self.old.number + 1) longest_trip trip.now }
-        requires number { self.old.number ≤ holds_end }
+        requires number { self.old.number ≤ last_number }
         requires position { (1 ≤ self.old.position) × (self.old.position ≤ 9) }
         requires kind { closing.kind ≢ Roam }
         requires finish { IsSecond closing.finish }
@@ -87,7 +84,7 @@ impl State {
     /// A trip is entered.
     fn enter_trip(&mut self, kind: Kind, trip: &Trip, tables: &Tables, acts: &mut Acts)
         requires range { IsTripBeside tables.now (self.old.number + 1) longest_trip trip.now }
-        requires number { self.old.number ≤ holds_end }
+        requires number { self.old.number ≤ last_number }
         requires position { (1 ≤ self.old.position) × (self.old.position ≤ 9) }
         requires kind { kind ≢ Roam }
         requires room { length acts.old.items ≤ 3 }

@@ -4,7 +4,6 @@ ghost use Rattle.seal_store.specs.declared.seal.Seal.{Seal};
 ghost use Rattle.tariff_compile.specs.Tables.{AreFit, IsInRangeFor, rate_by};
 ghost use Rattle.taxi_units.specs.Time.{IsSecond, longest_trip};
 ghost use Rattle.totaliser_store.specs.declared.trip.Trip as store;
-ghost use Rattle.meter_states.specs.Closing.{roaming_amid};
 ghost use Rattle.meter_states.specs.Core.{plain_of};
 ghost use Rattle.meter_states.specs.Equals.{context_by};
 ghost use Rattle.meter_states.specs.Facts.{AreLocal, AreTrue};
@@ -12,6 +11,7 @@ ghost use Rattle.meter_states.specs.Interval.{context_of, context_on};
 ghost use Rattle.meter_states.specs.Lawful.{IsPowered};
 ghost use Rattle.meter_states.specs.Meter.{Meter};
 ghost use Rattle.meter_states.specs.Setting.{Setting, IsSettingOf, local_at};
+ghost use Rattle.taxi_units.specs.Limits.{roaming_amid};
 
 use crate::facts::{Facts, LocalFacts, local_facts};
 use crate::meter_state::State;

@@ -6,10 +6,10 @@ ghost use Rattle.meter_states.specs.EqualStages as stages;
 ghost use Rattle.meter_states.specs.Equals as model;
 ghost use Rattle.meter_states.specs.Lawful.{IsTrip};
 
-use crate::interval::HIRINGS_END;
 use crate::lookups::modulus;
 use drive_modes::Rounding;
 use tariff_compile::Tables;
+use taxi_units::HIRINGS_END;
 use totaliser_store::Trip;
 
 /// What an interval of `pulses` pulses adds to the roaming pulses, where the store has a number.

@@ -11,15 +11,14 @@ ghost use Rattle.meter_states.specs.Core.{Meets, Stands, plain_of};
 ghost use Rattle.meter_states.specs.EqualStages.{FollowsIntervals, HasTaken, LastsFrom};
 ghost use Rattle.meter_states.specs.Equals.{IsStill, MayBeCharged, MayGo, Outlasts, Serve, intervals_of, roams};
 ghost use Rattle.meter_states.specs.Facts.{AreLasting, AreTrue};
-ghost use Rattle.meter_states.specs.Closing.{roaming_between, roaming_most};
 ghost use Rattle.meter_states.specs.Interval.{context_of};
 ghost use Rattle.meter_states.specs.Lawful.{IsBetweenEvents, IsLawful};
 ghost use Rattle.meter_states.specs.Meter.{Meter};
 ghost use Rattle.meter_states.specs.Run.{run};
 ghost use Rattle.meter_states.specs.Setting.{Setting, IsSettingOf};
 ghost use Rattle.meter_states.specs.declared.facts.RateFacts.{RateFacts};
+ghost use Rattle.taxi_units.specs.Limits.{roaming_between, roaming_most};
 
-use crate::closing::ROAMING_MOST;
 use crate::core_state::Core;
 use crate::equal_trip::{add_charged, add_passed, most_times, roams, spare};
 use crate::facts::Facts;
@@ -28,7 +27,7 @@ use crate::shown::is_shown;
 use drive_modes::charge;
 use seal_store::Seal;
 use tariff_compile::{Lasting, Tables};
-use taxi_units::{LONGEST_TRIP, Operating};
+use taxi_units::{LONGEST_TRIP, Operating, ROAMING_MOST};
 
 impl Core {
     /// Carries out equal intervals of `pulses` pulses at once, and answers how many: all `count`, or so many

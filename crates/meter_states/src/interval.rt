@@ -4,13 +4,13 @@ ghost use Rattle.tariff_compile.specs.Tables.{TableParts};
 ghost use Rattle.taxi_units.specs.Time.{last_tick, longest_trip};
 ghost use Rattle.taxi_units.specs.declared.event.Operating.TheVariants.{ForHire, Hired, Stopped};
 ghost use Rattle.meter_states.specs.Acts.{StayLawful};
-ghost use Rattle.meter_states.specs.Closing.{roaming_amid, roaming_between};
 ghost use Rattle.meter_states.specs.Core.{Follows, plain_of};
 ghost use Rattle.meter_states.specs.Facts.{AreTrue};
 ghost use Rattle.meter_states.specs.Interval.{counted_in, interval_counted, interval_left, left_in, pulses_taken};
 ghost use Rattle.meter_states.specs.Lawful.{IsAmidEvent, IsBetweenEvents, IsPowered, counting_steps};
 ghost use Rattle.meter_states.specs.Meter.{Meter};
 ghost use Rattle.meter_states.specs.Setting.{Setting, IsSettingOf};
+ghost use Rattle.taxi_units.specs.Limits.{roaming_amid, roaming_between};
 
 use crate::act::{Acts, refuse};
 use crate::facts::Facts;
@@ -19,10 +19,7 @@ use crate::trip::{add_hired, add_rest, add_stopped};
 use seal_store::Seal;
 use std::sync::ledger::Ledger;
 use tariff_compile::Tables;
-use taxi_units::{Operating, Steps, Why};
-
-/// The store takes no hiring and no roaming from this number on.
-pub(crate) const HIRINGS_END: u64 = 1_000_000_000_000_000;
+use taxi_units::{HIRINGS_END, Operating, Steps, Why};
 
 impl State {
     /// The interval takes the pulses that it has room for, and the others are refused.

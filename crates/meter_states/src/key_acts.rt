@@ -15,7 +15,6 @@ ghost use Rattle.meter_states.specs.Stages.{ClosesTrip, CommitsNothing, IsReadyF
 ghost use Rattle.meter_states.specs.Supplements.{supplement_in};
 
 use crate::act::{Acts, refuse};
-use crate::interval::HIRINGS_END;
 use crate::lookups::find_supplement;
 use crate::meter_state::State;
 use crate::records::Closing;
@@ -23,7 +22,7 @@ use crate::trip::{add_extra, begun, times};
 use seal_store::Seal;
 use std::sync::ledger::Ledger;
 use tariff_compile::{Initial, Supplement, Tables};
-use taxi_units::{Kind, Operating, Steps, Why};
+use taxi_units::{HIRINGS_END, Kind, Operating, Steps, Why};
 
 impl State {
     /// The key Hire, for hire. At most 29 steps.

@@ -4,13 +4,13 @@ ghost use Rattle.tariff_compile.specs.Tables.{TableParts};
 ghost use Rattle.taxi_units.specs.Time.{longest_trip};
 ghost use Rattle.taxi_units.specs.declared.event.Operating.TheVariants.{Off};
 ghost use Rattle.totaliser_store.specs.declared.trip.Trip as store;
-ghost use Rattle.meter_states.specs.Closing.{roaming_amid};
 ghost use Rattle.meter_states.specs.Core.{plain_of};
 ghost use Rattle.meter_states.specs.Interval as interval;
 ghost use Rattle.meter_states.specs.Lawful.{IsPowered, is_busy};
 ghost use Rattle.meter_states.specs.Meter.{Meter};
 ghost use Rattle.meter_states.specs.Setting.{Setting};
 ghost use Rattle.meter_states.specs.Supply as supply;
+ghost use Rattle.taxi_units.specs.Limits.{roaming_amid};
 
 use interval_clock::Clock;
 use pulse_input::Gate;

@@ -8,6 +8,7 @@ ghost use Rattle.meter_states.specs.Closing as model;
 ghost use Rattle.meter_states.specs.Lawful.{IsTripBeside};
 ghost use Rattle.meter_states.specs.Setting.{Setting, IsSettingOf, IsTariffOf};
 ghost use Rattle.meter_states.specs.Trip as trips;
+ghost use Rattle.taxi_units.specs.Limits.{number_most, roaming_amid};
 
 use crate::lookups::{distance, stamp};
 use crate::trip::{display_steps, fare};
@@ -26,7 +27,7 @@ pub(crate) struct Closing {
 
 /// The entry of a trip that is closed at a tariff position.
 pub(crate) fn entry(kind: Kind, position: u8, trip: &Trip, tables: &Tables) -> Entry
-    requires range { IsTripBeside tables.now model.number_most longest_trip trip.now }
+    requires range { IsTripBeside tables.now number_most longest_trip trip.now }
     requires position { (1 ≤ position) × (position ≤ 9) }
     requires kind { kind ≢ Roam }
     ensures value { (s : Setting) (t : trips.Trip) → IsTariffOf s tables.now → trip.now ≡ trips.saved_of s t
@@ -46,7 +47,7 @@ pub(crate) fn entry(kind: Kind, position: u8, trip: &Trip, tables: &Tables) -> E
 
 /// The entry of roaming.
 pub(crate) fn roaming_entry(pulses: u32, tables: &Tables) -> Entry
-    requires { pulses ≤ model.roaming_amid }
+    requires { pulses ≤ roaming_amid }
     ensures value { (s : Setting) → IsTariffOf s tables.now → result ≡ model.roaming_entry s pulses }
     ensures range { IsEntry result }
 {
@@ -72,7 +73,7 @@ pub(crate) fn receipt<L: Ledger>(
 ) -> Receipt
     requires range { IsTripBeside tables.now number longest_trip trip.now }
     requires position { (1 ≤ position) × (position ≤ 9) }
-    requires number { (1 ≤ number) × (number ≤ model.number_most) }
+    requires number { (1 ≤ number) × (number ≤ number_most) }
     requires kind { closing.kind ≢ Roam }
     requires finish { IsSecond closing.finish }
     ensures value { (s : Setting) (t : trips.Trip) → IsSettingOf s tables.now seal.now

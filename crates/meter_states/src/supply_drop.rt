@@ -6,7 +6,6 @@ ghost use Rattle.taxi_units.specs.declared.event.Operating.TheVariants.{Off};
 ghost use Rattle.totaliser_store.specs.Ranges.{IsTrip};
 ghost use Rattle.taxi_units.specs.declared.receipt.Kind.TheVariants.{Aborted};
 ghost use Rattle.meter_states.specs.Acts.{StayLawful};
-ghost use Rattle.meter_states.specs.Closing.{holds_end, roaming_amid};
 ghost use Rattle.meter_states.specs.Core.{Follows, plain_of};
 ghost use Rattle.meter_states.specs.Fits.{Fits};
 ghost use Rattle.meter_states.specs.Lawful.{IsBetweenEvents, IsPowered};
@@ -15,6 +14,7 @@ ghost use Rattle.meter_states.specs.Setting.{Setting, IsSettingOf};
 ghost use Rattle.meter_states.specs.Stages.{FollowsStage};
 ghost use Rattle.meter_states.specs.Supply as model;
 ghost use Rattle.meter_states.specs.Trip as trips;
+ghost use Rattle.taxi_units.specs.Limits.{last_number, roaming_amid};
 
 use crate::act::{Act, Acts};
 use crate::meter_state::State;
@@ -22,11 +22,8 @@ use crate::records::Closing;
 use seal_store::Seal;
 use std::sync::ledger::Ledger;
 use tariff_compile::Tables;
-use taxi_units::{Kind, Steps};
+use taxi_units::{Kind, LAST_NUMBER, Steps};
 use totaliser_store::Trip;
-
-/// The store takes no held trip from this number on.
-const HOLDS_END: u64 = 2_000_000_000_000_000;
 
 impl State {
     /// The supply drops. At most 12 steps.
@@ -73,7 +70,7 @@ impl State {
                 }
             }
             Some(trip) => {
-                if self.number < HOLDS_END {
+                if self.number < LAST_NUMBER {
                     self.hold(trip, acts);
                 } else {
                     let closing = Closing {
@@ -90,7 +87,7 @@ impl State {
     fn hold(&mut self, trip: Trip, acts: &mut Acts)
         requires lawful { (tables : TableParts) × IsPowered tables last_tick roaming_amid 1 self.old }
         requires trip { self.old.trip ≡ Some trip }
-        requires number { self.old.number < holds_end }
+        requires number { self.old.number < last_number }
         requires room { acts.old.items ≡ [] }
         ensures ranges { (tables : TableParts) → IsPowered tables last_tick roaming_amid 1 self.old
             → StayLawful tables self.old.number acts.old.items acts.new.items }

@@ -3,7 +3,6 @@ ghost use Rattle.std.specs.Prelude.{◌≡◌, ◌≢◌, ◌≤◌, ◌+◌, []
 ghost use Rattle.tariff_compile.specs.Tables.{TableParts};
 ghost use Rattle.taxi_units.specs.Time.{longest_trip};
 ghost use Rattle.meter_states.specs.Acts.{StayLawful};
-ghost use Rattle.meter_states.specs.Closing.{roaming_amid};
 ghost use Rattle.meter_states.specs.Core.{plain_of};
 ghost use Rattle.meter_states.specs.Facts.{AreTrue};
 ghost use Rattle.meter_states.specs.Interval.{ticks_so_far};
@@ -12,6 +11,7 @@ ghost use Rattle.meter_states.specs.Meter.{Meter};
 ghost use Rattle.meter_states.specs.Setting.{Setting};
 ghost use Rattle.meter_states.specs.Stages.{ClosesTrip, FollowsStage, MayClose};
 ghost use Rattle.meter_states.specs.Step.{expired, expired_or_pressed, ticked};
+ghost use Rattle.taxi_units.specs.Limits.{roaming_amid};
 
 use crate::act::{Acts, refuse};
 use crate::facts::Facts;

@@ -6,11 +6,11 @@ ghost use Rattle.tariff_syntax.specs.declared.context.Context.{Context};
 ghost use Rattle.taxi_units.specs.Money.{largest_amount};
 ghost use Rattle.taxi_units.specs.Time.{IsSecond, last_tick, longest_trip};
 ghost use Rattle.totaliser_store.specs.declared.trip.Trip as store;
-ghost use Rattle.meter_states.specs.Closing.{roaming_amid};
 ghost use Rattle.meter_states.specs.Lawful.{IsTrip};
 ghost use Rattle.meter_states.specs.Setting.{Setting, IsSettingOf, IsTariffOf};
 ghost use Rattle.meter_states.specs.Supplements.{supplement_in, times};
 ghost use Rattle.meter_states.specs.Trip as model;
+ghost use Rattle.taxi_units.specs.Limits.{largest_supplements, roaming_amid};
 
 use crate::lookups::modulus;
 use crate::meterage::add_charge;
@@ -142,7 +142,7 @@ pub(crate) fn add_extra(trip: &mut Trip, number: u8, supplement: Supplement)
     requires few { slice_index trip.old.extras (number - 1) < supplement.max }
     requires most { supplement.max ≤ 99 }
     requires amount { supplement.amount ≤ 1000000 }
-    requires sum { trip.old.extras_sum ≤ 1584000000 }
+    requires sum { trip.old.extras_sum ≤ largest_supplements }
     ensures saved { (tables : TableParts) (s : Setting) (t : model.Trip)
         → supplement_in tables number ≡ Some supplement → IsTariffOf s tables → trip.old ≡ model.saved_of s t
         → trip.new ≡ model.saved_of s (model.with_extra number t) }

@@ -21,6 +21,8 @@ use Rattle.receipt_text.specs.Part.{Part, IsPart}
 use Rattle.receipt_text.specs.Receipts.{body_text, calculation_text, date_text, day_text, heading_text, hex_digit, hex_text, kind_text, minimum_text, part_text, receipt_text, stamp_text, sums_text, time_text, total_text, trip_text}
 use Rattle.receipt_text.specs.Spelling.{IsSpelled}
 use Rattle.receipt_text.proofs.Dates.{month_small, year_below}
+use Rattle.taxi_units.specs.Limits.{largest_supplements}
+use Rattle.taxi_units.specs.Money.{largest_amount}
 
 -- a form has one text
 abbrev Only : (List ℕ → Type 0) → List ℕ → Type 0
@@ -213,7 +215,7 @@ abbrev amount_lines : Receipt → List ℕ
 amount_lines r =
     codes "FARE " ++ (money_text r.decimals r.fare ++ 10 ∷ (codes "SUPPLEMENTS " ++ (money_text r.decimals r.supplements ++ 10 ∷ (codes "TOTAL " ++ (money_text r.decimals (r.fare + r.supplements) ++ 10 ∷ codes "END\n")))))
 
-amounts_only : (r : Receipt) → r.fare ≤ 99999999 → r.supplements ≤ 1584000000 → Only (AreAmounts r) (amount_lines r)
+amounts_only : (r : Receipt) → r.fare ≤ largest_amount → r.supplements ≤ largest_supplements → Only (AreAmounts r) (amount_lines r)
 amounts_only r fare supplements =
     let total = line_only (codes "TOTAL ") (money_text r.decimals (r.fare + r.supplements)) (codes "END\n") (IsMoney r (r.fare + r.supplements)) (IsExactly (codes "END\n")) (amount_only r.decimals (r.fare + r.supplements) (omega arith)) (exactly_only (codes "END\n")) in
     let second = line_only (codes "SUPPLEMENTS ") (money_text r.decimals r.supplements) _ (IsMoney r r.supplements) _ (amount_only r.decimals r.supplements (omega arith)) total in
@@ -222,7 +224,7 @@ amounts_only r fare supplements =
 minimum_only : (r : Receipt) → IsReceipt r → Only (HasMinimum r) (minimum_text r.decimals r.minimum ++ amount_lines r)
 unfolding minimum_text
 minimum_only r is text =
-    let fare_small : r.fare ≤ 99999999 = omega (arith, is.fare) in
+    let fare_small : r.fare ≤ largest_amount = omega (arith, is.fare) in
     let amounts = amounts_only r fare_small is.supplements in
     let line = line_only (codes "MINIMUM ") (money_text r.decimals r.minimum) (amount_lines r) (IsMoney r r.minimum) (AreAmounts r) (amount_only r.decimals r.minimum (omega (arith, is.minimum))) amounts text in
     elim (cases_lt 0 r.minimum) [

@@ -16,6 +16,8 @@ use Rattle.taxi_units.proofs.Laws.{amounts_are_short, numbers_are_short, padded_
 use Rattle.receipt_text.specs.Part.{Part, IsPart}
 use Rattle.receipt_text.specs.Receipts.{body_text, calculation_text, date_text, day_text, heading_text, hex_text, kind_text, minimum_text, part_text, receipt_text, stamp_text, sums_text, time_text, total_text, trip_text}
 use Rattle.receipt_text.proofs.Dates.{month_small, year_below}
+use Rattle.taxi_units.specs.Limits.{largest_supplements}
+use Rattle.taxi_units.specs.Money.{largest_amount}
 
 number_len : (places value : ℕ) → 0 < places → places ≤ 64 → value < 10 ^ places → length (decimal value) ≤ places
 number_len places value some few small = (numbers_are_short places value some few small).1
@@ -92,7 +94,7 @@ calculation_len r is =
     let step = amount_len r.decimals 7 r.step (omega (arith, is.decimals)) (omega arith) (omega (arith, is.step)) in
     omega (arith, length-append (money_text r.decimals r.initial) (codes " + " ++ (decimal r.steps ++ (codes " x " ++ (money_text r.decimals r.step ++ codes "\n")))), length-append (decimal r.steps) (codes " x " ++ (money_text r.decimals r.step ++ codes "\n")), length-append (money_text r.decimals r.step) (codes "\n"), initial, steps, step)
 
-minimum_len : (decimals minimum : ℕ) → decimals ≤ 3 → minimum ≤ 99999999 → length (minimum_text decimals minimum) ≤ 18
+minimum_len : (decimals minimum : ℕ) → decimals ≤ 3 → minimum ≤ largest_amount → length (minimum_text decimals minimum) ≤ 18
 unfolding minimum_text
 minimum_len decimals minimum few small =
     elim (cases_lt 0 minimum) [
@@ -104,14 +106,14 @@ minimum_len decimals minimum few small =
           rw zero_is (omega arith)
     ]
 
-sums_len : (r : Receipt) → r.decimals ≤ 3 → r.fare ≤ 99999999 → r.supplements ≤ 1584000000 → length (sums_text r) ≤ 39
+sums_len : (r : Receipt) → r.decimals ≤ 3 → r.fare ≤ largest_amount → r.supplements ≤ largest_supplements → length (sums_text r) ≤ 39
 unfolding sums_text
 sums_len r few fare_small supplements_small =
     let fare = amount_len r.decimals 8 r.fare (omega arith) (omega arith) (omega arith) in
     let supplements = amount_len r.decimals 10 r.supplements (omega arith) (omega arith) (omega arith) in
     omega (arith, length-append (money_text r.decimals r.fare) (codes "\nSUPPLEMENTS " ++ (money_text r.decimals r.supplements ++ codes "\n")), length-append (money_text r.decimals r.supplements) (codes "\n"), fare, supplements)
 
-total_len : (r : Receipt) → r.decimals ≤ 3 → r.fare ≤ 99999999 → r.supplements ≤ 1584000000 → length (total_text r) ≤ 22
+total_len : (r : Receipt) → r.decimals ≤ 3 → r.fare ≤ largest_amount → r.supplements ≤ largest_supplements → length (total_text r) ≤ 22
 unfolding total_text
 total_len r few fare_small supplements_small =
     omega (arith, length-append (money_text r.decimals (r.fare + r.supplements)) (codes "\nEND\n"), amount_len r.decimals 10 (r.fare + r.supplements) (omega arith) (omega arith) (omega arith))
@@ -120,7 +122,7 @@ total_len r few fare_small supplements_small =
 pub receipts_are_short : (r : Receipt) (p : Part) → IsReceipt r → IsPart p → length (receipt_text r p) ≤ 480
 unfolding receipt_text body_text
 receipts_are_short r p is part_is =
-    let fare_small : r.fare ≤ 99999999 = omega (arith, is.fare) in
+    let fare_small : r.fare ≤ largest_amount = omega (arith, is.fare) in
     let body = minimum_text r.decimals r.minimum ++ (sums_text r ++ total_text r) in
     omega (arith, length-append (heading_text r.number r.kind) (part_text p ++ (trip_text r ++ (calculation_text r ++ body))), length-append (part_text p) (trip_text r ++ (calculation_text r ++ body)), length-append (trip_text r) (calculation_text r ++ body), length-append (calculation_text r) body, length-append (minimum_text r.decimals r.minimum) (sums_text r ++ total_text r), length-append (sums_text r) (total_text r), heading_len r.number r.kind (omega (arith, is.number)), part_len p part_is, trip_len r is, calculation_len r is, minimum_len r.decimals r.minimum is.decimals is.minimum, sums_len r is.decimals fare_small is.supplements, total_len r is.decimals fare_small is.supplements)
 

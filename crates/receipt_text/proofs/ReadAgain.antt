@@ -10,8 +10,9 @@ use Rattle.receipt_text.specs.Part.{Part, IsPart}
 use Rattle.receipt_text.specs.Receipts.{body_text, calculation_text, heading_text, minimum_text, part_text, receipt_text, sums_text, total_text, trip_text}
 use Rattle.receipt_text.specs.Spelling.{IsSpelled}
 use Rattle.receipt_text.proofs.Groups.{calculation_again, heading_again, minimum_again, part_again, sums_again, sums_begin, trip_again}
+use Rattle.taxi_units.specs.Money.{largest_amount}
 
-fare_small : (r : Receipt) → IsReceipt r → r.fare ≤ 99999999
+fare_small : (r : Receipt) → IsReceipt r → r.fare ≤ largest_amount
 fare_small r is = omega (arith, is.fare)
 
 -- what was written is read, whatever stands after it

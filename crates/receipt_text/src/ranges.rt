@@ -11,7 +11,7 @@ ghost use Rattle.seal_store.specs.Ranges.{IsDay, IsTaxi, IsTaxiCharacter};
 use crate::parts::{SealPart, is_taxi_character};
 use pulse_input::{GREATEST_CONSTANT, LEAST_CONSTANT};
 use seal_store::{FIRST_DAY, LAST_DAY};
-use taxi_units::{Kind, LARGEST_AMOUNT, Receipt, Stamp, is_date};
+use taxi_units::{Kind, LARGEST_AMOUNT, LARGEST_SUPPLEMENTS, Receipt, Stamp, is_date};
 
 /// Whether a receipt is one for a hiring, with each number in its range and the fare that it calculates.
 pub(crate) fn is_receipt(receipt: &Receipt) -> bool
@@ -52,7 +52,7 @@ fn has_amounts(receipt: &Receipt) -> bool
         && receipt.steps < 1_000_000_000_000_000_000
         && 1 <= receipt.step
         && receipt.step <= 1_000_000
-        && receipt.supplements <= 1_584_000_000
+        && receipt.supplements <= LARGEST_SUPPLEMENTS
         && receipt.fare as u128 == fare_of(receipt)
 }
 

@@ -21,7 +21,7 @@ use pulse_input::Constant;
 use slot_store::{BODY_SIZE, eight_at, four_at, two_at};
 
 /// The number of the last seal that a store may have.
-const LAST_SEAL_NUMBER: u64 = 1_000_000_000_000_000;
+pub const LAST_SEAL_NUMBER: u64 = 1_000_000_000_000_000;
 
 /// How many decimals a tariff's money has at most.
 const MOST_DECIMALS: u8 = 3;

@@ -21,6 +21,7 @@ mod text_laws;
 mod values;
 mod whole_laws;
 
+pub use decoding::LAST_SEAL_NUMBER;
 pub use form_laws::{
     bad_lines_have_their_fault, lines_say_their_parameter, values_are_read_by_their_forms,
 };

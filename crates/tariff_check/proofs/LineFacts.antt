@@ -13,6 +13,7 @@ use Rattle.tariff_check.specs.Parts.{DateNumbers, InitialNumbers, RateNumbers, S
 use Rattle.tariff_check.specs.Sound.{IsGoodAtom, IsSoundAtom, IsSoundHoliday, IsSoundInitial, IsSoundRate, IsSoundSupplement}
 use Rattle.tariff_check.proofs.MeasureLaws.{both_some}
 use Rattle.tariff_check.proofs.Staging.{or_false}
+use Rattle.taxi_units.specs.Money.{largest_amount}
 
 -- an entry breaks none of the rules for numbers
 pub record IsGoodEntry (x : Entry) : Type 0 where
@@ -67,13 +68,13 @@ pub initial_fact : (x : Entry) → IsGoodEntry x → (i : InitialNumbers) → in
 initial_fact (initial amount covers when) good i h =
     let same : record { amount = amount; covers = covers } ≡ i = cc in
     let amounts = or_false _ _ good.moderate in
-    subst IsSoundInitial same (record { amount = ltb-false 99999999 amount amounts.0; covers = ltb-false 99999999 covers amounts.1 })
+    subst IsSoundInitial same (record { amount = ltb-false largest_amount amount amounts.0; covers = ltb-false largest_amount covers amounts.1 })
 initial_fact x good i h = absurd cc
 
-pub minimum_fact : (x : Entry) → IsGoodEntry x → (n : ℕ) → minimum_part x ≡ Some n → n ≤ 99999999
+pub minimum_fact : (x : Entry) → IsGoodEntry x → (n : ℕ) → minimum_part x ≡ Some n → n ≤ largest_amount
 minimum_fact (minimum amount when) good n h =
     let same : amount ≡ n = cc in
-    let most = ltb-false 99999999 amount good.moderate in
+    let most = ltb-false largest_amount amount good.moderate in
     omega arith
 minimum_fact x good n h = absurd cc
 

@@ -26,6 +26,7 @@ use Rattle.tariff_check.proofs.LineFacts.{IsGoodEntry, good_atoms, holiday_fact,
 use Rattle.tariff_check.proofs.MeasureLaws.{common_grows}
 use Rattle.tariff_check.proofs.PartLaws.{Gives, few_holidays, few_initials, few_minimums, few_rates, first_part_has, parts_all}
 use Rattle.tariff_check.proofs.Staging.{not_if, nowhere, or_false, sound_if_none}
+use Rattle.taxi_units.specs.Money.{largest_amount}
 
 -- each line is good
 abbrev IsGoodLine : Line → Type 0
@@ -104,7 +105,7 @@ sound_parts t w h =
       initials = parts_all initial_part IsSoundInitial ls (given initial_part IsSoundInitial ls initial_fact good);
       initial_count = few_initials ls many;
       default_initial = default_initial t h;
-      minimums = parts_all minimum_part (λ amount. amount ≤ 99999999) ls (given minimum_part (λ amount. amount ≤ 99999999) ls minimum_fact good);
+      minimums = parts_all minimum_part (λ amount. amount ≤ largest_amount) ls (given minimum_part (λ amount. amount ≤ largest_amount) ls minimum_fact good);
       minimum_count = few_minimums ls many;
       supplements = λ (number : ℕ) (s : SupplementNumbers) e. first_part_has (supplement_part number) IsSoundSupplement ls s (given (supplement_part number) IsSoundSupplement ls (supplement_fact number) good) e;
       holidays = parts_all holiday_part IsSoundHoliday ls (given holiday_part IsSoundHoliday ls holiday_fact good);

@@ -37,6 +37,7 @@ use Rattle.tariff_compile.proofs.Fits.{weights_of-fit}
 use Rattle.tariff_compile.proofs.Looked.{bands_at-below, cell_has_lines}
 use Rattle.tariff_compile.proofs.Numbering.{bands_of-below}
 use Rattle.tariff_check.proofs.Laws.{supplements_are_numbered_to_16}
+use Rattle.taxi_units.specs.Money.{largest_amount}
 
 -- the parts of the tariff of which these are the tables
 pub parts_of_tree : (t : Tree) (tables : TableParts) → IsTablesOf t tables → HasSoundParts t
@@ -213,8 +214,8 @@ initial-amounts t tables x d is =
 
 -- how large an initial hire fee and its cover are
 pub record IsFitFee (fee : Fee) : Type 0 where
-  pub amount : fee.amount ≤ 99999999
-  pub covers : fee.covers ≤ 99999999
+  pub amount : fee.amount ≤ largest_amount
+  pub covers : fee.covers ≤ largest_amount
 
 -- all initial hire fees are fit
 pub fees-fit : (tables : TableParts) → IsCompiled tables → All IsFitFee tables.initials
@@ -225,9 +226,9 @@ fees-fit tables (t, is) =
     subst (λ (p : TableParts). All IsFitFee p.initials) (sym is.parts) all
 
 -- and so are all minimum fares
-pub minimums-fit : (tables : TableParts) → IsCompiled tables → All (λ amount. amount ≤ 99999999) tables.minimums
+pub minimums-fit : (tables : TableParts) → IsCompiled tables → All (λ amount. amount ≤ largest_amount) tables.minimums
 minimums-fit tables (t, is) =
-    subst (λ (p : TableParts). All (λ amount. amount ≤ 99999999) p.minimums) (sym is.parts) (parts_of_tree t tables is).minimums
+    subst (λ (p : TableParts). All (λ amount. amount ≤ largest_amount) p.minimums) (sym is.parts) (parts_of_tree t tables is).minimums
 
 pub number_few : (minimums : List ℕ) (o : Option ℕ) → ((place : ℕ) → o ≡ Some place → place < length minimums) → number_of o ≤ length minimums
 number_few minimums None there = omega arith
@@ -242,13 +243,13 @@ minimum-few t tables x is =
 pub minimum-amount : (t : Tree) (tables : TableParts) (x : Context) → IsTablesOf t tables → get_or (0 ∷ tables.minimums) (lines_at t x).minimum 0 ≡ get_or (0 ∷ minimums_of t.lines) (number_of (minimum_place t x)) 0
 minimum-amount t tables x is = ap (λ (p : TableParts). get_or (0 ∷ p.minimums) (lines_at t x).minimum 0) is.parts
 
-pub all_fit : (amounts : List ℕ) (n : ℕ) → All (λ amount. amount ≤ 99999999) amounts → get_or amounts n 0 ≤ 99999999
+pub all_fit : (amounts : List ℕ) (n : ℕ) → All (λ amount. amount ≤ largest_amount) amounts → get_or amounts n 0 ≤ largest_amount
 all_fit [] n all = omega arith
-all_fit (m ∷ ms) zero all = All-head (λ amount. amount ≤ 99999999) m ms all
-all_fit (m ∷ ms) (suc n) all = all_fit ms n (All-tail (λ amount. amount ≤ 99999999) m ms all)
+all_fit (m ∷ ms) zero all = All-head (λ amount. amount ≤ largest_amount) m ms all
+all_fit (m ∷ ms) (suc n) all = all_fit ms n (All-tail (λ amount. amount ≤ largest_amount) m ms all)
 
 -- an amount of the minimum fares, or 0, is fit
-pub minimum-fit : (minimums : List ℕ) (number : ℕ) → All (λ amount. amount ≤ 99999999) minimums → get_or (0 ∷ minimums) number 0 ≤ 99999999
+pub minimum-fit : (minimums : List ℕ) (number : ℕ) → All (λ amount. amount ≤ largest_amount) minimums → get_or (0 ∷ minimums) number 0 ≤ largest_amount
 minimum-fit minimums zero all = omega arith
 minimum-fit minimums (suc n) all = all_fit minimums n all
 

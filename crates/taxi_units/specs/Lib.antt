@@ -2,6 +2,7 @@ pub mod Calendar
 pub mod Counted
 pub mod Decimal
 pub mod Halving
+pub mod Limits
 pub mod Line
 pub mod Money
 pub mod Number

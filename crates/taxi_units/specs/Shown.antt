@@ -6,6 +6,7 @@ use Rattle.taxi_units.specs.declared.receipt.Display.{Display}
 use Rattle.taxi_units.specs.declared.receipt.Receipt.{Receipt}
 use Rattle.taxi_units.specs.declared.receipt.Stamp.{Stamp}
 use Rattle.taxi_units.specs.Calendar.{IsDate}
+use Rattle.taxi_units.specs.Limits.{largest_supplements, number_most}
 use Rattle.taxi_units.specs.Money.{largest_amount}
 
 -- decimals are those of an amount of money if they are 0 to 3
@@ -33,7 +34,7 @@ fare_of receipt = min largest_amount (max receipt.minimum (receipt.initial + rec
 -- that its parts make
 pub record IsReceipt (receipt : Receipt) : Type 0 where
   pub kind : receipt.kind ≢ Roam
-  pub number : (1 ≤ receipt.number) × (receipt.number ≤ 2 * 10 ^ 15 + 1)
+  pub number : (1 ≤ receipt.number) × (receipt.number ≤ number_most)
   pub start : IsStamp receipt.start
   pub finish : IsStamp receipt.finish
   pub position : (1 ≤ receipt.position) × (receipt.position ≤ 9)
@@ -43,5 +44,5 @@ pub record IsReceipt (receipt : Receipt) : Type 0 where
   pub steps : receipt.steps < 10 ^ 18
   pub step : (1 ≤ receipt.step) × (receipt.step ≤ 1000000)
   pub fare : receipt.fare ≡ fare_of receipt
-  pub supplements : receipt.supplements ≤ 1584000000
+  pub supplements : receipt.supplements ≤ largest_supplements
   pub decimals : AreDecimals receipt.decimals

@@ -6,6 +6,7 @@ mod calendar;
 mod counted;
 mod decimal;
 mod event;
+mod limits;
 mod line;
 mod money;
 mod parting;
@@ -22,6 +23,7 @@ pub use calendar::{
 pub use counted::{AtMost, Counted, Keyed, each_step_halves};
 pub use decimal::{NumberFault, count_digits, number_at, number_of_width, read_decimal};
 pub use event::{Event, Key, Operating, Why};
+pub use limits::{HIRINGS_END, LARGEST_SUPPLEMENTS, LAST_NUMBER, ROAMING_AMID, ROAMING_MOST};
 pub use line::{LINE_SIZE, Line, LineFull, put_bytes, put_money, put_number, put_padded};
 pub use money::LARGEST_AMOUNT;
 pub use parting::split_at_byte;

@@ -2,6 +2,7 @@
 use Rattle.std.proofs.Common.{◌≡◌, ◌≤◌, ℕ, ◌+◌, ◌-◌, ◌<◌, Bool, true, false, if◌then◌else◌, List, length, get_or, set, Option, Some, None, IfSome, is_some, inr, refl, ◌∙◌, ap, arith}
 use Rattle.std.specs.List.{sum_by}
 use Rattle.std.proofs.lemmas.List.Sums.{sum_by-set}
+use Rattle.taxi_units.specs.Limits.{last_number}
 use Rattle.totaliser_store.specs.declared.change.Change.TheVariants.{Enter, Hold}
 use Rattle.totaliser_store.specs.declared.durable.Durable.{Durable}
 use Rattle.totaliser_store.specs.declared.entry.Entry.{Entry}
@@ -82,7 +83,7 @@ trip_later number trip ranges = record {
   minimum = ranges.minimum;
 }
 
-held_kept : (number : ℕ) (hold : Option Trip) (closing : Bool) → IfSome hold (IsHeld number) → (closing ≡ false → is_some hold ≡ true → number + 1 ≤ 2000000000000000)
+held_kept : (number : ℕ) (hold : Option Trip) (closing : Bool) → IfSome hold (IsHeld number) → (closing ≡ false → is_some hold ≡ true → number + 1 ≤ last_number)
     → IfSome (if closing then None else hold) (IsHeld (number + 1))
 held_kept number hold true held room = tt
 held_kept number None false held room = tt
@@ -92,7 +93,7 @@ at_most : (closing : Bool) (amount : ℕ) → (if closing then amount else 0) �
 at_most true amount = omega arith
 at_most false amount = omega arith
 
-pub entry_keeps : (durable : Durable) (entry : Entry) → IsDurable durable → durable.number ≤ 2000000000000000 → IsEntry entry → HasRoom durable entry → IsDurable (after durable (Enter entry))
+pub entry_keeps : (durable : Durable) (entry : Entry) → IsDurable durable → durable.number ≤ last_number → IsEntry entry → HasRoom durable entry → IsDurable (after durable (Enter entry))
 entry_keeps durable entry valid room made held_room = record {
   number = (omega arith, omega (arith, room));
   distance = omega (arith, valid.distance, made.distance);
@@ -105,7 +106,7 @@ entry_keeps durable entry valid room made held_room = record {
   layout = inr refl;
 }
 
-pub trip_keeps : (durable : Durable) (trip : Trip) → IsDurable durable → durable.number + 1 ≤ 2000000000000000 → IsTrip (durable.number + 1) trip → IsDurable (after durable (Hold trip))
+pub trip_keeps : (durable : Durable) (trip : Trip) → IsDurable durable → durable.number + 1 ≤ last_number → IsTrip (durable.number + 1) trip → IsDurable (after durable (Hold trip))
 trip_keeps durable trip valid room ranges = record {
   number = (omega arith, omega (arith, room));
   distance = omega (arith, valid.distance);

@@ -1,12 +1,13 @@
 -- Laws that the crates above cite.
 use Rattle.std.proofs.Common.{◌≡◌, ◌≤◌, ◌+◌, ◌↔◌, ℕ, List, Some}
+use Rattle.taxi_units.specs.Limits.{last_number}
 use Rattle.totaliser_store.specs.declared.change.Change.TheVariants.{Enter, Hold}
 use Rattle.totaliser_store.specs.declared.trip.Trip.{Trip}
 use Rattle.totaliser_store.specs.declared.durable.Durable.{Durable}
 use Rattle.totaliser_store.specs.declared.change.Change.{Change}
 use Rattle.totaliser_store.specs.declared.entry.Entry.{Entry}
 use Rattle.totaliser_store.specs.declared.totals.Totals.{Totals}
-use Rattle.totaliser_store.specs.Ranges.{last_number, HasRoom, IsDurable, IsEntry, IsTrip}
+use Rattle.totaliser_store.specs.Ranges.{HasRoom, IsDurable, IsEntry, IsTrip}
 use Rattle.totaliser_store.specs.Reading.{reads}
 use Rattle.totaliser_store.specs.Spelling.{spelling}
 use Rattle.totaliser_store.specs.States.{after, after_all}

@@ -5,6 +5,7 @@ use Rattle.std.proofs.Common.{sym, ◌∙◌, ap, arith}
 use Rattle.std.specs.List.{All, list_all, sum_by}
 use Rattle.std.proofs.lemmas.List.Elements.{All-nil, All-cons, All-head, All-tail}
 use Rattle.std.proofs.lemmas.Bool.Decides.{nat_tests}
+use Rattle.taxi_units.specs.Limits.{largest_supplements, last_number}
 use Rattle.taxi_units.specs.Money.{largest_amount}
 use Rattle.totaliser_store.specs.declared.durable.Durable.{Durable}
 use Rattle.totaliser_store.specs.declared.totals.Share.{Share}
@@ -40,9 +41,9 @@ trip_of : (number : ℕ) (trip : Trip) → length trip.extras ≡ 16 → is_trip
 trip_of number trip sixteen is =
     let one = both (is_course number trip && is_meterage trip.ticks trip.meterage) (are_extras trip) is in
     let two = both (is_course number trip) (is_meterage trip.ticks trip.meterage) one.0 in
-    let extras = both (are_counts trip.extras && nat_le trip.extras_sum 1584000000)
+    let extras = both (are_counts trip.extras && nat_le trip.extras_sum largest_supplements)
     (nat_le trip.minimum largest_amount) one.1 in
-    let counts = both (are_counts trip.extras) (nat_le trip.extras_sum 1584000000) extras.0 in
+    let counts = both (are_counts trip.extras) (nat_le trip.extras_sum largest_supplements) extras.0 in
     record {
       started = (grind (arith, nat_tests, two.0), grind (arith, nat_tests, two.0));
       saved = (grind (arith, nat_tests, two.0), grind (arith, nat_tests, two.0));
@@ -102,16 +103,16 @@ HasCounts hold = IfSome hold (λ trip. length trip.extras ≡ 16)
 held_of : (number : ℕ) (hold : Option Trip) → HasCounts hold → is_held number hold ≡ true → IfSome hold (IsHeld number)
 held_of number None sixteen is = tt
 held_of number (Some trip) sixteen is =
-    let tests = both (nat_le number 2000000000000000) (is_trip number trip) is in
+    let tests = both (nat_le number last_number) (is_trip number trip) is in
     record { room = grind (arith, nat_tests, tests.0); ranges = trip_of number trip sixteen tests.1 }
 
 -- what is held, in its ranges, passes its test
 is_held_of : (number : ℕ) (hold : Option Trip) → IfSome hold (IsHeld number) → is_held number hold ≡ true
 is_held_of number None held = refl
-is_held_of number (Some trip) held = and_true (nat_le number 2000000000000000) (is_trip number trip)
+is_held_of number (Some trip) held = and_true (nat_le number last_number) (is_trip number trip)
     (test number held.room) (is_trip_of number trip held.ranges)
   where
-    test : (n : ℕ) → n ≤ 2000000000000000 → nat_le n 2000000000000000 ≡ true
+    test : (n : ℕ) → n ≤ last_number → nat_le n last_number ≡ true
     test n below = grind (arith, nat_tests, below)
 
 -- a layout that passes its test is 1 or 2

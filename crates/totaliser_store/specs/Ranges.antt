@@ -8,10 +8,7 @@ use Rattle.totaliser_store.specs.declared.trip.Trip.{Trip}
 use Rattle.taxi_units.specs.Money.{largest_amount}
 use Rattle.taxi_units.specs.Time.{IsSecond, last_second, last_tick}
 use Rattle.totaliser_store.specs.Entries.{closes, distance_of, no_share}
-
--- the last number with which a trip may be held is 2 * 10^15; a state has one more at most
-abbrev pub last_number : ℕ
-last_number = 2 * 10 ^ 15
+use Rattle.taxi_units.specs.Limits.{largest_supplements, last_number, roaming_amid}
 
 -- a trip is in its ranges, beside the number of a state, where each of its fields is in its own
 pub record IsTrip (number : ℕ) (trip : Trip) : Type 0 where
@@ -19,7 +16,7 @@ pub record IsTrip (number : ℕ) (trip : Trip) : Type 0 where
   pub saved : (trip.started ≤ trip.saved) × (trip.saved ≤ last_second)
   pub position : (1 ≤ trip.position) × (trip.position ≤ 9)
   pub zone : (1 ≤ trip.zone) × (trip.zone ≤ 9)
-  pub roam : trip.roam ≤ 1001999
+  pub roam : trip.roam ≤ roaming_amid
   pub pulses : trip.pulses ≤ 2000 * (trip.ticks + number)
   pub ticks : trip.ticks ≤ last_tick
   pub initial : trip.initial ≤ largest_amount
@@ -27,7 +24,7 @@ pub record IsTrip (number : ℕ) (trip : Trip) : Type 0 where
   pub steps_full : trip.meterage.steps_full ≤ 41000000000 * trip.ticks
   pub rest : trip.meterage.rest < 2 * 10 ^ 29
   pub extras : (length trip.extras ≡ 16) × All (λ count. count ≤ 99) trip.extras
-  pub extras_sum : trip.extras_sum ≤ 1584000000
+  pub extras_sum : trip.extras_sum ≤ largest_supplements
   pub minimum : trip.minimum ≤ largest_amount
 
 -- a trip may be held beside a number where the number leaves room for its closing entry, and the trip is in its ranges
@@ -60,7 +57,7 @@ pub record IsDurable (durable : Durable) : Type 0 where
 pub record IsEntry (entry : Entry) : Type 0 where
   pub distance : distance_of entry ≤ 10 ^ 22
   pub fare : entry.fare ≤ largest_amount
-  pub supplements : entry.supplements ≤ 1584000000
+  pub supplements : entry.supplements ≤ largest_supplements
   pub position : closes entry ≡ true → (1 ≤ entry.position) × (entry.position ≤ 9)
   pub roaming : closes entry ≡ false → entry.fare ≡ 0
 

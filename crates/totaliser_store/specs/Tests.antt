@@ -3,13 +3,13 @@ use Rattle.std.specs.Prelude.{ℕ, ◌+◌, ◌*◌, ◌^◌, Bool, true, ◌&&�
 use Rattle.std.specs.Prelude.{Option, Some, None}
 use Rattle.std.specs.List.{list_all, sum_by}
 use Rattle.drive_modes.specs.declared.meterage.Meterage.{Meterage}
+use Rattle.taxi_units.specs.Limits.{largest_supplements, last_number, roaming_amid}
 use Rattle.totaliser_store.specs.declared.durable.Durable.{Durable}
 use Rattle.totaliser_store.specs.declared.totals.Share.{Share}
 use Rattle.totaliser_store.specs.declared.totals.Totals.{Totals}
 use Rattle.totaliser_store.specs.declared.trip.Trip.{Trip}
 use Rattle.taxi_units.specs.Money.{largest_amount}
 use Rattle.taxi_units.specs.Time.{first_second, last_second, last_tick}
-use Rattle.totaliser_store.specs.Ranges.{last_number}
 
 -- a test whether a number is from 1 to 9
 abbrev pub is_digit : ℕ → Bool
@@ -22,7 +22,7 @@ is_course number trip =
     && nat_le trip.started trip.saved && nat_le trip.saved last_second
     && is_digit trip.position
     && is_digit trip.zone
-    && nat_le trip.roam 1001999
+    && nat_le trip.roam roaming_amid
     && nat_le trip.pulses (2000 * (trip.ticks + number))
     && nat_le trip.ticks last_tick
     && nat_le trip.initial largest_amount
@@ -42,7 +42,7 @@ are_counts counts = list_all (λ count. nat_le count 99) counts
 abbrev pub are_extras : Trip → Bool
 are_extras trip =
     are_counts trip.extras
-    && nat_le trip.extras_sum 1584000000
+    && nat_le trip.extras_sum largest_supplements
     && nat_le trip.minimum largest_amount
 
 -- a test whether a trip is in its ranges, beside the number of a state

@@ -6,6 +6,7 @@ use Rattle.std.specs.Int.{w32, w64, from_be_bytes}
 use Rattle.std.proofs.lemmas.List.{take_at}
 use Rattle.std.proofs.lemmas.Nat.{from_be_bytes-to_be_bytes_8, from_be_bytes-to_be_bytes_4}
 use Rattle.std.proofs.Math.Seq.{drop-append-add}
+use Rattle.taxi_units.specs.Limits.{last_number}
 use Rattle.totaliser_store.specs.declared.trip.Trip.{Trip}
 use Rattle.totaliser_store.specs.Bytes.{four, eight, bit}
 use Rattle.totaliser_store.specs.Ranges.{IsTrip, IsHeld}
@@ -98,7 +99,7 @@ same_trip a b e0 e1 e2 e3 e4 e5 e6 e7 e8 e9 e10 e11 e12 e13 e14 =
     b.meterage.cover_left b.meterage.steps_full b.meterage.rest b.extras b.extras_sum x) e14
 
 -- a trip is read back
-pub trip_back : (number : ℕ) (trip : Trip) (rest : List ℕ) → number ≤ 2000000000000000 → IsTrip number trip
+pub trip_back : (number : ℕ) (trip : Trip) (rest : List ℕ) → number ≤ last_number → IsTrip number trip
     → trip_in (trip_bytes trip ++ rest) ≡ trip
 trip_back number trip rest room ranges =
     let counts = trip.extras in

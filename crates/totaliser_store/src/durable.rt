@@ -1,7 +1,8 @@
 //! The durable state: what the meter keeps over any cut of the power.
 ghost use Rattle.std.specs.Prelude.{◌≡◌, ◌+◌, ◌≤◌};
-ghost use Rattle.totaliser_store.specs.Ranges.{last_number, IsDurable};
+ghost use Rattle.totaliser_store.specs.Ranges.{IsDurable};
 ghost use Rattle.totaliser_store.specs.States.{after, first_state};
+ghost use Rattle.taxi_units.specs.Limits.{last_number};
 
 use crate::{Change, Entry, Share, Totals, Trip};
 

@@ -4,8 +4,9 @@ ghost use Rattle.totaliser_store.specs.declared.change.Change.TheVariants.{Enter
 ghost use Rattle.totaliser_store.specs.declared.durable.Durable.{Durable};
 ghost use Rattle.totaliser_store.specs.declared.entry.Entry.{Entry};
 ghost use Rattle.totaliser_store.specs.declared.trip.Trip.{Trip};
-ghost use Rattle.totaliser_store.specs.Ranges.{last_number, HasRoom, IsDurable, IsEntry, IsTrip};
+ghost use Rattle.totaliser_store.specs.Ranges.{HasRoom, IsDurable, IsEntry, IsTrip};
 ghost use Rattle.totaliser_store.specs.States.{after};
+ghost use Rattle.taxi_units.specs.Limits.{last_number};
 
 /// The condition of a commit holds for what the meter commits. From a state in its ranges with a number
 /// of at most 2 * 10^15 the ranges hold after an entry of at most 10^22 mm in all, a fare of at most

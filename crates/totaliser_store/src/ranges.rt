@@ -2,17 +2,17 @@
 ghost use Rattle.std.specs.Prelude.{◌≡◌, ◌+◌, ◌*◌, ◌≤◌, true};
 ghost use Rattle.std.specs.List.{list_all};
 ghost use Rattle.taxi_units.specs.Time.{last_tick};
-ghost use Rattle.totaliser_store.specs.Ranges.{last_number};
 ghost use Rattle.totaliser_store.specs.Tests.{is_digit, is_course, is_meterage, are_counts, are_extras};
 ghost use Rattle.totaliser_store.specs.Tests.{is_layout, is_trip, is_held, is_none, add_up, are_totals};
 ghost use Rattle.totaliser_store.specs.Tests.{are_shares, is_durable};
+ghost use Rattle.taxi_units.specs.Limits.{last_number};
 
 use crate::{Durable, Share, Totals, Trip};
 use drive_modes::Meterage;
-use taxi_units::{FIRST_SECOND, LARGEST_AMOUNT, LAST_SECOND, LONGEST_TRIP};
-
-/// The greatest number beside which a trip may be held.
-const LAST_NUMBER: u64 = 2_000_000_000_000_000;
+use taxi_units::{
+    FIRST_SECOND, LARGEST_AMOUNT, LARGEST_SUPPLEMENTS, LAST_NUMBER, LAST_SECOND, LONGEST_TRIP,
+    ROAMING_AMID,
+};
 
 /// Whether each field of a state is in its range.
 pub fn is_durable(durable: &Durable) -> bool
@@ -75,7 +75,7 @@ fn is_course(number: u64, trip: &Trip) -> bool
         && trip.saved <= LAST_SECOND
         && is_digit(trip.position)
         && is_digit(trip.zone)
-        && trip.roam <= 1_001_999
+        && trip.roam <= ROAMING_AMID
         && trip.pulses <= 2_000 * (u64::from(trip.ticks) + number)
         && trip.ticks < LONGEST_TRIP
         && trip.initial <= LARGEST_AMOUNT
@@ -95,7 +95,9 @@ fn is_meterage(ticks: u32, meterage: &Meterage) -> bool
 fn are_extras(trip: &Trip) -> bool
     ensures { result ≡ are_extras trip.now }
 {
-    are_counts(&trip.extras) && trip.extras_sum <= 1_584_000_000 && trip.minimum <= LARGEST_AMOUNT
+    are_counts(&trip.extras)
+        && trip.extras_sum <= LARGEST_SUPPLEMENTS
+        && trip.minimum <= LARGEST_AMOUNT
 }
 
 /// Whether each count of a supplement is at most 99.

@@ -7,6 +7,7 @@ use Rattle.meter_states.specs.Meter.{Meter}
 use Rattle.meter_states.specs.Setting.{Setting}
 use Rattle.meter_states.specs.Supply.{kept}
 use Rattle.meter_states.specs.Trip.{Trip}
+use Rattle.taxi_units.specs.Limits.{last_number}
 use Rattle.totaliser_store.specs.declared.trip.Trip as store
 use Rattle.verify_bench.specs.Bench.{AreTrips, Stands, held_of}
 use Rattle.verify_bench.specs.declared.hiring.Hiring.{Hiring}
@@ -32,5 +33,5 @@ keeps_roaming s meter m stands none long =
     rw (trip, some) refl
 
 -- the store takes a held trip, or no more
-pub holds_yet : (s : Setting) (meter : PlainMeter) (m : Meter) → Stands s meter m → meter.number < 2000000000000000 → nat_lt m.durable.number 2000000000000000 ≡ true
-holds_yet s meter m stands few = lt-ltb m.durable.number 2000000000000000 (omega (arith, stands.number))
+pub holds_yet : (s : Setting) (meter : PlainMeter) (m : Meter) → Stands s meter m → meter.number < last_number → nat_lt m.durable.number last_number ≡ true
+holds_yet s meter m stands few = lt-ltb m.durable.number last_number (omega (arith, stands.number))

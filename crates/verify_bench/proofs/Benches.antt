@@ -17,6 +17,7 @@ use Rattle.taxi_units.specs.declared.event.Operating.TheVariants.{ForHire, Hired
 use Rattle.tariff_syntax.specs.declared.context.Context.{Context}
 use Rattle.verify_bench.proofs.Permitted.{not_at_most}
 use Rattle.meter_states.specs.Keys.{key_in}
+use Rattle.taxi_units.specs.Limits.{hirings_end}
 use Rattle.taxi_units.specs.declared.event.Operating.{Operating}
 use Rattle.taxi_units.specs.declared.receipt.Display.{Display}
 use Rattle.verify_bench.specs.Bench.{AreTrips, HasTicks, IsSound, IsSoundHiring, Moves, Stands}
@@ -174,8 +175,8 @@ moves_shown s ticks found meter m stands = record {
 }
 
 -- the store takes a hiring yet
-pub hires_yet : (s : Setting) (meter : PlainMeter) (m : Meter) → Stands s meter m → meter.number < 1000000000000000 → nat_le 1000000000000000 m.durable.number ≡ false
-hires_yet s meter m stands few = not_at_most 1000000000000000 m.durable.number (omega (arith, stands.number))
+pub hires_yet : (s : Setting) (meter : PlainMeter) (m : Meter) → Stands s meter m → meter.number < hirings_end → nat_le hirings_end m.durable.number ≡ false
+hires_yet s meter m stands few = not_at_most hirings_end m.durable.number (omega (arith, stands.number))
 
 -- the next interval begins
 pub moves_begun : (s : Setting) (ticks : ℕ) (found : List Expected) (meter : PlainMeter) (m : Meter) → Stands s meter m → Moves s ticks found found (record meter { began = meter.clock }) (interval_begun m)

@@ -3,16 +3,17 @@ use Rattle.std.proofs.Common.{◌≡◌, ℕ, ◌+◌, ◌*◌, ◌≤◌, max, 
 use Rattle.std.proofs.Math.Nat.{mul-le-mul_left}
 use Rattle.std.proofs.lemmas.Bool.{cases_lt}
 use Rattle.drive_modes.specs.Fare.{shown_fare}
+use Rattle.taxi_units.specs.Money.{largest_amount}
 
 -- no more than eight digits of the steps count
-pub capped_fare : (initial minimum step steps : ℕ) → 1 ≤ step → min (max (initial + step * min steps 99999999) minimum) 99999999 ≡ shown_fare initial minimum step steps
-capped_fare initial minimum step steps some = elim (cases_lt 99999999 steps) [
+pub capped_fare : (initial minimum step steps : ℕ) → 1 ≤ step → min (max (initial + step * min steps largest_amount) minimum) largest_amount ≡ shown_fare initial minimum step steps
+capped_fare initial minimum step steps some = elim (cases_lt largest_amount steps) [
   | inl many ↦
-      let least : min steps 99999999 ≡ 99999999 = omega arith in
-      let product : 99999999 ≤ step * 99999999 = omega arith in
-      let more : step * 99999999 ≤ step * steps = mul-le-mul_left step (omega arith) in
+      let least : min steps largest_amount ≡ largest_amount = omega arith in
+      let product : largest_amount ≤ step * largest_amount = omega arith in
+      let more : step * largest_amount ≤ step * steps = mul-le-mul_left step (omega arith) in
       rw least (omega arith)
   | inr few ↦
-      let same : min steps 99999999 ≡ steps = omega arith in
+      let same : min steps largest_amount ≡ steps = omega arith in
       rw same (omega arith)
 ]

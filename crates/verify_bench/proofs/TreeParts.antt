@@ -14,6 +14,7 @@ use Rattle.tariff_syntax.specs.Meaning.{minimum_place}
 use Rattle.tariff_syntax.specs.Tree.{Tree}
 use Rattle.tariff_syntax.specs.Writable.{IsWritable}
 use Rattle.tariff_syntax.specs.declared.context.Context.{Context}
+use Rattle.taxi_units.specs.Money.{largest_amount}
 
 -- what holds of all elements holds of the one at a place
 all_at : {A : Type 0} (P : A → Type 0) (xs : List A) (place : ℕ) (x : A) → All P xs → slice_get xs place ≡ Some x → P x
@@ -27,9 +28,9 @@ sound_rate t x writable sound =
     let holds = check.lines_that_hold_are_there-rate t x sound in
     rw holds.1 (parts.rates holds.0 (record { a = 0; b = 0; c = 0; e = 0 }) holds.2)
 
-few_by : (place : Option ℕ) (amounts : List ℕ) (amount : ℕ) → All (λ a. a ≤ 99999999) amounts → MatchOption place (amount ≡ 0) (λ n. slice_get amounts n ≡ Some amount) → amount ≤ 99999999
+few_by : (place : Option ℕ) (amounts : List ℕ) (amount : ℕ) → All (λ a. a ≤ largest_amount) amounts → MatchOption place (amount ≡ 0) (λ n. slice_get amounts n ≡ Some amount) → amount ≤ largest_amount
 few_by None amounts amount all none = omega arith
-few_by (Some n) amounts amount all there = all_at (λ a. a ≤ 99999999) amounts n amount all there
+few_by (Some n) amounts amount all there = all_at (λ a. a ≤ largest_amount) amounts n amount all there
 
 pub fit_initial : (t : Tree) (x : Context) → IsWritable t → IsSound t → IsFitInitial (initial_by t x)
 fit_initial t x writable sound =

@@ -2,11 +2,11 @@
 -- state is.
 use Rattle.std.specs.Prelude.{◌≡◌, ℕ, ◌+◌, ◌*◌, ◌-◌, ◌^◌, ◌≤◌, ◌++◌, min, sum, List, Option, Some, None, option_map}
 use Rattle.drive_text.specs.Ranges.{IsInRange}
-use Rattle.meter_states.specs.Closing.{holds_end}
 use Rattle.meter_states.specs.Interval.{ticks_so_far}
 use Rattle.meter_states.specs.Meter.{Meter, Outcome}
 use Rattle.meter_states.specs.Setting.{Setting}
 use Rattle.meter_states.specs.Trip.{Trip}
+use Rattle.taxi_units.specs.Limits.{last_number}
 use Rattle.taxi_units.specs.Time.{IsSecond, last_tick}
 use Rattle.taxi_units.specs.declared.event.Event.{Event}
 use Rattle.taxi_units.specs.declared.event.Operating.TheVariants.{ForHire}
@@ -53,7 +53,7 @@ pub record Stands (s : Setting) (meter : PlainMeter) (m : Meter) : Type 0 where
 abbrev pub IsSoundHiring : (number most more : ℕ) → Option Hiring → Type 0
 IsSoundHiring number most more None = Unit {0}
 IsSoundHiring number most more (Some hiring) =
-    IsWhole hiring × (hiring.pulses ≤ 2000 * (hiring.ticks + number + more)) × (number ≤ holds_end)
+    IsWhole hiring × (hiring.pulses ≤ 2000 * (hiring.ticks + number + more)) × (number ≤ last_number)
     × (hiring.ticks ≤ most)
 
 -- a meter of the bench is sound if its seconds and its pulses are in their ranges, For Hire has no hiring, and a

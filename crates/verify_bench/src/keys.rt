@@ -12,14 +12,14 @@ ghost use Rattle.verify_bench.specs.Settings.{setting_of};
 use crate::expected::Expected;
 use crate::hiring::Hiring;
 use crate::lookups::supplement_at;
-use crate::plain_meter::{HIRINGS_END, PlainMeter};
+use crate::plain_meter::PlainMeter;
 use crate::pricing::hire_fee;
 use seal_store::Seal;
 use std::alloc::Global;
 use std::sync::ledger::Ledger;
 use tariff_check::Checked;
 use tariff_compile::Supplement;
-use taxi_units::{Key, Kind, NoMemory, Operating, Steps};
+use taxi_units::{HIRINGS_END, Key, Kind, NoMemory, Operating, Steps};
 
 impl PlainMeter {
     ghost use Rattle.verify_bench.specs.Bench.{GoesThrough, GoesThroughQuietly, IsSound};

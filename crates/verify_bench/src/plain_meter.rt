@@ -23,16 +23,7 @@ use seal_store::Seal;
 use std::sync::ledger::Ledger;
 use tariff_check::Checked;
 use tariff_syntax::Context;
-use taxi_units::{Key, Kind, NoMemory, Operating, Steps};
-
-/// The store takes no hiring and no roaming from this number on.
-pub(crate) const HIRINGS_END: u64 = 1_000_000_000_000_000;
-
-/// And no held trip from this one on.
-pub(crate) const HOLDS_END: u64 = 2_000_000_000_000_000;
-
-/// Roaming pulses are entered from this number on.
-const ROAMING_MOST: u64 = 1_000_000;
+use taxi_units::{HIRINGS_END, Key, Kind, NoMemory, Operating, ROAMING_MOST, Steps};
 
 /// How a trip that is held without supply goes on.
 #[derive(Clone, Copy)]
@@ -159,7 +150,7 @@ impl PlainMeter {
         ensures moves { (s : Setting) → GoesThroughQuietly s roaming_checked self.old self.new }
         ensures sound { IsSound last_tick 0 self.new }
     {
-        if matches!(self.operating, Operating::ForHire) && self.roam >= ROAMING_MOST {
+        if matches!(self.operating, Operating::ForHire) && self.roam >= u64::from(ROAMING_MOST) {
             self.enter_roaming();
         }
     }

@@ -1,12 +1,12 @@
 //! What the supply does to the meter of the bench.
 ghost use Rattle.std.specs.Prelude.{◌≡◌, ◌+◌, ◌<◌, ◌&&◌, nat_le, None, Some, OnOk};
-ghost use Rattle.meter_states.specs.Closing.{holds_end};
 ghost use Rattle.meter_states.specs.Interval.{ticks_so_far};
 ghost use Rattle.meter_states.specs.Meter.{Meter, held};
 ghost use Rattle.meter_states.specs.Trip.{Trip, held_trip};
 ghost use Rattle.meter_states.specs.Run.{ended};
 ghost use Rattle.meter_states.specs.Setting.{Setting};
 ghost use Rattle.meter_states.specs.Supply.{aborted, hold_taken, is_stopped, kept, powered, resumed, supply_came, supply_dropped};
+ghost use Rattle.taxi_units.specs.Limits.{last_number};
 ghost use Rattle.taxi_units.specs.Time.{IsSecond, last_tick};
 ghost use Rattle.taxi_units.specs.declared.event.Operating.TheVariants.{Off};
 ghost use Rattle.totaliser_store.specs.declared.trip.Trip as store;
@@ -15,10 +15,10 @@ ghost use Rattle.verify_bench.specs.Settings.{setting_of};
 ghost use Rattle.verify_bench.specs.Supplied.{waking};
 
 use crate::expected::Expected;
-use crate::plain_meter::{HOLDS_END, Held, PlainMeter};
+use crate::plain_meter::{Held, PlainMeter};
 use seal_store::Seal;
 use tariff_check::Checked;
-use taxi_units::{Kind, NoMemory, Operating};
+use taxi_units::{Kind, LAST_NUMBER, NoMemory, Operating};
 
 impl PlainMeter {
     ghost use Rattle.verify_bench.specs.Bench.{GoesThrough, GoesThroughQuietly, IsSound, Moves, Stands};
@@ -165,7 +165,7 @@ impl PlainMeter {
                 Ok(())
             }
             Some(_) => {
-                if self.number < HOLDS_END {
+                if self.number < LAST_NUMBER {
                     self.hold();
                     return Ok(());
                 }
@@ -191,7 +191,7 @@ impl PlainMeter {
     /// The trip is held.
     fn hold(&mut self)
         requires sound { IsSound last_tick 1 self.old }
-        requires room { self.old.number < holds_end }
+        requires room { self.old.number < last_number }
         ensures moves { (s : Setting) (trip : Trip) → GoesThroughQuietly s (λ s m.
             held (held_trip s m.clock (is_stopped m.operating) m.position m.zone trip) m) self.old self.new }
         ensures sound { IsSound last_tick 0 self.new }

@@ -7,6 +7,7 @@ use Rattle.meter_states.proofs.Settings.{decimals-is, step-is}
 use Rattle.meter_states.proofs.SameParts.{receipt-same}
 use Rattle.meter_states.proofs.TableSupplements.{extras-few}
 use Rattle.meter_states.proofs.records.receipt.Goals as goal
+use Rattle.taxi_units.specs.Money.{largest_amount}
 
 pub returns-clause-range : goal.returns-clause-range
 returns-clause-range g c =
@@ -16,7 +17,7 @@ returns-clause-range g c =
     let steps = c.display_steps.ensures.exact in
     let step = c.step.ensures.value in
     let fare = c.fare.ensures.exact in
-    let shown : c.fare.result ≡ min 99999999 (max trip.minimum (trip.initial + c.display_steps.result * c.step.result)) = cc in
+    let shown : c.fare.result ≡ min largest_amount (max trip.minimum (trip.initial + c.display_steps.result * c.step.result)) = cc in
     record {
       kind = c.requires.kind;
       number = (omega arith, omega arith);

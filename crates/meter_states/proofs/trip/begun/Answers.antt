@@ -6,6 +6,7 @@ use Rattle.meter_states.proofs.TableSupplements.{begun-allowed, begun-amounts}
 use Rattle.meter_states.proofs.Trips.{begun-saved}
 use Rattle.meter_states.specs.Setting.{modulus_of}
 use Rattle.meter_states.proofs.trip.begun.Goals as goal
+use Rattle.taxi_units.specs.Money.{largest_amount}
 
 pub returns-clause-saved : goal.returns-clause-saved
 returns-clause-saved c = λ s is.
@@ -20,7 +21,7 @@ returns-clause-range c =
     let made = c.start.ensures.exact in
     let step : 0 < p.step = omega (arith, fit.step.0) in
     let cover = ap (λ (m : Meterage). m.cover_left) made in
-    let most : c.args.fee.covers * c.measure.result ≤ 99999999 * c.measure.result = mul-le-mul_right c.measure.result
+    let most : c.args.fee.covers * c.measure.result ≤ largest_amount * c.measure.result = mul-le-mul_right c.measure.result
     c.requires.fee.covers in
     record {
       compiled = c.measure.ensures.compiled;
@@ -29,7 +30,7 @@ returns-clause-range c =
       ticks = omega arith;
       initial = c.requires.fee.amount;
       minimum = c.requires.fee.minimum;
-      cover = subst (λ (n : ℕ). c.start.result.cover_left ≤ 99999999 * n) c.measure.ensures.value (omega
+      cover = subst (λ (n : ℕ). c.start.result.cover_left ≤ largest_amount * n) c.measure.ensures.value (omega
           (arith, cover, most));
       steps = omega (arith, ap (λ (m : Meterage). m.steps_full) made);
       rest = omega (arith, ap (λ (m : Meterage). m.rest) made, product-some step fit.measure.0);

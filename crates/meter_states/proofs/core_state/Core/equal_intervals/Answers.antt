@@ -6,6 +6,7 @@ use Rattle.meter_states.specs.Run.{run}
 use Rattle.meter_states.proofs.Outcomes.{follows-meets, not_off}
 use Rattle.meter_states.proofs.Powered.{powered-on, stands-on}
 use Rattle.meter_states.proofs.core_state.Core.equal_intervals.Goals as goal
+use Rattle.taxi_units.specs.Limits.{roaming_between}
 
 pub returns-then-count-eq0-clause-lawful : goal.returns-then-count-eq0-clause-lawful
 returns-then-count-eq0-clause-lawful c = c.requires.lawful
@@ -42,4 +43,4 @@ returns-clause-meets c = λ s m is stands.
     let view = ap (λ (w : Whole). w.plain) c.self.view_is in
     let on = powered-on c.is_off.result view c.requires.lawful.powered c.is_off.ensures c.if-is_off.false in
     let e = stands-on s c.args.self.now.plain m stands (λ off. not_off c.self.inside.state.operating c.self.inside.state.trip on.on (ap (λ (p : Plain). p.operating) view ∙ off)) in
-    follows-meets s c.args.tables.now 8639999 999999 0 c.take_equal.new.self [] (run s (intervals_of c.args.pulses c.take_equal.result) m) c.take_equal.ensures.taken.lawful (c.take_equal.ensures.follows s m is (view ∙ e))
+    follows-meets s c.args.tables.now 8639999 roaming_between 0 c.take_equal.new.self [] (run s (intervals_of c.args.pulses c.take_equal.result) m) c.take_equal.ensures.taken.lawful (c.take_equal.ensures.follows s m is (view ∙ e))

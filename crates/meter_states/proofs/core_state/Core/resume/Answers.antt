@@ -9,6 +9,7 @@ use Rattle.meter_states.specs.declared.act.Act.{Act}
 use Rattle.meter_states.proofs.ActRanges.{acts-keep}
 use Rattle.meter_states.proofs.Outcomes.{follows-meets, follows-then}
 use Rattle.meter_states.proofs.core_state.Core.resume.Goals as goal
+use Rattle.taxi_units.specs.Limits.{roaming_between}
 
 pub returns-clause-ranges : goal.returns-clause-ranges
 returns-clause-ranges g c =
@@ -43,6 +44,6 @@ returns-clause-meets g c = λ s m is durable saved.
     let second = c.show.ensures.follows c.args.seal.now s taken.next is first.state in
     let all = follows-then s c.take_hold.new.self c.show.new.self empty middle acts taken (λ
     (k : Meter). shown s k) first second in
-    follows-meets s c.args.tables.now 8639999 999999 0 c.show.new.self acts
+    follows-meets s c.args.tables.now 8639999 roaming_between 0 c.show.new.self acts
     (supply_came s c.args.second m) c.show.ensures.lawful
     (subst (λ (l : List Act). Follows s c.show.new.self l acts (supply_came s c.args.second m)) none all)

@@ -7,9 +7,10 @@ use Rattle.meter_states.specs.declared.act.Act.TheVariants.{Enter}
 use Rattle.meter_states.proofs.Powered.{powered-entered, roaming-beside, roaming-room}
 use Rattle.meter_states.proofs.Pushes.{few-more, lawful-more}
 use Rattle.meter_states.proofs.meter_state.State.enter_roaming.Goals as goal
+use Rattle.taxi_units.specs.Limits.{roaming_amid}
 
 pub roaming_entry-requires : goal.roaming_entry-requires
-roaming_entry-requires c = subst (λ (p : Plain). p.roam ≤ 1001999) (sym c.self.view_is) c.requires.lawful.roam
+roaming_entry-requires c = subst (λ (p : Plain). p.roam ≤ roaming_amid) (sym c.self.view_is) c.requires.lawful.roam
 
 pub returns-clause-lawful : goal.returns-clause-lawful
 returns-clause-lawful c =

@@ -1,11 +1,11 @@
 use Rattle.std.proofs.Common.{◌+◌, ◌≤◌, [], ◌∷◌, ◌++◌, ap, sym, subst, ◌∙◌, arith}
-use Rattle.totaliser_store.specs.Ranges.{last_number}
 use Rattle.totaliser_store.specs.declared.entry.Entry as store
 use Rattle.meter_states.specs.Closing.{entry_of}
 use Rattle.meter_states.specs.Core.{Plain}
 use Rattle.meter_states.specs.declared.act.Act.TheVariants.{Enter}
 use Rattle.meter_states.proofs.Pushes.{closing-room, few-more, lawful-more}
 use Rattle.meter_states.proofs.meter_state.State.enter_trip.Goals as goal
+use Rattle.taxi_units.specs.Limits.{last_number}
 
 pub entry-requires-clause-range : goal.entry-requires-clause-range
 entry-requires-clause-range c = record {

@@ -9,6 +9,7 @@ use Rattle.meter_states.proofs.Powered.{none-hires, powered-longer, some-there}
 use Rattle.meter_states.proofs.Pushes.{few-none}
 use Rattle.meter_states.proofs.SupplyStages.{aborted-closes, kept-closed, kept-held, kept-quiet, kept-roams}
 use Rattle.meter_states.proofs.meter_state.State.keep.Goals as goal
+use Rattle.taxi_units.specs.Limits.{last_number}
 
 pub enter_roaming-requires-clause-lawful : goal.enter_roaming-requires-clause-lawful
 enter_roaming-requires-clause-lawful g c = c.requires.lawful
@@ -29,7 +30,7 @@ pub hold-requires-clause-trip : goal.hold-requires-clause-trip
 hold-requires-clause-trip g c = sym (ap (λ (p : Plain). p.trip) c.self.view_is) ∙ c.in-Some.is
 
 pub hold-requires-clause-number : goal.hold-requires-clause-number
-hold-requires-clause-number g c = subst (λ (p : Plain). p.number < 2000000000000000) c.self.view_is c.if-self-lt-HOLDS_END.true
+hold-requires-clause-number g c = subst (λ (p : Plain). p.number < last_number) c.self.view_is c.if-self-lt-LAST_NUMBER.true
 
 pub hold-requires-clause-room : goal.hold-requires-clause-room
 hold-requires-clause-room g c = c.requires.room
@@ -69,26 +70,26 @@ returns-else-self-gt0-clause-follows g c = λ s m is e.
     let few = subst (λ (p : Plain). p.roam ≤ 0) (c.self.view_is ∙ e) c.if-self-gt0.false in
     subst (λ (o : Outcome). Follows s c.args.self.now c.args.acts.now.items c.args.acts.now.items o) (sym (kept-quiet s m m.trip none few)) (quiet-follows s c.args.self.now c.args.acts.now.items m e)
 
-pub returns-then-self-lt-HOLDS_END-clause-ranges : goal.returns-then-self-lt-HOLDS_END-clause-ranges
-returns-then-self-lt-HOLDS_END-clause-ranges g c = c.hold.ensures.ranges c.args.tables.now c.requires.lawful
+pub returns-then-self-lt-LAST_NUMBER-clause-ranges : goal.returns-then-self-lt-LAST_NUMBER-clause-ranges
+returns-then-self-lt-LAST_NUMBER-clause-ranges g c = c.hold.ensures.ranges c.args.tables.now c.requires.lawful
 
-pub returns-then-self-lt-HOLDS_END-clause-follows : goal.returns-then-self-lt-HOLDS_END-clause-follows
-returns-then-self-lt-HOLDS_END-clause-follows g c = λ s m is e.
+pub returns-then-self-lt-LAST_NUMBER-clause-follows : goal.returns-then-self-lt-LAST_NUMBER-clause-follows
+returns-then-self-lt-LAST_NUMBER-clause-follows g c = λ s m is e.
     let has = trip-saved s m.trip c.in-Some.trip (sym (ap (λ (p : Plain). p.trip) (c.self.view_is ∙ e)) ∙ c.in-Some.is) in
-    let few = subst (λ (p : Plain). p.number < 2000000000000000) (c.self.view_is ∙ e) c.if-self-lt-HOLDS_END.true in
+    let few = subst (λ (p : Plain). p.number < last_number) (c.self.view_is ∙ e) c.if-self-lt-LAST_NUMBER.true in
     subst (λ (o : Outcome). Follows s c.hold.new.self c.args.acts.now.items c.hold.new.acts.items o) (sym
     (kept-held s m has.0 has.1 few)) (c.hold.ensures.follows s m has.0 has.2 e)
 
-pub returns-else-self-lt-HOLDS_END-clause-ranges : goal.returns-else-self-lt-HOLDS_END-clause-ranges
-returns-else-self-lt-HOLDS_END-clause-ranges g c = c.close.ensures.ranges
+pub returns-else-self-lt-LAST_NUMBER-clause-ranges : goal.returns-else-self-lt-LAST_NUMBER-clause-ranges
+returns-else-self-lt-LAST_NUMBER-clause-ranges g c = c.close.ensures.ranges
 
-pub returns-else-self-lt-HOLDS_END-clause-follows : goal.returns-else-self-lt-HOLDS_END-clause-follows
-returns-else-self-lt-HOLDS_END-clause-follows g c = λ s m is e.
+pub returns-else-self-lt-LAST_NUMBER-clause-follows : goal.returns-else-self-lt-LAST_NUMBER-clause-follows
+returns-else-self-lt-LAST_NUMBER-clause-follows g c = λ s m is e.
     let has = trip-saved s m.trip c.in-Some.trip (sym (ap (λ (p : Plain). p.trip) (c.self.view_is ∙ e)) ∙ c.in-Some.is) in
-    let many = subst (λ (p : Plain). 2000000000000000 ≤ p.number) (c.self.view_is ∙ e) c.if-self-lt-HOLDS_END.false in
+    let many = subst (λ (p : Plain). last_number ≤ p.number) (c.self.view_is ∙ e) c.if-self-lt-LAST_NUMBER.false in
     let same = ap (λ (n : ℕ). closed s Aborted n m) (c.second.ensures ∙ ap (λ (p : Plain). p.clock) (c.self.view_is
     ∙ e)) ∙ sym (kept-closed s m has.0 has.1 many) in
     subst (λ (o : Outcome). Follows s c.close.new.self c.args.acts.now.items c.close.new.acts.items o) same (c.close.ensures.follows s m is e)
 
-pub returns-else-self-lt-HOLDS_END-clause-steps : goal.returns-else-self-lt-HOLDS_END-clause-steps
-returns-else-self-lt-HOLDS_END-clause-steps g c = c.close.ensures.steps
+pub returns-else-self-lt-LAST_NUMBER-clause-steps : goal.returns-else-self-lt-LAST_NUMBER-clause-steps
+returns-else-self-lt-LAST_NUMBER-clause-steps g c = c.close.ensures.steps

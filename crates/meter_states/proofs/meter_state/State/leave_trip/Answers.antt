@@ -3,6 +3,7 @@ use Rattle.meter_states.specs.Core.{Plain}
 use Rattle.meter_states.specs.Lawful.{IsPowered}
 use Rattle.meter_states.proofs.Powered.{powered-gated, powered-trip, pulses-below}
 use Rattle.meter_states.proofs.meter_state.State.leave_trip.Goals as goal
+use Rattle.taxi_units.specs.Limits.{roaming_between}
 
 pub add_rest-requires-clause-pulses : goal.add_rest-requires-clause-pulses
 add_rest-requires-clause-pulses c = c.take-pulses.ensures.most
@@ -23,7 +24,7 @@ returns-clause-lawful c = λ tables on.
     ∙ c.in-Some.is in
     let beside = rw has at on.trip in
     let counts = c.add_rest.ensures.counts in
-    subst (λ (q : Plain). IsPowered tables 8639999 999999 1 (record q { gate = gate; trip = Some u }))
+    subst (λ (q : Plain). IsPowered tables 8639999 roaming_between 1 (record q { gate = gate; trip = Some u }))
     (sym c.self.view_is)
     (powered-gated gate (omega (arith, c.take-pulses.ensures.empty))
     (powered-trip t u has c.add_rest.ensures.started

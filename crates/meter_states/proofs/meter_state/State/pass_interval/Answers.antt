@@ -4,6 +4,7 @@ use Rattle.meter_states.specs.Core.{Plain}
 use Rattle.meter_states.specs.Lawful.{HasTrip, IsPowered}
 use Rattle.meter_states.proofs.Powered.{powered-gated, powered-trip, pulses-below}
 use Rattle.meter_states.proofs.meter_state.State.pass_interval.Goals as goal
+use Rattle.taxi_units.specs.Limits.{roaming_between}
 
 pub add_stopped-requires-clause-pulses : goal.add_stopped-requires-clause-pulses
 add_stopped-requires-clause-pulses c = c.take-pulses.ensures.most
@@ -31,7 +32,7 @@ returns-clause-lawful c = λ tables on.
     ∙ c.in-Some.is in
     let beside = rw has at on.trip in
     let counts = c.add_stopped.ensures.counts in
-    subst (λ (q : Plain). IsPowered tables 8640000 999999 0 (record q { gate = gate; trip = Some u }))
+    subst (λ (q : Plain). IsPowered tables 8640000 roaming_between 0 (record q { gate = gate; trip = Some u }))
     (sym c.self.view_is)
     (powered-gated gate (omega (arith, c.take-pulses.ensures.empty))
     (powered-trip t u has c.add_stopped.ensures.started

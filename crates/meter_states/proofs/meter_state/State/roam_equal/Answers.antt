@@ -6,6 +6,7 @@ use Rattle.meter_states.specs.Run.{run}
 use Rattle.meter_states.proofs.EqualIntervals.{hire-equal}
 use Rattle.meter_states.proofs.Settings.{modulus-some}
 use Rattle.meter_states.proofs.meter_state.State.roam_equal.Goals as goal
+use Rattle.taxi_units.specs.Limits.{roaming_between}
 
 pub returns-clause-follows : goal.returns-clause-follows
 returns-clause-follows c = λ tables seal on still s m is e.
@@ -14,9 +15,9 @@ returns-clause-follows c = λ tables seal on still s m is e.
     let n = c.most_times-n.result in
     let some = modulus-some s tables is.tariff (tables_are_fit tables on.compiled) in
     let none : core.trip ≡ None = rw c.requires.hire at on.on in
-    let roam : c.self.inside.roam ≤ 999999 = rw (← c.self.view_is) at c.requires.roam in
-    let raw : c.self.inside.roam + n * c.roams-each.result ≤ 999999 = omega (arith, c.most_times-n.ensures.room, roam) in
-    let few : c.self.inside.roam + n * roams c.self.inside.number p ≤ 999999 = rw c.roams-each.ensures.value at raw in
-    let all = subst (λ (x : Plain). x.roam + n * roams x.number p ≤ 999999 → Follows s (record x { roam = x.roam + n * roams x.number p }) [] [] (run s (intervals_of p n) m)) (sym c.self.view_is)
+    let roam : c.self.inside.roam ≤ roaming_between = rw (← c.self.view_is) at c.requires.roam in
+    let raw : c.self.inside.roam + n * c.roams-each.result ≤ roaming_between = omega (arith, c.most_times-n.ensures.room, roam) in
+    let few : c.self.inside.roam + n * roams c.self.inside.number p ≤ roaming_between = rw c.roams-each.ensures.value at raw in
+    let all = subst (λ (x : Plain). x.roam + n * roams x.number p ≤ roaming_between → Follows s (record x { roam = x.roam + n * roams x.number p }) [] [] (run s (intervals_of p n) m)) (sym c.self.view_is)
     (hire-equal s tables p n m core is.tariff some c.requires.pulses e c.requires.hire none still) few in
     rw c.roams-each.ensures.value all

@@ -1,10 +1,10 @@
 use Rattle.std.proofs.Common.{◌≡◌, ◌∙◌, ℕ, ap, sym, refl, false}
 use Rattle.std.specs.Prelude.{nat_le}
-use Rattle.meter_states.specs.Closing.{hirings_end}
 use Rattle.meter_states.specs.Interval.{context_now, context_on}
 use Rattle.meter_states.specs.Keys.{hired}
 use Rattle.meter_states.specs.Setting.{local_at}
 use Rattle.tariff_compile.specs.Tables.{initial_by}
+use Rattle.taxi_units.specs.Limits.{hirings_end}
 use Rattle.verify_bench.specs.Settings.{setting_of}
 use Rattle.verify_bench.proofs.Benches.{hires_yet, moves_quietly}
 use Rattle.verify_bench.proofs.plain_meter.PlainMeter.hire.Goals as goal
