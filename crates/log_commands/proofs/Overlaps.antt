@@ -5,7 +5,7 @@ use Rattle.std.specs.Char.{digit_value}
 use Rattle.std.specs.List.{AllByRecursion}
 use Rattle.std.specs.Str.Parse.{AllDigits}
 use Rattle.std.proofs.lemmas.List.Elements.{recursion_from_All}
-use Rattle.seal_store.specs.Ranges.{IsTaxi, IsTaxiCharacter}
+use Rattle.seal_store.specs.Ranges.{IsTaxi}
 use Rattle.taxi_units.specs.Decimal.{IsDecimal}
 use Rattle.taxi_units.specs.Written.{IsAmountText, IsNumberText, IsPaddedText}
 use Rattle.taxi_units.specs.declared.receipt.Kind.{Kind}
@@ -15,6 +15,7 @@ use Rattle.taxi_units.specs.declared.receipt.Stamp.{Stamp}
 use Rattle.receipt_text.specs.Grammar.{IsKind, IsDateText, IsTimeText, IsStampText, IsDayText, IsHexDigit, IsHexText, IsDistance, IsCalculation, Line, IsMoney, AreAmounts, HasMinimum, AreTripLines, AreLines}
 use Rattle.receipt_text.specs.Part.{Part}
 use Rattle.log_commands.specs.Record.{Record, IsRecord}
+use Rattle.taxi_units.specs.Identifier.{IsIdentifierCharacter}
 
 -- ---- values have no line feed
 
@@ -52,15 +53,15 @@ kind_plain Aborted text h = subst Plain (sym h) (omega arith, (omega arith, (ome
 kind_plain Expired text h = subst Plain (sym h) (omega arith, (omega arith, (omega arith, (omega arith, (omega arith, (omega arith, (omega arith, tt)))))))
 kind_plain Roam text h = absurd h
 
-character_plain : (c : ℕ) → IsTaxiCharacter c → c ≢ 10
+character_plain : (c : ℕ) → IsIdentifierCharacter c → c ≢ 10
 character_plain c h e = omega (arith, h, e)
 
-characters_plain : (text : List ℕ) → AllByRecursion IsTaxiCharacter text → Plain text
+characters_plain : (text : List ℕ) → AllByRecursion IsIdentifierCharacter text → Plain text
 characters_plain [] h = tt
 characters_plain (c ∷ cs) h = (character_plain c h.0, characters_plain cs h.1)
 
 taxi_plain : (text : List ℕ) → IsTaxi text → Plain text
-taxi_plain text h = characters_plain text (recursion_from_All IsTaxiCharacter text h.characters)
+taxi_plain text h = characters_plain text (recursion_from_All IsIdentifierCharacter text h.characters)
 
 date_plain : (year month date : ℕ) (text : List ℕ) → IsDateText year month date text → Plain text
 date_plain year month date text h =

@@ -2,8 +2,9 @@
 use Rattle.std.proofs.Common.{◌≡◌, ◌∙◌, ℕ, zero, suc, ◌+◌, ◌-◌, ◌<◌, ◌≤◌, List, [], ◌∷◌, ◌++◌, length, get_or, Option, Some, None, refl, ap, subst, arith}
 use Rattle.taxi_units.specs.Reading.{word_at}
 use Rattle.taxi_units.proofs.Laws.{words_are_read_by_their_text}
-use Rattle.offset_rules.specs.Names.{IsName, day_names, month_names, name_of, number_names}
+use Rattle.offset_rules.specs.Names.{IsName, month_names, name_of, number_names}
 use Rattle.offset_rules.specs.Reading.{found_or, numbered_at}
+use Rattle.taxi_units.specs.Weekdays.{day_names}
 
 -- a name that stands at the front gives its number
 pub name_here : (number : ℕ) (found : Option (List ℕ)) (rest : List ℕ) (others : Option (ℕ × List ℕ)) → found ≡ Some rest → found_or number found others ≡ Some (number, rest)

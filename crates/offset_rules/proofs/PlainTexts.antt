@@ -11,13 +11,14 @@ use Rattle.taxi_units.specs.Number.{padded_text}
 use Rattle.taxi_units.proofs.Laws.{numbers_are_short, numbers_are_written_by_their_digits, padded_numbers_are_written_by_their_digits}
 use Rattle.offset_rules.specs.Forms.{IsChangeLine, IsChangeText, IsFigure, IsOffsetLine, IsSeconds, IsTime}
 use Rattle.offset_rules.specs.Forms.IsSeconds.{ahead, behind}
-use Rattle.offset_rules.specs.Names.{day_names, month_names, name_of, number_names}
+use Rattle.offset_rules.specs.Names.{month_names, name_of, number_names}
 use Rattle.offset_rules.specs.Reading.{rules_read}
 use Rattle.offset_rules.specs.Rule.{Change, IsChange, IsRule, Rule}
 use Rattle.offset_rules.specs.Says.{AreLinesOf, IsReadAs}
 use Rattle.offset_rules.specs.Texts.{change_text, offset_text, plain_text, time_text}
 use Rattle.offset_rules.specs.declared.fault.RuleFault.{RuleFault}
 use Rattle.offset_rules.proofs.TextsRead.{texts_say_rules}
+use Rattle.taxi_units.specs.Weekdays.{day_names}
 
 -- ---- a plain text
 

@@ -2,8 +2,9 @@
 use Rattle.std.specs.Prelude.{◌≡◌, ℕ, ◌+◌, ◌*◌, ◌≤◌, ℤ, pos, neg_ℤ, List, ◌∷◌, ◌++◌, length, codes}
 use Rattle.std.specs.Str.Parse.{IsNumeral, digits_value}
 use Rattle.interval_clock.specs.Offsets.{greatest_offset}
-use Rattle.offset_rules.specs.Names.{IsName, day_names, month_names, number_names}
+use Rattle.offset_rules.specs.Names.{IsName, month_names, number_names}
 use Rattle.offset_rules.specs.Rule.{Change}
+use Rattle.taxi_units.specs.Weekdays.{day_names}
 
 -- digits are a figure of a number if they are at least `fewest` and at most `widest` decimal digits that have its
 -- value, and it is at most `greatest`

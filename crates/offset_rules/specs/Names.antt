@@ -6,10 +6,6 @@ use Rattle.std.specs.Prelude.{◌≡◌, ℕ, ◌-◌, ◌≤◌, List, [], ◌�
 abbrev pub number_names : List (List ℕ)
 number_names = codes "first" ∷ codes "second" ∷ codes "third" ∷ codes "fourth" ∷ codes "last" ∷ []
 
--- the names of the weekdays 1 to 7, Monday to Sunday, are their first three letters, `mon` to `sun`
-abbrev pub day_names : List (List ℕ)
-day_names = codes "mon" ∷ codes "tue" ∷ codes "wed" ∷ codes "thu" ∷ codes "fri" ∷ codes "sat" ∷ codes "sun" ∷ []
-
 -- the names of the months 1 to 12, January to December, are their first three letters, `jan` to `dec`
 abbrev pub month_names : List (List ℕ)
 month_names =

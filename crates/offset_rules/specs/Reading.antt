@@ -4,10 +4,11 @@ use Rattle.std.specs.Prelude.{ℕ, ◌+◌, ◌*◌, ◌==◌, ◌&&◌, nat_le,
 use Rattle.interval_clock.specs.Offsets.{greatest_offset}
 use Rattle.taxi_units.specs.Number.{number_at}
 use Rattle.taxi_units.specs.Reading.{◌>>=◌, word_at}
-use Rattle.offset_rules.specs.Names.{day_names, month_names, number_names}
+use Rattle.offset_rules.specs.Names.{month_names, number_names}
 use Rattle.offset_rules.specs.Rule.{Change, Rule}
 use Rattle.offset_rules.specs.declared.fault.RuleFault.{RuleFault}
 use Rattle.offset_rules.specs.declared.fault.RuleFault.TheVariants.{TooLong, BadLine, SameMonth}
+use Rattle.taxi_units.specs.Weekdays.{day_names}
 
 -- a number that was found and the rest after it, if it has `fewest` to `widest` digits and is at most `greatest`
 abbrev pub where_fits : (fewest widest greatest : ℕ) → (text : List ℕ) → ℕ × List ℕ → Option (ℕ × List ℕ)

@@ -2,8 +2,9 @@
 use Rattle.std.specs.Prelude.{ℕ, suc, ◌/◌, ◌%◌, ℤ, pos, negsuc, List, ◌∷◌, ◌++◌, flat_map, codes}
 use Rattle.std.specs.Fmt.{decimal}
 use Rattle.taxi_units.specs.Number.{padded_text}
-use Rattle.offset_rules.specs.Names.{day_names, month_names, name_of, number_names}
+use Rattle.offset_rules.specs.Names.{month_names, name_of, number_names}
 use Rattle.offset_rules.specs.Rule.{Change, Rule}
+use Rattle.taxi_units.specs.Weekdays.{day_names}
 
 -- an offset is written in decimal seconds, with a minus before them if it is below zero
 abbrev pub offset_text : ℤ → List ℕ

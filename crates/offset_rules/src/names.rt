@@ -1,16 +1,14 @@
 //! The words of changes at the front of a text, and what stands after them.
 ghost use Rattle.std.specs.Prelude.{◌≤◌, IfSome, length, map};
-ghost use Rattle.offset_rules.specs.Names.{day_names, month_names, number_names};
+ghost use Rattle.offset_rules.specs.Names.{month_names, number_names};
 ghost use Rattle.offset_rules.specs.Reading.{numbered_at};
 ghost use Rattle.taxi_units.specs.Reading.{Gives};
+ghost use Rattle.taxi_units.specs.Weekdays.{day_names};
 
-use taxi_units::word;
+use taxi_units::{DAY_NAMES, word};
 
 /// The names of the numbers 1 to 5 of a change.
 const NUMBERS: [&[u8]; 5] = [b"first", b"second", b"third", b"fourth", b"last"];
-
-/// The names of the weekdays 1 to 7.
-const DAYS: [&[u8]; 7] = [b"mon", b"tue", b"wed", b"thu", b"fri", b"sat", b"sun"];
 
 /// The names of the months 1 to 12.
 const MONTHS: [&[u8]; 12] = [
@@ -30,7 +28,7 @@ pub(crate) fn weekday(text: &[u8]) -> Option<(u8, &[u8])>
     ensures value { Gives (λ x. (x.0, x.1.now)) result (numbered_at day_names 1 text.now) }
     ensures range { IfSome result (λ x. (1 ≤ x.0) × (x.0 ≤ 7)) }
 {
-    numbered(text, &DAYS)
+    numbered(text, &DAY_NAMES)
 }
 
 /// A month: 1 for January to 12 for December.

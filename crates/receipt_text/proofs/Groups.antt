@@ -16,11 +16,11 @@ use Rattle.taxi_units.specs.declared.receipt.Receipt.{Receipt}
 use Rattle.receipt_text.specs.Digests.{byte_at, bytes_at, digest_at, hex_value}
 use Rattle.receipt_text.specs.Lines.{calculation_at, heading_at, kind_at, minimum_at, part_at, sums_at, taxi_at, trip_at}
 use Rattle.receipt_text.specs.Part.{Part, IsDigest, IsPart}
-use Rattle.seal_store.specs.Ranges.{IsTaxi, IsTaxiCharacter}
-use Rattle.seal_store.specs.Values.{is_taxi_character}
+use Rattle.seal_store.specs.Ranges.{IsTaxi}
 use Rattle.receipt_text.specs.Receipts.{calculation_text, day_text, heading_text, hex_digit, hex_text, kind_text, minimum_text, part_text, stamp_text, sums_text, trip_text}
 use Rattle.receipt_text.proofs.Again.{amount_again, number_again, word_again}
 use Rattle.receipt_text.proofs.Dates.{day_again, stamp_again}
+use Rattle.taxi_units.specs.Identifier.{IsIdentifierCharacter, is_identifier_character}
 
 not_closed : (rest : List ℕ) → word_at (codes "CLOSED") (codes "ABORTED" ++ rest) ≡ None
 unfolding word_at
@@ -53,17 +53,17 @@ heading_again number kind rest small hiring =
     let e = word_again (codes "\n") rest in
     ap heading_at text ∙ rw (a, n, b, k, e) refl
 
-character_true : (c : ℕ) → IsTaxiCharacter c → is_taxi_character c ≡ true
+character_true : (c : ℕ) → IsIdentifierCharacter c → is_identifier_character c ≡ true
 character_true c h = grind (arith, nat_tests, h)
 
-count_again : (taxi rest : List ℕ) → AllByRecursion IsTaxiCharacter taxi → prefix_len is_taxi_character (taxi ++ 10 ∷ rest) ≡ length taxi
+count_again : (taxi rest : List ℕ) → AllByRecursion IsIdentifierCharacter taxi → prefix_len is_identifier_character (taxi ++ 10 ∷ rest) ≡ length taxi
 count_again [] rest all = refl
 count_again (c ∷ cs) rest all = rw (character_true c all.0) (omega (arith, count_again cs rest all.1))
 
 taxi_again : (taxi rest : List ℕ) → IsTaxi taxi → taxi_at (taxi ++ 10 ∷ rest) ≡ Some (taxi, 10 ∷ rest)
 unfolding taxi_at
 taxi_again taxi rest is =
-    rw (count_again taxi rest (recursion_from_All IsTaxiCharacter taxi is.characters), le-leb 1 (length taxi) is.some, le-leb (length taxi) 16 is.few, take-append_seam taxi (10 ∷ rest), drop-append_seam taxi (10 ∷ rest)) refl
+    rw (count_again taxi rest (recursion_from_All IsIdentifierCharacter taxi is.characters), le-leb 1 (length taxi) is.some, le-leb (length taxi) 16 is.few, take-append_seam taxi (10 ∷ rest), drop-append_seam taxi (10 ∷ rest)) refl
 
 -- a hexadecimal digit
 digit_again : (n : ℕ) → n < 16 → hex_value (hex_digit n) ≡ Some n

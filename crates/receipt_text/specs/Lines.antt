@@ -14,7 +14,7 @@ use Rattle.receipt_text.specs.Dates.{day_at, stamp_at}
 use Rattle.receipt_text.specs.Digests.{digest_at}
 use Rattle.receipt_text.specs.Figures.{amount_below, number_below}
 use Rattle.receipt_text.specs.Part.{Part}
-use Rattle.seal_store.specs.Values.{is_taxi_character}
+use Rattle.taxi_units.specs.Identifier.{is_identifier_character}
 
 -- a kind of hiring is read if its word was found, and what `others` gives if it wasn't
 abbrev pub kind_or : Kind → Option (List ℕ) → Option (Kind × List ℕ) → Option (Kind × List ℕ)
@@ -44,7 +44,7 @@ taxi_of count text = if nat_le 1 count && nat_le count 16 then Some (take count 
 
 -- the characters of taxi identifiers at the front make this one, and this text stands behind them
 unfoldable pub taxi_at : List ℕ → Option (List ℕ × List ℕ)
-taxi_at text = taxi_of (prefix_len is_taxi_character text) text
+taxi_at text = taxi_of (prefix_len is_identifier_character text) text
 
 -- the four lines of a part of a seal stand at the front, and this text behind them
 unfoldable pub part_at : List ℕ → Option (Part × List ℕ)

@@ -9,7 +9,7 @@ ghost use Rattle.receipt_text.specs.Part.{IsDigest, IsPart};
 ghost use Rattle.receipt_text.specs.Receipts.{day_text, part_text};
 ghost use Rattle.receipt_text.specs.SealParts.{part_of};
 ghost use Rattle.seal_store.specs.Ranges.{IsDay, IsSeal};
-ghost use Rattle.seal_store.specs.Values.{is_taxi_character};
+ghost use Rattle.taxi_units.specs.Identifier.{is_identifier_character};
 
 use crate::digest::{digest_at, hex_of};
 use crate::fields::{put_figure, put_text};
@@ -18,7 +18,7 @@ use crate::stamps::{day_at, put_day};
 use arrayvec::ArrayVec;
 use seal_store::Seal;
 use std::marker::Model;
-use taxi_units::{Line, LineFull, put_bytes, word};
+use taxi_units::{Line, LineFull, is_identifier_character, put_bytes, word};
 
 /// What a receipt says of the seal of the meter that wrote it.
 #[derive(Drop)]
@@ -92,21 +92,14 @@ fn put_secured(line: &mut Line, secured: i32) -> Result<(), LineFull>
     put_day(line, secured)
 }
 
-/// Whether a byte is a character of taxi identifiers.
-pub(crate) fn is_taxi_character(byte: u8) -> bool
-    ensures { result ≡ is_taxi_character byte }
-{
-    (b'A' <= byte && byte <= b'Z') || ((b'0' <= byte && byte <= b'9') || byte == b'-')
-}
-
 /// How many characters of taxi identifiers stand at the front.
 fn count_characters(text: &[u8]) -> usize
-    ensures count { result ≡ prefix_len is_taxi_character text.now }
+    ensures count { result ≡ prefix_len is_identifier_character text.now }
     ensures within { result ≤ length text.now }
 {
     let mut count = 0;
     for byte in text {
-        if !is_taxi_character(*byte) {
+        if !is_identifier_character(*byte) {
             return count;
         }
         count += 1;

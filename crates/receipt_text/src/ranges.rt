@@ -6,12 +6,15 @@ ghost use Rattle.taxi_units.specs.declared.receipt.Kind.TheVariants.{Roam};
 ghost use Rattle.pulse_input.specs.Constant.{least_constant, greatest_constant};
 ghost use Rattle.receipt_text.specs.Part.{IsDigest, IsPart};
 ghost use Rattle.receipt_text.specs.ReceiptRanges.{HasAmounts, HasNumbers};
-ghost use Rattle.seal_store.specs.Ranges.{IsDay, IsTaxi, IsTaxiCharacter};
+ghost use Rattle.seal_store.specs.Ranges.{IsDay, IsTaxi};
+ghost use Rattle.taxi_units.specs.Identifier.{IsIdentifierCharacter};
 
-use crate::parts::{SealPart, is_taxi_character};
+use crate::parts::SealPart;
 use pulse_input::{GREATEST_CONSTANT, LEAST_CONSTANT};
 use seal_store::{FIRST_DAY, LAST_DAY};
-use taxi_units::{Kind, LARGEST_AMOUNT, LARGEST_SUPPLEMENTS, Receipt, Stamp, is_date};
+use taxi_units::{
+    Kind, LARGEST_AMOUNT, LARGEST_SUPPLEMENTS, Receipt, Stamp, is_date, is_identifier_character,
+};
 
 /// Whether a receipt is one for a hiring, with each number in its range and the fare that it calculates.
 pub(crate) fn is_receipt(receipt: &Receipt) -> bool
@@ -116,10 +119,10 @@ fn is_taxi(text: &[u8]) -> bool
 
 /// Whether all bytes are characters of taxi identifiers.
 fn are_characters(text: &[u8]) -> bool
-    ensures { IsTrue result ↔ AllByRecursion IsTaxiCharacter text.now }
+    ensures { IsTrue result ↔ AllByRecursion IsIdentifierCharacter text.now }
 {
     match text.split_first() {
         None => true,
-        Some((first, rest)) => is_taxi_character(*first) && are_characters(rest),
+        Some((first, rest)) => is_identifier_character(*first) && are_characters(rest),
     }
 }

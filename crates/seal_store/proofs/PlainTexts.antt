@@ -28,7 +28,7 @@ use Rattle.seal_store.specs.Lines.{is_passed, lines_of}
 use Rattle.seal_store.specs.Says.{HasNone}
 use Rattle.seal_store.specs.OffsetLaws.{Decides-is_offset_list, Decides-leb}
 use Rattle.seal_store.specs.PlainText.{AreShown, comment_line, commented_text, date_text, ended_text, line_of, mode_text, offset_line, offset_text, plain_lines, plain_text}
-use Rattle.seal_store.specs.Ranges.{IsParams, IsTaxiCharacter}
+use Rattle.seal_store.specs.Ranges.{IsParams}
 use Rattle.seal_store.specs.Reading.{lines_read, params_read, whole_of}
 use Rattle.seal_store.specs.Said.{Said, nothing_said}
 use Rattle.seal_store.specs.SaidStages.{line_read, name_of, named_line}
@@ -36,6 +36,7 @@ use Rattle.seal_store.specs.SealLaws.{Decides-is_taxi}
 use Rattle.seal_store.proofs.DayBounds.{date_bound, date_decides, year_in_range}
 use Rattle.seal_store.proofs.Parting.{ended_line, key_before, last_line, value_after}
 use Rattle.seal_store.proofs.PlainValues.{date_again, length-padded_text, mode_again, number_again, pair_again}
+use Rattle.taxi_units.specs.Identifier.{IsIdentifierCharacter}
 
 -- ---- the lines are short, and each of their bytes is a blank or a visible character
 
@@ -66,7 +67,7 @@ decimal_word n small = digits_word (decimal n) (decimal_is_IsNumeral_wide n (ome
 padded_word : (width n : ℕ) → n < 10 ^ 12 → IsWord (padded_text width n)
 padded_word width n small = All-append (λ b. 33 ≤ b) (replicate (width - length (decimal n)) 48) (decimal n) (All-replicate (λ b. 33 ≤ b) (width - length (decimal n)) 48 (omega arith)) (decimal_word n small)
 
-taxi_word : (c : ℕ) → IsTaxiCharacter c → 33 ≤ c
+taxi_word : (c : ℕ) → IsIdentifierCharacter c → 33 ≤ c
 taxi_word c (inl letter) = omega (arith, letter.0)
 taxi_word c (inr (inl digit)) = omega (arith, digit.0)
 taxi_word c (inr (inr minus)) = omega (arith, minus)
@@ -305,7 +306,7 @@ whole_again params day (pair ∷ pairs) some = refl
 all_plain : (params : Params) (n : ℕ) → IsParams params → params.secured ≡ pos n → 10957 ≤ n → n ≤ 84005 → All IsPlain (plain_lines params)
 all_plain params n is day from to =
     let taxi = plain_line (codes "taxi") params.taxi.items (is_word (codes "taxi") refl)
-    (are_shown params.taxi.items (All-weaker IsTaxiCharacter (λ b. 33 ≤ b) taxi_word params.taxi.items is.taxi.characters)) (omega arith) (omega (arith, is.taxi.few)) in
+    (are_shown params.taxi.items (All-weaker IsIdentifierCharacter (λ b. 33 ≤ b) taxi_word params.taxi.items is.taxi.characters)) (omega arith) (omega (arith, is.taxi.few)) in
     let date = date_shown n from to in
     let secured : IsPlain (line_of (codes "secured") (date_text (date_after (unsigned_abs params.secured)))) =
     subst (λ (d : ℤ). IsPlain (line_of (codes "secured") (date_text (date_after (unsigned_abs d))))) (sym day)

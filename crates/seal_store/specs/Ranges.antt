@@ -5,16 +5,13 @@ use Rattle.seal_store.specs.declared.params.Params.{Params}
 use Rattle.seal_store.specs.declared.seal.Seal.{Seal}
 use Rattle.seal_store.specs.Limits.{longest_taxi, least_constant, greatest_constant, longest_hold, first_day, last_day}
 use Rattle.seal_store.specs.Limits.{last_seal_number, digest_size, most_decimals}
-
--- a byte is a character of taxi identifiers if it is one of A to Z, of 0 to 9, or -
-abbrev pub IsTaxiCharacter : ℕ → Type 0
-IsTaxiCharacter c = ((65 ≤ c) × (c ≤ 90)) ⊎ (((48 ≤ c) × (c ≤ 57)) ⊎ (c ≡ 45))
+use Rattle.taxi_units.specs.Identifier.{IsIdentifierCharacter}
 
 -- a text is a taxi identifier if it has 1 to 16 of the characters of taxi identifiers, and no other
 pub record IsTaxi (text : List ℕ) : Type 0 where
   pub some : 1 ≤ length text
   pub few : length text ≤ longest_taxi
-  pub characters : All IsTaxiCharacter text
+  pub characters : All IsIdentifierCharacter text
 
 -- a day number is one of the meter if it is that of a date of the years 2000 to 2199
 abbrev pub IsDay : ℤ → Type 0

@@ -26,15 +26,16 @@ use Rattle.seal_store.specs.Limits.{last_seal_number, digest_size, most_decimals
 use Rattle.seal_store.specs.Lines.{before}
 use Rattle.seal_store.specs.Says.{HasNone}
 use Rattle.seal_store.specs.OffsetLaws.{Decides-int_le, Decides-is_offset_list, Decides-leb}
-use Rattle.seal_store.specs.Ranges.{IsDay, IsParams, IsSeal, IsTaxi, IsTaxiCharacter}
+use Rattle.seal_store.specs.Ranges.{IsDay, IsParams, IsSeal, IsTaxi}
 use Rattle.seal_store.specs.Spelling.{end_bytes, mode_byte, offset_bytes, padded, pair_bytes, settings_bytes, signed_bytes, spelling}
-use Rattle.seal_store.specs.Values.{is_taxi, is_taxi_character}
+use Rattle.seal_store.specs.Values.{is_taxi}
+use Rattle.taxi_units.specs.Identifier.{IsIdentifierCharacter, is_identifier_character}
 
 -- ---- the tests decide the ranges
 
 -- the test of a character decides whether it is one of taxi identifiers
-Decides-is_taxi_character : (c : ℕ) → Decides (is_taxi_character c) (IsTaxiCharacter c)
-Decides-is_taxi_character c =
+Decides-is_identifier_character : (c : ℕ) → Decides (is_identifier_character c) (IsIdentifierCharacter c)
+Decides-is_identifier_character c =
     Decides-or _ _ (Decides-and _ _ (Decides-leb 65 c) (Decides-leb c 90))
     (Decides-or _ _ (Decides-and _ _ (Decides-leb 48 c) (Decides-leb c 57)) (Decides-eqb c 45))
 
@@ -42,7 +43,7 @@ Decides-is_taxi_character c =
 pub Decides-is_taxi : (text : List ℕ) → Decides (is_taxi text) (IsTaxi text)
 Decides-is_taxi text =
     let characters =
-    Decides-by_and is_taxi_character IsTaxiCharacter (list_all is_taxi_character) Decides-is_taxi_character refl
+    Decides-by_and is_identifier_character IsIdentifierCharacter (list_all is_identifier_character) Decides-is_identifier_character refl
     (λ _ _. refl) text in
     Decides-like (is_taxi text) (λ all. record { some = all.0; few = all.1.0; characters = all.1.1 })
     (λ is. (is.some, (is.few, is.characters)))
@@ -125,7 +126,7 @@ before_zeros (c ∷ cs) count none =
     (ap (λ (xs : List ℕ). c ∷ xs) (before_zeros cs count (All-tail (λ b. b ≢ 0) c cs none)))
 
 -- a character of taxi identifiers isn't zero
-no_zero : (c : ℕ) → IsTaxiCharacter c → c ≢ 0
+no_zero : (c : ℕ) → IsIdentifierCharacter c → c ≢ 0
 no_zero c (inl letter) e = omega (arith, letter.0, e)
 no_zero c (inr (inl digit)) e = omega (arith, digit.0, e)
 no_zero c (inr (inr minus)) e = omega (arith, minus, e)

@@ -9,14 +9,11 @@ use Rattle.interval_clock.specs.Calendar.{is_date, day_number_of}
 use Rattle.taxi_units.specs.Number.{number_at, number_of_width}
 use Rattle.taxi_units.specs.Reading.{◌>>=◌, word_at}
 use Rattle.seal_store.specs.Limits.{longest_taxi, greatest_offset, first_year, last_year}
-
--- a test whether a byte is one of A to Z, of 0 to 9, or -
-abbrev pub is_taxi_character : ℕ → Bool
-is_taxi_character c = (nat_le 65 c && nat_le c 90) || ((nat_le 48 c && nat_le c 57) || (c == 45))
+use Rattle.taxi_units.specs.Identifier.{is_identifier_character}
 
 -- a test whether a text has 1 to 16 characters of taxi identifiers, and no other
 abbrev pub is_taxi : List ℕ → Bool
-is_taxi text = nat_le 1 (length text) && (nat_le (length text) longest_taxi && list_all is_taxi_character text)
+is_taxi text = nat_le 1 (length text) && (nat_le (length text) longest_taxi && list_all is_identifier_character text)
 
 -- a text is read as a taxi identifier if it is one
 abbrev pub taxi_read : List ℕ → Option (List ℕ)

@@ -4,6 +4,7 @@ ghost use Rattle.std.specs.List.{list_all};
 ghost use Rattle.taxi_units.specs.Reading.{Gives, GivesSame};
 ghost use Rattle.seal_store.specs.Limits.{least_constant, greatest_constant, longest_hold, first_year, last_year};
 ghost use Rattle.seal_store.specs.Values as spec;
+ghost use Rattle.taxi_units.specs.Identifier.{is_identifier_character};
 
 use crate::names::is_text;
 use crate::params::{LONGEST_HOLD, LONGEST_TAXI};
@@ -11,7 +12,7 @@ use arrayvec::ArrayVec;
 use drive_modes::Mode;
 use interval_clock::{GREATEST_OFFSET, day_number};
 use pulse_input::{Constant, GREATEST_CONSTANT, LEAST_CONSTANT};
-use taxi_units::{number_at, number_of_width, word};
+use taxi_units::{is_identifier_character, number_at, number_of_width, word};
 
 /// The first year of a date of securing.
 const FIRST_YEAR: u64 = 2000;
@@ -19,18 +20,11 @@ const FIRST_YEAR: u64 = 2000;
 /// The last year of a date of securing.
 const LAST_YEAR: u64 = 2199;
 
-/// Whether a byte is a character of taxi identifiers.
-fn is_taxi_character(byte: u8) -> bool
-    ensures { result ≡ spec.is_taxi_character byte }
-{
-    (65 <= byte && byte <= 90) || ((48 <= byte && byte <= 57) || byte == 45)
-}
-
 /// Whether all bytes are characters of taxi identifiers.
 fn are_taxi_characters(text: &[u8]) -> bool
-    ensures { result ≡ list_all spec.is_taxi_character text.now }
+    ensures { result ≡ list_all is_identifier_character text.now }
 {
-    text.iter().all(|byte| is_taxi_character(*byte))
+    text.iter().all(|byte| is_identifier_character(*byte))
 }
 
 /// Whether a text is a taxi identifier.

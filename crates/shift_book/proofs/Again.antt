@@ -13,9 +13,10 @@ use Rattle.taxi_units.specs.Reading.{word_at}
 use Rattle.taxi_units.proofs.Laws.{words_are_read_by_their_text}
 use Rattle.shift_book.specs.declared.numbers.Numbers.{Numbers}
 use Rattle.shift_book.specs.Following.{Fit}
-use Rattle.shift_book.specs.Marks.{Signing, PassAll, IsDriver, HasDriver, is_driver_character, head_text, number_text, numbers_text, mark_text}
+use Rattle.shift_book.specs.Marks.{Signing, PassAll, IsDriver, HasDriver, head_text, number_text, numbers_text, mark_text}
 use Rattle.shift_book.specs.Reading.{digits_at, amount_at, count_at, numbers_at, driver_at, on_at, off_at, mark_at}
 use Rattle.shift_book.proofs.Drivers.{whole_front}
+use Rattle.taxi_units.specs.Identifier.{is_identifier_character}
 
 is_digit : (c : ℕ) → digit_value c < 10 → is_ascii_digit c ≡ true
 is_digit c h = grind (arith, nat_tests)
@@ -66,10 +67,10 @@ regrouped n rest = simp append_assoc
 numbers_back : (n : Numbers) (rest : List ℕ) → Fit n → numbers_at (numbers_text n ++ rest) ≡ Some n
 numbers_back n rest fit = ap numbers_at (regrouped n rest) ∙ line_back n rest fit
 
-pub driver_back : (driver rest : List ℕ) → IsDriver driver → prefix_len is_driver_character rest ≡ 0 → driver_at (driver ++ rest) ≡ Some (driver, rest)
+pub driver_back : (driver rest : List ℕ) → IsDriver driver → prefix_len is_identifier_character rest ≡ 0 → driver_at (driver ++ rest) ≡ Some (driver, rest)
 unfolding driver_at
 driver_back driver rest valid stops =
-    let count : prefix_len is_driver_character (driver ++ rest) ≡ length driver = whole_front is_driver_character driver rest valid.characters stops in
+    let count : prefix_len is_identifier_character (driver ++ rest) ≡ length driver = whole_front is_identifier_character driver rest valid.characters stops in
     let some : eqb (length driver) 0 ≡ false = ne_eqb _ _ (λ e. omega (arith, valid.some)) in
     rw (count, some, le-ltb 16 (length driver) valid.few, take-append_seam driver rest, drop-append_seam driver rest) refl
 

@@ -13,12 +13,13 @@ use Rattle.shift_book.specs.declared.numbers.Numbers.{Numbers}
 use Rattle.shift_book.specs.BookReading.{is_nowhere_less, is_grown, is_turn, may_follow, following, next_at, or_bad, lines_read, book_read}
 use Rattle.shift_book.specs.Books.{longest, IsNext, Begins, IsBook, IsFirstBad}
 use Rattle.shift_book.specs.Following.{Fit, IsNowhereLess, MayFollow, is_on, last_of, numbers_in}
-use Rattle.shift_book.specs.Marks.{Signing, HasDriver, IsDriver, PassAll, book_text, head_text, is_driver_character, mark_text, numbers_text}
+use Rattle.shift_book.specs.Marks.{Signing, HasDriver, IsDriver, PassAll, book_text, head_text, mark_text, numbers_text}
 use Rattle.shift_book.specs.Reading.{counted_driver, driver_at, mark_at, mark_behind, numbers_at, off_at, on_at}
 use Rattle.shift_book.proofs.Drivers.{characters_in_front}
 use Rattle.shift_book.proofs.Growing.{begins_more, rest_shrinks}
 use Rattle.shift_book.proofs.Nexts.{next_is}
 use Rattle.shift_book.proofs.Once.{books_have_no_fault, books_have_one_list, faults_have_one_line}
+use Rattle.taxi_units.specs.Identifier.{is_identifier_character}
 
 -- ---- the driver of a mark that is read is as said
 
@@ -37,7 +38,7 @@ front_short test (c ∷ cs) = by (test c) (front_short test cs)
     by true within = omega (arith, within)
     by false within = omega arith
 
-counted : (count : ℕ) (text : List ℕ) (found : List ℕ × List ℕ) → count ≤ length text → PassAll is_driver_character (take count text)
+counted : (count : ℕ) (text : List ℕ) (found : List ℕ × List ℕ) → count ≤ length text → PassAll is_identifier_character (take count text)
     → counted_driver count text ≡ Some found → IsDriver found.0
 counted count text found within pass e = by (count == 0) (nat_lt 16 count) refl refl e
   where
@@ -56,7 +57,7 @@ counted count text found within pass e = by (count == 0) (nat_lt 16 count) refl 
 
 driver_read : (text : List ℕ) (found : List ℕ × List ℕ) → driver_at text ≡ Some found → IsDriver found.0
 unfolding driver_at
-driver_read text found e = counted (prefix_len is_driver_character text) text found (front_short is_driver_character text) (characters_in_front text) e
+driver_read text found e = counted (prefix_len is_identifier_character text) text found (front_short is_identifier_character text) (characters_in_front text) e
 
 signed_on : List ℕ → Numbers → Signing
 signed_on driver numbers = record { driver = driver; on = true; numbers = numbers }

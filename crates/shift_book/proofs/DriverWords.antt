@@ -4,9 +4,10 @@ use Rattle.std.specs.Prelude.{nat_lt, ◌||◌, ◌==◌}
 use Rattle.std.specs.List.{prefix_len}
 use Rattle.std.proofs.lemmas.List.{append-nil, take-append-drop}
 use Rattle.taxi_units.specs.Reading.{◌>>=◌}
-use Rattle.shift_book.specs.Marks.{IsDriver, is_driver_character}
+use Rattle.shift_book.specs.Marks.{IsDriver}
 use Rattle.shift_book.specs.Reading.{alone, counted_driver, driver_at, driver_of}
 use Rattle.shift_book.proofs.Again.{driver_back}
+use Rattle.taxi_units.specs.Identifier.{is_identifier_character}
 
 -- a driver is read as it is
 driver_read : (word : List ℕ) → IsDriver word → driver_of word ≡ Some word
@@ -37,7 +38,7 @@ whole_word count word driver e = by ((count == 0) || nat_lt 16 count) e
 -- a driver that is read with nothing behind is the word
 pub driver_is : (word driver rest : List ℕ) → length rest ≡ 0 → driver_at word ≡ Some (driver, rest) → driver ≡ word
 unfolding driver_at
-driver_is word driver [] none e = whole_word (prefix_len is_driver_character word) word driver e
+driver_is word driver [] none e = whole_word (prefix_len is_identifier_character word) word driver e
 driver_is word driver (c ∷ cs) none e = absurd (omega (arith, none))
 
 -- and no driver stands before more

@@ -1,7 +1,8 @@
 -- Characters of drivers at the front of a text.
 use Rattle.std.proofs.Common.{◌≡◌, ℕ, suc, ◌+◌, Bool, true, false, cond, List, [], ◌∷◌, ◌++◌, length, take, refl, arith}
 use Rattle.std.specs.List.{prefix_len}
-use Rattle.shift_book.specs.Marks.{PassAll, is_driver_character}
+use Rattle.shift_book.specs.Marks.{PassAll}
+use Rattle.taxi_units.specs.Identifier.{is_identifier_character}
 
 passed : (test : ℕ → Bool) (b : Bool) (x : ℕ) (xs : List ℕ) → test x ≡ b → PassAll test (take (prefix_len test xs) xs)
     → PassAll test (take (cond b (1 + prefix_len test xs) 0) (x ∷ xs))
@@ -15,8 +16,8 @@ front_passes : (test : ℕ → Bool) (xs : List ℕ) → PassAll test (take (pre
 front_passes test [] = tt
 front_passes test (x ∷ xs) = passed test (test x) x xs refl (front_passes test xs)
 
-pub characters_in_front : (xs : List ℕ) → PassAll is_driver_character (take (prefix_len is_driver_character xs) xs)
-characters_in_front xs = front_passes is_driver_character xs
+pub characters_in_front : (xs : List ℕ) → PassAll is_identifier_character (take (prefix_len is_identifier_character xs) xs)
+characters_in_front xs = front_passes is_identifier_character xs
 
 -- and all of it is taken, where what follows doesn't pass
 pub whole_front : (test : ℕ → Bool) (xs rest : List ℕ) → PassAll test xs → prefix_len test rest ≡ 0 → prefix_len test (xs ++ rest) ≡ length xs

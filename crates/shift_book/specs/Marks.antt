@@ -3,6 +3,7 @@ use Rattle.std.specs.Prelude.{◌≡◌, ℕ, ◌≤◌, ◌&&◌, ◌||◌, ◌
 use Rattle.std.specs.List.{AllByRecursion, flat_map}
 use Rattle.taxi_units.specs.Written.{IsNumberText}
 use Rattle.shift_book.specs.declared.numbers.Numbers.{Numbers}
+use Rattle.taxi_units.specs.Identifier.{is_identifier_character}
 
 -- the numbers of a mark are the number of the store, the distance, the distance when hired, the hirings, the
 -- supplements and the fare
@@ -23,10 +24,6 @@ pub record Signing : Type 0 where
   pub on : Bool
   pub numbers : Numbers
 
--- a byte is a character of drivers: A to Z, 0 to 9, or a hyphen
-abbrev pub is_driver_character : ℕ → Bool
-is_driver_character c = (nat_le 65 c && nat_le c 90) || ((nat_le 48 c && nat_le c 57) || (c == 45))
-
 -- bytes pass a test if every one of them does
 abbrev pub PassAll : (ℕ → Bool) → List ℕ → Type 0
 PassAll test bytes = AllByRecursion (λ c. test c ≡ true) bytes
@@ -35,7 +32,7 @@ PassAll test bytes = AllByRecursion (λ c. test c ≡ true) bytes
 pub record IsDriver (driver : List ℕ) : Type 0 where
   pub some : 1 ≤ length driver
   pub few : length driver ≤ 16
-  pub characters : PassAll is_driver_character driver
+  pub characters : PassAll is_identifier_character driver
 
 -- a mark that signs on has a driver, and one that signs off has none
 abbrev pub HasDriver : (on : Bool) → (driver : List ℕ) → Type 0

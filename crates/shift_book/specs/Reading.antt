@@ -6,7 +6,8 @@ use Rattle.std.specs.Str.Parse.{digits_value}
 use Rattle.taxi_units.specs.Number.{digits_at_front}
 use Rattle.taxi_units.specs.Reading.{◌>>=◌, word_at}
 use Rattle.shift_book.specs.declared.numbers.Numbers.{Numbers}
-use Rattle.shift_book.specs.Marks.{Signing, is_driver_character, numbers_of}
+use Rattle.shift_book.specs.Marks.{Signing, numbers_of}
+use Rattle.taxi_units.specs.Identifier.{is_identifier_character}
 
 -- digits make this number, if it is below 2^128
 abbrev pub value_below : List ℕ → Option ℕ
@@ -39,7 +40,7 @@ counted_driver count text =
 
 -- the characters of drivers at the front make this driver, and this text stands behind them
 unfoldable pub driver_at : List ℕ → Option (List ℕ × List ℕ)
-driver_at text = counted_driver (prefix_len is_driver_character text) text
+driver_at text = counted_driver (prefix_len is_identifier_character text) text
 
 -- a driver that was read is the whole word if nothing stands behind it
 abbrev pub alone : List ℕ × List ℕ → Option (List ℕ)

@@ -2,14 +2,15 @@
 ghost use Rattle.std.specs.Prelude.{◌≡◌, ◌≤◌, length, IfNone, IfSome};
 ghost use Rattle.std.specs.List.{prefix_len};
 ghost use Rattle.taxi_units.specs.Reading.{Gives, GivesSame};
-ghost use Rattle.shift_book.specs.Marks.{HasDriver, IsDriver, is_driver_character};
+ghost use Rattle.shift_book.specs.Marks.{HasDriver, IsDriver};
 ghost use Rattle.shift_book.specs.Reading.{driver_of};
 ghost use Rattle.shift_book.specs.Reading as spec;
+ghost use Rattle.taxi_units.specs.Identifier.{is_identifier_character};
 
 use crate::mark::Mark;
 use crate::numbers::numbers_at;
 use arrayvec::ArrayVec;
-use taxi_units::word;
+use taxi_units::{is_identifier_character, word};
 
 /// The only mark whose line may stand at the front of a text. Whether it does, its own line says.
 #[tactic(auto, unfolding(crate::specs::Reading::mark_at))]
@@ -75,21 +76,14 @@ fn driver_at(text: &[u8]) -> Option<(ArrayVec<u8, 16>, &[u8])>
     }
 }
 
-/// Whether a byte is a character of drivers.
-pub(crate) fn is_driver_character(byte: u8) -> bool
-    ensures { result ≡ is_driver_character byte }
-{
-    (b'A' <= byte && byte <= b'Z') || ((b'0' <= byte && byte <= b'9') || byte == b'-')
-}
-
 /// How many characters of drivers stand at the front.
 fn count_characters(text: &[u8]) -> usize
-    ensures count { result ≡ prefix_len is_driver_character text.now }
+    ensures count { result ≡ prefix_len is_identifier_character text.now }
     ensures within { result ≤ length text.now }
 {
     let mut count = 0;
     for byte in text {
-        if !is_driver_character(*byte) {
+        if !is_identifier_character(*byte) {
             return count;
         }
         count += 1;

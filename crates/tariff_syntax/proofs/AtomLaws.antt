@@ -6,11 +6,11 @@ use Rattle.tariff_syntax.specs.Figure.{small_number, amount_read, minute_read, d
 use Rattle.tariff_syntax.specs.Forms.{IsNumber, IsDate, IsMinute, IsAmount, IsWeekday, AreWeekdays, IsAtom}
 use Rattle.tariff_syntax.specs.Grammar.{Reader, factor_by}
 use Rattle.tariff_syntax.specs.Weight.{weight}
-use Rattle.tariff_syntax.specs.Weekdays.{day_word}
 use Rattle.tariff_syntax.specs.Token.{Token, word, figure, sign}
 use Rattle.tariff_syntax.specs.Words.{after_word, after_sign, word_first}
 use Rattle.tariff_syntax.proofs.FigureLaws.{small_is, small_again, pair_is, date_again, minute_is, minute_again, amount_is, amount_again, figure_as_is, figure_as_here}
 use Rattle.tariff_syntax.proofs.Tools.{bind_some, by_word, after_word_is, after_word_here, after_sign_is, after_sign_here, word_first_is, word_first_here, some_same}
+use Rattle.taxi_units.specs.Weekdays.{day_name}
 
 pub number_is : (least most : ℕ) (ts : List Token) (x : ℕ × List Token) → number_first least most ts ≡ Some x → (f : List ℕ) × (ts ≡ figure f ∷ x.1) × IsNumber least most f x.0
 unfolding number_first
@@ -56,7 +56,7 @@ each_day P a b c d e f g (suc (suc (suc (suc (suc (suc zero)))))) low high = f
 each_day P a b c d e f g (suc (suc (suc (suc (suc (suc (suc zero))))))) low high = g
 each_day P a b c d e f g (suc (suc (suc (suc (suc (suc (suc (suc n)))))))) low high = absurd (omega arith)
 
-named_day : (name : List ℕ) (k n : ℕ) → 1 ≤ k → k ≤ 7 → name ≡ day_word k → Some k ≡ Some n → IsWeekday name n
+named_day : (name : List ℕ) (k n : ℕ) → 1 ≤ k → k ≤ 7 → name ≡ day_name k → Some k ≡ Some n → IsWeekday name n
 named_day name k n low high is e = subst (IsWeekday name) (some_same k n e) (low, high, is)
 
 pub weekday_is : (name : List ℕ) (n : ℕ) → weekday_read name ≡ Some n → IsWeekday name n
@@ -71,8 +71,8 @@ weekday_is name n e =
     λ e. by_word P name (codes "sun") _ _ n e (named_day (codes "sun") 7 n (omega arith) (omega arith) refl) (
     λ e. absurd (let none : None ≡ Some n = e in cc))))))))
 
-day_again : (n : ℕ) → 1 ≤ n → n ≤ 7 → weekday_read (day_word n) ≡ Some n
-day_again = each_day (λ (n : ℕ). weekday_read (day_word n) ≡ Some n) refl refl refl refl refl refl refl
+day_again : (n : ℕ) → 1 ≤ n → n ≤ 7 → weekday_read (day_name n) ≡ Some n
+day_again = each_day (λ (n : ℕ). weekday_read (day_name n) ≡ Some n) refl refl refl refl refl refl refl
 
 weekday_again : (name : List ℕ) (n : ℕ) → IsWeekday name n → weekday_read name ≡ Some n
 weekday_again name n h = ap weekday_read h.2 ∙ day_again n h.0 h.1
@@ -220,8 +220,8 @@ atom_again factors conditions ts (or left right) rest stops h = absurd h
 atom_again factors conditions ts (not inner) rest stops h = absurd h
 
 -- the name of a weekday doesn't count
-pub day_light : (n : ℕ) → 1 ≤ n → n ≤ 7 → weight (word (day_word n) ∷ []) ≡ 0
-day_light = each_day (λ (n : ℕ). weight (word (day_word n) ∷ []) ≡ 0) refl refl refl refl refl refl refl
+pub day_light : (n : ℕ) → 1 ≤ n → n ≤ 7 → weight (word (day_name n) ∷ []) ≡ 0
+day_light = each_day (λ (n : ℕ). weight (word (day_name n) ∷ []) ≡ 0) refl refl refl refl refl refl refl
 
 weekday_light : (name : List ℕ) (n : ℕ) → IsWeekday name n → weight (word name ∷ []) ≡ 0
 weekday_light name n h = rw h.2 (day_light n h.0 h.1)

@@ -10,11 +10,11 @@ use Rattle.tariff_syntax.specs.Weight.{weight}
 use Rattle.tariff_syntax.specs.IsCondition.{IsCondition, atom, negation, parentheses, one_factor, conjunction, one_term, disjunction}
 use Rattle.tariff_syntax.specs.PrintedCondition.{Level, whole, term, factor, and_is_closed, or_is_closed, condition_at, days_text, minute_text, date_text}
 use Rattle.tariff_syntax.specs.Token.{Token, word, figure, sign}
-use Rattle.tariff_syntax.specs.Weekdays.{day_word}
 use Rattle.tariff_syntax.proofs.AtomLaws.{atom_weighs, day_light, each_day}
 use Rattle.tariff_syntax.proofs.ConditionAgain.{weight-append}
 use Rattle.tariff_syntax.proofs.ShownFigures.{decimal_text, money_is_text, amount_small, amount_again, number_again, pair_figure, date_shown, minute_shown}
 use Rattle.tariff_syntax.proofs.Shows.{Shows, Ready, blank, shown_word, letters_test, figure_shows, IsFigureText, dots}
+use Rattle.taxi_units.specs.Weekdays.{day_name}
 
 -- parentheses add one
 abbrev pub extra : Bool → ℕ
@@ -116,8 +116,8 @@ lift factor ts c h = h
 lift term ts c h = one_factor ts c h
 lift whole ts c h = one_term ts c (one_factor ts c h)
 
-day_letters : (n : ℕ) → 1 ≤ n → n ≤ 7 → letters_test (day_word n) ≡ true
-day_letters = each_day (λ (n : ℕ). letters_test (day_word n) ≡ true) refl refl refl refl refl refl refl
+day_letters : (n : ℕ) → 1 ≤ n → n ≤ 7 → letters_test (day_name n) ≡ true
+day_letters = each_day (λ (n : ℕ). letters_test (day_name n) ≡ true) refl refl refl refl refl refl refl
 
 days_range : (ts : List Token) (from to : ℕ) → AreWeekdays ts from to → (1 ≤ from) × (from ≤ 7) × (1 ≤ to) × (to ≤ 7)
 days_range ts from to (inl h) = (h.2.0, h.2.1, omega (arith, h.2.0, h.3), omega (arith, h.2.1, h.3))
@@ -125,20 +125,20 @@ days_range ts from to (inr h) = (h.3.0, h.3.1, h.4.0, h.4.1)
 
 -- the weekdays of a printed atom
 abbrev DaysShown : (from to : ℕ) → Bool → Type 0
-DaysShown from to same = (days : List Token) × AreWeekdays days from to × (weight days ≤ 0) × Show (λ rest. day_word from ++ cond same rest (codes ".." ++ (day_word to ++ rest))) days
+DaysShown from to same = (days : List Token) × AreWeekdays days from to × (weight days ≤ 0) × Show (λ rest. day_name from ++ cond same rest (codes ".." ++ (day_name to ++ rest))) days
 
-days_by : (same : Bool) (from to : ℕ) → (from == to) ≡ same → 1 ≤ from → from ≤ 7 → 1 ≤ to → to ≤ 7 → weight (word (day_word from) ∷ []) ≡ 0 → weight (word (day_word to) ∷ []) ≡ 0 → DaysShown from to same
+days_by : (same : Bool) (from to : ℕ) → (from == to) ≡ same → 1 ≤ from → from ≤ 7 → 1 ≤ to → to ≤ 7 → weight (word (day_name from) ∷ []) ≡ 0 → weight (word (day_name to) ∷ []) ≡ 0 → DaysShown from to same
 days_by true from to e a b c d light lighter = (
-  word (day_word from) ∷ [],
-  inl (day_word from, refl, (a, b, refl), sym (eqb-true from to e)),
+  word (day_name from) ∷ [],
+  inl (day_name from, refl, (a, b, refl), sym (eqb-true from to e)),
   omega (arith, light),
-  λ more ts texts ready. shown_word (day_word from) more ts texts (day_letters from a b) ready,
+  λ more ts texts ready. shown_word (day_name from) more ts texts (day_letters from a b) ready,
 )
 days_by false from to e a b c d light lighter = (
-  word (day_word from) ∷ sign (codes "..") ∷ word (day_word to) ∷ [],
-  inr (day_word from, day_word to, refl, (a, b, refl), (c, d, refl)),
+  word (day_name from) ∷ sign (codes "..") ∷ word (day_name to) ∷ [],
+  inr (day_name from, day_name to, refl, (a, b, refl), (c, d, refl)),
   omega (arith, light, lighter),
-  λ more ts texts ready. shown_word (day_word from) (46 ∷ 46 ∷ (day_word to ++ more)) (sign (codes "..") ∷ word (day_word to) ∷ ts) texts (day_letters from a b) (dots (day_word to ++ more) (word (day_word to) ∷ ts) texts (shown_word (day_word to) more ts texts (day_letters to c d) ready)),
+  λ more ts texts ready. shown_word (day_name from) (46 ∷ 46 ∷ (day_name to ++ more)) (sign (codes "..") ∷ word (day_name to) ∷ ts) texts (day_letters from a b) (dots (day_name to ++ more) (word (day_name to) ∷ ts) texts (shown_word (day_name to) more ts texts (day_letters to c d) ready)),
 )
 
 -- an atom is shown

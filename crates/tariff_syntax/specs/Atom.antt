@@ -8,17 +8,18 @@ use Rattle.tariff_syntax.specs.Condition.{after_time}
 use Rattle.tariff_syntax.specs.Figure.{number_first, amount_first, minute_first, date_first}
 use Rattle.tariff_syntax.specs.Token.{Token}
 use Rattle.tariff_syntax.specs.Words.{after_word, after_sign, word_first}
+use Rattle.taxi_units.specs.Weekdays.{day_name}
 
 -- the number of the weekday that a word names, 1 for Monday to 7 for Sunday
 abbrev pub weekday_read : List ℕ → Option ℕ
 weekday_read name =
-    if bytes_eq name (codes "mon") then Some 1
-    else (if bytes_eq name (codes "tue") then Some 2
-    else (if bytes_eq name (codes "wed") then Some 3
-    else (if bytes_eq name (codes "thu") then Some 4
-    else (if bytes_eq name (codes "fri") then Some 5
-    else (if bytes_eq name (codes "sat") then Some 6
-    else (if bytes_eq name (codes "sun") then Some 7
+    if bytes_eq name (day_name 1) then Some 1
+    else (if bytes_eq name (day_name 2) then Some 2
+    else (if bytes_eq name (day_name 3) then Some 3
+    else (if bytes_eq name (day_name 4) then Some 4
+    else (if bytes_eq name (day_name 5) then Some 5
+    else (if bytes_eq name (day_name 6) then Some 6
+    else (if bytes_eq name (day_name 7) then Some 7
     else None))))))
 
 -- the weekday that stands first, and the tokens after it

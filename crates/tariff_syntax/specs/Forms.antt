@@ -5,7 +5,7 @@ use Rattle.taxi_units.specs.Decimal.{IsReadAs}
 use Rattle.tariff_syntax.specs.Condition.{Condition, and, or, not, position, zone, time, day, date, holiday}
 use Rattle.tariff_syntax.specs.Condition.{after_distance, after_time}
 use Rattle.tariff_syntax.specs.Token.{Token, word, figure, sign}
-use Rattle.tariff_syntax.specs.Weekdays.{day_word}
+use Rattle.taxi_units.specs.Weekdays.{day_name}
 
 -- a text is a number of a range if it is one or two digits with its value, and it is of `least` to `most`
 abbrev pub IsNumber : (least most : ℕ) → List ℕ → ℕ → Type 0
@@ -42,7 +42,7 @@ IsAmount decimals text n = IsReadAs decimals text (Ok n)
 
 -- a word is a weekday of 1 to 7 if it is that day's short name
 abbrev pub IsWeekday : List ℕ → ℕ → Type 0
-IsWeekday name n = (1 ≤ n) × (n ≤ 7) × (name ≡ day_word n)
+IsWeekday name n = (1 ≤ n) × (n ≤ 7) × (name ≡ day_name n)
 
 -- tokens are weekdays if they are one short name, or two with `..` between them
 abbrev pub AreWeekdays : List Token → ℕ → ℕ → Type 0

@@ -24,7 +24,6 @@ pub mod TextLines
 pub mod Token
 pub mod TokenReading
 pub mod Tree
-pub mod Weekdays
 pub mod Weight
 pub mod Words
 pub mod Writable

@@ -4,12 +4,12 @@ use Rattle.std.specs.Fmt.{decimal}
 use Rattle.taxi_units.specs.Number.{money_text, padded_text}
 use Rattle.tariff_syntax.specs.Condition.{Condition, and, or, not, position, zone, time, day, date, holiday}
 use Rattle.tariff_syntax.specs.Condition.{after_distance, after_time}
-use Rattle.tariff_syntax.specs.Weekdays.{day_word}
+use Rattle.taxi_units.specs.Weekdays.{day_name}
 
 -- weekdays are printed as the first one's short name, and if the last one is another, `..` and its short name
 abbrev pub days_text : (from to : ℕ) → List ℕ → List ℕ
 days_text from to rest =
-    day_word from ++ (if from == to then rest else codes ".." ++ (day_word to ++ rest))
+    day_name from ++ (if from == to then rest else codes ".." ++ (day_name to ++ rest))
 
 -- a minute of the day is printed as its hours and its minutes, in two digits each, with `:` between them
 abbrev pub minute_text : (minute : ℕ) → List ℕ → List ℕ

@@ -10,6 +10,7 @@ ghost use Rattle.tariff_syntax.specs.TokenReading.{tokens_of};
 use crate::condition::Cond;
 use crate::figures::{amount_first, date_first, minute_first, number_first};
 use crate::words::{after_sign, after_word, is_text, word_first};
+use taxi_units::DAY_NAMES;
 
 /// An atom, after its first word, and what stands after it.
 #[tactic(auto, unfolding(crate::specs::Atom::atom_named))]
@@ -125,25 +126,25 @@ fn weekday_first(line: &[u8]) -> Option<(u8, &[u8])>
 fn weekday(name: &[u8]) -> Option<u8>
     ensures { GivesSame result (spec.weekday_read name.now) }
 {
-    if is_text(name, b"mon") {
+    if is_text(name, DAY_NAMES[0]) {
         return Some(1);
     }
-    if is_text(name, b"tue") {
+    if is_text(name, DAY_NAMES[1]) {
         return Some(2);
     }
-    if is_text(name, b"wed") {
+    if is_text(name, DAY_NAMES[2]) {
         return Some(3);
     }
-    if is_text(name, b"thu") {
+    if is_text(name, DAY_NAMES[3]) {
         return Some(4);
     }
-    if is_text(name, b"fri") {
+    if is_text(name, DAY_NAMES[4]) {
         return Some(5);
     }
-    if is_text(name, b"sat") {
+    if is_text(name, DAY_NAMES[5]) {
         return Some(6);
     }
-    if is_text(name, b"sun") {
+    if is_text(name, DAY_NAMES[6]) {
         return Some(7);
     }
     None

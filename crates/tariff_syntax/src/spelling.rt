@@ -6,12 +6,12 @@ ghost use Rattle.tariff_syntax.specs.Appends.{Appends};
 ghost use Rattle.tariff_syntax.specs.Condition.{condition_of};
 ghost use Rattle.tariff_syntax.specs.PrintedCondition.{condition_at, closed, whole, term, factor, days_text};
 ghost use Rattle.tariff_syntax.specs.PrintedCondition.{minute_text, date_text};
-ghost use Rattle.tariff_syntax.specs.Weekdays.{day_word};
+ghost use Rattle.taxi_units.specs.Weekdays.{day_name};
 
 use crate::condition::Cond;
 use crate::printing::push_money;
 use std::alloc::AllocError;
-use taxi_units::{Line, put_padded};
+use taxi_units::{DAY_NAMES, Line, put_padded};
 
 /// A whole condition, or one before an `or`.
 #[cycle(spelling)]
@@ -121,16 +121,16 @@ fn push_days(text: &mut Vec<u8>, from: u8, to: u8) -> Result<(), AllocError>
 
 /// The short name of a weekday, from 1 for Monday.
 fn weekday(number: u8) -> &'static [u8]
-    ensures { result.now ≡ day_word number }
+    ensures { result.now ≡ day_name number }
 {
     match number {
-        0 | 1 => b"mon",
-        2 => b"tue",
-        3 => b"wed",
-        4 => b"thu",
-        5 => b"fri",
-        6 => b"sat",
-        7 => b"sun",
+        0 | 1 => DAY_NAMES[0],
+        2 => DAY_NAMES[1],
+        3 => DAY_NAMES[2],
+        4 => DAY_NAMES[3],
+        5 => DAY_NAMES[4],
+        6 => DAY_NAMES[5],
+        7 => DAY_NAMES[6],
         _ => b"",
     }
 }

@@ -2,6 +2,7 @@ pub mod Calendar
 pub mod Counted
 pub mod Decimal
 pub mod Halving
+pub mod Identifier
 pub mod Limits
 pub mod Line
 pub mod Money
@@ -11,4 +12,5 @@ pub mod Parting
 pub mod Reading
 pub mod Shown
 pub mod Time
+pub mod Weekdays
 pub mod Written

@@ -6,6 +6,7 @@ mod calendar;
 mod counted;
 mod decimal;
 mod event;
+mod identifier;
 mod limits;
 mod line;
 mod money;
@@ -16,6 +17,7 @@ mod receipt;
 mod steps;
 mod texts;
 mod time;
+mod weekdays;
 
 pub use calendar::{
     date_of_place, date_place, dates_go_by_their_places, days_of_month, is_date, is_leap_year,
@@ -23,6 +25,7 @@ pub use calendar::{
 pub use counted::{AtMost, Counted, Keyed, each_step_halves};
 pub use decimal::{NumberFault, count_digits, number_at, number_of_width, read_decimal};
 pub use event::{Event, Key, Operating, Why};
+pub use identifier::is_identifier_character;
 pub use limits::{HIRINGS_END, LARGEST_SUPPLEMENTS, LAST_NUMBER, ROAMING_AMID, ROAMING_MOST};
 pub use line::{LINE_SIZE, Line, LineFull, put_bytes, put_money, put_number, put_padded};
 pub use money::LARGEST_AMOUNT;
@@ -38,6 +41,7 @@ pub use texts::{
     words_are_read_by_their_text,
 };
 pub use time::{FIRST_SECOND, LAST_SECOND, LONGEST_TRIP};
+pub use weekdays::DAY_NAMES;
 
 /// Memory ran out.
 #[derive(Clone, Copy, Debug, PartialEq, Eq)]

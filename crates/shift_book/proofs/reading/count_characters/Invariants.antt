@@ -1,10 +1,10 @@
 use Rattle.std.proofs.Common.{◌≡◌, ◌+◌, drop}
 use Rattle.std.specs.List.{prefix_len}
-use Rattle.shift_book.specs.Marks.{is_driver_character}
 use Rattle.shift_book.proofs.reading.count_characters.Given as goal
+use Rattle.taxi_units.specs.Identifier.{is_identifier_character}
 
 abbrev pub invariant-loop-byte : goal.invariant-loop-byte
 invariant-loop-byte l = record {
   passed : l.count ≡ l.byte-index;
-  front : prefix_len is_driver_character l.text ≡ l.count + prefix_len is_driver_character (drop l.byte-index l.text);
+  front : prefix_len is_identifier_character l.text ≡ l.count + prefix_len is_identifier_character (drop l.byte-index l.text);
 }
