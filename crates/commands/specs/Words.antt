@@ -10,6 +10,7 @@ use Rattle.commands.specs.Years.{years_of}
 use Rattle.commands.specs.declared.words.Row.{Row}
 use Rattle.commands.specs.declared.words.Row.TheVariants.{Check, Tables, Fare, Totals, Seal, Run, Bench, Gen}
 use Rattle.commands.specs.declared.words.Row.TheVariants.{Port, Offsets, Mark, Shifts, Sealed, Form}
+use Rattle.taxi_units.specs.Words.{is_word}
 
 -- a word is a constant where a number was read of it with nothing left, of at most 6 digits and from 500 to 200,000
 abbrev pub constant_in : List ℕ → Option (ℕ × List ℕ) → Option ℕ
@@ -51,10 +52,6 @@ gen_of (Some seed) trips = option_map (Gen seed) trips
 -- the row by which a driver signs on has the name of the driver
 abbrev pub signs_on : List ℕ → Row
 signs_on driver = Mark (Some (record { items = driver }))
-
--- the test `is_word` is true where a word has the same bytes as a name
-abbrev pub is_word : List ℕ → List ℕ → Bool
-is_word word name = pointwise nat_eq word name
 
 -- the row of one word is `totals` or `sealed`
 abbrev pub one_word : (command : List ℕ) → Option Row

@@ -7,6 +7,7 @@ ghost use Rattle.taxi_units.specs.Reading.{GivesSame};
 ghost use Rattle.shift_book.specs.Reading.{driver_of};
 ghost use Rattle.commands.specs.Words.{constant_of, fitting, row_of, seed_of, signs_on, trips_of};
 ghost use Rattle.commands.specs.Words as spec;
+ghost use Rattle.taxi_units.specs.Words.{is_word};
 
 use crate::years::Years;
 use arrayvec::ArrayVec;
@@ -150,7 +151,7 @@ fn trip_count(word: &[u8]) -> Option<Trips>
 
 /// Whether a word is this one.
 fn is_word(word: &[u8], name: &[u8]) -> bool
-    ensures { result ≡ spec.is_word word.now name.now }
+    ensures { result ≡ is_word word.now name.now }
 {
     word == name
 }

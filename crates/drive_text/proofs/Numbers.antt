@@ -11,8 +11,8 @@ use Rattle.std.proofs.lemmas.Str.Parse.{digit_from_value}
 use Rattle.taxi_units.specs.Number.{number_at}
 use Rattle.taxi_units.proofs.Laws.{numbers_are_read_by_their_digits}
 use Rattle.drive_text.specs.Fields.{is_number, number_in}
-use Rattle.drive_text.specs.Table.{IsNumberIn}
 use Rattle.drive_text.specs.Lines.{HasNone}
+use Rattle.taxi_units.specs.Written.{IsNumberIn}
 
 digit_below : (c : ℕ) → is_ascii_digit c ≡ true → digit_value c < 10
 digit_below c h = grind (arith, nat_tests)

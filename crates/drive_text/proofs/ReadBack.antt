@@ -17,7 +17,7 @@ use Rattle.drive_text.specs.declared.run.Run.TheVariants.{One}
 use Rattle.drive_text.specs.Ranges.{IsInRange, IsKeyInRange}
 use Rattle.drive_text.specs.Lines.{ended_lines, unfinished_line, is_too_long, IsOneLine}
 use Rattle.drive_text.specs.Fields.{line_runs}
-use Rattle.drive_text.specs.Table.{IsNumberIn, Means}
+use Rattle.drive_text.specs.Table.{Means}
 use Rattle.drive_text.specs.Table.Means.{up, down, clock, pulses, tick, hire, stop, clear, position, zone, extra}
 use Rattle.drive_text.specs.Drive.{or_else, first_bad_line, bad_at_end, runs_of_lines, runs_in}
 use Rattle.drive_text.specs.Written.{key_text, event_fields, event_text}
@@ -25,6 +25,7 @@ use Rattle.drive_text.proofs.Parts.{line_ends}
 use Rattle.drive_text.proofs.Positions.{first_bad_line-good, runs_of_lines-good, runs_of_lines-one}
 use Rattle.drive_text.proofs.Table.{line_runs-table}
 use Rattle.drive_text.proofs.Decimals.{decimal_short}
+use Rattle.taxi_units.specs.Written.{IsNumberIn}
 
 -- no line end and no CR
 abbrev IsPlain : List ℕ → Type 0

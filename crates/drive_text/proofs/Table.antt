@@ -16,10 +16,11 @@ use Rattle.taxi_units.specs.declared.event.Key.TheVariants.{Hire, Stop, Clear, P
 use Rattle.drive_text.specs.declared.run.Run.{Run}
 use Rattle.drive_text.specs.declared.run.Run.TheVariants.{One, Many}
 use Rattle.drive_text.specs.Fields.{is_word, number_in, second_in, plain_key, numbered_key, one, intervals_of, run_of_one_field, run_of_two_fields, run_of_three_fields, run_of_fields, text_runs, line_runs}
-use Rattle.drive_text.specs.Table.{IsNumberIn, Means}
+use Rattle.drive_text.specs.Table.{Means}
 use Rattle.drive_text.specs.Table.Means.{empty, comment, up, down, clock, pulses, tick, intervals, hire, stop, clear, position, zone, extra}
 use Rattle.drive_text.proofs.Blanks.{none_tests}
 use Rattle.drive_text.proofs.Numbers.{number_sound, number_complete, digits_blankless}
+use Rattle.taxi_units.specs.Written.{IsNumberIn}
 
 -- ---- what the table has is what the line means
 

@@ -7,14 +7,7 @@ use Rattle.taxi_units.specs.declared.event.Event.TheVariants as events
 use Rattle.taxi_units.specs.declared.event.Key.TheVariants.{Hire, Stop, Clear, Position, Zone, Extra}
 use Rattle.drive_text.specs.declared.run.Run.{Run}
 use Rattle.drive_text.specs.declared.run.Run.TheVariants.{One, Many}
-
--- digits write a number of a range if they are 1 to 12 decimal digits that have its value, and it lies in the range
-pub record IsNumberIn (low high : ℕ) (digits : List ℕ) (number : ℕ) : Type 0 where
-  pub numeral : IsNumeral 10 digits
-  pub few : length digits ≤ 12
-  pub value : digits_value 10 digits ≡ number
-  pub above : low ≤ number
-  pub below : number ≤ high
+use Rattle.taxi_units.specs.Written.{IsNumberIn}
 
 -- a line without its line end means no run if it is empty or a comment, and else the one run that its word and its
 -- numbers say

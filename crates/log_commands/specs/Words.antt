@@ -3,10 +3,7 @@ use Rattle.std.specs.Prelude.{ℕ, Bool, List, [], ◌∷◌, Option, Some, None
 use Rattle.std.specs.Cmp.Lexicographic.{pointwise}
 use Rattle.log_commands.specs.declared.words.Call.{Call}
 use Rattle.log_commands.specs.declared.words.Call.TheVariants.{File, Show}
-
--- the test `is_word` is true where a word has the same bytes as a name
-abbrev pub is_word : List ℕ → List ℕ → Bool
-is_word word name = pointwise nat_eq word name
+use Rattle.taxi_units.specs.Words.{is_word}
 
 -- one word is a command where it is `show`
 abbrev pub one_word : (command : List ℕ) → Option Call

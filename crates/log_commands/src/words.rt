@@ -2,6 +2,7 @@
 ghost use Rattle.std.specs.Prelude.{◌≡◌, map, string_bytes};
 ghost use Rattle.log_commands.specs.Words.{call_of};
 ghost use Rattle.log_commands.specs.Words as spec;
+ghost use Rattle.taxi_units.specs.Words.{is_word};
 
 /// A command that the program knows.
 #[derive(Clone, Copy)]
@@ -14,7 +15,7 @@ pub enum Call {
 
 /// Whether a word is this one.
 fn is_word(word: &[u8], name: &[u8]) -> bool
-    ensures { result ≡ spec.is_word word.now name.now }
+    ensures { result ≡ is_word word.now name.now }
 {
     word == name
 }

@@ -16,12 +16,12 @@ use Rattle.seal_store.specs.Forms.{IsDateText, IsModeText, IsOffsetText, IsPairT
 use Rattle.seal_store.specs.Forms.IsModeText.{double_said, single_said}
 use Rattle.seal_store.specs.Forms.IsOffsetText.{ahead, behind}
 use Rattle.seal_store.specs.OffsetLaws.{Decides-leb}
-use Rattle.seal_store.specs.Says.{IsNumberIn}
 use Rattle.seal_store.specs.Values.{mode_read, number_in, offset_read, pair_read, secured_read, where_date}
 use Rattle.seal_store.proofs.DayBounds.{date_decides}
 use Rattle.seal_store.proofs.PlainValues.{minus_again, no_minus}
 use Rattle.seal_store.proofs.SaidRanges.{let_through, read_on}
 use Rattle.seal_store.proofs.TextLaws.{empty_of, numbers_in_ranges}
+use Rattle.taxi_units.specs.Written.{IsNumberIn}
 
 -- ---- modes
 

@@ -20,12 +20,13 @@ use Rattle.seal_store.specs.Spelling.{spelling}
 use Rattle.seal_store.specs.Reading.{and_then, lines_read}
 use Rattle.seal_store.specs.Said.{Said}
 use Rattle.seal_store.specs.SaidStages.{line_read}
-use Rattle.seal_store.specs.Says.{HasNone, AreLines, BreaksAt, IsNumberIn, IsParted}
+use Rattle.seal_store.specs.Says.{HasNone, AreLines, BreaksAt, IsParted}
 use Rattle.seal_store.specs.Says.AreLines.{ended, last}
 use Rattle.seal_store.specs.Says.IsParted.{alone, parted}
 use Rattle.seal_store.specs.Values.{is_taxi, number_in, taxi_read, where_in}
 use Rattle.seal_store.proofs.Parting.{ended_line, key_alone, key_before, last_line, no_value, value_after}
 use Rattle.seal_store.proofs.SaidRanges.{let_through, read_on}
+use Rattle.taxi_units.specs.Written.{IsNumberIn}
 
 none_in_nothing : (byte : ℕ) → HasNone byte []
 none_in_nothing byte = λ k d lt. absurd (omega arith)

@@ -5,7 +5,7 @@ use Rattle.drive_modes.specs.declared.charges.Mode.{Mode}
 use Rattle.drive_modes.specs.declared.charges.Mode.TheVariants.{Single, Double}
 use Rattle.interval_clock.specs.Calendar.{IsDateOf}
 use Rattle.seal_store.specs.Limits.{greatest_offset, first_year, last_year}
-use Rattle.seal_store.specs.Says.{IsNumberIn}
+use Rattle.taxi_units.specs.Written.{IsNumberIn}
 
 -- a text is that of a mode if it is `single` for mode S, or `double` for mode D
 pub data IsModeText : List ℕ → Mode → Type 0 where

@@ -6,7 +6,8 @@ use Rattle.seal_store.specs.Forms.{IsDateText, IsModeText, IsPairText}
 use Rattle.seal_store.specs.Limits.{least_constant, greatest_constant, longest_hold}
 use Rattle.seal_store.specs.Ranges.{IsTaxi}
 use Rattle.seal_store.specs.Said.{Said}
-use Rattle.seal_store.specs.Says.{IsNumberIn, IsParted}
+use Rattle.seal_store.specs.Says.{IsParted}
+use Rattle.taxi_units.specs.Written.{IsNumberIn}
 
 -- a line is silent if it is empty, or a comment, which begins with #
 pub data IsSilent : List ℕ → Type 0 where

@@ -21,14 +21,6 @@ pub data IsParted : List ℕ → (key value : List ℕ) → Type 0 where
   parted : (key value : List ℕ) → HasNone 32 key → IsParted (key ++ 32 ∷ value) key value
   alone : (key : List ℕ) → HasNone 32 key → IsParted key key []
 
--- digits are a number of a range if there are 1 to 12 of them, they write that number, and it is in the range
-pub record IsNumberIn (low high : ℕ) (digits : List ℕ) (number : ℕ) : Type 0 where
-  pub numeral : IsNumeral 10 digits
-  pub few : length digits ≤ 12
-  pub value : digits_value 10 digits ≡ number
-  pub above : low ≤ number
-  pub below : number ≤ high
-
 -- lines break at a fault if all lines before one of them are good, and that line, numbered behind them, has the
 -- fault; `lines_read` and `line_read` give what lines and a line say or their fault, as the laws
 -- lines_say_their_parameter and bad_lines_have_their_fault say

@@ -8,8 +8,9 @@ ghost use Rattle.seal_store.specs.OffsetList.{is_offset_list};
 ghost use Rattle.seal_store.specs.Ranges.{IsParams, IsTaxi};
 ghost use Rattle.seal_store.specs.Reading.{lines_read, params_read};
 ghost use Rattle.seal_store.specs.Said.{Said};
-ghost use Rattle.seal_store.specs.Says.{AreLines, BreaksAt, IsNumberIn, IsParted};
+ghost use Rattle.seal_store.specs.Says.{AreLines, BreaksAt, IsParted};
 ghost use Rattle.seal_store.specs.Values.{number_in, taxi_read};
+ghost use Rattle.taxi_units.specs.Written.{IsNumberIn};
 
 /// A law: a text has its lines, each with its LF and perhaps a CR before it, and what stands behind the
 /// last LF as its last line; a line is its key, one blank and its value, or its key alone; a number is

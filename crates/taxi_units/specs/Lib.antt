@@ -13,4 +13,5 @@ pub mod Reading
 pub mod Shown
 pub mod Time
 pub mod Weekdays
+pub mod Words
 pub mod Written

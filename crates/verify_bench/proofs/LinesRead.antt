@@ -12,12 +12,13 @@ use Rattle.drive_text.proofs.Laws as laws
 use Rattle.drive_text.specs.Drive.{bad_at_end, runs_in}
 use Rattle.drive_text.specs.Lines.{IsOneLine, text_of}
 use Rattle.drive_text.specs.Ranges.{IsRunInRange}
-use Rattle.drive_text.specs.Table.{IsNumberIn, Means}
+use Rattle.drive_text.specs.Table.{Means}
 use Rattle.drive_text.specs.Table.Means.{intervals}
 use Rattle.drive_text.specs.Whole.{EndsWhole, GiveAll}
 use Rattle.drive_text.specs.Whole.GiveAll.{no_line, one_more}
 use Rattle.drive_text.specs.declared.run.Run.{Run}
 use Rattle.drive_text.specs.declared.run.Run.TheVariants.{One, Many}
+use Rattle.taxi_units.specs.Written.{IsNumberIn}
 use Rattle.verify_bench.specs.Generated.{line_text, lines_text}
 
 -- no line end and no CR stands in it
