@@ -129,7 +129,7 @@ const NAMES: [&str; 8] = [
 ];
 
 /// The name among those that a fault may be of, and else one that none is of.
-fn known(name: &str) -> &'static str {
+fn listed(name: &str) -> &'static str {
     for one in NAMES {
         if one == name {
             return one;
@@ -149,7 +149,7 @@ impl<'a> HostSystem for FaultySystem<'a> {
     type Dir = <HostRuntime as HostSystem>::Dir;
 
     fn open_file(&self, how: &OpenOptions, path: &str) -> io::Result<FaultyFile<'a>> {
-        let name = known(path);
+        let name = listed(path);
         self.trial.pass(if how.asks_write() {
             Call::OpenToWrite(name)
         } else {
@@ -168,7 +168,7 @@ impl<'a> HostSystem for FaultySystem<'a> {
     }
 
     fn metadata(&self, path: &str) -> io::Result<Metadata> {
-        self.trial.pass(Call::Metadata(known(path)))?;
+        self.trial.pass(Call::Metadata(listed(path)))?;
         self.rt.metadata(self.trial.led(path))
     }
 
@@ -185,7 +185,7 @@ impl<'a> HostSystem for FaultySystem<'a> {
     }
 
     fn remove_file(&self, path: &str) -> io::Result<()> {
-        self.trial.pass(Call::Remove(known(path)))?;
+        self.trial.pass(Call::Remove(listed(path)))?;
         if self.trial.has_names.get() {
             return Err(disorder());
         }
@@ -209,7 +209,7 @@ impl<'a> HostSystem for FaultySystem<'a> {
     }
 
     fn hard_link(&self, original: &str, link: &str) -> io::Result<()> {
-        self.trial.pass(Call::Link(known(link)))?;
+        self.trial.pass(Call::Link(listed(link)))?;
         if self.trial.has_bytes.get() {
             return Err(disorder());
         }
