@@ -1,12 +1,12 @@
 //! The contents of the items.
-ghost use Rattle.std.specs.Prelude.{◌≡◌, ◌++◌, ◌+◌, ◌≤◌, length, replicate, IfSome};
+ghost use Rattle.std.specs.Prelude.{◌≡◌, ◌++◌, ◌+◌, ◌≤◌, length, replicate};
 ghost use Rattle.arrayvec.specs.ArrayVec.{array_vec_len};
 ghost use Rattle.taxi_units.specs.Line.{line_size};
 ghost use Rattle.taxi_units.specs.Money.{largest_amount};
 ghost use Rattle.seal_store.specs.Ranges.{IsSeal};
 ghost use Rattle.seal_store.specs.Spelling.{padded};
 ghost use Rattle.totaliser_store.specs.Bytes.{four, eight, sixteen};
-ghost use Rattle.totaliser_store.specs.Ranges.{IsDurable, IsHeld};
+ghost use Rattle.totaliser_store.specs.Ranges.{IsDurable};
 ghost use Rattle.totaliser_store.specs.Spelling.{share_bytes};
 ghost use Rattle.data_port.specs.Reply.{content, held_content, held_trip, held_values, shares_content, trip_content};
 
@@ -85,13 +85,13 @@ fn put_trip(line: &mut Line, constant: Constant, trip: &Trip)
 }
 
 /// Appends whether a trip is held, and what is told of it, or zeros.
-fn put_held(line: &mut Line, constant: Constant, number: u64, hold: &Option<Trip>)
+fn put_held(line: &mut Line, constant: Constant, durable: &Durable)
     requires room { array_vec_len line.old + 57 ≤ line_size }
-    requires held { IfSome hold.now (IsHeld number) }
-    ensures items { line.new.items ≡ line.old.items ++ held_content (held_values constant hold.now) }
+    requires durable { IsDurable durable.now }
+    ensures items { line.new.items ≡ line.old.items ++ held_content (held_values constant durable.now.hold) }
     ensures len { array_vec_len line.new ≡ array_vec_len line.old + 57 }
 {
-    match hold {
+    match &durable.hold {
         Some(trip) => {
             push_bytes(line, &[1]);
             put_trip(line, constant, trip);
@@ -145,7 +145,7 @@ pub(crate) fn put_content(line: &mut Line, code: u8, durable: &Durable, seal: &S
         9 => put_eight(line, totals.hirings),
         10 => put_sixteen(line, totals.supplements),
         11 => put_sixteen(line, totals.fare),
-        12 => put_held(line, params.constant, durable.number, &durable.hold),
+        12 => put_held(line, params.constant, durable),
         _ => put_shares(line, totals),
     }
 }

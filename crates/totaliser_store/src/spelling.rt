@@ -1,9 +1,9 @@
 //! The bytes of a durable state.
-ghost use Rattle.std.specs.Prelude.{◌≡◌, ◌++◌, ◌+◌, ◌≤◌, IfSome};
+ghost use Rattle.std.specs.Prelude.{◌≡◌, ◌++◌, ◌+◌, ◌≤◌};
 ghost use Rattle.arrayvec.specs.ArrayVec.{array_vec_len};
 ghost use Rattle.slot_store.specs.Sizes.{body_size};
 ghost use Rattle.taxi_units.specs.Money.{largest_amount};
-ghost use Rattle.totaliser_store.specs.Ranges.{IsDurable, IsHeld};
+ghost use Rattle.totaliser_store.specs.Ranges.{IsDurable};
 ghost use Rattle.totaliser_store.specs.Spelling.{head_bytes, course_bytes, meterage_bytes, trip_bytes};
 ghost use Rattle.totaliser_store.specs.Spelling.{held_bytes, share_bytes, shared_bytes, spelling};
 
@@ -19,7 +19,7 @@ pub fn spell(durable: &Durable) -> [u8; BODY_SIZE]
 {
     let mut out = Spelled::new();
     put_head(&mut out, durable.number, &durable.totals);
-    put_held(&mut out, durable.number, &durable.hold);
+    put_held(&mut out, durable);
     put_shared(&mut out, durable.layout, &durable.totals);
     put_bytes(&mut out, &[durable.layout]);
     let mut bytes = [0; BODY_SIZE];
@@ -42,13 +42,13 @@ fn put_head(out: &mut Spelled, number: u64, totals: &Totals)
 }
 
 /// Appends whether a trip is held, and the trip, or zeros.
-fn put_held(out: &mut Spelled, number: u64, hold: &Option<Trip>)
+fn put_held(out: &mut Spelled, durable: &Durable)
     requires room { array_vec_len out.old + 108 ≤ body_size }
-    requires held { IfSome hold.now (IsHeld number) }
-    ensures items { out.new.items ≡ out.old.items ++ held_bytes hold.now }
+    requires durable { IsDurable durable.now }
+    ensures items { out.new.items ≡ out.old.items ++ held_bytes durable.now.hold }
     ensures len { array_vec_len out.new ≡ array_vec_len out.old + 108 }
 {
-    match hold {
+    match &durable.hold {
         Some(trip) => {
             put_bytes(out, &[1]);
             put_trip(out, trip);
