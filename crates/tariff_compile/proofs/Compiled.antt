@@ -11,7 +11,7 @@ use Rattle.std.specs.List.{slice_get}
 use Rattle.std.specs.Option.{option_map}
 use Rattle.drive_modes.specs.declared.charges.Weights.{Weights}
 use Rattle.interval_clock.specs.Calendar.{IsDateOf}
-use Rattle.tariff_calendar.specs.Lists.{count_at_most, has_day, has_days, is_holiday, lists_of, pulses_for}
+use Rattle.tariff_calendar.specs.Lists.{CutLists, count_at_most, has_day, has_days, is_holiday, lists_of, pulses_for}
 use Rattle.tariff_calendar.specs.Range.{IsInRange, IsInRangeOf}
 use Rattle.tariff_calendar.proofs.Laws.{holidays_are_dates-dates, holidays_are_dates-some, lists_are_ordered-hiring}
 use Rattle.tariff_check.specs.Cells.{cells_of, day_kinds}
@@ -111,6 +111,11 @@ bands_in-narrow t k cell parts below =
 -- the sizes of the tables' dimensions are those of the tariff
 sizes_of_tree : (t : Tree) (k : ℕ) → sizes_for (tables_of t k) ≡ sizes_in t k
 sizes_of_tree t k = ap (λ (holidays : Bool). sizes_of (positions_of t.lines) (zones_of t.lines) (if holidays then 2 else 1) (lists_of t k)) (holidays_are_dates-some t k)
+
+-- the sizes that a tree's positions, zones and cuts give are the tree's
+pub sizes_checked : (t : Tree) (k positions zones : ℕ) (cuts : CutLists) → positions ≡ positions_of t.lines → zones ≡ zones_of t.lines → cuts ≡ lists_of t k
+    → sizes_of positions zones (if has_days cuts then 2 else 1) cuts ≡ sizes_in t k
+sizes_checked t k positions zones cuts positions_are zones_are cuts_are = rw (positions_are, zones_are, cuts_are) (sizes_of_tree t k)
 
 pub sizes_of_tables : (t : Tree) (tables : TableParts) → IsTablesOf t tables → sizes_for tables ≡ sizes_in t tables.constant
 sizes_of_tables t tables is = ap sizes_for is.parts ∙ sizes_of_tree t tables.constant

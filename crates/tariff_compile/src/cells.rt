@@ -1,10 +1,11 @@
 //! The lines of each cell, by asking the tariff's conditions in contexts of 64 cells at a time.
 ghost use Rattle.std.specs.List.{range_with_len};
 ghost use Rattle.std.specs.Option.{ForSome, unwrap_or};
-ghost use Rattle.std.specs.Prelude.{◌≡◌, ◌-◌, ◌<◌, ◌≤◌, ◌++◌, IfOk, OnOk, length, map};
+ghost use Rattle.std.specs.Prelude.{◌≡◌, ℕ, ◌-◌, ◌<◌, ◌≤◌, ◌++◌, IfOk, OnOk, length, map};
 ghost use Rattle.tariff_calendar.specs.Lists.{lists_of};
-ghost use Rattle.tariff_check.specs.Cells.{cells_of};
-ghost use Rattle.tariff_compile.specs.Tables.{all_cells, context_of, lines_at, number_of, sizes_in};
+ghost use Rattle.tariff_check.specs.Sound.{HasSoundParts};
+ghost use Rattle.tariff_compile.specs.Cells.{HasLowCuts, IsBelow, IsNarrow, bands_of, context_in};
+ghost use Rattle.tariff_compile.specs.Tables.{all_cells, lines_at, number_of};
 ghost use Rattle.tariff_syntax.specs.Meaning.{at_hiring};
 ghost use Rattle.tariff_syntax.specs.Tree.{tree_of};
 
@@ -26,67 +27,47 @@ pub(crate) fn all_cells(
     cuts: &Cuts,
     k: Constant,
 ) -> Result<Vec<CellLines>, NoMemory>
-    requires { cuts.now ≡ lists_of (tree_of checked.now) k }
+    requires parts { HasSoundParts (tree_of checked.now) }
+    requires cuts { cuts.now ≡ lists_of (tree_of checked.now) k }
     ensures { IfOk result (λ cells. cells.items ≡ all_cells (tree_of checked.now) k) }
 {
-    let sizes = sizes_in(checked, cuts, k);
+    let sizes = sizes_of(checked.positions(), checked.zones(), cuts);
     let count = checked.cells() as usize;
     let mut cells = Vec::new(alloc);
     let mut first = 0;
     while first < count {
         let end = count.min(first + 64);
-        let contexts = contexts_of(alloc, checked, cuts, k, &sizes, first, end)?;
+        let contexts = contexts_of(alloc, cuts, k, &sizes, first, end)?;
         push_lines(alloc, checked, contexts.as_slice(), &mut cells)?;
         first = end;
     }
     Ok(cells)
 }
 
-/// How many numbers each dimension has.
-fn sizes_in(checked: &Checked, cuts: &Cuts, k: Constant) -> Bands
-    requires { cuts.now ≡ lists_of (tree_of checked.now) k }
-    ensures { result ≡ sizes_in (tree_of checked.now) k }
-{
-    sizes_of(checked.positions(), checked.zones(), cuts)
-}
-
 /// A context of each cell from the first on and before the end.
 fn contexts_of(
     alloc: Global,
-    checked: &Checked,
     cuts: &Cuts,
     k: Constant,
     sizes: &Bands,
     first: usize,
     end: usize,
 ) -> Result<Vec<Context>, NoMemory>
-    requires cuts { cuts.now ≡ lists_of (tree_of checked.now) k }
-    requires sizes { sizes.now ≡ sizes_in (tree_of checked.now) k }
+    requires low { HasLowCuts cuts.now }
+    requires below { (cell : ℕ) → cell < end → IsBelow sizes.now (bands_of sizes.now cell) }
+    requires narrow { (cell : ℕ) → cell < end → IsNarrow (bands_of sizes.now cell) }
     requires order { first ≤ end }
-    requires cells { end ≤ cells_of (tree_of checked.now).lines }
     ensures { IfOk result (λ contexts. contexts.items
-        ≡ map (context_of (tree_of checked.now) k) (range_with_len first (end - first))) }
+        ≡ map (λ cell. context_in k cuts.now (bands_of sizes.now cell)) (range_with_len first (end - first))) }
 {
     let mut contexts = Vec::new(alloc);
     for cell in first..end {
-        let context = cell_context(checked, cuts, k, sizes, cell);
+        let context = context_in(k, cuts, &bands_of(sizes, cell));
         if contexts.push(context).is_err() {
             return Err(NoMemory);
         }
     }
     Ok(contexts)
-}
-
-/// A context of a cell.
-fn cell_context(checked: &Checked, cuts: &Cuts, k: Constant, sizes: &Bands, cell: usize) -> Context
-    requires cuts { cuts.now ≡ lists_of (tree_of checked.now) k }
-    requires sizes { sizes.now ≡ sizes_in (tree_of checked.now) k }
-    requires cell { cell < cells_of (tree_of checked.now).lines }
-    ensures { result ≡ context_of (tree_of checked.now) k cell }
-{
-    // Only a sound tariff is checked: this says that there are few positions and zones, and low cuts.
-    let _sound = checked.tariff();
-    context_in(k, cuts, &bands_of(sizes, cell))
 }
 
 /// The lines that hold first in each of up to 64 contexts, behind the others.

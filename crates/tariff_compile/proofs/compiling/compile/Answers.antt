@@ -15,6 +15,10 @@ pub all_weights-requires-clause-measure : goal.all_weights-requires-clause-measu
 all_weights-requires-clause-measure c =
     c.measure.ensures.range.1
 
+pub all_cells-requires-clause-parts : goal.all_cells-requires-clause-parts
+all_cells-requires-clause-parts c =
+    sound_tariffs_have_sound_parts-parts (tree_of c.args.checked.now) c.tariff-tariff.ensures.writable c.tariff-tariff.ensures.sound
+
 pub invariant_of-result : goal.invariant_of-result
 invariant_of-result c =
     let t = tree_of c.args.checked.now in
