@@ -48,7 +48,7 @@ pub(crate) fn part_of(seal: &Seal) -> SealPart
     ensures part { result ≡ part_of seal.now }
     ensures range { IsPart result }
 {
-    bytes_are_a_digest(&seal.digest);
+    known(&seal.digest);
     let mut taxi = ArrayVec::new();
     taxi.try_extend_from_slice(seal.params.taxi.as_slice())
         .unwrap();
@@ -60,13 +60,11 @@ pub(crate) fn part_of(seal: &Seal) -> SealPart
     }
 }
 
-/// A law of 32 bytes: they are a digest.
-fn bytes_are_a_digest(bytes: &[u8])
+/// Says of 32 bytes what is known of each: it is below 256. It does nothing.
+fn known(bytes: &[u8])
     requires { length bytes.now ≡ 32 }
     ensures { IsDigest bytes.now }
-{
-    let _count = bytes.len();
-}
+{}
 
 /// Appends the lines of the seal.
 #[tactic(auto, unfolding(crate::specs::Receipts::part_text))]
