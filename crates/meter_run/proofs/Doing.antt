@@ -1,17 +1,20 @@
 -- Acts on a store, one after the other.
 use Rattle.std.proofs.Common.{◌≡◌, ℕ, zero, suc, ◌+◌, ◌*◌, ◌≤◌, ◌<◌, List, [], ◌∷◌, ◌++◌, All, length, take, drop, get_or, sym, ap, subst, ◌∙◌, arith, Result, OnOk}
 use Rattle.std.proofs.lemmas.List.{append-nil, take-append-drop, take_more}
-use Rattle.std.proofs.lemmas.List.Elements.{All-head, All-tail}
+use Rattle.std.proofs.lemmas.List.Elements.{All-cons, All-head, All-nil, All-tail}
 use Rattle.outside.specs.declared.board.Board.{Ghosts}
 use Rattle.tariff_compile.specs.Tables.{TableParts}
 use Rattle.seal_store.specs.declared.seal.Seal.{Seal}
 use Rattle.totaliser_store.specs.declared.durable.Durable.{Durable}
+use Rattle.meter_states.specs.Acts.{IsLawfulAct}
 use Rattle.meter_states.specs.declared.act.Act.{Act}
 use Rattle.meter_run.specs.Commits.{after_act, after_acts, commits_in}
 use Rattle.meter_run.specs.Deeds.{Deed, Does, act_text, deeds_of, texts}
+use Rattle.meter_run.specs.OnStore.{Agrees, MayDo}
 use Rattle.meter_run.specs.PointLaws.{deeds_joined, keeps_longer, keeps_next, text_next}
 use Rattle.meter_run.specs.Points.{KeepsTo}
 use Rattle.meter_run.specs.RunLaws.{after_deeds_of}
+use Rattle.meter_run.specs.declared.stored.Known.{Known}
 use Rattle.meter_run.proofs.Committing.{commits_append}
 
 deeds_more : (acts : List Act) (n : ℕ) (x : Act) → n < length acts → deeds_of (take (n + 1) acts) ≡ deeds_of (take n acts) ++ Does (get_or acts n x) ∷ []
@@ -58,6 +61,16 @@ pub all_at : (P : Act → Type 0) (acts : List Act) (n : ℕ) (x : Act) → n < 
 all_at P [] n x lt all = absurd (omega arith)
 all_at P (act ∷ acts) zero x lt all = All-head P act acts all
 all_at P (act ∷ acts) (suc n) x lt all = all_at P acts n x (omega arith) (All-tail P act acts all)
+
+module _ {D L : Type 0} (B : Ghosts D L) (tables : TableParts) where
+  -- the act at a place may be done where all may be done from the start, and the board agrees now
+  pub may_at : (k l : Known) (a b : D) (acts : List Act) (n : ℕ) (x : Act) → n < length acts → MayDo B tables k a acts → Agrees B tables l b
+      → MayDo B tables l b (get_or acts n x ∷ [])
+  may_at k l a b acts n x lt may agrees = record {
+    agrees = agrees;
+    number = may.number;
+    lawful = All-cons (IsLawfulAct tables may.number) (get_or acts n x) [] (all_at (IsLawfulAct tables may.number) acts n x lt may.lawful) (All-nil (IsLawfulAct tables may.number));
+  }
 
 module _ {D L : Type 0} (B : Ghosts D L) (tables : TableParts) (seal : Seal) where
   module _ (a b c : D) (acts : List Act) (n : ℕ) (x : Act) (lt : n < length acts) (text : B.tells_text → B.printed b ≡ B.printed a ++ texts seal (deeds_of (take n acts))) where

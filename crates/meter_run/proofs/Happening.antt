@@ -39,7 +39,7 @@ use Rattle.meter_run.specs.Commits.{after_acts}
 use Rattle.meter_run.specs.Deeds.{Deed, Does, deeds_of, texts}
 use Rattle.meter_run.specs.Dry.{IsReady}
 use Rattle.meter_run.specs.Kept.{StandsWith}
-use Rattle.meter_run.specs.OnStore.{Agrees, Attempts, CarriesOut, Has, IsReadyOn, IsSecured, Knows, StandsOn, StopsAmid, WritesTotals}
+use Rattle.meter_run.specs.OnStore.{Agrees, Attempts, CarriesOut, Has, IsReadyOn, IsSecured, Knows, MayDo, StandsOn, StopsAmid, WritesTotals}
 use Rattle.meter_run.specs.PointLaws.{keeps_longer, keeps_next}
 use Rattle.meter_run.specs.Points.{KeepsTo}
 use Rattle.meter_run.specs.StoreLaws.{beside_then, has_settled}
@@ -114,6 +114,14 @@ module _ {D L : Type 0} (B : Ghosts D L) (tables : TableParts) (seal : Seal) whe
   -- a meter that knows a state is ready at it, and one that knows none is off
   pub known_ready : (x : StoreMeter) (k : Known) (a : D) → x.known ≡ Some k → IsReadyOn B tables seal x a → IsReady tables seal x.core k.durable
   known_ready x k a is ready = (subst (λ (o : Option Known). Knows B tables seal x.core o a) is ready.knows).0
+
+  pub may_known : (x : StoreMeter) (k : Known) (a : D) (acts : List Act) → x.known ≡ Some k → IsReadyOn B tables seal x a → All (IsLawfulAct tables k.durable.number) acts
+      → MayDo B tables k a acts
+  may_known x k a acts is ready lawful = record {
+    agrees = (subst (λ (o : Option Known). Knows B tables seal x.core o a) is ready.knows).1;
+    number = k.durable.number;
+    lawful = lawful;
+  }
 
   pub unknown_off : (x : StoreMeter) (a : D) → x.known ≡ None → IsReadyOn B tables seal x a → x.core.plain.operating ≡ Off
   unknown_off x a is ready = subst (λ (o : Option Known). Knows B tables seal x.core o a) is ready.knows

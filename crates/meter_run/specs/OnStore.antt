@@ -1,6 +1,6 @@
 -- Rules: the meter on a store, what it knows of the store, which state of the meter it stands for, and what events
 -- leave.
-use Rattle.std.specs.Prelude.{◌≡◌, ℕ, ◌≤◌, List, ◌++◌, Option, Some, None, Result, OnOk}
+use Rattle.std.specs.Prelude.{◌≡◌, ℕ, ◌≤◌, List, ◌++◌, Option, Some, None, Result, All, OnOk}
 use Rattle.std.specs.Option.{ForSome}
 use Rattle.outside.specs.Disk.{SameBut}
 use Rattle.outside.specs.Faults.{HasCause}
@@ -15,12 +15,14 @@ use Rattle.taxi_units.specs.declared.event.Event.{Event}
 use Rattle.taxi_units.specs.declared.event.Operating.TheVariants.{Off}
 use Rattle.totaliser_store.specs.Stored.{KeepsState}
 use Rattle.totaliser_store.specs.declared.durable.Durable.{Durable}
+use Rattle.meter_states.specs.Acts.{IsLawfulAct}
 use Rattle.meter_states.specs.Facts.{Whole}
 use Rattle.meter_states.specs.Fits.{Fits}
 use Rattle.meter_states.specs.Lawful.{IsLawful}
 use Rattle.meter_states.specs.Meter.{Meter, Outcome}
 use Rattle.meter_states.specs.Run.{run}
 use Rattle.meter_states.specs.Setting.{Setting, IsSettingOf}
+use Rattle.meter_states.specs.declared.act.Act.{Act}
 use Rattle.meter_run.specs.Deeds.{deeds_of, texts}
 use Rattle.meter_run.specs.Dry.{IsReady}
 use Rattle.meter_run.specs.Kept.{StandsWith}
@@ -71,6 +73,13 @@ module _ {D L : Type 0} (B : Ghosts D L) where
     pub slot : known.place.slot ≤ 1
     pub settled : B.tells_image → KeepsState B known.place board known.durable
     pub fits : ForSome known.durable.hold (Fits tables)
+
+  -- acts may be done on a board under tables where it agrees with what the meter knows, and they are lawful acts of a
+  -- meter at some number
+  pub record MayDo (tables : TableParts) (known : Known) (board : D) (acts : List Act) : Type 0 where
+    pub agrees : Agrees tables known board
+    pub number : ℕ
+    pub lawful : All (IsLawfulAct tables number) acts
 
   -- a meter knows of the store nothing where it is off, and else a state at which the next event may come, with which
   -- the board agrees; the core of the meter is a whole one, which has its plain data, and beside them facts that were

@@ -51,7 +51,7 @@ pub fn dry_run<F: Files, B: Board<L>, L: Ledger>(
         (F.faults files.old other) (F.faults files.new other) }
     ensures store { KeepsStore B.Board board.old board.new }
 {
-    let _ = tables.measure();
+    tables.known();
     let mut meter = DryMeter::new();
     match carry_drive(&mut meter, tables, seal, files, word, board, steps) {
         Ok(stop) => match drop_at_end(&mut meter, tables, seal, board, steps) {

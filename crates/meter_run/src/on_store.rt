@@ -53,7 +53,7 @@ fn go_on<B: Board<L>, L: Ledger>(
                 acts,
                 steps,
             );
-            do_acts(known, acts.as_slice(), tables, seal, board, steps)
+            do_acts(known, acts.as_slice(), seal, board, steps)
         }
     }
 }
@@ -79,7 +79,7 @@ fn resume<B: Board<L>, L: Ledger>(
 {
     let mut known = found;
     let (core, acts) = Core::resume(tables, seal, &known.durable, second, steps);
-    let done = do_acts(&mut known, acts.as_slice(), tables, seal, board, steps);
+    let done = do_acts(&mut known, acts.as_slice(), seal, board, steps);
     meter.core = core;
     meter.known = Some(known);
     done
@@ -103,7 +103,7 @@ fn power_up<B: Board<L>, L: Ledger>(
     ensures steps { steps.new ≤ steps.old + 40 }
 {
     meter.known = None;
-    match read_store(tables, seal, board, steps)? {
+    match read_store(tables, board, steps)? {
         None => Ok(()),
         Some(found) => resume(meter, found, tables, seal, second, board, steps),
     }

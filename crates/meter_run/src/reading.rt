@@ -3,6 +3,7 @@ ghost use Rattle.std.specs.Prelude.{◌≡◌, ◌+◌, ◌≤◌, [], Some, IfO
 ghost use Rattle.std.specs.Option.{ForSome};
 ghost use Rattle.outside.specs.Faults.{HasCause};
 ghost use Rattle.meter_states.specs.Fits.{Fits};
+ghost use Rattle.seal_store.specs.declared.seal.Seal.{Seal};
 ghost use Rattle.slot_store.specs.declared.pair.Place.{Place};
 ghost use Rattle.totaliser_store.specs.Ranges.{IsDurable};
 ghost use Rattle.totaliser_store.specs.Stored.{KeepsState};
@@ -14,7 +15,6 @@ ghost use Rattle.meter_run.specs.declared.stored.Known.{Known};
 use crate::stored::Known;
 use meter_states::fits;
 use outside::{Board, Failed};
-use seal_store::Seal;
 use slot_store::{Found, SlotFault, scan};
 use std::sync::ledger::Ledger;
 use tariff_compile::Tables;
@@ -25,7 +25,6 @@ use totaliser_store::Durable;
 /// fit the tables: on a board that tells its image that comes only where the image says so. At most 19 steps.
 pub(crate) fn read_store<B: Board<L>, L: Ledger>(
     tables: &Tables,
-    seal: &Seal,
     board: &mut B,
     steps: &mut Steps<L>,
 ) -> Result<Option<Known>, Failed>
@@ -34,9 +33,9 @@ pub(crate) fn read_store<B: Board<L>, L: Ledger>(
     ensures finds { B.tells_image → (place : Place) (durable : Durable) → KeepsState B.Board place board.old durable
         → ForSome durable.hold (Fits tables.now)
         → IfOk result (λ found. (known : Known) × ((found ≡ Some known) × (known.durable ≡ durable))) }
-    ensures points { B.tells_image → (place : Place) (durable : Durable) → KeepsState B.Board place board.old durable
-        → ForSome durable.hold (Fits tables.now)
-        → KeepsTo B.Board tables.now seal.now board.old board.new durable [] }
+    ensures points { B.tells_image → (seal : Seal) (place : Place) (durable : Durable)
+        → KeepsState B.Board place board.old durable → ForSome durable.hold (Fits tables.now)
+        → KeepsTo B.Board tables.now seal board.old board.new durable [] }
     ensures text { B.printed board.new ≡ B.printed board.old }
     ensures beside { B.tells_image → WritesTotals B.Board board.old board.new }
     ensures cause { HasCause (B.faults board.old) (B.faults board.new) result }

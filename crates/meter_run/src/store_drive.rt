@@ -66,7 +66,7 @@ pub fn run_events<F: Files, B: Board<L>, L: Ledger>(
     ensures counts { (other : ℕ) → MayRise ((result ≡ Err RunFault.ReadFault) ⊎ (result ≡ Err RunFault.BoardFault))
         (F.faults files.old other) (F.faults files.new other) }
 {
-    let _ = tables.measure();
+    tables.known();
     let mut meter = StoreMeter::new();
     match carry_drive(&mut meter, tables, seal, files, word, board, steps) {
         Ok(stop) => match end(&mut meter, tables, seal, board, steps) {

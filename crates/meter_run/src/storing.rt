@@ -1,15 +1,16 @@
 //! Carries out acts on a store.
-ghost use Rattle.std.specs.Prelude.{◌≡◌, ℕ, ◌+◌, ◌*◌, ◌≤◌, ◌++◌, [], ◌∷◌, length, All, OnOk};
+ghost use Rattle.std.specs.Prelude.{◌≡◌, ◌+◌, ◌*◌, ◌≤◌, ◌++◌, [], ◌∷◌, length, OnOk};
 ghost use Rattle.std.specs.Option.{ForSome};
 ghost use Rattle.outside.specs.Faults.{HasCause};
-ghost use Rattle.meter_states.specs.Acts.{IsLawfulAct};
 ghost use Rattle.meter_states.specs.Fits.{Fits};
 ghost use Rattle.seal_store.specs.Ranges.{IsSeal};
+ghost use Rattle.tariff_compile.specs.Tables.{TableParts};
 ghost use Rattle.totaliser_store.specs.Ranges.{IsDurable};
 ghost use Rattle.totaliser_store.specs.States.{after};
+ghost use Rattle.totaliser_store.specs.Stored.{KeepsState};
 ghost use Rattle.meter_run.specs.Commits.{AreFor, IsFor, after_act, after_acts, commits_in};
 ghost use Rattle.meter_run.specs.Deeds.{Deed, Does, act_text, after_deed, deeds_of, texts};
-ghost use Rattle.meter_run.specs.OnStore.{Agrees, WritesTotals};
+ghost use Rattle.meter_run.specs.OnStore.{Agrees, MayDo, WritesTotals};
 ghost use Rattle.meter_run.specs.Points.{KeepsTo};
 
 use crate::printing::{print_display, print_receipt, print_refusal};
@@ -18,7 +19,6 @@ use meter_states::Act;
 use outside::{Board, Failed};
 use seal_store::Seal;
 use std::sync::ledger::Ledger;
-use tariff_compile::Tables;
 use taxi_units::Steps;
 use totaliser_store::{Change, commit};
 
@@ -26,19 +26,19 @@ use totaliser_store::{Change, commit};
 fn store<B: Board<L>, L: Ledger>(
     known: &mut Known,
     change: &Change,
-    tables: &Tables,
-    seal: &Seal,
     board: &mut B,
     steps: &mut Steps<L>,
 ) -> Result<(), Failed>
-    requires agrees { Agrees B.Board tables.now known.old board.old }
+    requires slot { known.old.place.slot ≤ 1 }
+    requires settled { B.tells_image → KeepsState B.Board known.old.place board.old known.old.durable }
     requires range { IsDurable (after known.old.durable change.now) }
-    requires fits { ForSome (after known.old.durable change.now).hold (Fits tables.now) }
     ensures durable { OnOk result (known.new.durable ≡ after known.old.durable change.now) }
-    ensures agrees { OnOk result (Agrees B.Board tables.now known.new board.new) }
-    ensures points { B.tells_image → (deed : Deed)
+    ensures agrees { (tables : TableParts) → ForSome (after known.old.durable change.now).hold (Fits tables)
+        → OnOk result (Agrees B.Board tables known.new board.new) }
+    ensures points { B.tells_image → (tables : TableParts) (seal : Seal) (deed : Deed)
+        → ForSome known.old.durable.hold (Fits tables) → ForSome (after known.old.durable change.now).hold (Fits tables)
         → after_deed known.old.durable deed ≡ after known.old.durable change.now
-        → KeepsTo B.Board tables.now seal.now board.old board.new known.old.durable (deed ∷ []) }
+        → KeepsTo B.Board tables seal board.old board.new known.old.durable (deed ∷ []) }
     ensures text { B.printed board.new ≡ B.printed board.old }
     ensures beside { B.tells_image → WritesTotals B.Board board.old board.new }
     ensures cause { HasCause (B.faults board.old) (B.faults board.new) result }
@@ -58,21 +58,20 @@ fn store<B: Board<L>, L: Ledger>(
 fn do_act<B: Board<L>, L: Ledger>(
     known: &mut Known,
     act: &Act,
-    tables: &Tables,
     seal: &Seal,
     board: &mut B,
     steps: &mut Steps<L>,
 ) -> Result<(), Failed>
-    requires agrees { Agrees B.Board tables.now known.old board.old }
     requires act { IsFor known.old.durable act.now }
-    requires lawful { (number : ℕ) × IsLawfulAct tables.now number act.now }
+    requires may { (tables : TableParts) × MayDo B.Board tables known.old board.old (act.now ∷ []) }
     requires seal { IsSeal seal.now }
     ensures durable { OnOk result (known.new.durable ≡ after_act known.old.durable act.now) }
-    ensures agrees { OnOk result (Agrees B.Board tables.now known.new board.new) }
+    ensures agrees { (tables : TableParts) → MayDo B.Board tables known.old board.old (act.now ∷ [])
+        → OnOk result (Agrees B.Board tables known.new board.new) }
     ensures whole { B.tells_text → OnOk result
         (B.printed board.new ≡ B.printed board.old ++ act_text seal.now act.now) }
-    ensures points { B.tells_image
-        → KeepsTo B.Board tables.now seal.now board.old board.new known.old.durable (Does act.now ∷ []) }
+    ensures points { B.tells_image → (tables : TableParts) → MayDo B.Board tables known.old board.old (act.now ∷ [])
+        → KeepsTo B.Board tables seal.now board.old board.new known.old.durable (Does act.now ∷ []) }
     ensures beside { B.tells_image → WritesTotals B.Board board.old board.new }
     ensures cause { HasCause (B.faults board.old) (B.faults board.new) result }
     ensures steps { steps.new ≤ steps.old + 1 + 5 * commits_in (act.now ∷ []) }
@@ -80,8 +79,8 @@ fn do_act<B: Board<L>, L: Ledger>(
     match act {
         Act::Show(display) => print_display(display, board, steps),
         Act::Refuse(why) => print_refusal(*why, board, steps),
-        Act::Enter(entry) => store(known, &Change::Enter(*entry), tables, seal, board, steps),
-        Act::Hold(trip) => store(known, &Change::Hold(*trip), tables, seal, board, steps),
+        Act::Enter(entry) => store(known, &Change::Enter(*entry), board, steps),
+        Act::Hold(trip) => store(known, &Change::Hold(*trip), board, steps),
         Act::Receipt(receipt) => print_receipt(receipt, seal, board, steps),
     }
 }
@@ -90,27 +89,26 @@ fn do_act<B: Board<L>, L: Ledger>(
 pub(crate) fn do_acts<B: Board<L>, L: Ledger>(
     known: &mut Known,
     acts: &[Act],
-    tables: &Tables,
     seal: &Seal,
     board: &mut B,
     steps: &mut Steps<L>,
 ) -> Result<(), Failed>
-    requires agrees { Agrees B.Board tables.now known.old board.old }
     requires acts { AreFor known.old.durable acts.now }
-    requires lawful { (number : ℕ) × All (IsLawfulAct tables.now number) acts.now }
+    requires may { (tables : TableParts) × MayDo B.Board tables known.old board.old acts.now }
     requires seal { IsSeal seal.now }
     ensures durable { OnOk result (known.new.durable ≡ after_acts known.old.durable acts.now) }
-    ensures agrees { OnOk result (Agrees B.Board tables.now known.new board.new) }
+    ensures agrees { (tables : TableParts) → MayDo B.Board tables known.old board.old acts.now
+        → OnOk result (Agrees B.Board tables known.new board.new) }
     ensures whole { B.tells_text → OnOk result
         (B.printed board.new ≡ B.printed board.old ++ texts seal.now (deeds_of acts.now)) }
-    ensures points { B.tells_image
-        → KeepsTo B.Board tables.now seal.now board.old board.new known.old.durable (deeds_of acts.now) }
+    ensures points { B.tells_image → (tables : TableParts) → MayDo B.Board tables known.old board.old acts.now
+        → KeepsTo B.Board tables seal.now board.old board.new known.old.durable (deeds_of acts.now) }
     ensures beside { B.tells_image → WritesTotals B.Board board.old board.new }
     ensures cause { HasCause (B.faults board.old) (B.faults board.new) result }
     ensures steps { steps.new ≤ steps.old + length acts.now + 5 * commits_in acts.now }
 {
     for act in acts {
-        do_act(known, act, tables, seal, board, steps)?;
+        do_act(known, act, seal, board, steps)?;
     }
     Ok(())
 }

@@ -3,7 +3,7 @@ use Rattle.meter_states.specs.Acts.{IsLawfulAct}
 use Rattle.meter_states.specs.declared.act.Act.{Act}
 use Rattle.meter_run.specs.Commits.{AreFor}
 use Rattle.meter_run.proofs.Dropping.{acts_for, few_commits}
-use Rattle.meter_run.proofs.Happening.{event_attempted, known_ready, meets_as, refusal_attempted}
+use Rattle.meter_run.proofs.Happening.{event_attempted, known_ready, may_known, meets_as, refusal_attempted}
 use Rattle.meter_run.proofs.Supplies.{event_keeps_off, unknown_keeps_off}
 use Rattle.meter_run.proofs.on_store.go_on.Goals as goal
 
@@ -16,10 +16,15 @@ do_acts-requires-clause-acts g c =
     subst (AreFor d) (sym c.as_slice.ensures.value)
     (acts_for t k c.args.event x.core c.advance.new.core d c.advance.new.acts.items (known_ready g.B.Board t k x c.in-Some.known c.args.board.now c.in-Some.is c.requires.ready) c.advance.ensures.meets c.advance.ensures.ranges)
 
-pub do_acts-requires-clause-lawful : goal.do_acts-requires-clause-lawful
-do_acts-requires-clause-lawful g c =
-    let n = c.in-Some.known.durable.number in
-    (n, subst (λ (acts : List Act). All (IsLawfulAct c.args.tables.now n) acts) (sym c.as_slice.ensures.value) c.advance.ensures.ranges)
+pub do_acts-requires-clause-may : goal.do_acts-requires-clause-may
+do_acts-requires-clause-may g c =
+    let t = c.args.tables.now in
+    let k = c.in-Some.known in
+    let n = k.durable.number in (
+      t,
+      may_known g.B.Board t c.args.seal.now c.args.meter.now k c.args.board.now c.as_slice.result.now c.in-Some.is c.requires.ready
+          (subst (λ (acts : List Act). All (IsLawfulAct t n) acts) (sym c.as_slice.ensures.value) c.advance.ensures.ranges),
+    )
 
 pub returns-in-None-clause-attempts : goal.returns-in-None-clause-attempts
 returns-in-None-clause-attempts g c =
@@ -38,10 +43,12 @@ returns-in-Some-clause-attempts g c =
     let acts = c.as_slice.result.now in
     let e = c.as_slice.ensures.value in
     let done = c.do_acts.ensures in
+    let lawful = subst (λ (acts : List Act). All (IsLawfulAct t known.durable.number) acts) (sym e) c.advance.ensures.ranges in
+    let may = may_known g.B.Board t k x known c.args.board.now acts c.in-Some.is c.requires.ready lawful in
     event_attempted g.B.Board t k x c.args.board.now known core c.do_acts.new.board c.args.event acts c.in-Some.is
-    (meets_as t k x.core known.durable core c.args.event acts c.advance.new.acts.items e c.advance.ensures.meets) done.points done.beside
+    (meets_as t k x.core known.durable core c.args.event acts c.advance.new.acts.items e c.advance.ensures.meets) (λ told. done.points told t may) done.beside
     c.do_acts.result c.do_acts.new.known c.requires.ready.secured (known_ready g.B.Board t k x known c.args.board.now c.in-Some.is c.requires.ready)
-    (subst (λ (acts : List Act). All (IsLawfulAct t known.durable.number) acts) (sym e) c.advance.ensures.ranges) c.advance.ensures.lawful done.durable done.agrees done.whole done.cause
+    lawful c.advance.ensures.lawful done.durable (done.agrees t may) done.whole done.cause
 
 pub returns-in-Some-clause-steps : goal.returns-in-Some-clause-steps
 returns-in-Some-clause-steps g c =

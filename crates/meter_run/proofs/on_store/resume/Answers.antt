@@ -2,6 +2,7 @@ use Rattle.std.proofs.Common.{List, All, Some, arith, refl, subst, sym, 鈼屸垯鈼
 use Rattle.taxi_units.specs.declared.event.Event.TheVariants.{Up}
 use Rattle.meter_states.specs.Acts.{IsLawfulAct}
 use Rattle.meter_states.specs.declared.act.Act.{Act}
+use Rattle.meter_run.specs.OnStore.{MayDo}
 use Rattle.meter_run.proofs.Dropping.{acts_for, few_commits}
 use Rattle.meter_run.proofs.Happening.{came_as, event_attempted, ready_opened}
 use Rattle.meter_run.proofs.on_store.resume.Goals as goal
@@ -21,10 +22,10 @@ do_acts-done-requires-clause-acts g c =
     (came_as t k core d c.resume-core.result.0 c.args.second acts c.resume-core.result.1.items e c.requires.off c.resume-core.ensures.meets)
     (subst (位 (acts : List Act). All (IsLawfulAct t d.number) acts) (sym e) c.resume-core.ensures.ranges)
 
-pub do_acts-done-requires-clause-lawful : goal.do_acts-done-requires-clause-lawful
-do_acts-done-requires-clause-lawful g c =
+pub do_acts-done-requires-clause-may : goal.do_acts-done-requires-clause-may
+do_acts-done-requires-clause-may g c =
     let n = c.args.found.durable.number in
-    (n, subst (位 (acts : List Act). All (IsLawfulAct c.args.tables.now n) acts) (sym c.as_slice.ensures.value) c.resume-core.ensures.ranges)
+    (c.args.tables.now, record { agrees = c.requires.agrees; number = n; lawful = subst (位 (acts : List Act). All (IsLawfulAct c.args.tables.now n) acts) (sym c.as_slice.ensures.value) c.resume-core.ensures.ranges })
 
 pub returns-clause-attempts : goal.returns-clause-attempts
 returns-clause-attempts g c =
@@ -36,10 +37,12 @@ returns-clause-attempts g c =
     let e = c.as_slice.ensures.value in
     let ready = c.requires.ready in
     let done = c.do_acts-done.ensures in
+    let lawful = subst (位 (acts : List Act). All (IsLawfulAct t found.durable.number) acts) (sym e) c.resume-core.ensures.ranges in
+    let may : MayDo g.B.Board t found c.args.board.now acts = record { agrees = c.requires.agrees; number = found.durable.number; lawful = lawful } in
     event_attempted g.B.Board t k (record { core = core; known = Some found }) c.args.board.now found c.resume-core.result.0 c.do_acts-done.new.board (Up c.args.second) acts refl
-    (came_as t k core found.durable c.resume-core.result.0 c.args.second acts c.resume-core.result.1.items e c.requires.off c.resume-core.ensures.meets) done.points done.beside
+    (came_as t k core found.durable c.resume-core.result.0 c.args.second acts c.resume-core.result.1.items e c.requires.off c.resume-core.ensures.meets) (位 told. done.points told t may) done.beside
     c.do_acts-done.result c.do_acts-done.new.known ready.secured (ready_opened t k core found.durable ready.secured c.requires.off ready.lawful c.requires.range c.requires.agrees.fits)
-    (subst (位 (acts : List Act). All (IsLawfulAct t found.durable.number) acts) (sym e) c.resume-core.ensures.ranges) c.resume-core.ensures.lawful done.durable done.agrees done.whole done.cause
+    lawful c.resume-core.ensures.lawful done.durable (done.agrees t may) done.whole done.cause
 
 pub returns-clause-steps : goal.returns-clause-steps
 returns-clause-steps g c =

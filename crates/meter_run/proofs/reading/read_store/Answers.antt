@@ -44,7 +44,7 @@ returns-in-Ok-Latest-clause-finds g c = λ told place d settled fits.
     (record { durable = b; place = p }, (c.where_it_fits.ensures.finds (subst (λ (x : Durable). ForSome x.hold (Fits c.args.tables.now)) (sym e) fits), e))
 
 pub returns-in-Ok-Latest-clause-points : goal.returns-in-Ok-Latest-clause-points
-returns-in-Ok-Latest-clause-points g c = λ told place d settled fits. scan_point g.B.Board c.args.tables.now c.args.seal.now c.args.board.now c.scan.new.board d place settled fits c.scan.ensures.image c.scan.ensures.any_moment c.scan.ensures.text
+returns-in-Ok-Latest-clause-points g c = λ told seal place d settled fits. scan_point g.B.Board c.args.tables.now seal c.args.board.now c.scan.new.board d place settled fits c.scan.ensures.image c.scan.ensures.any_moment c.scan.ensures.text
 
 pub returns-in-Ok-Latest-clause-beside : goal.returns-in-Ok-Latest-clause-beside
 returns-in-Ok-Latest-clause-beside g c = λ told. beside_scan g.B.Board c.args.board.now c.scan.new.board c.scan.ensures.image c.scan.ensures.flight c.scan.ensures.any_moment
@@ -53,13 +53,13 @@ pub returns-in-Ok-Blank-clause-finds : goal.returns-in-Ok-Blank-clause-finds
 returns-in-Ok-Blank-clause-finds g c = λ told place d settled fits. absurd (not_blank c.in-Ok-Blank.field-0 place d (g.B.Board.image c.args.board.now) c.in-Ok-Blank.field-0-is settled.is_at (c.in-Ok-Blank.ensures.exact told (answers c.in-Ok-Blank.field-0)))
 
 pub returns-in-Ok-Blank-clause-points : goal.returns-in-Ok-Blank-clause-points
-returns-in-Ok-Blank-clause-points g c = λ told place d settled fits. scan_point g.B.Board c.args.tables.now c.args.seal.now c.args.board.now c.scan.new.board d place settled fits c.scan.ensures.image c.scan.ensures.any_moment c.scan.ensures.text
+returns-in-Ok-Blank-clause-points g c = λ told seal place d settled fits. scan_point g.B.Board c.args.tables.now seal c.args.board.now c.scan.new.board d place settled fits c.scan.ensures.image c.scan.ensures.any_moment c.scan.ensures.text
 
 pub returns-in-Ok-Blank-clause-beside : goal.returns-in-Ok-Blank-clause-beside
 returns-in-Ok-Blank-clause-beside g c = λ told. beside_scan g.B.Board c.args.board.now c.scan.new.board c.scan.ensures.image c.scan.ensures.flight c.scan.ensures.any_moment
 
 pub returns-in-Err-DeviceFailed-clause-points : goal.returns-in-Err-DeviceFailed-clause-points
-returns-in-Err-DeviceFailed-clause-points g c = λ told place d settled fits. scan_point g.B.Board c.args.tables.now c.args.seal.now c.args.board.now c.scan.new.board d place settled fits c.scan.ensures.image c.scan.ensures.any_moment c.scan.ensures.text
+returns-in-Err-DeviceFailed-clause-points g c = λ told seal place d settled fits. scan_point g.B.Board c.args.tables.now seal c.args.board.now c.scan.new.board d place settled fits c.scan.ensures.image c.scan.ensures.any_moment c.scan.ensures.text
 
 pub returns-in-Err-DeviceFailed-clause-beside : goal.returns-in-Err-DeviceFailed-clause-beside
 returns-in-Err-DeviceFailed-clause-beside g c = λ told. beside_scan g.B.Board c.args.board.now c.scan.new.board c.scan.ensures.image c.scan.ensures.flight c.scan.ensures.any_moment
@@ -69,7 +69,7 @@ returns-in-Err-BadBody-clause-finds g c = λ told place d settled fits. absurd (
     (c.in-Err-BadBody.ensures.exact told (bad_body c.in-Err-BadBody.field-0 _ c.in-Err-BadBody.field-0-is)))
 
 pub returns-in-Err-BadBody-clause-points : goal.returns-in-Err-BadBody-clause-points
-returns-in-Err-BadBody-clause-points g c = λ told place d settled fits. scan_point g.B.Board c.args.tables.now c.args.seal.now c.args.board.now c.scan.new.board d place settled fits c.scan.ensures.image c.scan.ensures.any_moment c.scan.ensures.text
+returns-in-Err-BadBody-clause-points g c = λ told seal place d settled fits. scan_point g.B.Board c.args.tables.now seal c.args.board.now c.scan.new.board d place settled fits c.scan.ensures.image c.scan.ensures.any_moment c.scan.ensures.text
 
 pub returns-in-Err-BadBody-clause-beside : goal.returns-in-Err-BadBody-clause-beside
 returns-in-Err-BadBody-clause-beside g c = λ told. beside_scan g.B.Board c.args.board.now c.scan.new.board c.scan.ensures.image c.scan.ensures.flight c.scan.ensures.any_moment
@@ -79,7 +79,7 @@ returns-in-Err-SameNumber-clause-finds g c = λ told place d settled fits. absur
     (c.in-Err-SameNumber.ensures.exact told (same_number c.in-Err-SameNumber.field-0 _ c.in-Err-SameNumber.field-0-is)))
 
 pub returns-in-Err-SameNumber-clause-points : goal.returns-in-Err-SameNumber-clause-points
-returns-in-Err-SameNumber-clause-points g c = λ told place d settled fits. scan_point g.B.Board c.args.tables.now c.args.seal.now c.args.board.now c.scan.new.board d place settled fits c.scan.ensures.image c.scan.ensures.any_moment c.scan.ensures.text
+returns-in-Err-SameNumber-clause-points g c = λ told seal place d settled fits. scan_point g.B.Board c.args.tables.now seal c.args.board.now c.scan.new.board d place settled fits c.scan.ensures.image c.scan.ensures.any_moment c.scan.ensures.text
 
 pub returns-in-Err-SameNumber-clause-beside : goal.returns-in-Err-SameNumber-clause-beside
 returns-in-Err-SameNumber-clause-beside g c = λ told. beside_scan g.B.Board c.args.board.now c.scan.new.board c.scan.ensures.image c.scan.ensures.flight c.scan.ensures.any_moment

@@ -1,11 +1,11 @@
-use Rattle.std.proofs.Common.{[], ◌∷◌, ap, subst, sym, refl}
-use Rattle.std.proofs.lemmas.List.Elements.{All-cons, All-nil}
+use Rattle.std.proofs.Common.{[], ◌∷◌, All, ap, subst, sym, refl}
+use Rattle.std.proofs.lemmas.List.Elements.{All-head}
 use Rattle.receipt_text.specs.Receipts.{receipt_text}
 use Rattle.receipt_text.specs.SealParts.{part_of}
 use Rattle.receipt_text.specs.Texts.{display_text, refusal_text}
 use Rattle.meter_states.specs.Acts.{IsLawfulAct}
 use Rattle.meter_states.specs.declared.act.Act.{Act}
-use Rattle.meter_states.specs.declared.act.Act.TheVariants.{Enter}
+use Rattle.meter_states.specs.declared.act.Act.TheVariants.{Enter, Hold}
 use Rattle.meter_run.specs.Commits.{after_act, IsFor}
 use Rattle.meter_run.specs.Deeds.{Does, act_text}
 use Rattle.meter_run.proofs.Committing.{fits_after}
@@ -14,73 +14,77 @@ use Rattle.meter_run.proofs.Leaves.{agrees_kept, beside_kept, print_point}
 use Rattle.meter_run.proofs.Doing.{commit_steps, leaves_as, print_steps, prints_as, prints_none}
 use Rattle.meter_run.proofs.storing.do_act.Goals as goal
 
-pub store-requires-clause-fits : goal.store-requires-clause-fits
-store-requires-clause-fits g c =
-    let t = c.args.tables.now in
-    let n = c.requires.lawful.0 in
-    let entry = Enter c.in-Enter.entry in
-    let lawful = subst (λ (act : Act). IsLawfulAct t n act) c.in-Enter.is c.requires.lawful.1 in
-    fits_after t n c.args.known.now.durable (entry ∷ []) c.requires.agrees.fits (All-cons (IsLawfulAct t n) entry [] lawful (All-nil (IsLawfulAct t n)))
-
 pub returns-in-Show-clause-agrees : goal.returns-in-Show-clause-agrees
-returns-in-Show-clause-agrees g c = on_ok c.print_display.result _ (agrees_kept g.B.Board c.args.tables.now c.args.known.now c.args.board.now c.print_display.new.board c.print_display.ensures.printed.store c.requires.agrees)
+returns-in-Show-clause-agrees g c = λ tables may. on_ok c.print_display.result _ (agrees_kept g.B.Board tables c.args.known.now c.args.board.now c.print_display.new.board c.print_display.ensures.printed.store may.agrees)
 
 pub returns-in-Show-clause-points : goal.returns-in-Show-clause-points
-returns-in-Show-clause-points g c = λ told.
+returns-in-Show-clause-points g c = λ told tables may.
     let known = c.args.known.now in
-    print_point g.B.Board c.args.tables.now c.args.seal.now c.args.board.now c.print_display.new.board known.durable known.place (Does c.args.act.now) (display_text c.in-Show.display) (ap (act_text c.args.seal.now) c.in-Show.is)
-    (c.requires.agrees.settled told) c.requires.agrees.fits c.print_display.ensures.printed.store c.print_display.ensures.printed.leaves c.print_display.ensures.printed.begun
+    print_point g.B.Board tables c.args.seal.now c.args.board.now c.print_display.new.board known.durable known.place (Does c.args.act.now) (display_text c.in-Show.display) (ap (act_text c.args.seal.now) c.in-Show.is)
+    (may.agrees.settled told) may.agrees.fits c.print_display.ensures.printed.store c.print_display.ensures.printed.leaves c.print_display.ensures.printed.begun
 
 pub returns-in-Show-clause-beside : goal.returns-in-Show-clause-beside
 returns-in-Show-clause-beside g c = λ told. beside_kept g.B.Board c.args.board.now c.print_display.new.board (g.met.B.Board.only_now c.args.board.now) c.print_display.ensures.printed.store
 
 pub returns-in-Refuse-clause-agrees : goal.returns-in-Refuse-clause-agrees
-returns-in-Refuse-clause-agrees g c = on_ok c.print_refusal.result _ (agrees_kept g.B.Board c.args.tables.now c.args.known.now c.args.board.now c.print_refusal.new.board c.print_refusal.ensures.printed.store c.requires.agrees)
+returns-in-Refuse-clause-agrees g c = λ tables may. on_ok c.print_refusal.result _ (agrees_kept g.B.Board tables c.args.known.now c.args.board.now c.print_refusal.new.board c.print_refusal.ensures.printed.store may.agrees)
 
 pub returns-in-Refuse-clause-points : goal.returns-in-Refuse-clause-points
-returns-in-Refuse-clause-points g c = λ told.
+returns-in-Refuse-clause-points g c = λ told tables may.
     let known = c.args.known.now in
-    print_point g.B.Board c.args.tables.now c.args.seal.now c.args.board.now c.print_refusal.new.board known.durable known.place (Does c.args.act.now) (refusal_text c.in-Refuse.why) (ap (act_text c.args.seal.now) c.in-Refuse.is)
-    (c.requires.agrees.settled told) c.requires.agrees.fits c.print_refusal.ensures.printed.store c.print_refusal.ensures.printed.leaves c.print_refusal.ensures.printed.begun
+    print_point g.B.Board tables c.args.seal.now c.args.board.now c.print_refusal.new.board known.durable known.place (Does c.args.act.now) (refusal_text c.in-Refuse.why) (ap (act_text c.args.seal.now) c.in-Refuse.is)
+    (may.agrees.settled told) may.agrees.fits c.print_refusal.ensures.printed.store c.print_refusal.ensures.printed.leaves c.print_refusal.ensures.printed.begun
 
 pub returns-in-Refuse-clause-beside : goal.returns-in-Refuse-clause-beside
 returns-in-Refuse-clause-beside g c = λ told. beside_kept g.B.Board c.args.board.now c.print_refusal.new.board (g.met.B.Board.only_now c.args.board.now) c.print_refusal.ensures.printed.store
 
 pub returns-in-Receipt-clause-agrees : goal.returns-in-Receipt-clause-agrees
-returns-in-Receipt-clause-agrees g c = on_ok c.print_receipt.result _ (agrees_kept g.B.Board c.args.tables.now c.args.known.now c.args.board.now c.print_receipt.new.board c.print_receipt.ensures.printed.store c.requires.agrees)
+returns-in-Receipt-clause-agrees g c = λ tables may. on_ok c.print_receipt.result _ (agrees_kept g.B.Board tables c.args.known.now c.args.board.now c.print_receipt.new.board c.print_receipt.ensures.printed.store may.agrees)
 
 pub returns-in-Receipt-clause-points : goal.returns-in-Receipt-clause-points
-returns-in-Receipt-clause-points g c = λ told.
+returns-in-Receipt-clause-points g c = λ told tables may.
     let known = c.args.known.now in
-    print_point g.B.Board c.args.tables.now c.args.seal.now c.args.board.now c.print_receipt.new.board known.durable known.place (Does c.args.act.now) (receipt_text c.in-Receipt.receipt (part_of c.args.seal.now)) (ap (act_text c.args.seal.now) c.in-Receipt.is)
-    (c.requires.agrees.settled told) c.requires.agrees.fits c.print_receipt.ensures.printed.store c.print_receipt.ensures.printed.leaves c.print_receipt.ensures.printed.begun
+    print_point g.B.Board tables c.args.seal.now c.args.board.now c.print_receipt.new.board known.durable known.place (Does c.args.act.now) (receipt_text c.in-Receipt.receipt (part_of c.args.seal.now)) (ap (act_text c.args.seal.now) c.in-Receipt.is)
+    (may.agrees.settled told) may.agrees.fits c.print_receipt.ensures.printed.store c.print_receipt.ensures.printed.leaves c.print_receipt.ensures.printed.begun
 
 pub returns-in-Receipt-clause-beside : goal.returns-in-Receipt-clause-beside
 returns-in-Receipt-clause-beside g c = λ told. beside_kept g.B.Board c.args.board.now c.print_receipt.new.board (g.met.B.Board.only_now c.args.board.now) c.print_receipt.ensures.printed.store
 
 pub returns-in-Enter-clause-points : goal.returns-in-Enter-clause-points
-returns-in-Enter-clause-points g c = λ told. c.store.ensures.points told (Does c.args.act.now) (ap (after_act c.args.known.now.durable) c.in-Enter.is)
+returns-in-Enter-clause-points g c = λ told tables may. c.store.ensures.points told tables c.args.seal.now (Does c.args.act.now) may.agrees.fits
+    (fits_after tables may.number c.args.known.now.durable (Enter c.in-Enter.entry ∷ []) may.agrees.fits (subst (λ (act : Act). All (IsLawfulAct tables may.number) (act ∷ [])) c.in-Enter.is may.lawful))
+    (ap (after_act c.args.known.now.durable) c.in-Enter.is)
 
 pub returns-in-Hold-clause-points : goal.returns-in-Hold-clause-points
-returns-in-Hold-clause-points g c = λ told. c.store-in-Hold.ensures.points told (Does c.args.act.now) (ap (after_act c.args.known.now.durable) c.in-Hold.is)
+returns-in-Hold-clause-points g c = λ told tables may. c.store-in-Hold.ensures.points told tables c.args.seal.now (Does c.args.act.now) may.agrees.fits
+    (fits_after tables may.number c.args.known.now.durable (Hold c.in-Hold.trip ∷ []) may.agrees.fits (subst (λ (act : Act). All (IsLawfulAct tables may.number) (act ∷ [])) c.in-Hold.is may.lawful))
+    (ap (after_act c.args.known.now.durable) c.in-Hold.is)
 
 pub print_display-requires : goal.print_display-requires
 print_display-requires g c = subst (IsFor c.args.known.now.durable) c.in-Show.is c.requires.act
 
-pub store-requires-clause-agrees : goal.store-requires-clause-agrees
-store-requires-clause-agrees g c = c.requires.agrees
+pub store-requires-clause-slot : goal.store-requires-clause-slot
+store-requires-clause-slot g c = c.requires.may.1.agrees.slot
+
+pub store-requires-clause-settled : goal.store-requires-clause-settled
+store-requires-clause-settled g c = c.requires.may.1.agrees.settled
+
+pub store-requires-in-Hold-clause-settled : goal.store-requires-in-Hold-clause-settled
+store-requires-in-Hold-clause-settled g c = c.requires.may.1.agrees.settled
 
 pub store-requires-clause-range : goal.store-requires-clause-range
 store-requires-clause-range g c = subst (IsFor c.args.known.now.durable) c.in-Enter.is c.requires.act
 
-pub store-requires-in-Hold-clause-agrees : goal.store-requires-in-Hold-clause-agrees
-store-requires-in-Hold-clause-agrees g c = c.requires.agrees
+pub store-requires-in-Hold-clause-slot : goal.store-requires-in-Hold-clause-slot
+store-requires-in-Hold-clause-slot g c = c.requires.may.1.agrees.slot
 
 pub store-requires-in-Hold-clause-range : goal.store-requires-in-Hold-clause-range
 store-requires-in-Hold-clause-range g c = subst (IsFor c.args.known.now.durable) c.in-Hold.is c.requires.act
 
 pub print_receipt-requires-clause-receipt : goal.print_receipt-requires-clause-receipt
-print_receipt-requires-clause-receipt g c = subst (IsLawfulAct c.args.tables.now c.requires.lawful.0) c.in-Receipt.is c.requires.lawful.1
+print_receipt-requires-clause-receipt g c =
+    let may = c.requires.may.1 in
+    subst (IsLawfulAct c.requires.may.0 may.number) c.in-Receipt.is (All-head (IsLawfulAct c.requires.may.0 may.number) c.args.act.now [] may.lawful)
 
 pub print_receipt-requires-clause-seal : goal.print_receipt-requires-clause-seal
 print_receipt-requires-clause-seal g c = c.requires.seal
@@ -125,7 +129,8 @@ pub returns-in-Enter-clause-durable : goal.returns-in-Enter-clause-durable
 returns-in-Enter-clause-durable g c = leaves_as c.store.result c.args.known.now.durable c.store.new.known.durable c.args.act.now _ c.in-Enter.is c.store.ensures.durable
 
 pub returns-in-Enter-clause-agrees : goal.returns-in-Enter-clause-agrees
-returns-in-Enter-clause-agrees g c = c.store.ensures.agrees
+returns-in-Enter-clause-agrees g c = λ tables may. c.store.ensures.agrees tables
+    (fits_after tables may.number c.args.known.now.durable (Enter c.in-Enter.entry ∷ []) may.agrees.fits (subst (λ (act : Act). All (IsLawfulAct tables may.number) (act ∷ [])) c.in-Enter.is may.lawful))
 
 pub returns-in-Enter-clause-whole : goal.returns-in-Enter-clause-whole
 returns-in-Enter-clause-whole g c = λ told. on_ok c.store.result _ (prints_none (g.B.Board.printed c.args.board.now) (g.B.Board.printed c.store.new.board) (act_text c.args.seal.now c.args.act.now) (ap (act_text c.args.seal.now) c.in-Enter.is) c.store.ensures.text)
@@ -143,7 +148,8 @@ pub returns-in-Hold-clause-durable : goal.returns-in-Hold-clause-durable
 returns-in-Hold-clause-durable g c = leaves_as c.store-in-Hold.result c.args.known.now.durable c.store-in-Hold.new.known.durable c.args.act.now _ c.in-Hold.is c.store-in-Hold.ensures.durable
 
 pub returns-in-Hold-clause-agrees : goal.returns-in-Hold-clause-agrees
-returns-in-Hold-clause-agrees g c = c.store-in-Hold.ensures.agrees
+returns-in-Hold-clause-agrees g c = λ tables may. c.store-in-Hold.ensures.agrees tables
+    (fits_after tables may.number c.args.known.now.durable (Hold c.in-Hold.trip ∷ []) may.agrees.fits (subst (λ (act : Act). All (IsLawfulAct tables may.number) (act ∷ [])) c.in-Hold.is may.lawful))
 
 pub returns-in-Hold-clause-whole : goal.returns-in-Hold-clause-whole
 returns-in-Hold-clause-whole g c = λ told. on_ok c.store-in-Hold.result _ (prints_none (g.B.Board.printed c.args.board.now) (g.B.Board.printed c.store-in-Hold.new.board) (act_text c.args.seal.now c.args.act.now) (ap (act_text c.args.seal.now) c.in-Hold.is) c.store-in-Hold.ensures.text)

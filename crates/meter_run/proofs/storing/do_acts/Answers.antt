@@ -1,12 +1,11 @@
 use Rattle.std.proofs.Common.{◌+◌, ◌++◌, ◌∙◌, List, ap, arith, refl, sym}
 use Rattle.std.proofs.lemmas.List.{append-nil, take_all}
-use Rattle.meter_states.specs.Acts.{IsLawfulAct}
 use Rattle.meter_states.specs.declared.act.Act.{Act}
 use Rattle.meter_run.specs.Commits.{after_acts}
 use Rattle.meter_run.specs.Deeds.{deeds_of, texts}
 use Rattle.meter_run.specs.StoreLaws.{beside_none, beside_then}
 use Rattle.meter_run.specs.PointLaws.{keeps_still}
-use Rattle.meter_run.proofs.Doing.{all_at, points_more, points_whole, steps_more, steps_whole, text_more}
+use Rattle.meter_run.proofs.Doing.{may_at, points_more, points_whole, steps_more, steps_whole, text_more}
 use Rattle.meter_run.proofs.Going.{counts_more, not_ok, went_well, went_wrong}
 use Rattle.meter_run.proofs.Performing.{are_after, are_at, after_more}
 use Rattle.meter_run.proofs.storing.do_acts.Goals as goal
@@ -14,14 +13,15 @@ use Rattle.meter_run.proofs.storing.do_acts.Goals as goal
 pub do_act-requires-clause-act : goal.do_act-requires-clause-act
 do_act-requires-clause-act g c = (are_at c.loop-act.known.durable c.args.acts.now c.loop-act.act-index _ c.loop-act-test.true c.loop-act.invariant.left).0
 
-pub do_act-requires-clause-lawful : goal.do_act-requires-clause-lawful
-do_act-requires-clause-lawful g c =
-    let n = c.requires.lawful.0 in
-    (n, all_at (IsLawfulAct c.args.tables.now n) c.args.acts.now c.loop-act.act-index _ c.loop-act-test.true c.requires.lawful.1)
+pub do_act-requires-clause-may : goal.do_act-requires-clause-may
+do_act-requires-clause-may g c =
+    let t = c.requires.may.0 in
+    let may = c.requires.may.1 in
+    (t, may_at g.B.Board t c.args.known.now c.loop-act.known c.args.board.now c.loop-act.board c.args.acts.now c.loop-act.act-index _ c.loop-act-test.true may (c.loop-act.invariant.agrees t may))
 
 pub loop-act-preserved : goal.loop-act-preserved
 loop-act-preserved g c =
-    let t = c.args.tables.now in
+    let t = c.requires.may.0 in
     let k = c.args.seal.now in
     let n = c.loop-act.act-index in
     let acts = c.args.acts.now in
@@ -32,9 +32,9 @@ loop-act-preserved g c =
     record {
       durable = after_more c.args.known.now.durable c.loop-act.known.durable c.do_act.new.known.durable acts n _ c.loop-act-test.true i.durable c.in_ok-do_act.ensures.durable;
       left = are_after c.loop-act.known.durable c.do_act.new.known.durable acts n _ c.loop-act-test.true i.left c.in_ok-do_act.ensures.durable;
-      agrees = c.in_ok-do_act.ensures.agrees;
+      agrees = λ tables may. c.in_ok-do_act.ensures.agrees tables (may_at g.B.Board tables c.args.known.now c.loop-act.known c.args.board.now c.loop-act.board c.args.acts.now c.loop-act.act-index _ c.loop-act-test.true may (c.loop-act.invariant.agrees tables may));
       printed = text_more g.B.Board t k a b b' acts n _ c.loop-act-test.true i.printed c.in_ok-do_act.ensures.whole;
-      points = λ told. points_more g.B.Board t k a b b' acts n _ c.loop-act-test.true i.printed c.args.known.now.durable c.loop-act.known.durable i.durable (i.points told) (c.do_act.ensures.points told);
+      points = λ told tables may. points_more g.B.Board tables k a b b' acts n _ c.loop-act-test.true i.printed c.args.known.now.durable c.loop-act.known.durable i.durable (i.points told tables may) (c.do_act.ensures.points told tables (may_at g.B.Board tables c.args.known.now c.loop-act.known c.args.board.now c.loop-act.board c.args.acts.now c.loop-act.act-index _ c.loop-act-test.true may (c.loop-act.invariant.agrees tables may)));
       beside = λ told. beside_then g.B.Board a b b' (i.beside told) (c.do_act.ensures.beside told);
       faults = counts_more _ _ _ i.faults (c.in_ok-do_act.ensures.cause.kept refl);
       steps = steps_more acts n _ c.args.steps.now c.loop-act.steps c.do_act.new.steps c.loop-act-test.true i.steps c.do_act.ensures.steps;
@@ -48,24 +48,23 @@ loop-act-init g c =
     record {
       durable = refl;
       left = c.requires.acts;
-      agrees = c.requires.agrees;
+      agrees = λ tables may. may.agrees;
       printed = λ told. sym (append-nil (g.B.Board.printed a));
-      points = λ told. keeps_still g.B.Board c.args.tables.now c.args.seal.now a k.place k.durable now (c.requires.agrees.settled told) c.requires.agrees.fits;
+      points = λ told tables may. keeps_still g.B.Board tables c.args.seal.now a k.place k.durable now (may.agrees.settled told) may.agrees.fits;
       beside = λ told. beside_none g.B.Board a now;
       faults = omega arith;
       steps = omega arith;
     }
 
 pub returns-in_err-do_act-clause-points : goal.returns-in_err-do_act-clause-points
-returns-in_err-do_act-clause-points g c = λ told.
-    let t = c.args.tables.now in
+returns-in_err-do_act-clause-points g c = λ told tables may.
     let k = c.args.seal.now in
     let n = c.loop-act.act-index in
     let acts = c.args.acts.now in
     let i = c.loop-act.invariant in
     let d = c.args.known.now.durable in
-    points_whole g.B.Board t k c.args.board.now c.do_act.new.board d acts (n + 1)
-    (points_more g.B.Board t k c.args.board.now c.loop-act.board c.do_act.new.board acts n _ c.loop-act-test.true i.printed d c.loop-act.known.durable i.durable (i.points told) (c.do_act.ensures.points told))
+    points_whole g.B.Board tables k c.args.board.now c.do_act.new.board d acts (n + 1)
+    (points_more g.B.Board tables k c.args.board.now c.loop-act.board c.do_act.new.board acts n _ c.loop-act-test.true i.printed d c.loop-act.known.durable i.durable (i.points told tables may) (c.do_act.ensures.points told tables (may_at g.B.Board tables c.args.known.now c.loop-act.known c.args.board.now c.loop-act.board c.args.acts.now c.loop-act.act-index _ c.loop-act-test.true may (c.loop-act.invariant.agrees tables may))))
 
 pub returns-in_err-do_act-clause-beside : goal.returns-in_err-do_act-clause-beside
 returns-in_err-do_act-clause-beside g c = λ told. beside_then g.B.Board c.args.board.now c.loop-act.board c.do_act.new.board (c.loop-act.invariant.beside told) (c.do_act.ensures.beside told)
@@ -74,13 +73,13 @@ pub returns-in_err-do_act-clause-steps : goal.returns-in_err-do_act-clause-steps
 returns-in_err-do_act-clause-steps g c = steps_whole c.args.acts.now c.loop-act.act-index _ c.args.steps.now c.loop-act.steps c.do_act.new.steps c.loop-act-test.true c.loop-act.invariant.steps c.do_act.ensures.steps
 
 pub returns-clause-points : goal.returns-clause-points
-returns-clause-points g c = λ told. points_whole g.B.Board c.args.tables.now c.args.seal.now c.args.board.now c.loop-act.board c.args.known.now.durable c.args.acts.now c.loop-act.act-index (c.loop-act.invariant.points told)
+returns-clause-points g c = λ told tables may. points_whole g.B.Board tables c.args.seal.now c.args.board.now c.loop-act.board c.args.known.now.durable c.args.acts.now c.loop-act.act-index (c.loop-act.invariant.points told tables may)
 
 pub returns-in_err-do_act-clause-durable : goal.returns-in_err-do_act-clause-durable
 returns-in_err-do_act-clause-durable g c = not_ok _ c.from_residual.result _ c.from_residual.ensures.1
 
 pub returns-in_err-do_act-clause-agrees : goal.returns-in_err-do_act-clause-agrees
-returns-in_err-do_act-clause-agrees g c = not_ok _ c.from_residual.result _ c.from_residual.ensures.1
+returns-in_err-do_act-clause-agrees g c = λ tables may. not_ok _ c.from_residual.result _ c.from_residual.ensures.1
 
 pub returns-in_err-do_act-clause-whole : goal.returns-in_err-do_act-clause-whole
 returns-in_err-do_act-clause-whole g c = λ told. not_ok _ c.from_residual.result _ c.from_residual.ensures.1

@@ -1,7 +1,8 @@
 use Rattle.std.proofs.Common.{◌≡◌, ◌≤◌, ◌+◌, ◌*◌, ◌++◌, take, drop}
+use Rattle.tariff_compile.specs.Tables.{TableParts}
 use Rattle.meter_run.specs.Commits.{AreFor, after_acts, commits_in}
 use Rattle.meter_run.specs.Deeds.{deeds_of, texts}
-use Rattle.meter_run.specs.OnStore.{Agrees, WritesTotals}
+use Rattle.meter_run.specs.OnStore.{Agrees, MayDo, WritesTotals}
 use Rattle.meter_run.specs.Points.{KeepsTo}
 use Rattle.meter_run.proofs.storing.do_acts.Given as goal
 
@@ -10,9 +11,10 @@ abbrev pub invariant-loop-act : goal.invariant-loop-act
 invariant-loop-act g l = record {
   durable : l.known.durable ≡ after_acts l.fn.known.durable (take l.act-index l.acts);
   left : AreFor l.known.durable (drop l.act-index l.acts);
-  agrees : Agrees g.B.Board l.tables l.known l.board;
+  agrees : (tables : TableParts) → MayDo g.B.Board tables l.fn.known l.fn.board l.acts → Agrees g.B.Board tables l.known l.board;
   printed : g.B.Board.tells_text → g.B.Board.printed l.board ≡ g.B.Board.printed l.fn.board ++ texts l.seal (deeds_of (take l.act-index l.acts));
-  points : g.B.Board.tells_image → KeepsTo g.B.Board l.tables l.seal l.fn.board l.board l.fn.known.durable (deeds_of (take l.act-index l.acts));
+  points : g.B.Board.tells_image → (tables : TableParts) → MayDo g.B.Board tables l.fn.known l.fn.board l.acts
+      → KeepsTo g.B.Board tables l.seal l.fn.board l.board l.fn.known.durable (deeds_of (take l.act-index l.acts));
   beside : g.B.Board.tells_image → WritesTotals g.B.Board l.fn.board l.board;
   faults : g.B.Board.faults l.board ≡ g.B.Board.faults l.fn.board;
   steps : l.steps ≤ l.fn.steps + l.act-index + 5 * commits_in (take l.act-index l.acts);
