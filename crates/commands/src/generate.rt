@@ -34,7 +34,7 @@ use std::sync::ledger::Ledger;
 use tariff_compile::Tables;
 use taxi_units::{FIRST_SECOND, Line, Steps, push_bytes, push_number};
 use totaliser_store::Durable;
-use verify_bench::{Generator, generated_drives_mean_their_lines, generated_events};
+use verify_bench::{Generator, generated_events};
 
 /// The city tariff, under which generated drives are run.
 const CITY: &[u8] = b"decimals 2\nstep 0.20 ahead\npositions 2\nzones 2\nholiday 2026-01-01\n\
@@ -173,7 +173,6 @@ fn state_of_drive<L: Ledger>(
     ensures state { (s : Setting) → IsSettingOf s tables.now seal.now → result ≡ state_after s (generated seed trips) }
     ensures steps { steps.new ≤ steps.old + 77 + 64 * event_count seed trips }
 {
-    generated_drives_mean_their_lines();
     let mut drive = Generator::new(seed, trips);
     let mut board = QuietBoard::new(&[0; STORE_SIZE]);
     run_afresh(tables, seal, &mut drive, &mut board, steps).unwrap()

@@ -6,7 +6,7 @@ ghost use Rattle.log_commands.specs.Slots.{Spells, IsRecordOf, spelling};
 
 use crate::log_record::{LONGEST, LogRecord};
 use arrayvec::ArrayVec;
-use receipt_text::{read_receipt, receipts_are_short};
+use receipt_text::read_receipt;
 use slot_store::{Spelled, eight_at, put_bytes, two_at};
 
 /// Appends zeros, for which there is room.
@@ -40,7 +40,6 @@ pub(crate) fn record_of(text: &[u8]) -> Option<LogRecord>
     ensures { (it : Record) → (result ≡ Some it) ↔ IsRecordOf text.now it }
 {
     let (receipt, part) = read_receipt(text)?;
-    receipts_are_short();
     let mut copy = ArrayVec::new();
     copy.try_extend_from_slice(text).unwrap();
     Some(LogRecord {

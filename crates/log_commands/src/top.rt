@@ -93,9 +93,9 @@ fn count_of(tail: &Tail) -> u64
 }
 
 /// Finds the end of the log, and prints its records, the oldest first.
-fn show<F: Files, G: LogBoard<L>, L: Ledger>(files: &F, log: &mut G, steps: &mut Steps<L>) -> Ended
-    ensures comes { G.tells_image → Comes F.Files (board_of G.LogBoard) (Some Call.Show)
-        files.now files.now log.old log.new steps.old steps.new result }
+fn show<F: Files, G: LogBoard<L>, L: Ledger>(log: &mut G, steps: &mut Steps<L>) -> Ended
+    ensures comes { G.tells_image → (files : F) → Comes F.Files (board_of G.LogBoard) (Some Call.Show)
+        files files log.old log.new steps.old steps.new result }
     ensures unread { result ≢ Ended.ReadFault }
     ensures board_fault { RisesOnlyIf (result ≡ Ended.BoardFault) (G.faults log.old) (G.faults log.new) }
     ensures has { MayHave (Some Call.Show) (status_of result) }
@@ -135,7 +135,7 @@ fn carry_out<F: Files, G: LogBoard<L>, L: Ledger>(
 {
     match call {
         Some(Call::File) => file(files, log, steps),
-        Some(Call::Show) => show(files, log, steps),
+        Some(Call::Show) => show::<F, G, L>(log, steps),
         None => Ended::BadWords,
     }
 }

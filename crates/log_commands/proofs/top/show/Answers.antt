@@ -20,11 +20,11 @@ use Rattle.log_commands.proofs.top.show.Goals as goal
 -- ---- the log isn't read
 
 pub returns-in-Err-clause-comes : goal.returns-in-Err-clause-comes
-returns-in-Err-clause-comes g c = λ told.
+returns-in-Err-clause-comes g c = λ told files.
     let B = board_of g.G.LogBoard in
     let fault = c.in-Err.fault in
-    subst (λ (end : Ended). Comes g.F.Files B (Some Show) c.args.files.now c.args.files.now c.args.log.now c.find_tail.new.log c.args.steps.now c.find_tail.new.steps end) (sym c.ended_unread.ensures)
-    (comes_unread g.F.Files B (Some Show) c.args.files.now c.args.files.now c.args.log.now c.find_tail.new.log c.args.steps.now c.find_tail.new.steps fault (Show, refl)
+    subst (λ (end : Ended). Comes g.F.Files B (Some Show) files files c.args.log.now c.find_tail.new.log c.args.steps.now c.find_tail.new.steps end) (sym c.ended_unread.ensures)
+    (comes_unread g.F.Files B (Some Show) files files c.args.log.now c.find_tail.new.log c.args.steps.now c.find_tail.new.steps fault (Show, refl)
     (λ slot is. c.find_tail.ensures.bad slot (c.in-Err.is ∙ ap Err is) told)
     (λ is. c.find_tail.ensures.broken (c.in-Err.is ∙ ap Err is) told)
     (λ is. c.find_tail.ensures.cause.rose (c.in-Err.is ∙ ap Err is))
@@ -47,10 +47,10 @@ returns-in-Err-clause-looks g c =
 -- ---- the records are printed
 
 pub returns-in-Ok-show_records-clause-comes : goal.returns-in-Ok-show_records-clause-comes
-returns-in-Ok-show_records-clause-comes g c = λ told.
+returns-in-Ok-show_records-clause-comes g c = λ told files.
     let found = c.in-Ok.ensures.found told in
     let held = found_shown _ _ _ c.in-Ok.tail found.0 found.1 (found_same (board_of g.G.LogBoard) (IsAsHeld (board_of g.G.LogBoard) c.args.log.now) c.args.log.now c.find_tail.new.log c.find_tail.result c.in-Ok.tail c.in-Ok.is c.find_tail.ensures.same) found.2 _ c.count_of-count.ensures.count in
-    comes_shown g.F.Files (board_of g.G.LogBoard) c.args.files.now c.args.log.now c.find_tail.new.log c.show_records.new.log c.args.steps.now c.show_records.new.steps found.0 found.1 c.find_tail.ensures.reads.text
+    comes_shown g.F.Files (board_of g.G.LogBoard) files c.args.log.now c.find_tail.new.log c.show_records.new.log c.args.steps.now c.show_records.new.steps found.0 found.1 c.find_tail.ensures.reads.text
     (λ text. c.in-Ok-show_records.ensures.shown told text found.0 held.0 held.1)
 
 pub returns-in-Ok-show_records-clause-looks : goal.returns-in-Ok-show_records-clause-looks
@@ -73,10 +73,10 @@ failed g c =
     (c.show_records.ensures.cause.failed (ap is_err c.in-Err-show_records.is))
 
 pub returns-in-Err-show_records-clause-comes : goal.returns-in-Err-show_records-clause-comes
-returns-in-Err-show_records-clause-comes g c = λ told.
+returns-in-Err-show_records-clause-comes g c = λ told files.
     let found = c.in-Ok.ensures.found told in
     let held = found_shown _ _ _ c.in-Ok.tail found.0 found.1 (found_same (board_of g.G.LogBoard) (IsAsHeld (board_of g.G.LogBoard) c.args.log.now) c.args.log.now c.find_tail.new.log c.find_tail.result c.in-Ok.tail c.in-Ok.is c.find_tail.ensures.same) found.2 _ c.count_of-count.ensures.count in
-    comes_cut g.F.Files (board_of g.G.LogBoard) c.args.files.now c.args.log.now c.find_tail.new.log c.show_records.new.log c.args.steps.now c.show_records.new.steps found.0 found.1 c.find_tail.ensures.reads.text
+    comes_cut g.F.Files (board_of g.G.LogBoard) files c.args.log.now c.find_tail.new.log c.show_records.new.log c.args.steps.now c.show_records.new.steps found.0 found.1 c.find_tail.ensures.reads.text
     (λ text. c.show_records.ensures.begun told text found.0 held.0 held.1)
     (failed g c)
 
