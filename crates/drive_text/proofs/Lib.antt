@@ -18,6 +18,8 @@ mod LineLaw
 mod Numbers
 -- a part of a text without an LF, and a line with its LF, behind other bytes
 mod Parts
+-- lines without a byte below the blank, and those of them that are read in one pass
+mod PlainLines
 -- first bad lines and runs of lists of lines, of which more come
 mod Positions
 -- the runs of a line are in the ranges of a drive

@@ -79,7 +79,8 @@ read_whole low high field n e =
     let h = number_sound low high field n e in
     (numbers_are_read_by_their_digits field [] n).1 (field, sym (append-nil field), h.numeral, h.few, sym h.value, tt)
 
-no_bytes : (t : List ℕ) → length t ≡ 0 → t ≡ []
+-- a text without bytes is empty
+pub no_bytes : (t : List ℕ) → length t ≡ 0 → t ≡ []
 no_bytes [] e = refl
 no_bytes (x ∷ xs) e = absurd (omega arith)
 

@@ -1,11 +1,7 @@
 -- The line of an event is read as that event.
-use Rattle.std.proofs.Common.{◌≡◌, ℕ, ◌+◌, ◌-◌, ◌^◌, ◌<◌, ◌≤◌, Bool, true, false, cond, List, [], ◌∷◌, ◌++◌, length, get_or, refl, ap, sym, ◌∙◌, subst, arith, eqb, Option, Some, None, All, codes, decimal}
-use Rattle.std.specs.Str.Lines.{strip_carriage_return}
-use Rattle.std.specs.Str.Parse.{AllDigits}
-use Rattle.std.proofs.lemmas.List.Elements.{All-nil, All-cons}
-use Rattle.std.proofs.lemmas.Bool.{ne_eqb, eqb-true}
+use Rattle.std.proofs.Common.{◌≡◌, ℕ, ◌+◌, ◌^◌, ◌<◌, ◌≤◌, Bool, true, false, cond, List, [], ◌∷◌, ◌++◌, length, refl, ap, ◌∙◌, arith, eqb, Option, Some, None, codes, decimal}
+use Rattle.std.proofs.lemmas.Bool.{eqb-true}
 use Rattle.std.proofs.lemmas.Fmt.{decimal_is_IsNumeral_wide}
-use Rattle.std.proofs.lemmas.Str.Parse.{digit_from_value}
 use Rattle.taxi_units.specs.Time.{first_second, last_second}
 use Rattle.taxi_units.specs.declared.event.Event.{Event}
 use Rattle.taxi_units.specs.declared.event.Event.TheVariants.{Up, Down, Pulses, Tick, Clock}
@@ -15,21 +11,17 @@ use Rattle.taxi_units.specs.declared.event.Key.TheVariants.{Hire, Stop, Clear, P
 use Rattle.drive_text.specs.declared.run.Run.{Run}
 use Rattle.drive_text.specs.declared.run.Run.TheVariants.{One}
 use Rattle.drive_text.specs.Ranges.{IsInRange, IsKeyInRange}
-use Rattle.drive_text.specs.Lines.{ended_lines, unfinished_line, is_too_long, IsOneLine}
+use Rattle.drive_text.specs.Lines.{ended_lines, unfinished_line, is_too_long}
 use Rattle.drive_text.specs.Fields.{line_runs}
 use Rattle.drive_text.specs.Table.{Means}
 use Rattle.drive_text.specs.Table.Means.{up, down, clock, pulses, tick, hire, stop, clear, position, zone, extra}
 use Rattle.drive_text.specs.Drive.{or_else, first_bad_line, bad_at_end, runs_of_lines, runs_in}
 use Rattle.drive_text.specs.Written.{key_text, event_fields, event_text}
 use Rattle.drive_text.proofs.Parts.{line_ends}
+use Rattle.drive_text.proofs.PlainLines.{IsPlain, plain_digits, more_plain, one_plain, no_lf, plain_run}
 use Rattle.drive_text.proofs.Positions.{first_bad_line-good, runs_of_lines-good, runs_of_lines-one}
-use Rattle.drive_text.proofs.Table.{line_runs-table}
 use Rattle.drive_text.proofs.Decimals.{decimal_short}
 use Rattle.taxi_units.specs.Written.{IsNumberIn}
-
--- no line end and no CR
-abbrev IsPlain : List ℕ → Type 0
-IsPlain t = All (λ c. 32 ≤ c) t
 
 -- a number that is written is one
 written : (low high n : ℕ) → low ≤ n → n ≤ high → n < 10 ^ 12 → IsNumberIn low high (decimal n) n
@@ -56,20 +48,8 @@ fields_mean Tick h = tick
 fields_mean (Clock n) h = clock n (decimal n) (written first_second last_second n h.0 h.1 (omega arith))
 fields_mean (events.Key key) h = key_means key h
 
-plain_digits : (ds : List ℕ) → AllDigits 10 ds → IsPlain ds
-plain_digits [] h = All-nil (λ c. 32 ≤ c)
-plain_digits (d ∷ ds) h =
-    let digit = digit_from_value d h.0 in
-    All-cons (λ c. 32 ≤ c) d ds (omega arith) (plain_digits ds h.1)
-
 plain_decimal : (n : ℕ) → n < 10 ^ 12 → IsPlain (decimal n)
 plain_decimal n small = plain_digits (decimal n) (decimal_is_IsNumeral_wide n (omega arith)).0.1
-
-more_plain : (c : ℕ) (t : List ℕ) → 32 ≤ c → IsPlain t → IsPlain (c ∷ t)
-more_plain c t h p = All-cons (λ x. 32 ≤ x) c t h p
-
-one_plain : (c : ℕ) → 32 ≤ c → IsPlain (c ∷ [])
-one_plain c h = more_plain c [] h (All-nil (λ x. 32 ≤ x))
 
 number_plain : (c n : ℕ) → 32 ≤ c → n < 10 ^ 12 → IsPlain (c ∷ 32 ∷ decimal n)
 number_plain c n h small = more_plain c (32 ∷ decimal n) h (more_plain 32 (decimal n) (omega arith) (plain_decimal n small))
@@ -92,21 +72,8 @@ fields_plain Tick h = one_plain 84 (omega arith)
 fields_plain (Clock n) h = number_plain 67 n (omega arith) (omega arith)
 fields_plain (events.Key key) h = more_plain 75 (32 ∷ key_text key) (omega arith) (more_plain 32 (key_text key) (omega arith) (key_plain key h))
 
--- no CR stands at the end
-strip_plain : (t : List ℕ) → IsPlain t → strip_carriage_return t ≡ t
-strip_plain [] p = refl
-strip_plain (x ∷ xs) p =
-    let last : 32 ≤ get_or (x ∷ xs) (length (x ∷ xs) - 1) 0 = p (length (x ∷ xs) - 1) 0 (omega arith) in
-    let no_cr : eqb (get_or (x ∷ xs) (length (x ∷ xs) - 1) 0) 13 ≡ false = ne_eqb _ 13 (λ e. omega arith) in
-    rw no_cr refl
-
 line_read : (event : Event) → IsInRange event → line_runs (event_fields event) ≡ Some (One event ∷ [])
-line_read event h =
-    (line_runs-table (event_fields event) (One event ∷ [])).1
-    (subst (λ (t : List ℕ). Means t (One event ∷ [])) (sym (strip_plain (event_fields event) (fields_plain event h))) (fields_mean event h))
-
-no_lf : (t : List ℕ) → IsPlain t → IsOneLine t
-no_lf t p = λ k d lt. let c = p k d lt in λ e. omega arith
+line_read event h = plain_run (event_fields event) (One event) (fields_plain event h) (fields_mean event h)
 
 ends_by : (o : Option ℕ) (long empty : Bool) (k m : ℕ) → or_else (or_else o (cond long (Some k) None)) (cond empty None (Some m)) ≡ None → (o ≡ None) × (empty ≡ true)
 ends_by (Some n) long empty k m e = cc

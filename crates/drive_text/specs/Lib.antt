@@ -5,6 +5,7 @@ pub mod Fields
 pub mod Keeping
 pub mod Lines
 pub mod Part
+pub mod Plain
 pub mod Ranges
 pub mod Reading
 pub mod Runs

@@ -4,6 +4,7 @@
 mod ending;
 mod fields;
 mod meaning;
+mod plain;
 mod reader;
 mod run;
 mod state;

@@ -10,6 +10,7 @@ ghost use Rattle.drive_text.specs.Reading.{HasTaken, HasFailed, HasSense};
 
 use crate::fields;
 use crate::fields::{Content, content_of_line, is_long, without_carriage_return};
+use crate::plain::plain_line;
 use crate::reader::BadLine;
 use crate::run::Run;
 use arrayvec::ArrayVec;
@@ -58,6 +59,14 @@ impl State {
         ensures err { IfErr result (λ e. FailsIn (reading_of self.old) (reading_of self.new) piece.now e.line) }
         ensures out { OnErr result (out.new ≡ out.old) }
     {
+        if !self.comment
+            && self.kept.is_empty()
+            && let Some((run, rest)) = plain_line(piece)
+        {
+            self.begun += 1;
+            out.push(run);
+            return Ok(rest);
+        }
         let (line, rest) = split_at_byte(piece, b'\n');
         match rest {
             Some(rest) => {

@@ -1,0 +1,156 @@
+-- Lines without a byte below the blank, and those of them that are read in one pass.
+use Rattle.std.proofs.Common.{◌≡◌, ◌≢◌, ℕ, ◌+◌, ◌*◌, ◌-◌, ◌^◌, ◌<◌, ◌≤◌, true, false, List, [], ◌∷◌, ◌++◌, length, length-take, length-drop, take_all, take-append-drop, get_or, take, drop, refl, ap, sym, ◌∙◌, subst, arith, eqb, append_assoc, Some, codes, All}
+use Rattle.std.specs.Char.{is_ascii_digit, digit_value}
+use Rattle.std.specs.Str.Lines.{strip_carriage_return}
+use Rattle.std.specs.Str.Parse.{AllDigits, digits_value}
+use Rattle.std.proofs.lemmas.Bool.{ne_eqb}
+use Rattle.std.proofs.lemmas.Bool.Decides.{nat_tests}
+use Rattle.std.proofs.lemmas.Int.Digits.{digits_more, digits_value_more, digits_value-lt}
+use Rattle.std.proofs.lemmas.List.{append-nil}
+use Rattle.std.proofs.lemmas.List.Elements.{All-nil, All-cons, All-append}
+use Rattle.std.proofs.lemmas.Str.Parse.{digit_from_value}
+use Rattle.std.proofs.Math.Nat.{pow-le-pow_right}
+use Rattle.taxi_units.specs.declared.event.Event.TheVariants.{Pulses, Tick}
+use Rattle.drive_text.specs.declared.run.Run.{Run}
+use Rattle.drive_text.specs.declared.run.Run.TheVariants.{One, Many}
+use Rattle.drive_text.specs.Fields.{line_runs}
+use Rattle.drive_text.specs.Lines.{IsOneLine}
+use Rattle.drive_text.specs.Part.{TakesPart}
+use Rattle.drive_text.specs.Plain.{BeginsWithLine, BeginsWithNumber}
+use Rattle.drive_text.specs.Reading.{Reading}
+use Rattle.drive_text.specs.Table.{IsNumberIn, Means}
+use Rattle.drive_text.specs.Table.Means.{pulses, tick, intervals}
+use Rattle.drive_text.proofs.Feeding.{takes_line}
+use Rattle.drive_text.proofs.Numbers.{no_bytes}
+use Rattle.drive_text.proofs.Ranges.{runs_in_range}
+use Rattle.drive_text.proofs.Standing.{number_of, line_is_good, line_gives}
+use Rattle.drive_text.proofs.Table.{line_runs-table}
+
+-- ---- plain lines
+
+-- no line end and no CR
+abbrev pub IsPlain : List ℕ → Type 0
+IsPlain t = All (λ c. 32 ≤ c) t
+
+pub more_plain : (c : ℕ) (t : List ℕ) → 32 ≤ c → IsPlain t → IsPlain (c ∷ t)
+more_plain c t h p = All-cons (λ x. 32 ≤ x) c t h p
+
+pub one_plain : (c : ℕ) → 32 ≤ c → IsPlain (c ∷ [])
+one_plain c h = more_plain c [] h (All-nil (λ x. 32 ≤ x))
+
+pub plain_digits : (ds : List ℕ) → AllDigits 10 ds → IsPlain ds
+plain_digits [] h = All-nil (λ c. 32 ≤ c)
+plain_digits (d ∷ ds) h =
+    let digit = digit_from_value d h.0 in
+    All-cons (λ c. 32 ≤ c) d ds (omega arith) (plain_digits ds h.1)
+
+-- no CR stands at the end
+strip_plain : (t : List ℕ) → IsPlain t → strip_carriage_return t ≡ t
+strip_plain [] p = refl
+strip_plain (x ∷ xs) p =
+    let last : 32 ≤ get_or (x ∷ xs) (length (x ∷ xs) - 1) 0 = p (length (x ∷ xs) - 1) 0 (omega arith) in
+    let no_cr : eqb (get_or (x ∷ xs) (length (x ∷ xs) - 1) 0) 13 ≡ false = ne_eqb _ 13 (λ e. omega arith) in
+    rw no_cr refl
+
+pub no_lf : (t : List ℕ) → IsPlain t → IsOneLine t
+no_lf t p = λ k d lt. let c = p k d lt in λ e. omega arith
+
+-- a plain line has the run that the table says
+pub plain_run : (text : List ℕ) (run : Run) → IsPlain text → Means text (run ∷ []) → line_runs text ≡ Some (run ∷ [])
+plain_run text run plain means = (line_runs-table text (run ∷ [])).1 (subst (λ (t : List ℕ). Means t (run ∷ [])) (sym (strip_plain text plain)) means)
+
+-- ---- read in one pass
+
+-- a digit's value
+digit_value_is : (c : ℕ) → is_ascii_digit c ≡ true → digit_value c ≡ c - 48
+digit_value_is c h = grind (arith, nat_tests)
+
+-- four digits leave room for one more
+pub room_for_a_digit : (bytes : List ℕ) (count number : ℕ) → count < 5 → count < length bytes → AllDigits 10 (take count bytes) → digits_value 10 (take count bytes) ≡ number → number < 10000
+room_for_a_digit bytes count number few within digits value =
+    let below : digits_value 10 (take count bytes) < 10 ^ length (take count bytes) = digits_value-lt 10 (take count bytes) digits in
+    let short : length (take count bytes) ≤ 4 = omega (arith, length-take count bytes) in
+    let most : 10 ^ length (take count bytes) ≤ 10 ^ 4 = pow-le-pow_right (omega arith) short in
+    omega arith
+
+-- a digit more in front
+pub digit_more : (bytes : List ℕ) (count number : ℕ) → count < length bytes → is_ascii_digit (get_or bytes count 0) ≡ true → AllDigits 10 (take count bytes) → digits_value 10 (take count bytes) ≡ number
+    → AllDigits 10 (take (count + 1) bytes) × (digits_value 10 (take (count + 1) bytes) ≡ number * 10 + (get_or bytes count 0 - 48))
+digit_more bytes count number within digit digits value =
+    let c = get_or bytes count 0 in
+    let is = digit_value_is c digit in
+    let below : digit_value c < 10 = grind (arith, nat_tests) in (
+      digits_more 10 bytes count within digits below,
+      digits_value_more 10 bytes count within ∙ (ap (λ (n : ℕ). n * 10 + digit_value c) value ∙ ap (λ (n : ℕ). number * 10 + n) is),
+    )
+
+-- the digits in front are a number, with the rest behind them
+pub begins_with_number : (bytes : List ℕ) (count number : ℕ) → count ≢ 0 → count ≤ length bytes → count ≤ 5 → AllDigits 10 (take count bytes) → digits_value 10 (take count bytes) ≡ number
+    → BeginsWithNumber bytes number (take (length bytes - count) (drop count bytes))
+begins_with_number bytes count number some within few digits value =
+    let whole : take (length bytes - count) (drop count bytes) ≡ drop count bytes = take_all (length bytes - count) (drop count bytes) (omega (arith, length-drop count bytes)) in
+    record {
+      digits = take count bytes;
+      split = sym (take-append-drop count bytes) ∙ ap (λ (x : List ℕ). take count bytes ++ x) (sym whole);
+      numeral = (omega (arith, some, length-take count bytes), digits);
+      few = omega (arith, length-take count bytes);
+      value = value;
+    }
+
+-- a number of a range
+in_range : (low high : ℕ) (bytes : List ℕ) (number : ℕ) (rest : List ℕ) (h : BeginsWithNumber bytes number rest) → low ≤ number → number ≤ high → IsNumberIn low high h.digits number
+in_range low high bytes number rest h above below = record { numeral = h.numeral; few = omega (arith, h.few); value = h.value; above = above; below = below }
+
+begins : (line : List ℕ) (run : Run) (bytes rest : List ℕ) → bytes ≡ line ++ 10 ∷ rest → IsPlain line → Means line (run ∷ []) → BeginsWithLine bytes run rest
+begins line run bytes rest split plain means = record { line = line; split = split; one = no_lf line plain; gives = plain_run line run plain means }
+
+pub tick_line : (bytes behind rest : List ℕ) → bytes ≡ 84 ∷ behind → behind ≡ 10 ∷ rest → BeginsWithLine bytes (One Tick) rest
+tick_line bytes behind rest word end = begins (codes "T") (One Tick) bytes rest (word ∙ ap (λ (x : List ℕ). 84 ∷ x) end) (one_plain 84 (omega arith)) tick
+
+pub pulses_line : (bytes behind rest : List ℕ) (p : ℕ) → BeginsWithNumber bytes p behind → behind ≡ 10 ∷ rest → 1 ≤ p → p ≤ 65535 → BeginsWithLine (codes "P " ++ bytes) (One (Pulses p)) rest
+pulses_line bytes behind rest p h end some most =
+    let split : codes "P " ++ bytes ≡ (codes "P " ++ h.digits) ++ 10 ∷ rest = ap (λ (x : List ℕ). codes "P " ++ x) (h.split ∙ ap (λ (x : List ℕ). h.digits ++ x) end) in
+    let plain : IsPlain (codes "P " ++ h.digits) = more_plain 80 (32 ∷ h.digits) (omega arith) (more_plain 32 h.digits (omega arith) (plain_digits h.digits h.numeral.1)) in
+    begins (codes "P " ++ h.digits) (One (Pulses p)) (codes "P " ++ bytes) rest split plain (pulses p h.digits (in_range 1 65535 bytes p behind h some most))
+
+pub intervals_line : (bytes behind second end rest : List ℕ) (p n : ℕ) → BeginsWithNumber bytes p behind → behind ≡ 32 ∷ second → BeginsWithNumber second n end → end ≡ 10 ∷ rest → p ≤ 65535 → 1 ≤ n → n ≤ 36000 → BeginsWithLine (codes "I " ++ bytes) (Many p n) rest
+intervals_line bytes behind second end rest p n h blank k lf few some most =
+    let fields : List ℕ = h.digits ++ (codes " " ++ k.digits) in
+    let parts : bytes ≡ fields ++ 10 ∷ rest =
+    h.split ∙ (ap (λ (x : List ℕ). h.digits ++ x) (blank ∙ ap (λ (x : List ℕ). 32 ∷ x) (k.split ∙ ap (λ (x : List ℕ). k.digits ++ x) lf)) ∙ sym (append_assoc h.digits (codes " " ++ k.digits) (10 ∷ rest))) in
+    let numbers : IsPlain fields = All-append (λ x. 32 ≤ x) h.digits (codes " " ++ k.digits) (plain_digits h.digits h.numeral.1) (more_plain 32 k.digits (omega arith) (plain_digits k.digits k.numeral.1)) in
+    begins (codes "I " ++ fields) (Many p n) (codes "I " ++ bytes) rest (ap (λ (x : List ℕ). codes "I " ++ x) parts) (more_plain 73 (32 ∷ fields) (omega arith) (more_plain 32 fields (omega arith) numbers))
+    (intervals p n h.digits k.digits (in_range 0 65535 bytes p behind h (omega arith) few) (in_range 1 36000 second n end k some most))
+
+-- what is taken of a part is taken of a piece that begins with it
+takes_before : (old new : Reading) (part piece rest : List ℕ) (before after : List Run) → piece ≡ part ++ rest → TakesPart old new part [] before after → TakesPart old new piece rest before after
+takes_before old new part piece rest before after split t = record {
+  part = t.part;
+  split = split ∙ ap (λ (x : List ℕ). x ++ rest) (t.split ∙ append-nil t.part);
+  some = t.some;
+  going = t.going;
+  counted = t.counted;
+  reader = t.reader;
+  runs = t.runs;
+  added = t.added;
+  in_range = t.in_range;
+  read = t.read;
+  quiet = t.quiet;
+}
+
+next_number : (r : Reading) → r.kept ≡ [] → number_of r ≡ r.begun + 1
+next_number r none = rw none refl
+
+-- a reader between two lines takes a plain line
+pub takes_plain : (old new : Reading) (piece rest : List ℕ) (run : Run) (before after : List Run) → BeginsWithLine piece run rest → length old.kept ≡ 0 → old.failed ≡ false → old.comment ≡ false
+    → new ≡ record { begun = old.begun + 1; kept = old.kept; comment = old.comment; failed = old.failed } → after ≡ before ++ run ∷ [] → TakesPart old new piece rest before after
+takes_plain old new piece rest run before after h short going plain is added =
+    let none : old.kept ≡ [] = no_bytes old.kept short in
+    let good : line_runs (old.kept ++ h.line) ≡ Some (run ∷ []) = ap (λ (x : List ℕ). line_runs (x ++ h.line)) none ∙ h.gives in
+    let failed = ap (λ (r : Reading). r.failed) is ∙ going in
+    let begun : new.begun ≡ old.begun + 1 = ap (λ (r : Reading). r.begun) is in
+    let number : new.begun ≡ number_of old = begun ∙ sym (next_number old none) in
+    let t : TakesPart old new (h.line ++ 10 ∷ []) [] before after = takes_line old new h.line before after (run ∷ []) h.one added (runs_in_range h.line (run ∷ []) h.gives) failed (omega arith)
+    (λ b taken. line_is_good old new b h.line (run ∷ []) h.one going plain good number (ap (λ (r : Reading). r.kept) is ∙ none) (ap (λ (r : Reading). r.comment) is ∙ plain) failed taken)
+    (λ b taken. line_gives old b h.line (run ∷ []) h.one going plain good taken) in
+    takes_before old new (h.line ++ 10 ∷ []) piece rest before after (h.split ∙ sym (append_assoc h.line (10 ∷ []) rest)) t

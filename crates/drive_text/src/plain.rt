@@ -1,0 +1,76 @@
+//! The lines that a drive has most of, read in one pass over their bytes: ticks, pulses and intervals, with numbers of
+//! at most 5 digits and an LF alone at the end. Where a line isn't read so, nothing is said of it: fields.rt reads it.
+ghost use Rattle.std.specs.Prelude.{◌≡◌, ◌∷◌, ◌++◌, IfSome, codes};
+ghost use Rattle.drive_text.specs.Plain.{BeginsWithLine, BeginsWithNumber};
+
+use crate::run::Run;
+use taxi_units::Event;
+
+/// A number of 1 to 5 digits at the front of the bytes, and what stands behind them. More digits may stand there.
+fn short_number(bytes: &[u8]) -> Option<(u32, &[u8])>
+    ensures { IfSome result (λ x. BeginsWithNumber bytes.now x.0 x.1.now) }
+{
+    let mut number = 0;
+    let mut count = 0;
+    while count < bytes.len() && count < 5 {
+        let byte = bytes[count];
+        if !byte.is_ascii_digit() {
+            break;
+        }
+        number = number * 10 + (byte - b'0') as u32;
+        count += 1;
+    }
+    if count == 0 {
+        return None;
+    }
+    Some((number, &bytes[count..]))
+}
+
+/// What stands behind this byte at the front of the bytes.
+fn behind(bytes: &[u8], byte: u8) -> Option<&[u8]>
+    ensures { IfSome result (λ rest. bytes.now ≡ byte ∷ rest.now) }
+{
+    let (first, rest) = bytes.split_first()?;
+    if *first == byte { Some(rest) } else { None }
+}
+
+/// The intervals of a line, from behind its word and blank.
+#[tactic(auto, using(crate::proofs::PlainLines::intervals_line))]
+fn plain_intervals(bytes: &[u8]) -> Option<(Run, &[u8])>
+    ensures { IfSome result (λ x. BeginsWithLine (codes "I " ++ bytes.now) x.0 x.1.now) }
+{
+    let (pulses, rest) = short_number(bytes)?;
+    let (count, rest) = short_number(behind(rest, b' ')?)?;
+    let rest = behind(rest, b'\n')?;
+    if pulses > 65535 || count == 0 || count > 36000 {
+        return None;
+    }
+    Some((Run::Many { pulses, count }, rest))
+}
+
+/// The pulses of a line, from behind its word and blank.
+#[tactic(auto, using(crate::proofs::PlainLines::pulses_line))]
+fn plain_pulses(bytes: &[u8]) -> Option<(Run, &[u8])>
+    ensures { IfSome result (λ x. BeginsWithLine (codes "P " ++ bytes.now) x.0 x.1.now) }
+{
+    let (pulses, rest) = short_number(bytes)?;
+    let rest = behind(rest, b'\n')?;
+    if pulses == 0 || pulses > 65535 {
+        return None;
+    }
+    Some((Run::One(Event::Pulses(pulses)), rest))
+}
+
+/// The run of the line at the front of the bytes, and what stands behind its LF, where it is read in one pass.
+#[tactic(auto, using(crate::proofs::PlainLines::tick_line))]
+pub(crate) fn plain_line(bytes: &[u8]) -> Option<(Run, &[u8])>
+    ensures { IfSome result (λ x. BeginsWithLine bytes.now x.0 x.1.now) }
+{
+    let (word, rest) = bytes.split_first()?;
+    match *word {
+        b'I' => plain_intervals(behind(rest, b' ')?),
+        b'P' => plain_pulses(behind(rest, b' ')?),
+        b'T' => Some((Run::One(Event::Tick), behind(rest, b'\n')?)),
+        _ => None,
+    }
+}
