@@ -1,5 +1,7 @@
 -- mode S charges the time below the cross-over speed and the distance from it on
 mod Crossover
+-- the largest fare is shown from some number of display steps on
+mod Largest
 -- the laws that the crates above may cite
 pub mod Laws
 -- display steps are whole steps: the most that an amount fills, or the fewest that hold it

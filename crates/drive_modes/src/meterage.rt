@@ -37,6 +37,10 @@ pub struct Meterage {
     pub rest: u128,
 }
 
+/// More display steps than these show no other fare: they are worth nothing, or the fare is the largest already. So a
+/// fare is figured in 64 bits.
+const MOST_STEPS: u64 = 100_000_000;
+
 impl Meterage {
     /// The start of a trip whose initial hire fee covers `covers` of the smallest units of money, at most
     /// 99,999,999, where `measure` units of charge, at most 2 * 10^23, make one of them.
@@ -58,6 +62,7 @@ impl Meterage {
     /// Adds the charge of an interval, at most 202 * 10^29, where `modulus` units of charge, 1 to
     /// 2 * 10^29, make a display step. Nothing is rounded: what doesn't fill a display step is kept as the
     /// rest. The full display steps are to stay at most 4 * 10^17.
+    #[inline(never)]
     pub fn add(&mut self, charge: u128, modulus: u128)
         requires rest { self.old.rest < modulus }
         requires some { 1 ≤ modulus }
@@ -103,6 +108,7 @@ impl Meterage {
     /// The fare that is shown, in the smallest units of money: the initial hire fee `initial`, at most
     /// 99,999,999, and `step`, at most 1,000,000, for each display step that is shown, or `minimum`, at
     /// most 99,999,999, where that is more. A greater fare than 99,999,999 is shown as that.
+    #[tactic(auto, using(crate::proofs::Largest::most_steps, crate::proofs::Largest::steps_value))]
     pub fn shown(&self, initial: u64, minimum: u64, step: u64, rounding: Rounding) -> u64
         requires steps { self.now.steps_full ≤ 4 * 10 ^ 17 }
         requires initial { initial ≤ largest_amount }
@@ -116,8 +122,8 @@ impl Meterage {
         ensures least { minimum ≤ result }
         ensures most { result ≤ largest_amount }
     {
-        let fare = initial as u128 + step as u128 * self.steps(rounding) as u128;
-        fare.max(minimum as u128).min(LARGEST_AMOUNT as u128) as u64
+        let fare = initial + step * self.steps(rounding).min(MOST_STEPS);
+        fare.max(minimum).min(LARGEST_AMOUNT)
     }
 }
 
