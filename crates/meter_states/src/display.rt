@@ -20,6 +20,8 @@ use taxi_units::Display;
 
 impl State {
     /// The display is shown where it differs from the one that was shown last.
+    #[tactic(auto, using(crate::proofs::Displays::shown_already))]
+    #[inline(always)]
     pub(crate) fn show(&mut self, tables: &Tables, acts: &mut Acts)
         requires lawful { IsBetweenEvents tables.now self.old }
         requires room { length acts.old.items ≤ 3 }
@@ -32,8 +34,8 @@ impl State {
         let display = self.display(tables);
         if !is_shown(&self.shown, &display) {
             acts.push(Act::Show(display));
+            self.shown = Some(display);
         }
-        self.shown = Some(display);
     }
 
     /// What is shown now.

@@ -47,6 +47,7 @@ pub(crate) struct Facts {
 }
 
 /// What the tables and the seal say of a second's local time. At most 14 steps.
+#[inline(never)]
 pub(crate) fn local_facts<L: Ledger>(
     second: u64,
     tables: &Tables,
@@ -185,8 +186,26 @@ impl Facts {
                 return rate.lasting.weights;
             }
         }
-        let lasting = tables.rate_until(x, steps);
-        self.rate = Some(RateFacts { first: *x, lasting });
+        self.look_up_rate(*x, tables, steps)
+    }
+
+    /// The weights of a context, looked up and kept from now on. At most 22 steps.
+    #[inline(never)]
+    fn look_up_rate<L: Ledger>(
+        &mut self,
+        x: Context,
+        tables: &Tables,
+        steps: &mut Steps<L>,
+    ) -> Weights
+        requires range { IsInRangeFor tables.now x }
+        ensures lasting { ForSome self.new.rate (AreLasting tables.now) }
+        ensures local { self.new.local ≡ self.old.local }
+        ensures tree { (t : Tree) → IsTablesOf t tables.now → result ≡ rate_by t tables.now.constant x }
+        ensures fit { AreFit tables.now.measure result }
+        ensures steps { steps.new ≤ steps.old + 22 }
+    {
+        let lasting = tables.rate_until(&x, steps);
+        self.rate = Some(RateFacts { first: x, lasting });
         lasting.weights
     }
 }
