@@ -81,6 +81,7 @@ impl State {
     }
 
     /// Takes the last bytes of a line and its LF, and appends the run of the line, where it has one.
+    #[inline(never)]
     fn end_line(&mut self, line: &[u8], out: &mut ArrayVec<Run, 64>) -> Result<(), BadLine>
         requires sense { HasSense (reading_of self.old) }
         requires going { self.old.failed ≡ false }
@@ -114,6 +115,7 @@ impl State {
     }
 
     /// Takes bytes of a line that doesn't end in them.
+    #[inline(never)]
     fn keep(&mut self, part: &[u8]) -> Result<(), BadLine>
         requires sense { HasSense (reading_of self.old) }
         requires going { self.old.failed ≡ false }

@@ -28,6 +28,7 @@ pub(crate) fn is_off(core: &Core) -> bool
 
 /// What an event does, with its acts in a list that is handed in empty. An `Up` while the meter is off goes
 /// on from the durable state. At most 48 steps.
+#[inline(always)]
 pub(crate) fn advance<L: Ledger>(
     core: &mut Core,
     tables: &Tables,
@@ -53,6 +54,7 @@ pub(crate) fn advance<L: Ledger>(
 }
 
 /// What the coming of the supply does. At most 48 steps.
+#[inline(never)]
 fn supply<L: Ledger>(
     core: &mut Core,
     tables: &Tables,

@@ -25,6 +25,7 @@ use taxi_units::{Event, Steps};
 use totaliser_store::{Change, Durable};
 
 /// Carries out an act: it prints displays and refusals, and commits into the durable state.
+#[inline(never)]
 fn perform<B: Board<L>, L: Ledger>(
     durable: &mut Durable,
     act: &Act,
@@ -102,6 +103,7 @@ impl DryMeter {
     ///
     /// `Failed` only where the board's count of faults rose; then a beginning of what the event shows was
     /// printed, and the meter is done with.
+    #[inline(always)]
     pub fn carry_event<B: Board<L>, L: Ledger>(
         &mut self,
         tables: &Tables,
@@ -150,6 +152,7 @@ impl<B: Board<L>, L: Ledger> Carrier<B, L> for DryMeter {
         self.core.equal_intervals(tables, seal, pulses, count)
     }
 
+    #[inline(always)]
     fn carry_out(
         &mut self,
         tables: &Tables,

@@ -153,6 +153,7 @@ impl State {
     }
 
     /// Roaming pulses are entered, and are then none.
+    #[inline(never)]
     pub(crate) fn enter_roaming(&mut self, tables: &Tables, acts: &mut Acts)
         requires lawful { IsPowered tables.now last_tick roaming_amid 1 self.old }
         requires hire { self.old.operating ≡ ForHire }

@@ -37,6 +37,7 @@ impl Core {
     /// the clock was read or pulses came since the last tick, a key waits, another display was shown last, or
     /// an interval has more than 2,000 pulses. The tables' constant is the seal's. No steps. That rows of
     /// intervals are carried out at once is this project's own.
+    #[inline(always)]
     pub fn equal_intervals(&mut self, tables: &Tables, seal: &Seal, pulses: u32, count: u32) -> u32
         requires lawful { IsLawful tables.now seal.now self.old }
         requires constant { tables.now.constant ≡ seal.now.params.constant }
@@ -59,6 +60,7 @@ impl Core {
 
 impl State {
     /// Takes equal intervals at once, as many of these as may go, while the meter is powered.
+    #[inline(never)]
     fn take_equal(
         &mut self,
         facts: &Facts,

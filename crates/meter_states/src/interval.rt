@@ -23,6 +23,7 @@ use taxi_units::{HIRINGS_END, Operating, Steps, Why};
 
 impl State {
     /// The interval takes the pulses that it has room for, and the others are refused.
+    #[inline(always)]
     pub(crate) fn take_pulses(&mut self, n: u32, acts: &mut Acts)
         requires gate { self.old.gate ≤ 2000 }
         requires room { acts.old.items ≡ [] }

@@ -52,6 +52,7 @@ impl State {
     }
 
     /// A key acts, or is refused in this operating position.
+    #[inline(never)]
     fn press_key<L: Ledger>(
         &mut self,
         key: Key,

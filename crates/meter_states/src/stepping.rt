@@ -58,6 +58,7 @@ impl Core {
 
     /// Carries out an event, with the acts in a list that is handed in empty. A list for four acts is large, so whoever
     /// goes over many events hands in one list again and again.
+    #[inline(always)]
     pub fn step_into<L: Ledger>(
         &mut self,
         tables: &Tables,
@@ -98,6 +99,7 @@ impl State {
     }
 
     /// What an event does while the meter is powered. At most 48 steps.
+    #[inline(always)]
     fn take_event<L: Ledger>(
         &mut self,
         facts: &mut Facts,

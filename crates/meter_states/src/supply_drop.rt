@@ -27,6 +27,7 @@ use totaliser_store::Trip;
 
 impl State {
     /// The supply drops. At most 12 steps.
+    #[inline(never)]
     pub(crate) fn drop_supply<L: Ledger>(
         &mut self,
         tables: &Tables,

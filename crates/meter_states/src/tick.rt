@@ -24,6 +24,7 @@ use taxi_units::{Kind, LONGEST_TRIP, Steps, Why};
 
 impl State {
     /// A tick. At most 48 steps.
+    #[inline(never)]
     pub(crate) fn tick<L: Ledger>(
         &mut self,
         facts: &mut Facts,
@@ -86,6 +87,7 @@ impl State {
     }
 
     /// The trip expires: it is closed, and a key that waits is refused. At most 12 steps.
+    #[inline(never)]
     fn expire<L: Ledger>(
         &mut self,
         tables: &Tables,
