@@ -1,7 +1,9 @@
 """Calls of the proved programs, each in a folder of its own that goes when the work is done."""
 
 import pathlib
+import signal
 import subprocess
+import sys
 import tempfile
 
 TOP = pathlib.Path(__file__).resolve().parent.parent
@@ -21,11 +23,21 @@ class Differs(Exception):
     status = 3
 
 
+def called(program, folder, *words):
+    """What a program of bin/ prints to words in a folder, and its status."""
+    command = TOP / "bin" / program
+    done = subprocess.run([command, *words], cwd=folder, stdin=subprocess.DEVNULL, stdout=subprocess.PIPE,
+                          stderr=subprocess.DEVNULL, check=False)
+    if done.returncode == 125:
+        raise Refused(125, f"{command} was not built; run it once by itself to see why")
+    return done.stdout, done.returncode
+
+
 class Scratch:
     """A new folder in which a program runs, as `taxi` or `hiring_log`."""
 
     def __init__(self, program):
-        self.command = TOP / "bin" / program
+        self.program = program
         self.folder = tempfile.TemporaryDirectory(prefix="taxi-")
 
     def __enter__(self):
@@ -34,13 +46,34 @@ class Scratch:
     def __exit__(self, *raised):
         self.folder.cleanup()
 
-    def call(self, *words, text=None):
-        """What the program prints, and its status. A text is put into a file, which is named behind the words."""
+    def call(self, *words, text=None, **texts):
+        """What the program prints, and its status. Texts are put into files of their names first; one without a name is
+        named behind the words."""
         if text is not None:
-            pathlib.Path(self.folder.name, "given").write_bytes(text)
+            texts["given"] = text
             words = (*words, "given")
-        done = subprocess.run([self.command, *words], cwd=self.folder.name, stdin=subprocess.DEVNULL,
-                              stdout=subprocess.PIPE, stderr=subprocess.DEVNULL, check=False)
-        if done.returncode == 125:
-            raise Refused(125, f"{self.command} was not built; run it once by itself to see why")
-        return done.stdout, done.returncode
+        for name, content in texts.items():
+            pathlib.Path(self.folder.name, name).write_bytes(content)
+        return called(self.program, self.folder.name, *words)
+
+
+def read(path):
+    try:
+        return pathlib.Path(path).read_bytes()
+    except OSError as error:
+        raise Refused(7, f"{path}: {error.strerror}") from None
+
+
+def ending(tool, work):
+    """Does the work of a tool, and gives its status. What it can't do is a line on standard error."""
+    try:
+        status = work()
+    except (Refused, Differs) as why:
+        print(f"{tool}: {why}", file=sys.stderr)
+        return why.status
+    return status or 0
+
+
+def print_quietly():
+    """From here on a reader that has seen enough ends the tool without a word."""
+    signal.signal(signal.SIGPIPE, signal.SIG_DFL)
