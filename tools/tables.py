@@ -1,0 +1,71 @@
+"""What the proved program makes of a tariff: its tables, beside the lines that they were made of."""
+
+import bisect
+from typing import NamedTuple
+
+from program import Differs, Refused
+from tariff import read_tariff
+from tariff_faults import cells_of, cuts_of, number_of, of_kind, place_of
+
+
+def money(units, decimals):
+    return f"{units // 10**decimals}.{units % 10**decimals:0{decimals}}" if decimals else str(units)
+
+
+class Tables(NamedTuple):
+    lines: list
+    decimals: int
+    cells: list  # of the numbers of a rate, a hire fee and, where the tariff has one, a minimum fare
+    rates: list  # what a pulse and a tick weigh under each rate
+    cuts: dict  # of each dimension
+    by_kind: dict  # the `rate`, `initial` and `minimum` lines
+    sizes: tuple  # how many zones and kinds of day there are
+
+    def number_of_cell(self, context):
+        """The number of the cell of a context: position, zone, weekday, holiday, month and date, minute, distance, time."""
+        position, zone, weekday, is_holiday, month_date, minute, distance, time = context
+        zones, kinds = self.sizes
+        wheels = [(zones, zone - 1), (7, weekday - 1), (kinds, is_holiday if kinds == 2 else 0)]
+        for name, value in zip(self.cuts, (place_of(*month_date), minute, distance, time)):
+            wheels.append((len(self.cuts[name]) + 1, bisect.bisect_right(self.cuts[name], value)))
+        number = position - 1
+        for size, at in wheels:
+            number = number * size + at
+        return number
+
+    def lines_at(self, context):
+        """The `rate`, the `initial` and the `minimum` line that hold in a context; None for no minimum."""
+        cell = self.cells[self.number_of_cell(context)]
+        return [lines[number - 1] if number else None for lines, number in zip(self.by_kind.values(), (*cell, 0))]
+
+
+def amounts_of(tariff):
+    """The rows of hire fees and minimum fares that the tables of a tariff have."""
+    for number, line in enumerate(of_kind(tariff.lines, "initial"), 1):
+        yield ["INITIAL", str(number), money(line.parts["amount"], tariff.decimals), money(line.parts["covers"], tariff.decimals)]
+    for number, line in enumerate(of_kind(tariff.lines, "minimum"), 1):
+        yield ["MINIMUM", str(number), money(line.parts["amount"], tariff.decimals)]
+
+
+def tables_of(taxi, text, constant):
+    """The tables of a sound tariff; what was read of its lines is compared with them."""
+    printed, status = taxi.call("tables", "tariff", str(constant), tariff=text)
+    if status:
+        raise Refused(status, f"the tariff is refused: {printed.decode().strip()}")
+    rows = [line.split(" ") for line in printed.decode().splitlines()]
+    tariff = read_tariff(text)
+    rates = [tuple(map(int, row[2:])) for row in rows if row[0] == "RATE"]
+    cells = [tuple(map(int, row[2:])) for row in rows if row[0] == "CELL"]
+    if len(cells) != cells_of(tariff.lines):
+        raise Differs(f"the program makes {len(cells)} cells, where {cells_of(tariff.lines)} were found")
+    if len(rates) != len(of_kind(tariff.lines, "rate")) or [
+            row for row in rows if row[0] in ("INITIAL", "MINIMUM")] != list(amounts_of(tariff)):
+        raise Differs("the program has other rates, hire fees or minimum fares than were found")
+    by_kind = {kind: of_kind(tariff.lines, kind) for kind in ("rate", "initial", "minimum")}
+    sizes = number_of(tariff.lines, "zones"), 2 if of_kind(tariff.lines, "holiday") else 1
+    return Tables(tariff.lines, tariff.decimals, cells, rates, cuts_of(tariff.lines), by_kind, sizes)
+
+
+def text_of(text, line):
+    """What a line of the text says, without its comment."""
+    return text.split(b"\n")[line.number - 1].split(b"#")[0].decode(errors="replace").strip()
