@@ -3,9 +3,10 @@
 import argparse
 import datetime
 import pathlib
+import re
 from decimal import Decimal, InvalidOperation
 
-from program import TOP
+from program import TOP, read
 
 
 def ranged(least, most):
@@ -43,8 +44,18 @@ def add_constant(parser):
 
 
 def add_params(parser):
+    """A meter's parameters, and a constant in the place of theirs."""
     parser.add_argument("--params", default=TOP / "examples/taxi.params", type=pathlib.Path, metavar="PARAMS",
                         help="the secured parameters, as `taxi sealed` prints them (examples/taxi.params)")
+    parser.add_argument("--constant", type=ranged(500, 200_000), metavar="K", help="the constant, in the place of theirs")
+
+
+def params_of(asked):
+    """The text of the parameters that were asked for."""
+    text = read(asked.params)
+    if asked.constant:
+        text = re.sub(rb"(?m)^constant [0-9]+", b"constant %d" % asked.constant, text)
+    return text
 
 
 def add_place(parser, as_words=True):
