@@ -27,12 +27,24 @@ class FractionMeter:
     def lines_at(self, second):
         """The lines that hold at a second, as far as the trip is."""
         at = datetime.datetime.fromtimestamp(second, datetime.timezone.utc)
-        return self.tables.lines_at((self.place["P"], self.place["Z"], at.isoweekday(), (at.year, at.month, at.day) in self.holidays,
-                                     (at.month, at.day), 60 * at.hour + at.minute, 10_000 * self.pulses // self.constant, self.ticks))
+        return self.tables.lines_at(
+            (
+                self.place["P"],
+                self.place["Z"],
+                at.isoweekday(),
+                (at.year, at.month, at.day) in self.holidays,
+                (at.month, at.day),
+                60 * at.hour + at.minute,
+                10_000 * self.pulses // self.constant,
+                self.ticks,
+            )
+        )
 
     def charge(self, pulses):
         rate = self.lines_at(self.begun)[0].parts
-        self.charged += max(Fraction(10_000 * pulses * rate["a"], self.constant * rate["b"]), Fraction(rate["c"], rate["e"]))
+        self.charged += max(
+            Fraction(10_000 * pulses * rate["a"], self.constant * rate["b"]), Fraction(rate["c"], rate["e"])
+        )
 
     def interval(self, pulses):
         if self.is_hired:

@@ -23,7 +23,9 @@ def machines_in(path):
         machines = json.loads(read(path))
     except ValueError as error:
         raise Refused(7, f"{path} is no JSON: {error}") from None
-    if not isinstance(machines, dict) or not all(isinstance(name, str) and MACHINE.fullmatch(name) for name in machines.values()):
+    if not isinstance(machines, dict) or not all(
+        isinstance(name, str) and MACHINE.fullmatch(name) for name in machines.values()
+    ):
         raise Refused(7, f"{path} has to be an object, with the name of a machine for each folder")
     return machines
 
@@ -45,7 +47,9 @@ def answers_of(machine, jobs, asked):
     where it has no name."""
     words = ["parallel", "--plain", "--will-cite", "-j", "100%"]
     if machine:
-        words += ["-S", machine] + (["--ssh", shlex.join(["ssh", "-F", os.path.abspath(asked.ssh)])] if asked.ssh else [])
+        words += ["-S", machine] + (
+            ["--ssh", shlex.join(["ssh", "-F", os.path.abspath(asked.ssh)])] if asked.ssh else []
+        )
     words += [shlex.quote(asked.there if machine else str(TOP / "tools/fleet")), "one", "{}"]
     done = subprocess.run(words, input="".join(f"{job}\n" for job in jobs), capture_output=True, text=True, check=False)
     rows = {}
@@ -65,7 +69,9 @@ def rows_of_runs(asked):
     for folder, job in jobs.items():
         by_machine[asked.machines.get(folder, "")].append(job)
     with concurrent.futures.ThreadPoolExecutor(len(by_machine)) as pool:
-        answers = dict(zip(by_machine, pool.map(lambda machine: answers_of(machine, by_machine[machine], asked), by_machine)))
+        answers = dict(
+            zip(by_machine, pool.map(lambda machine: answers_of(machine, by_machine[machine], asked), by_machine))
+        )
     for folder, job in jobs.items():
         machine = asked.machines.get(folder, "")
         rows, said = answers[machine]

@@ -11,10 +11,12 @@ from program import TOP, read
 
 def ranged(least, most):
     """A whole number of a range."""
+
     def read(text):
         if not text.isascii() or not text.isdigit() or not least <= int(text) <= most:
             raise argparse.ArgumentTypeError(f"{text!r} is no number of {least} to {most}")
         return int(text)
+
     return read
 
 
@@ -32,22 +34,37 @@ def positive(text):
 def minute(text):
     """A minute of the day, from an hour as 22 or a time as 22:30."""
     hours, colon, minutes = text.partition(":")
-    if not (hours.isascii() and hours.isdigit() and len(hours) <= 2 and int(hours) < 24) or colon and not (
-            minutes.isascii() and minutes.isdigit() and len(minutes) == 2 and int(minutes) < 60):
+    if (
+        not (hours.isascii() and hours.isdigit() and len(hours) <= 2 and int(hours) < 24)
+        or colon
+        and not (minutes.isascii() and minutes.isdigit() and len(minutes) == 2 and int(minutes) < 60)
+    ):
         raise argparse.ArgumentTypeError(f"{text!r} is no hour as 22 and no time as 22:30")
     return 60 * int(hours) + int(minutes or 0)
 
 
 def add_constant(parser):
-    parser.add_argument("--constant", type=ranged(500, 200_000), default=10_000, metavar="K",
-                        help="the constant, in pulses a kilometre (10000)")
+    parser.add_argument(
+        "--constant",
+        type=ranged(500, 200_000),
+        default=10_000,
+        metavar="K",
+        help="the constant, in pulses a kilometre (10000)",
+    )
 
 
 def add_params(parser):
     """A meter's parameters, and a constant in the place of theirs."""
-    parser.add_argument("--params", default=TOP / "examples/taxi.params", type=pathlib.Path, metavar="PARAMS",
-                        help="the secured parameters, as `taxi sealed` prints them (examples/taxi.params)")
-    parser.add_argument("--constant", type=ranged(500, 200_000), metavar="K", help="the constant, in the place of theirs")
+    parser.add_argument(
+        "--params",
+        default=TOP / "examples/taxi.params",
+        type=pathlib.Path,
+        metavar="PARAMS",
+        help="the secured parameters, as `taxi sealed` prints them (examples/taxi.params)",
+    )
+    parser.add_argument(
+        "--constant", type=ranged(500, 200_000), metavar="K", help="the constant, in the place of theirs"
+    )
 
 
 def params_of(asked):
@@ -62,7 +79,9 @@ def add_place(parser, as_words=True):
     """Words for a tariff position and a zone, or options."""
     for name in ("position", "zone"):
         if as_words:
-            parser.add_argument(name, nargs="?", type=ranged(1, 9), default=1, metavar=name.upper(), help=f"the {name} (1)")
+            parser.add_argument(
+                name, nargs="?", type=ranged(1, 9), default=1, metavar=name.upper(), help=f"the {name} (1)"
+            )
         else:
             parser.add_argument(f"--{name}", type=ranged(1, 9), default=1, metavar="N", help=f"the {name} (1)")
 

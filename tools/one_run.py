@@ -1,7 +1,7 @@
 """One drive of one taxi, carried out by the proved program at most once.
 
-A mark is synced in the taxi's folder before the program starts, and goes only where it is known what was carried out: all
-of the drive, which is then written down as done, or nothing. Else it stays until a person takes it away."""
+A mark is synced in the taxi's folder before the program starts, and goes only where it is known what was carried out:
+all of the drive, which is then written down as done, or nothing. Else it stays until a person takes it away."""
 
 import contextlib
 import hashlib
@@ -81,8 +81,14 @@ def carry_out(folder, tariff, drive):
     """Runs the program, which prints behind the folder's roll; its status and its last line."""
     with open(folder / ROLL, "ab") as roll:
         before = roll.tell()
-        status = subprocess.run([TOP / "bin/taxi", "run", tariff, drive], cwd=folder, stdin=subprocess.DEVNULL,
-                                stdout=roll, stderr=subprocess.DEVNULL, check=False).returncode
+        status = subprocess.run(
+            [TOP / "bin/taxi", "run", tariff, drive],
+            cwd=folder,
+            stdin=subprocess.DEVNULL,
+            stdout=roll,
+            stderr=subprocess.DEVNULL,
+            check=False,
+        ).returncode
         os.fsync(roll.fileno())
     with open(folder / ROLL, "rb") as roll:
         roll.seek(before)

@@ -5,8 +5,7 @@ from matplotlib.ticker import MaxNLocator
 from drives import MARK, MARKED, SECOND, hired, pulses_in, second_of
 from picture_style import DASHES, LINES, MARKERS, axes_in, new_figure, svg_of
 from program import Differs, Refused
-from tables import tables_of
-from tariff_faults import number_of
+from tables import need_place, tables_of
 
 POINTS = 80
 WIDTH, HEIGHT = 7.0, 3.6
@@ -21,7 +20,10 @@ def marked_drive(minute, asked):
     for part in range(POINTS + 1):
         marks.append(drive.pulses)
         drive.lines.append(MARK)
-        drive.go(pulses * (part + 1) // POINTS - pulses * part // POINTS, ticks * (part + 1) // POINTS - ticks * part // POINTS)
+        drive.go(
+            pulses * (part + 1) // POINTS - pulses * part // POINTS,
+            ticks * (part + 1) // POINTS - ticks * part // POINTS,
+        )
     return drive, marks
 
 
@@ -44,28 +46,34 @@ def fares_at(taxi, text, minute, asked):
     return [pulses / asked.constant for pulses in marks], fares
 
 
+def draw_line(axes, at, kilometres, shown):
+    """The line of an hour, which has a colour, a dash and a mark of its own."""
+    look = {"color": LINES[at], "linestyle": DASHES[at], "marker": MARKERS[at], "markevery": (at * 2, 16)}
+    axes.plot(kilometres, list(map(float, shown)), markersize=5, linewidth=1.6, clip_on=False, **look)
+
+
+def title_of(name, asked):
+    place = f"tariff position {asked.position}, zone {asked.zone}"
+    return f"{name}, {asked.kmh.normalize():f} km/h, {asked.date:%A} {asked.date}, {place}"
+
+
 def fares(taxi, text, name, asked):
     """The picture of fares."""
     tables = tables_of(taxi, text, asked.constant)
-    for word in ("position", "zone"):
-        if getattr(asked, word) > number_of(tables.lines, f"{word}s"):
-            raise Refused(2, f"the tariff has no {word} {getattr(asked, word)}")
+    need_place(tables, asked.position, asked.zone)
     if len(asked.hours) > len(DASHES):
         raise Refused(2, f"there may be {len(DASHES)} hours")
     figure = new_figure(WIDTH + 3.4, HEIGHT + 1.0)
     axes = axes_in(figure, 0.7, 0.45, WIDTH, HEIGHT)
-    ends = []
+    labels = []
     for at, minute in enumerate(asked.hours):
         kilometres, shown = fares_at(taxi, text, minute, asked)
-        axes.plot(kilometres, list(map(float, shown)), color=LINES[at], linestyle=DASHES[at], marker=MARKERS[at],
-                  markevery=(at * 2, 16), markersize=5, linewidth=1.6, clip_on=False)
-        ends.append((f"{minute // 60:02}:{minute % 60:02}", shown[0], shown[-1]))
+        draw_line(axes, at, kilometres, shown)
+        labels.append(f"{minute // 60:02}:{minute % 60:02}: from {shown[0]} to {shown[-1]}")
     axes.set(xlim=(0, float(asked.km)), xlabel="kilometres", ylabel="fare", ylim=(0, None))
     axes.xaxis.set_major_locator(MaxNLocator(10, steps=[1, 2, 5, 10], integer=asked.km >= 5))
     axes.grid(color="#dddddd", linewidth=0.6)
-    axes.set_title(f"{name}, {asked.kmh.normalize():f} km/h, {asked.date:%A} {asked.date}, tariff position {asked.position}, "
-                   f"zone {asked.zone}", pad=10)
-    labels = [f"{hour}: from {first} to {last}" for hour, first, last in ends]
-    axes.legend(axes.get_lines(), labels, title="hired at, and fares", loc="upper left", bbox_to_anchor=(1.01, 1.0),
-                frameon=False, handlelength=4.5, alignment="left")
+    axes.set_title(title_of(name, asked), pad=10)
+    legend = {"loc": "upper left", "bbox_to_anchor": (1.01, 1.0), "handlelength": 4.5, "alignment": "left"}
+    axes.legend(axes.get_lines(), labels, title="hired at, and fares", frameon=False, **legend)
     return svg_of(figure)

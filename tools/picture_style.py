@@ -19,16 +19,32 @@ LINES = ["#0072b2", "#d55e00", "#009e73", "#000000", "#cc79a7", "#e69f00", "#56b
 # The fonts that the text is measured in, and those that a reader without them has.
 FONTS = {"DejaVu Sans": "Verdana, sans-serif", "DejaVu Sans Mono": "monospace"}
 
-matplotlib.rcParams.update({
-    "svg.fonttype": "none", "svg.hashsalt": "taxi", "font.family": "DejaVu Sans", "font.size": 9, "hatch.linewidth": 0.5,
-    "axes.titlesize": 9, "axes.titlelocation": "left", "axes.spines.top": False, "axes.spines.right": False,
-})
+matplotlib.rcParams.update(
+    {
+        "svg.fonttype": "none",
+        "svg.hashsalt": "taxi",
+        "font.family": "DejaVu Sans",
+        "font.size": 9,
+        "hatch.linewidth": 0.5,
+        "axes.titlesize": 9,
+        "axes.titlelocation": "left",
+        "axes.spines.top": False,
+        "axes.spines.right": False,
+    }
+)
 
 
 def patch(place, size, number, **more):
     """A rectangle in the colour and pattern of a number."""
-    return Rectangle(place, *size, facecolor=COLOURS[number % len(COLOURS)], edgecolor="#444444", linewidth=0.6,
-                     hatch=PATTERNS[(number + number // len(COLOURS)) % len(PATTERNS)], **more)
+    return Rectangle(
+        place,
+        *size,
+        facecolor=COLOURS[number % len(COLOURS)],
+        edgecolor="#444444",
+        linewidth=0.6,
+        hatch=PATTERNS[(number + number // len(COLOURS)) % len(PATTERNS)],
+        **more,
+    )
 
 
 def new_figure(width, height):
@@ -38,7 +54,9 @@ def new_figure(width, height):
 def axes_in(figure, left, top, width, height):
     """Axes at a place in inches, from the upper left corner."""
     whole_width, whole_height = figure.get_size_inches()
-    return figure.add_axes([left / whole_width, 1 - (top + height) / whole_height, width / whole_width, height / whole_height])
+    return figure.add_axes(
+        [left / whole_width, 1 - (top + height) / whole_height, width / whole_width, height / whole_height]
+    )
 
 
 def write_at(figure, left, top, text, **more):

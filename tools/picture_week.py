@@ -5,8 +5,8 @@ import textwrap
 
 from picture_style import axes_in, new_figure, patch, svg_of, write_at
 from program import Refused
-from tables import money, tables_of, text_of
-from tariff_faults import number_of, of_kind
+from tables import money, need_place, tables_of, text_of
+from tariff_faults import of_kind
 
 MOST_PANELS = 6
 TOP = 0.38  # inches above the panels
@@ -17,7 +17,15 @@ LEGEND_LETTERS = 118
 
 def band_at(tables, day, minute, far, asked):
     """The lines that hold at a minute of a day, for a trip that has a distance and a time behind it."""
-    context = (asked.position, asked.zone, day.isoweekday(), bool(holidays_in(tables, [day])), (day.month, day.day), minute, *far)
+    context = (
+        asked.position,
+        asked.zone,
+        day.isoweekday(),
+        bool(holidays_in(tables, [day])),
+        (day.month, day.day),
+        minute,
+        *far,
+    )
     return tables.lines_at(context)
 
 
@@ -38,7 +46,8 @@ def rows_of(tables, week, far, kind, asked):
 
 
 def bands_between(cuts, unit):
-    """The bands of a dimension of the trip: where each begins, and what it is called; nothing where there is but one."""
+    """The bands of a dimension of the trip: where each begins, and what it is called; nothing where there is but
+    one."""
     texts = [f"{cut // 10}.{cut % 10}" for cut in cuts]
     names = [f"{first} to {last} {unit}" for first, last in zip(texts, texts[1:])]
     return list(zip([0, *cuts], [f"below {texts[0]} {unit}", *names, f"from {texts[-1]} {unit}"] if cuts else [""]))
@@ -57,7 +66,9 @@ def rate_panels(tables, week, asked):
             else:
                 panels.append(([name], "rate", rows))
     if len(panels) > MOST_PANELS:
-        raise Refused(2, f"distances and times of the trip give {len(panels)} different weeks, and {MOST_PANELS} can be drawn")
+        raise Refused(
+            2, f"distances and times of the trip give {len(panels)} different weeks, and {MOST_PANELS} can be drawn"
+        )
     return panels
 
 
@@ -83,7 +94,11 @@ def label_of(tables, line):
 
 def holidays_in(tables, week):
     """The days of a week that are holidays."""
-    return {day for day in week if (day.year, day.month, day.day) in [line.parts["date"] for line in of_kind(tables.lines, "holiday")]}
+    return {
+        day
+        for day in week
+        if (day.year, day.month, day.day) in [line.parts["date"] for line in of_kind(tables.lines, "holiday")]
+    }
 
 
 def draw_panel(axes, panel, week, tables, places):
@@ -102,15 +117,24 @@ def draw_panel(axes, panel, week, tables, places):
             axes.add_patch(patch((first, at + 0.04), (last - first, 0.92), places[line.number]))
             label = label_of(tables, line)
             if last - first >= 30 * len(label):
-                axes.text((first + last) / 2, at + 0.52, label, ha="center", va="center", fontsize=7.5,
-                          bbox={"facecolor": "white", "edgecolor": "none", "pad": 1.0})
+                axes.text(
+                    (first + last) / 2,
+                    at + 0.52,
+                    label,
+                    ha="center",
+                    va="center",
+                    fontsize=7.5,
+                    bbox={"facecolor": "white", "edgecolor": "none", "pad": 1.0},
+                )
 
 
 def legend_of(text, panels):
     """The lines of the text that hold somewhere in the picture, each as it is written, in rows of a width."""
     used = {line.number: line for _, _, rows in panels for bands in rows for _, _, line in bands if line}
-    return [(number, textwrap.wrap(f"line {number}: {text_of(text, line)}", LEGEND_LETTERS, subsequent_indent="    "))
-            for number, line in sorted(used.items())]
+    return [
+        (number, textwrap.wrap(f"line {number}: {text_of(text, line)}", LEGEND_LETTERS, subsequent_indent="    "))
+        for number, line in sorted(used.items())
+    ]
 
 
 def draw_legend(figure, legend, top, places):
@@ -128,21 +152,26 @@ def draw_legend(figure, legend, top, places):
 def week(taxi, text, name, asked):
     """The picture of a week."""
     tables = tables_of(taxi, text, asked.constant)
-    for word in ("position", "zone"):
-        if getattr(asked, word) > number_of(tables.lines, f"{word}s"):
-            raise Refused(2, f"the tariff has no {word} {getattr(asked, word)}")
+    need_place(tables, asked.position, asked.zone)
     monday = asked.week - datetime.timedelta(days=asked.week.weekday())
     days = [monday + datetime.timedelta(days=at) for at in range(7)]
     panels = panels_of(tables, days, asked)
     legend = legend_of(text, panels)
-    places = {line.number: place for kind in ("rate", "initial", "minimum")
-              for place, line in enumerate(of_kind(tables.lines, kind), {"rate": 0, "initial": 4, "minimum": 6}[kind])}
+    places = {
+        line.number: place
+        for kind in ("rate", "initial", "minimum")
+        for place, line in enumerate(of_kind(tables.lines, kind), {"rate": 0, "initial": 4, "minimum": 6}[kind])
+    }
     height = (len(panels) + 1) // 2 * (HEAD + 7 * ROW + FOOT)
-    figure = new_figure(2 * (WIDTH + 1.0) + 0.1, TOP + height + 0.1 + sum(0.2 * len(rows) + 0.04 for _, rows in legend) + 0.1)
+    figure = new_figure(
+        2 * (WIDTH + 1.0) + 0.1, TOP + height + 0.1 + sum(0.2 * len(rows) + 0.04 for _, rows in legend) + 0.1
+    )
     starred = " (* is a holiday)" if holidays_in(tables, days) else ""
     write_at(figure, 0.35, 0.12, f"{name}, tariff position {asked.position}, zone {asked.zone}{starred}", fontsize=11)
     for at, panel in enumerate(panels):
-        axes = axes_in(figure, 0.85 + at % 2 * (WIDTH + 1.0), TOP + at // 2 * (HEAD + 7 * ROW + FOOT) + HEAD, WIDTH, 7 * ROW)
+        axes = axes_in(
+            figure, 0.85 + at % 2 * (WIDTH + 1.0), TOP + at // 2 * (HEAD + 7 * ROW + FOOT) + HEAD, WIDTH, 7 * ROW
+        )
         draw_panel(axes, panel, days, tables, places)
     draw_legend(figure, legend, TOP + height + 0.1, places)
     return svg_of(figure)

@@ -26,8 +26,14 @@ class Differs(Exception):
 def called(program, folder, *words):
     """What a program of bin/ prints to words in a folder, and its status."""
     command = TOP / "bin" / program
-    done = subprocess.run([command, *words], cwd=folder, stdin=subprocess.DEVNULL, stdout=subprocess.PIPE,
-                          stderr=subprocess.DEVNULL, check=False)
+    done = subprocess.run(
+        [command, *words],
+        cwd=folder,
+        stdin=subprocess.DEVNULL,
+        stdout=subprocess.PIPE,
+        stderr=subprocess.DEVNULL,
+        check=False,
+    )
     if done.returncode == 125:
         raise Refused(125, f"{command} was not built; run it once by itself to see why")
     return done.stdout, done.returncode

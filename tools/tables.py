@@ -22,7 +22,8 @@ class Tables(NamedTuple):
     sizes: tuple  # how many zones and kinds of day there are
 
     def number_of_cell(self, context):
-        """The number of the cell of a context: position, zone, weekday, holiday, month and date, minute, distance, time."""
+        """The number of the cell of a context: position, zone, weekday, holiday, month and date, minute, distance,
+        time."""
         position, zone, weekday, is_holiday, month_date, minute, distance, time = context
         zones, kinds = self.sizes
         wheels = [(zones, zone - 1), (7, weekday - 1), (kinds, is_holiday if kinds == 2 else 0)]
@@ -42,7 +43,12 @@ class Tables(NamedTuple):
 def amounts_of(tariff):
     """The rows of hire fees and minimum fares that the tables of a tariff have."""
     for number, line in enumerate(of_kind(tariff.lines, "initial"), 1):
-        yield ["INITIAL", str(number), money(line.parts["amount"], tariff.decimals), money(line.parts["covers"], tariff.decimals)]
+        yield [
+            "INITIAL",
+            str(number),
+            money(line.parts["amount"], tariff.decimals),
+            money(line.parts["covers"], tariff.decimals),
+        ]
     for number, line in enumerate(of_kind(tariff.lines, "minimum"), 1):
         yield ["MINIMUM", str(number), money(line.parts["amount"], tariff.decimals)]
 
@@ -59,11 +65,19 @@ def tables_of(taxi, text, constant):
     if len(cells) != cells_of(tariff.lines):
         raise Differs(f"the program makes {len(cells)} cells, where {cells_of(tariff.lines)} were found")
     if len(rates) != len(of_kind(tariff.lines, "rate")) or [
-            row for row in rows if row[0] in ("INITIAL", "MINIMUM")] != list(amounts_of(tariff)):
+        row for row in rows if row[0] in ("INITIAL", "MINIMUM")
+    ] != list(amounts_of(tariff)):
         raise Differs("the program has other rates, hire fees or minimum fares than were found")
     by_kind = {kind: of_kind(tariff.lines, kind) for kind in ("rate", "initial", "minimum")}
     sizes = number_of(tariff.lines, "zones"), 2 if of_kind(tariff.lines, "holiday") else 1
     return Tables(tariff.lines, tariff.decimals, cells, rates, cuts_of(tariff.lines), by_kind, sizes)
+
+
+def need_place(tables, position, zone):
+    """Refuses a position or a zone that a tariff doesn't have."""
+    for name, number in (("position", position), ("zone", zone)):
+        if number > number_of(tables.lines, f"{name}s"):
+            raise Refused(2, f"the tariff has no {name} {number}")
 
 
 def text_of(text, line):

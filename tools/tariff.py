@@ -26,7 +26,8 @@ class Line(NamedTuple):
 
 
 class NoForm(Exception):
-    """A line has none of the forms: the place where that shows, how many bytes are meant, and what should stand there."""
+    """A line has none of the forms: the place where that shows, how many bytes are meant, and what should stand
+    there."""
 
     def __init__(self, token, why):
         super().__init__(why)
@@ -66,7 +67,11 @@ class Reader:
 
     def refuse(self, wanted, token=None):
         token = token or self.next
-        raise NoForm(token, hint_at(self.text, token, wanted) or f"{wanted} {'may' if wanted == 'nothing more' else 'should'} stand here")
+        raise NoForm(
+            token,
+            hint_at(self.text, token, wanted)
+            or f"{wanted} {'may' if wanted == 'nothing more' else 'should'} stand here",
+        )
 
     def skips(self, text):
         """Takes this word or sign where it is the next token; tells whether it was."""
@@ -233,8 +238,16 @@ def counted(what):
     return lambda line: ({"number": line.number(1, 9, what)}, None)
 
 
-FORMS = {"step": step, "positions": counted("how many positions"), "zones": counted("how many zones"), "holiday": holiday,
-         "supplement": supplement, "initial": initial, "rate": rate, "minimum": minimum}
+FORMS = {
+    "step": step,
+    "positions": counted("how many positions"),
+    "zones": counted("how many zones"),
+    "holiday": holiday,
+    "supplement": supplement,
+    "initial": initial,
+    "rate": rate,
+    "minimum": minimum,
+}
 
 
 def line_of(number, text, decimals, is_first):

@@ -42,7 +42,7 @@ def number_of(lines, kind):
 
 def place_of(month, date):
     """The place of a date in a leap year, from 0."""
-    return sum(MONTHS[:max(0, month - 1)]) + max(0, date - 1)
+    return sum(MONTHS[: max(0, month - 1)]) + max(0, date - 1)
 
 
 def cuts_of(lines):
@@ -121,20 +121,27 @@ def has_great_amount(line, before, lines):
 
 def has_measure_zero(line, before, lines):
     return (line.kind == "rate" and 0 in (line.parts["b"], line.parts["e"])) or any(
-        atom[1] == 0 for atom in atoms_of(line.when) if atom[0] in ("distance", "time of trip"))
+        atom[1] == 0 for atom in atoms_of(line.when) if atom[0] in ("distance", "time of trip")
+    )
 
 
 # Each fault of a line: its name, when a line has it, by the counted facts of the lines before it and by all lines, and
 # what to say of it.
 OF_LINES = {
-    "Duplicate": (is_duplicate, "an earlier line says the same thing: there may be one `step`, `positions` and `zones` line, "
-                  "and one line for each number of a supplement and each date of a holiday"),
+    "Duplicate": (
+        is_duplicate,
+        "an earlier line says the same thing: there may be one `step`, `positions` and `zones` line, "
+        "and one line for each number of a supplement and each date of a holiday",
+    ),
     "TooManyLines": (is_one_too_many, "there may be 64 lines of this word, and 255 holidays"),
     "UnknownNumber": (names_unknown, "the condition names a position above `positions` or a zone above `zones`"),
     "LineAfterDefault": (is_after_default, "an earlier line of this word has no condition, so this one never counts"),
     "BadDate": (has_bad_date, "a date that no calendar has, or a holiday outside of 2000 to 2199"),
-    "AmountTooBig": (has_great_amount, "an amount is above 1,000,000 units of the last decimal (99,999,999 of a hire fee, a "
-                     "cover or a minimum fare)"),
+    "AmountTooBig": (
+        has_great_amount,
+        "an amount is above 1,000,000 units of the last decimal (99,999,999 of a hire fee, a "
+        "cover or a minimum fare)",
+    ),
     "MeasureZero": (has_measure_zero, "a measure of 0; what costs nothing has the amount 0"),
 }
 
@@ -163,12 +170,19 @@ def default_faults(lines, kind):
 
 def size_faults(lines):
     if measure_of(lines) > LARGEST_MEASURE:
-        yield Fault("NoCommonMeasure", None, "the least common multiple of all metres and seconds is above 10^18; measures "
-                    "with factors in common help")
+        yield Fault(
+            "NoCommonMeasure",
+            None,
+            "the least common multiple of all metres and seconds is above 10^18; measures "
+            "with factors in common help",
+        )
     for name, cuts in cuts_of(lines).items():
         if len(cuts) > DIMENSIONS[name]:
-            yield Fault(f"TooManyCuts {name} {len(cuts)}", None, f"the conditions cut {name} in {len(cuts)} places, and "
-                        f"there may be {DIMENSIONS[name]}")
+            yield Fault(
+                f"TooManyCuts {name} {len(cuts)}",
+                None,
+                f"the conditions cut {name} in {len(cuts)} places, and " f"there may be {DIMENSIONS[name]}",
+            )
     if (cells := cells_of(lines)) > MOST_CELLS:
         yield Fault(f"TooManyCells {cells}", None, f"there would be {cells} cells, and there may be {MOST_CELLS}")
 

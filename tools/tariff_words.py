@@ -4,8 +4,27 @@ import re
 
 DAYS = ["mon", "tue", "wed", "thu", "fri", "sat", "sun"]
 KINDS = ["decimals", "step", "positions", "zones", "holiday", "supplement", "initial", "rate", "minimum"]
-WORDS = {*KINDS, *DAYS, "ahead", "behind", "covers", "when", "per", "max", "and", "or", "not", "position", "zone", "time",
-         "day", "date", "after", "m", "s"}
+WORDS = {
+    *KINDS,
+    *DAYS,
+    "ahead",
+    "behind",
+    "covers",
+    "when",
+    "per",
+    "max",
+    "and",
+    "or",
+    "not",
+    "position",
+    "zone",
+    "time",
+    "day",
+    "date",
+    "after",
+    "m",
+    "s",
+}
 # Of what is written elsewhere: a pattern for the text at the token, and what to write instead.
 AT = [
     (r"\xef\xbb\xbf", "a byte order mark stands before the text: save it as UTF-8 without one"),
@@ -28,8 +47,11 @@ BEHIND = [
     (r"(mon|tue|wed|thu|fri|sat|sun)\s*$", r"-|\xe2\x80[\x93\x94]", "a range is written with two dots, as fri..mon"),
     (r"[0-9]\s*$", r"-|\xe2\x80[\x93\x94]", "a range is written with two dots, as 22:00..06:00"),
     (r"\.\.\s*$", r"\.", "a range is written with two dots"),
-    (r"\bday\b.*(mon|tue|wed|thu|fri|sat|sun)\s*$", r",\s*[a-z]|[a-z]|&|\+",
-     "days of a list are joined by `or`, as day sat or day sun"),
+    (
+        r"\bday\b.*(mon|tue|wed|thu|fri|sat|sun)\s*$",
+        r",\s*[a-z]|[a-z]|&|\+",
+        "days of a list are joined by `or`, as day sat or day sun",
+    ),
     (r"[0-9]$", r"\.(?!\.)", "a point has a digit behind it, as 1.0"),
 ]
 
@@ -42,7 +64,7 @@ def with_capitals(text, at):
 
 def hint_at(text, token, wanted):
     """What to write in the place of a token, where it is often written otherwise elsewhere."""
-    here, before = text[token.at:], text[:token.at]
+    here, before = text[token.at :], text[: token.at]
     if token.kind == "end":
         return None
     if wanted == "a condition" and token.text in DAYS:

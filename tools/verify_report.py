@@ -39,12 +39,16 @@ def told_by_name(readings, number):
     if readings[:2] in (b"\xff\xfe", b"\xfe\xff") or b"\0" in readings:
         return "the text is UTF-16: save it as UTF-8"
     if b";" in row:
-        return "its fields are parted by semicolons, as some spreadsheets write them: save it with commas between the fields"
+        return "its fields are parted by semicolons, as some spreadsheets write them: save it with commas between them"
     if b"\t" in row:
         return "its fields are parted by tabs: save it with commas between the fields"
     if number > 1 and (len(next(csv.reader([row.decode("latin-1")]), [])) > 3 or b'"' in row and b"," in row):
         return "its decimals stand behind a comma: write them with a point, as 14.60"
-    return "it has to be a fare, a distance in metres and a time in seconds" if number > 1 else "it has to be fare,distance,time"
+    return (
+        "it has to be a fare, a distance in metres and a time in seconds"
+        if number > 1
+        else "it has to be fare,distance,time"
+    )
 
 
 def version_of(folder):
@@ -60,8 +64,12 @@ def head_of(sealed, folder, asked, crossovers):
     names = {"taxi": "Taxi", "constant": "Constant", "mode": "Mode", "secured": "Secured", "TARIFF": "Tariff, SHA-256"}
     said = dict(line.removeprefix("# ").split(" ", 1) for line in sealed.splitlines())
     speeds = [f"rate {number}: {' '.join(speed)}" for _, number, *speed in map(str.split, crossovers)]
-    return [("Date", str(asked.date)), *((text, said[name]) for name, text in names.items()), *version_of(folder),
-            ("Cross-over speeds", ", ".join(speeds))]
+    return [
+        ("Date", str(asked.date)),
+        *((text, said[name]) for name, text in names.items()),
+        *version_of(folder),
+        ("Cross-over speeds", ", ".join(speeds)),
+    ]
 
 
 def well(taxi, *words, **texts):
@@ -69,7 +77,9 @@ def well(taxi, *words, **texts):
     printed, status = taxi.call(*words, **texts)
     text = printed.decode()
     if status not in (0, 11):
-        raise Refused(2 if status == 3 else status, f"{words[0]} says {text.strip() or 'nothing'}, and ends with {status}")
+        raise Refused(
+            2 if status == 3 else status, f"{words[0]} says {text.strip() or 'nothing'}, and ends with {status}"
+        )
     return text, status
 
 
@@ -93,14 +103,18 @@ def bench_of(asked, readings):
         lines = printed.splitlines()
         crossovers = [line for line in lines if line.startswith("CROSSOVER ")]
         head = head_of(sealed, taxi.folder.name, asked, crossovers)
-    rows = list(csv.DictReader(lines[len(crossovers):]))
+    rows = list(csv.DictReader(lines[len(crossovers) :]))
     told = read_tariff(tariff)
     return Bench(head, rows, told.decimals, of_kind(told.lines, "step")[0].parts["amount"], status)
 
 
 def measured(bench, row, name):
     """What was expected, read, how far it is off, and how far it may be off, in units; None for what isn't there."""
-    decimals, least, per = {"fare": (bench.decimals, bench.step, 1000), "distance": (3, 4000, 500), "time": (1, 2, 1000)}[name]
+    decimals, least, per = {
+        "fare": (bench.decimals, bench.step, 1000),
+        "distance": (3, 4000, 500),
+        "time": (1, 2, 1000),
+    }[name]
     expected, shown = (int(Decimal(row[key]).scaleb(decimals)) if row[key] else None for key in (name, f"read_{name}"))
     off = shown - expected if None not in (expected, shown) else None
     return [decimals, expected, shown, off, None if expected is None else max(least, expected // per)]
@@ -126,9 +140,17 @@ def compare_verdicts(bench):
 def cells_of(bench, row, name, unit, blank):
     """The cells of a quantity: expected, read, error and permitted error."""
     decimals, expected, shown, off, most = measured(bench, row, name)
-    cells = [as_text(expected, decimals), as_text(shown, decimals), as_text(off, decimals, "+"), as_text(most, decimals)]
-    return [f"{cell}{unit}" if cell else "" for cell in cells] if not blank else [
-        f"{cells[0]}{unit}", "", "", f"{cells[3]}{unit}"]
+    cells = [
+        as_text(expected, decimals),
+        as_text(shown, decimals),
+        as_text(off, decimals, "+"),
+        as_text(most, decimals),
+    ]
+    return (
+        [f"{cell}{unit}" if cell else "" for cell in cells]
+        if not blank
+        else [f"{cells[0]}{unit}", "", "", f"{cells[3]}{unit}"]
+    )
 
 
 def summary_of(bench):
@@ -141,33 +163,49 @@ def plain(bench, title, blank):
     lines = [title, ""] + [f"{name + ':':<20} {value}" for name, value in bench.head]
     for row in bench.rows:
         verdict = "" if blank else row["verdict"]
-        lines += ["", f"Hiring {row['hiring']:<6} {row['kind']:<52} {verdict}".rstrip(),
-                  f"  {'':<10}{'expected':>18}{'read':>18}{'error':>18}{'permitted':>18}"]
+        lines += [
+            "",
+            f"Hiring {row['hiring']:<6} {row['kind']:<52} {verdict}".rstrip(),
+            f"  {'':<10}{'expected':>18}{'read':>18}{'error':>18}{'permitted':>18}",
+        ]
         for name, unit in QUANTITIES:
             cells = cells_of(bench, row, name, unit, blank)
             if blank:
                 cells[1:3] = ["________________"] * 2
             lines.append(f"  {name:<10}{''.join(f'{cell:>18}' for cell in cells)}".rstrip())
-    return "\n".join([*lines, "", *([] if blank else [summary_of(bench)]), "", "Date and signature: ________________________________", ""])
+    return "\n".join(
+        [
+            *lines,
+            "",
+            *([] if blank else [summary_of(bench)]),
+            "",
+            "Date and signature: ________________________________",
+            "",
+        ]
+    )
 
 
 def as_html(bench, title, blank):
     """The same as a page that prints on A4."""
     escape = html.escape
-    parts = [f"<!DOCTYPE html>\n<html lang=\"en\"><head><meta charset=\"utf-8\"><title>{escape(title)}</title>",
-             f"<style>\n{STYLE}</style></head><body>\n<h1>{escape(title)}</h1>\n<dl>"]
+    parts = [
+        f'<!DOCTYPE html>\n<html lang="en"><head><meta charset="utf-8"><title>{escape(title)}</title>',
+        f"<style>\n{STYLE}</style></head><body>\n<h1>{escape(title)}</h1>\n<dl>",
+    ]
     parts += [f"<dt>{escape(name)}</dt><dd>{escape(value)}</dd>" for name, value in bench.head] + ["</dl>"]
     for row in bench.rows:
         verdict = "" if blank else f"<span>{escape(row['verdict'])}</span>"
-        parts.append(f"<section><h2>Hiring {escape(row['hiring'])} {escape(row['kind'])} {verdict}</h2>\n<table><tr><th></th>"
-                     "<th>expected</th><th>read</th><th>error</th><th>permitted</th></tr>")
+        parts.append(
+            f"<section><h2>Hiring {escape(row['hiring'])} {escape(row['kind'])} {verdict}</h2>\n<table><tr><th></th>"
+            "<th>expected</th><th>read</th><th>error</th><th>permitted</th></tr>"
+        )
         for name, unit in QUANTITIES:
             cells = "".join(f"<td>{escape(cell)}</td>" for cell in cells_of(bench, row, name, unit, blank))
             parts.append(f"<tr><th>{name}</th>{cells}</tr>")
         parts.append("</table></section>")
     if not blank:
         parts.append(f"<p>{escape(summary_of(bench))}</p>")
-    return "\n".join([*parts, "<p class=\"sign\">Date and signature</p>", "</body></html>", ""])
+    return "\n".join([*parts, '<p class="sign">Date and signature</p>', "</body></html>", ""])
 
 
 def printed(bench, title, asked, blank):
