@@ -1,4 +1,5 @@
-use Rattle.std.proofs.Common.{◌≡◌, Option, None, ap, sym, subst, ◌∙◌}
+use Rattle.std.proofs.lemmas.Grind.{elements}
+use Rattle.std.proofs.Common.{◌≡◌, Option, None, ap, sym, subst, ◌∙◌, arith}
 use Rattle.taxi_units.specs.declared.event.Operating.{Operating}
 use Rattle.taxi_units.specs.declared.event.Operating.TheVariants.{ForHire}
 use Rattle.taxi_units.specs.declared.receipt.Kind.TheVariants.{Aborted}
@@ -23,3 +24,6 @@ returns-clause-follows g c = λ s m is saved st.
     let after = (trip_closed s Aborted held.saved m.trip n).next in
     follows-then s c.close_trip.new.self _ begin acts acts (closed s Aborted held.saved (record m { position = held.position })) (λ (k : Meter). quiet (record k { position = 1; zone = 1 })) whole
     (quiet-follows s _ acts (record after { position = 1; zone = 1 }) (ap (λ (q : Plain). record q { position = 1; zone = 1 }) (c.self-2.view_is ∙ whole.state)))
+
+pub returns-clause-ranges : goal.returns-clause-ranges
+returns-clause-ranges g c = grind (arith, elements) steps 2000000

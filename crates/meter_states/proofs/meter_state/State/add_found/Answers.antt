@@ -1,3 +1,4 @@
+use Rattle.std.proofs.lemmas.Grind.{common_steps}
 use Rattle.std.proofs.Common.{◌≡◌, ◌<◌, Some, ap, sym, subst, ◌∙◌, arith}
 use Rattle.totaliser_store.specs.declared.trip.Trip as store
 use Rattle.meter_states.specs.Core.{Plain, Follows, plain_of}
@@ -57,3 +58,6 @@ returns c = record {
             (extra_added_to c.args.n c.args.supplement m.trip m)) (sym view) all;
       };
 }
+
+pub returns-then-times-supplement : goal.returns-then-times-supplement
+returns-then-times-supplement c = grind (arith, common_steps) steps 4000000

@@ -1,4 +1,5 @@
-use Rattle.std.proofs.Common.{ap, sym, ◌∙◌}
+use Rattle.std.proofs.lemmas.Grind.{common_steps}
+use Rattle.std.proofs.Common.{ap, sym, ◌∙◌, arith}
 use Rattle.meter_states.specs.Core.{Plain}
 use Rattle.meter_states.proofs.Powered.{amid-closes, between-amid, pulses-below}
 use Rattle.meter_states.proofs.meter_state.State.charge_interval.Goals as goal
@@ -32,3 +33,6 @@ returns-clause-facts g c = c.weights-weights.ensures.facts
 
 pub returns-clause-steps : goal.returns-clause-steps
 returns-clause-steps g c = c.weights-weights.ensures.steps
+
+pub returns-clause-state : goal.returns-clause-state
+returns-clause-state g c = grind (arith, common_steps) steps 4000000

@@ -1,4 +1,5 @@
-use Rattle.std.proofs.Common.{◌≡◌, ◌<◌, ◌≤◌, length, ap, sym, subst, ◌∙◌}
+use Rattle.std.proofs.lemmas.Grind.{common_steps}
+use Rattle.std.proofs.Common.{◌≡◌, ◌<◌, ◌≤◌, length, ap, sym, subst, ◌∙◌, arith}
 use Rattle.taxi_units.specs.declared.event.Operating.TheVariants.{ForHire}
 use Rattle.meter_states.specs.Core.{Follows, Plain}
 use Rattle.meter_states.specs.Meter.{Outcome}
@@ -39,3 +40,6 @@ returns-then-self-ge-ROAMING_MOST-clause-follows c = λ seal s m is e.
     let many = subst (λ (p : Plain). 1000000 ≤ p.roam) (c.self.view_is ∙ e) c.if-self-ge-ROAMING_MOST.true in
     subst (λ (o : Outcome). Follows s c.enter_roaming.new.self c.args.acts.now.items c.enter_roaming.new.acts.items o)
     (sym (checked-many s m hire many)) (c.enter_roaming.ensures.follows seal s m is e)
+
+pub returns-else-matches-clause-follows : goal.returns-else-matches-clause-follows
+returns-else-matches-clause-follows c = grind (arith, common_steps) steps 4000000

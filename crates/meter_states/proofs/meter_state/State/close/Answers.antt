@@ -1,3 +1,4 @@
+use Rattle.std.proofs.lemmas.Grind.{elements}
 use Rattle.std.proofs.Common.{◌≤◌, Option, None, ap, sym, subst, ◌∙◌, arith}
 use Rattle.tariff_compile.proofs.Laws.{tables_are_fit}
 use Rattle.taxi_units.specs.declared.event.Operating.TheVariants.{ForHire}
@@ -21,3 +22,6 @@ close_trip-requires-clause-position g c =
     (sym c.self.view_is) c.requires.lawful.position in
     let fit = tables_are_fit c.args.tables.now c.requires.lawful.compiled in
     (at.0, omega (arith, at.1, fit.positions.1))
+
+pub returns-in-Some-clause-ranges : goal.returns-in-Some-clause-ranges
+returns-in-Some-clause-ranges g c = grind (arith, elements) steps 2000000

@@ -1,4 +1,5 @@
-use Rattle.std.proofs.Common.{◌≡◌, ℕ, ap, sym, subst, ◌∙◌}
+use Rattle.std.proofs.lemmas.Grind.{common_steps, elements}
+use Rattle.std.proofs.Common.{◌≡◌, ℕ, ap, sym, subst, ◌∙◌, arith}
 use Rattle.std.proofs.lemmas.Option.{IfSome_then}
 use Rattle.tariff_compile.specs.Near.{IsNear}
 use Rattle.tariff_compile.specs.Tables.{IsInRangeFor}
@@ -30,3 +31,12 @@ returns-clause-range c = IfSome_then c.kept_rate.result c.kept_rate.ensures.fit 
     (local_at s second) m) began in
     subst (IsInRangeFor c.args.tables.now) same (c.context_on-x.ensures.range seal
     (facts.local _ c.in_ok-local.ensures.kept)))
+
+pub returns-in_err-local-clause-none : goal.returns-in_err-local-clause-none
+returns-in_err-local-clause-none c = grind (arith, elements) steps 2000000
+
+pub returns-clause-lasts : goal.returns-clause-lasts
+returns-clause-lasts c = grind (arith, common_steps) steps 4000000
+
+pub returns-clause-none : goal.returns-clause-none
+returns-clause-none c = grind (arith, elements) steps 2000000

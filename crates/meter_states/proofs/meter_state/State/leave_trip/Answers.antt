@@ -1,3 +1,4 @@
+use Rattle.std.proofs.lemmas.Grind.{common_steps}
 use Rattle.std.proofs.Common.{◌≡◌, Some, ap, sym, subst, ◌∙◌, arith}
 use Rattle.meter_states.specs.Core.{Plain}
 use Rattle.meter_states.specs.Lawful.{IsPowered}
@@ -41,3 +42,6 @@ returns-in_default-clause-lawful c = λ tables on. absurd (c.requires.trip (sym 
 pub returns-in_default-clause-state : goal.returns-in_default-clause-state
 returns-in_default-clause-state c = λ s m e. absurd (c.requires.trip (sym (ap (λ (p : Plain). p.trip) c.self.view_is)
     ∙ c.in_default.is))
+
+pub returns-clause-state : goal.returns-clause-state
+returns-clause-state c = grind (arith, common_steps) steps 4000000
