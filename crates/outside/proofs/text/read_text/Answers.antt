@@ -1,0 +1,6 @@
+use Rattle.std.proofs.Common.{arith}
+use Rattle.std.proofs.lemmas.Grind.{common_steps}
+use Rattle.outside.proofs.text.read_text.Goals as goal
+
+pub returns-in-Ok-read_whole-clause-whole : goal.returns-in-Ok-read_whole-clause-whole
+returns-in-Ok-read_whole-clause-whole g c = grind (arith, common_steps) steps 2000000
