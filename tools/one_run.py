@@ -111,6 +111,7 @@ def run_once(name, tariff, drive):
     """The row of a run: its status, or `refused` where the program was not started, and why."""
     folder = pathlib.Path(name)
     try:
+        (folder / tariff).read_bytes()  # what can't be read leaves no mark
         mark = mark_of(folder, drive)
         begin(folder, mark)
         status, last = carry_out(folder, tariff, drive)
