@@ -1,38 +1,44 @@
 -- Events that the bench carries out, one after another.
-use Rattle.std.proofs.Common.{◌≡◌, ℕ, zero, suc, ◌+◌, ◌<◌, ◌∙◌, List, length, drop, get_or, [], ◌∷◌, ◌++◌, ap, sym, append_assoc, add-one, flat_map}
+use Rattle.std.proofs.Common.{◌≡◌, ℕ, zero, suc, ◌+◌, ◌<◌, ◌∙◌, List, length, drop, get_or, [], ◌∷◌, ◌++◌, ap, sym, refl, append_assoc, add-one, flat_map, map}
 use Rattle.std.proofs.lemmas.List.{append-nil}
 use Rattle.std.proofs.Math.Seq.{drop-cons}
 use Rattle.drive_text.specs.Runs.{interval_events, intervals_events, run_events}
 use Rattle.drive_text.specs.declared.run.Run.{Run}
-use Rattle.meter_states.specs.Run.{ended}
+use Rattle.meter_states.specs.Interval.{context_now}
+use Rattle.meter_states.specs.Run.{ended, opened}
 use Rattle.meter_states.specs.Setting.{Setting}
 use Rattle.meter_states.specs.Step.{step}
 use Rattle.taxi_units.specs.declared.event.Event.{Event}
-use Rattle.verify_bench.specs.Bench.{GoesThrough, GoesThroughEvent}
-use Rattle.verify_bench.specs.Carrying.{Carries, IsAmid}
-use Rattle.verify_bench.specs.Expecting.{hirings_from, hirings_in, ticks_at}
-use Rattle.verify_bench.specs.declared.expected.Expected.{Expected}
+use Rattle.taxi_units.specs.declared.event.Event.TheVariants.{Down}
+use Rattle.tariff_syntax.specs.declared.context.Context.{Context}
+use Rattle.totaliser_store.specs.States.{first_state}
+use Rattle.verify_bench.specs.Bench.{GoesThroughEvent, Stands}
+use Rattle.verify_bench.specs.Carrying.{Carries, IsAmid, IsAmidExpected}
+use Rattle.verify_bench.specs.Expecting.{expected_of}
+use Rattle.verify_bench.specs.Explaining.{Explanation, explanation_of, explanations_from, explanations_of, explanations_in, hired_at, trip_at}
+use Rattle.verify_bench.specs.declared.explained.Explained.{Explained}
 use Rattle.verify_bench.specs.declared.plain_meter.PlainMeter.{PlainMeter}
 
 -- an event
-pub carries_event : (s : Setting) (event : Event) (old new : PlainMeter) (a b : List Expected) → GoesThroughEvent s event (λ s. step s event) old new a b → Carries s (event ∷ []) old new a b
-unfolding hirings_from
+pub carries_event : (s : Setting) (event : Event) (old new : PlainMeter) (a b : List Explained) → GoesThroughEvent s event (λ s. step s event) old new a b → Carries s (event ∷ []) old new a b
+unfolding explanations_from
 carries_event s event old new a b moves all left amid =
-    let moved = moves amid.m amid.stands in
-    let these = hirings_in (ticks_at s event amid.m) (step s event amid.m).acts in
-    let others = hirings_from s left (step s event amid.m).next in
+    let moved = moves amid.m amid.hired amid.stands in
+    let these = explanations_in s amid.hired (trip_at s event amid.m) (step s event amid.m).acts in
+    let others = explanations_from s left (step s event amid.m).next (hired_at s event amid.m amid.hired) in
     record {
       m = (step s event amid.m).next;
+      hired = hired_at s event amid.m amid.hired;
       stands = moved.state;
-      split = ap (λ (list : List Expected). list ++ others) moved.found ∙ (append_assoc a these others ∙ amid.split);
+      split = ap (λ (list : List Explanation). list ++ others) moved.found ∙ (append_assoc (map explanation_of a) these others ∙ amid.split);
     }
 
 -- no event
-pub carries_none : (s : Setting) (meter : PlainMeter) (a : List Expected) → Carries s [] meter meter a a
+pub carries_none : (s : Setting) (meter : PlainMeter) (a : List Explained) → Carries s [] meter meter a a
 carries_none s meter a all left amid = amid
 
 -- some events and then others
-pub carries_then : (s : Setting) (first others : List Event) (old mid new : PlainMeter) (a b c : List Expected) → Carries s first old mid a b → Carries s others mid new b c → Carries s (first ++ others) old new a c
+pub carries_then : (s : Setting) (first others : List Event) (old mid new : PlainMeter) (a b c : List Explained) → Carries s first old mid a b → Carries s others mid new b c → Carries s (first ++ others) old new a c
 carries_then s first others old mid new a b c one other all left amid =
     other all left (one all (others ++ left) (rw (append_assoc first others left) at amid))
 
@@ -45,13 +51,36 @@ intervals_more pulses (suc count) =
     ∙ sym (ap (intervals_events pulses) (add-one (suc count))))
 
 -- the end of the drive
-pub carried_to_the_end : (s : Setting) (all : List Expected) (old new : PlainMeter) (a b : List Expected) → GoesThrough s ended old new a b → IsAmid s all [] old a → b ≡ all
-unfolding hirings_from
-carried_to_the_end s all old new a b moves amid = (moves amid.m amid.stands).found ∙ amid.split
+pub carried_to_the_end : (s : Setting) (all : List Explanation) (old new : PlainMeter) (a b : List Explained) → GoesThroughEvent s Down ended old new a b → IsAmid s all [] old a → map explanation_of b ≡ all
+unfolding explanations_from
+carried_to_the_end s all old new a b moves amid = (moves amid.m amid.hired amid.stands).found ∙ amid.split
 
 -- the next run of a list
-pub amid_next : (s : Setting) (all : List Expected) (runs : List Run) (place : ℕ) (d : Run) (meter : PlainMeter) (found : List Expected) → place < length runs
+pub events_next : (runs : List Run) (place : ℕ) (d : Run) → place < length runs
+    → flat_map run_events (drop place runs) ≡ run_events (get_or runs place d) ++ flat_map run_events (drop (place + 1) runs)
+events_next runs place d within =
+    let split : drop place runs ≡ get_or runs place d ∷ drop (place + 1) runs = rw add-one (drop-cons runs place d within) in
+    rw split refl
+
+pub amid_next : (s : Setting) (all : List Explanation) (runs : List Run) (place : ℕ) (d : Run) (meter : PlainMeter) (found : List Explained) → place < length runs
     → IsAmid s all (flat_map run_events (drop place runs)) meter found → IsAmid s all (run_events (get_or runs place d) ++ flat_map run_events (drop (place + 1) runs)) meter found
 amid_next s all runs place d meter found within amid =
     let split : drop place runs ≡ get_or runs place d ∷ drop (place + 1) runs = rw add-one (drop-cons runs place d within) in
     rw split at amid
+
+-- before a drive
+pub amid_first : (s : Setting) (events : List Event) (meter : PlainMeter) → ((hired : Context) → Stands s hired meter (opened s first_state)) → IsAmid s (explanations_of s events) events meter []
+amid_first s events meter stands = record {
+  m = opened s first_state;
+  hired = context_now s (opened s first_state);
+  stands = stands (context_now s (opened s first_state));
+  split = refl;
+}
+
+pub expected_first : (s : Setting) (events : List Event) (meter : PlainMeter) → ((hired : Context) → Stands s hired meter (opened s first_state)) → IsAmidExpected s (expected_of s events) events meter []
+expected_first s events meter stands = record {
+  m = opened s first_state;
+  hired = context_now s (opened s first_state);
+  stands = stands (context_now s (opened s first_state));
+  split = refl;
+}

@@ -2,11 +2,13 @@
 use Rattle.std.proofs.Common.{◌≡◌, ℕ, ◌+◌, ◌*◌, ◌/◌, ◌^◌, ◌≤◌, Bool, true, false, nat_lt, refl, sym, ◌∙◌, arith, Fits}
 use Rattle.std.specs.Int.{w128}
 use Rattle.std.proofs.lemmas.Nat.{mul-le}
-use Rattle.std.proofs.Math.Nat.{div-le_self}
+use Rattle.std.proofs.Math.Nat.{div-le_self, mul-le-mul_right, mul_assoc}
 use Rattle.drive_modes.specs.declared.charges.Mode.{Mode}
 use Rattle.drive_modes.specs.declared.charges.Mode.TheVariants.{Single, Double}
 use Rattle.meter_states.specs.Charge.{charge_by}
 use Rattle.tariff_check.specs.Parts.{RateNumbers}
+use Rattle.verify_bench.specs.Groups.{way_by}
+use Rattle.verify_bench.specs.declared.explained.Way.TheVariants.{Distance, Time, Both}
 
 -- a part of the measure
 share_range : (common over : ℕ) → common ≤ 10 ^ 18 → common / over ≤ 10 ^ 18
@@ -68,6 +70,38 @@ module _ (mode : Mode) (k got common : ℕ) (r : RateNumbers) (p : ℕ) (same : 
   pub fast_charge : (slow : Bool) → mode ≡ Single → slow ≡ nat_lt (10000 * p * r.a * r.e) (r.c * k * r.b) → slow ≡ false → p * (10000 * r.a * (common / r.b)) ≡ charge_by mode k common r p
   fast_charge slow is test above = rw (is, sym test ∙ above) refl
 
+  pub slow_way : (slow : Bool) → mode ≡ Single → slow ≡ nat_lt (10000 * p * r.a * r.e) (r.c * k * r.b) → slow ≡ true → Time ≡ way_by mode k r p
+  slow_way slow is test below = rw (is, sym test ∙ below) refl
+
+  pub fast_way : (slow : Bool) → mode ≡ Single → slow ≡ nat_lt (10000 * p * r.a * r.e) (r.c * k * r.b) → slow ≡ false → Distance ≡ way_by mode k r p
+  fast_way slow is test above = rw (is, sym test ∙ above) refl
+
+  pub double_way : mode ≡ Double → Both ≡ way_by mode k r p
+  double_way is = rw is refl
+
   -- in mode D it is both
   pub double_charge : mode ≡ Double → p * (10000 * r.a * (common / r.b)) + r.c * got * (common / r.e) ≡ charge_by mode k common r p
   double_charge is = rw (is, same) refl
+
+-- an interval is charged at most 41 * 10^9 of the smallest units of money, of which each has k * common units of charge
+module _ (k common : ℕ) (least : 500 ≤ k) where
+  wide : 500 * common ≤ k * common
+  wide = mul-le-mul_right common least
+
+  distance_money : (a over pulses : ℕ) → a ≤ 10 ^ 6 → pulses ≤ 2000 → pulses * (10000 * a * (common / over)) ≤ 20000000000000 * common
+  distance_money a over pulses amount few =
+      let pulse : 10000 * a * (common / over) ≤ 10000000000 * common = mul-le (10000 * a) (common / over) 10000000000 common (omega (arith, amount)) (div-le_self common over) in
+      omega (arith, mul-le pulses (10000 * a * (common / over)) 2000 (10000000000 * common) few pulse)
+
+  time_money : (c over : ℕ) → c ≤ 10 ^ 6 → c * k * (common / over) ≤ 1000000 * (k * common)
+  time_money c over amount =
+      rw (sym (mul_assoc 1000000 k common)) (mul-le (c * k) (common / over) (1000000 * k) common (mul-le-mul_right k (omega (arith, amount))) (div-le_self common over))
+
+  pub distance_few : (a over pulses : ℕ) → a ≤ 10 ^ 6 → pulses ≤ 2000 → pulses * (10000 * a * (common / over)) ≤ 41 * 10 ^ 9 * (k * common)
+  distance_few a over pulses amount few = omega (arith, wide, distance_money a over pulses amount few)
+
+  pub time_few : (c over : ℕ) → c ≤ 10 ^ 6 → c * k * (common / over) ≤ 41 * 10 ^ 9 * (k * common)
+  time_few c over amount = omega (arith, time_money c over amount)
+
+  pub both_few : (a c per over pulses : ℕ) → a ≤ 10 ^ 6 → c ≤ 10 ^ 6 → pulses ≤ 2000 → pulses * (10000 * a * (common / per)) + c * k * (common / over) ≤ 41 * 10 ^ 9 * (k * common)
+  both_few a c per over pulses amount least few = omega (arith, wide, distance_money a per pulses amount few, time_money c over least)

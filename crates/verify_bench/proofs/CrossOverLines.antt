@@ -14,7 +14,7 @@ use Rattle.verify_bench.specs.CrossOvers.{cross_over_line, cross_over_lines}
 abbrev pub numbers : RateLine → RateNumbers
 numbers r = record { a = r.a; b = r.b; c = r.c; e = r.e }
 
-line_here : (lines : List TariffLine) (i : ℕ) (l : TariffLine) → i < length lines → l ≡ get_or lines i l → drop i lines ≡ l ∷ drop (i + 1) lines
+pub line_here : (lines : List TariffLine) (i : ℕ) (l : TariffLine) → i < length lines → l ≡ get_or lines i l → drop i lines ≡ l ∷ drop (i + 1) lines
 line_here lines i l within at =
     let next : suc i ≡ i + 1 = omega arith in
     drop-cons lines i l within ∙ ap (λ (m : TariffLine). m ∷ drop (suc i) lines) (sym at) ∙ ap (λ (n : ℕ). l ∷ drop n lines) next

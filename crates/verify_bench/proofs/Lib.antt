@@ -1,5 +1,7 @@
 -- what parts of a generated drive add to a writing, one behind the other
 mod Adds
+-- the amounts of supplements, number by number, are those of the whole list
+mod AmountSums
 -- the supply of the bench's meter: what it finds held, and what it leaves
 mod BenchSupply
 -- the meter of the bench stands for the next state behind each stage of an event
@@ -20,8 +22,12 @@ mod EachPasses
 mod Fields
 -- a verdict is the first fault, and one only
 mod FirstFaults
+-- the sums of intervals, gathered one by one, are those of the whole list
+mod Gathering
 -- a generated drive is good, means its lines, and is short
 mod GeneratedLaws
+-- the groups of rate lines, line by line
+mod GroupLists
 -- the laws that the crates above may cite
 pub mod Laws
 -- the lines of a generated drive: their lengths, their events, and their texts
@@ -40,6 +46,12 @@ mod ReceiptList
 mod ReportRows
 -- rows of readings, taken one by one
 mod Rows
+-- what a drive should come to is its explanations cut short
+mod Shortening
+-- how many display steps a trip can show
+mod StepCounts
+-- the supplements that were taken, number by number
+mod TakenLists
 -- the parts of a sound tariff that hold in a context are sound
 mod TreeParts
 -- the trips of a generated drive, one behind the other

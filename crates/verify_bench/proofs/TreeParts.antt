@@ -1,16 +1,20 @@
 -- The parts of a sound tariff that hold in a context are sound.
-use Rattle.std.proofs.Common.{◌≡◌, ℕ, ◌≤◌, ◌∙◌, List, get_or, ap, sym, All, Option, Some, None, MatchOption, arith}
+use Rattle.std.proofs.Common.{◌≡◌, ℕ, ◌<◌, ◌≤◌, ◌∙◌, List, get_or, ap, sym, refl, All, Option, Some, None, MatchOption, inl, inr, arith}
+use Rattle.std.specs.Prelude.{option_map}
+use Rattle.std.proofs.lemmas.Bool.{cases_lt}
 use Rattle.std.specs.List.{slice_get}
 use Rattle.std.specs.Option.{unwrap_or}
 use Rattle.std.proofs.lemmas.Option.{slice_get_within, unwrap_or-slice_get}
 use Rattle.meter_states.specs.Charge.{rate_of}
 use Rattle.tariff_check.proofs.Laws as check
 use Rattle.tariff_check.specs.Faults.{IsSound}
-use Rattle.tariff_check.specs.Parts.{initials_of, minimums_of}
+use Rattle.meter_states.specs.Kept.{IsSupplementNumber}
+use Rattle.tariff_check.specs.Parts.{SupplementNumbers, initials_of, minimums_of, supplement_of}
 use Rattle.tariff_check.specs.Sound.{IsSoundInitial, IsSoundRate}
 use Rattle.tariff_compile.proofs.Laws as tables
-use Rattle.tariff_compile.specs.Tables.{IsFitInitial, initial_by}
-use Rattle.tariff_syntax.specs.Meaning.{minimum_place}
+use Rattle.tariff_compile.specs.Tables.{IsFitInitial, initial_by, supplement_at, supplement_in}
+use Rattle.tariff_compile.specs.declared.parts.Supplement.{Supplement}
+use Rattle.tariff_syntax.specs.Meaning.{minimum_place, rate_place}
 use Rattle.tariff_syntax.specs.Tree.{Tree}
 use Rattle.tariff_syntax.specs.Writable.{IsWritable}
 use Rattle.tariff_syntax.specs.declared.context.Context.{Context}
@@ -42,3 +46,31 @@ fit_initial t x writable sound =
       covers = rw has.covers fee.covers;
       minimum = few_by (minimum_place t x) (minimums_of t.lines) (initial_by t x).minimum parts.minimums has.minimum;
     }
+
+pub few_rates : (t : Tree) (x : Context) → IsWritable t → IsSound t → unwrap_or (rate_place t x) 0 < 64
+few_rates t x writable sound =
+    let parts = check.sound_tariffs_have_sound_parts-parts t writable sound in
+    let holds = check.lines_that_hold_are_there-rate t x sound in
+    rw holds.1 (omega (arith, holds.2, parts.rate_count))
+
+numbered : (t : Tree) (number : ℕ) (s : SupplementNumbers) → IsWritable t → supplement_of t.lines number ≡ Some s → IsSupplementNumber number
+numbered t number s writable there = elim (cases_lt 16 number) [
+  | inl many ↦ absurd (let none = check.supplements_are_numbered_to_16 t number writable (λ range. omega (arith, range.1)) in cc)
+  | inr few ↦ elim (cases_lt 0 number) [
+    | inl some ↦ (omega (arith, some), few)
+    | inr none_of ↦ absurd (let none = check.supplements_are_numbered_to_16 t number writable (λ range. omega (arith, range.0)) in cc)
+  ]
+]
+
+supplement_by : (t : Tree) (number : ℕ) (found : Supplement) (o : Option SupplementNumbers) → IsWritable t → IsSound t → supplement_of t.lines number ≡ o → option_map supplement_in o ≡ Some found
+    → IsSupplementNumber number × (found.amount ≤ 1000000) × (found.max ≤ 99)
+supplement_by t number found None writable sound there is = absurd cc
+supplement_by t number found (Some s) writable sound there is =
+    let parts = check.sound_tariffs_have_sound_parts-parts t writable sound in
+    let good = parts.supplements number s there in
+    let same : supplement_in s ≡ found = cc in
+    rw (sym same) (numbered t number s writable there, good.amount, good.most.1)
+
+pub sound_supplement : (t : Tree) (number : ℕ) (found : Supplement) → IsWritable t → IsSound t → supplement_at t number ≡ Some found
+    → IsSupplementNumber number × (found.amount ≤ 1000000) × (found.max ≤ 99)
+sound_supplement t number found writable sound is = supplement_by t number found (supplement_of t.lines number) writable sound refl is

@@ -1,23 +1,37 @@
--- For proofs: how far the bench has carried out a drive. Expecting says what the whole drive should come to.
-use Rattle.std.specs.Prelude.{◌≡◌, ◌++◌, List}
+-- For proofs: how far the bench has carried out a drive. Explaining says what the whole drive comes to.
+use Rattle.std.specs.Prelude.{◌≡◌, ◌++◌, List, map}
 use Rattle.meter_states.specs.Meter.{Meter}
 use Rattle.meter_states.specs.Setting.{Setting}
+use Rattle.tariff_syntax.specs.declared.context.Context.{Context}
 use Rattle.taxi_units.specs.declared.event.Event.{Event}
 use Rattle.verify_bench.specs.Bench.{Stands}
 use Rattle.verify_bench.specs.Expecting.{hirings_from}
+use Rattle.verify_bench.specs.Explaining.{Explanation, explanation_of, explanations_from}
 use Rattle.verify_bench.specs.declared.expected.Expected.{Expected}
+use Rattle.verify_bench.specs.declared.explained.Explained.{Explained}
 use Rattle.verify_bench.specs.declared.plain_meter.PlainMeter.{PlainMeter}
 
--- a meter of the bench is amid a drive if what was found, and behind it the hirings that the events that are left
--- come to from the state that it stands for, is all that the drive should come to
-pub record IsAmid (s : Setting) (all : List Expected) (left : List Event) (meter : PlainMeter) (found : List Expected)
-    : Type 0 where
+-- a meter of the bench is amid a drive if what was found, and behind it the explanations that the events that are left
+-- come to from the state that it stands for, is all that the drive comes to
+pub record IsAmid (s : Setting) (all : List Explanation) (left : List Event) (meter : PlainMeter)
+    (found : List Explained) : Type 0 where
   pub m : Meter
-  pub stands : Stands s meter m
-  pub split : found ++ hirings_from s left m ≡ all
+  pub hired : Context
+  pub stands : Stands s hired meter m
+  pub split : map explanation_of found ++ explanations_from s left m hired ≡ all
 
 -- events were carried out between two meters of the bench if in each drive that goes on with these events the first
 -- is amid it before them, and the second behind them
-abbrev pub Carries : Setting → List Event → (old new : PlainMeter) → (before after : List Expected) → Type 0
+abbrev pub Carries : Setting → List Event → (old new : PlainMeter) → (before after : List Explained) → Type 0
 Carries s events old new before after =
-    (all : List Expected) (left : List Event) → IsAmid s all (events ++ left) old before → IsAmid s all left new after
+    (all : List Explanation) (left : List Event)
+    → IsAmid s all (events ++ left) old before → IsAmid s all left new after
+
+-- a meter of the bench is amid what a drive should come to if the hirings that were found, and behind them those that
+-- the events that are left come to from the state that it stands for, are all of them
+pub record IsAmidExpected (s : Setting) (all : List Expected) (left : List Event) (meter : PlainMeter)
+    (found : List Expected) : Type 0 where
+  pub m : Meter
+  pub hired : Context
+  pub stands : Stands s hired meter m
+  pub split : found ++ hirings_from s left m ≡ all

@@ -1,45 +1,46 @@
--- For proofs: a hiring of the bench with the whole list of its intervals, and which trip of the meter it is. Trip, of
+-- For proofs: a hiring of the bench with the sums of its intervals, and which trip of the meter it is. Trip, of
 -- meter_states, says what a trip is.
-use Rattle.std.specs.Prelude.{◌≡◌, ℕ, ◌*◌, ◌≤◌, All, map, sum}
+use Rattle.std.specs.Prelude.{◌≡◌, ℕ, ◌*◌, ◌≤◌, All, filter}
+use Rattle.meter_states.specs.Kept.{IsSupplementNumber}
 use Rattle.meter_states.specs.Setting.{Setting, unit_of}
-use Rattle.meter_states.specs.Trip.{InHired, InStopped, Trip, charge_in, pulses_in, ticks_in}
-use Rattle.meter_states.specs.Trip as model
-use Rattle.tariff_compile.specs.Tables.{IsFitInitial}
+use Rattle.meter_states.specs.Supplements.{times}
+use Rattle.meter_states.specs.Trip.{Trip}
+use Rattle.tariff_compile.specs.Tables.{IsFitInitial, initial_by}
+use Rattle.tariff_syntax.specs.declared.context.Context.{Context}
+use Rattle.taxi_units.specs.Time.{IsSecond}
+use Rattle.verify_bench.specs.Explaining.{fee_line, minimum_line}
+use Rattle.verify_bench.specs.Gathered.{AreRateWithin, AreWithin, IsTableOf, rate_at}
+use Rattle.verify_bench.specs.Groups.{is_in_stopped, is_rest, sums_of}
+use Rattle.verify_bench.specs.Limits.{most_charge, most_money}
 use Rattle.verify_bench.specs.declared.hiring.Hiring.{Hiring}
-use Rattle.verify_bench.specs.declared.hiring.Part.{Part}
-use Rattle.verify_bench.specs.declared.hiring.Part.TheVariants as parts
 
--- an interval of the bench is a part of the meter's trip
-abbrev pub part_of : Part → model.Part
-part_of (parts.Hired pulses x) = InHired pulses x
-part_of (parts.Stopped pulses) = InStopped pulses
-part_of (parts.Rest pulses) = model.Rest pulses
-
--- an interval of the bench has the pulses of its part
-abbrev pub part_pulses : Part → ℕ
-part_pulses part = pulses_in (part_of part)
-
--- an interval of the bench has the ticks of its part
-abbrev pub part_ticks : Part → ℕ
-part_ticks part = ticks_in (part_of part)
-
--- an interval of the bench has the charge of its part
-abbrev pub part_charge : Setting → Part → ℕ
-part_charge s part = charge_in s (part_of part)
-
--- a hiring of the bench is a trip of the meter that began with it if both have the same fees, intervals and
--- supplements
-pub record IsTrip (s : Setting) (hiring : Hiring) (trip : Trip) : Type 0 where
-  pub initial : trip.initial ≡ hiring.fee.amount
-  pub minimum : trip.minimum ≡ hiring.fee.minimum
-  pub opening : trip.opening ≡ record { cover = hiring.fee.covers * unit_of s; above = 0; pulses = 0; ticks = 0 }
-  pub parts : trip.parts ≡ map part_of hiring.parts.items
+-- a hiring of the bench is a trip of the meter that began with it in a context if both have the same start, fees and
+-- supplements, and the hiring has the sums of the trip's parts; its charges are at most 41 * 10^9 of the smallest units
+-- of money for each tick
+pub record IsTrip (s : Setting) (hired : Context) (hiring : Hiring) (trip : Trip) : Type 0 where
+  pub started : trip.started ≡ hiring.started
+  pub initial : trip.initial ≡ hiring.fee.initial.amount
+  pub minimum : trip.minimum ≡ hiring.fee.initial.minimum
+  pub opening : trip.opening
+      ≡ record { cover = hiring.fee.initial.covers * unit_of s; above = 0; pulses = 0; ticks = 0 }
+  pub fee : hiring.fee.initial ≡ initial_by s.tariff hired
+  pub fee_line : hiring.fee.fee_line ≡ fee_line s.tariff hired
+  pub minimum_line : hiring.fee.minimum_line ≡ minimum_line s.tariff hired
+  pub whole : hiring.whole ≡ sums_of s trip.parts
+  pub rates : IsTableOf s trip.parts hiring.rates.items
+  pub stopped : hiring.stopped ≡ sums_of s (filter is_in_stopped trip.parts)
+  pub dropped : hiring.dropped ≡ (sums_of s (filter is_rest trip.parts)).pulses
   pub extras : trip.extras ≡ hiring.extras.items
+  pub few : hiring.whole.charge ≤ most_money * unit_of s * hiring.whole.ticks
 
--- a hiring is whole if its counts of pulses and ticks are those of its intervals, each of at most 2,000 pulses, and
--- its fees are in their ranges
+-- a hiring is whole if its start and its fees are in their ranges, its charges are few for its ticks, no sum is greater
+-- than that of the whole, and each of its supplements is numbered 1 to 16 and was added 99 times at most
 pub record IsWhole (hiring : Hiring) : Type 0 where
-  pub fee : IsFitInitial hiring.fee
-  pub pulses : hiring.pulses ≡ sum (map part_pulses hiring.parts.items)
-  pub ticks : hiring.ticks ≡ sum (map part_ticks hiring.parts.items)
-  pub slow : All (λ part. part_pulses part ≤ 2000) hiring.parts.items
+  pub started : IsSecond hiring.started
+  pub fee : IsFitInitial hiring.fee.initial
+  pub charge : hiring.whole.charge ≤ most_charge * hiring.whole.ticks
+  pub rates : (place : ℕ) → AreRateWithin (rate_at hiring.rates.items place) hiring.whole
+  pub stopped : AreWithin hiring.stopped hiring.whole
+  pub dropped : hiring.dropped ≤ hiring.whole.pulses
+  pub numbers : All IsSupplementNumber hiring.extras.items
+  pub few : (number : ℕ) → times number hiring.extras.items ≤ 99

@@ -5,11 +5,11 @@ ghost use Rattle.meter_states.specs.Setting.{Setting};
 ghost use Rattle.meter_states.specs.Step.{clock_read, powered_step, step};
 ghost use Rattle.taxi_units.specs.Time.{IsSecond, last_tick};
 ghost use Rattle.taxi_units.specs.declared.event.Operating.TheVariants.{Off};
-ghost use Rattle.verify_bench.specs.Settings.{setting_of};
+ghost use Rattle.verify_bench.specs.Settings.{setting_under};
 
-use crate::expected::Expected;
+use crate::explained::Explained;
 use crate::plain_meter::PlainMeter;
-use seal_store::Seal;
+use seal_store::Params;
 use std::alloc::Global;
 use std::sync::ledger::Ledger;
 use tariff_check::Checked;
@@ -27,22 +27,22 @@ impl PlainMeter {
         event: Event,
         alloc: Global,
         checked: &Checked,
-        seal: &Seal,
-        found: &mut Vec<Expected>,
+        params: &Params,
+        found: &mut Vec<Explained>,
         steps: &mut Steps<L>,
     ) -> Result<(), NoMemory>
         requires takes { MayTake self.old event }
-        ensures moves { OnOk result (GoesThroughEvent (setting_of checked.now seal.now) event (λ s. step s event)
+        ensures moves { OnOk result (GoesThroughEvent (setting_under checked.now params.now) event (λ s. step s event)
             self.old self.new found.old.items found.new.items) }
         ensures sound { OnOk result (IsSound last_tick 0 self.new) }
     {
         match self.operating {
             Operating::Off => match event {
-                Event::Up(second) => self.come_up(second, checked, seal, found),
+                Event::Up(second) => self.come_up(second, alloc, checked, params, found, steps),
                 _ => Ok(()),
             },
             Operating::ForHire | Operating::Hired | Operating::Stopped => {
-                self.powered_event(event, alloc, checked, seal, found, steps)
+                self.powered_event(event, alloc, checked, params, found, steps)
             }
         }
     }
@@ -53,23 +53,23 @@ impl PlainMeter {
         event: Event,
         alloc: Global,
         checked: &Checked,
-        seal: &Seal,
-        found: &mut Vec<Expected>,
+        params: &Params,
+        found: &mut Vec<Explained>,
         steps: &mut Steps<L>,
     ) -> Result<(), NoMemory>
         requires takes { MayTake self.old event }
-        ensures moves { OnOk result (GoesThroughEvent (setting_of checked.now seal.now) event
+        ensures moves { OnOk result (GoesThroughEvent (setting_under checked.now params.now) event
             (λ s. powered_step s event) self.old self.new found.old.items found.new.items) }
         ensures sound { OnOk result (IsSound last_tick 0 self.new) }
     {
         match event {
             Event::Up(_) => Ok(()),
-            Event::Down => self.go_down(checked, seal, found),
+            Event::Down => self.go_down(alloc, checked, params, found, steps),
             Event::Pulses(pulses) => {
                 self.take_pulses(pulses);
                 Ok(())
             }
-            Event::Tick => self.tick(alloc, checked, seal, found, steps),
+            Event::Tick => self.tick(alloc, checked, params, found, steps),
             Event::Clock(second) => {
                 self.read_clock(second);
                 Ok(())

@@ -1,19 +1,23 @@
-//! What a drive should come to.
-ghost use Rattle.std.specs.Prelude.{◌≡◌, ◌<◌, ◌≤◌, ◌∷◌, [], All, flat_map, IfOk, OnOk};
+//! What a drive comes to, hiring by hiring.
+ghost use Rattle.std.specs.Prelude.{◌≡◌, ◌<◌, ◌≤◌, ◌∷◌, ◌++◌, [], All, flat_map, map, IfOk, OnOk};
 ghost use Rattle.drive_text.specs.Ranges.{IsRunInRange};
 ghost use Rattle.drive_text.specs.Runs.{interval_events, intervals_events, run_events};
 ghost use Rattle.meter_states.specs.Run.{opened};
 ghost use Rattle.meter_states.specs.Setting.{Setting};
+ghost use Rattle.tariff_syntax.specs.declared.context.Context.{Context};
 ghost use Rattle.taxi_units.specs.Time.{last_tick};
 ghost use Rattle.totaliser_store.specs.States.{first_state};
 ghost use Rattle.verify_bench.specs.Carrying.{Carries};
 ghost use Rattle.verify_bench.specs.Expecting.{expected_of};
-ghost use Rattle.verify_bench.specs.Settings.{setting_of};
+ghost use Rattle.verify_bench.specs.Explaining.{explanation_of, explanations_of};
+ghost use Rattle.verify_bench.specs.Settings.{setting_of, setting_under};
+ghost use Rattle.verify_bench.specs.Shortened.{short_of};
 
 use crate::expected::Expected;
+use crate::explained::Explained;
 use crate::plain_meter::PlainMeter;
 use drive_text::Run;
-use seal_store::Seal;
+use seal_store::{Params, Seal};
 use std::alloc::Global;
 use std::marker::Brand;
 use std::sync::ledger::{Blank, Ledger};
@@ -21,9 +25,9 @@ use tariff_check::Checked;
 use taxi_units::{Event, FIRST_SECOND, NoMemory, Operating, Steps};
 
 /// What a drive should come to: the receipts of its hirings, from an empty store of number 1, with the
-/// supply dropping at its end. It keeps every interval of a trip with the context of its beginning, and
-/// adds their charges up over the tariff's tree when the trip is closed; so it is the plain program of the
-/// definition, beside which a meter is judged. A trip that is held at the end has no receipt.
+/// supply dropping at its end. It charges every interval of a trip over the tariff's tree, in the context of
+/// its beginning; so it is the plain program of the definition, beside which a meter is judged. A trip that
+/// is held at the end has no receipt.
 ///
 /// `NoMemory` only where memory ran out. The numbers in the runs are those that a line of a drive may have.
 pub fn expect(
@@ -36,7 +40,51 @@ pub fn expect(
     ensures { IfOk result (λ list. list.items
         ≡ expected_of (setting_of checked.now seal.now) (flat_map run_events runs.now)) }
 {
-    expect_counted::<Brand>(Blank::new(1), alloc, checked, seal, runs)
+    expect_counted::<Brand>(Blank::new(1), alloc, checked, &seal.params, runs)
+}
+
+/// Why the fare of each hiring of a drive is what it is: each hiring that the drive closes, in order, taken
+/// apart by its rates and by the ways in which they charged it, from an empty store of number 1, with the
+/// supply dropping at its end. A trip that is held at the end isn't closed. No interval is kept: what memory
+/// is taken is for what is given.
+///
+/// `NoMemory` only where memory ran out. The numbers in the runs are those that a line of a drive may have.
+pub fn explain(
+    alloc: Global,
+    checked: &Checked,
+    params: &Params,
+    runs: &[Run],
+) -> Result<Vec<Explained>, NoMemory>
+    requires { All IsRunInRange runs.now }
+    ensures { IfOk result (λ list. map explanation_of list.items
+        ≡ explanations_of (setting_under checked.now params.now) (flat_map run_events runs.now)) }
+{
+    explain_counted::<Brand>(Blank::new(1), alloc, checked, params, runs)
+}
+
+/// Why the fares of a drive are what they are, with a counter of the steps that local times take.
+fn explain_counted<L: Ledger>(
+    blank: Blank,
+    alloc: Global,
+    checked: &Checked,
+    params: &Params,
+    runs: &[Run],
+) -> Result<Vec<Explained>, NoMemory>
+    requires name { blank.name ≡ L.name }
+    requires parts { blank.parts ≡ L.parts }
+    requires some { 0 < blank.parts }
+    requires range { All IsRunInRange runs.now }
+    ensures { IfOk result (λ list. map explanation_of list.items
+        ≡ explanations_of (setting_under checked.now params.now) (flat_map run_events runs.now)) }
+{
+    let mut steps: Steps<L> = Steps::open(blank);
+    let mut meter = PlainMeter::new();
+    let mut found = Vec::new(alloc);
+    for run in runs {
+        meter.follow(*run, alloc, checked, params, &mut found, &mut steps)?;
+    }
+    meter.end(alloc, checked, params, &mut found, &mut steps)?;
+    Ok(found)
 }
 
 /// What a drive should come to, with a counter of the steps that local times take.
@@ -44,7 +92,7 @@ fn expect_counted<L: Ledger>(
     blank: Blank,
     alloc: Global,
     checked: &Checked,
-    seal: &Seal,
+    params: &Params,
     runs: &[Run],
 ) -> Result<Vec<Expected>, NoMemory>
     requires name { blank.name ≡ L.name }
@@ -52,16 +100,37 @@ fn expect_counted<L: Ledger>(
     requires some { 0 < blank.parts }
     requires range { All IsRunInRange runs.now }
     ensures { IfOk result (λ list. list.items
-        ≡ expected_of (setting_of checked.now seal.now) (flat_map run_events runs.now)) }
+        ≡ expected_of (setting_under checked.now params.now) (flat_map run_events runs.now)) }
 {
     let mut steps: Steps<L> = Steps::open(blank);
     let mut meter = PlainMeter::new();
     let mut found = Vec::new(alloc);
     for run in runs {
-        meter.follow(*run, alloc, checked, seal, &mut found, &mut steps)?;
+        let mut explained = Vec::new(alloc);
+        meter.follow(*run, alloc, checked, params, &mut explained, &mut steps)?;
+        put_expected(&mut found, explained.as_slice())?;
     }
-    meter.end(checked, seal, &mut found)?;
+    let mut explained = Vec::new(alloc);
+    meter.end(alloc, checked, params, &mut explained, &mut steps)?;
+    put_expected(&mut found, explained.as_slice())?;
     Ok(found)
+}
+
+/// What hirings that were taken apart should come to.
+fn put_expected(found: &mut Vec<Expected>, explained: &[Explained]) -> Result<(), NoMemory>
+    ensures { OnOk result (found.new.items
+        ≡ found.old.items ++ map short_of (map explanation_of explained.now)) }
+{
+    for hiring in explained {
+        let expected = Expected {
+            kind: hiring.receipt.kind,
+            fare: hiring.receipt.fare,
+            hired_mm: hiring.receipt.hired_mm,
+            ticks: hiring.whole.ticks,
+        };
+        found.push(expected).map_err(|_| NoMemory)?;
+    }
+    Ok(())
 }
 
 impl PlainMeter {
@@ -69,7 +138,7 @@ impl PlainMeter {
 
     /// Before the supply first comes, over an empty store.
     fn new() -> PlainMeter
-        ensures stands { (s : Setting) → Stands s result (opened s first_state) }
+        ensures stands { (s : Setting) (hired : Context) → Stands s hired result (opened s first_state) }
         ensures sound { IsSound last_tick 0 result }
     {
         PlainMeter {
@@ -93,20 +162,20 @@ impl PlainMeter {
         run: Run,
         alloc: Global,
         checked: &Checked,
-        seal: &Seal,
-        found: &mut Vec<Expected>,
+        params: &Params,
+        found: &mut Vec<Explained>,
         steps: &mut Steps<L>,
     ) -> Result<(), NoMemory>
         requires sound { IsSound last_tick 0 self.old }
         requires range { IsRunInRange run }
-        ensures carries { OnOk result (Carries (setting_of checked.now seal.now) (run_events run)
+        ensures carries { OnOk result (Carries (setting_under checked.now params.now) (run_events run)
             self.old self.new found.old.items found.new.items) }
         ensures sound { OnOk result (IsSound last_tick 0 self.new) }
     {
         match run {
-            Run::One(event) => self.carry(event, alloc, checked, seal, found, steps),
+            Run::One(event) => self.carry(event, alloc, checked, params, found, steps),
             Run::Many { pulses, count } => {
-                self.intervals(pulses, count, alloc, checked, seal, found, steps)
+                self.intervals(pulses, count, alloc, checked, params, found, steps)
             }
         }
     }
@@ -118,18 +187,18 @@ impl PlainMeter {
         count: u32,
         alloc: Global,
         checked: &Checked,
-        seal: &Seal,
-        found: &mut Vec<Expected>,
+        params: &Params,
+        found: &mut Vec<Explained>,
         steps: &mut Steps<L>,
     ) -> Result<(), NoMemory>
         requires sound { IsSound last_tick 0 self.old }
         requires pulses { pulses ≤ 65535 }
-        ensures carries { OnOk result (Carries (setting_of checked.now seal.now) (intervals_events pulses count)
+        ensures carries { OnOk result (Carries (setting_under checked.now params.now) (intervals_events pulses count)
             self.old self.new found.old.items found.new.items) }
         ensures sound { OnOk result (IsSound last_tick 0 self.new) }
     {
         for place in 0..count {
-            self.interval(pulses, alloc, checked, seal, found, steps)?;
+            self.interval(pulses, alloc, checked, params, found, steps)?;
         }
         Ok(())
     }
@@ -140,21 +209,21 @@ impl PlainMeter {
         pulses: u32,
         alloc: Global,
         checked: &Checked,
-        seal: &Seal,
-        found: &mut Vec<Expected>,
+        params: &Params,
+        found: &mut Vec<Explained>,
         steps: &mut Steps<L>,
     ) -> Result<(), NoMemory>
         requires sound { IsSound last_tick 0 self.old }
         requires pulses { pulses ≤ 65535 }
-        ensures carries { OnOk result (Carries (setting_of checked.now seal.now) (interval_events pulses)
+        ensures carries { OnOk result (Carries (setting_under checked.now params.now) (interval_events pulses)
             self.old self.new found.old.items found.new.items) }
         ensures sound { OnOk result (IsSound last_tick 0 self.new) }
     {
         if pulses == 0 {
-            return self.carry(Event::Tick, alloc, checked, seal, found, steps);
+            return self.carry(Event::Tick, alloc, checked, params, found, steps);
         }
-        self.carry(Event::Pulses(pulses), alloc, checked, seal, found, steps)?;
-        self.carry(Event::Tick, alloc, checked, seal, found, steps)
+        self.carry(Event::Pulses(pulses), alloc, checked, params, found, steps)?;
+        self.carry(Event::Tick, alloc, checked, params, found, steps)
     }
 
     /// An event.
@@ -163,16 +232,16 @@ impl PlainMeter {
         event: Event,
         alloc: Global,
         checked: &Checked,
-        seal: &Seal,
-        found: &mut Vec<Expected>,
+        params: &Params,
+        found: &mut Vec<Explained>,
         steps: &mut Steps<L>,
     ) -> Result<(), NoMemory>
         requires takes { MayTake self.old event }
-        ensures carries { OnOk result (Carries (setting_of checked.now seal.now) (event ∷ [])
+        ensures carries { OnOk result (Carries (setting_under checked.now params.now) (event ∷ [])
             self.old self.new found.old.items found.new.items) }
         ensures sound { OnOk result (IsSound last_tick 0 self.new) }
     {
-        self.event(event, alloc, checked, seal, found, steps)?;
+        self.event(event, alloc, checked, params, found, steps)?;
         Ok(())
     }
 }

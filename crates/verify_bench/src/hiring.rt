@@ -1,89 +1,136 @@
-//! A hiring, with the whole list of its intervals.
-ghost use Rattle.std.specs.Prelude.{◌≡◌, ◌+◌, ◌*◌, ◌^◌, ◌<◌, ◌≤◌, ◌++◌, ◌∷◌, [], map, sum, ◌==◌, OnOk};
+//! A hiring, with the sums of its intervals.
+ghost use Rattle.std.specs.Prelude.{◌≡◌, ℕ, ◌+◌, ◌*◌, ◌^◌, ◌<◌, ◌≤◌, ◌++◌, ◌∷◌, [], ◌==◌, OnOk};
+ghost use Rattle.meter_states.specs.Kept.{IsSupplementNumber};
+ghost use Rattle.meter_states.specs.Setting.{Setting, unit_of};
 ghost use Rattle.meter_states.specs.Supplements.{times};
+ghost use Rattle.meter_states.specs.Trip.{InHired, InStopped, Rest, Trip, with_part};
 ghost use Rattle.tariff_compile.specs.Tables.{IsFitInitial};
-ghost use Rattle.meter_states.specs.Trip.{Trip, fare_of};
-ghost use Rattle.taxi_units.specs.Time.{longest_trip};
-ghost use Rattle.verify_bench.specs.Hirings.{IsTrip, part_charge, part_pulses, part_ticks};
-ghost use Rattle.verify_bench.specs.Settings.{setting_of};
+ghost use Rattle.tariff_syntax.specs.declared.context.Context.{Context};
+ghost use Rattle.taxi_units.specs.Time.{IsSecond};
+ghost use Rattle.verify_bench.specs.Gathered.{no_sums, rate_at};
+ghost use Rattle.verify_bench.specs.Hirings.{IsTrip};
+ghost use Rattle.verify_bench.specs.Limits.{most_charge};
+ghost use Rattle.verify_bench.specs.Pricing.{IsPriceOf};
 
-use crate::pricing::{charge, fare};
-use seal_store::Seal;
+use crate::explained::Sums;
+use crate::fees::HireFee;
+use crate::pricing::Price;
+use crate::sums::RateSums;
+use crate::table::add_to_table;
 use std::alloc::Global;
-use tariff_check::Checked;
-use tariff_compile::Initial;
-use tariff_syntax::Context;
 use taxi_units::NoMemory;
 
-/// An interval that ended in Hired, with the context of its beginning, one that ended in Stopped, or the
-/// pulses of one that a supply drop left unfinished.
-#[derive(Clone, Copy)]
-pub(crate) enum Part {
-    Hired(u32, Context),
-    Stopped(u32),
-    Rest(u32),
-}
-
-/// What a hiring began with, its intervals in order, the numbers of its supplements in order, and the
-/// pulses and ticks of its intervals.
+/// The second at which a hiring began and its fees; the sums of the intervals that each rate charged, by the
+/// rate's place, of all intervals, and of those in Stopped; the pulses of intervals that supply drops left
+/// unfinished; and the numbers of its supplements in order.
 #[derive(Drop)]
 pub(crate) struct Hiring {
-    pub(crate) fee: Initial,
-    pub(crate) parts: Vec<Part>,
+    pub(crate) started: u64,
+    pub(crate) fee: HireFee,
+    pub(crate) rates: Vec<RateSums>,
+    pub(crate) whole: Sums,
+    pub(crate) stopped: Sums,
+    pub(crate) dropped: u64,
     pub(crate) extras: Vec<u8>,
-    pub(crate) pulses: u64,
-    pub(crate) ticks: u32,
 }
 
 impl Hiring {
     ghost use Rattle.verify_bench.specs.Hirings.{IsWhole};
 
     /// A hiring without intervals.
-    pub(crate) fn new(alloc: Global, fee: Initial) -> Hiring
-        requires { IsFitInitial fee }
+    pub(crate) fn new(alloc: Global, started: u64, fee: HireFee) -> Hiring
+        requires started { IsSecond started }
+        requires fee { IsFitInitial fee.initial }
         ensures whole { IsWhole result }
+        ensures started { result.started ≡ started }
         ensures fee { result.fee ≡ fee }
-        ensures parts { result.parts.items ≡ [] }
+        ensures rates { result.rates.items ≡ [] }
+        ensures sums { (result.whole ≡ no_sums) × (result.stopped ≡ no_sums) × (result.dropped ≡ 0) }
         ensures extras { result.extras.items ≡ [] }
-        ensures pulses { result.pulses ≡ 0 }
-        ensures ticks { result.ticks ≡ 0 }
     {
         Hiring {
+            started,
             fee,
-            parts: Vec::new(alloc),
+            rates: Vec::new(alloc),
+            whole: Sums::new(),
+            stopped: Sums::new(),
+            dropped: 0,
             extras: Vec::new(alloc),
-            pulses: 0,
-            ticks: 0,
         }
     }
 
-    /// An interval more.
-    pub(crate) fn add(&mut self, part: Part) -> Result<(), NoMemory>
+    /// An interval in Hired more, with its price.
+    pub(crate) fn add_hired(&mut self, pulses: u32, price: Price) -> Result<(), NoMemory>
         requires whole { IsWhole self.old }
-        requires slow { part_pulses part ≤ 2000 }
-        requires pulses { self.old.pulses + 2000 < 2 ^ 64 }
-        requires ticks { self.old.ticks + 1 < 2 ^ 32 }
+        requires price { (pulses ≤ 2000) × (price.charge ≤ most_charge) × (price.place < 64) }
+        requires pulses { self.old.whole.pulses + 2000 < 2 ^ 64 }
+        requires ticks { self.old.whole.ticks < 8640000 }
         ensures whole { OnOk result (IsWhole self.new) }
-        ensures fee { OnOk result (self.new.fee ≡ self.old.fee) }
-        ensures parts { OnOk result (self.new.parts.items ≡ self.old.parts.items ++ part ∷ []) }
-        ensures extras { OnOk result (self.new.extras ≡ self.old.extras) }
-        ensures pulses { OnOk result (self.new.pulses ≡ self.old.pulses + part_pulses part) }
-        ensures ticks { OnOk result (self.new.ticks ≡ self.old.ticks + part_ticks part) }
+        ensures pulses { OnOk result (self.new.whole.pulses ≡ self.old.whole.pulses + pulses) }
+        ensures ticks { OnOk result (self.new.whole.ticks ≡ self.old.whole.ticks + 1) }
+        ensures trip { OnOk result ((s : Setting) (hired x : Context) (trip : Trip) → IsTrip s hired self.old trip
+            → IsPriceOf s x pulses price → IsTrip s hired self.new (with_part (InHired pulses x) trip)) }
     {
-        self.pulses += pulses_of(&part) as u64;
-        self.ticks += ticks_of(&part);
-        self.parts.push(part).map_err(|_| NoMemory)
+        let sums = Sums {
+            pulses: pulses as u64,
+            ticks: 1,
+            charge: price.charge,
+        };
+        add_to_table(&mut self.rates, price.place, price.way, sums)?;
+        self.whole = self.whole.with(sums);
+        Ok(())
+    }
+
+    /// An interval in Stopped more.
+    pub(crate) fn add_stopped(&mut self, pulses: u32)
+        requires whole { IsWhole self.old }
+        requires slow { pulses ≤ 2000 }
+        requires pulses { self.old.whole.pulses + 2000 < 2 ^ 64 }
+        requires ticks { self.old.whole.ticks < 8640000 }
+        ensures whole { IsWhole self.new }
+        ensures pulses { self.new.whole.pulses ≡ self.old.whole.pulses + pulses }
+        ensures ticks { self.new.whole.ticks ≡ self.old.whole.ticks + 1 }
+        ensures trip { (s : Setting) (hired : Context) (trip : Trip) → IsTrip s hired self.old trip
+            → IsTrip s hired self.new (with_part (InStopped pulses) trip) }
+    {
+        let sums = Sums {
+            pulses: pulses as u64,
+            ticks: 1,
+            charge: 0,
+        };
+        self.stopped = self.stopped.with(sums);
+        self.whole = self.whole.with(sums);
+    }
+
+    /// The pulses of an interval that was left unfinished.
+    pub(crate) fn add_rest(&mut self, pulses: u32)
+        requires whole { IsWhole self.old }
+        requires slow { pulses ≤ 2000 }
+        requires pulses { self.old.whole.pulses + 2000 < 2 ^ 64 }
+        requires ticks { self.old.whole.ticks < 8640000 }
+        ensures whole { IsWhole self.new }
+        ensures pulses { self.new.whole.pulses ≡ self.old.whole.pulses + pulses }
+        ensures ticks { self.new.whole.ticks ≡ self.old.whole.ticks }
+        ensures trip { (s : Setting) (hired : Context) (trip : Trip) → IsTrip s hired self.old trip
+            → IsTrip s hired self.new (with_part (Rest pulses) trip) }
+    {
+        let sums = Sums {
+            pulses: pulses as u64,
+            ticks: 0,
+            charge: 0,
+        };
+        self.dropped += pulses as u64;
+        self.whole = self.whole.with(sums);
     }
 
     /// A supplement more.
     pub(crate) fn add_extra(&mut self, number: u8) -> Result<(), NoMemory>
         requires whole { IsWhole self.old }
+        requires number { IsSupplementNumber number }
+        requires few { times number self.old.extras.items < 99 }
         ensures whole { OnOk result (IsWhole self.new) }
-        ensures fee { OnOk result (self.new.fee ≡ self.old.fee) }
-        ensures parts { OnOk result (self.new.parts ≡ self.old.parts) }
         ensures extras { OnOk result (self.new.extras.items ≡ self.old.extras.items ++ number ∷ []) }
-        ensures pulses { OnOk result (self.new.pulses ≡ self.old.pulses) }
-        ensures ticks { OnOk result (self.new.ticks ≡ self.old.ticks) }
+        ensures others { OnOk result (self.new ≡ record self.old { extras = self.new.extras }) }
     {
         self.extras.push(number).map_err(|_| NoMemory)
     }
@@ -99,63 +146,5 @@ impl Hiring {
             }
         }
         count
-    }
-
-    /// The sum of the charges of its intervals.
-    fn charges(&self, checked: &Checked, seal: &Seal) -> u128
-        requires whole { IsWhole self.now }
-        requires ticks { self.now.ticks ≤ longest_trip }
-        ensures charged { result
-            ≡ sum (map (part_charge (setting_of checked.now seal.now)) self.now.parts.items) }
-        ensures bound { result ≤ longest_trip * (202 * 10 ^ 29) }
-    {
-        let mut total = 0;
-        for part in self.parts.as_slice() {
-            total += charge_of(part, checked, seal);
-        }
-        total
-    }
-
-    /// Its fare.
-    pub(crate) fn fare(&self, checked: &Checked, seal: &Seal) -> u64
-        requires whole { IsWhole self.now }
-        requires ticks { self.now.ticks ≤ longest_trip }
-        ensures { (trip : Trip) → IsTrip (setting_of checked.now seal.now) self.now trip
-            → result ≡ fare_of (setting_of checked.now seal.now) trip }
-    {
-        let charged = self.charges(checked, seal);
-        fare(checked, seal, self.fee, charged)
-    }
-}
-
-/// The pulses of an interval.
-fn pulses_of(part: &Part) -> u32
-    ensures { result ≡ part_pulses part.now }
-{
-    match part {
-        Part::Hired(pulses, _) | Part::Stopped(pulses) | Part::Rest(pulses) => *pulses,
-    }
-}
-
-/// Its ticks.
-fn ticks_of(part: &Part) -> u32
-    ensures ticks { result ≡ part_ticks part.now }
-    ensures one { result ≤ 1 }
-{
-    match part {
-        Part::Hired(_, _) | Part::Stopped(_) => 1,
-        Part::Rest(_) => 0,
-    }
-}
-
-/// Its charge: only an interval in Hired is charged.
-fn charge_of(part: &Part, checked: &Checked, seal: &Seal) -> u128
-    requires { part_pulses part.now ≤ 2000 }
-    ensures charge { result ≡ part_charge (setting_of checked.now seal.now) part.now }
-    ensures bound { result ≤ 202 * 10 ^ 29 * part_ticks part.now }
-{
-    match part {
-        Part::Hired(pulses, x) => charge(checked, seal, x, *pulses),
-        Part::Stopped(_) | Part::Rest(_) => 0,
     }
 }

@@ -1,20 +1,22 @@
 //! What keys do to the meter of the bench.
 #![tactic(auto, using(crate::proofs::Benches::looser))]
 
-ghost use Rattle.std.specs.Prelude.{Some, OnOk};
-ghost use Rattle.meter_states.specs.Keys.{extra_added, hiring, key_in, latched, position_set, zone_set};
+ghost use Rattle.std.specs.Prelude.{◌≡◌, ◌≤◌, Some, OnOk};
+ghost use Rattle.meter_states.specs.Kept.{IsSupplementNumber};
+ghost use Rattle.meter_states.specs.Keys.{extra_added, latched, position_set, zone_set};
 ghost use Rattle.meter_states.specs.Setting.{Setting};
-ghost use Rattle.seal_store.specs.declared.seal.Seal.{Seal};
+ghost use Rattle.seal_store.specs.declared.params.Params.{Params};
 ghost use Rattle.tariff_compile.specs.Tables.{supplement_at};
 ghost use Rattle.taxi_units.specs.Time.{last_tick};
-ghost use Rattle.verify_bench.specs.Settings.{setting_of};
+ghost use Rattle.taxi_units.specs.declared.event.Operating.TheVariants.{ForHire};
+ghost use Rattle.verify_bench.specs.Settings.{setting_under};
 
-use crate::expected::Expected;
+use crate::explained::Explained;
+use crate::fees::hire_fee;
 use crate::hiring::Hiring;
 use crate::lookups::supplement_at;
 use crate::plain_meter::PlainMeter;
-use crate::pricing::hire_fee;
-use seal_store::Seal;
+use seal_store::Params;
 use std::alloc::Global;
 use std::sync::ledger::Ledger;
 use tariff_check::Checked;
@@ -22,7 +24,7 @@ use tariff_compile::Supplement;
 use taxi_units::{HIRINGS_END, Key, Kind, NoMemory, Operating, Steps};
 
 impl PlainMeter {
-    ghost use Rattle.verify_bench.specs.Bench.{GoesThrough, GoesThroughQuietly, IsSound};
+    ghost use Rattle.verify_bench.specs.Bench.{GoesThroughKey, GoesThroughQuietly, Hires, IsSound};
 
     /// A key waits, where none does.
     pub(crate) fn latch_key(&mut self, key: Key)
@@ -41,19 +43,20 @@ impl PlainMeter {
         &mut self,
         alloc: Global,
         checked: &Checked,
-        seal: &Seal,
+        params: &Params,
         steps: &mut Steps<L>,
     )
         requires sound { IsSound last_tick 0 self.old }
-        ensures moves { GoesThroughQuietly (setting_of checked.now seal.now) hiring self.old self.new }
+        requires for_hire { self.old.operating ≡ ForHire }
+        ensures moves { Hires (setting_under checked.now params.now) self.old self.new }
         ensures sound { IsSound last_tick 0 self.new }
     {
         if self.number >= HIRINGS_END {
             return;
         }
-        let x = self.context(self.clock, checked, seal, steps);
+        let x = self.context(self.clock, checked, params, steps);
         let fee = hire_fee(checked, &x);
-        self.hiring = Some(Hiring::new(alloc, fee));
+        self.hiring = Some(Hiring::new(alloc, self.clock, fee));
         self.operating = Operating::Hired;
         self.roam = 0;
     }
@@ -61,8 +64,8 @@ impl PlainMeter {
     /// A tariff position is set.
     fn set_position(&mut self, number: u8, checked: &Checked)
         requires sound { IsSound last_tick 0 self.old }
-        ensures moves { (seal : Seal) → GoesThroughQuietly (setting_of checked.now seal) (λ s. position_set s number)
-            self.old self.new }
+        ensures moves { (params : Params) → GoesThroughQuietly (setting_under checked.now params)
+            (λ s. position_set s number) self.old self.new }
         ensures sound { IsSound last_tick 0 self.new }
     {
         if 1 <= number && number <= checked.positions() {
@@ -73,8 +76,8 @@ impl PlainMeter {
     /// A zone is set.
     fn set_zone(&mut self, number: u8, checked: &Checked)
         requires sound { IsSound last_tick 0 self.old }
-        ensures moves { (seal : Seal) → GoesThroughQuietly (setting_of checked.now seal) (λ s. zone_set s number)
-            self.old self.new }
+        ensures moves { (params : Params) → GoesThroughQuietly (setting_under checked.now params)
+            (λ s. zone_set s number) self.old self.new }
         ensures sound { IsSound last_tick 0 self.new }
     {
         if 1 <= number && number <= checked.zones() {
@@ -85,7 +88,7 @@ impl PlainMeter {
     /// A supplement is added to the trip, where the tariff has it, up to its most.
     fn add_supplement(&mut self, number: u8, checked: &Checked) -> Result<(), NoMemory>
         requires sound { IsSound last_tick 0 self.old }
-        ensures moves { OnOk result ((seal : Seal) → GoesThroughQuietly (setting_of checked.now seal)
+        ensures moves { OnOk result ((params : Params) → GoesThroughQuietly (setting_under checked.now params)
             (λ s. extra_added number (supplement_at s.tariff number)) self.old self.new) }
         ensures sound { OnOk result (IsSound last_tick 0 self.new) }
     {
@@ -98,6 +101,8 @@ impl PlainMeter {
     /// It is added up to its most.
     fn add_up_to(&mut self, number: u8, supplement: Supplement) -> Result<(), NoMemory>
         requires sound { IsSound last_tick 0 self.old }
+        requires number { IsSupplementNumber number }
+        requires most { supplement.max ≤ 99 }
         ensures moves { OnOk result ((s : Setting) → GoesThroughQuietly s (λ s. extra_added number (Some supplement))
             self.old self.new) }
         ensures sound { OnOk result (IsSound last_tick 0 self.new) }
@@ -120,18 +125,18 @@ impl PlainMeter {
         key: Key,
         alloc: Global,
         checked: &Checked,
-        seal: &Seal,
-        found: &mut Vec<Expected>,
+        params: &Params,
+        found: &mut Vec<Explained>,
         steps: &mut Steps<L>,
     ) -> Result<(), NoMemory>
         requires sound { IsSound last_tick 0 self.old }
-        ensures moves { OnOk result (GoesThrough (setting_of checked.now seal.now)
-            (λ s m. key_in s key m.operating m) self.old self.new found.old.items found.new.items) }
+        ensures moves { OnOk result (GoesThroughKey (setting_under checked.now params.now) key
+            self.old self.new found.old.items found.new.items) }
         ensures sound { OnOk result (IsSound last_tick 0 self.new) }
     {
         match (key, self.operating) {
             (Key::Hire, Operating::ForHire) => {
-                self.hire(alloc, checked, seal, steps);
+                self.hire(alloc, checked, params, steps);
                 Ok(())
             }
             (Key::Hire, Operating::Stopped) => {
@@ -142,7 +147,18 @@ impl PlainMeter {
                 self.operating = Operating::Stopped;
                 Ok(())
             }
-            (Key::Clear, Operating::Stopped) => self.close(Kind::Closed, checked, seal, found),
+            (Key::Clear, Operating::Stopped) => {
+                self.close(
+                    Kind::Closed,
+                    self.clock,
+                    alloc,
+                    checked,
+                    params,
+                    found,
+                    steps,
+                )?;
+                Ok(())
+            }
             (Key::Position(number), Operating::ForHire | Operating::Hired) => {
                 self.set_position(number, checked);
                 Ok(())

@@ -5,6 +5,9 @@
 mod events;
 mod expected;
 mod expecting;
+mod explained;
+mod fares;
+mod fees;
 mod generated;
 mod generator;
 mod hiring;
@@ -21,13 +24,17 @@ mod remaining;
 mod reporting;
 mod row;
 mod speeds;
+mod sums;
 mod supply;
+mod table;
+mod telling;
 mod ticking;
 mod trip;
 mod writing;
 
 pub use expected::Expected;
-pub use expecting::expect;
+pub use expecting::{expect, explain};
+pub use explained::{Explained, Group, Sums, Taken, Way};
 pub use generated::{generated_drives_mean_their_lines, generated_events};
 pub use generator::Generator;
 pub use judging::{Verdict, judge, verdicts_name_the_first_fault};

@@ -2,9 +2,10 @@
 ghost use Rattle.std.specs.Prelude.{◌≡◌, map, get_or, Option};
 ghost use Rattle.std.specs.Option.{option_map};
 ghost use Rattle.tariff_calendar.specs.Lists.{is_holiday};
-ghost use Rattle.tariff_check.specs.Parts.{initials_of, minimums_of, rates_of, supplement_of};
+ghost use Rattle.tariff_check.specs.Parts.{initial_part, initials_of, minimum_part, minimums_of, rates_of, supplement_of};
 ghost use Rattle.tariff_compile.specs.Tables.{supplement_in};
 ghost use Rattle.tariff_syntax.specs.Tree.{line_of};
+ghost use Rattle.verify_bench.specs.Groups.{line_numbers};
 ghost use Rattle.verify_bench.specs.Tree.{numbers_of};
 
 use tariff_compile::Supplement;
@@ -74,6 +75,38 @@ pub(crate) fn fee_at(lines: &[TariffLine], place: usize) -> Fee
         amount: 0,
         covers: 0,
     }
+}
+
+/// The number in the text of the initial line at a place among the initial lines, from 0.
+pub(crate) fn fee_line_at(lines: &[TariffLine], place: usize) -> u32
+    ensures { result ≡ get_or (line_numbers initial_part (map line_of lines.now)) place 0 }
+{
+    let mut before = place;
+    for line in lines {
+        if let Item::Initial(_) = &line.item {
+            if before == 0 {
+                return line.line;
+            }
+            before -= 1;
+        }
+    }
+    0
+}
+
+/// The number in the text of the minimum line at a place among the minimum lines, from 0.
+pub(crate) fn minimum_line_at(lines: &[TariffLine], place: usize) -> u32
+    ensures { result ≡ get_or (line_numbers minimum_part (map line_of lines.now)) place 0 }
+{
+    let mut before = place;
+    for line in lines {
+        if let Item::Minimum(_) = &line.item {
+            if before == 0 {
+                return line.line;
+            }
+            before -= 1;
+        }
+    }
+    0
 }
 
 /// The minimum fare at a place among the minimum lines, from 0.

@@ -1,4 +1,4 @@
-//! The meter of the bench: it keeps each interval of a trip, and adds up at its end.
+//! The meter of the bench: it charges each interval of a trip as it ends, and adds up by rates and ways.
 #![tactic(auto, using(crate::proofs::Benches::looser))]
 
 ghost use Rattle.std.specs.Prelude.{◌≡◌, ℕ, ◌+◌, ◌-◌, ◌≤◌, ◌<◌, None, OnOk, true};
@@ -6,20 +6,21 @@ ghost use Rattle.meter_states.specs.Closing.{closed, roaming_checked, roaming_en
 ghost use Rattle.meter_states.specs.Interval.{context_on, interval_counted, interval_left, pulses_so_far, ticks_so_far, with_interval, with_roaming};
 ghost use Rattle.meter_states.specs.Meter.{Meter};
 ghost use Rattle.meter_states.specs.Setting.{Setting, local_at};
-ghost use Rattle.meter_states.specs.Trip.{Trip, fare_of, pulses_of, ticks_of};
+ghost use Rattle.meter_states.specs.Trip.{InHired, InStopped, Rest};
+ghost use Rattle.tariff_syntax.specs.declared.context.Context as contexts;
 ghost use Rattle.taxi_units.specs.Time.{IsSecond, last_tick, longest_trip};
 ghost use Rattle.taxi_units.specs.declared.event.Operating.TheVariants.{ForHire, Off};
 ghost use Rattle.totaliser_store.specs.Entries.{is_of_hiring};
-ghost use Rattle.verify_bench.specs.Hirings.{IsTrip, IsWhole, part_of, part_pulses, part_ticks};
-ghost use Rattle.pulse_input.specs.Distance.{millimetres_of};
-ghost use Rattle.verify_bench.specs.Settings.{setting_of};
+ghost use Rattle.verify_bench.specs.Settings.{setting_under};
 
-use crate::expected::Expected;
-use crate::hiring::{Hiring, Part};
+use crate::explained::Explained;
+use crate::hiring::Hiring;
 use crate::lookups::is_holiday;
+use crate::pricing::price_of;
+use crate::telling::{Closing, explained};
 use interval_clock::civil;
-use pulse_input::millimetres;
-use seal_store::Seal;
+use seal_store::Params;
+use std::alloc::Global;
 use std::sync::ledger::Ledger;
 use tariff_check::Checked;
 use tariff_syntax::Context;
@@ -56,23 +57,25 @@ impl PlainMeter {
     /// How many ticks the trip has, 0 without one.
     pub(crate) fn ticks(&self) -> u32
         requires { IsSound longest_trip 1 self.now }
-        ensures stands { (s : Setting) (m : Meter) → Stands s self.now m → result ≡ ticks_so_far m.trip }
+        ensures stands { (s : Setting) (m : Meter) (hired : contexts.Context) → Stands s hired self.now m
+            → result ≡ ticks_so_far m.trip }
         ensures own { HasTicks self.now.hiring result }
     {
         match &self.hiring {
             None => 0,
-            Some(hiring) => hiring.ticks,
+            Some(hiring) => hiring.whole.ticks,
         }
     }
 
     /// How many pulses the trip has, 0 without one.
     fn pulses(&self) -> u64
         requires { IsSound longest_trip 1 self.now }
-        ensures { (s : Setting) (m : Meter) → Stands s self.now m → result ≡ pulses_so_far m.trip }
+        ensures { (s : Setting) (m : Meter) (hired : contexts.Context) → Stands s hired self.now m
+            → result ≡ pulses_so_far m.trip }
     {
         match &self.hiring {
             None => 0,
-            Some(hiring) => hiring.pulses,
+            Some(hiring) => hiring.whole.pulses,
         }
     }
 
@@ -81,19 +84,20 @@ impl PlainMeter {
         &self,
         second: u64,
         checked: &Checked,
-        seal: &Seal,
+        params: &Params,
         steps: &mut Steps<L>,
     ) -> Context
         requires second { IsSecond second }
         requires sound { IsSound longest_trip 1 self.now }
-        ensures { (m : Meter) → Stands (setting_of checked.now seal.now) self.now m
-            → result ≡ context_on (setting_of checked.now seal.now)
-            (local_at (setting_of checked.now seal.now) second) m }
+        ensures { (m : Meter) (hired : contexts.Context)
+            → Stands (setting_under checked.now params.now) hired self.now m
+            → result ≡ context_on (setting_under checked.now params.now)
+            (local_at (setting_under checked.now params.now) second) m }
     {
-        let local = civil(&seal.params.offsets, second, steps);
+        let local = civil(&params.offsets, second, steps);
         let day = (local.year, local.month, local.date);
         Context {
-            constant: seal.params.constant,
+            constant: params.constant,
             position: self.position,
             zone: self.zone,
             weekday: local.weekday,
@@ -105,19 +109,24 @@ impl PlainMeter {
         }
     }
 
-    /// The trip is closed, and its receipt noted.
-    pub(crate) fn close(
+    /// The trip is closed at a second, and taken apart.
+    pub(crate) fn close<L: Ledger>(
         &mut self,
         kind: Kind,
+        finish: u64,
+        alloc: Global,
         checked: &Checked,
-        seal: &Seal,
-        found: &mut Vec<Expected>,
+        params: &Params,
+        found: &mut Vec<Explained>,
+        steps: &mut Steps<L>,
     ) -> Result<(), NoMemory>
         requires sound { IsSound longest_trip 1 self.old }
         requires kind { is_of_hiring kind ≡ true }
-        ensures moves { OnOk result ((finish : ℕ) → GoesThrough (setting_of checked.now seal.now)
+        requires finish { IsSecond finish }
+        ensures moves { OnOk result (GoesThrough (setting_under checked.now params.now)
             (λ s. closed s kind finish) self.old self.new found.old.items found.new.items) }
         ensures sound { OnOk result (IsSound last_tick 0 self.new) }
+        ensures none { OnOk result (self.new.hiring ≡ None) }
     {
         self.operating = Operating::ForHire;
         let hiring = self.hiring.take();
@@ -126,8 +135,14 @@ impl PlainMeter {
             Some(hiring) => {
                 self.number = self.number.saturating_add(1);
                 self.held = None;
-                let expected = receipt_of(&hiring, kind, checked, seal);
-                found.push(expected).map_err(|_| NoMemory)
+                let closing = Closing {
+                    kind,
+                    finish,
+                    position: self.position,
+                    number: self.number,
+                };
+                let explained = explained(alloc, &hiring, closing, checked, params, steps)?;
+                found.push(explained).map_err(|_| NoMemory)
             }
         }
     }
@@ -158,8 +173,8 @@ impl PlainMeter {
     /// The pulses of the interval are roamed, while the store takes hirings.
     fn roam_on(&mut self)
         requires sound { IsSound last_tick 0 self.old }
-        ensures stands { (s : Setting) (m : Meter) → Stands s self.old m
-            → Stands s self.new (with_roaming self.old.taken m) }
+        ensures stands { (s : Setting) (m : Meter) (hired : contexts.Context) → Stands s hired self.old m
+            → Stands s hired self.new (with_roaming self.old.taken m) }
         ensures sound { IsSound last_tick 0 self.new }
     {
         let pulses = self.taken;
@@ -169,18 +184,50 @@ impl PlainMeter {
         }
     }
 
-    /// The trip has an interval more.
-    fn add_part(&mut self, part: Part) -> Result<(), NoMemory>
+    /// The trip has an interval in Hired more, which began in a context.
+    fn add_hired(&mut self, x: &Context, checked: &Checked, params: &Params) -> Result<(), NoMemory>
         requires sound { IsSound last_tick 0 self.old }
-        requires slow { part_pulses part ≤ 2000 }
-        ensures stands { OnOk result ((s : Setting) (m : Meter) → Stands s self.old m
-            → Stands s self.new (with_interval (part_of part) m)) }
-        ensures sound { OnOk result (IsSound (last_tick + part_ticks part) (1 - part_ticks part) self.new) }
+        ensures stands { OnOk result ((m : Meter) (hired : contexts.Context)
+            → Stands (setting_under checked.now params.now) hired self.old m
+            → Stands (setting_under checked.now params.now) hired self.new
+            (with_interval (InHired self.old.taken x.now) m)) }
+        ensures sound { OnOk result (IsSound longest_trip 0 self.new) }
     {
+        let pulses = self.taken;
         self.taken = 0;
         match &mut self.hiring {
             None => Ok(()),
-            Some(hiring) => hiring.add(part),
+            Some(hiring) => hiring.add_hired(pulses, price_of(checked, params, x, pulses)),
+        }
+    }
+
+    /// The trip has an interval in Stopped more.
+    fn add_stopped(&mut self)
+        requires sound { IsSound last_tick 0 self.old }
+        ensures stands { (s : Setting) (m : Meter) (hired : contexts.Context) → Stands s hired self.old m
+            → Stands s hired self.new (with_interval (InStopped self.old.taken) m) }
+        ensures sound { IsSound longest_trip 0 self.new }
+    {
+        let pulses = self.taken;
+        self.taken = 0;
+        match &mut self.hiring {
+            None => {}
+            Some(hiring) => hiring.add_stopped(pulses),
+        }
+    }
+
+    /// The trip has the pulses of an unfinished interval more.
+    fn add_rest(&mut self)
+        requires sound { IsSound last_tick 0 self.old }
+        ensures stands { (s : Setting) (m : Meter) (hired : contexts.Context) → Stands s hired self.old m
+            → Stands s hired self.new (with_interval (Rest self.old.taken) m) }
+        ensures sound { IsSound last_tick 1 self.new }
+    {
+        let pulses = self.taken;
+        self.taken = 0;
+        match &mut self.hiring {
+            None => {}
+            Some(hiring) => hiring.add_rest(pulses),
         }
     }
 
@@ -188,13 +235,14 @@ impl PlainMeter {
     pub(crate) fn count_interval<L: Ledger>(
         &mut self,
         checked: &Checked,
-        seal: &Seal,
+        params: &Params,
         steps: &mut Steps<L>,
     ) -> Result<(), NoMemory>
         requires sound { IsSound last_tick 0 self.old }
-        ensures stands { OnOk result ((m : Meter) → Stands (setting_of checked.now seal.now) self.old m
-            → Stands (setting_of checked.now seal.now) self.new
-            (interval_counted (setting_of checked.now seal.now) m).next) }
+        ensures stands { OnOk result ((m : Meter) (hired : contexts.Context)
+            → Stands (setting_under checked.now params.now) hired self.old m
+            → Stands (setting_under checked.now params.now) hired self.new
+            (interval_counted (setting_under checked.now params.now) m).next) }
         ensures sound { OnOk result (IsSound longest_trip 0 self.new) }
     {
         match self.operating {
@@ -204,48 +252,28 @@ impl PlainMeter {
                 Ok(())
             }
             Operating::Hired => {
-                let x = self.context(self.began, checked, seal, steps);
-                self.add_part(Part::Hired(self.taken, x))?;
+                let x = self.context(self.began, checked, params, steps);
+                self.add_hired(&x, checked, params)?;
                 Ok(())
             }
-            Operating::Stopped => self.add_part(Part::Stopped(self.taken)),
+            Operating::Stopped => {
+                self.add_stopped();
+                Ok(())
+            }
         }
     }
 
     /// A supply drop leaves the interval unfinished.
-    pub(crate) fn leave_interval(&mut self) -> Result<(), NoMemory>
+    pub(crate) fn leave_interval(&mut self)
         requires sound { IsSound last_tick 0 self.old }
-        ensures stands { OnOk result ((s : Setting) (m : Meter) → Stands s self.old m
-            → Stands s self.new (interval_left m).next) }
-        ensures sound { OnOk result (IsSound last_tick 1 self.new) }
+        ensures stands { (s : Setting) (m : Meter) (hired : contexts.Context) → Stands s hired self.old m
+            → Stands s hired self.new (interval_left m).next }
+        ensures sound { IsSound last_tick 1 self.new }
     {
         match self.operating {
-            Operating::Off => Ok(()),
-            Operating::ForHire => {
-                self.roam_on();
-                Ok(())
-            }
-            Operating::Hired | Operating::Stopped => self.add_part(Part::Rest(self.taken)),
+            Operating::Off => {}
+            Operating::ForHire => self.roam_on(),
+            Operating::Hired | Operating::Stopped => self.add_rest(),
         }
-    }
-}
-
-/// What the receipt of a trip says.
-fn receipt_of(hiring: &Hiring, kind: Kind, checked: &Checked, seal: &Seal) -> Expected
-    requires whole { IsWhole hiring.now }
-    requires ticks { hiring.now.ticks ≤ longest_trip }
-    ensures { (trip : Trip) → IsTrip (setting_of checked.now seal.now) hiring.now trip → result
-        ≡ record {
-          kind = kind;
-          fare = fare_of (setting_of checked.now seal.now) trip;
-          hired_mm = millimetres_of seal.now.params.constant (pulses_of trip);
-          ticks = ticks_of trip;
-        } }
-{
-    Expected {
-        kind,
-        fare: hiring.fare(checked, seal),
-        hired_mm: millimetres(seal.params.constant, hiring.pulses),
-        ticks: hiring.ticks,
     }
 }

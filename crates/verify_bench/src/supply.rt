@@ -1,51 +1,57 @@
 //! What the supply does to the meter of the bench.
 ghost use Rattle.std.specs.Prelude.{◌≡◌, ◌+◌, ◌<◌, ◌&&◌, nat_le, None, Some, OnOk};
-ghost use Rattle.meter_states.specs.Interval.{ticks_so_far};
 ghost use Rattle.meter_states.specs.Meter.{Meter, held};
 ghost use Rattle.meter_states.specs.Trip.{Trip, held_trip};
 ghost use Rattle.meter_states.specs.Run.{ended};
 ghost use Rattle.meter_states.specs.Setting.{Setting};
 ghost use Rattle.meter_states.specs.Supply.{aborted, hold_taken, is_stopped, kept, powered, resumed, supply_came, supply_dropped};
+ghost use Rattle.tariff_syntax.specs.declared.context.Context.{Context};
 ghost use Rattle.taxi_units.specs.Limits.{last_number};
 ghost use Rattle.taxi_units.specs.Time.{IsSecond, last_tick};
+ghost use Rattle.taxi_units.specs.declared.event.Event.TheVariants.{Down};
 ghost use Rattle.taxi_units.specs.declared.event.Operating.TheVariants.{Off};
 ghost use Rattle.totaliser_store.specs.declared.trip.Trip as store;
 ghost use Rattle.verify_bench.specs.Bench.{held_of};
-ghost use Rattle.verify_bench.specs.Settings.{setting_of};
+ghost use Rattle.verify_bench.specs.Settings.{setting_under};
 ghost use Rattle.verify_bench.specs.Supplied.{waking};
 
-use crate::expected::Expected;
+use crate::explained::Explained;
 use crate::plain_meter::{Held, PlainMeter};
-use seal_store::Seal;
+use seal_store::Params;
+use std::alloc::Global;
+use std::sync::ledger::Ledger;
 use tariff_check::Checked;
-use taxi_units::{Kind, LAST_NUMBER, NoMemory, Operating};
+use taxi_units::{Kind, LAST_NUMBER, NoMemory, Operating, Steps};
 
 impl PlainMeter {
-    ghost use Rattle.verify_bench.specs.Bench.{GoesThrough, GoesThroughQuietly, IsSound, Moves, Stands};
+    ghost use Rattle.verify_bench.specs.Bench.{GoesThrough, GoesThroughEvent, GoesThroughQuietly, IsSound, Moves, Stands};
 
     /// The supply comes.
-    pub(crate) fn come_up(
+    pub(crate) fn come_up<L: Ledger>(
         &mut self,
         second: u64,
+        alloc: Global,
         checked: &Checked,
-        seal: &Seal,
-        found: &mut Vec<Expected>,
+        params: &Params,
+        found: &mut Vec<Explained>,
+        steps: &mut Steps<L>,
     ) -> Result<(), NoMemory>
         requires sound { IsSound last_tick 0 self.old }
         requires second { IsSecond second }
-        ensures moves { OnOk result (GoesThrough (setting_of checked.now seal.now) (λ s. supply_came s second)
+        ensures moves { OnOk result (GoesThrough (setting_under checked.now params.now) (λ s. supply_came s second)
             self.old self.new found.old.items found.new.items) }
         ensures sound { OnOk result (IsSound last_tick 0 self.new) }
     {
         self.wake(second);
-        self.take_hold(second, checked, seal, found)
+        self.take_hold(second, alloc, checked, params, found, steps)
     }
 
     /// It is powered, and still off.
     fn wake(&mut self, second: u64)
         requires sound { IsSound last_tick 0 self.old }
         requires second { IsSecond second }
-        ensures stands { (s : Setting) (m : Meter) → Stands s self.old m → Stands s self.new (waking second m) }
+        ensures stands { (s : Setting) (m : Meter) (hired : Context) → Stands s hired self.old m
+            → Stands s hired self.new (waking second m) }
         ensures sound { IsSound last_tick 0 self.new }
     {
         self.operating = Operating::Off;
@@ -59,18 +65,21 @@ impl PlainMeter {
     }
 
     /// What becomes of the held trip.
-    fn take_hold(
+    fn take_hold<L: Ledger>(
         &mut self,
         second: u64,
+        alloc: Global,
         checked: &Checked,
-        seal: &Seal,
-        found: &mut Vec<Expected>,
+        params: &Params,
+        found: &mut Vec<Explained>,
+        steps: &mut Steps<L>,
     ) -> Result<(), NoMemory>
         requires sound { IsSound last_tick 0 self.old }
         requires second { IsSecond second }
-        ensures moves { OnOk result ((m : Meter) → Stands (setting_of checked.now seal.now) self.old (waking second m)
-            → Moves (setting_of checked.now seal.now) (ticks_so_far m.trip) found.old.items found.new.items self.new
-            (hold_taken (setting_of checked.now seal.now) second m.durable.hold (powered second m))) }
+        ensures moves { OnOk result ((m : Meter) (hired : Context)
+            → Stands (setting_under checked.now params.now) hired self.old (waking second m)
+            → Moves (setting_under checked.now params.now) hired hired m.trip found.old.items found.new.items self.new
+            (hold_taken (setting_under checked.now params.now) second m.durable.hold (powered second m))) }
         ensures sound { OnOk result (IsSound last_tick 0 self.new) }
     {
         match self.held {
@@ -80,11 +89,11 @@ impl PlainMeter {
                 Ok(())
             }
             Some(held) => {
-                if is_within(held, second, seal.params.hold) {
+                if is_within(held, second, params.hold) {
                     self.resume(held);
                     Ok(())
                 } else {
-                    self.abort(held, checked, seal, found)?;
+                    self.abort(held, alloc, checked, params, found, steps)?;
                     Ok(())
                 }
             }
@@ -108,54 +117,69 @@ impl PlainMeter {
     }
 
     /// A held trip is closed at its position.
-    fn abort(
+    fn abort<L: Ledger>(
         &mut self,
         held: Held,
+        alloc: Global,
         checked: &Checked,
-        seal: &Seal,
-        found: &mut Vec<Expected>,
+        params: &Params,
+        found: &mut Vec<Explained>,
+        steps: &mut Steps<L>,
     ) -> Result<(), NoMemory>
         requires sound { IsSound last_tick 0 self.old }
+        requires saved { IsSecond held.saved }
         ensures moves { OnOk result ((trip : store.Trip) → held ≡ held_of trip
-            → GoesThrough (setting_of checked.now seal.now) (λ s. aborted s trip)
+            → GoesThrough (setting_under checked.now params.now) (λ s. aborted s trip)
             self.old self.new found.old.items found.new.items) }
         ensures sound { OnOk result (IsSound last_tick 0 self.new) }
     {
         self.position = held.position;
-        self.close(Kind::Aborted, checked, seal, found)?;
+        self.close(
+            Kind::Aborted,
+            held.saved,
+            alloc,
+            checked,
+            params,
+            found,
+            steps,
+        )?;
         self.position = 1;
         self.zone = 1;
         Ok(())
     }
 
     /// The supply drops.
-    pub(crate) fn go_down(
+    pub(crate) fn go_down<L: Ledger>(
         &mut self,
+        alloc: Global,
         checked: &Checked,
-        seal: &Seal,
-        found: &mut Vec<Expected>,
+        params: &Params,
+        found: &mut Vec<Explained>,
+        steps: &mut Steps<L>,
     ) -> Result<(), NoMemory>
         requires sound { IsSound last_tick 0 self.old }
-        ensures moves { OnOk result (GoesThrough (setting_of checked.now seal.now) supply_dropped
+        ensures moves { OnOk result (GoesThroughEvent (setting_under checked.now params.now) Down supply_dropped
             self.old self.new found.old.items found.new.items) }
         ensures sound { OnOk result (IsSound last_tick 0 self.new) }
     {
-        self.leave_interval()?;
-        self.keep(checked, seal, found)?;
+        self.leave_interval();
+        self.keep(alloc, checked, params, found, steps)?;
         self.operating = Operating::Off;
         self.latch = None;
         Ok(())
     }
 
     /// A trip is held, or closed; without one roaming is entered.
-    fn keep(
+    fn keep<L: Ledger>(
         &mut self,
+        alloc: Global,
         checked: &Checked,
-        seal: &Seal,
-        found: &mut Vec<Expected>,
+        params: &Params,
+        found: &mut Vec<Explained>,
+        steps: &mut Steps<L>,
     ) -> Result<(), NoMemory>
         requires sound { IsSound last_tick 1 self.old }
-        ensures moves { OnOk result (GoesThrough (setting_of checked.now seal.now) (λ s m. kept s m.trip m)
+        ensures moves { OnOk result (GoesThrough (setting_under checked.now params.now) (λ s m. kept s m.trip m)
             self.old self.new found.old.items found.new.items) }
         ensures sound { OnOk result (IsSound last_tick 0 self.new) }
     {
@@ -169,7 +193,15 @@ impl PlainMeter {
                     self.hold();
                     return Ok(());
                 }
-                self.close(Kind::Aborted, checked, seal, found)
+                self.close(
+                    Kind::Aborted,
+                    self.clock,
+                    alloc,
+                    checked,
+                    params,
+                    found,
+                    steps,
+                )
             }
         }
     }
@@ -206,20 +238,22 @@ impl PlainMeter {
     }
 
     /// The drive ends: the supply drops, where the meter is powered.
-    pub(crate) fn end(
+    pub(crate) fn end<L: Ledger>(
         &mut self,
+        alloc: Global,
         checked: &Checked,
-        seal: &Seal,
-        found: &mut Vec<Expected>,
+        params: &Params,
+        found: &mut Vec<Explained>,
+        steps: &mut Steps<L>,
     ) -> Result<(), NoMemory>
         requires sound { IsSound last_tick 0 self.old }
-        ensures { OnOk result (GoesThrough (setting_of checked.now seal.now) ended
+        ensures { OnOk result (GoesThroughEvent (setting_under checked.now params.now) Down ended
             self.old self.new found.old.items found.new.items) }
     {
         match self.operating {
             Operating::Off => Ok(()),
             Operating::ForHire | Operating::Hired | Operating::Stopped => {
-                self.go_down(checked, seal, found)
+                self.go_down(alloc, checked, params, found, steps)
             }
         }
     }

@@ -1,37 +1,37 @@
 //! What a tick does to the meter of the bench.
-ghost use Rattle.std.specs.Prelude.{OnOk};
-ghost use Rattle.meter_states.specs.Step.{expired, expired_or_pressed, ticked};
+ghost use Rattle.std.specs.Prelude.{◌≡◌, None, OnOk};
+ghost use Rattle.meter_states.specs.Step.{expired, ticked};
 ghost use Rattle.taxi_units.specs.Time.{last_tick, longest_trip};
 ghost use Rattle.taxi_units.specs.declared.event.Event.TheVariants.{Tick};
-ghost use Rattle.verify_bench.specs.Settings.{setting_of};
+ghost use Rattle.verify_bench.specs.Settings.{setting_under};
 
-use crate::expected::Expected;
+use crate::explained::Explained;
 use crate::plain_meter::PlainMeter;
-use seal_store::Seal;
+use seal_store::Params;
 use std::alloc::Global;
 use std::sync::ledger::Ledger;
 use tariff_check::Checked;
 use taxi_units::{Kind, LONGEST_TRIP, NoMemory, Steps};
 
 impl PlainMeter {
-    ghost use Rattle.verify_bench.specs.Bench.{GoesThrough, GoesThroughEvent, IsSound};
+    ghost use Rattle.verify_bench.specs.Bench.{GoesThrough, GoesThroughEvent, GoesThroughLatch, IsSound};
 
     /// A tick.
     pub(crate) fn tick<L: Ledger>(
         &mut self,
         alloc: Global,
         checked: &Checked,
-        seal: &Seal,
-        found: &mut Vec<Expected>,
+        params: &Params,
+        found: &mut Vec<Explained>,
         steps: &mut Steps<L>,
     ) -> Result<(), NoMemory>
         requires sound { IsSound last_tick 0 self.old }
-        ensures moves { OnOk result (GoesThroughEvent (setting_of checked.now seal.now) Tick ticked
+        ensures moves { OnOk result (GoesThroughEvent (setting_under checked.now params.now) Tick ticked
             self.old self.new found.old.items found.new.items) }
         ensures sound { OnOk result (IsSound last_tick 0 self.new) }
     {
-        self.count_interval(checked, seal, steps)?;
-        self.expire_or_press(alloc, checked, seal, found, steps)?;
+        self.count_interval(checked, params, steps)?;
+        self.expire_or_press(alloc, checked, params, found, steps)?;
         self.check_roaming();
         self.began = self.clock;
         Ok(())
@@ -43,23 +43,23 @@ impl PlainMeter {
         &mut self,
         alloc: Global,
         checked: &Checked,
-        seal: &Seal,
-        found: &mut Vec<Expected>,
+        params: &Params,
+        found: &mut Vec<Explained>,
         steps: &mut Steps<L>,
     ) -> Result<(), NoMemory>
         requires sound { IsSound longest_trip 0 self.old }
-        ensures moves { OnOk result (GoesThrough (setting_of checked.now seal.now) expired_or_pressed
+        ensures moves { OnOk result (GoesThroughLatch (setting_under checked.now params.now)
             self.old self.new found.old.items found.new.items) }
         ensures sound { OnOk result (IsSound last_tick 0 self.new) }
     {
         if self.ticks() >= LONGEST_TRIP {
-            self.expire(checked, seal, found)
+            self.expire(alloc, checked, params, found, steps)
         } else {
             match self.latch {
                 None => Ok(()),
                 Some(key) => {
                     self.latch = None;
-                    self.act(key, alloc, checked, seal, found, steps)
+                    self.act(key, alloc, checked, params, found, steps)
                 }
             }
         }
@@ -67,18 +67,29 @@ impl PlainMeter {
 
     /// The trip expires.
     #[tactic(auto, using(crate::proofs::Benches::looser))]
-    fn expire(
+    fn expire<L: Ledger>(
         &mut self,
+        alloc: Global,
         checked: &Checked,
-        seal: &Seal,
-        found: &mut Vec<Expected>,
+        params: &Params,
+        found: &mut Vec<Explained>,
+        steps: &mut Steps<L>,
     ) -> Result<(), NoMemory>
         requires sound { IsSound longest_trip 0 self.old }
-        ensures moves { OnOk result (GoesThrough (setting_of checked.now seal.now) expired
+        ensures moves { OnOk result (GoesThrough (setting_under checked.now params.now) expired
             self.old self.new found.old.items found.new.items) }
         ensures sound { OnOk result (IsSound last_tick 0 self.new) }
+        ensures none { OnOk result (self.new.hiring ≡ None) }
     {
-        self.close(Kind::Expired, checked, seal, found)?;
+        self.close(
+            Kind::Expired,
+            self.clock,
+            alloc,
+            checked,
+            params,
+            found,
+            steps,
+        )?;
         self.latch = None;
         Ok(())
     }

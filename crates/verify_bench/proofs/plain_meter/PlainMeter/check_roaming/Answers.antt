@@ -9,6 +9,6 @@ enter_roaming-requires-clause-none c =
     c.requires.sound.for_hire (elim c.match-matches.branch [ in-ForHire w ↦ w.in-ForHire.is | in_default w ↦ absurd cc ])
 
 pub returns-then-self-ge-ROAMING_MOST-clause-moves : goal.returns-then-self-ge-ROAMING_MOST-clause-moves
-returns-then-self-ge-ROAMING_MOST-clause-moves c s ticks found m stands =
+returns-then-self-ge-ROAMING_MOST-clause-moves c s trip found m hired next stands =
     let here : c.args.self.now.operating ≡ ForHire = elim c.match-matches.branch [ in-ForHire w ↦ w.in-ForHire.is | in_default w ↦ absurd cc ] in
-    rw (roams s c.args.self.now m stands here c.if-self-ge-ROAMING_MOST.true) (c.enter_roaming.ensures.moves s ticks found m stands)
+    rw (roams s next c.args.self.now m stands here c.if-self-ge-ROAMING_MOST.true) (c.enter_roaming.ensures.moves s trip found m hired next stands)

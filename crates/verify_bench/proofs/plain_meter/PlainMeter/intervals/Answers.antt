@@ -1,17 +1,17 @@
 use Rattle.drive_text.specs.Runs.{interval_events, intervals_events}
-use Rattle.verify_bench.specs.Settings.{setting_of}
+use Rattle.verify_bench.specs.Settings.{setting_under}
 use Rattle.verify_bench.proofs.Carried.{carries_none, carries_then, intervals_more}
 use Rattle.verify_bench.proofs.plain_meter.PlainMeter.intervals.Goals as goal
 
 pub loop-place-init : goal.loop-place-init
 loop-place-init g c = record {
-  carries = carries_none (setting_of c.args.checked.now c.args.seal.now) c.args.self.now c.args.found.now.items;
+  carries = carries_none (setting_under c.args.checked.now c.args.params.now) c.args.self.now c.args.found.now.items;
   sound = c.requires.sound;
 }
 
 pub loop-place-preserved : goal.loop-place-preserved
 loop-place-preserved g c =
-    let s = setting_of c.args.checked.now c.args.seal.now in
+    let s = setting_under c.args.checked.now c.args.params.now in
     let done = c.loop-place in
     record {
       carries = rw (intervals_more c.args.pulses done.place) at (carries_then s (intervals_events c.args.pulses done.place) (interval_events c.args.pulses) c.args.self.now done.self c.interval.new.self

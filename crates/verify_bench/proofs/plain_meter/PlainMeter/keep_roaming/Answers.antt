@@ -3,5 +3,5 @@ use Rattle.verify_bench.proofs.BenchSupply.{keeps_roaming}
 use Rattle.verify_bench.proofs.plain_meter.PlainMeter.keep_roaming.Goals as goal
 
 pub returns-clause-moves : goal.returns-clause-moves
-returns-clause-moves c s ticks found m stands =
-    rw (keeps_roaming s c.args.self.now m stands c.requires.none (omega arith)) (c.enter_roaming.ensures.moves s ticks found m stands)
+returns-clause-moves c s trip found m hired next stands =
+    rw (keeps_roaming s next c.args.self.now m stands c.requires.none (omega arith)) (c.enter_roaming.ensures.moves s trip found m hired next stands)

@@ -2,4 +2,4 @@ use Rattle.verify_bench.proofs.Benches.{ticks_beside}
 use Rattle.verify_bench.proofs.plain_meter.PlainMeter.ticks.Goals as goal
 
 pub returns-in-Some-clause-stands : goal.returns-in-Some-clause-stands
-returns-in-Some-clause-stands c s m stands = ticks_beside s c.args.self.now m c.in-Some.hiring 8640000 1 c.in-Some.is c.requires stands
+returns-in-Some-clause-stands c s m hired stands = ticks_beside s hired c.args.self.now m c.in-Some.hiring c.in-Some.is stands

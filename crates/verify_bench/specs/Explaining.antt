@@ -1,0 +1,156 @@
+-- Rules: why the fare of each hiring of a drive is what it is, by the whole list of its intervals.
+use Rattle.std.specs.Prelude.{ℕ, ◌==◌, List, [], ◌∷◌, ◌++◌, Option, Some, None, option_map, flat_map, filter, get_or, if◌then◌else◌}
+use Rattle.std.specs.List.{range_with_len}
+use Rattle.std.specs.Option.{unwrap_or}
+use Rattle.meter_states.specs.Interval.{context_now, interval_counted, interval_left, pulses_so_far, ticks_so_far}
+use Rattle.meter_states.specs.Meter.{Meter}
+use Rattle.meter_states.specs.Run.{ended, opened}
+use Rattle.meter_states.specs.Setting.{Setting}
+use Rattle.meter_states.specs.Step.{step}
+use Rattle.meter_states.specs.Supplements.{amount_in, times}
+use Rattle.meter_states.specs.Trip.{Part, Trip, charges_of}
+use Rattle.meter_states.specs.declared.act.Act.{Act}
+use Rattle.meter_states.specs.declared.act.Act.TheVariants as acts
+use Rattle.meter_states.specs.declared.act.Act.TheVariants.{Show, Refuse, Enter, Hold}
+use Rattle.tariff_check.specs.Parts.{initial_part, minimum_part}
+use Rattle.tariff_compile.specs.Tables.{initial_by, supplement_at}
+use Rattle.tariff_syntax.specs.Meaning.{initial_place, minimum_place}
+use Rattle.tariff_syntax.specs.Tree.{Tree}
+use Rattle.tariff_syntax.specs.declared.context.Context.{Context}
+use Rattle.taxi_units.specs.declared.event.Event.{Event}
+use Rattle.taxi_units.specs.declared.event.Event.TheVariants as events
+use Rattle.taxi_units.specs.declared.event.Key.{Key}
+use Rattle.taxi_units.specs.declared.event.Key.TheVariants.{Hire}
+use Rattle.taxi_units.specs.declared.event.Operating.{Operating}
+use Rattle.taxi_units.specs.declared.event.Operating.TheVariants.{ForHire}
+use Rattle.taxi_units.specs.declared.receipt.Receipt.{Receipt}
+use Rattle.totaliser_store.specs.States.{first_state}
+use Rattle.verify_bench.specs.Groups.{groups_of, is_rest, is_in_stopped, line_numbers, sums_of}
+use Rattle.verify_bench.specs.declared.explained.Explained.{Explained}
+use Rattle.verify_bench.specs.declared.explained.Group.{Group}
+use Rattle.verify_bench.specs.declared.explained.Sums.{Sums}
+use Rattle.verify_bench.specs.declared.explained.Taken.{Taken}
+
+-- an explanation of a hiring has its receipt, the line of its initial hire fee and what the fee covers, the line of its
+-- minimum fare, if it has one, the sums of its whole trip, the groups of its intervals in Hired, the sums of those in
+-- Stopped, the pulses of those that were left unfinished, and its supplements
+pub record Explanation : Type 0 where
+  pub receipt : Receipt
+  pub fee_line : ℕ
+  pub covers : ℕ
+  pub minimum_line : Option ℕ
+  pub whole : Sums
+  pub groups : List Group
+  pub stopped : Sums
+  pub dropped : ℕ
+  pub taken : List Taken
+
+-- a value of the program stands for the explanation with the same parts
+abbrev pub explanation_of : Explained → Explanation
+explanation_of e = record {
+  receipt = e.receipt;
+  fee_line = e.fee_line;
+  covers = e.covers;
+  minimum_line = e.minimum_line;
+  whole = e.whole;
+  groups = e.groups.items;
+  stopped = e.stopped;
+  dropped = e.dropped;
+  taken = e.taken.items;
+}
+
+-- the line of the initial hire fee of a context is the number in the text of the one that holds first at the hiring
+abbrev pub fee_line : Tree → Context → ℕ
+fee_line t x = get_or (line_numbers initial_part t.lines) (unwrap_or (initial_place t x) 0) 0
+
+-- the line of the minimum fare of a context is the number in the text of the one that holds first at the hiring, if
+-- one does
+abbrev pub minimum_line : Tree → Context → Option ℕ
+minimum_line t x = option_map (λ place. get_or (line_numbers minimum_part t.lines) place 0) (minimum_place t x)
+
+-- a supplement is taken where its number stands in a list, with its count there and its amount
+abbrev pub taken_if : Tree → (numbers : List ℕ) → (number : ℕ) → List Taken
+taken_if t numbers number =
+    if times number numbers == 0 then []
+    else record { number = number; count = times number numbers; amount = amount_in (supplement_at t number) } ∷ []
+
+-- the supplements that are taken in a list are those of the numbers 1 to 16, in order
+abbrev pub taken_of : Tree → (numbers : List ℕ) → List Taken
+taken_of t numbers = flat_map (taken_if t numbers) (range_with_len 1 16)
+
+-- the parts of a trip so far are its own, and none without a trip
+abbrev pub parts_so_far : Option Trip → List Part
+parts_so_far None = []
+parts_so_far (Some t) = t.parts
+
+-- the supplements of a trip so far are its own, and none without a trip
+abbrev pub extras_so_far : Option Trip → List ℕ
+extras_so_far None = []
+extras_so_far (Some t) = t.extras
+
+-- the charges of a trip so far are its own, and 0 without a trip
+abbrev pub charges_so_far : Setting → Option Trip → ℕ
+charges_so_far s None = 0
+charges_so_far s (Some t) = charges_of s t
+
+-- the whole of a trip so far is its pulses, its ticks and its charges
+abbrev pub whole_of : Setting → Option Trip → Sums
+whole_of s trip =
+    record { pulses = pulses_so_far trip; ticks = ticks_so_far trip; charge = charges_so_far s trip }
+
+-- the explanation of a receipt is by the context in which the trip was hired, and by all the trip's parts
+abbrev pub explanation : Setting → (hired : Context) → Option Trip → Receipt → Explanation
+explanation s hired trip receipt = record {
+  receipt = receipt;
+  fee_line = fee_line s.tariff hired;
+  covers = (initial_by s.tariff hired).covers;
+  minimum_line = minimum_line s.tariff hired;
+  whole = whole_of s trip;
+  groups = groups_of s (parts_so_far trip);
+  stopped = sums_of s (filter is_in_stopped (parts_so_far trip));
+  dropped = (sums_of s (filter is_rest (parts_so_far trip))).pulses;
+  taken = taken_of s.tariff (extras_so_far trip);
+}
+
+-- each receipt among acts is explained by the trip; no other act is
+abbrev pub explanations_in : Setting → (hired : Context) → Option Trip → List Act → List Explanation
+explanations_in s hired trip [] = []
+explanations_in s hired trip (Show display ∷ acts) = explanations_in s hired trip acts
+explanations_in s hired trip (Refuse why ∷ acts) = explanations_in s hired trip acts
+explanations_in s hired trip (Enter entry ∷ acts) = explanations_in s hired trip acts
+explanations_in s hired trip (Hold held ∷ acts) = explanations_in s hired trip acts
+explanations_in s hired trip (acts.Receipt receipt ∷ acts) =
+    explanation s hired trip receipt ∷ explanations_in s hired trip acts
+
+-- a trip that an event closes is the one that was there before; if the event is a tick, the interval that it ends
+-- belongs to it, and if it is a drop of the supply, the interval that it leaves unfinished
+abbrev pub trip_at : Setting → Event → Meter → Option Trip
+trip_at s events.Tick m = (interval_counted s m).next.trip
+trip_at s events.Down m = (interval_left m).next.trip
+trip_at s (events.Up second) m = m.trip
+trip_at s (events.Pulses pulses) m = m.trip
+trip_at s (events.Clock second) m = m.trip
+trip_at s (events.Key key) m = m.trip
+
+-- as the key Hire acts for hire, a trip is hired in the context of now; otherwise the last hiring's context stays
+abbrev pub hired_by : Option Key → Operating → (now hired : Context) → Context
+hired_by (Some Hire) ForHire now hired = now
+hired_by latch operating now hired = hired
+
+-- the key that waits acts at a tick, in the operating position of the meter
+abbrev pub hired_at : Setting → Event → Meter → (hired : Context) → Context
+hired_at s events.Tick m hired = hired_by m.latch m.operating (context_now s m) hired
+hired_at s event m hired = hired
+
+-- a list of events comes to the explanations of its receipts, event by event, and of the supply drop at its end
+unfoldable pub explanations_from : Setting → List Event → Meter → (hired : Context) → List Explanation
+explanations_from s [] m hired = explanations_in s hired (trip_at s events.Down m) (ended s m).acts
+explanations_from s (event ∷ events) m hired =
+    explanations_in s hired (trip_at s event m) (step s event m).acts
+    ++ explanations_from s events (step s event m).next (hired_at s event m hired)
+
+-- a drive comes to the explanations of its events from the meter that is opened on a new store, where no trip is hired
+-- yet
+abbrev pub explanations_of : Setting → List Event → List Explanation
+explanations_of s events =
+    explanations_from s events (opened s first_state) (context_now s (opened s first_state))

@@ -1,0 +1,236 @@
+//! What a hiring that is closed comes to: its receipt, and why its fare is what it is.
+ghost use Rattle.std.specs.Prelude.{◌≡◌, ℕ, ◌+◌, ◌*◌, ◌<◌, ◌≤◌, ◌++◌, [], List, Some, map, flat_map, All, IfOk, OnOk};
+ghost use Rattle.std.specs.List.{range_with_len};
+ghost use Rattle.meter_states.specs.Closing.{receipt_of};
+ghost use Rattle.meter_states.specs.Kept.{IsSupplementNumber};
+ghost use Rattle.meter_states.specs.Setting.{Setting, stamp_at};
+ghost use Rattle.meter_states.specs.Supplements.{amount_in, amounts_of, times};
+ghost use Rattle.meter_states.specs.Trip.{Part, Trip};
+ghost use Rattle.tariff_check.specs.Parts.{rate_part};
+ghost use Rattle.tariff_compile.specs.Tables.{supplement_at};
+ghost use Rattle.tariff_syntax.specs.Tree.{line_of, tree_of};
+ghost use Rattle.tariff_syntax.specs.declared.context.Context.{Context};
+ghost use Rattle.taxi_units.specs.Time.{IsSecond, longest_trip};
+ghost use Rattle.verify_bench.specs.Explaining.{explanation, explanation_of, taken_if, taken_of};
+ghost use Rattle.verify_bench.specs.Gathered.{IsTableOf, all_ways};
+ghost use Rattle.verify_bench.specs.Groups.{group_if, groups_at, groups_from, line_numbers};
+ghost use Rattle.verify_bench.specs.Hirings.{IsTrip, IsWhole};
+ghost use Rattle.verify_bench.specs.Settings.{setting_under};
+
+use crate::explained::{Explained, Group, Sums, Taken, Way};
+use crate::fares::{fare_shown, steps_shown};
+use crate::hiring::Hiring;
+use crate::lookups::supplement_at;
+use crate::sums::RateSums;
+use interval_clock::civil;
+use pulse_input::millimetres;
+use seal_store::Params;
+use std::alloc::Global;
+use std::sync::ledger::Ledger;
+use tariff_check::Checked;
+use tariff_syntax::{Item, TariffLine};
+use taxi_units::{Kind, NoMemory, Receipt, Stamp, Steps};
+
+/// How a hiring is closed: its kind, its second, the tariff position, and the store's number behind the
+/// entry.
+#[derive(Clone, Copy)]
+pub(crate) struct Closing {
+    pub(crate) kind: Kind,
+    pub(crate) finish: u64,
+    pub(crate) position: u8,
+    pub(crate) number: u64,
+}
+
+/// A hiring that is closed, taken apart.
+pub(crate) fn explained<L: Ledger>(
+    alloc: Global,
+    hiring: &Hiring,
+    closing: Closing,
+    checked: &Checked,
+    params: &Params,
+    steps: &mut Steps<L>,
+) -> Result<Explained, NoMemory>
+    requires whole { IsWhole hiring.now }
+    requires ticks { hiring.now.whole.ticks ≤ longest_trip }
+    requires finish { IsSecond closing.finish }
+    ensures { IfOk result (λ explained. (hired : Context) (trip : Trip)
+        → IsTrip (setting_under checked.now params.now) hired hiring.now trip → explanation_of explained
+        ≡ explanation (setting_under checked.now params.now) hired (Some trip)
+        (receipt_of (setting_under checked.now params.now)
+        closing.kind closing.finish closing.position trip closing.number)) }
+{
+    let lines = checked.tariff().lines.as_slice();
+    let receipt = receipt(hiring, closing, checked, params, steps);
+    let groups = groups(alloc, lines, hiring.rates.as_slice())?;
+    let taken = taken(alloc, hiring, checked)?;
+    Ok(Explained {
+        receipt,
+        fee_line: hiring.fee.fee_line,
+        covers: hiring.fee.initial.covers,
+        minimum_line: hiring.fee.minimum_line,
+        whole: hiring.whole,
+        groups,
+        stopped: hiring.stopped,
+        dropped: hiring.dropped,
+        taken,
+    })
+}
+
+/// The receipt.
+fn receipt<L: Ledger>(
+    hiring: &Hiring,
+    closing: Closing,
+    checked: &Checked,
+    params: &Params,
+    steps: &mut Steps<L>,
+) -> Receipt
+    requires whole { IsWhole hiring.now }
+    requires ticks { hiring.now.whole.ticks ≤ longest_trip }
+    requires finish { IsSecond closing.finish }
+    ensures { (hired : Context) (trip : Trip)
+        → IsTrip (setting_under checked.now params.now) hired hiring.now trip
+        → result ≡ receipt_of (setting_under checked.now params.now)
+        closing.kind closing.finish closing.position trip closing.number }
+{
+    let (step, _) = checked.step();
+    let fee = hiring.fee.initial;
+    let start = stamp(params, hiring.started, steps);
+    let finish = stamp(params, closing.finish, steps);
+    let hired_mm = millimetres(params.constant, hiring.whole.pulses);
+    let shown = steps_shown(checked, params, fee, hiring.whole.charge);
+    let fare = fare_shown(fee, step, shown);
+    let sum = supplements(hiring, checked);
+    Receipt {
+        number: closing.number,
+        kind: closing.kind,
+        start,
+        finish,
+        position: closing.position,
+        hired_mm,
+        initial: fee.amount,
+        minimum: fee.minimum,
+        steps: shown.min(u64::MAX as u128) as u64,
+        step,
+        fare,
+        supplements: sum,
+        decimals: checked.tariff().decimals,
+    }
+}
+
+/// The local date and time at a second.
+fn stamp<L: Ledger>(params: &Params, second: u64, steps: &mut Steps<L>) -> Stamp
+    requires { IsSecond second }
+    ensures { (s : Setting) → s.offsets ≡ params.now.offsets → result ≡ stamp_at s second }
+{
+    let local = civil(&params.offsets, second, steps);
+    Stamp {
+        year: local.year,
+        month: local.month,
+        date: local.date,
+        second: local.second,
+    }
+}
+
+/// The groups of the rate lines, of which a table has the sums.
+fn groups(alloc: Global, lines: &[TariffLine], table: &[RateSums]) -> Result<Vec<Group>, NoMemory>
+    ensures { IfOk result (λ groups. (s : Setting) (parts : List Part) → IsTableOf s parts table.now
+        → groups.items ≡ groups_from s parts 0 (line_numbers rate_part (map line_of lines.now))) }
+{
+    let mut groups = Vec::new(alloc);
+    let mut place = 0;
+    for line in lines {
+        if let Item::Rate(_) = &line.item {
+            put_groups(&mut groups, line.line, sums_at(table, place))?;
+            place += 1;
+        }
+    }
+    Ok(groups)
+}
+
+/// The sums of the rate at a place.
+fn sums_at(table: &[RateSums], place: usize) -> RateSums
+    ensures { (s : Setting) (parts : List Part) → IsTableOf s parts table.now → result ≡ all_ways s parts place }
+{
+    match table.get(place) {
+        None => RateSums::new(),
+        Some(sums) => *sums,
+    }
+}
+
+/// The groups of a rate line.
+fn put_groups(groups: &mut Vec<Group>, line: u32, sums: RateSums) -> Result<(), NoMemory>
+    ensures { OnOk result ((s : Setting) (parts : List Part) (place : ℕ) → sums ≡ all_ways s parts place
+        → groups.new.items ≡ groups.old.items ++ groups_at s parts place line) }
+{
+    put_group(groups, line, Way::Distance, sums.distance)?;
+    put_group(groups, line, Way::Time, sums.time)?;
+    put_group(groups, line, Way::Both, sums.both)
+}
+
+/// A group, where it has an interval.
+fn put_group(groups: &mut Vec<Group>, line: u32, way: Way, sums: Sums) -> Result<(), NoMemory>
+    ensures { OnOk result (groups.new.items ≡ groups.old.items ++ group_if line way sums) }
+{
+    if sums.ticks == 0 {
+        return Ok(());
+    }
+    groups.push(Group { line, way, sums }).map_err(|_| NoMemory)
+}
+
+/// The supplements that were added, by their numbers.
+fn taken(alloc: Global, hiring: &Hiring, checked: &Checked) -> Result<Vec<Taken>, NoMemory>
+    requires { IsWhole hiring.now }
+    ensures { IfOk result (λ taken. taken.items ≡ taken_of (tree_of checked.now) hiring.now.extras.items) }
+{
+    let mut taken = Vec::new(alloc);
+    for number in 1..17u8 {
+        put_taken(&mut taken, number, hiring, checked)?;
+    }
+    Ok(taken)
+}
+
+/// The supplement of a number, where it was added.
+fn put_taken(
+    taken: &mut Vec<Taken>,
+    number: u8,
+    hiring: &Hiring,
+    checked: &Checked,
+) -> Result<(), NoMemory>
+    requires { IsWhole hiring.now }
+    ensures { OnOk result (taken.new.items
+        ≡ taken.old.items ++ taken_if (tree_of checked.now) hiring.now.extras.items number) }
+{
+    let count = hiring.times(number);
+    if count == 0 {
+        return Ok(());
+    }
+    let taken_now = Taken {
+        number,
+        count: count as u8,
+        amount: amount_of(number, checked),
+    };
+    taken.push(taken_now).map_err(|_| NoMemory)
+}
+
+/// What a supplement costs, 0 where the tariff has none of its number.
+fn amount_of(number: u8, checked: &Checked) -> u64
+    ensures amount { result ≡ amount_in (supplement_at (tree_of checked.now) number) }
+    ensures most { result ≤ 1000000 }
+{
+    match supplement_at(checked.tariff().lines.as_slice(), number) {
+        None => 0,
+        Some(supplement) => supplement.amount,
+    }
+}
+
+/// What the supplements cost together.
+fn supplements(hiring: &Hiring, checked: &Checked) -> u64
+    requires { IsWhole hiring.now }
+    ensures { result ≡ amounts_of (tree_of checked.now) hiring.now.extras.items }
+{
+    let mut sum = 0;
+    for number in 1..17u8 {
+        sum += hiring.times(number) as u64 * amount_of(number, checked);
+    }
+    sum
+}
