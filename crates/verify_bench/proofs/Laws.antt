@@ -1,25 +1,34 @@
 -- The laws of this crate, as its public empty functions state them.
-use Rattle.std.proofs.Common.{◌≡◌, ◌≢◌, ◌↔◌, ℕ, ◌<◌, ◌≤◌, true, List, None, Result, Err, length, map}
+use Rattle.std.proofs.Common.{◌≡◌, ◌≢◌, ◌↔◌, ℕ, ◌<◌, ◌≤◌, true, All, List, None, Result, Err, length, map}
 use Rattle.drive_text.specs.Drive.{bad_at_end, runs_in}
 use Rattle.drive_text.specs.Ending.{drive_limit}
+use Rattle.drive_modes.specs.declared.charges.Mode.{Mode}
+use Rattle.meter_states.specs.Charge.{charge_by}
 use Rattle.meter_states.specs.Run.{actions_of}
 use Rattle.meter_states.specs.Setting.{Setting}
+use Rattle.tariff_check.specs.Faults.{IsSound}
+use Rattle.tariff_check.specs.Parts.{RateNumbers}
 use Rattle.taxi_units.specs.declared.event.Event.{Event}
 use Rattle.totaliser_store.specs.States.{first_state}
 use Rattle.verify_bench.specs.Expecting.{expected_of, hirings_in, untimed}
+use Rattle.verify_bench.specs.Explaining.{Explanation, explanations_of}
 use Rattle.verify_bench.specs.Generated.{generated, generated_lines}
+use Rattle.verify_bench.specs.Groups.{way_by}
 use Rattle.verify_bench.specs.Passing.{EachRowPasses, do_all_pass}
 use Rattle.verify_bench.specs.Readings.{IsReadAs, readings_in}
 use Rattle.verify_bench.specs.Verdicts.{IsVerdict, verdict_of}
+use Rattle.verify_bench.specs.Wholes.{ArePartsTheWhole, IsOfTrip, MakesReceipt, charge_in_way, receipts_in}
 use Rattle.verify_bench.specs.declared.expected.Expected.{Expected}
 use Rattle.verify_bench.specs.declared.judging.Verdict.{Verdict}
 use Rattle.verify_bench.specs.declared.reading.Reading.{Reading}
 use Rattle.verify_bench.specs.declared.reading.ReadingsFault.{ReadingsFault}
 use Rattle.verify_bench.specs.declared.reading.ReadingsFault.TheVariants.{NoMemory}
 use Rattle.verify_bench.proofs.EachPasses.{each_passes}
+use Rattle.verify_bench.proofs.Explanations.{explained_are_of_trips, receipts_explained}
 use Rattle.verify_bench.proofs.FirstFaults.{first_fault}
 use Rattle.verify_bench.proofs.GeneratedLaws.{generated_is_good, generated_is_short, generated_means_its_lines}
 use Rattle.verify_bench.proofs.OneReading.{one_reading}
+use Rattle.verify_bench.proofs.Partition.{all_add_up, all_make, ways_charge}
 use Rattle.verify_bench.proofs.ReceiptList.{expected_are_receipts}
 
 pub generated_drives_mean_their_lines-good : (seed trips : ℕ) → trips ≤ 1000 → bad_at_end (generated seed trips) ≡ None
@@ -33,6 +42,21 @@ generated_drives_mean_their_lines-short = generated_is_short
 
 pub expected_hirings_are_the_receipts : (s : Setting) (events : List Event) → map untimed (expected_of s events) ≡ hirings_in 0 (actions_of s first_state events)
 expected_hirings_are_the_receipts = expected_are_receipts
+
+pub explanations_have_the_receipts-receipts : (s : Setting) (events : List Event) → map (λ (e : Explanation). e.receipt) (explanations_of s events) ≡ receipts_in (actions_of s first_state events)
+explanations_have_the_receipts-receipts = receipts_explained
+
+pub explanations_have_the_receipts-trips : (s : Setting) (events : List Event) → All (IsOfTrip s) (explanations_of s events)
+explanations_have_the_receipts-trips = explained_are_of_trips
+
+pub explanations_add_up-whole : (s : Setting) (events : List Event) → IsSound s.tariff → All ArePartsTheWhole (explanations_of s events)
+explanations_add_up-whole = all_add_up
+
+pub explanations_add_up-receipt : (s : Setting) (events : List Event) → All (MakesReceipt s) (explanations_of s events)
+explanations_add_up-receipt = all_make
+
+pub explanations_add_up-ways : (mode : Mode) (k common : ℕ) (r : RateNumbers) (p : ℕ) → charge_by mode k common r p ≡ charge_in_way k common r p (way_by mode k r p)
+explanations_add_up-ways = ways_charge
 
 pub verdicts_name_the_first_fault : (expected : Expected) (reading : Reading) (step : ℕ) (verdict : Verdict)
     → (verdict_of expected reading step ≡ verdict) ↔ IsVerdict expected reading step verdict

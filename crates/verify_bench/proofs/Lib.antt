@@ -18,6 +18,8 @@ mod CrossOverLines
 mod CsvRows
 -- readings pass exactly where each row of the report does
 mod EachPasses
+-- explanations have the receipts and the trips of the run of the meter
+mod Explanations
 -- the fields of a row of csv, where it has three
 mod Fields
 -- a verdict is the first fault, and one only
@@ -36,6 +38,8 @@ mod Lines
 mod LinesRead
 -- a text of readings has one answer, which is that of the function
 mod OneReading
+-- the groups of parts, those in Stopped and those left unfinished are all parts
+mod Partition
 -- permissible errors, found by division
 mod Permitted
 -- the numbers of a generated drive are those that a line of a drive may have, and its bytes are few

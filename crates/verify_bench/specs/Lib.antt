@@ -25,4 +25,5 @@ pub mod Supplied
 pub mod Tree
 pub mod VerdictStages
 pub mod Verdicts
+pub mod Wholes
 pub mod Writing

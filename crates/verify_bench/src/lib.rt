@@ -30,6 +30,7 @@ mod table;
 mod telling;
 mod ticking;
 mod trip;
+mod wholes;
 mod writing;
 
 pub use expected::Expected;
@@ -44,3 +45,4 @@ pub use readings::{read_readings, texts_have_one_reading};
 pub use receipts::expected_hirings_are_the_receipts;
 pub use reporting::report;
 pub use speeds::cross_overs;
+pub use wholes::{explanations_add_up, explanations_have_the_receipts};

@@ -1,0 +1,8 @@
+use Rattle.verify_bench.proofs.Explanations.{explained_are_of_trips, receipts_explained}
+use Rattle.verify_bench.proofs.wholes.explanations_have_the_receipts.Goals as goal
+
+pub returns-clause-receipts : goal.returns-clause-receipts
+returns-clause-receipts c = receipts_explained
+
+pub returns-clause-trips : goal.returns-clause-trips
+returns-clause-trips c = explained_are_of_trips

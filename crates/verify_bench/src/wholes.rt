@@ -1,0 +1,32 @@
+//! What explanations are of, and what they add up to.
+ghost use Rattle.std.specs.Prelude.{◌≡◌, ℕ, List, All, map};
+ghost use Rattle.drive_modes.specs.declared.charges.Mode.{Mode};
+ghost use Rattle.meter_states.specs.Charge.{charge_by};
+ghost use Rattle.meter_states.specs.Run.{actions_of};
+ghost use Rattle.meter_states.specs.Setting.{Setting};
+ghost use Rattle.tariff_check.specs.Faults.{IsSound};
+ghost use Rattle.tariff_check.specs.Parts.{RateNumbers};
+ghost use Rattle.taxi_units.specs.declared.event.Event.{Event};
+ghost use Rattle.totaliser_store.specs.States.{first_state};
+ghost use Rattle.verify_bench.specs.Explaining.{Explanation, explanations_of};
+ghost use Rattle.verify_bench.specs.Groups.{way_by};
+ghost use Rattle.verify_bench.specs.Wholes.{ArePartsTheWhole, IsOfTrip, MakesReceipt, charge_in_way, receipts_in};
+
+/// A law: the explanations of a drive have the receipts of the meter's actions from a new store, one for
+/// each, in order; and each is of the trip that was closed with that receipt.
+pub fn explanations_have_the_receipts()
+    ensures receipts { (s : Setting) (events : List Event)
+        → map (λ (e : Explanation). e.receipt) (explanations_of s events)
+        ≡ receipts_in (actions_of s first_state events) }
+    ensures trips { (s : Setting) (events : List Event) → All (IsOfTrip s) (explanations_of s events) }
+{}
+
+/// A law: the parts of each explanation are the whole trip, under a sound tariff; the whole trip makes the
+/// receipt; and an interval is charged what its way says.
+pub fn explanations_add_up()
+    ensures whole { (s : Setting) (events : List Event)
+        → IsSound s.tariff → All ArePartsTheWhole (explanations_of s events) }
+    ensures receipt { (s : Setting) (events : List Event) → All (MakesReceipt s) (explanations_of s events) }
+    ensures ways { (mode : Mode) (k common : ℕ) (r : RateNumbers) (p : ℕ)
+        → charge_by mode k common r p ≡ charge_in_way k common r p (way_by mode k r p) }
+{}
