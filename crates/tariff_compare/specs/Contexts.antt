@@ -1,0 +1,82 @@
+-- Rules: the contexts that a meter under a tariff can have, and their order.
+use Rattle.std.specs.Prelude.{◌≡◌, ℕ, ◌+◌, ◌*◌, ◌^◌, ◌≤◌, if◌then◌else◌, nat_le, List, [], ◌∷◌, Option, Some, None, ℤ, pos, ◌+ℤ◌}
+use Rattle.interval_clock.specs.Calendar.{date_after, date_place, weekday_of}
+use Rattle.interval_clock.specs.LocalTime.{day_of, minute_of_day}
+use Rattle.interval_clock.specs.Offsets.{IsOffset}
+use Rattle.tariff_calendar.specs.Lists.{is_holiday}
+use Rattle.tariff_check.specs.Parts.{positions_of, zones_of}
+use Rattle.tariff_compile.specs.Cells.{IsBefore}
+use Rattle.tariff_syntax.specs.Tree.{Tree}
+use Rattle.tariff_syntax.specs.Writable.{IsFromTo}
+use Rattle.tariff_syntax.specs.declared.context.Context.{Context}
+use Rattle.taxi_units.specs.Time.{IsSecond, last_tick}
+use Rattle.tariff_compare.specs.declared.meter_context.MeterContext.{MeterContext}
+
+-- a day, told by its number, and a minute are ones of a meter if they are the local day and the minute of that day at
+-- one second of the meter under one offset of at most 14 hours to either side
+pub record IsMeterTime (day minute : ℕ) : Type 0 where
+  pub second : ℕ
+  pub offset : ℤ
+  pub second_in : IsSecond second
+  pub offset_in : IsOffset offset
+  pub day_is : day_of (pos second +ℤ offset) ≡ pos day
+  pub minute_is : minute_of_day (pos second +ℤ offset) ≡ minute
+
+-- a trip is asked about at no more pulses than these; no distance that a tariff can name is more pulses, so further
+-- pulses change nothing
+abbrev pub most_pulses : ℕ
+most_pulses = 20000000000000
+
+-- a context is one of a meter under a tariff if its position and zone are among the tariff's, its day and minute are
+-- the meter's, a trip that runs can have its ticks, and its pulses are at most 2 * 10^13
+pub record IsMeterContext (t : Tree) (m : MeterContext) : Type 0 where
+  pub position : IsFromTo 1 (positions_of t.lines) m.position
+  pub zone : IsFromTo 1 (zones_of t.lines) m.zone
+  pub time : IsMeterTime m.day m.minute
+  pub ticks : m.ticks ≤ last_tick
+  pub pulses : m.pulses ≤ most_pulses
+
+-- the conditions of a tariff are asked, in a context of a meter, under the meter's constant, with the weekday and the
+-- place in a leap year of the day, and whether the tariff has its date as a holiday
+abbrev pub context_at : Tree → (k : ℕ) → MeterContext → Context
+context_at t k m =
+    let date = date_after m.day in
+    record {
+      constant = k;
+      position = m.position;
+      zone = m.zone;
+      weekday = weekday_of (pos m.day);
+      month_day = date_place date.month date.date;
+      holiday = is_holiday t.lines date.year date.month date.date;
+      minute = m.minute;
+      pulses = m.pulses;
+      ticks = m.ticks;
+    }
+
+-- the day from which contexts are asked about first is 2026-01-01, told by its number
+abbrev pub first_day : ℕ
+first_day = 20454
+
+-- the place of a day in the order of days is such that those from 2026-01-01 on come first, and then those before it
+abbrev pub day_place : (day : ℕ) → ℕ
+day_place day = if nat_le first_day day then day else day + 84006
+
+-- the order of contexts is by position, zone, day, minute, ticks and pulses, of which an earlier one decides first
+abbrev pub order_of : MeterContext → List ℕ
+order_of m = m.position ∷ m.zone ∷ day_place m.day ∷ m.minute ∷ m.ticks ∷ m.pulses ∷ []
+
+-- a context is earlier than another if it comes before it in the order of contexts
+abbrev pub IsEarlier : (earlier later : MeterContext) → Type 0
+IsEarlier m n = IsBefore (order_of m) (order_of n)
+
+-- a context is the first one of a meter with a property if it is one of the meter and has the property, and no earlier
+-- one has it
+pub record IsFirst (t : Tree) (Has : MeterContext → Type 0) (m : MeterContext) : Type 0 where
+  pub context : IsMeterContext t m
+  pub has : Has m
+  pub none_earlier : (n : MeterContext) → IsMeterContext t n → IsEarlier n m → ¬ Has n
+
+-- an answer is the first context of a meter with a property, or none if no context of a meter has it
+abbrev pub IsFirstOrNone : Tree → (MeterContext → Type 0) → Option MeterContext → Type 0
+IsFirstOrNone t Has None = (n : MeterContext) → IsMeterContext t n → ¬ Has n
+IsFirstOrNone t Has (Some m) = IsFirst t Has m
