@@ -155,14 +155,17 @@ none_there : (n : ℕ) (ns : List ℕ) → IsIn n ns ⊎ IsIn n [] → IsIn n ns
 none_there n ns (inl h) = h
 none_there n ns (inr h) = absurd h
 
--- cuts are in order, each once
-pub cuts_in_order : (dimension : Dimension) (lines : List Line) → IsInOrder (all_cuts dimension lines) (cuts_of dimension lines)
-cuts_in_order dimension lines =
-    let ns = all_cuts dimension lines in
+-- numbers that are put among none are in order, each once
+pub each_in_order : (ns : List ℕ) → IsInOrder ns (with_each [] ns)
+each_in_order ns =
     record {
-      rising = λ (i j : ℕ) (h : i < j) (l : j < length (cuts_of dimension lines)). rises_at (cuts_of dimension lines) i j (rises_each [] ns tt) h l;
+      rising = λ (i j : ℕ) (h : i < j) (l : j < length (with_each [] ns)). rises_at (with_each [] ns) i j (rises_each [] ns tt) h l;
       same = λ (n : ℕ). (
-        (λ (c : Contains ns n). in_contains n (cuts_of dimension lines) (added_each n [] ns (at_in n c.0 ns c.1 c.2))),
-        (λ (c : Contains (cuts_of dimension lines) n). in_contains n ns (none_there n ns (only_each n [] ns (at_in n c.0 (cuts_of dimension lines) c.1 c.2)))),
+        (λ (c : Contains ns n). in_contains n (with_each [] ns) (added_each n [] ns (at_in n c.0 ns c.1 c.2))),
+        (λ (c : Contains (with_each [] ns) n). in_contains n ns (none_there n ns (only_each n [] ns (at_in n c.0 (with_each [] ns) c.1 c.2)))),
       );
     }
+
+-- cuts are in order, each once
+pub cuts_in_order : (dimension : Dimension) (lines : List Line) → IsInOrder (all_cuts dimension lines) (cuts_of dimension lines)
+cuts_in_order dimension lines = each_in_order (all_cuts dimension lines)

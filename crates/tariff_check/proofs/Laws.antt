@@ -1,11 +1,11 @@
 -- The laws of the public empty functions.
-use Rattle.std.proofs.Common.{◌≡◌, ◌↔◌, ℕ, ◌<◌, ◌≤◌, ◌∷◌, ◌++◌, true, List, Some, None, All, length}
+use Rattle.std.proofs.Common.{◌≡◌, ◌↔◌, ℕ, ◌<◌, ◌≤◌, ◌∷◌, ◌++◌, true, List, [], Some, None, All, length}
 use Rattle.tariff_syntax.specs.Meaning.{initial_place, minimum_place, rate_place}
 use Rattle.tariff_syntax.specs.Reads.{RiseInNumber}
 use Rattle.tariff_syntax.specs.Tree.{Tree, Line}
 use Rattle.tariff_syntax.specs.Writable.{IsFromTo, IsWritable}
 use Rattle.tariff_syntax.specs.declared.context.Context.{Context}
-use Rattle.tariff_check.specs.Cuts.{IsInOrder, all_cuts, cuts_of}
+use Rattle.tariff_check.specs.Cuts.{IsInOrder, all_cuts, cuts_of, with_each}
 use Rattle.tariff_check.specs.Faults.{IsSound, fault_of}
 use Rattle.tariff_check.specs.Lines.{LineTest, IsFirstLine, IsNowhere, first_line}
 use Rattle.tariff_check.specs.Measure.{IsLeastCommonMultiple, measures_of, measure_of}
@@ -15,7 +15,7 @@ use Rattle.tariff_check.specs.Sound.{HasSoundParts}
 use Rattle.tariff_check.specs.declared.fault.CheckFault.TheVariants.{NoCommonMeasure}
 use Rattle.tariff_check.specs.declared.fault.Dimension.{Dimension}
 use Rattle.tariff_check.proofs.CommonMeasure.{least_of_some, refused_measures, sound_measures}
-use Rattle.tariff_check.proofs.CutOrder.{cuts_in_order}
+use Rattle.tariff_check.proofs.CutOrder.{cuts_in_order, each_in_order}
 use Rattle.tariff_check.proofs.DefaultLines.{initial_always, minimum_there, rate_always}
 use Rattle.tariff_check.proofs.FirstLine.{first_line_is, nowhere_is, smallest_line}
 use Rattle.tariff_check.proofs.SoundParts.{sound_parts}
@@ -32,8 +32,11 @@ faults_name_the_first_line-smallest = smallest_line
 pub faults_name_the_first_line-none : (test : LineTest) (lines : List Line) → (first_line test lines ≡ None) ↔ IsNowhere test lines
 faults_name_the_first_line-none = nowhere_is
 
-pub cuts_are_in_order : (dimension : Dimension) (lines : List Line) → IsInOrder (all_cuts dimension lines) (cuts_of dimension lines)
-cuts_are_in_order = cuts_in_order
+pub cuts_are_in_order-cuts : (dimension : Dimension) (lines : List Line) → IsInOrder (all_cuts dimension lines) (cuts_of dimension lines)
+cuts_are_in_order-cuts = cuts_in_order
+
+pub cuts_are_in_order-numbers : (numbers : List ℕ) → IsInOrder numbers (with_each [] numbers)
+cuts_are_in_order-numbers = each_in_order
 
 pub sound_tariffs_have_sound_parts-none : (t : Tree) → (fault_of t ≡ None) ↔ IsSound t
 sound_tariffs_have_sound_parts-none t = (sound_if_none t, none_if_sound t)

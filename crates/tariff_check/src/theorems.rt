@@ -1,6 +1,6 @@
 //! What the definitions of faults and cuts come to.
-ghost use Rattle.std.specs.Prelude.{◌≡◌, ℕ, ◌<◌, ◌≤◌, ◌↔◌, ◌∷◌, ◌++◌, true, List, Some, None, All, length};
-ghost use Rattle.tariff_check.specs.Cuts.{IsInOrder, all_cuts, cuts_of};
+ghost use Rattle.std.specs.Prelude.{◌≡◌, ℕ, ◌<◌, ◌≤◌, ◌↔◌, ◌∷◌, ◌++◌, true, List, [], Some, None, All, length};
+ghost use Rattle.tariff_check.specs.Cuts.{IsInOrder, all_cuts, cuts_of, with_each};
 ghost use Rattle.tariff_check.specs.Faults.{IsSound, fault_of};
 ghost use Rattle.tariff_check.specs.Lines.{LineTest, IsFirstLine, IsNowhere, first_line};
 ghost use Rattle.tariff_check.specs.Measure.{IsLeastCommonMultiple, measures_of, measure_of};
@@ -27,10 +27,12 @@ pub fn faults_name_the_first_line()
     ensures none { (test : LineTest) (lines : List Line) → (first_line test lines ≡ None) ↔ IsNowhere test lines }
 {}
 
-/// The law of cuts: they are the numbers with which conditions compare, in order and each once.
+/// The law of cuts: they are the numbers with which conditions compare, in order and each once, as any
+/// numbers are that are put among none.
 pub fn cuts_are_in_order()
-    ensures { (dimension : Dimension) (lines : List Line)
+    ensures cuts { (dimension : Dimension) (lines : List Line)
         → IsInOrder (all_cuts dimension lines) (cuts_of dimension lines) }
+    ensures numbers { (numbers : List ℕ) → IsInOrder numbers (with_each [] numbers) }
 {}
 
 /// The law of sound tariffs: a tariff without a first fault is sound, and a sound one has its parts in
