@@ -122,6 +122,13 @@ impl Cuts {
         self.ordered(dimension)
     }
 
+    /// The day numbers of the holidays, in order. No steps: no look-up uses it.
+    pub fn holidays(&self) -> &[u64]
+        ensures { result.now ≡ self.now.holidays }
+    {
+        self.holidays.as_slice()
+    }
+
     /// The cuts of a dimension, with what a look-up needs.
     fn ordered(&self, dimension: Dimension) -> &[u64]
         ensures value { result.now ≡ list_in self.now dimension }

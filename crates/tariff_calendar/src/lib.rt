@@ -7,6 +7,7 @@ mod lookups;
 mod theorems;
 
 pub use cuts::Cuts;
+pub use lookups::count_at_most;
 pub use theorems::{
     counts_are_places, cuts_are_the_fewest_pulses, cuts_decide_conditions, holidays_are_dates,
     lists_are_ordered,

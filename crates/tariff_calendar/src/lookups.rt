@@ -16,6 +16,19 @@ pub fn count<L: Ledger>(list: &[u64], value: u64, steps: &mut Steps<L>) -> usize
     Counted::of(list).at_most(value, steps).count
 }
 
+/// How many numbers are at most a value, by going over all of them. No steps: it is for what no event asks.
+pub fn count_at_most(value: u64, list: &[u64]) -> usize
+    ensures { result ≡ count_at_most value list.now }
+{
+    let mut count = 0;
+    for number in list {
+        if *number <= value {
+            count += 1;
+        }
+    }
+    count
+}
+
 /// Whether a number is among the numbers, with as many steps: whether the last that is at most it is it.
 pub fn has<L: Ledger>(list: &[u64], number: u64, steps: &mut Steps<L>) -> bool
     requires { IsNotFalling list.now }

@@ -27,7 +27,7 @@ use Rattle.tariff_syntax.specs.Writable.{IsFromTo, IsWritable}
 use Rattle.tariff_syntax.specs.declared.context.Context.{Context}
 use Rattle.taxi_units.specs.Counted.{IsElement}
 use Rattle.tariff_compile.specs.Cells.{IsBelow, IsNarrow, bands_at, bands_of, cell_count, cell_number, sizes_of}
-use Rattle.tariff_compile.specs.Tables.{AreFit, HasAmountsOf, HasWeightsOf, IsCompiled, IsFit, IsInRangeFor, IsTablesOf, TableParts, all_cells, all_initials, all_weights, context_of, fee_of, initial_by, lines_at, number_of, rate_by, sizes_for, sizes_in, supplement_at, supplement_in, tables_of, weights_of}
+use Rattle.tariff_compile.specs.Tables.{AreFit, HasAmountsOf, HasWeightsOf, IsCompiled, IsFit, IsInRangeFor, IsTablesOf, TableParts, all_cells, all_initials, all_weights, context_of, fee_of, fees_in, initial_by, initial_with, lines_at, lines_in, number_of, rate_by, sizes_for, sizes_in, supplement_at, supplement_in, tables_of, weights_of}
 use Rattle.tariff_compile.specs.declared.parts.Bands.{Bands}
 use Rattle.tariff_compile.specs.declared.parts.CellLines.{CellLines}
 use Rattle.tariff_compile.specs.declared.parts.Fee.{Fee}
@@ -35,7 +35,7 @@ use Rattle.tariff_compile.specs.declared.parts.Supplement.{Supplement}
 use Rattle.tariff_check.proofs.Laws.{lines_that_hold_are_there-initial, lines_that_hold_are_there-minimum, lines_that_hold_are_there-rate, sound_tariffs_have_sound_parts-parts}
 use Rattle.tariff_compile.proofs.Fits.{weights_of-fit}
 use Rattle.tariff_compile.proofs.Looked.{bands_at-below, cell_has_lines}
-use Rattle.tariff_compile.proofs.Numbering.{bands_of-below}
+use Rattle.tariff_compile.proofs.Numbering.{bands_of-below, cell_number_below}
 use Rattle.tariff_check.proofs.Laws.{supplements_are_numbered_to_16}
 use Rattle.taxi_units.specs.Money.{largest_amount}
 
@@ -165,6 +165,14 @@ pub lines-found_at : (t : Tree) (tables : TableParts) (x : Context) (bands : Ban
 lines-found_at t tables x bands lines is x_in same found =
     lines-found t tables x lines is x_in (subst (λ (b : Bands). IsElement tables.cells (cell_number (sizes_for tables) b) lines) same found)
 
+-- the lines that tables have for a context are those of the tree
+pub lines_in_is : (t : Tree) (tables : TableParts) (x : Context) → IsTablesOf t tables → IsInRangeFor tables x → lines_in tables x ≡ lines_at t x
+lines_in_is t tables x is x_in =
+    let cell = cell_number (sizes_for tables) (bands_at tables.cuts x) in
+    let below : cell < length tables.cells = rw (length-cells tables (t, is)) (cell_number_below (sizes_for tables) (bands_at tables.cuts x) (bands-below tables x x_in)) in
+    lines-found t tables x (lines_in tables x) is x_in
+    (λ other. get_or_default tables.cells cell (record { rate = 0; initial = 0; minimum = 0 }) other below)
+
 -- at the hiring no distance and no time is cut
 pub nothing_at_hiring : (tables : TableParts) → IsCompiled tables → (count_at_most 0 tables.cuts.distances ≡ 0) × (count_at_most 0 tables.cuts.times ≡ 0)
 nothing_at_hiring tables (t, is) =
@@ -247,6 +255,14 @@ minimum-few t tables x is =
 -- and is the one that holds first
 pub minimum-amount : (t : Tree) (tables : TableParts) (x : Context) → IsTablesOf t tables → get_or (0 ∷ tables.minimums) (lines_at t x).minimum 0 ≡ get_or (0 ∷ minimums_of t.lines) (number_of (minimum_place t x)) 0
 minimum-amount t tables x is = ap (λ (p : TableParts). get_or (0 ∷ p.minimums) (lines_at t x).minimum 0) is.parts
+
+-- the fees that tables have for a context are those of the tree
+pub fees_in_is : (t : Tree) (tables : TableParts) (x : Context) → IsTablesOf t tables → IsInRangeFor tables x → fees_in tables x ≡ initial_by t x
+fees_in_is t tables x is x_in =
+    let none : Fee = record { amount = 0; covers = 0 } in
+    ap (λ (lines : CellLines). initial_with (get_or tables.initials lines.initial none) (get_or (0 ∷ tables.minimums) lines.minimum 0)) (lines_in_is t tables x is x_in)
+    ∙ (ap (λ (f : Fee). initial_with f (get_or (0 ∷ tables.minimums) (lines_at t x).minimum 0)) (initial-amounts t tables x none is)
+    ∙ ap (initial_with _) (minimum-amount t tables x is))
 
 pub all_fit : (amounts : List ℕ) (n : ℕ) → All (λ amount. amount ≤ largest_amount) amounts → get_or amounts n 0 ≤ largest_amount
 all_fit [] n all = omega arith

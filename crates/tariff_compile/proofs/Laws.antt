@@ -6,10 +6,10 @@ use Rattle.tariff_check.specs.Cells.{cells_of}
 use Rattle.tariff_check.specs.Faults.{IsSound}
 use Rattle.tariff_compile.specs.Cells.{IsBefore, IsBelow, bands_of, cell_count, cell_number, places_of}
 use Rattle.tariff_compile.specs.Rows.{all_rows, row_count, row_text}
-use Rattle.tariff_compile.specs.Tables.{HasAmountsOf, HasLinesOf, HasWeightsOf, IsCompiled, IsFit, TableParts, cell_of, initial_by, rate_by, tables_of}
+use Rattle.tariff_compile.specs.Tables.{HasAmountsOf, HasLinesOf, HasWeightsOf, IsCompiled, IsFit, IsInRangeFor, IsTablesOf, TableParts, cell_of, fees_in, initial_by, lines_at, lines_in, rate_by, tables_of}
 use Rattle.tariff_compile.specs.declared.parts.Bands.{Bands}
 use Rattle.tariff_compile.specs.declared.parts.CellLines.{CellLines}
-use Rattle.tariff_compile.proofs.Compiled.{cell_count-cells_of, has_amounts, has_weights, length-all_cells, tables_fit}
+use Rattle.tariff_compile.proofs.Compiled.{cell_count-cells_of, fees_in_is, has_amounts, has_weights, length-all_cells, lines_in_is, tables_fit}
 use Rattle.tariff_compile.proofs.Looked.{cell_names_lines}
 use Rattle.tariff_compile.proofs.Numbering.{bands_of-cell_number, bands_of-place, cell_number-bands_of, cell_number-order, cell_number_below}
 use Rattle.tariff_compile.proofs.RowOrder.{length-all_rows, row_text-at}
@@ -26,6 +26,12 @@ tables_equal_the_tree-weights = has_weights
 
 pub tables_equal_the_tree-amounts : (t : Tree) (x : Context) → IsSound t → HasAmountsOf t x (initial_by t x)
 tables_equal_the_tree-amounts = has_amounts
+
+pub tables_equal_the_tree-lines : (t : Tree) (tables : TableParts) (x : Context) → IsTablesOf t tables → IsInRangeFor tables x → lines_in tables x ≡ lines_at t x
+tables_equal_the_tree-lines = lines_in_is
+
+pub tables_equal_the_tree-fees : (t : Tree) (tables : TableParts) (x : Context) → IsTablesOf t tables → IsInRangeFor tables x → fees_in tables x ≡ initial_by t x
+tables_equal_the_tree-fees = fees_in_is
 
 pub cells_are_numbered_in_order-count : (t : Tree) (k : ℕ) → length (tables_of t k).cells ≡ cells_of t.lines
 cells_are_numbered_in_order-count t k = length-all_cells t k ∙ cell_count-cells_of t k

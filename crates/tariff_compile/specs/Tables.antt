@@ -166,6 +166,18 @@ initial_by t x =
     initial_with (get_or (all_initials t) (unwrap_or (initial_place t x) 0) (record { amount = 0; covers = 0 }))
     (get_or (0 ∷ minimums_of t.lines) (number_of (minimum_place t x)) 0)
 
+-- the lines that tables have for a context are those of the cell in which it is
+abbrev pub lines_in : TableParts → Context → CellLines
+lines_in tables x =
+    get_or tables.cells (cell_number (sizes_for tables) (bands_at tables.cuts x))
+    (record { rate = 0; initial = 0; minimum = 0 })
+
+-- the fees that tables have for a context are those that its lines name: an initial hire fee, and a minimum fare or 0
+abbrev pub fees_in : TableParts → Context → Initial
+fees_in tables x =
+    initial_with (get_or tables.initials (lines_in tables x).initial (record { amount = 0; covers = 0 }))
+    (get_or (0 ∷ tables.minimums) (lines_in tables x).minimum 0)
+
 -- weights are those of a context if they are made of the numbers of the rate that holds first in it
 pub record HasWeightsOf (t : Tree) (k : ℕ) (x : Context) (w : Weights) : Type 0 where
   pub place : ℕ

@@ -9,7 +9,7 @@ ghost use Rattle.tariff_syntax.specs.declared.context.Context.{Context};
 use crate::parts::Bands;
 use pulse_input::Constant;
 use std::sync::ledger::Ledger;
-use tariff_calendar::Cuts;
+use tariff_calendar::{Cuts, count_at_most};
 use tariff_check::Dimension;
 use tariff_syntax::Context;
 use taxi_units::{LONGEST_TRIP, Steps};
@@ -95,6 +95,25 @@ pub(crate) fn bands_until<L: Ledger>(
     bands.distance = distance;
     bands.time = time;
     (bands, further, longer)
+}
+
+/// The numbers of the cell in which a context is, by going over the cuts.
+pub(crate) fn plain_bands_at(cuts: &Cuts, x: &Context) -> Bands
+    requires position { 1 ≤ x.now.position }
+    requires zone { 1 ≤ x.now.zone }
+    requires weekday { 1 ≤ x.now.weekday }
+    ensures { result ≡ bands_at cuts.now x.now }
+{
+    Bands {
+        position: x.position as usize - 1,
+        zone: x.zone as usize - 1,
+        weekday: x.weekday as usize - 1,
+        holiday: if x.holiday { 1 } else { 0 },
+        month_day: count_at_most(x.month_day as u64, cuts.list(Dimension::MonthDay)),
+        minute: count_at_most(x.minute as u64, cuts.list(Dimension::Minute)),
+        distance: count_at_most(x.pulses, cuts.list(Dimension::Distance)),
+        time: count_at_most(x.ticks as u64, cuts.list(Dimension::Time)),
+    }
 }
 
 /// The numbers of the cell of a context, as if it lay before each cut of distance and time. At most 12 steps.

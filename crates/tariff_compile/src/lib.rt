@@ -16,7 +16,7 @@ mod tables;
 mod theorems;
 
 pub use compiling::compile;
-pub use parts::{Initial, Lasting, Supplement};
+pub use parts::{CellLines, Initial, Lasting, Supplement};
 pub use tables::Tables;
 pub use theorems::{
     cells_are_numbered_in_order, rows_are_in_order, tables_are_fit, tables_equal_the_tree,

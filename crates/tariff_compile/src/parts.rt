@@ -54,10 +54,10 @@ impl Supplement {
 /// The lines of a cell: by their places from 0 the rate and the initial hire fee, and by its number from
 /// 1 the minimum fare, 0 where it has none.
 #[derive(Clone, Copy)]
-pub(crate) struct CellLines {
-    pub(crate) rate: u8,
-    pub(crate) initial: u8,
-    pub(crate) minimum: u8,
+pub struct CellLines {
+    pub rate: u8,
+    pub initial: u8,
+    pub minimum: u8,
 }
 
 impl CellLines {

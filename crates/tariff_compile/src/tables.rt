@@ -7,14 +7,14 @@ ghost use Rattle.tariff_calendar.specs.Lists.{has_day, has_days, is_holiday};
 ghost use Rattle.tariff_compile.specs.Cells.{IsBelow, cell_number};
 ghost use Rattle.tariff_compile.specs.Near.{IsNear};
 ghost use Rattle.tariff_compile.specs.Rows.{row_count, row_text};
-ghost use Rattle.tariff_compile.specs.Tables.{AreFit, IsCompiled, IsFit, IsFitInitial, IsInRangeFor, IsTablesOf, initial_by, rate_by, sizes_for, supplement_at};
+ghost use Rattle.tariff_compile.specs.Tables.{AreFit, IsCompiled, IsFit, IsFitInitial, IsInRangeFor, IsTablesOf, fees_in, initial_by, lines_in, rate_by, sizes_for, supplement_at};
 ghost use Rattle.tariff_syntax.specs.Tree.{Tree};
 ghost use Rattle.tariff_syntax.specs.declared.context.Context.{Context};
 ghost use Rattle.taxi_units.specs.Counted.{IsElement};
 ghost use Rattle.taxi_units.specs.Line.{line_size};
 
 use crate::bands::{cell_number, sizes_of};
-use crate::contexts::{bands_at, bands_at_hiring, bands_until};
+use crate::contexts::{bands_at, bands_at_hiring, bands_until, plain_bands_at};
 use crate::parts::{Bands, CellLines, Fee, Initial, Lasting, Supplement};
 use crate::rows::{cell_row, initial_row, measure_row, minimum_row, rate_row};
 use drive_modes::{Rounding, Weights};
@@ -152,6 +152,52 @@ impl Tables {
             covers: fee.covers,
             minimum: self.minimum(lines.minimum, steps),
         }
+    }
+
+    /// The lines that hold first in a context, which a trip may have and which has the tables' constant.
+    /// It takes no steps: it is for what goes over many contexts, and no event asks it.
+    pub fn lines_at(&self, x: &Context) -> CellLines
+        requires range { IsInRangeFor self.now x.now }
+        ensures value { result ≡ lines_in self.now x.now }
+        ensures compiled { IsCompiled self.now }
+    {
+        let sizes = sizes_of(self.positions, self.zones, &self.cuts);
+        let cell = cell_number(&sizes, &plain_bands_at(&self.cuts, x));
+        self.cells.as_slice()[cell]
+    }
+
+    /// The initial hire fee and the minimum fare that hold first at the hiring of such a context. It takes
+    /// no steps either.
+    pub fn fees_at(&self, x: &Context) -> Initial
+        requires range { IsInRangeFor self.now x.now }
+        ensures { result ≡ fees_in self.now x.now }
+    {
+        let lines = self.lines_at(x);
+        let fee = self.initials.as_slice()[lines.initial as usize];
+        Initial {
+            amount: fee.amount,
+            covers: fee.covers,
+            minimum: self.plain_minimum(lines.minimum),
+        }
+    }
+
+    /// The amount of the minimum fare of a number from 1; 0 where the number is 0.
+    fn plain_minimum(&self, number: u8) -> u64
+        requires { number ≤ length self.now.minimums }
+        ensures { result ≡ slice_index (0 ∷ self.now.minimums) number }
+    {
+        if number == 0 {
+            0
+        } else {
+            self.minimums.as_slice()[number as usize - 1]
+        }
+    }
+
+    /// The cuts of the tariff, and its holidays.
+    pub fn cuts(&self) -> &Cuts
+        ensures { result.now ≡ self.now.cuts }
+    {
+        &self.cuts
     }
 
     /// The lines of the cell with these numbers. One step.

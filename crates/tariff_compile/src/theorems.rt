@@ -6,7 +6,7 @@ ghost use Rattle.tariff_check.specs.Cells.{cells_of};
 ghost use Rattle.tariff_check.specs.Faults.{IsSound};
 ghost use Rattle.tariff_compile.specs.Cells.{IsBefore, IsBelow, bands_of, cell_count, cell_number, places_of};
 ghost use Rattle.tariff_compile.specs.Rows.{all_rows, row_count, row_text};
-ghost use Rattle.tariff_compile.specs.Tables.{HasAmountsOf, HasLinesOf, HasWeightsOf, IsCompiled, IsFit, TableParts, cell_of, initial_by, rate_by, tables_of};
+ghost use Rattle.tariff_compile.specs.Tables.{HasAmountsOf, HasLinesOf, HasWeightsOf, IsCompiled, IsFit, IsInRangeFor, IsTablesOf, TableParts, cell_of, fees_in, initial_by, lines_at, lines_in, rate_by, tables_of};
 ghost use Rattle.tariff_compile.specs.declared.parts.Bands.{Bands};
 ghost use Rattle.tariff_compile.specs.declared.parts.CellLines.{CellLines};
 ghost use Rattle.tariff_syntax.specs.Tree.{Tree};
@@ -21,6 +21,10 @@ pub fn tables_equal_the_tree()
         → (lines : CellLines) × (slice_get (tables_of t k).cells (cell_of t k x) ≡ Some lines) × HasLinesOf t x lines }
     ensures weights { (t : Tree) (k : ℕ) (x : Context) → IsSound t → HasWeightsOf t k x (rate_by t k x) }
     ensures amounts { (t : Tree) (x : Context) → IsSound t → HasAmountsOf t x (initial_by t x) }
+    ensures lines { (t : Tree) (tables : TableParts) (x : Context) → IsTablesOf t tables → IsInRangeFor tables x
+        → lines_in tables x ≡ lines_at t x }
+    ensures fees { (t : Tree) (tables : TableParts) (x : Context) → IsTablesOf t tables → IsInRangeFor tables x
+        → fees_in tables x ≡ initial_by t x }
 {}
 
 /// The law of cells: there are as many as `check` says, each place has one number and each number one
