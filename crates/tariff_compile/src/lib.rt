@@ -16,6 +16,7 @@ mod tables;
 mod theorems;
 
 pub use compiling::compile;
+pub use lines::supplement_of;
 pub use parts::{CellLines, Initial, Lasting, Supplement};
 pub use tables::Tables;
 pub use theorems::{

@@ -14,8 +14,9 @@ use std::alloc::Global;
 use tariff_syntax::{Item, RateLine, TariffLine};
 use taxi_units::NoMemory;
 
-/// The supplement of a number, of the first such line.
-pub(crate) fn supplement_of(lines: &[TariffLine], wanted: u8) -> Option<Supplement>
+/// The supplement of a number among some lines, of the first such line; `None` exactly where no line has the
+/// number.
+pub fn supplement_of(lines: &[TariffLine], wanted: u8) -> Option<Supplement>
     ensures { result ≡ option_map supplement_in (supplement_of (map line_of lines.now) wanted) }
 {
     for line in lines {
