@@ -3,14 +3,22 @@ use Rattle.std.specs.Prelude.{◌≡◌, ℕ, ◌+◌, ◌*◌, ◌^◌, ◌≤�
 use Rattle.interval_clock.specs.Calendar.{date_after, date_place, weekday_of}
 use Rattle.interval_clock.specs.LocalTime.{day_of, minute_of_day}
 use Rattle.interval_clock.specs.Offsets.{IsOffset}
+use Rattle.pulse_input.specs.Constant.{least_constant, greatest_constant}
 use Rattle.tariff_calendar.specs.Lists.{is_holiday}
+use Rattle.tariff_check.specs.Faults.{IsSound}
 use Rattle.tariff_check.specs.Parts.{positions_of, zones_of}
 use Rattle.tariff_compile.specs.Cells.{IsBefore}
 use Rattle.tariff_syntax.specs.Tree.{Tree}
-use Rattle.tariff_syntax.specs.Writable.{IsFromTo}
+use Rattle.tariff_syntax.specs.Writable.{IsFromTo, IsWritable}
 use Rattle.tariff_syntax.specs.declared.context.Context.{Context}
 use Rattle.taxi_units.specs.Time.{IsSecond, last_tick}
 use Rattle.tariff_compare.specs.declared.meter_context.MeterContext.{MeterContext}
+
+-- a tariff has tables under a constant if a text can have its numbers, it is sound, and the constant is 500 to 200,000
+pub record HasTables (t : Tree) (k : ℕ) : Type 0 where
+  pub writable : IsWritable t
+  pub sound : IsSound t
+  pub constant : (least_constant ≤ k) × (k ≤ greatest_constant)
 
 -- a day, told by its number, and a minute are ones of a meter if they are the local day and the minute of that day at
 -- one second of the meter under one offset of at most 14 hours to either side

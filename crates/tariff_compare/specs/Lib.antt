@@ -1,3 +1,9 @@
 pub mod Contexts
 pub mod Counting
+pub mod Differences
+pub mod Grids
 pub mod Same
+pub mod Searches
+pub mod Sides
+pub mod Texts
+pub mod Uses

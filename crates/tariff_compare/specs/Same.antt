@@ -1,5 +1,5 @@
 -- Rules: when two tariffs are the same under a constant.
-use Rattle.std.specs.Prelude.{◌≡◌, ℕ, ◌*◌, Bool, true, not, ◌&&◌, ◌==◌, if◌then◌else◌, get_or, Option, Some, None}
+use Rattle.std.specs.Prelude.{◌≡◌, ℕ, ◌*◌, Bool, true, not, ◌&&◌, ◌==◌, if◌then◌else◌, get_or, is_some, Option, Some, None}
 use Rattle.std.specs.Option.{unwrap_or}
 use Rattle.tariff_check.specs.Parts.{RateNumbers, positions_of, rates_of, supplement_of, zones_of}
 use Rattle.tariff_compile.specs.Tables.{initial_by, step_in}
@@ -9,7 +9,7 @@ use Rattle.tariff_syntax.specs.declared.context.Context.{Context}
 use Rattle.tariff_syntax.specs.declared.meaning.LineKind.{LineKind}
 use Rattle.tariff_syntax.specs.declared.meaning.LineKind.TheVariants.{Rate, Initial, Minimum}
 use Rattle.tariff_compile.specs.declared.parts.Initial as fees
-use Rattle.tariff_compare.specs.Contexts.{IsMeterContext, context_at}
+use Rattle.tariff_compare.specs.Contexts.{IsFirst, IsMeterContext, context_at}
 use Rattle.tariff_compare.specs.Counting.{is_hiring}
 use Rattle.tariff_compare.specs.declared.meter_context.MeterContext.{MeterContext}
 
@@ -64,3 +64,10 @@ pub record HasSameFrame (t u : Tree) : Type 0 where
 pub record AreSame (t u : Tree) (k : ℕ) : Type 0 where
   pub frame : HasSameFrame t u
   pub contexts : (m : MeterContext) → IsMeterContext t m → difference_at t u k m ≡ None
+
+-- what differs first between two tariffs is a part of a context if their frames are the same, it is what differs in the
+-- context, and in no earlier context of a meter anything does
+pub record DiffersFirst (t u : Tree) (k : ℕ) (kind : LineKind) (m : MeterContext) : Type 0 where
+  pub frame : HasSameFrame t u
+  pub there : difference_at t u k m ≡ Some kind
+  pub first : IsFirst t (λ n. is_some (difference_at t u k n) ≡ true) m

@@ -2,6 +2,21 @@
 //! first one in which two tariffs differ.
 #![tactic(auto)]
 
+mod asking;
+mod costs;
+mod day;
+mod difference;
+mod grid;
 mod meter_context;
+mod question;
+mod search;
+mod side;
+mod texts;
+mod theorems;
+mod uses;
 
+pub use difference::{Difference, first_difference};
 pub use meter_context::MeterContext;
+pub use texts::print_uses;
+pub use theorems::{differences_are_first, first_contexts_are_first, meters_have_their_times};
+pub use uses::{LineUse, line_uses};

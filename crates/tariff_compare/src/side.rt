@@ -1,0 +1,59 @@
+//! One side of a comparison.
+ghost use Rattle.std.specs.Prelude.{◌≡◌, get_or, IfOk};
+ghost use Rattle.tariff_compile.specs.Tables.{IsCompiled, IsInRangeFor, lines_in};
+ghost use Rattle.tariff_compare.specs.Sides.{side_of};
+ghost use Rattle.tariff_syntax.specs.Tree.{tree_of};
+
+use crate::costs::{RateCosts, all_costs, costs_at};
+use pulse_input::Constant;
+use std::alloc::Global;
+use std::marker::Model;
+use tariff_check::Checked;
+use tariff_compile::{Tables, compile};
+use tariff_syntax::Context;
+use taxi_units::NoMemory;
+
+/// The tables of a tariff, and what its rates cost.
+#[derive(Drop)]
+pub(crate) struct Side {
+    tables: Tables,
+    rates: Vec<RateCosts>,
+}
+
+impl Model for Side {
+    ghost use Rattle.tariff_compare.specs.Sides.{SideParts};
+
+    ghost Value = { SideParts };
+
+    ghost view = { λ s. record { tables = s.tables; rates = s.rates.items } };
+}
+
+impl Side {
+    /// The side of a tariff under a constant.
+    pub(crate) fn of(alloc: Global, checked: &Checked, k: Constant) -> Result<Side, NoMemory>
+        ensures { IfOk result (λ side. side ≡ side_of (tree_of checked.now) k) }
+    {
+        Ok(Side {
+            tables: compile(alloc, checked, k)?,
+            rates: all_costs(alloc, checked.tariff().lines.as_slice())?,
+        })
+    }
+
+    /// The tables.
+    pub(crate) fn tables(&self) -> &Tables
+        ensures value { result.now ≡ self.now.tables }
+        ensures compiled { IsCompiled self.now.tables }
+    {
+        self.tables.known();
+        &self.tables
+    }
+
+    /// What the rate costs that holds first in a context.
+    pub(crate) fn costs_at(&self, x: &Context) -> RateCosts
+        requires { IsInRangeFor self.now.tables x.now }
+        ensures { result ≡ get_or self.now.rates (lines_in self.now.tables x.now).rate
+            (record { a = 0; b = 0; c = 0; e = 0 }) }
+    {
+        costs_at(self.rates.as_slice(), self.tables.lines_at(x).rate as usize)
+    }
+}
