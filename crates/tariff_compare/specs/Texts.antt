@@ -4,7 +4,7 @@ use Rattle.std.specs.List.{flat_map}
 use Rattle.interval_clock.specs.Calendar.{date_after, weekday_of}
 use Rattle.interval_clock.specs.declared.day_numbers.CalendarDate.{CalendarDate}
 use Rattle.taxi_units.specs.Number.{padded_text}
-use Rattle.tariff_syntax.specs.Weekdays.{day_word}
+use Rattle.taxi_units.specs.Weekdays.{day_name}
 use Rattle.tariff_syntax.specs.declared.meaning.LineKind.{LineKind}
 use Rattle.tariff_syntax.specs.declared.meaning.LineKind.TheVariants.{Rate, Initial, Minimum}
 use Rattle.tariff_compare.specs.declared.meter_context.MeterContext.{MeterContext}
@@ -25,7 +25,7 @@ place_text position zone = codes "T" ++ (decimal position ++ (codes " Z" ++ deci
 -- a day and a minute are written as the weekday, the date and the time of the day: `thu 2026-01-01 00:00`
 unfoldable pub moment_text : (day minute : ℕ) → List ℕ
 moment_text day minute =
-    day_word (weekday_of (pos day)) ++ (codes " " ++ (date_text (date_after day) ++ (codes " " ++ minute_text minute)))
+    day_name (weekday_of (pos day)) ++ (codes " " ++ (date_text (date_after day) ++ (codes " " ++ minute_text minute)))
 
 -- a context of a meter at a hiring is written as its position and zone, and its day and minute
 unfoldable pub hiring_text : MeterContext → List ℕ

@@ -3,7 +3,7 @@ ghost use Rattle.std.specs.Prelude.{◌≡◌, ◌≤◌, ◌++◌, All, IfOk, O
 ghost use Rattle.interval_clock.specs.Calendar.{weekday_of};
 ghost use Rattle.tariff_compare.specs.Texts.{context_text, date_text, first_text, hiring_text, kind_word, minute_text, moment_text, place_text, trip_text, use_text, uses_text};
 ghost use Rattle.tariff_compare.specs.Uses.{IsDated, IsDatedUse};
-ghost use Rattle.tariff_syntax.specs.Weekdays.{day_word};
+ghost use Rattle.taxi_units.specs.Weekdays.{day_name};
 ghost use Rattle.tariff_syntax.specs.Writable.{IsFromTo};
 ghost use Rattle.taxi_units.specs.Number.{padded_text};
 
@@ -13,7 +13,7 @@ use crate::uses::LineUse;
 use interval_clock::{CalendarDate, date_of_day};
 use std::alloc::{AllocError, Global};
 use tariff_syntax::LineKind;
-use taxi_units::{Line, NoMemory, put_number, put_padded};
+use taxi_units::{DAY_NAMES, Line, NoMemory, put_number, put_padded};
 
 /// The text of the uses of lines, a line of text each: the number of the line and the word of its kind, then `holds`
 /// and the first context in which it counts, or `never`. The form is this project's own. `NoMemory` where memory runs
@@ -141,16 +141,16 @@ fn push_moment(text: &mut Vec<u8>, day: u32, minute: u16) -> Result<(), AllocErr
 /// The short name of a weekday, 1 for Monday to 7 for Sunday.
 fn push_weekday(text: &mut Vec<u8>, weekday: u8) -> Result<(), AllocError>
     requires { IsFromTo 1 7 weekday }
-    ensures { OnOk result (text.new.items ≡ text.old.items ++ day_word weekday) }
+    ensures { OnOk result (text.new.items ≡ text.old.items ++ day_name weekday) }
 {
     match weekday {
-        1 => text.extend_from_slice(b"mon"),
-        2 => text.extend_from_slice(b"tue"),
-        3 => text.extend_from_slice(b"wed"),
-        4 => text.extend_from_slice(b"thu"),
-        5 => text.extend_from_slice(b"fri"),
-        6 => text.extend_from_slice(b"sat"),
-        7 => text.extend_from_slice(b"sun"),
+        1 => text.extend_from_slice(DAY_NAMES[0]),
+        2 => text.extend_from_slice(DAY_NAMES[1]),
+        3 => text.extend_from_slice(DAY_NAMES[2]),
+        4 => text.extend_from_slice(DAY_NAMES[3]),
+        5 => text.extend_from_slice(DAY_NAMES[4]),
+        6 => text.extend_from_slice(DAY_NAMES[5]),
+        7 => text.extend_from_slice(DAY_NAMES[6]),
         _ => unreachable!(),
     }
 }

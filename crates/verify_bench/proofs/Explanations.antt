@@ -4,7 +4,7 @@ use Rattle.std.specs.Prelude.{nat_le, nat_lt, if◌then◌else◌}
 use Rattle.std.proofs.lemmas.List.{map-append}
 use Rattle.std.proofs.lemmas.List.Elements.{All-append, All-cons, All-nil}
 use Rattle.meter_states.proofs.Laws as states
-use Rattle.meter_states.specs.Closing.{closed, hirings_end, holds_end, receipt_of, roaming_checked, roaming_checked_in, roaming_entered, roaming_most, trip_closed}
+use Rattle.meter_states.specs.Closing.{closed, receipt_of, roaming_checked, roaming_checked_in, roaming_entered, trip_closed}
 use Rattle.meter_states.specs.Display.{display_of, is_shown, shown}
 use Rattle.meter_states.specs.Interval.{context_now, context_of, counted_in, interval_begun, interval_counted, interval_left, left_in, pulses_taken, room_of, ticks_so_far, with_interval}
 use Rattle.meter_states.specs.Kept.{IsKept, IsKeptIn}
@@ -22,6 +22,7 @@ use Rattle.tariff_check.specs.Parts.{positions_of, zones_of}
 use Rattle.tariff_compile.specs.Tables.{supplement_at}
 use Rattle.tariff_compile.specs.declared.parts.Supplement.{Supplement}
 use Rattle.tariff_syntax.specs.declared.context.Context.{Context}
+use Rattle.taxi_units.specs.Limits.{hirings_end, last_number, roaming_most}
 use Rattle.taxi_units.specs.Time.{longest_trip}
 use Rattle.taxi_units.specs.declared.event.Event.{Event}
 use Rattle.taxi_units.specs.declared.event.Event.TheVariants as events
@@ -271,7 +272,7 @@ kept_by : (s : Setting) (hired : Context) (trip : Option Trip) (m : Meter) → m
 kept_by s hired None m is fresh =
     goes_if s hired None (nat_lt 0 (sum m.roaming)) (roaming_entered s m) (quiet m) (goes_entered s hired None m (rw is tt)) (goes_quietly s hired None m (rw is tt))
 kept_by s hired (Some t) m is fresh =
-    goes_if s hired (Some t) (nat_lt m.durable.number holds_end) _ (closed s kinds.Aborted m.clock m) (record { are = tt; fresh = rw is fresh })
+    goes_if s hired (Some t) (nat_lt m.durable.number last_number) _ (closed s kinds.Aborted m.clock m) (record { are = tt; fresh = rw is fresh })
     (subst (λ (o : Option Trip). Goes s hired o (closed s kinds.Aborted m.clock m)) is (goes_closed s hired kinds.Aborted m.clock m))
 
 goes_dropped : (s : Setting) (hired : Context) (m : Meter) → Fresh s hired m.trip → Goes s hired (trip_at s events.Down m) (supply_dropped s m)
