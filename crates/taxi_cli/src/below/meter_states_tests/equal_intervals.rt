@@ -1,5 +1,5 @@
-//! Rows of equal intervals, carried out at once on one core and one by one on another beside it. The two do the same at
-//! each event, and a supply drop behind any of the rows shows that they have kept the same.
+//! How many equal intervals go at once. That they are those intervals, one after the other, is a clause of
+//! `Core::equal_intervals`.
 ghost use Rattle.std.specs.Prelude.{◌≡◌, ◌<◌, ◌≤◌, ◌+◌};
 ghost use Rattle.meter_states.specs.Lawful.{IsLawful};
 
@@ -16,105 +16,68 @@ use std::test::Fail;
 use tariff_compile::Tables;
 use taxi_units::{Event, Steps};
 
-/// An event on both cores, which do the same; gives how much that is.
-fn take_both<L: Ledger>(
+/// An event; gives how many acts it has.
+fn take<L: Ledger>(
     rt: &impl Abort,
     tables: &Tables,
     seal: &Seal,
-    fast: &mut Core,
-    slow: &mut Core,
+    core: &mut Core,
     event: Event,
     steps: &mut Steps<L>,
 ) -> usize
-    requires fast { IsLawful tables.now seal.now fast.old }
-    requires slow { IsLawful tables.now seal.now slow.old }
-    ensures fast { IsLawful tables.now seal.now fast.new }
-    ensures slow { IsLawful tables.now seal.now slow.new }
+    requires lawful { IsLawful tables.now seal.now core.old }
+    requires constant { tables.now.constant ≡ seal.now.params.constant }
+    ensures lawful { IsLawful tables.now seal.now core.new }
     ensures few { result ≤ 4 }
 {
-    assert!(rt; have_constant_of(tables, seal) && is_timely(event));
-    let acts = acts_at_first(tables, seal, fast, event, steps);
-    let others = acts_at_first(tables, seal, slow, event, steps);
-    assert_eq!(rt; acts.as_slice(), others.as_slice());
-    assert_eq!(rt; fast.operating(), slow.operating());
-    acts.len()
+    assert!(rt; is_timely(event));
+    acts_at_first(tables, seal, core, event, steps).len()
 }
 
-/// One interval on both cores.
+/// One interval; gives how many acts it has.
 fn take_interval<L: Ledger>(
     rt: &impl Abort,
     tables: &Tables,
     seal: &Seal,
-    fast: &mut Core,
-    slow: &mut Core,
+    core: &mut Core,
     pulses: u32,
     steps: &mut Steps<L>,
 ) -> usize
-    requires fast { IsLawful tables.now seal.now fast.old }
-    requires slow { IsLawful tables.now seal.now slow.old }
-    ensures fast { IsLawful tables.now seal.now fast.new }
-    ensures slow { IsLawful tables.now seal.now slow.new }
+    requires lawful { IsLawful tables.now seal.now core.old }
+    requires constant { tables.now.constant ≡ seal.now.params.constant }
+    ensures lawful { IsLawful tables.now seal.now core.new }
     ensures few { result ≤ 8 }
 {
     let mut done = 0;
     if pulses > 0 {
-        done = take_both(rt, tables, seal, fast, slow, Event::Pulses(pulses), steps);
+        done = take(rt, tables, seal, core, Event::Pulses(pulses), steps);
     }
-    done + take_both(rt, tables, seal, fast, slow, Event::Tick, steps)
+    done + take(rt, tables, seal, core, Event::Tick, steps)
 }
 
-/// A number of intervals, at which nothing is done, on the core that takes them one by one.
-fn take_quiet<L: Ledger>(
-    rt: &impl Abort,
-    tables: &Tables,
-    seal: &Seal,
-    slow: &mut Core,
-    pulses: u32,
-    count: u32,
-    steps: &mut Steps<L>,
-)
-    requires slow { IsLawful tables.now seal.now slow.old }
-    ensures slow { IsLawful tables.now seal.now slow.new }
-{
-    for _ in 0..count {
-        assert!(rt; have_constant_of(tables, seal));
-        if pulses > 0 {
-            let acts = acts_at_first(tables, seal, slow, Event::Pulses(pulses), steps);
-            assert!(rt; acts.is_empty());
-        }
-        let acts = acts_at_first(tables, seal, slow, Event::Tick, steps);
-        assert!(rt; acts.is_empty());
-    }
-}
-
-/// A number of intervals on both cores: on one core as many as go at once and then one, again and again. That is
-/// at most once for each act, and six times more.
+/// A row of intervals: as many as go at once and then one, again and again. That is at most once for each act,
+/// and six times more.
 fn take_row<L: Ledger>(
     rt: &impl Abort,
     tables: &Tables,
     seal: &Seal,
-    fast: &mut Core,
-    slow: &mut Core,
+    core: &mut Core,
     row: (u32, u32),
     steps: &mut Steps<L>,
 )
-    requires fast { IsLawful tables.now seal.now fast.old }
-    requires slow { IsLawful tables.now seal.now slow.old }
-    ensures fast { IsLawful tables.now seal.now fast.new }
-    ensures slow { IsLawful tables.now seal.now slow.new }
+    requires lawful { IsLawful tables.now seal.now core.old }
+    requires constant { tables.now.constant ≡ seal.now.params.constant }
+    ensures lawful { IsLawful tables.now seal.now core.new }
 {
     let (pulses, count) = row;
     let mut left = count;
     let mut spare: usize = 6;
     for _ in 0..count {
-        assert!(rt; have_constant_of(tables, seal));
-        let n = fast.equal_intervals(tables, seal, pulses, left);
-        take_quiet(rt, tables, seal, slow, pulses, n, steps);
-        left -= n;
+        left -= core.equal_intervals(tables, seal, pulses, left);
         if left == 0 {
             return;
         }
-        let done = take_interval(rt, tables, seal, fast, slow, pulses, steps);
+        let done = take_interval(rt, tables, seal, core, pulses, steps);
         left -= 1;
         assert!(rt; spare < 100_000 && spare + done > 0);
         spare = spare + done - 1;
@@ -122,39 +85,28 @@ fn take_row<L: Ledger>(
     assert!(rt; left == 0);
 }
 
-/// Rows on both cores, and a supply drop behind them.
+/// Rows, one after the other.
 fn take_rows<L: Ledger>(blank: Blank, rt: &impl Abort, tables: &Tables, seal: &Seal, rows: &[Row])
     requires name { blank.name ≡ L.name }
     requires parts { blank.parts ≡ L.parts }
     requires one { 0 < blank.parts }
+    requires constant { tables.now.constant ≡ seal.now.params.constant }
 {
     let mut steps: Steps<L> = Steps::open(blank);
-    let mut fast = Core::off();
-    let mut slow = Core::off();
+    let mut core = Core::off();
     for (events, pulses, count) in rows {
         for event in *events {
-            take_both(rt, tables, seal, &mut fast, &mut slow, *event, &mut steps);
+            take(rt, tables, seal, &mut core, *event, &mut steps);
         }
-        let row = (*pulses, *count);
-        take_row(rt, tables, seal, &mut fast, &mut slow, row, &mut steps);
+        take_row(rt, tables, seal, &mut core, (*pulses, *count), &mut steps);
     }
-    take_both(
-        rt,
-        tables,
-        seal,
-        &mut fast,
-        &mut slow,
-        Event::Down,
-        &mut steps,
-    );
 }
 
-/// Each beginning of the rows under a tariff and a mode.
+/// All rows under a tariff and a mode.
 fn take_rows_under(alloc: Global, rt: &impl Abort, text: &str, mode: Mode) -> Result<(), Fail> {
     let (tables, seal) = setting(alloc, text, mode)?;
-    for count in 1..=ROWS.len() {
-        take_rows::<Brand>(Blank::new(1), rt, &tables, &seal, &ROWS[..count]);
-    }
+    assert!(rt; have_constant_of(&tables, &seal));
+    take_rows::<Brand>(Blank::new(1), rt, &tables, &seal, ROWS);
     Ok(())
 }
 
