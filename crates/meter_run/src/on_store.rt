@@ -23,6 +23,7 @@ use tariff_compile::Tables;
 use taxi_units::{Event, Steps, Why};
 
 /// An event, but the coming of the supply while the meter is off. At most 57 steps.
+#[inline(always)]
 fn go_on<B: Board<L>, L: Ledger>(
     meter: &mut StoreMeter,
     tables: &Tables,
@@ -87,6 +88,7 @@ fn resume<B: Board<L>, L: Ledger>(
 
 /// The supply comes while the meter is off: it goes on from what a scan of the store finds. Where it finds
 /// no durable state, or one whose held trip doesn't fit, the meter stays off. At most 40 steps.
+#[inline(never)]
 fn power_up<B: Board<L>, L: Ledger>(
     meter: &mut StoreMeter,
     tables: &Tables,
@@ -139,6 +141,7 @@ impl StoreMeter {
     ///
     /// `Failed` only where the board's count of faults rose; then the event was carried out up to some point of
     /// its acts, and the meter is done with.
+    #[inline(always)]
     pub fn carry_event<B: Board<L>, L: Ledger>(
         &mut self,
         tables: &Tables,
@@ -191,6 +194,7 @@ impl<B: Board<L>, L: Ledger> Carrier<B, L> for StoreMeter {
 
     ghost sooner = { λ t k es fs x a c h. amid_sooner _ t k es fs x a c h };
 
+    #[inline(always)]
     fn carry_out(
         &mut self,
         tables: &Tables,

@@ -55,6 +55,7 @@ fn store<B: Board<L>, L: Ledger>(
 
 /// Carries out an act: it prints displays, refusals and receipts, and commits entries and held trips. One
 /// step for a print, and at most 6 for a commit.
+#[inline(never)]
 fn do_act<B: Board<L>, L: Ledger>(
     known: &mut Known,
     act: &Act,
@@ -86,6 +87,7 @@ fn do_act<B: Board<L>, L: Ledger>(
 }
 
 /// Carries out acts, one after the other.
+#[inline(always)]
 pub(crate) fn do_acts<B: Board<L>, L: Ledger>(
     known: &mut Known,
     acts: &[Act],
