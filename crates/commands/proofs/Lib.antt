@@ -42,6 +42,8 @@ mod Generating
 mod Judging
 -- the lines of a list of offsets, printed one after the other, and the answers of the command `offsets`
 mod Listing
+-- the list of a text's lines
+mod Lists
 -- what a cut leaves of calls that only look at the store
 mod Looking
 -- the opening of the store, from its two scans, and what is known of it behind its answer

@@ -7,6 +7,7 @@ use Rattle.commands.specs.Course.{Command, LooksOnly}
 use Rattle.commands.specs.Fare.{fare_command}
 use Rattle.commands.specs.Form.{form_command}
 use Rattle.commands.specs.Generate.{gen_command}
+use Rattle.commands.specs.Lines.{lines_command}
 use Rattle.commands.specs.Mark.{mark_command}
 use Rattle.commands.specs.NoCommand.{no_command}
 use Rattle.commands.specs.Offsets.{offsets_command}
@@ -20,7 +21,7 @@ use Rattle.commands.specs.Totals.{totals_command}
 use Rattle.commands.specs.Words.{row_of}
 use Rattle.commands.specs.declared.words.Row.{Row}
 use Rattle.commands.specs.declared.words.Row.TheVariants.{Check, Tables, Fare, Totals, Seal, Run, Bench, Gen}
-use Rattle.commands.specs.declared.words.Row.TheVariants.{Port, Offsets, Mark, Shifts, Sealed, Form}
+use Rattle.commands.specs.declared.words.Row.TheVariants.{Port, Offsets, Mark, Shifts, Sealed, Form, Lines}
 
 -- each row of words is a command, and words that are no row are refused
 abbrev pub command_of : Option Row → Command
@@ -39,6 +40,7 @@ command_of (Some (Mark driver)) = mark_command driver
 command_of (Some Shifts) = shifts_command
 command_of (Some Sealed) = sealed_command
 command_of (Some Form) = form_command
+command_of (Some (Lines k)) = lines_command k
 
 -- words only look at the store where their command opens the store and writes nothing; these commands are the six of
 -- `IsLook`, as the law six_commands_only_look says

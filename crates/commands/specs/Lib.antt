@@ -21,6 +21,7 @@ pub mod Check
 pub mod Fare
 pub mod Form
 pub mod Generate
+pub mod Lines
 pub mod Mark
 pub mod NoCommand
 pub mod Offsets
@@ -41,6 +42,7 @@ pub mod Carried
 pub mod ChainSteps
 pub mod Ending
 pub mod FormSteps
+pub mod LinesSteps
 pub mod Opened
 pub mod RunSteps
 pub mod SealSteps

@@ -9,7 +9,7 @@ use Rattle.shift_book.specs.Reading.{driver_of}
 use Rattle.commands.specs.Years.{years_of}
 use Rattle.commands.specs.declared.words.Row.{Row}
 use Rattle.commands.specs.declared.words.Row.TheVariants.{Check, Tables, Fare, Totals, Seal, Run, Bench, Gen}
-use Rattle.commands.specs.declared.words.Row.TheVariants.{Port, Offsets, Mark, Shifts, Sealed, Form}
+use Rattle.commands.specs.declared.words.Row.TheVariants.{Port, Offsets, Mark, Shifts, Sealed, Form, Lines}
 use Rattle.taxi_units.specs.Words.{is_word}
 
 -- a word is a constant where a number was read of it with nothing left, of at most 6 digits and from 500 to 200,000
@@ -68,9 +68,9 @@ two_words command last =
     else (if is_word command (codes "shifts") then Some Shifts
     else (if is_word command (codes "form") then Some Form else None))))
 
--- the row of three words is `tables TARIFF CONSTANT`, `seal TARIFF PARAMS`, `run TARIFF DRIVE`, `gen SEED N` or
--- `mark on DRIVER`; `driver_of` gives a word as a driver where it is 1 to 16 of the characters A to Z, 0 to 9 and -,
--- and nothing for another word
+-- the row of three words is `tables TARIFF CONSTANT`, `seal TARIFF PARAMS`, `run TARIFF DRIVE`, `gen SEED N`,
+-- `mark on DRIVER` or `lines TARIFF CONSTANT`; `driver_of` gives a word as a driver where it is 1 to 16 of the
+-- characters A to Z, 0 to 9 and -, and nothing for another word
 abbrev pub three_words : (command middle last : List ℕ) → Option Row
 three_words command middle last =
     if is_word command (codes "tables") then option_map Tables (constant_of last)
@@ -78,7 +78,8 @@ three_words command middle last =
     else (if is_word command (codes "run") then Some Run
     else (if is_word command (codes "gen") then gen_of (seed_of middle) (trips_of last)
     else (if (is_word command (codes "mark") && is_word middle (codes "on"))
-    then option_map signs_on (driver_of last) else None))))
+    then option_map signs_on (driver_of last)
+    else (if is_word command (codes "lines") then option_map Lines (constant_of last) else None)))))
 
 -- the row of four words is `fare TARIFF DRIVE CONSTANT`, `bench TARIFF DRIVE READINGS` or `offsets RULES FROM TO`
 abbrev pub four_words : (command third last : List ℕ) → Option Row

@@ -16,6 +16,7 @@ mod form;
 mod generate;
 mod judgement;
 mod last_line;
+mod lines;
 mod mark;
 mod number_line;
 mod offsets;

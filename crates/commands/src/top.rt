@@ -19,6 +19,7 @@ use crate::ending::{Ended, finish};
 use crate::fare::fare;
 use crate::form::print_form;
 use crate::generate::generate;
+use crate::lines::print_lines;
 use crate::mark::print_mark;
 use crate::offsets::print_offsets;
 use crate::port::serve_requests;
@@ -59,6 +60,7 @@ fn carry_out<F: Files, B: Board<L>, L: Ledger>(
         Row::Shifts => print_shifts(alloc, files, board, steps),
         Row::Sealed => print_sealed(board, steps),
         Row::Form => print_form(alloc, files, board, steps),
+        Row::Lines(k) => print_lines(alloc, k, files, board, steps),
     }
 }
 
@@ -85,6 +87,8 @@ fn carry_out<F: Files, B: Board<L>, L: Ledger>(
 ///   was on
 /// - `sealed`: what the store was sealed with, as a text of parameters
 /// - `form TARIFF`: the printed form of the tariff, sound or not
+/// - `lines TARIFF CONSTANT`: for each rate, initial hire fee and minimum fare whether it is ever the one that counts,
+///   and the first context of a meter in which it is
 ///
 /// The statuses, their last lines, and when they come. A command looks at its words, at the store and at its
 /// files in the order of docs/FORMATS.md, and answers the first thing that is wrong: so 'exactly where' is said
@@ -161,7 +165,7 @@ pub fn taxi<F: Files, B: Board<L>, L: Ledger>(
 
     // One step for the last line, one for each row of tables, at most 31 for offsets, 64 for an opening of the store,
     // 64 for each event of a drive that is run and for the supply drop at its end, one for each 512 bytes that are
-    // printed of a bench or of a form, one for each reply, and two for each byte of a shift book.
+    // printed of a bench, of a form or of lines, one for each reply, and two for each byte of a shift book.
     ensures steps { (called (map string_bytes words.now)).steps F.tells B.tells_image
         (F.rest files.old) (F.rest files.new) (B.image board.old) steps.old steps.new }
 

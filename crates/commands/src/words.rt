@@ -75,6 +75,8 @@ pub enum Row {
     Sealed,
     /// `form TARIFF`
     Form,
+    /// `lines TARIFF CONSTANT`
+    Lines(Constant),
 }
 
 /// The constant that a word is: 1 to 6 digits, 500 to 200,000.
@@ -202,6 +204,8 @@ fn three_words(command: &[u8], middle: &[u8], last: &[u8]) -> Option<Row>
         Some(Row::Gen(seed(middle)?, trip_count(last)?))
     } else if is_word(command, b"mark") && is_word(middle, b"on") {
         mark_on(last)
+    } else if is_word(command, b"lines") {
+        Some(Row::Lines(constant(last)?))
     } else {
         None
     }

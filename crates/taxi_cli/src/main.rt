@@ -14,6 +14,8 @@ mod form_tests;
 #[cfg(test)]
 mod growth_tests;
 #[cfg(test)]
+mod lines_tests;
+#[cfg(test)]
 mod many_cuts_tests;
 #[cfg(test)]
 mod port_tests;
