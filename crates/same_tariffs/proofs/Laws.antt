@@ -1,0 +1,77 @@
+-- The laws of the public empty functions.
+use Rattle.std.proofs.Common.{◌≡◌, ℕ, ◌<◌, All, List, ap}
+use Rattle.drive_modes.specs.Fare.{Opening, saved, steps_above}
+use Rattle.drive_modes.specs.declared.meterage.Rounding.{Rounding}
+use Rattle.drive_modes.specs.declared.charges.Mode.{Mode}
+use Rattle.drive_text.specs.Ending.{events_of}
+use Rattle.meter_states.specs.Lawful.{IsTimely}
+use Rattle.meter_states.specs.Meter.{Meter}
+use Rattle.meter_states.specs.Run.{opened, run, whole_run}
+use Rattle.meter_states.specs.Setting.{Setting}
+use Rattle.tariff_check.specs.Faults.{IsSound}
+use Rattle.tariff_compare.specs.Contexts.{IsMeterContext}
+use Rattle.tariff_compare.specs.declared.meter_context.MeterContext.{MeterContext}
+use Rattle.tariff_syntax.specs.Tree.{Tree}
+use Rattle.tariff_syntax.specs.Writable.{IsWritable}
+use Rattle.taxi_units.specs.declared.event.Event.{Event}
+use Rattle.totaliser_store.specs.declared.durable.Durable.{Durable}
+use Rattle.same_tariffs.specs.Alike.{AreMeteragesAlike, AreOpeningsAlike, AreOutcomesAlike, AreStoresAlike, IsSameMoney}
+use Rattle.same_tariffs.specs.Contexts.{IsChargedIn, IsHiredIn, IsSettingInRange, meter_context_at, without_trip}
+use Rattle.same_tariffs.specs.Drives.{IsReached}
+use Rattle.same_tariffs.specs.Reached.{HoldGoesOn, IsWithinReach}
+use Rattle.same_tariffs.specs.Same.{AreSameSettings}
+use Rattle.same_tariffs.proofs.Meeting.{agree, charged-in, has-places, hired-in}
+use Rattle.same_tariffs.proofs.Money.{saved-same, steps-same}
+use Rattle.same_tariffs.proofs.Reach.{within-ended, within-opened, within-run}
+use Rattle.same_tariffs.proofs.Reaching.{each-reached}
+use Rattle.same_tariffs.proofs.Runs.{whole-alike}
+use Rattle.same_tariffs.proofs.Timely.{drives-timely}
+
+pub same_charges_show_the_same_steps-saved : (u v : ℕ) (o p : Opening) (a b : ℕ) → 0 < u → 0 < v
+    → AreOpeningsAlike u v o p → IsSameMoney u v a b → AreMeteragesAlike u v (saved o a) (saved p b)
+same_charges_show_the_same_steps-saved = saved-same
+
+pub same_charges_show_the_same_steps-steps : (u v : ℕ) (rounding : Rounding) (o p : Opening) (a b : ℕ) → 0 < u → 0 < v
+    → AreOpeningsAlike u v o p → IsSameMoney u v a b → steps_above rounding o a ≡ steps_above rounding p b
+same_charges_show_the_same_steps-steps = steps-same
+
+pub same_tariffs_run_alike-outcomes : (s t : Setting) (d e : Durable) (events : List Event) → AreSameSettings s t
+    → All IsTimely events → HoldGoesOn s.tariff d.hold → AreStoresAlike s t d e
+    → AreOutcomesAlike s t (whole_run s d events) (whole_run t e events)
+same_tariffs_run_alike-outcomes s t d e events same timely on alike = whole-alike s t d e events (agree s t same)
+    (has-places s same.one) timely on alike
+
+pub same_tariffs_run_alike-stores : (s t : Setting) (d e : Durable) (events : List Event) → AreSameSettings s t
+    → All IsTimely events → HoldGoesOn s.tariff d.hold → AreStoresAlike s t d e
+    → AreStoresAlike s t (whole_run s d events).next.durable (whole_run t e events).next.durable
+same_tariffs_run_alike-stores s t d e events same timely on alike =
+    let next = (same_tariffs_run_alike-outcomes s t d e events same timely on alike).next in
+    record { hold = next.hold; others = ap (λ (m : Meter). m.durable) next.others }
+
+pub same_tariffs_run_alike-goes_on : (s t : Setting) (d : Durable) (events : List Event) → AreSameSettings s t
+    → All IsTimely events → HoldGoesOn s.tariff d.hold
+    → HoldGoesOn s.tariff (whole_run s d events).next.durable.hold
+same_tariffs_run_alike-goes_on s t d events same timely on =
+    (within-ended s (run s events (opened s d)).next (within-run s events (opened s d) (has-places s same.one) timely
+    (within-opened s d (has-places s same.one) on))).hold
+
+pub intervals_are_charged_in_contexts_of_a_meter-reached : (s : Setting) (durable : Durable) (events : List Event)
+    → IsSettingInRange s → All IsTimely events → HoldGoesOn s.tariff durable.hold
+    → IsWithinReach s (run s events (opened s durable)).next
+intervals_are_charged_in_contexts_of_a_meter-reached s durable events range timely on =
+    within-run s events (opened s durable) (has-places s range) timely (within-opened s durable (has-places s range) on)
+
+pub intervals_are_charged_in_contexts_of_a_meter-interval : (s : Setting) (m : Meter) → IsSettingInRange s
+    → IsWithinReach s m → IsChargedIn s m (meter_context_at s m.began m)
+intervals_are_charged_in_contexts_of_a_meter-interval s m range within = charged-in s m range within.placed within.ticks
+
+pub intervals_are_charged_in_contexts_of_a_meter-hiring : (s : Setting) (m : Meter) → IsSettingInRange s
+    → IsWithinReach s m → IsHiredIn s m (without_trip (meter_context_at s m.clock m))
+intervals_are_charged_in_contexts_of_a_meter-hiring s m range within = hired-in s m range within.placed
+
+pub each_context_is_reached : (t : Tree) (k : ℕ) (mode : Mode) (hold : ℕ) (c : MeterContext) → IsWritable t → IsSound t
+    → IsMeterContext t c → IsReached t k mode hold c
+each_context_is_reached = each-reached
+
+pub events_of_drives_are_timely : (drive : List ℕ) → All IsTimely (events_of drive)
+events_of_drives_are_timely = drives-timely

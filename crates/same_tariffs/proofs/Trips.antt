@@ -1,0 +1,305 @@
+-- What two meters make of trips that are alike.
+use Rattle.std.proofs.Common.{◌≡◌, ℕ, ℤ, ◌+◌, ◌*◌, ◌<◌, mul-pos, Bool, List, [], ◌∷◌, ◌++◌, map, sum, Option, Some, None, option_map, refl, ap, sym, subst, ◌∙◌, arith}
+use Rattle.std.proofs.lemmas.Grind.{common_steps}
+use Rattle.drive_modes.specs.Fare.{shown_fare, steps_above}
+use Rattle.drive_modes.specs.declared.meterage.Meterage.{Meterage}
+use Rattle.drive_modes.specs.declared.meterage.Rounding.{Rounding}
+use Rattle.taxi_units.specs.declared.receipt.Kind.{Kind}
+use Rattle.totaliser_store.specs.declared.trip.Trip as store
+use Rattle.pulse_input.specs.Distance.{millimetres_of}
+use Rattle.tariff_compile.specs.Tables.{supplement_at}
+use Rattle.tariff_compile.specs.declared.parts.Initial.{Initial}
+use Rattle.meter_states.specs.Closing.{entry_of, receipt_of}
+use Rattle.meter_states.specs.Display.{display_of, extras_shown, fare_shown}
+use Rattle.meter_states.specs.Interval.{pulses_so_far, ticks_so_far}
+use Rattle.meter_states.specs.Meter.{Meter}
+use Rattle.meter_states.specs.Run.{trip_of}
+use Rattle.meter_states.specs.Setting.{Setting, modulus_of, rounding_of, stamp_at, step_of, unit_of}
+use Rattle.meter_states.specs.Supplements.{amount_in, amounts_of, counts_of}
+use Rattle.meter_states.specs.Trip as model
+use Rattle.meter_states.specs.Trip.{InHired, Part, Rest, Trip, begun, charge_in, charges_of, fare_of, held_trip, pulses_in, pulses_of, saved_of, steps_shown, ticks_in, ticks_of, with_extra, with_part}
+use Rattle.same_tariffs.specs.Alike.{AreHeldAlike, AreHoldsAlike, AreMeteragesAlike, AreOpeningsAlike, AreTripsAlike, AreTripsOfBothAlike, IsSameMoney, with_trips}
+use Rattle.same_tariffs.proofs.Agreeing.{Agree}
+use Rattle.same_tariffs.proofs.Money.{none-same, saved-same, steps-same, sum-same, times-money, times-same}
+
+-- ---- parts and supplements
+
+pub sum-more : (f : Part → ℕ) (parts : List Part) (part : Part) → sum (map f (parts ++ part ∷ [])) ≡ sum
+    (map f parts) + f part
+sum-more f [] part = omega arith
+sum-more f (x ∷ parts) part = grind (arith, common_steps, sum-more f parts part)
+
+-- a part more, of as many pulses and ticks, and of the same money
+pub part-alike : (s t : Setting) (a b : Trip) (x y : Part) → pulses_in x ≡ pulses_in y → ticks_in x ≡ ticks_in y
+    → IsSameMoney (unit_of s) (unit_of t) (charge_in s x) (charge_in t y) → AreTripsAlike s t a b
+    → AreTripsAlike s t (with_part x a) (with_part y b)
+part-alike s t a b x y pulses ticks charge same = record {
+  started = same.started;
+  initial = same.initial;
+  minimum = same.minimum;
+  roam = same.roam;
+  extras = same.extras;
+  pulses = omega (arith, sum-more pulses_in a.parts x, sum-more pulses_in b.parts y, same.pulses, pulses);
+  ticks = omega (arith, sum-more ticks_in a.parts x, sum-more ticks_in b.parts y, same.ticks, ticks);
+  cover = same.cover;
+  above = same.above;
+  charges =
+      let both = sum-same (unit_of s) (unit_of t) (charges_of s a) (charges_of t b) (charge_in s x) (charge_in t y)
+      same.charges charge in
+      record {
+        scaled = ap (λ (n : ℕ). n * unit_of t) (sum-more (charge_in s) a.parts x) ∙ both.scaled
+            ∙ ap (λ (n : ℕ). n * unit_of s) (sym (sum-more (charge_in t) b.parts y));
+      };
+}
+
+pub parts-alike : (s t : Setting) (a b : Option Trip) (x y : Part) → pulses_in x ≡ pulses_in y → ticks_in x ≡ ticks_in y
+    → IsSameMoney (unit_of s) (unit_of t) (charge_in s x) (charge_in t y) → AreTripsOfBothAlike s t a b
+    → AreTripsOfBothAlike s t (option_map (with_part x) a) (option_map (with_part y) b)
+parts-alike s t None None x y pulses ticks charge same = tt
+parts-alike s t (Some a) (Some b) x y pulses ticks charge same = part-alike s t a b x y pulses ticks charge same
+parts-alike s t None (Some b) x y pulses ticks charge same = absurd same
+parts-alike s t (Some a) None x y pulses ticks charge same = absurd same
+
+pub extra-alike : (s t : Setting) (n : ℕ) (a b : Trip) → AreTripsAlike s t a b → AreTripsAlike s t (with_extra n a)
+    (with_extra n b)
+extra-alike s t n a b same = record {
+  started = same.started;
+  initial = same.initial;
+  minimum = same.minimum;
+  roam = same.roam;
+  extras = ap (λ (xs : List ℕ). xs ++ n ∷ []) same.extras;
+  pulses = same.pulses;
+  ticks = same.ticks;
+  cover = same.cover;
+  above = same.above;
+  charges = same.charges;
+}
+
+-- a trip that begins
+pub begun-alike : (s t : Setting) (fee other : Initial) (second roam : ℕ) → fee ≡ other
+    → AreTripsAlike s t (begun s fee second roam) (begun t other second roam)
+begun-alike s t fee other second roam is = record {
+  started = refl;
+  initial = ap (λ (i : Initial). i.amount) is;
+  minimum = ap (λ (i : Initial). i.minimum) is;
+  roam = refl;
+  extras = refl;
+  pulses = refl;
+  ticks = refl;
+  cover = subst (λ (i : Initial). IsSameMoney (unit_of s) (unit_of t) (fee.covers * unit_of s) (i.covers * unit_of t))
+      is (times-same (unit_of s) (unit_of t) fee.covers);
+  above = none-same (unit_of s) (unit_of t);
+  charges = none-same (unit_of s) (unit_of t);
+}
+
+-- ---- numbers of trips that both meters show
+
+pub pulses-alike : (s t : Setting) (a b : Option Trip) → AreTripsOfBothAlike s t a b → pulses_so_far a ≡ pulses_so_far b
+pulses-alike s t None None same = refl
+pulses-alike s t (Some a) (Some b) same = same.pulses
+pulses-alike s t None (Some b) same = absurd same
+pulses-alike s t (Some a) None same = absurd same
+
+pub ticks-alike : (s t : Setting) (a b : Option Trip) → AreTripsOfBothAlike s t a b → ticks_so_far a ≡ ticks_so_far b
+ticks-alike s t None None same = refl
+ticks-alike s t (Some a) (Some b) same = same.ticks
+ticks-alike s t None (Some b) same = absurd same
+ticks-alike s t (Some a) None same = absurd same
+
+step-is : (s t : Setting) → Agree s t → step_of s ≡ step_of t
+step-is s t agree = ap (λ (x : ℕ × Rounding). x.0) agree.step
+
+rounding-is : (s t : Setting) → Agree s t → rounding_of s ≡ rounding_of t
+rounding-is s t agree = ap (λ (x : ℕ × Rounding). x.1) agree.step
+
+-- a display step of each tariff is the same money
+step-money : (s t : Setting) → Agree s t → IsSameMoney (unit_of s) (unit_of t) (modulus_of s) (modulus_of t)
+step-money s t agree =
+    let same = times-same (unit_of s) (unit_of t) (step_of s) in
+    subst (λ (n : ℕ). IsSameMoney (unit_of s) (unit_of t) (modulus_of s) (n * unit_of t)) (step-is s t agree) same
+
+some-modulus : (n u : ℕ) → 0 < n → 0 < u → 0 < n * u
+some-modulus n u some also = mul-pos some also
+
+openings-alike : (s t : Setting) (a b : Trip) → Agree s t → AreTripsAlike s t a b
+    → AreOpeningsAlike (unit_of s) (unit_of t) (model.opening_of s a) (model.opening_of t b)
+openings-alike s t a b agree same = record {
+  cover = same.cover;
+  above = same.above;
+  modulus = step-money s t agree;
+  some = some-modulus (step_of s) (unit_of s) agree.some_step agree.some_unit;
+  also = some-modulus (step_of t) (unit_of t) (subst (λ (n : ℕ). 0 < n) (step-is s t agree) agree.some_step)
+      agree.also_unit;
+}
+
+pub meterage-alike : (s t : Setting) (a b : Trip) → Agree s t → AreTripsAlike s t a b
+    → AreMeteragesAlike (unit_of s) (unit_of t) (saved_of s a).meterage (saved_of t b).meterage
+meterage-alike s t a b agree same =
+    saved-same (unit_of s) (unit_of t) (model.opening_of s a) (model.opening_of t b) (charges_of s a) (charges_of t b)
+    agree.some_unit agree.also_unit (openings-alike s t a b agree same) same.charges
+
+pub shown-alike : (s t : Setting) (a b : Trip) → Agree s t → AreTripsAlike s t a b → steps_shown s a ≡ steps_shown t b
+shown-alike s t a b agree same =
+    steps-same (unit_of s) (unit_of t) (rounding_of s) (model.opening_of s a) (model.opening_of t b) (charges_of s a)
+    (charges_of t b) agree.some_unit agree.also_unit (openings-alike s t a b agree same) same.charges
+    ∙ ap (λ (r : Rounding). steps_above r (model.opening_of t b) (charges_of t b)) (rounding-is s t agree)
+
+pub fare-alike : (s t : Setting) (a b : Trip) → Agree s t → AreTripsAlike s t a b → fare_of s a ≡ fare_of t b
+fare-alike s t a b agree same =
+    let steps = shown-alike s t a b agree same in
+    let step = step-is s t agree in
+    let initial = same.initial in
+    let minimum = same.minimum in
+    ap (λ (n : ℕ). shown_fare a.initial a.minimum (step_of s) n) steps
+    ∙ ap (λ (n : ℕ). shown_fare a.initial a.minimum n (steps_shown t b)) step
+    ∙ ap (λ (n : ℕ). shown_fare n a.minimum (step_of t) (steps_shown t b)) initial
+    ∙ ap (λ (n : ℕ). shown_fare b.initial n (step_of t) (steps_shown t b)) minimum
+
+amounts-each : (s t : Setting) → Agree s t → (numbers : List ℕ) → map (λ n. amount_in (supplement_at s.tariff n))
+    numbers ≡ map (λ n. amount_in (supplement_at t.tariff n)) numbers
+amounts-each s t agree [] = refl
+amounts-each s t agree (n ∷ numbers) =
+    let one = ap amount_in (agree.supplements n) in
+    let others = amounts-each s t agree numbers in
+    cc
+
+amounts-by : (s t : Setting) → Agree s t → (numbers : List ℕ) → amounts_of s.tariff numbers ≡ amounts_of t.tariff
+    numbers
+amounts-by s t agree numbers = ap sum (amounts-each s t agree numbers)
+
+pub amounts-alike : (s t : Setting) (a b : Trip) → Agree s t → AreTripsAlike s t a b
+    → amounts_of s.tariff a.extras ≡ amounts_of t.tariff b.extras
+amounts-alike s t a b agree same = amounts-by s t agree a.extras ∙ ap (amounts_of t.tariff) same.extras
+
+-- ---- held trips
+
+abbrev saved_with : Meterage → (started second : ℕ) → (stopped : Bool)
+    → (position zone roam pulses ticks initial minimum : ℕ) → (extras : List ℕ) → (extras_sum : ℕ) → store.Trip
+saved_with meterage started second stopped position zone roam pulses ticks initial minimum extras extras_sum = record {
+  started = started;
+  saved = second;
+  stopped = stopped;
+  position = position;
+  zone = zone;
+  roam = roam;
+  pulses = pulses;
+  ticks = ticks;
+  initial = initial;
+  minimum = minimum;
+  meterage = meterage;
+  extras = extras;
+  extras_sum = extras_sum;
+}
+
+saved-by : (m : Meterage) (second : ℕ) (stopped : Bool) (position zone : ℕ) {a a' r r' p p' t t' i i' n n' x x' : ℕ}
+    {e e' : List ℕ} → a ≡ a' → r ≡ r' → p ≡ p' → t ≡ t' → i ≡ i' → n ≡ n' → e ≡ e' → x ≡ x'
+    → saved_with m a second stopped position zone r p t i n e x ≡ saved_with m a' second stopped position zone r' p' t'
+    i' n' e' x'
+saved-by m second stopped position zone started roam pulses ticks initial minimum extras extras_sum = cc
+
+-- a trip is held alike
+pub held-alike : (s t : Setting) (a b : Trip) (second : ℕ) (stopped : Bool) (position zone : ℕ) → Agree s t
+    → AreTripsAlike s t a b
+    → AreHeldAlike s t (held_trip s second stopped position zone a) (held_trip t second stopped position zone b)
+held-alike s t a b second stopped position zone agree same =
+    record {
+      meterage = meterage-alike s t a b agree same;
+      others = saved-by (saved_of t b).meterage second stopped position zone same.started same.roam same.pulses
+          same.ticks same.initial same.minimum (ap counts_of same.extras) (amounts-alike s t a b agree same);
+    }
+
+-- and goes on alike
+pub opened-alike : (s t : Setting) (a b : store.Trip) → Agree s t → AreHeldAlike s t a b
+    → AreTripsAlike s t (trip_of s a) (trip_of t b)
+opened-alike s t a b agree same =
+    subst (λ (x : store.Trip). AreTripsAlike s t (trip_of s a) (trip_of t x)) same.others
+    (opened-with s t a b.meterage agree same.meterage)
+  where
+    opened-with : (s t : Setting) (a : store.Trip) (m : Meterage) → Agree s t
+        → AreMeteragesAlike (unit_of s) (unit_of t) a.meterage m
+        → AreTripsAlike s t (trip_of s a) (trip_of t (record a { meterage = m }))
+    opened-with s t a m agree same = record {
+      started = refl;
+      initial = refl;
+      minimum = refl;
+      roam = refl;
+      extras = refl;
+      pulses = refl;
+      ticks = refl;
+      cover = same.cover;
+      above =
+          let full = times-money (unit_of s) (unit_of t) a.meterage.steps_full (modulus_of s) (modulus_of t)
+          (step-money s t agree) in
+          let both = sum-same (unit_of s) (unit_of t) (a.meterage.steps_full * modulus_of s)
+          (a.meterage.steps_full * modulus_of t) a.meterage.rest m.rest full same.rest in
+          subst (λ (n : ℕ). IsSameMoney (unit_of s) (unit_of t) (a.meterage.steps_full * modulus_of s + a.meterage.rest)
+          (n * modulus_of t + m.rest)) same.steps both;
+      charges = none-same (unit_of s) (unit_of t);
+    }
+
+pub opened-both : (s t : Setting) (a b : Option store.Trip) → Agree s t → AreHoldsAlike s t a b
+    → AreTripsOfBothAlike s t (option_map (trip_of s) a) (option_map (trip_of t) b)
+opened-both s t None None agree same = tt
+opened-both s t (Some a) (Some b) agree same = opened-alike s t a b agree same
+opened-both s t None (Some b) agree same = absurd same
+opened-both s t (Some a) None agree same = absurd same
+
+-- ---- what is shown and entered of them
+
+pub entry-alike : (s t : Setting) (kind : Kind) (position : ℕ) (a b : Trip) → Agree s t → AreTripsAlike s t a b
+    → entry_of s kind position a ≡ entry_of t kind position b
+entry-alike s t kind position a b agree same =
+    let constant = agree.constant in
+    let roam : millimetres_of s.constant a.roam ≡ millimetres_of t.constant b.roam =
+    ap (λ (k : ℕ). millimetres_of k a.roam) constant ∙ ap (millimetres_of t.constant) same.roam in
+    let hired : millimetres_of s.constant (pulses_of a) ≡ millimetres_of t.constant (pulses_of b) =
+    ap (λ (k : ℕ). millimetres_of k (pulses_of a)) constant ∙ ap (millimetres_of t.constant) same.pulses in
+    let fare = fare-alike s t a b agree same in
+    let amounts = amounts-alike s t a b agree same in
+    cc
+
+stamp-alike : (s t : Setting) (second : ℕ) → Agree s t → stamp_at s second ≡ stamp_at t second
+stamp-alike s t second agree = ap (λ (offsets : List (ℕ × ℤ)). stamp_at (record s { offsets = offsets }) second)
+    agree.offsets
+
+pub receipt-alike : (s t : Setting) (kind : Kind) (finish position : ℕ) (a b : Trip) (number : ℕ) → Agree s t
+    → AreTripsAlike s t a b
+    → receipt_of s kind finish position a number ≡ receipt_of t kind finish position b number
+receipt-alike s t kind finish position a b number agree same =
+    let constant = agree.constant in
+    let hired : millimetres_of s.constant (pulses_of a) ≡ millimetres_of t.constant (pulses_of b) =
+    ap (λ (k : ℕ). millimetres_of k (pulses_of a)) constant ∙ ap (millimetres_of t.constant) same.pulses in
+    let start : stamp_at s a.started ≡ stamp_at t b.started = stamp-alike s t a.started agree
+    ∙ ap (stamp_at t) same.started in
+    let end = stamp-alike s t finish agree in
+    let initial = same.initial in
+    let minimum = same.minimum in
+    let steps = shown-alike s t a b agree same in
+    let step = step-is s t agree in
+    let fare = fare-alike s t a b agree same in
+    let amounts = amounts-alike s t a b agree same in
+    let decimals = agree.decimals in
+    cc
+
+fare-shown-alike : (s t : Setting) (a b : Option Trip) → Agree s t → AreTripsOfBothAlike s t a b
+    → fare_shown s a ≡ fare_shown t b
+fare-shown-alike s t None None agree same = refl
+fare-shown-alike s t (Some a) (Some b) agree same = fare-alike s t a b agree same
+fare-shown-alike s t None (Some b) agree same = absurd same
+fare-shown-alike s t (Some a) None agree same = absurd same
+
+extras-shown-alike : (s t : Setting) (a b : Option Trip) → Agree s t → AreTripsOfBothAlike s t a b
+    → extras_shown s a ≡ extras_shown t b
+extras-shown-alike s t None None agree same = refl
+extras-shown-alike s t (Some a) (Some b) agree same = amounts-alike s t a b agree same
+extras-shown-alike s t None (Some b) agree same = absurd same
+extras-shown-alike s t (Some a) None agree same = absurd same
+
+pub display-alike : (s t : Setting) (m : Meter) (trip : Option Trip) (hold : Option store.Trip) → Agree s t
+    → AreTripsOfBothAlike s t m.trip trip
+    → display_of s m ≡ display_of t (with_trips trip hold m)
+display-alike s t m trip hold agree same =
+    let fare = fare-shown-alike s t m.trip trip agree same in
+    let extras = extras-shown-alike s t m.trip trip agree same in
+    let decimals = agree.decimals in
+    cc

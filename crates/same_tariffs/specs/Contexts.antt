@@ -1,0 +1,50 @@
+-- Rules: the contexts in which the intervals and the hirings of runs are charged.
+use Rattle.std.specs.Prelude.{◌≡◌, ℕ, min, unsigned_abs}
+use Rattle.interval_clock.specs.LocalTime.{day_of, local_second, minute_of_day}
+use Rattle.interval_clock.specs.Offsets.{IsOffsetList}
+use Rattle.pulse_input.specs.Constant.{least_constant, greatest_constant}
+use Rattle.tariff_check.specs.Faults.{IsSound}
+use Rattle.tariff_compare.specs.Contexts.{IsMeterContext, context_at, most_pulses}
+use Rattle.tariff_compare.specs.declared.meter_context.MeterContext.{MeterContext}
+use Rattle.tariff_compile.specs.Tables.{initial_by}
+use Rattle.tariff_syntax.specs.Meaning.{rate_place}
+use Rattle.tariff_syntax.specs.Writable.{IsFromTo, IsWritable}
+use Rattle.meter_states.specs.Interval.{context_now, context_of, pulses_so_far, ticks_so_far}
+use Rattle.meter_states.specs.Meter.{Meter}
+use Rattle.meter_states.specs.Setting.{Setting}
+
+-- a setting is in range if its tariff is a sound one that a text can have, its constant is 500 to 200,000, and its
+-- offsets are a list of offsets
+pub record IsSettingInRange (s : Setting) : Type 0 where
+  pub writable : IsWritable s.tariff
+  pub sound : IsSound s.tariff
+  pub constant : IsFromTo least_constant greatest_constant s.constant
+  pub offsets : IsOffsetList s.offsets
+
+-- the context of a meter at a second has its position and its zone, the local day and the minute of the second, the
+-- ticks of its trip, and the pulses of its trip, or 2 * 10^13 where they are more
+abbrev pub meter_context_at : Setting → (second : ℕ) → Meter → MeterContext
+meter_context_at s second m = record {
+  position = m.position;
+  zone = m.zone;
+  day = unsigned_abs (day_of (local_second s.offsets second));
+  minute = minute_of_day (local_second s.offsets second);
+  ticks = ticks_so_far m.trip;
+  pulses = min (pulses_so_far m.trip) most_pulses;
+}
+
+-- a context of a meter at a hiring has no ticks and no pulses
+abbrev pub without_trip : MeterContext → MeterContext
+without_trip c = record c { ticks = 0; pulses = 0 }
+
+-- the running interval of a meter is charged in the lines of a context of a meter if that context is one of a meter
+-- under the tariff, and the same rate holds first in it as at the beginning of the interval
+pub record IsChargedIn (s : Setting) (m : Meter) (c : MeterContext) : Type 0 where
+  pub context : IsMeterContext s.tariff c
+  pub rate : rate_place s.tariff (context_of s m) ≡ rate_place s.tariff (context_at s.tariff s.constant c)
+
+-- a meter that is hired now has the fee of a context of a meter if that context is one of a meter under the tariff, and
+-- the same initial hire fee and the same minimum fare hold first in it as at the hiring
+pub record IsHiredIn (s : Setting) (m : Meter) (c : MeterContext) : Type 0 where
+  pub context : IsMeterContext s.tariff c
+  pub fee : initial_by s.tariff (context_now s m) ≡ initial_by s.tariff (context_at s.tariff s.constant c)

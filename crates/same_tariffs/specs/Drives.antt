@@ -1,0 +1,81 @@
+-- Rules: a list of events that leads to a context of a meter.
+use Rattle.std.specs.Prelude.{◌≡◌, ℕ, zero, suc, ◌*◌, ◌/◌, ◌%◌, All, List, [], ◌∷◌, ◌++◌, replicate, Some, ℤ}
+use Rattle.drive_text.specs.Ranges.{IsInRange}
+use Rattle.interval_clock.specs.Offsets.{IsOffset}
+use Rattle.drive_modes.specs.declared.charges.Mode.{Mode}
+use Rattle.taxi_units.specs.Time.{first_second}
+use Rattle.taxi_units.specs.declared.event.Event.{Event}
+use Rattle.taxi_units.specs.declared.event.Event.TheVariants.{Up, Down, Pulses, Tick}
+use Rattle.taxi_units.specs.declared.event.Event.TheVariants as events
+use Rattle.taxi_units.specs.declared.event.Key.TheVariants.{Hire, Position, Zone}
+use Rattle.taxi_units.specs.declared.event.Operating.TheVariants.{Hired}
+use Rattle.tariff_compare.specs.Contexts.{context_at}
+use Rattle.tariff_compare.specs.declared.meter_context.MeterContext.{MeterContext}
+use Rattle.tariff_compile.specs.Tables.{initial_by}
+use Rattle.tariff_syntax.specs.Tree.{Tree}
+use Rattle.meter_states.specs.Interval.{context_of}
+use Rattle.meter_states.specs.Meter.{Meter}
+use Rattle.meter_states.specs.Run.{opened, run}
+use Rattle.meter_states.specs.Setting.{Setting, unit_of}
+use Rattle.meter_states.specs.Trip.{Trip}
+use Rattle.same_tariffs.specs.Contexts.{without_trip}
+use Rattle.totaliser_store.specs.States.{first_state}
+
+-- a meter under one offset goes by a tariff and its own parameters, with that offset at all seconds
+abbrev pub under_offset : Tree → (k : ℕ) → Mode → (hold : ℕ) → (offset : ℤ) → Setting
+under_offset t k mode hold offset =
+    record { tariff = t; constant = k; mode = mode; hold = hold; offsets = (first_second, offset) ∷ [] }
+
+-- pulses come without ticks as the supply drops before the end of their interval and comes again at the same second
+abbrev pub drop : (second pulses : ℕ) → List Event
+drop second zero = []
+drop second (suc pulses) = Pulses (suc pulses) ∷ Down ∷ Up second ∷ []
+
+-- many drops have 2,000 pulses each
+abbrev pub drops : (second many : ℕ) → List Event
+drops second zero = []
+drops second (suc many) = Pulses 2000 ∷ Down ∷ Up second ∷ drops second many
+
+-- a hiring at a second, a position and a zone begins as the supply comes, both are set, and the key Hire acts
+abbrev pub hire : (second position zone : ℕ) → List Event
+hire second position zone =
+    Up second ∷ events.Key (Position position) ∷ Tick ∷ events.Key (Zone zone) ∷ Tick ∷ events.Key Hire ∷ Tick ∷ []
+
+-- a list of events leads to a context of a meter, at a second of its day and minute, by a hiring, drops for all of its
+-- pulses, and then its ticks
+abbrev pub events_to : (second : ℕ) → MeterContext → List Event
+events_to second c =
+    hire second c.position c.zone
+    ++ (drops second (c.pulses / 2000) ++ (drop second (c.pulses % 2000) ++ replicate c.ticks Tick))
+
+-- a meter is at the beginning of an interval in Hired in a context of a meter if no pulse of that interval has come
+-- yet, and the tariff is asked in that context
+pub record BeginsIn (s : Setting) (c : MeterContext) (m : Meter) : Type 0 where
+  pub hired : m.operating ≡ Hired
+  pub begins : m.taken ≡ []
+  pub context : context_of s m ≡ context_at s.tariff s.constant c
+
+-- a meter has a trip that was hired in a context of a meter if it has the amount and the cover of the initial hire fee
+-- and the minimum fare that hold first there
+pub record WasHiredIn (s : Setting) (c : MeterContext) (m : Meter) : Type 0 where
+  pub trip : Trip
+  pub has : m.trip ≡ Some trip
+  pub amount : trip.initial ≡ (initial_by s.tariff (context_at s.tariff s.constant c)).amount
+  pub minimum : trip.minimum ≡ (initial_by s.tariff (context_at s.tariff s.constant c)).minimum
+  pub cover : trip.opening.cover ≡ (initial_by s.tariff (context_at s.tariff s.constant c)).covers * unit_of s
+
+-- the meter after events is the one that they lead to from a store without entries
+abbrev pub meter_after : Setting → List Event → Meter
+meter_after s events = (run s events (opened s first_state)).next
+
+-- a context of a meter is reached under a tariff, a constant, a mode and a hold if under some offset of at most 14
+-- hours some events, each of which a line of a drive can say, lead to an interval in it, of a trip that was hired in
+-- the same context without ticks and pulses
+pub record IsReached (t : Tree) (k : ℕ) (mode : Mode) (hold : ℕ) (c : MeterContext) : Type 0 where
+  pub offset : ℤ
+  pub events : List Event
+  pub offset_in : IsOffset offset
+  pub events_in : All IsInRange events
+  pub begins : BeginsIn (under_offset t k mode hold offset) c (meter_after (under_offset t k mode hold offset) events)
+  pub hired : WasHiredIn (under_offset t k mode hold offset) (without_trip c)
+      (meter_after (under_offset t k mode hold offset) events)

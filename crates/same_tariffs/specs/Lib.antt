@@ -1,0 +1,5 @@
+pub mod Alike
+pub mod Contexts
+pub mod Drives
+pub mod Reached
+pub mod Same

@@ -1,0 +1,44 @@
+//! The contexts in which the intervals and the hirings of runs are charged.
+ghost use Rattle.std.specs.Prelude.{ℕ, All, List};
+ghost use Rattle.drive_modes.specs.declared.charges.Mode.{Mode};
+ghost use Rattle.drive_text.specs.Ending.{events_of};
+ghost use Rattle.meter_states.specs.Lawful.{IsTimely};
+ghost use Rattle.meter_states.specs.Meter.{Meter};
+ghost use Rattle.meter_states.specs.Run.{opened, run};
+ghost use Rattle.meter_states.specs.Setting.{Setting};
+ghost use Rattle.tariff_check.specs.Faults.{IsSound};
+ghost use Rattle.tariff_compare.specs.Contexts.{IsMeterContext};
+ghost use Rattle.tariff_compare.specs.declared.meter_context.MeterContext.{MeterContext};
+ghost use Rattle.tariff_syntax.specs.Tree.{Tree};
+ghost use Rattle.tariff_syntax.specs.Writable.{IsWritable};
+ghost use Rattle.taxi_units.specs.declared.event.Event.{Event};
+ghost use Rattle.totaliser_store.specs.declared.durable.Durable.{Durable};
+ghost use Rattle.same_tariffs.specs.Contexts.{IsChargedIn, IsHiredIn, IsSettingInRange, meter_context_at, without_trip};
+ghost use Rattle.same_tariffs.specs.Drives.{IsReached};
+ghost use Rattle.same_tariffs.specs.Reached.{HoldGoesOn, IsWithinReach};
+
+/// Each event that a drive can have is at a second of the meter, where it has one.
+pub fn events_of_drives_are_timely()
+    ensures { (drive : List ℕ) → All IsTimely (events_of drive) }
+{}
+
+/// Whatever events of the meter's seconds a run has, the meter is within reach after them. There the running
+/// interval is charged in the lines of the context of a meter at its beginning, and a hiring has the fee and
+/// the minimum fare of one without a trip.
+pub fn intervals_are_charged_in_contexts_of_a_meter()
+    ensures reached { (s : Setting) (durable : Durable) (events : List Event) → IsSettingInRange s → All IsTimely events
+        → HoldGoesOn s.tariff durable.hold → IsWithinReach s (run s events (opened s durable)).next }
+    ensures interval { (s : Setting) (m : Meter) → IsSettingInRange s → IsWithinReach s m
+        → IsChargedIn s m (meter_context_at s m.began m) }
+    ensures hiring { (s : Setting) (m : Meter) → IsSettingInRange s → IsWithinReach s m
+        → IsHiredIn s m (without_trip (meter_context_at s m.clock m)) }
+{}
+
+/// Each context of a meter is reached by some drive, under the constant and each mode and hold: a list of events that
+/// a drive can have leads from a store without entries to an interval in Hired that begins in it, of a trip that was
+/// hired in the same context without ticks and pulses. Its pulses come by drops of the supply, each of which leaves an
+/// interval unfinished, whose pulses count and whose tick doesn't.
+pub fn each_context_is_reached()
+    ensures { (t : Tree) (k : ℕ) (mode : Mode) (hold : ℕ) (c : MeterContext) → IsWritable t → IsSound t
+        → IsMeterContext t c → IsReached t k mode hold c }
+{}

@@ -1,0 +1,36 @@
+//! Runs under tariffs that are the same.
+ghost use Rattle.std.specs.Prelude.{◌≡◌, ℕ, ◌<◌, All, List};
+ghost use Rattle.drive_modes.specs.Fare.{Opening, saved, steps_above};
+ghost use Rattle.drive_modes.specs.declared.meterage.Rounding.{Rounding};
+ghost use Rattle.meter_states.specs.Lawful.{IsTimely};
+ghost use Rattle.meter_states.specs.Run.{whole_run};
+ghost use Rattle.meter_states.specs.Setting.{Setting};
+ghost use Rattle.taxi_units.specs.declared.event.Event.{Event};
+ghost use Rattle.totaliser_store.specs.declared.durable.Durable.{Durable};
+ghost use Rattle.same_tariffs.specs.Alike.{AreMeteragesAlike, AreOpeningsAlike, AreOutcomesAlike, AreStoresAlike, IsSameMoney};
+ghost use Rattle.same_tariffs.specs.Reached.{HoldGoesOn};
+ghost use Rattle.same_tariffs.specs.Same.{AreSameSettings};
+
+/// Charges that are the same money in two units, above covers that are, leave meterages that are alike, and
+/// show the same display steps.
+pub fn same_charges_show_the_same_steps()
+    ensures saved { (u v : ℕ) (o p : Opening) (a b : ℕ) → 0 < u → 0 < v → AreOpeningsAlike u v o p
+        → IsSameMoney u v a b → AreMeteragesAlike u v (saved o a) (saved p b) }
+    ensures steps { (u v : ℕ) (rounding : Rounding) (o p : Opening) (a b : ℕ) → 0 < u → 0 < v → AreOpeningsAlike u v o p
+        → IsSameMoney u v a b → steps_above rounding o a ≡ steps_above rounding p b }
+{}
+
+/// Under two settings that are the same but for tariffs that are the same, and over stores that are alike, as
+/// one store is to itself where it holds no trip, every whole run comes to outcomes that are alike: the same
+/// displays, refusals, entries and receipts in the same order, held trips that are alike, and in the end
+/// stores that are alike again, whose trips go on, so that further runs are alike too.
+pub fn same_tariffs_run_alike()
+    ensures outcomes { (s t : Setting) (d e : Durable) (events : List Event) → AreSameSettings s t → All IsTimely events
+        → HoldGoesOn s.tariff d.hold → AreStoresAlike s t d e
+        → AreOutcomesAlike s t (whole_run s d events) (whole_run t e events) }
+    ensures stores { (s t : Setting) (d e : Durable) (events : List Event) → AreSameSettings s t → All IsTimely events
+        → HoldGoesOn s.tariff d.hold → AreStoresAlike s t d e
+        → AreStoresAlike s t (whole_run s d events).next.durable (whole_run t e events).next.durable }
+    ensures goes_on { (s t : Setting) (d : Durable) (events : List Event) → AreSameSettings s t → All IsTimely events
+        → HoldGoesOn s.tariff d.hold → HoldGoesOn s.tariff (whole_run s d events).next.durable.hold }
+{}
