@@ -62,6 +62,10 @@ mod RunCuts
 mod RunEnds
 -- what the command `run` answers, and what it leaves of the store
 mod Running
+-- runs from starts that are alike
+mod SameStarts
+-- what acts that are alike print, enter and leave
+mod SameTexts
 -- in which texts no byte of the line `SEALED n` stands
 mod SealLines
 -- the text of what a store was sealed with is read as the parameters of its seal

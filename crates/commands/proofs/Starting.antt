@@ -122,7 +122,7 @@ has_start d l (Ok t) s e = by (does_hold_fit (tables_of t l.params.constant) d.h
     by false is f = absurd cc
 
 -- and what was found where a run begins with it
-record HasFound (t : Result (Found Durable) SlotFault) (l : Result (Found Seal) SlotFault) (tariff : List ℕ) (s : Start) : Type 0 where
+pub record HasFound (t : Result (Found Durable) SlotFault) (l : Result (Found Seal) SlotFault) (tariff : List ℕ) (s : Start) : Type 0 where
   pub totals : (place : Place) × (t ≡ Ok (Latest place s.durable))
   pub seal : (place : Place) × (l ≡ Ok (Latest place s.seal))
   pub tariff_is : sealed_tariff s.seal.digest tariff ≡ Ok s.tree
@@ -142,7 +142,7 @@ has_found (Ok (Latest place durable)) (Ok (Latest other l)) tariff s e =
       fits = h.fits;
     }
 
-found_in : (image tariff : List ℕ) (s : Start) → start_of (opening_of image) tariff ≡ Ok s
+pub found_in : (image tariff : List ℕ) (s : Start) → start_of (opening_of image) tariff ≡ Ok s
     → HasFound (found_at totals.reads states.number_of 0 image) (found_at seals.reads seals.number_of 1024 image) tariff s
 found_in image tariff s e = has_found (found_at totals.reads states.number_of 0 image) (found_at seals.reads seals.number_of 1024 image) tariff s e
 

@@ -36,6 +36,8 @@ pub mod Totals
 pub mod Chain
 pub mod Link
 pub mod MemoryRuns
+-- Rules: runs under tariffs that are the same
+pub mod SameRuns
 -- For proofs
 pub mod BenchSteps
 pub mod Carried
