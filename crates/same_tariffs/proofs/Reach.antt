@@ -21,7 +21,7 @@ use Rattle.tariff_compile.specs.Tables.{supplement_at}
 use Rattle.tariff_compile.specs.declared.parts.Supplement.{Supplement}
 use Rattle.tariff_syntax.specs.Tree.{Tree}
 use Rattle.tariff_syntax.specs.Writable.{IsFromTo}
-use Rattle.meter_states.specs.Closing.{closed, entry_of, hirings_end, holds_end, roaming_checked, roaming_checked_in, roaming_entered, roaming_entry, roaming_most, trip_closed}
+use Rattle.meter_states.specs.Closing.{closed, entry_of, roaming_checked, roaming_checked_in, roaming_entered, roaming_entry, trip_closed}
 use Rattle.meter_states.specs.Display.{shown}
 use Rattle.meter_states.specs.Interval.{context_of, counted_in, interval_begun, interval_counted, interval_left, left_in, ticks_so_far}
 use Rattle.meter_states.specs.Keys.{extra_added, extra_added_to, hired, is_among, key_in, key_pressed, latch_pressed, latched, position_set, zone_set}
@@ -35,6 +35,7 @@ use Rattle.meter_states.specs.Supply.{aborted, hold_taken, is_stopped, is_within
 use Rattle.meter_states.specs.Trip.{InHired, InStopped, Part, Rest, Trip, held_trip, ticks_in, with_extra, with_part}
 use Rattle.same_tariffs.specs.Reached.{GoesOn, HoldGoesOn, IsPlace, IsPlaced, IsWithin, IsWithinReach}
 use Rattle.same_tariffs.proofs.Trips.{sum-more}
+use Rattle.taxi_units.specs.Limits.{hirings_end, last_number, roaming_most}
 
 -- ---- one stage with another
 
@@ -260,7 +261,7 @@ within-kept s (Some t) m is x =
     let h = held_trip s m.clock (is_stopped m.operating) m.position m.zone t in
     let on : GoesOn s.tariff h =
     record { set = x.placed.set; ticks = subst (λ (o : Option Trip). ticks_so_far o ≤ last_tick) is x.ticks } in
-    within-either s last_tick (nat_lt m.durable.number holds_end) (held h m) (closed s kinds.Aborted m.clock m)
+    within-either s last_tick (nat_lt m.durable.number last_number) (held h m) (closed s kinds.Aborted m.clock m)
     (record { placed = x.placed; hold = on; ticks = x.ticks })
     (within-closed s kinds.Aborted m.clock last_tick last_tick m x)
 

@@ -32,7 +32,7 @@ use Rattle.tariff_compile.specs.declared.parts.Initial.{Initial}
 use Rattle.tariff_syntax.specs.Tree.{Tree}
 use Rattle.tariff_syntax.specs.Writable.{IsFromTo, IsWritable}
 use Rattle.tariff_syntax.specs.declared.context.Context.{Context}
-use Rattle.meter_states.specs.Closing.{closed, holds_end, roaming_checked}
+use Rattle.meter_states.specs.Closing.{closed, roaming_checked}
 use Rattle.meter_states.specs.Display.{display_of, shown}
 use Rattle.meter_states.specs.Interval.{context_now, context_of, interval_begun}
 use Rattle.meter_states.specs.Keys.{is_among, key_pressed}
@@ -46,6 +46,7 @@ use Rattle.meter_states.proofs.Laws.{runs_add_up}
 use Rattle.same_tariffs.specs.Contexts.{without_trip}
 use Rattle.same_tariffs.specs.Drives.{BeginsIn, IsReached, WasHiredIn, drop, drops, events_to, hire, meter_after, under_offset}
 use Rattle.same_tariffs.proofs.Trips.{sum-more}
+use Rattle.taxi_units.specs.Limits.{last_number}
 
 -- a meter that is hired, at the beginning of an interval
 abbrev hired_at : (second position zone : ℕ) → Option Display → Trip → Durable → Meter
@@ -158,7 +159,7 @@ abbrev turned : Outcome → Meter
 turned o = (turned_off o.next).next
 
 drop-state : (s : Setting) (second position zone p : ℕ) (last : Option Display) (t : Trip) (d : Durable)
-    → d.number < holds_end
+    → d.number < last_number
     → (run s (Pulses p ∷ Down ∷ []) (hired_at second position zone last t d)).next
     ≡ off_at second position zone last (with_part (part_of_drop p) t)
     (after d (changes.Hold (held_trip s second false position zone (with_part (part_of_drop p) t))))
@@ -166,7 +167,7 @@ drop-state s second position zone p last t d low =
     let u = with_part (part_of_drop p) t in
     let n = hired_at second position zone last u d in
     ap (λ (b : Bool). turned (if b then held (held_trip s second false position zone u) n else closed s kinds.Aborted
-    second n)) (below-is d.number holds_end low)
+    second n)) (below-is d.number last_number low)
 
 reached-self : (n : ℕ) → nat_le n n ≡ true
 reached-self n = grind (arith, common_steps)
@@ -191,7 +192,7 @@ up-state s second position zone last t d h is held =
     first ∙ ap (λ (b : Bool). came s (if b then resumed e n else aborted s e n)) within
 
 drop-at : (s : Setting) (b : Trip) (second position zone pulses ticks number p : ℕ) (m : Meter) → p ≤ 2000
-    → number < holds_end
+    → number < last_number
     → IsAt b second position zone pulses ticks number m
     → IsAt b second position zone (pulses + p) ticks (number + 1) (run s (Pulses p ∷ Down ∷ Up second ∷ []) m).next
 drop-at s b second position zone pulses ticks number p m few low at =
@@ -243,7 +244,7 @@ counted b second position zone m p q t u n k ep et en at = record {
 }
 
 drops-at : (s : Setting) (b : Trip) (second position zone pulses ticks number many : ℕ) (m : Meter)
-    → number + many < holds_end
+    → number + many < last_number
     → IsAt b second position zone pulses ticks number m
     → IsAt b second position zone (pulses + 2000 * many) ticks (number + many) (run s (drops second many) m).next
 drops-at s b second position zone pulses ticks number zero m low at = counted b second position zone m _ _ _ _ _ _
@@ -273,7 +274,7 @@ ticks-at s b second position zone pulses ticks number (suc many) m short at =
 
 -- a drop for any pulses that an interval can have, and none for no pulse
 drop-some : (s : Setting) (b : Trip) (second position zone pulses ticks number p : ℕ) (m : Meter) → p ≤ 2000
-    → number < holds_end
+    → number < last_number
     → IsAt b second position zone pulses ticks number m
     → (k : ℕ) × IsAt b second position zone (pulses + p) ticks k (run s (drop second p) m).next
 drop-some s b second position zone pulses ticks number zero m few low at =

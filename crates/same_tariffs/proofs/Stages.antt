@@ -23,7 +23,7 @@ use Rattle.tariff_compile.specs.Tables.{initial_by, supplement_at}
 use Rattle.tariff_compile.specs.declared.parts.Supplement.{Supplement}
 use Rattle.tariff_syntax.specs.declared.context.Context.{Context}
 use Rattle.meter_states.specs.Charge.{charge_at}
-use Rattle.meter_states.specs.Closing.{closed, hirings_end, holds_end, roaming_checked, roaming_checked_in, roaming_entered, roaming_entry, roaming_most, trip_closed, entry_of, receipt_of}
+use Rattle.meter_states.specs.Closing.{closed, roaming_checked, roaming_checked_in, roaming_entered, roaming_entry, trip_closed, entry_of, receipt_of}
 use Rattle.meter_states.specs.Display.{display_of, is_shown, shown}
 use Rattle.meter_states.specs.Interval.{context_now, context_of, counted_in, interval_begun, interval_counted, interval_left, left_in, pulses_taken, room_of, ticks_so_far}
 use Rattle.meter_states.specs.Keys.{extra_added, extra_added_to, hired, is_among, key_in, key_pressed, latch_pressed, latched, position_set, zone_set}
@@ -40,6 +40,7 @@ use Rattle.same_tariffs.specs.Reached.{IsPlaced}
 use Rattle.same_tariffs.proofs.Agreeing.{Agree}
 use Rattle.same_tariffs.proofs.Money.{none-same}
 use Rattle.same_tariffs.proofs.Trips.{begun-alike, display-alike, entry-alike, extra-alike, held-alike, parts-alike, pulses-alike, receipt-alike, ticks-alike}
+use Rattle.taxi_units.specs.Limits.{hirings_end, last_number, roaming_most}
 
 -- ---- meters, acts and outcomes
 
@@ -459,7 +460,7 @@ kept-by s t (Some a) (Some b) m trip hold agree trips same also =
     let holds = held-by s t (held_trip s m.clock stopped m.position m.zone a)
     (held_trip t m.clock stopped m.position m.zone b) m n (held-alike s t a b m.clock stopped m.position m.zone
     agree trips) like in
-    either-alike s t (nat_lt m.durable.number holds_end) (held (held_trip s m.clock stopped m.position m.zone a) m)
+    either-alike s t (nat_lt m.durable.number last_number) (held (held_trip s m.clock stopped m.position m.zone a) m)
     (closed s kinds.Aborted m.clock m)
     (held (held_trip t m.clock stopped m.position m.zone b) n) (closed t kinds.Aborted m.clock n) holds
     (closed-with s t kinds.Aborted m.clock m trip hold agree same also)
