@@ -1,15 +1,11 @@
 -- What is asked of tables in a context of a meter.
-use Rattle.std.proofs.Common.{◌≡◌, ◌∙◌, ap, sym, subst, refl, ℕ, ◌+◌, ◌<◌, ◌≤◌, Bool, true, false, not, ◌&&◌, if◌then◌else◌, get_or, Option, Some, None, ltb, eqb, List, [], ◌∷◌, length, pos, arith}
+use Rattle.std.proofs.Common.{◌≡◌, ◌∙◌, ap, sym, subst, refl, ℕ, Bool, true, false, not, ◌&&◌, if◌then◌else◌, get_or, Some, None, ltb, List, [], ◌∷◌, length, pos, arith}
 use Rattle.std.proofs.lemmas.Bool.{lt-ltb}
-use Rattle.std.specs.List.{list_any}
 use Rattle.interval_clock.specs.Calendar.{date_after, date_place, weekday_of}
-use Rattle.tariff_calendar.specs.Lists.{has_days}
-use Rattle.tariff_calendar.specs.Range.{IsInRange}
 use Rattle.tariff_compile.specs.Tables.{IsInRangeFor, TableParts, fees_in, lines_in}
 use Rattle.tariff_compile.specs.declared.parts.CellLines.{CellLines}
 use Rattle.tariff_syntax.specs.declared.context.Context.{Context}
 use Rattle.tariff_compare.specs.Grids.{CanBeAsked}
-use Rattle.tariff_syntax.specs.declared.meaning.LineKind.{LineKind}
 use Rattle.tariff_syntax.specs.declared.meaning.LineKind.TheVariants.{Rate}
 use Rattle.tariff_compare.specs.Counting.{is_hiring}
 use Rattle.tariff_compare.specs.Same.{have_same_fee, have_same_minimum}

@@ -1,5 +1,5 @@
 -- What the tables of a sound tariff answer is what the tariff says.
-use Rattle.std.proofs.Common.{◌≡◌, ◌∙◌, ap, sym, subst, refl, ℕ, ◌+◌, ◌<◌, ◌≤◌, Bool, true, false, not, ◌&&◌, eqb, if◌then◌else◌, is_some, List, [], ◌∷◌, map, get_or, Option, Some, None, inl, inr, pos, arith}
+use Rattle.std.proofs.Common.{◌≡◌, ◌∙◌, ap, sym, subst, refl, ℕ, ◌+◌, Bool, false, not, ◌&&◌, eqb, if◌then◌else◌, is_some, List, [], ◌∷◌, map, get_or, Option, Some, None, inl, inr, pos, arith}
 use Rattle.std.proofs.lemmas.Bool.{cases_eq, eq-eqb, false_from_ne_true, ne_eqb}
 use Rattle.std.proofs.lemmas.Bool.Decides.{Decides-int_eq}
 use Rattle.std.proofs.lemmas.Int.{ints}
@@ -8,20 +8,17 @@ use Rattle.std.proofs.Math.ListN.{get_or-map}
 use Rattle.std.specs.Option.{unwrap_or}
 use Rattle.interval_clock.proofs.Laws.{IsDateOf-date_after}
 use Rattle.interval_clock.specs.Calendar.{date_after, date_place, weekday_of}
-use Rattle.pulse_input.specs.Constant.{least_constant, greatest_constant}
 use Rattle.tariff_calendar.proofs.Laws.{holidays_are_dates-dates, holidays_are_dates-some}
 use Rattle.tariff_calendar.specs.Lists.{has_day, is_holiday, lists_of}
 use Rattle.tariff_calendar.specs.Range.{IsInRange, IsInRangeOf}
 use Rattle.tariff_check.proofs.Laws.{lines_that_hold_are_there-initial, lines_that_hold_are_there-rate}
-use Rattle.tariff_check.specs.Faults.{IsSound}
-use Rattle.tariff_check.specs.Parts.{RateNumbers, has_holidays, positions_of, rates_of, zones_of}
+use Rattle.tariff_check.specs.Parts.{RateNumbers, positions_of, rates_of, zones_of}
 use Rattle.tariff_compile.proofs.Laws.{tables_equal_the_tree-fees, tables_equal_the_tree-lines}
 use Rattle.tariff_compile.specs.Tables.{IsInRangeFor, IsTablesOf, fees_in, initial_by, lines_at, lines_in, number_of, tables_of}
 use Rattle.tariff_compile.specs.declared.parts.CellLines.{CellLines}
 use Rattle.tariff_compile.specs.declared.parts.Initial as fees
 use Rattle.tariff_syntax.specs.Meaning.{initial_place, minimum_place, rate_place}
 use Rattle.tariff_syntax.specs.Tree.{Tree}
-use Rattle.tariff_syntax.specs.Writable.{IsWritable}
 use Rattle.tariff_syntax.specs.declared.context.Context.{Context}
 use Rattle.tariff_syntax.specs.declared.meaning.LineKind.{LineKind}
 use Rattle.tariff_syntax.specs.declared.meaning.LineKind.TheVariants.{Rate, Initial, Minimum}

@@ -1,17 +1,16 @@
 -- What is so in a context is so in the one of the grid that stands for it.
-use Rattle.std.proofs.Common.{◌≡◌, ◌∙◌, ap, sym, subst, refl, ℕ, ◌≤◌, Bool, true, false, not, ◌&&◌, eqb, is_some, ◌∷◌, get_or, Option, Some, None, arith}
+use Rattle.std.proofs.Common.{◌≡◌, ◌∙◌, ap, sym, refl, ℕ, ◌≤◌, Bool, true, false, not, ◌&&◌, eqb, is_some, ◌∷◌, get_or, Option, arith}
 use Rattle.std.proofs.lemmas.Bool.{eq-eqb, eqb-true}
 use Rattle.std.specs.Cmp.Derive.{both_true}
 use Rattle.std.specs.Option.{unwrap_or}
 use Rattle.tariff_calendar.proofs.Laws.{cuts_decide_conditions-initial, cuts_decide_conditions-minimum, cuts_decide_conditions-rate}
 use Rattle.tariff_calendar.specs.Lists.{lists_of}
-use Rattle.tariff_calendar.specs.Range.{IsInRangeOf, IsSameCell}
-use Rattle.tariff_check.specs.Parts.{RateNumbers, minimums_of, positions_of, rates_of, zones_of}
+use Rattle.tariff_calendar.specs.Range.{IsSameCell}
+use Rattle.tariff_check.specs.Parts.{RateNumbers, minimums_of, rates_of}
 use Rattle.tariff_compile.specs.Tables.{all_initials, initial_by, initial_with, number_of}
 use Rattle.tariff_compile.specs.declared.parts.Initial as fees
 use Rattle.tariff_syntax.specs.Meaning.{initial_place, minimum_place, rate_place}
 use Rattle.tariff_syntax.specs.Tree.{Tree}
-use Rattle.tariff_syntax.specs.declared.context.Context.{Context}
 use Rattle.tariff_syntax.specs.declared.meaning.LineKind.{LineKind}
 use Rattle.tariff_syntax.specs.declared.meaning.LineKind.TheVariants.{Rate, Initial, Minimum}
 use Rattle.tariff_compare.specs.Contexts.{HasTables, IsMeterContext, context_at}

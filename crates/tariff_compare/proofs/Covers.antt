@@ -1,37 +1,24 @@
 -- For each context of a meter the grid has one in the same cell of both tariffs, which isn't later.
-use Rattle.std.proofs.Common.{◌≡◌, ◌≢◌, ◌∙◌, ◌⊎◌, ap, sym, subst, refl, ℕ, zero, suc, ◌+◌, ◌<◌, ◌≤◌, Bool, true, false, not, ◌&&◌, ◌||◌, eqb, if◌then◌else◌, is_some, List, [], ◌∷◌, Option, Some, None, inl, inr, pos, arith}
-use Rattle.std.proofs.lemmas.Bool.{cases_eq, cases_lt, eq-eqb, eqb-true}
-use Rattle.std.specs.List.{All}
-use Rattle.std.specs.Option.{unwrap_or}
-use Rattle.interval_clock.proofs.Laws.{IsDateOf-date_after}
+use Rattle.std.proofs.Common.{◌≡◌, ◌≢◌, ◌∙◌, ◌⊎◌, ap, sym, subst, refl, ℕ, ◌≤◌, Bool, true, false, not, ◌&&◌, ◌||◌, eqb, List, [], ◌∷◌, inl, inr, pos, arith}
+use Rattle.std.proofs.lemmas.Bool.{eq-eqb, eqb-true}
 use Rattle.interval_clock.specs.Calendar.{date_after, date_place, weekday_of}
-use Rattle.tariff_calendar.proofs.Laws.{cuts_decide_conditions-initial, cuts_decide_conditions-minimum, cuts_decide_conditions-rate, holidays_are_dates-dates}
-use Rattle.tariff_calendar.specs.Lists.{count_at_most, is_holiday, lists_of}
+use Rattle.tariff_calendar.specs.Lists.{count_at_most, lists_of}
 use Rattle.tariff_calendar.specs.Range.{IsSameCell}
-use Rattle.tariff_compile.specs.Cells.{IsBefore}
-use Rattle.tariff_compile.specs.Tables.{TableParts, initial_by, tables_of}
-use Rattle.tariff_check.specs.Parts.{positions_of, zones_of}
-use Rattle.tariff_syntax.specs.Meaning.{initial_place, minimum_place, rate_place}
+use Rattle.tariff_compile.specs.Tables.{TableParts, tables_of}
 use Rattle.tariff_syntax.specs.Tree.{Tree}
 use Rattle.tariff_syntax.specs.Writable.{IsFromTo}
 use Rattle.taxi_units.specs.Time.{last_tick}
-use Rattle.tariff_compare.specs.Contexts.{HasTables, IsEarlier, IsMeterContext, context_at, day_place, most_pulses, order_of}
-use Rattle.tariff_compare.specs.Counting.{counts, is_at, is_hiring}
+use Rattle.tariff_compare.specs.Contexts.{HasTables, IsMeterContext, context_at, day_place, most_pulses, order_of}
 use Rattle.tariff_compare.specs.Grids.{day_at, day_in, days_until, grid_of, is_alike, is_edge, is_meter_time, is_same, listed}
-use Rattle.tariff_compare.specs.Same.{cost_same, difference_at, is_fee_other, is_minimum_other, rate_in}
-use Rattle.tariff_compare.specs.Sides.{is_among, is_met}
+use Rattle.tariff_compare.specs.Sides.{is_among}
 use Rattle.tariff_compare.specs.declared.day.Day.{Day}
 use Rattle.tariff_compare.specs.declared.meter_context.MeterContext.{MeterContext}
-use Rattle.tariff_compare.specs.declared.question.Question.{Question}
-use Rattle.tariff_compare.specs.declared.question.Question.TheVariants.{Counts, Differs}
-use Rattle.tariff_syntax.specs.declared.meaning.LineKind.{LineKind}
-use Rattle.tariff_syntax.specs.declared.meaning.LineKind.TheVariants.{Rate, Initial, Minimum}
 use Rattle.tariff_compare.proofs.Bridge.{among}
-use Rattle.tariff_compare.proofs.Found.{HasMinute, IsOfGrid, IsOn}
+use Rattle.tariff_compare.proofs.Found.{IsOfGrid, IsOn}
 use Rattle.tariff_compare.proofs.Kept.{IsKept, IsLike, day_at_place, kept_like, kept_place, place_of_day}
 use Rattle.tariff_compare.proofs.Levels.{IsAtOne}
 use Rattle.tariff_compare.proofs.MeterTimes.{days_within, minutes_within, tested_first, tested_last, time_test, time_tested, time_there}
-use Rattle.tariff_compare.proofs.Numbers.{IsIn, IsReached, at_one, count_same, in_listed, range_within, reached}
+use Rattle.tariff_compare.proofs.Numbers.{at_one, count_same, in_listed, range_within, reached}
 use Rattle.tariff_compare.proofs.Order.{AllLe}
 
 -- ---- days that are like another

@@ -1,5 +1,5 @@
 -- The days that are kept.
-use Rattle.std.proofs.Common.{◌≡◌, ap, refl, ℕ, suc, ◌+◌, [], arith}
+use Rattle.std.proofs.Common.{◌≡◌, refl, ℕ, suc, ◌+◌, [], arith}
 use Rattle.tariff_compile.specs.Tables.{TableParts}
 use Rattle.tariff_compare.specs.Grids.{day_at, day_in, days_until, with_day}
 

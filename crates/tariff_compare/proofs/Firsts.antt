@@ -3,7 +3,7 @@ use Rattle.std.proofs.Common.{◌≡◌, ◌∙◌, sym, ℕ, Bool, true, false,
 use Rattle.tariff_compile.specs.Tables.{tables_of}
 use Rattle.tariff_check.specs.Parts.{positions_of, zones_of}
 use Rattle.tariff_syntax.specs.Tree.{Tree}
-use Rattle.tariff_compare.specs.Contexts.{HasTables, IsEarlier, IsFirst, IsFirstOrNone, IsMeterContext, order_of}
+use Rattle.tariff_compare.specs.Contexts.{HasTables, IsFirstOrNone, IsMeterContext, order_of}
 use Rattle.tariff_compare.specs.Grids.{grid_of}
 use Rattle.tariff_compare.specs.Searches.{first_met}
 use Rattle.tariff_compare.specs.Sides.{is_met, is_met_by, side_of}

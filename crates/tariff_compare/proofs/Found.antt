@@ -1,7 +1,7 @@
 -- What is found in a grid is the first of its contexts that meets the test.
-use Rattle.std.proofs.Common.{◌≡◌, ◌∙◌, ap, sym, refl, ℕ, ◌+◌, ◌<◌, Bool, true, false, if◌then◌else◌, List, ◌∷◌, [], Option, Some, None, arith}
+use Rattle.std.proofs.Common.{◌≡◌, ◌∙◌, ap, sym, refl, ℕ, ◌<◌, Bool, true, false, if◌then◌else◌, ◌∷◌, [], Some, None, arith}
 use Rattle.tariff_compile.specs.Cells.{IsBefore}
-use Rattle.tariff_compare.specs.Contexts.{IsEarlier, day_place, order_of}
+use Rattle.tariff_compare.specs.Contexts.{IsEarlier, day_place}
 use Rattle.tariff_compare.specs.Grids.{GridLists, is_meter_time}
 use Rattle.tariff_compare.specs.Searches.{at_minutes, at_pulses, at_ticks, first_of_all, if_met, if_time, in_grid, in_zones, on_days}
 use Rattle.tariff_compare.specs.declared.day.Day.{Day}

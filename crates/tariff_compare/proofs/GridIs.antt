@@ -1,6 +1,6 @@
 -- The grid of two tariffs: its numbers are ones that a meter can have, it is in order, and its contexts are a meter's.
 use Rattle.std.specs.Prelude.{IfSome}
-use Rattle.std.proofs.Common.{◌≡◌, ◌∙◌, Bool, Option, Some, None, ap, sym, subst, refl, ℕ, ◌+◌, ◌<◌, ◌≤◌, true, List, [], ◌∷◌, inl, inr, arith}
+use Rattle.std.proofs.Common.{◌≡◌, ◌∙◌, Bool, Option, Some, None, ap, sym, subst, refl, ℕ, ◌≤◌, List, [], ◌∷◌, inl, inr, arith}
 use Rattle.std.specs.List.{All, range_with_len}
 use Rattle.std.proofs.lemmas.List.Elements.{All-cons, All-head, All-nil, All-tail}
 use Rattle.tariff_compile.specs.Tables.{TableParts, tables_of}
@@ -9,7 +9,7 @@ use Rattle.tariff_syntax.specs.Tree.{Tree}
 use Rattle.tariff_syntax.specs.Writable.{IsFromTo}
 use Rattle.taxi_units.specs.Time.{last_tick}
 use Rattle.tariff_compare.specs.Contexts.{IsMeterContext, most_pulses}
-use Rattle.tariff_compare.specs.Grids.{CanAskBoth, CanBeAsked, GridLists, IsDayIn, IsGridOf, day_at, day_count, day_in, days_until, grid_of}
+use Rattle.tariff_compare.specs.Grids.{CanAskBoth, GridLists, IsDayIn, IsGridOf, day_at, day_in, days_until, grid_of}
 use Rattle.tariff_compare.specs.Searches.{in_grid}
 use Rattle.tariff_compare.specs.declared.day.Day.{Day}
 use Rattle.tariff_compare.specs.declared.meter_context.MeterContext.{MeterContext}
@@ -17,7 +17,7 @@ use Rattle.tariff_compare.proofs.Found.{IsOfGrid, IsOn, IsOrderedGrid, grid_firs
 use Rattle.tariff_compare.proofs.Kept.{IsKept, day_at_place, days_rise, kept_place}
 use Rattle.tariff_compare.proofs.Levels.{IsAtOne, IsFirstOf}
 use Rattle.tariff_compare.proofs.MeterTimes.{time_there}
-use Rattle.tariff_compare.proofs.Numbers.{IsIn, all_in, in_all, listed_most, listed_rises, one_of, range_in, range_rises}
+use Rattle.tariff_compare.proofs.Numbers.{all_in, in_all, listed_most, listed_rises, one_of, range_in, range_rises}
 
 -- what holds of each day that is kept holds of all
 all_kept : (P : Day → Type 0) (ds : List Day) → ((d : Day) → IsKept d ds → P d) → All P ds

@@ -1,12 +1,12 @@
 -- The days of the grid: they are in order, and for each day there is one that is like it and no later.
-use Rattle.std.proofs.Common.{◌≡◌, ◌∙◌, ◌⊎◌, ap, sym, subst, refl, ℕ, zero, suc, ◌+◌, ◌-◌, ◌<◌, ◌≤◌, Bool, true, false, ◌||◌, if◌then◌else◌, List, [], ◌∷◌, ◌++◌, inl, inr, arith}
-use Rattle.std.proofs.lemmas.Bool.{cases_lt, le-leb, lt-leb, lt-ltb}
+use Rattle.std.proofs.Common.{◌≡◌, ◌⊎◌, ap, sym, subst, refl, ℕ, zero, suc, ◌+◌, ◌-◌, ◌<◌, ◌≤◌, Bool, true, false, ◌||◌, if◌then◌else◌, List, [], ◌∷◌, ◌++◌, inl, inr, arith}
+use Rattle.std.proofs.lemmas.Bool.{cases_lt}
 use Rattle.std.proofs.lemmas.Bool.Decides.{nat_tests}
 use Rattle.std.specs.List.{list_any}
 use Rattle.tariff_compile.specs.Tables.{TableParts}
 use Rattle.tariff_syntax.specs.Writable.{IsFromTo}
 use Rattle.tariff_compare.specs.Contexts.{day_place}
-use Rattle.tariff_compare.specs.Grids.{day_at, day_in, days_until, is_alike, with_day}
+use Rattle.tariff_compare.specs.Grids.{day_at, day_in, days_until, is_alike}
 use Rattle.tariff_compare.specs.declared.day.Day.{Day}
 use Rattle.tariff_compare.proofs.Days.{days_none, next_day}
 use Rattle.tariff_compare.proofs.Found.{BelowDay}

@@ -1,5 +1,5 @@
 -- The first answer of one search after another, each at one element of a list.
-use Rattle.std.proofs.Common.{◌≡◌, Bool, true, false, List, [], ◌∷◌, Option, Some, None, inl, inr, refl, sym, ◌∙◌, ◌⊎◌}
+use Rattle.std.proofs.Common.{◌≡◌, Bool, true, false, List, [], ◌∷◌, Option, Some, None, inl, inr, ◌⊎◌}
 use Rattle.std.specs.Option.{option_or}
 use Rattle.tariff_compare.specs.Contexts.{IsEarlier}
 use Rattle.tariff_compare.specs.Searches.{first_by}

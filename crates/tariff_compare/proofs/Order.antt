@@ -2,8 +2,6 @@
 use Rattle.std.proofs.Common.{◌≡◌, ℕ, ◌<◌, ◌≤◌, List, [], ◌∷◌, inl, inr, arith}
 use Rattle.std.proofs.lemmas.Bool.{cases_lt}
 use Rattle.tariff_compile.specs.Cells.{IsBefore}
-use Rattle.tariff_compare.specs.Contexts.{IsEarlier, day_place, order_of}
-use Rattle.tariff_compare.specs.declared.meter_context.MeterContext.{MeterContext}
 
 -- where two numbers are the same, what follows decides
 pub strip : (a b : ℕ) (xs ys : List ℕ) → a ≡ b → IsBefore (a ∷ xs) (b ∷ ys) → IsBefore xs ys

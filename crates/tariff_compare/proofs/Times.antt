@@ -1,5 +1,5 @@
 -- Days and minutes of a meter.
-use Rattle.std.proofs.Common.{◌≡◌, ◌≢◌, ◌∙◌, sym, refl, ℕ, zero, suc, ◌+◌, ◌-◌, ◌%◌, ◌<◌, ◌≤◌, Bool, true, false, List, get_or, Some, None, inl, inr, pos, arith}
+use Rattle.std.proofs.Common.{◌≡◌, ◌∙◌, sym, refl, ℕ, zero, suc, ◌+◌, ◌-◌, ◌%◌, ◌≤◌, Bool, true, false, get_or, Some, None, inl, inr, pos, arith}
 use Rattle.std.proofs.lemmas.Bool.{cases_lt}
 use Rattle.interval_clock.proofs.Laws.{IsDateOf-date_after}
 use Rattle.interval_clock.specs.Calendar.{date_after, date_place, days_of_month, is_leap_year, month_lengths, weekday_of}

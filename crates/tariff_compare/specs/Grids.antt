@@ -7,7 +7,7 @@ use Rattle.tariff_check.specs.Cuts.{with_each}
 use Rattle.tariff_compile.specs.Tables.{TableParts}
 use Rattle.tariff_syntax.specs.Writable.{IsFromTo}
 use Rattle.taxi_units.specs.Time.{last_tick}
-use Rattle.tariff_compare.specs.Contexts.{first_day, most_pulses}
+use Rattle.tariff_compare.specs.Contexts.{most_pulses}
 use Rattle.tariff_compare.specs.Sides.{is_among}
 use Rattle.tariff_compare.specs.declared.day.Day.{Day}
 use Rattle.tariff_compare.specs.declared.meter_context.MeterContext.{MeterContext}

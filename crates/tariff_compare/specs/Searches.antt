@@ -3,7 +3,6 @@
 use Rattle.std.specs.Prelude.{ℕ, Bool, if◌then◌else◌, List, [], ◌∷◌, Option, Some, None}
 use Rattle.std.specs.Option.{option_or}
 use Rattle.tariff_syntax.specs.Tree.{Tree}
-use Rattle.tariff_syntax.specs.declared.meaning.LineKind.{LineKind}
 use Rattle.tariff_compare.specs.Grids.{GridLists, grid_of, is_meter_time}
 use Rattle.tariff_compare.specs.Sides.{SideParts, is_met_by, side_of}
 use Rattle.tariff_compare.specs.declared.day.Day.{Day}

@@ -1,5 +1,5 @@
 -- Rules: the texts of contexts of a meter, and of the uses of lines.
-use Rattle.std.specs.Prelude.{ℕ, ◌/◌, ◌%◌, List, [], ◌∷◌, ◌++◌, Option, Some, None, codes, decimal, pos}
+use Rattle.std.specs.Prelude.{ℕ, ◌/◌, ◌%◌, List, ◌++◌, Option, Some, None, codes, decimal, pos}
 use Rattle.std.specs.List.{flat_map}
 use Rattle.interval_clock.specs.Calendar.{date_after, weekday_of}
 use Rattle.interval_clock.specs.declared.day_numbers.CalendarDate.{CalendarDate}

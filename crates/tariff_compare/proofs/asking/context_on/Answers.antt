@@ -1,4 +1,3 @@
-use Rattle.std.proofs.Common.{◌∙◌}
 use Rattle.tariff_compare.proofs.Asked.{context_in_range, same_asked}
 use Rattle.tariff_compare.proofs.asking.context_on.Goals as goal
 

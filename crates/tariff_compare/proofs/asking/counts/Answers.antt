@@ -1,5 +1,4 @@
 use Rattle.std.proofs.Common.{◌∙◌, ap, sym, ◌+◌, nat_eq}
-use Rattle.tariff_compile.specs.Tables.{lines_in}
 use Rattle.tariff_compile.specs.declared.parts.CellLines.{CellLines}
 use Rattle.tariff_compare.specs.Counting.{is_hiring}
 use Rattle.tariff_compare.proofs.Asked.{also, lines_by_is}

@@ -1,5 +1,5 @@
 use Rattle.std.proofs.Common.{◌≡◌, ◌∙◌, ap, sym}
-use Rattle.tariff_compare.specs.Sides.{cost_alike, costs_by, is_fee_other_by, is_minimum_other_by}
+use Rattle.tariff_compare.specs.Sides.{cost_alike, costs_by}
 use Rattle.tariff_compare.specs.declared.costs.RateCosts.{RateCosts}
 use Rattle.tariff_compare.proofs.Asked.{costs_by_is, part_rate}
 use Rattle.tariff_compare.proofs.asking.difference.Goals as goal

@@ -1,9 +1,8 @@
-use Rattle.std.proofs.Common.{◌∙◌, ap, sym, not, ◌&&◌}
+use Rattle.std.proofs.Common.{◌∙◌, ap, sym, not}
 use Rattle.tariff_compile.specs.Tables.{TableParts, fees_in}
 use Rattle.tariff_compile.specs.declared.parts.Initial as fees
 use Rattle.tariff_compare.specs.Counting.{is_hiring}
 use Rattle.tariff_compare.specs.Same.{have_same_minimum}
-use Rattle.tariff_compare.specs.Sides.{SideParts}
 use Rattle.tariff_compare.proofs.Asked.{also, minimum_other_is, neither}
 use Rattle.tariff_compare.proofs.asking.is_minimum_other.Goals as goal
 

@@ -1,6 +1,4 @@
-use Rattle.std.proofs.Common.{◌∙◌, ap, sym, arith}
-use Rattle.tariff_syntax.specs.Tree.{line_of}
-use Rattle.tariff_compare.specs.Uses.{first_counting, place_behind}
+use Rattle.std.proofs.Common.{◌∙◌, sym}
 use Rattle.tariff_compare.proofs.UseSteps.{asked_dated, use_made}
 use Rattle.tariff_compare.proofs.uses.use_at.Goals as goal
 
