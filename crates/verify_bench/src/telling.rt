@@ -137,7 +137,7 @@ fn groups(alloc: Global, lines: &[TariffLine], table: &[RateSums]) -> Result<Vec
         → groups.items ≡ groups_from s parts 0 (line_numbers rate_part (map line_of lines.now))) }
 {
     let mut groups = Vec::new(alloc);
-    let mut place = 0;
+    let mut place = 0usize;
     for line in lines {
         if let Item::Rate(_) = &line.item {
             put_groups(&mut groups, line.line, sums_at(table, place))?;
