@@ -24,7 +24,7 @@ use taxi_units::{Kind, LONGEST_TRIP, Steps, Why};
 
 impl State {
     /// A tick. At most 48 steps.
-    #[inline(never)]
+    #[inline(always)]
     pub(crate) fn tick<L: Ledger>(
         &mut self,
         facts: &mut Facts,
