@@ -24,8 +24,11 @@ use Rattle.taxi_units.specs.declared.event.Operating.{Operating}
 use Rattle.taxi_units.specs.declared.receipt.Display.{Display}
 use Rattle.verify_bench.specs.Bench.{AreTrips, HasTicks, IsSound, IsSoundHiring, Moves, Stands}
 use Rattle.verify_bench.specs.Expecting.{hirings_in}
-use Rattle.verify_bench.specs.Explaining.{Explanation, explanation, explanation_of, explanations_in, hired_by, whole_of}
-use Rattle.verify_bench.specs.Groups.{sums_of}
+use Rattle.verify_bench.specs.Explaining.{Explanation, explanation, explanation_of, explanations_in, hired_by, taken_of, whole_of}
+use Rattle.taxi_units.specs.declared.receipt.Receipt as receipts
+use Rattle.verify_bench.specs.Groups.{groups_of, sums_of}
+use Rattle.verify_bench.specs.declared.explained.Group.{Group}
+use Rattle.verify_bench.specs.declared.explained.Taken.{Taken}
 use Rattle.verify_bench.proofs.Gathering.{zero_plus}
 use Rattle.totaliser_store.specs.Entries.{is_of_hiring}
 use Rattle.taxi_units.specs.declared.receipt.Kind.{Kind}
@@ -352,3 +355,11 @@ few_by number most more (Some other) hiring is sound = sound.2
 
 pub few_numbers : (meter : PlainMeter) (hiring : Hiring) (most more : ℕ) → meter.hiring ≡ Some hiring → IsSound most more meter → meter.number ≤ last_number
 few_numbers meter hiring most more is sound = few_by meter.number most more meter.hiring hiring is sound.hiring
+
+-- a hiring is taken apart
+pub taken_apart : (s : Setting) (hired : Context) (hiring : Hiring) (trip : Trip) (receipt made : receipts.Receipt) (groups : List Group) (taken : List Taken) → IsTrip s hired hiring trip
+    → receipt ≡ made → groups ≡ groups_of s trip.parts → taken ≡ taken_of s.tariff hiring.extras.items
+    → record { receipt = receipt; fee_line = hiring.fee.fee_line; covers = hiring.fee.initial.covers; minimum_line = hiring.fee.minimum_line; whole = hiring.whole; groups = groups; stopped = hiring.stopped; dropped = hiring.dropped; taken = taken }
+    ≡ explanation s hired (Some trip) made
+taken_apart s hired hiring trip receipt made groups taken is same grouped added =
+    rw (same, is.fee_line, is.fee, is.minimum_line, whole_is s hired hiring trip is, is.stopped, is.dropped, is.extras, added, grouped) refl

@@ -7,7 +7,7 @@ use Rattle.meter_states.proofs.Laws as states
 use Rattle.meter_states.specs.Closing.{closed, receipt_of, roaming_checked, roaming_checked_in, roaming_entered, trip_closed}
 use Rattle.meter_states.specs.Display.{display_of, is_shown, shown}
 use Rattle.meter_states.specs.Interval.{context_now, context_of, counted_in, interval_begun, interval_counted, interval_left, left_in, pulses_taken, room_of, ticks_so_far, with_interval}
-use Rattle.meter_states.specs.Kept.{IsKept, IsKeptIn}
+use Rattle.meter_states.specs.Kept.{IsKept, IsKeptIn, IsSupplementNumber}
 use Rattle.meter_states.specs.Keys.{extra_added, extra_added_to, hired, hiring, is_among, key_in, key_pressed, latch_pressed, latched, position_set, zone_set}
 use Rattle.meter_states.specs.Meter.{Meter, Outcome, ◌>>=◌, quiet}
 use Rattle.meter_states.specs.Run.{actions_of, ended, ended_in, opened, run}
@@ -21,6 +21,7 @@ use Rattle.meter_states.specs.declared.act.Act.TheVariants.{Show, Refuse, Enter,
 use Rattle.tariff_check.specs.Parts.{positions_of, zones_of}
 use Rattle.tariff_compile.specs.Tables.{supplement_at}
 use Rattle.tariff_compile.specs.declared.parts.Supplement.{Supplement}
+use Rattle.tariff_syntax.specs.Writable.{IsWritable}
 use Rattle.tariff_syntax.specs.declared.context.Context.{Context}
 use Rattle.taxi_units.specs.Limits.{hirings_end, last_number, roaming_most}
 use Rattle.taxi_units.specs.Time.{longest_trip}
@@ -36,7 +37,9 @@ use Rattle.taxi_units.specs.declared.receipt.Kind.TheVariants as kinds
 use Rattle.taxi_units.specs.declared.receipt.Receipt as receipts
 use Rattle.totaliser_store.specs.States.{first_state}
 use Rattle.totaliser_store.specs.declared.trip.Trip as store
+use Rattle.verify_bench.proofs.AmountSums.{all_numbers}
 use Rattle.verify_bench.proofs.Benches.{hired_after}
+use Rattle.verify_bench.proofs.TreeParts.{supplement_number}
 use Rattle.verify_bench.specs.Explaining.{Explanation, explanation, explanations_from, explanations_in, explanations_of, hired_at, hired_by, trip_at}
 use Rattle.verify_bench.specs.Wholes.{BeganIn, IsOfTrip, receipts_in}
 
@@ -152,15 +155,15 @@ latch_by : (s : Setting) (hired : Context) (trip : Option Trip) (latch : Option 
 latch_by s hired trip None m fresh = goes_quietly s hired trip m fresh
 latch_by s hired trip (Some key) m fresh = record { are = tt; fresh = fresh }
 
-extra_by : (s : Setting) (hired : Context) (n : ℕ) (supplement : Supplement) (trip : Option Trip) (m : Meter) → m.trip ≡ trip → Fresh s hired trip → Goes s hired trip (extra_added_to n supplement trip m)
-extra_by s hired n supplement None m is fresh = record { are = tt; fresh = rw is tt }
-extra_by s hired n supplement (Some t) m is fresh =
+extra_by : (s : Setting) (hired : Context) (n : ℕ) (supplement : Supplement) (trip : Option Trip) (m : Meter) → (IsWritable s.tariff → IsSupplementNumber n) → m.trip ≡ trip → Fresh s hired trip → Goes s hired trip (extra_added_to n supplement trip m)
+extra_by s hired n supplement None m numbered is fresh = record { are = tt; fresh = rw is tt }
+extra_by s hired n supplement (Some t) m numbered is fresh =
     goes_if s hired (Some t) (nat_le supplement.max (times n t.extras)) _ _ (record { are = tt; fresh = rw is fresh })
-    (record { are = tt; fresh = record { initial = fresh.initial; minimum = fresh.minimum; opening = fresh.opening } })
+    (record { are = tt; fresh = record { initial = fresh.initial; minimum = fresh.minimum; opening = fresh.opening; extras = λ writable. all_numbers n t.extras (numbered writable) (fresh.extras writable) } })
 
-goes_extra : (s : Setting) (hired : Context) (n : ℕ) (supplement : Option Supplement) (m : Meter) → Fresh s hired m.trip → Goes s hired m.trip (extra_added n supplement m)
-goes_extra s hired n None m fresh = record { are = tt; fresh = fresh }
-goes_extra s hired n (Some supplement) m fresh = extra_by s hired n supplement m.trip m refl fresh
+goes_extra : (s : Setting) (hired : Context) (n : ℕ) (supplement : Option Supplement) (m : Meter) → supplement_at s.tariff n ≡ supplement → Fresh s hired m.trip → Goes s hired m.trip (extra_added n supplement m)
+goes_extra s hired n None m there fresh = record { are = tt; fresh = fresh }
+goes_extra s hired n (Some supplement) m there fresh = extra_by s hired n supplement m.trip m (λ writable. supplement_number s.tariff n supplement writable there) refl fresh
 
 goes_position : (s : Setting) (hired : Context) (n : ℕ) (m : Meter) → Fresh s hired m.trip → Goes s hired m.trip (position_set s n m)
 goes_position s hired n m fresh =
@@ -173,7 +176,7 @@ goes_zone s hired n m fresh =
 goes_hiring : (s : Setting) (trip : Option Trip) (m : Meter) → m.trip ≡ None → Goes s (context_now s m) trip (hiring s m)
 goes_hiring s trip m none =
     goes_if s (context_now s m) trip (nat_le hirings_end m.durable.number) _ _ (record { are = tt; fresh = rw none tt })
-    (record { are = tt; fresh = record { initial = refl; minimum = refl; opening = refl } })
+    (record { are = tt; fresh = record { initial = refl; minimum = refl; opening = refl; extras = λ writable. All-nil IsSupplementNumber } })
 
 goes_key : (s : Setting) (hired : Context) (key : Key) (operating : Operating) (m : Meter) → (operating ≡ ForHire → m.trip ≡ None) → Fresh s hired m.trip
     → Goes s (hired_by (Some key) operating (context_now s m) hired) m.trip (key_in s key operating m)
@@ -199,8 +202,8 @@ goes_key s hired (keys.Zone n) Hired m none fresh = goes_zone s hired n m fresh
 goes_key s hired (keys.Zone n) Stopped m none fresh = record { are = tt; fresh = fresh }
 goes_key s hired (keys.Extra n) Off m none fresh = record { are = tt; fresh = fresh }
 goes_key s hired (keys.Extra n) ForHire m none fresh = record { are = tt; fresh = fresh }
-goes_key s hired (keys.Extra n) Hired m none fresh = goes_extra s hired n (supplement_at s.tariff n) m fresh
-goes_key s hired (keys.Extra n) Stopped m none fresh = goes_extra s hired n (supplement_at s.tariff n) m fresh
+goes_key s hired (keys.Extra n) Hired m none fresh = goes_extra s hired n (supplement_at s.tariff n) m refl fresh
+goes_key s hired (keys.Extra n) Stopped m none fresh = goes_extra s hired n (supplement_at s.tariff n) m refl fresh
 
 goes_latch : (s : Setting) (hired : Context) (latch : Option Key) (m : Meter) → (m.operating ≡ ForHire → m.trip ≡ None) → Fresh s hired m.trip
     → Goes s (hired_by latch m.operating (context_now s m) hired) m.trip (latch_pressed s latch m)
@@ -212,7 +215,7 @@ fresh_more : (s : Setting) (hired : Context) (part : Part) (m : Meter) (trip : O
 fresh_more s hired part m None is fresh = rw is tt
 fresh_more s hired part m (Some t) is fresh =
     let began : BeganIn s hired t = rw is at fresh in
-    rw is (record { initial = began.initial; minimum = began.minimum; opening = began.opening })
+    rw is (record { initial = began.initial; minimum = began.minimum; opening = began.opening; extras = began.extras })
 
 fresh_counted : (s : Setting) (hired : Context) (operating : Operating) (pulses : ℕ) (m : Meter) → Fresh s hired m.trip → Fresh s hired (counted_in s operating pulses m).trip
 fresh_counted s hired Off pulses m fresh = fresh

@@ -13,17 +13,24 @@ use Rattle.meter_states.specs.Trip as model
 use Rattle.tariff_check.proofs.Laws as check
 use Rattle.tariff_check.specs.Faults.{IsSound}
 use Rattle.tariff_check.specs.Parts.{RateNumbers, rate_part, rates_of}
-use Rattle.tariff_syntax.specs.Tree.{Line}
+use Rattle.tariff_syntax.specs.Tree.{Line, Tree}
 use Rattle.tariff_syntax.specs.declared.context.Context.{Context}
 use Rattle.taxi_units.specs.declared.event.Event.{Event}
-use Rattle.verify_bench.specs.Explaining.{Explanation, explanations_of}
+use Rattle.verify_bench.specs.Explaining.{Explanation, explanations_of, taken_if, taken_of}
 use Rattle.verify_bench.specs.Groups.{group_if, groups_at, groups_from, is_charged_by, is_in_stopped, is_rest, is_same_way, line_numbers, rate_place_of, rate_sums, sums_of, way_by, way_of}
 use Rattle.verify_bench.specs.Wholes.{ArePartsTheWhole, IsOfTrip, MakesReceipt, charge_in_way}
 use Rattle.verify_bench.specs.declared.explained.Group.{Group}
 use Rattle.verify_bench.specs.declared.explained.Sums.{Sums}
 use Rattle.verify_bench.specs.declared.explained.Way.{Way}
 use Rattle.verify_bench.specs.declared.explained.Way.TheVariants.{Distance, Time, Both}
-use Rattle.verify_bench.proofs.AmountSums.{sum_head}
+use Rattle.std.specs.Prelude.{flat_map}
+use Rattle.std.specs.List.{range_with_len}
+use Rattle.meter_states.specs.Kept.{IsSupplementNumber}
+use Rattle.meter_states.specs.Supplements.{amount_in, amounts_of, times}
+use Rattle.tariff_compile.specs.Tables.{supplement_at}
+use Rattle.verify_bench.specs.Amounts.{amounts_among}
+use Rattle.verify_bench.specs.declared.explained.Taken.{Taken}
+use Rattle.verify_bench.proofs.AmountSums.{all_among, sum_head}
 use Rattle.verify_bench.proofs.Explanations.{explained_are_of_trips}
 use Rattle.std.proofs.lemmas.Bool.{eqb-true}
 use Rattle.std.proofs.lemmas.List.Sums.{sum-map, sum_by-append}
@@ -211,6 +218,26 @@ within_rates s sound x =
     let holds = check.lines_that_hold_are_there-rate s.tariff x sound in
     rw (as_many s.tariff.lines, holds.1) holds.2
 
+-- the supplements that were taken, number by number
+one_taken : (t : Tree) (numbers : List ℕ) (number : ℕ) (b : Bool) → nat_eq (times number numbers) 0 ≡ b
+    → sum (map (λ (k : Taken). k.count * k.amount) (if b then [] else record { number = number; count = times number numbers; amount = amount_in (supplement_at t number) } ∷ []))
+    ≡ times number numbers * amount_in (supplement_at t number)
+one_taken t numbers number true none =
+    let zero_times : times number numbers ≡ 0 = eqb-true (times number numbers) 0 none in
+    rw zero_times (omega arith)
+one_taken t numbers number false some = omega arith
+
+all_taken : (t : Tree) (numbers : List ℕ) (first many : ℕ)
+    → sum (map (λ (k : Taken). k.count * k.amount) (flat_map (taken_if t numbers) (range_with_len first many))) ≡ amounts_among (λ number. amount_in (supplement_at t number)) first many numbers
+unfolding amounts_among
+all_taken t numbers first zero = refl
+all_taken t numbers first (suc many) =
+    sum_both (λ (k : Taken). k.count * k.amount) (taken_if t numbers first) (flat_map (taken_if t numbers) (range_with_len (first + 1) many))
+    ∙ two_more (one_taken t numbers first (nat_eq (times first numbers) 0) refl) (all_taken t numbers (first + 1) many)
+
+taken_sum : (t : Tree) (numbers : List ℕ) → All IsSupplementNumber numbers → sum (map (λ (k : Taken). k.count * k.amount) (taken_of t numbers)) ≡ amounts_of t numbers
+taken_sum t numbers all = all_taken t numbers 1 16 ∙ all_among (λ number. amount_in (supplement_at t number)) numbers all
+
 -- an explanation of a trip
 one_adds_up : (s : Setting) → IsSound s.tariff → (e : Explanation) → IsOfTrip s e → ArePartsTheWhole e
 one_adds_up s sound e is_of =
@@ -239,6 +266,7 @@ one_makes s e is_of =
       steps = rw began.opening refl;
       step = refl;
       fare = refl;
+      supplements = λ writable. taken_sum s.tariff is_of.trip.extras (began.extras writable);
     })
 
 pub all_add_up : (s : Setting) (events : List Event) → IsSound s.tariff → All ArePartsTheWhole (explanations_of s events)

@@ -62,6 +62,10 @@ numbered t number s writable there = elim (cases_lt 16 number) [
   ]
 ]
 
+number_by : (t : Tree) (number : ℕ) (found : Supplement) (o : Option SupplementNumbers) → IsWritable t → supplement_of t.lines number ≡ o → option_map supplement_in o ≡ Some found → IsSupplementNumber number
+number_by t number found None writable there is = absurd cc
+number_by t number found (Some s) writable there is = numbered t number s writable there
+
 supplement_by : (t : Tree) (number : ℕ) (found : Supplement) (o : Option SupplementNumbers) → IsWritable t → IsSound t → supplement_of t.lines number ≡ o → option_map supplement_in o ≡ Some found
     → IsSupplementNumber number × (found.amount ≤ 1000000) × (found.max ≤ 99)
 supplement_by t number found None writable sound there is = absurd cc
@@ -74,3 +78,6 @@ supplement_by t number found (Some s) writable sound there is =
 pub sound_supplement : (t : Tree) (number : ℕ) (found : Supplement) → IsWritable t → IsSound t → supplement_at t number ≡ Some found
     → IsSupplementNumber number × (found.amount ≤ 1000000) × (found.max ≤ 99)
 sound_supplement t number found writable sound is = supplement_by t number found (supplement_of t.lines number) writable sound refl is
+
+pub supplement_number : (t : Tree) (number : ℕ) (found : Supplement) → IsWritable t → supplement_at t number ≡ Some found → IsSupplementNumber number
+supplement_number t number found writable is = number_by t number found (supplement_of t.lines number) writable refl is

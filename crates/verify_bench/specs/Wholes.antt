@@ -1,8 +1,9 @@
 -- Rules: what the parts of an explanation come to together, and which receipt it is of.
-use Rattle.std.specs.Prelude.{◌≡◌, ℕ, ◌+◌, ◌*◌, List, [], ◌∷◌, Some, map, sum}
+use Rattle.std.specs.Prelude.{◌≡◌, ℕ, ◌+◌, ◌*◌, List, [], ◌∷◌, All, Some, map, sum}
 use Rattle.drive_modes.specs.Fare.{shown_fare, steps_above}
 use Rattle.meter_states.specs.Charge.{distance_charge, time_charge}
 use Rattle.meter_states.specs.Closing.{receipt_of}
+use Rattle.meter_states.specs.Kept.{IsSupplementNumber}
 use Rattle.meter_states.specs.Setting.{Setting, rounding_of, step_of, unit_of}
 use Rattle.meter_states.specs.Trip.{Trip}
 use Rattle.meter_states.specs.declared.act.Act.{Act}
@@ -11,11 +12,13 @@ use Rattle.meter_states.specs.declared.act.Act.TheVariants.{Show, Refuse, Enter,
 use Rattle.pulse_input.specs.Distance.{millimetres_of}
 use Rattle.tariff_check.specs.Parts.{RateNumbers}
 use Rattle.tariff_compile.specs.Tables.{initial_by}
+use Rattle.tariff_syntax.specs.Writable.{IsWritable}
 use Rattle.tariff_syntax.specs.declared.context.Context.{Context}
 use Rattle.taxi_units.specs.declared.receipt.Kind.{Kind}
 use Rattle.taxi_units.specs.declared.receipt.Receipt.{Receipt}
 use Rattle.verify_bench.specs.Explaining.{Explanation, explanation}
 use Rattle.verify_bench.specs.declared.explained.Group.{Group}
+use Rattle.verify_bench.specs.declared.explained.Taken.{Taken}
 use Rattle.verify_bench.specs.declared.explained.Way.{Way}
 use Rattle.verify_bench.specs.declared.explained.Way.TheVariants.{Distance, Time, Both}
 
@@ -35,12 +38,14 @@ charge_in_way k common r p Time = time_charge k common r
 charge_in_way k common r p Both = distance_charge common r p + time_charge k common r
 
 -- a trip began in a context with the initial hire fee, the minimum fare and the cover that the tariff's text names
--- there, and with nothing charged and no pulse and no tick
+-- there, and with nothing charged and no pulse and no tick; each of its supplements is numbered 1 to 16, as the numbers
+-- of a text are
 pub record BeganIn (s : Setting) (hired : Context) (trip : Trip) : Type 0 where
   pub initial : trip.initial ≡ (initial_by s.tariff hired).amount
   pub minimum : trip.minimum ≡ (initial_by s.tariff hired).minimum
   pub opening : trip.opening
       ≡ record { cover = (initial_by s.tariff hired).covers * unit_of s; above = 0; pulses = 0; ticks = 0 }
+  pub extras : IsWritable s.tariff → All IsSupplementNumber trip.extras
 
 -- an explanation is of a trip that was closed if it is by the context in which the trip began, and its receipt is the
 -- one with which the trip was closed
@@ -62,10 +67,13 @@ pub record ArePartsTheWhole (e : Explanation) : Type 0 where
   pub ticks : sum (map (λ (g : Group). g.sums.ticks) e.groups) + e.stopped.ticks ≡ e.whole.ticks
 
 -- an explanation makes the receipt if the trip's pulses make its distance, the trip's charges its display steps, by
--- what the fee covers, the step and the rounding, and these with the initial hire fee and the minimum fare its fare
+-- what the fee covers, the step and the rounding, these with the initial hire fee and the minimum fare its fare, and
+-- the supplements that were taken the sum of its supplements
 pub record MakesReceipt (s : Setting) (e : Explanation) : Type 0 where
   pub distance : e.receipt.hired_mm ≡ millimetres_of s.constant e.whole.pulses
   pub steps : e.receipt.steps ≡ steps_above (rounding_of s)
       (record { cover = e.covers * unit_of s; above = 0; modulus = e.receipt.step * unit_of s }) e.whole.charge
   pub step : e.receipt.step ≡ step_of s
   pub fare : e.receipt.fare ≡ shown_fare e.receipt.initial e.receipt.minimum e.receipt.step e.receipt.steps
+  pub supplements : IsWritable s.tariff
+      → sum (map (λ (t : Taken). t.count * t.amount) e.taken) ≡ e.receipt.supplements

@@ -22,7 +22,7 @@ pub fn explanations_have_the_receipts()
 {}
 
 /// A law: the parts of each explanation are the whole trip, under a sound tariff; the whole trip makes the
-/// receipt; and an interval is charged what its way says.
+/// receipt, with the supplements that were taken; and an interval is charged what its way says.
 pub fn explanations_add_up()
     ensures whole { (s : Setting) (events : List Event)
         → IsSound s.tariff → All ArePartsTheWhole (explanations_of s events) }
