@@ -18,7 +18,7 @@ use Rattle.taxi_units.specs.declared.receipt.Stamp.{Stamp}
 use Rattle.taxi_units.proofs.Laws.{amounts_are_written_by_their_digits, numbers_are_written_by_their_digits, padded_numbers_are_written_by_their_digits}
 use Rattle.receipt_text.specs.Grammar.{AreAmounts, AreLines, AreTripLines, HasMinimum, IsCalculation, IsDateText, IsDayText, IsDistance, IsExactly, IsHexDigit, IsHexText, IsKind, IsMoney, IsReceiptText, IsStampText, IsTimeText, Line}
 use Rattle.receipt_text.specs.Part.{Part, IsPart}
-use Rattle.receipt_text.specs.Receipts.{body_text, calculation_text, date_text, day_text, heading_text, hex_digit, hex_text, kind_text, minimum_text, part_text, receipt_text, stamp_text, sums_text, time_text, total_text, trip_text}
+use Rattle.receipt_text.specs.Receipts.{body_text, calculation_text, course_text, date_text, day_text, fare_text, heading_text, hex_digit, hex_text, kind_text, minimum_text, part_text, receipt_text, stamp_text, sums_text, supplements_text, time_text, total_text, trip_text}
 use Rattle.receipt_text.specs.Spelling.{IsSpelled}
 use Rattle.receipt_text.proofs.Dates.{month_small, year_below}
 use Rattle.taxi_units.specs.Limits.{largest_supplements}
@@ -272,7 +272,7 @@ unfolding part_text
 part_lines p rest = simp append_assoc
 
 body_lines : (r : Receipt) → body_text r ≡ trip_lines r
-unfolding body_text trip_text calculation_text sums_text total_text
+unfolding body_text trip_text course_text calculation_text sums_text fare_text supplements_text total_text
 body_lines r = simp append_assoc
 
 spelled_lines : (r : Receipt) (p : Part) → receipt_text r p ≡ all_lines r p

@@ -17,7 +17,7 @@ use Rattle.receipt_text.specs.Digests.{byte_at, bytes_at, digest_at, hex_value}
 use Rattle.receipt_text.specs.Lines.{calculation_at, heading_at, kind_at, minimum_at, part_at, sums_at, taxi_at, trip_at}
 use Rattle.receipt_text.specs.Part.{Part, IsDigest, IsPart}
 use Rattle.seal_store.specs.Ranges.{IsTaxi}
-use Rattle.receipt_text.specs.Receipts.{calculation_text, day_text, heading_text, hex_digit, hex_text, kind_text, minimum_text, part_text, stamp_text, sums_text, trip_text}
+use Rattle.receipt_text.specs.Receipts.{calculation_text, course_text, day_text, fare_text, heading_text, hex_digit, hex_text, kind_text, minimum_text, part_text, stamp_text, sums_text, supplements_text, trip_text}
 use Rattle.receipt_text.proofs.Again.{amount_again, number_again, word_again}
 use Rattle.receipt_text.proofs.Dates.{day_again, stamp_again}
 use Rattle.taxi_units.specs.Identifier.{IsIdentifierCharacter, is_identifier_character}
@@ -112,12 +112,12 @@ part_again part rest is =
 
 -- the lines of the trip
 pub trip_again : (r : Receipt) (rest : List ℕ) → IsReceipt r → trip_at (trip_text r ++ rest) ≡ Some (record { start = r.start; finish = r.finish; position = r.position; hired_mm = r.hired_mm }, rest)
-unfolding trip_at trip_text
+unfolding trip_at trip_text course_text
 trip_again r rest is =
     let t₄ = codes "DISTANCE " ++ (money_text 3 r.hired_mm ++ 32 ∷ 109 ∷ 10 ∷ rest) in
     let t₃ = codes "POSITION " ++ (decimal r.position ++ 10 ∷ t₄) in
     let t₂ = codes "FINISH " ++ (stamp_text r.finish ++ 10 ∷ t₃) in
-    let text : (codes "START " ++ (stamp_text r.start ++ (codes "\nFINISH " ++ (stamp_text r.finish ++ (codes "\nPOSITION " ++ (decimal r.position ++ (codes "\nDISTANCE " ++ (money_text 3 r.hired_mm ++ codes " m\n")))))))) ++ rest ≡ codes "START " ++ (stamp_text r.start ++ 10 ∷ t₂) = simp append_assoc in
+    let text : ((codes "START " ++ (stamp_text r.start ++ (codes "\nFINISH " ++ (stamp_text r.finish ++ (codes "\nPOSITION " ++ (decimal r.position ++ (codes "\nDISTANCE " ++ (money_text 3 r.hired_mm ++ codes " m")))))))) ++ codes "\n") ++ rest ≡ codes "START " ++ (stamp_text r.start ++ 10 ∷ t₂) = simp append_assoc in
     let a = word_again (codes "START ") (stamp_text r.start ++ 10 ∷ t₂) in
     let start = stamp_again r.start 10 t₂ is.start (omega arith) in
     let b = word_again (codes "\nFINISH ") (stamp_text r.finish ++ 10 ∷ t₃) in
@@ -171,10 +171,10 @@ minimum_again decimals minimum rest more few small e =
 
 -- the lines of the fare and of the supplements
 pub sums_again : (r : Receipt) (rest : List ℕ) → r.decimals ≤ 3 → r.fare < 10 ^ 18 → r.supplements < 10 ^ 18 → sums_at (sums_text r ++ rest) ≡ Some (record { fare = r.fare; supplements = r.supplements }, rest)
-unfolding sums_at sums_text
+unfolding sums_at sums_text fare_text supplements_text
 sums_again r rest few fare_small supplements_small =
     let tail = codes "SUPPLEMENTS " ++ (money_text r.decimals r.supplements ++ 10 ∷ rest) in
-    let text : (codes "FARE " ++ (money_text r.decimals r.fare ++ (codes "\nSUPPLEMENTS " ++ (money_text r.decimals r.supplements ++ codes "\n")))) ++ rest ≡ codes "FARE " ++ (money_text r.decimals r.fare ++ 10 ∷ tail) = simp append_assoc in
+    let text : ((codes "FARE " ++ (money_text r.decimals r.fare ++ codes "\n")) ++ (codes "SUPPLEMENTS " ++ (money_text r.decimals r.supplements ++ codes "\n"))) ++ rest ≡ codes "FARE " ++ (money_text r.decimals r.fare ++ 10 ∷ tail) = simp append_assoc in
     let a = word_again (codes "FARE ") (money_text r.decimals r.fare ++ 10 ∷ tail) in
     let fare = amount_again (10 ^ 18) r.decimals r.fare tail 10 few fare_small (omega arith) (omega arith) (λ e. omega arith) in
     let b = word_again (codes "\nSUPPLEMENTS ") (money_text r.decimals r.supplements ++ 10 ∷ rest) in
@@ -183,6 +183,6 @@ sums_again r rest few fare_small supplements_small =
     ap sums_at text ∙ rw (a, fare, b, supplements, f) refl
 
 -- the lines of the fare begin with its word
-pub sums_begin : (r : Receipt) (rest : List ℕ) → sums_text r ++ rest ≡ codes "FARE " ++ ((money_text r.decimals r.fare ++ (codes "\nSUPPLEMENTS " ++ (money_text r.decimals r.supplements ++ codes "\n"))) ++ rest)
-unfolding sums_text
+pub sums_begin : (r : Receipt) (rest : List ℕ) → sums_text r ++ rest ≡ codes "FARE " ++ (((money_text r.decimals r.fare ++ codes "\n") ++ supplements_text r) ++ rest)
+unfolding sums_text fare_text
 sums_begin r rest = refl

@@ -14,7 +14,7 @@ use Rattle.taxi_units.specs.declared.receipt.Receipt.{Receipt}
 use Rattle.taxi_units.specs.declared.receipt.Stamp.{Stamp}
 use Rattle.taxi_units.proofs.Laws.{amounts_are_short, numbers_are_short, padded_numbers_fill_the_width}
 use Rattle.receipt_text.specs.Part.{Part, IsPart}
-use Rattle.receipt_text.specs.Receipts.{body_text, calculation_text, date_text, day_text, heading_text, hex_text, kind_text, minimum_text, part_text, receipt_text, stamp_text, sums_text, time_text, total_text, trip_text}
+use Rattle.receipt_text.specs.Receipts.{body_text, calculation_text, course_text, date_text, day_text, fare_text, heading_text, hex_text, kind_text, minimum_text, part_text, receipt_text, stamp_text, sums_text, supplements_text, time_text, total_text, trip_text}
 use Rattle.receipt_text.proofs.Dates.{month_small, year_below}
 use Rattle.taxi_units.specs.Limits.{largest_supplements}
 use Rattle.taxi_units.specs.Money.{largest_amount}
@@ -80,11 +80,11 @@ part_len p is =
     omega (arith, length-append p.taxi (codes "\nCONSTANT " ++ (decimal p.constant ++ (codes "\nSECURED " ++ (day_text p.secured ++ (codes "\nTARIFF " ++ (hex_text p.digest ++ codes "\n")))))), length-append (decimal p.constant) (codes "\nSECURED " ++ (day_text p.secured ++ (codes "\nTARIFF " ++ (hex_text p.digest ++ codes "\n")))), length-append (day_text p.secured) (codes "\nTARIFF " ++ (hex_text p.digest ++ codes "\n")), length-append (hex_text p.digest) (codes "\n"), hex_len p.digest, is.digest.size, is.taxi.few, constant, day)
 
 trip_len : (r : Receipt) → IsReceipt r → length (trip_text r) ≤ 101
-unfolding trip_text
+unfolding trip_text course_text
 trip_len r is =
     let position = number_len 1 r.position (omega arith) (omega arith) (omega (arith, is.position)) in
     let distance = amount_len 3 23 r.hired_mm (omega arith) (omega arith) is.distance in
-    omega (arith, length-append (stamp_text r.start) (codes "\nFINISH " ++ (stamp_text r.finish ++ (codes "\nPOSITION " ++ (decimal r.position ++ (codes "\nDISTANCE " ++ (money_text 3 r.hired_mm ++ codes " m\n")))))), length-append (stamp_text r.finish) (codes "\nPOSITION " ++ (decimal r.position ++ (codes "\nDISTANCE " ++ (money_text 3 r.hired_mm ++ codes " m\n")))), length-append (decimal r.position) (codes "\nDISTANCE " ++ (money_text 3 r.hired_mm ++ codes " m\n")), length-append (money_text 3 r.hired_mm) (codes " m\n"), stamp_len r.start is.start, stamp_len r.finish is.finish, position, distance)
+    omega (arith, length-append (codes "START " ++ (stamp_text r.start ++ (codes "\nFINISH " ++ (stamp_text r.finish ++ (codes "\nPOSITION " ++ (decimal r.position ++ (codes "\nDISTANCE " ++ (money_text 3 r.hired_mm ++ codes " m")))))))) (codes "\n"), length-append (stamp_text r.start) (codes "\nFINISH " ++ (stamp_text r.finish ++ (codes "\nPOSITION " ++ (decimal r.position ++ (codes "\nDISTANCE " ++ (money_text 3 r.hired_mm ++ codes " m")))))), length-append (stamp_text r.finish) (codes "\nPOSITION " ++ (decimal r.position ++ (codes "\nDISTANCE " ++ (money_text 3 r.hired_mm ++ codes " m")))), length-append (decimal r.position) (codes "\nDISTANCE " ++ (money_text 3 r.hired_mm ++ codes " m")), length-append (money_text 3 r.hired_mm) (codes " m"), stamp_len r.start is.start, stamp_len r.finish is.finish, position, distance)
 
 calculation_len : (r : Receipt) → IsReceipt r → length (calculation_text r) ≤ 47
 unfolding calculation_text
@@ -107,11 +107,11 @@ minimum_len decimals minimum few small =
     ]
 
 sums_len : (r : Receipt) → r.decimals ≤ 3 → r.fare ≤ largest_amount → r.supplements ≤ largest_supplements → length (sums_text r) ≤ 39
-unfolding sums_text
+unfolding sums_text fare_text supplements_text
 sums_len r few fare_small supplements_small =
     let fare = amount_len r.decimals 8 r.fare (omega arith) (omega arith) (omega arith) in
     let supplements = amount_len r.decimals 10 r.supplements (omega arith) (omega arith) (omega arith) in
-    omega (arith, length-append (money_text r.decimals r.fare) (codes "\nSUPPLEMENTS " ++ (money_text r.decimals r.supplements ++ codes "\n")), length-append (money_text r.decimals r.supplements) (codes "\n"), fare, supplements)
+    omega (arith, length-append (codes "FARE " ++ (money_text r.decimals r.fare ++ codes "\n")) (codes "SUPPLEMENTS " ++ (money_text r.decimals r.supplements ++ codes "\n")), length-append (money_text r.decimals r.fare) (codes "\n"), length-append (money_text r.decimals r.supplements) (codes "\n"), fare, supplements)
 
 total_len : (r : Receipt) → r.decimals ≤ 3 → r.fare ≤ largest_amount → r.supplements ≤ largest_supplements → length (total_text r) ≤ 22
 unfolding total_text

@@ -12,8 +12,6 @@ mod Fronts
 mod GrammarTexts
 -- what is written of a group of lines is read again
 mod Groups
--- texts that are appended one behind the other
-mod Joined
 -- the laws that the crates above may cite
 pub mod Laws
 -- how long receipts are
@@ -26,3 +24,5 @@ mod Sealed
 mod ShownApart
 -- a text is one receipt at most, and no beginning of it is another
 mod Unique
+-- how long the lines of a receipt are at most, whatever it says
+mod Widths

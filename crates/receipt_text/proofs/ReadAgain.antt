@@ -7,7 +7,7 @@ use Rattle.taxi_units.specs.Shown.{IsReceipt}
 use Rattle.taxi_units.specs.declared.receipt.Receipt.{Receipt}
 use Rattle.receipt_text.specs.Lines.{receipt_at}
 use Rattle.receipt_text.specs.Part.{Part, IsPart}
-use Rattle.receipt_text.specs.Receipts.{body_text, calculation_text, heading_text, minimum_text, part_text, receipt_text, sums_text, total_text, trip_text}
+use Rattle.receipt_text.specs.Receipts.{body_text, calculation_text, heading_text, minimum_text, part_text, receipt_text, sums_text, supplements_text, total_text, trip_text}
 use Rattle.receipt_text.specs.Spelling.{IsSpelled}
 use Rattle.receipt_text.proofs.Groups.{calculation_again, heading_again, minimum_again, part_again, sums_again, sums_begin, trip_again}
 use Rattle.taxi_units.specs.Money.{largest_amount}
@@ -29,7 +29,7 @@ receipt_again r p more is part_is =
     let part = part_again p t₂ part_is in
     let trip = trip_again r t₃ is in
     let calculation = calculation_again r t₄ is in
-    let minimum = minimum_again r.decimals r.minimum t₅ ((money_text r.decimals r.fare ++ (codes "\nSUPPLEMENTS " ++ (money_text r.decimals r.supplements ++ codes "\n"))) ++ t₆) is.decimals (omega (arith, is.minimum)) (sums_begin r t₆) in
+    let minimum = minimum_again r.decimals r.minimum t₅ (((money_text r.decimals r.fare ++ codes "\n") ++ supplements_text r) ++ t₆) is.decimals (omega (arith, is.minimum)) (sums_begin r t₆) in
     let sums = sums_again r t₆ is.decimals (omega (arith, fare_small r is)) (omega (arith, is.supplements)) in
     ap receipt_at text ∙ rw (heading, part, trip, calculation, minimum, sums) refl
 

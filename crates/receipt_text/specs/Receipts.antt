@@ -57,12 +57,17 @@ part_text part =
     codes "TAXI " ++ (part.taxi ++ (codes "\nCONSTANT " ++ (decimal part.constant
     ++ (codes "\nSECURED " ++ (day_text part.secured ++ (codes "\nTARIFF " ++ (hex_text part.digest ++ codes "\n")))))))
 
--- a trip is written as four lines: its start, its finish, its tariff position and its distance in metres
-unfoldable pub trip_text : Receipt → List ℕ
-trip_text receipt =
+-- the course of a trip is written as its start, its finish, its tariff position and its distance in metres, each on a
+-- line of its own, of which the last isn't ended
+unfoldable pub course_text : Receipt → List ℕ
+course_text receipt =
     codes "START " ++ (stamp_text receipt.start ++ (codes "\nFINISH " ++ (stamp_text receipt.finish
     ++ (codes "\nPOSITION " ++ (decimal receipt.position
-    ++ (codes "\nDISTANCE " ++ (money_text 3 receipt.hired_mm ++ codes " m\n")))))))
+    ++ (codes "\nDISTANCE " ++ (money_text 3 receipt.hired_mm ++ codes " m")))))))
+
+-- a trip is written as the four lines of its course
+unfoldable pub trip_text : Receipt → List ℕ
+trip_text receipt = course_text receipt ++ codes "\n"
 
 -- a calculation is written as one line of the hire fee, the number of the display steps and the size of one
 unfoldable pub calculation_text : Receipt → List ℕ
@@ -75,11 +80,18 @@ unfoldable pub minimum_text : (decimals minimum : ℕ) → List ℕ
 minimum_text decimals minimum =
     if minimum == 0 then [] else codes "MINIMUM " ++ (money_text decimals minimum ++ codes "\n")
 
+-- a fare is written as a line
+unfoldable pub fare_text : Receipt → List ℕ
+fare_text receipt = codes "FARE " ++ (money_text receipt.decimals receipt.fare ++ codes "\n")
+
+-- supplements are written as a line
+unfoldable pub supplements_text : Receipt → List ℕ
+supplements_text receipt =
+    codes "SUPPLEMENTS " ++ (money_text receipt.decimals receipt.supplements ++ codes "\n")
+
 -- a fare and its supplements, which are no part of it, are written as a line each
 unfoldable pub sums_text : Receipt → List ℕ
-sums_text receipt =
-    codes "FARE " ++ (money_text receipt.decimals receipt.fare
-    ++ (codes "\nSUPPLEMENTS " ++ (money_text receipt.decimals receipt.supplements ++ codes "\n")))
+sums_text receipt = fare_text receipt ++ supplements_text receipt
 
 -- a receipt's last two lines are the total, which is the fare and the supplements together, and the end
 unfoldable pub total_text : Receipt → List ℕ

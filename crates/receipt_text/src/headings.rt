@@ -30,7 +30,7 @@ pub(crate) fn put_heading(line: &mut Line, number: u64, kind: Kind) -> Result<()
 }
 
 /// Appends how a hiring ended.
-fn put_kind(line: &mut Line, kind: Kind) -> Result<(), LineFull>
+pub(crate) fn put_kind(line: &mut Line, kind: Kind) -> Result<(), LineFull>
     ensures variant { IsOk result ↔ (array_vec_len line.old + length (kind_text kind) ≤ line_size) }
     ensures ok { OnOk result (line.new.items ≡ line.old.items ++ kind_text kind) }
 {

@@ -16,6 +16,7 @@ mod ranges;
 mod reading;
 mod receipts;
 mod refusals;
+mod shared;
 mod stamps;
 mod sums;
 mod trips;
@@ -31,4 +32,7 @@ pub use parts::SealPart;
 pub use reading::read_receipt;
 pub use receipts::put_receipt;
 pub use refusals::put_refusal;
+pub use shared::{
+    push_calculation, push_course, push_fare, push_kind, push_supplements, push_total,
+};
 pub use stamps::put_day;

@@ -4,7 +4,7 @@ ghost use Rattle.arrayvec.specs.ArrayVec.{array_vec_len};
 ghost use Rattle.taxi_units.specs.Line.{line_size};
 ghost use Rattle.taxi_units.specs.Reading.{Gives};
 ghost use Rattle.receipt_text.specs.Lines as spec;
-ghost use Rattle.receipt_text.specs.Receipts.{minimum_text, sums_text, total_text};
+ghost use Rattle.receipt_text.specs.Receipts.{fare_text, minimum_text, sums_text, supplements_text, total_text};
 
 use crate::amounts::amount_below;
 use crate::fields::put_amount;
@@ -40,9 +40,30 @@ pub(crate) fn put_sums(line: &mut Line, receipt: &Receipt) -> Result<(), LineFul
     ensures variant { IsOk result ↔ (array_vec_len line.old + length (sums_text receipt.now) ≤ line_size) }
     ensures ok { OnOk result (line.new.items ≡ line.old.items ++ sums_text receipt.now) }
 {
+    put_fare(line, receipt)?;
+    put_supplements(line, receipt)
+}
+
+/// Appends the line of the fare.
+#[tactic(auto, unfolding(crate::specs::Receipts::fare_text))]
+pub(crate) fn put_fare(line: &mut Line, receipt: &Receipt) -> Result<(), LineFull>
+    requires { receipt.now.decimals ≤ 3 }
+    ensures variant { IsOk result ↔ (array_vec_len line.old + length (fare_text receipt.now) ≤ line_size) }
+    ensures ok { OnOk result (line.new.items ≡ line.old.items ++ fare_text receipt.now) }
+{
     put_amount(line, b"FARE ", receipt.fare as u128, receipt.decimals)?;
+    put_bytes(line, b"\n")
+}
+
+/// Appends the line of the supplements.
+#[tactic(auto, unfolding(crate::specs::Receipts::supplements_text))]
+pub(crate) fn put_supplements(line: &mut Line, receipt: &Receipt) -> Result<(), LineFull>
+    requires { receipt.now.decimals ≤ 3 }
+    ensures variant { IsOk result ↔ (array_vec_len line.old + length (supplements_text receipt.now) ≤ line_size) }
+    ensures ok { OnOk result (line.new.items ≡ line.old.items ++ supplements_text receipt.now) }
+{
     let supplements = receipt.supplements as u128;
-    put_amount(line, b"\nSUPPLEMENTS ", supplements, receipt.decimals)?;
+    put_amount(line, b"SUPPLEMENTS ", supplements, receipt.decimals)?;
     put_bytes(line, b"\n")
 }
 

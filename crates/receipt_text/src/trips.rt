@@ -4,7 +4,7 @@ ghost use Rattle.arrayvec.specs.ArrayVec.{array_vec_len};
 ghost use Rattle.taxi_units.specs.Line.{line_size};
 ghost use Rattle.taxi_units.specs.Reading.{Gives};
 ghost use Rattle.receipt_text.specs.Lines as spec;
-ghost use Rattle.receipt_text.specs.Receipts.{stamp_text, trip_text};
+ghost use Rattle.receipt_text.specs.Receipts.{course_text, stamp_text, trip_text};
 
 use crate::amounts::amount_below;
 use crate::fields::{put_amount, put_figure};
@@ -27,11 +27,21 @@ pub(crate) fn put_trip(line: &mut Line, receipt: &Receipt) -> Result<(), LineFul
     ensures variant { IsOk result ↔ (array_vec_len line.old + length (trip_text receipt.now) ≤ line_size) }
     ensures ok { OnOk result (line.new.items ≡ line.old.items ++ trip_text receipt.now) }
 {
+    put_course(line, receipt)?;
+    put_bytes(line, b"\n")
+}
+
+/// Appends the lines of the trip, without the end of the last.
+#[tactic(auto, unfolding(crate::specs::Receipts::course_text))]
+pub(crate) fn put_course(line: &mut Line, receipt: &Receipt) -> Result<(), LineFull>
+    ensures variant { IsOk result ↔ (array_vec_len line.old + length (course_text receipt.now) ≤ line_size) }
+    ensures ok { OnOk result (line.new.items ≡ line.old.items ++ course_text receipt.now) }
+{
     put_time(line, b"START ", &receipt.start)?;
     put_time(line, b"\nFINISH ", &receipt.finish)?;
     put_figure(line, b"\nPOSITION ", receipt.position as u128)?;
     put_amount(line, b"\nDISTANCE ", receipt.hired_mm, 3)?;
-    put_bytes(line, b" m\n")
+    put_bytes(line, b" m")
 }
 
 /// Appends a word and a local date and time.
