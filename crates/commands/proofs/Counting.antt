@@ -73,11 +73,11 @@ read_fault-report reports.NoMemory e = absurd cc
 pub stops_at : {E : Type 0} {F : FileGhosts E} {c : Command} {files files' : E} (word : ℕ) → c.reads word
     → Rose (F.faults files word) (F.faults files' word)
     → ((other : ℕ) → other ≢ word → F.rest files' other ≡ F.rest files other) → StopsReading F c files files'
-stops_at word reads rose others = record {
+stops_at {c = c} word reads rose others = record {
   word = word;
   reads = reads;
   rose = rose;
-  behind = λ other lt. others other (λ e. absurd (omega (arith, lt, e)));
+  behind = λ other lt. others other (λ e. absurd (omega (arith, lt, ap c.turn e)));
 }
 
 -- and so by the fault of the one function that read it

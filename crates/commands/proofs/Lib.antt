@@ -28,6 +28,12 @@ mod ChainSums
 mod Counting
 -- how the parts of a call end together
 mod Endings
+-- the text of hirings that are explained, line by line and hiring by hiring
+mod ExplainedHirings
+-- a charge that is cut off, in its parts
+mod ExplainedLines
+-- what the command `explain` answers
+mod Explaining
 -- the drive of the command `fare`, under its tariff
 mod Faring
 -- the test whether a held trip fits the tables decides it

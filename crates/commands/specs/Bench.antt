@@ -147,6 +147,7 @@ bench_command = record {
   drive = Some (Drive 2);
   shown = λ contents image taken. [];
   reads = λ word. (word ≡ 1) ⊎ ((word ≡ 2) ⊎ (word ≡ 3));
+  turn = λ word. word;
   reads_all = λ status. (status ≡ 0) ⊎ (status ≡ 11);
   comes_to = λ contents image word taken.
       ((word ≡ 1) × ((taken ≡ []) × IsSealedIn image))

@@ -86,12 +86,12 @@ module _ {E D L : Type 0} (F : FileGhosts E) (B : Ghosts D L) where
     pub unread : LeavesUnread c (F.rest files) (F.rest files') (B.image board)
 
 -- a call stopped reading at a word if it reads the word's file, the count of that file's faults rose, and the files of
--- all words behind it are as they were
+-- all words whose turn comes behind it are as they were
 pub record StopsReading {E : Type 0} (F : FileGhosts E) (c : Command) (files files' : E) : Type 0 where
   pub word : ℕ
   pub reads : c.reads word
   pub rose : Rose (F.faults files word) (F.faults files' word)
-  pub behind : (other : ℕ) → word < other → F.rest files' other ≡ F.rest files other
+  pub behind : (other : ℕ) → c.turn word < c.turn other → F.rest files' other ≡ F.rest files other
 
 -- a read failed in a call where the count of faults of a file that the command reads has risen
 pub record HasReadFault {E : Type 0} (F : FileGhosts E) (c : Command) (files files' : E) : Type 0 where

@@ -4,6 +4,7 @@ use Rattle.commands.specs.Answer.{Answer}
 use Rattle.commands.specs.Bench.{bench_command}
 use Rattle.commands.specs.Check.{check_command}
 use Rattle.commands.specs.Course.{Command, LooksOnly}
+use Rattle.commands.specs.Explain.{explain_command}
 use Rattle.commands.specs.Fare.{fare_command}
 use Rattle.commands.specs.Form.{form_command}
 use Rattle.commands.specs.Generate.{gen_command}
@@ -21,7 +22,7 @@ use Rattle.commands.specs.Totals.{totals_command}
 use Rattle.commands.specs.Words.{row_of}
 use Rattle.commands.specs.declared.words.Row.{Row}
 use Rattle.commands.specs.declared.words.Row.TheVariants.{Check, Tables, Fare, Totals, Seal, Run, Bench, Gen}
-use Rattle.commands.specs.declared.words.Row.TheVariants.{Port, Offsets, Mark, Shifts, Sealed, Form, Lines}
+use Rattle.commands.specs.declared.words.Row.TheVariants.{Port, Offsets, Mark, Shifts, Sealed, Form, Lines, Explain}
 
 -- each row of words is a command, and words that are no row are refused
 abbrev pub command_of : Option Row → Command
@@ -41,6 +42,7 @@ command_of (Some Shifts) = shifts_command
 command_of (Some Sealed) = sealed_command
 command_of (Some Form) = form_command
 command_of (Some (Lines k)) = lines_command k
+command_of (Some Explain) = explain_command
 
 -- words only look at the store where their command opens the store and writes nothing; these commands are the six of
 -- `IsLook`, as the law six_commands_only_look says

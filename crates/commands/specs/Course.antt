@@ -14,6 +14,8 @@ pub record Command : Type 1 where
   pub shown : (contents : ℕ → List ℕ) (image taken : List ℕ) → List ℕ
   -- the words whose files the command reads
   pub reads : ℕ → Type 0
+  -- the turn of a word: the command reads the file of a word with a smaller turn before that of one with a greater
+  pub turn : ℕ → ℕ
   -- whether the command has read each file of its words to its end where it answers with a status
   pub reads_all : (status : ℕ) → Type 0
   -- whether the command comes to a read of a word's file when the bytes `taken` of the drive or the requests were taken
@@ -42,6 +44,7 @@ store_command answer = record {
   drive = None;
   shown = λ contents image taken. [];
   reads = λ word. ⊥;
+  turn = λ word. word;
   reads_all = λ status. status ≡ 0;
   comes_to = λ contents image word taken. ⊥;
   may_lack = λ contents image taken. ⊥;

@@ -50,6 +50,7 @@ fare_command k = record {
   drive = Some (Drive 2);
   shown = λ contents image taken. shown_under k (tariff_in (contents 1)) taken;
   reads = λ word. (word ≡ 1) ⊎ (word ≡ 2);
+  turn = λ word. word;
   reads_all = λ status. status ≡ 0;
   comes_to = λ contents image word taken. ((word ≡ 1) × (taken ≡ [])) ⊎ ((word ≡ 2) × IsDriving (contents 1) taken);
   may_lack = λ contents image taken. taken ≡ [];

@@ -9,6 +9,7 @@ pub mod Unwritten
 pub mod Words
 pub mod Years
 -- Rules: what the commands have in common
+pub mod ExplainedText
 pub mod NumberLine
 pub mod Opening
 pub mod Pieces
@@ -18,6 +19,7 @@ pub mod TotalsText
 -- Rules: the commands. The headline is `IsRun` in Run
 pub mod Bench
 pub mod Check
+pub mod Explain
 pub mod Fare
 pub mod Form
 pub mod Generate
@@ -43,6 +45,7 @@ pub mod BenchSteps
 pub mod Carried
 pub mod ChainSteps
 pub mod Ending
+pub mod ExplainSteps
 pub mod FormSteps
 pub mod LinesSteps
 pub mod Opened

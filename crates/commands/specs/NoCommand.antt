@@ -15,6 +15,7 @@ no_command = record {
   drive = None;
   shown = λ contents image taken. [];
   reads = λ word. ⊥;
+  turn = λ word. word;
   reads_all = λ status. status ≡ 0;
   comes_to = λ contents image word taken. ⊥;
   may_lack = λ contents image taken. ⊥;

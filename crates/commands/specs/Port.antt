@@ -42,6 +42,7 @@ port_command = record {
   drive = Some (Requests 1);
   shown = λ contents image taken. replies_over (store_of (opening_of image)) taken;
   reads = λ word. word ≡ 1;
+  turn = λ word. word;
   reads_all = λ status. status ≡ 0;
   comes_to = λ contents image word taken. (word ≡ 1) × IsServing image taken;
   may_lack = λ contents image taken. ⊥;

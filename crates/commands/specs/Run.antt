@@ -148,6 +148,7 @@ run_command = record {
   drive = Some (Drive 2);
   shown = λ contents image taken. shown_in_run (start_of (opening_of image) (contents 1)) taken;
   reads = λ word. (word ≡ 1) ⊎ (word ≡ 2);
+  turn = λ word. word;
   reads_all = λ status. status ≡ 0;
   comes_to = λ contents image word taken.
       ((word ≡ 1) × ((taken ≡ []) × IsSealedIn image)) ⊎ ((word ≡ 2) × IsRunning image (contents 1) taken);

@@ -131,6 +131,7 @@ seal_command = record {
   drive = None;
   shown = λ contents image taken. [];
   reads = λ word. (word ≡ 1) ⊎ (word ≡ 2);
+  turn = λ word. word;
   reads_all = λ status. status ≡ 0;
   comes_to = λ contents image word taken.
       ((word ≡ 1) × IsSealable image) ⊎ ((word ≡ 2) × IsFitting (contents 1) image);

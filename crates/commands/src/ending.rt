@@ -3,6 +3,7 @@ ghost use Rattle.std.specs.Prelude.{◌≡◌, ◌≢◌, ◌+◌, ◌≤◌, []
 ghost use Rattle.outside.specs.Faults.{RisesOnlyIf, Rose};
 ghost use Rattle.outside.specs.Disk.{MayLeaveAmid};
 ghost use Rattle.outside.specs.Runs.{KeepsStore, LeavesOnly};
+ghost use Rattle.commands.specs.BenchSteps.{ended_for_drive};
 ghost use Rattle.commands.specs.Call.{IsEnd};
 ghost use Rattle.commands.specs.Ending.{ended_by, ended_for, ended_for_params, ended_serving};
 ghost use Rattle.commands.specs.Opening.{store_ended};
@@ -12,6 +13,7 @@ use crate::last_line::last_line;
 use crate::opening::StoreFault;
 use crate::params::ParamsFault;
 use crate::tariff::{Refusal, TextFault};
+use crate::whole_drive::DriveFault;
 use data_port::PortFault;
 use meter_run::RunFault;
 use offset_rules::RuleFault;
@@ -104,6 +106,18 @@ pub fn refused_params(fault: ParamsFault) -> Ended
         ParamsFault::ReadFault => Ended::ReadFault,
         ParamsFault::Refused(why) => Ended::BadParams(why),
         ParamsFault::NoMemory => Ended::NoMemory,
+    }
+}
+
+/// How a command ended whose drive wasn't read.
+pub fn refused_drive(fault: DriveFault) -> Ended
+    ensures { result ≡ ended_for_drive fault }
+{
+    match fault {
+        DriveFault::ReadFault => Ended::ReadFault,
+        DriveFault::BadLine(line) => Ended::BadDrive(line),
+        DriveFault::TooLong => Ended::EndlessDrive,
+        DriveFault::NoMemory => Ended::NoMemory,
     }
 }
 

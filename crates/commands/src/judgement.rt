@@ -5,13 +5,13 @@ ghost use Rattle.drive_text.specs.Ranges.{IsRunInRange};
 ghost use Rattle.drive_text.specs.Runs.{run_events};
 ghost use Rattle.outside.specs.Faults.{Rose};
 ghost use Rattle.verify_bench.specs.Readings.{readings_in};
-ghost use Rattle.commands.specs.BenchSteps.{IsJudged, IsNoReadings, IsNotJudged, ended_for_drive, terms_in};
+ghost use Rattle.commands.specs.BenchSteps.{IsJudged, IsNoReadings, IsNotJudged, terms_in};
 ghost use Rattle.commands.specs.BenchSteps.{judged_pass, judged_text};
 ghost use Rattle.commands.specs.Bench.{ended_for_readings};
 
 use crate::bench_terms::Terms;
-use crate::ending::Ended;
-use crate::whole_drive::{DriveFault, read_drive};
+use crate::ending::{Ended, refused_drive};
+use crate::whole_drive::read_drive;
 use drive_text::Run;
 use outside::{Files, TextFault, read_text};
 use std::alloc::Global;
@@ -60,18 +60,6 @@ pub fn judge_drive<F: Files>(
     match judge_readings(alloc, terms, runs.as_slice(), readings.as_slice()) {
         Ok(judgement) => Ok(judgement),
         Err(_) => Err(Ended::NoMemory),
-    }
-}
-
-/// How the command ended whose drive wasn't read.
-fn refused_drive(fault: DriveFault) -> Ended
-    ensures { result ≡ ended_for_drive fault }
-{
-    match fault {
-        DriveFault::ReadFault => Ended::ReadFault,
-        DriveFault::BadLine(line) => Ended::BadDrive(line),
-        DriveFault::TooLong => Ended::EndlessDrive,
-        DriveFault::NoMemory => Ended::NoMemory,
     }
 }
 

@@ -16,6 +16,7 @@ ghost use Rattle.commands.specs.Words.{row_of};
 use crate::bench::bench;
 use crate::check::check_tariff;
 use crate::ending::{Ended, finish};
+use crate::explain::explain;
 use crate::fare::fare;
 use crate::form::print_form;
 use crate::generate::generate;
@@ -61,6 +62,7 @@ fn carry_out<F: Files, B: Board<L>, L: Ledger>(
         Row::Sealed => print_sealed(board, steps),
         Row::Form => print_form(alloc, files, board, steps),
         Row::Lines(k) => print_lines(alloc, k, files, board, steps),
+        Row::Explain => explain(alloc, files, board, steps),
     }
 }
 
@@ -89,6 +91,8 @@ fn carry_out<F: Files, B: Board<L>, L: Ledger>(
 /// - `form TARIFF`: the printed form of the tariff, sound or not
 /// - `lines TARIFF CONSTANT`: for each rate, initial hire fee and minimum fare whether it is ever the one that counts,
 ///   and the first context of a meter in which it is
+/// - `explain TARIFF DRIVE PARAMS`: why the fare of each hiring that the drive closes is what it is, on a new store
+///   that is sealed with the tariff and the parameters
 ///
 /// The statuses, their last lines, and when they come. A command looks at its words, at the store and at its
 /// files in the order of docs/FORMATS.md, and answers the first thing that is wrong: so 'exactly where' is said
@@ -99,8 +103,8 @@ fn carry_out<F: Files, B: Board<L>, L: Ledger>(
 /// - 1, `BAD WORDS`: exactly where the words are no command
 /// - 2, `BAD TARIFF` with `TooLong`, `Syntax n` or the fault: exactly where the tariff has more than 65,536
 ///   bytes, its line n is the first that is no line of a tariff, or, but for `form`, this is its first fault
-/// - 3, `BAD DRIVE n` or `BAD DRIVE TOO LONG`, for `fare`, `run` and `bench`: exactly where line n is the first
-///   that is no line of a drive, or where 2^40 bytes were taken, none of their lines is bad, and the end wasn't
+/// - 3, `BAD DRIVE n` or `BAD DRIVE TOO LONG`, for `fare`, `run`, `bench` and `explain`: exactly where line n is the
+///   first that is no line of a drive, or where 2^40 bytes were taken, none of their lines is bad, and the end wasn't
 ///   told
 /// - 4, `NOT SEALED`, for `totals`, `run`, `bench`, `port`, `mark`, `shifts` and `sealed`: exactly where the store's
 ///   pair of totals or of seals is blank
@@ -111,13 +115,13 @@ fn carry_out<F: Files, B: Board<L>, L: Ledger>(
 ///   y, differ
 /// - 7, `READ FAULT`: only where the count of faults of a file that the command reads rose by one
 /// - 8, no line: exactly where the board's count of faults rose, by one
-/// - 9, `BAD PARAMS` with the fault, for `seal`: exactly where the parameters have this first fault
+/// - 9, `BAD PARAMS` with the fault, for `seal` and `explain`: exactly where the parameters have this first fault
 /// - 10, `BAD READINGS n` or `BAD READINGS TOO LONG`, for `bench`: exactly where row n is the first that is no row
 ///   of readings, or the readings have more than 1,048,576 bytes
 /// - 11, no line: exactly where a row of the report of `bench` doesn't pass; the output is whole, and each file was
 ///   read to its end
 /// - 12, `NO MEMORY`: never for `totals`, `port`, `mark`, `offsets`, `sealed` and refused words; else free, before
-///   anything is printed or written and, but for `bench`, before the first byte of the drive is taken
+///   anything is printed or written and, but for `bench` and `explain`, before the first byte of the drive is taken
 /// - 13, `TRIP HELD`, for `seal`: exactly where the totals of the store hold a trip
 /// - 14, `SEAL ENDED`, for `seal`: exactly where the found seal has the last number, 10^15
 /// - 15, `OTHER DECIMALS x y`, for `seal`: exactly where the found seal has x decimals, and the tariff y, which is
@@ -150,8 +154,8 @@ pub fn taxi<F: Files, B: Board<L>, L: Ledger>(
         → F.rest files.new word ≡ F.rest files.old word }
 
     // Each of the faults of the outside has its cause, whatever is told: at 7 the count of a file that the command
-    // reads rose by one, and no word behind it was read; at 8 the board's rose. At each other status no count rose, and
-    // the board's didn't at 7.
+    // reads rose by one, and no word was read whose turn comes behind it; at 8 the board's rose. At each other status
+    // no count rose, and the board's didn't at 7.
     ensures read_fault { result ≡ 7 → StopsReading F.Files (called (map string_bytes words.now)) files.old files.new }
     ensures board_fault { RisesOnlyIf (result ≡ 8) (B.faults board.old) (B.faults board.new) }
     ensures unfailed { result ≢ 7 → result ≢ 8 → (word : ℕ) → F.faults files.new word ≡ F.faults files.old word }

@@ -77,6 +77,8 @@ pub enum Row {
     Form,
     /// `lines TARIFF CONSTANT`
     Lines(Constant),
+    /// `explain TARIFF DRIVE PARAMS`
+    Explain,
 }
 
 /// The constant that a word is: 1 to 6 digits, 500 to 200,000.
@@ -226,6 +228,8 @@ fn four_words(command: &[u8], third: &[u8], last: &[u8]) -> Option<Row>
         Some(Row::Fare(constant(last)?))
     } else if is_word(command, b"bench") {
         Some(Row::Bench)
+    } else if is_word(command, b"explain") {
+        Some(Row::Explain)
     } else if is_word(command, b"offsets") {
         Some(Row::Offsets(Years::of(third, last)?))
     } else {
