@@ -27,6 +27,7 @@ lines_command k = record {
   drive = None;
   shown = λ contents image taken. [];
   reads = λ word. word ≡ 1;
+  turn = λ word. word;
   reads_all = λ status. status ≡ 0;
   comes_to = λ contents image word taken. word ≡ 1;
   may_lack = λ contents image taken. Unit {0};
