@@ -252,6 +252,18 @@ const ROWS: &str =
 const NORTH: &str =
     "standard 3600\nsummer 7200\nbegin last sun mar 01:00\nend last sun oct 01:00\n";
 
+const EXPLAIN: &[&str] = &["explain", "t", "d", "p"];
+
+/// The first drive, and the trip of it stopped and cleared.
+const FIRST_CLEARED: &str = "U 1767225600\nK H\nI 0 1\nI 0 504\nI 0 1\nK S\nI 0 1\nK C\nI 0 1\n";
+
+/// Why its fare is what it is: 50.6 s at 0.20 per 25.2 s.
+const EXPLAINED: &str =
+    "HIRING 1 CLOSED\nSTART 2026-01-01 01:00:00\nFINISH 2026-01-01 01:00:00\nPOSITION 1\n\
+     DISTANCE 0.000 m 50.7 s\nFEE 3 3.80 0.40\nRATE 4 TIME 0.000 m 50.6 s 0.401587 59404400000\n\
+     STOPPED 0.000 m 0.1 s\nCHARGED 0.401587 59404400000 / 1479240000\nCALC 3.80 + 1 x 0.20\nFARE 4.00\n\
+     SUPPLEMENTS 0.00\nTOTAL 4.00\nEND\n";
+
 const OFFSETS: &[&str] = &["offsets", "r", "2026", "2026"];
 
 const NORTH_2026: &str = "offset 946684800 3600\noffset 1774746000 7200\noffset 1792890000 3600\n";
@@ -267,6 +279,7 @@ const WITHOUT_STORE: &[Call] = &[
     (TABLES, &[A], CALM, &[ROWS], 0),
     (FARE, &[A, FIRST], CALM, &[SHOWN], 0),
     (OFFSETS, &[NORTH], CALM, &[NORTH_2026], 0),
+    (EXPLAIN, &[A, FIRST_CLEARED, P], CALM, &[EXPLAINED], 0),
     (&["gen", "7", "1"], &[""], CALM, &[GENERATED], 0),
     (
         &["Fare", "t", "d", "10000"],
@@ -282,7 +295,8 @@ fn commands_without_a_store(rt: HostRuntime) -> Result<(), Fail> {
     must_answer_all(rt.alloc(), SEVENS, WITHOUT_STORE)
 }
 
-/// A read fails, or a print, or both. Reads 1 and 2 are the tariff's or the rules', 3 and 4 the drive's.
+/// A read fails, or a print, or both. Reads 1 and 2 are the tariff's or the rules', 3 and 4 the drive's; of `explain` 3
+/// and 4 are the parameters', and 5 and 6 the drive's.
 const FAILURES: &[Call] = &[
     (FARE, &[A, FIRST], (0, 1), &["READ FAULT\n"], 7),
     (FARE, &[A, FIRST], (0, 2), &["READ FAULT\n"], 7),
@@ -298,6 +312,28 @@ const FAILURES: &[Call] = &[
     ),
     (FARE, &[A, FIRST], (1, 1), &[""], 8),
     (TABLES, &[A], (2, 0), &["MEASURE 1479240000\n"], 8),
+    (
+        EXPLAIN,
+        &[A, FIRST_CLEARED, P],
+        (0, 1),
+        &["READ FAULT\n"],
+        7,
+    ),
+    (
+        EXPLAIN,
+        &[A, FIRST_CLEARED, P],
+        (0, 3),
+        &["READ FAULT\n"],
+        7,
+    ),
+    (
+        EXPLAIN,
+        &[A, FIRST_CLEARED, P],
+        (0, 6),
+        &["READ FAULT\n"],
+        7,
+    ),
+    (EXPLAIN, &[A, FIRST_CLEARED, P], (1, 0), &[""], 8),
     (OFFSETS, &[NORTH], (0, 1), &["READ FAULT\n"], 7),
     (OFFSETS, &[NORTH], (0, 2), &["READ FAULT\n"], 7),
     (OFFSETS, &[NORTH], (1, 0), &[""], 8),
