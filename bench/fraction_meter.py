@@ -1,5 +1,5 @@
 """A meter in mode S for the trials of tools: it goes by the lines that tools/tables.py finds for each interval, counts
-charges as fractions, and knows one trip without a loss of supply; local time is UTC."""
+charges as fractions, and knows one trip without a loss of supply; local time is UTC and an offset."""
 
 import datetime
 import pathlib
@@ -16,8 +16,8 @@ from tariff_faults import of_kind  # noqa: E402
 class FractionMeter:
     """The state of a trip: its place, distance, time and charges, and the lines of its hiring."""
 
-    def __init__(self, tables, constant):
-        self.tables, self.constant = tables, constant
+    def __init__(self, tables, constant, offset=0):
+        self.tables, self.constant, self.offset = tables, constant, offset
         self.holidays = {line.parts["date"] for line in of_kind(tables.lines, "holiday")}
         self.clock = self.begun = 0
         self.place, self.latch, self.is_hired, self.has_trip = {"P": 1, "Z": 1}, "", False, False
@@ -26,7 +26,7 @@ class FractionMeter:
 
     def lines_at(self, second):
         """The lines that hold at a second, as far as the trip is."""
-        at = datetime.datetime.fromtimestamp(second, datetime.timezone.utc)
+        at = datetime.datetime.fromtimestamp(second + self.offset, datetime.timezone.utc)
         return self.tables.lines_at(
             (
                 self.place["P"],

@@ -53,7 +53,7 @@ def add_constant(parser):
     )
 
 
-def add_params(parser):
+def add_params(parser, with_constant=True):
     """A meter's parameters, and a constant in the place of theirs."""
     parser.add_argument(
         "--params",
@@ -62,9 +62,10 @@ def add_params(parser):
         metavar="PARAMS",
         help="the secured parameters, as `taxi sealed` prints them (examples/taxi.params)",
     )
-    parser.add_argument(
-        "--constant", type=ranged(500, 200_000), metavar="K", help="the constant, in the place of theirs"
-    )
+    if with_constant:
+        parser.add_argument(
+            "--constant", type=ranged(500, 200_000), metavar="K", help="the constant, in the place of theirs"
+        )
 
 
 def params_of(asked):
