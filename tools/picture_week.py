@@ -128,13 +128,21 @@ def draw_panel(axes, panel, week, tables, places):
                 )
 
 
-def legend_of(text, panels):
-    """The lines of the text that hold somewhere in the picture, each as it is written, in rows of a width."""
-    used = {line.number: line for _, _, rows in panels for bands in rows for _, _, line in bands if line}
+def rows_of_legend(text, lines):
+    """Lines of the text, each as it is written, in rows of a width."""
     return [
-        (number, textwrap.wrap(f"line {number}: {text_of(text, line)}", LEGEND_LETTERS, subsequent_indent="    "))
-        for number, line in sorted(used.items())
+        (
+            line.number,
+            textwrap.wrap(f"line {line.number}: {text_of(text, line)}", LEGEND_LETTERS, subsequent_indent="    "),
+        )
+        for line in lines
     ]
+
+
+def legend_of(text, panels):
+    """The lines of the text that hold somewhere in the picture."""
+    used = {line.number: line for _, _, rows in panels for bands in rows for _, _, line in bands if line}
+    return rows_of_legend(text, [used[number] for number in sorted(used)])
 
 
 def draw_legend(figure, legend, top, places):
