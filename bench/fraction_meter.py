@@ -23,6 +23,7 @@ class FractionMeter:
         self.place, self.latch, self.is_hired, self.has_trip = {"P": 1, "Z": 1}, "", False, False
         self.pulses, self.ticks, self.charged = 0, 0, Fraction(0)
         self.initial = self.minimum = None
+        self.charged_by = []  # the line of each interval in Hired
 
     def lines_at(self, second):
         """The lines that hold at a second, as far as the trip is."""
@@ -41,7 +42,9 @@ class FractionMeter:
         )
 
     def charge(self, pulses):
-        rate = self.lines_at(self.begun)[0].parts
+        line = self.lines_at(self.begun)[0]
+        self.charged_by.append(line.number)
+        rate = line.parts
         self.charged += max(
             Fraction(10_000 * pulses * rate["a"], self.constant * rate["b"]), Fraction(rate["c"], rate["e"])
         )
