@@ -21,7 +21,7 @@ loop-done-preserved g c =
       ready = c.carry_equal-done.ensures.ready c.carry_interval.new.board c.in_ok-carry_interval.ensures.ready;
       carried = intervals_further (g.C.Carrier.carried t k) (g.C.Carrier.broke_off t k) (g.met.C.Carrier.behind t k) (g.met.C.Carrier.later t k) (g.met.C.Carrier.sooner t k)
           p (i + 1) n c.args.meter.now c.args.board.now c.carry_interval.new.meter c.carry_interval.new.board c.carry_equal-done.new.self c.carry_interval.new.board one (c.carry_equal-done.ensures.carried c.carry_interval.new.board c.in_ok-carry_interval.ensures.ready);
-      faults = counts_more _ _ _ c.loop-done.invariant.faults (c.in_ok-carry_interval.ensures.cause.kept (refl {a = true}));
+      faults = counts_more _ _ _ c.loop-done.invariant.faults (c.in_ok-carry_interval.ensures.cause.kept refl);
       steps = bounded_further p (i + 1) n c.args.steps.now c.carry_interval.new.steps
           (bounded_at_interval p i (i + 1) c.args.steps.now c.loop-done.steps c.carry_interval.new.steps (omega arith) c.loop-done.invariant.steps c.carry_interval.ensures.steps);
     }
