@@ -18,7 +18,8 @@ use Rattle.drive_text.specs.Lines.{IsOneLine}
 use Rattle.drive_text.specs.Part.{TakesPart}
 use Rattle.drive_text.specs.Plain.{BeginsWithLine, BeginsWithNumber}
 use Rattle.drive_text.specs.Reading.{Reading}
-use Rattle.drive_text.specs.Table.{IsNumberIn, Means}
+use Rattle.drive_text.specs.Table.{Means}
+use Rattle.taxi_units.specs.Written.{IsNumberIn}
 use Rattle.drive_text.specs.Table.Means.{pulses, tick, intervals}
 use Rattle.drive_text.proofs.Feeding.{takes_line}
 use Rattle.drive_text.proofs.Numbers.{no_bytes}
