@@ -165,7 +165,7 @@ impl PlainMeter {
         ensures moves { (s : Setting) → GoesThroughQuietly s roaming_checked self.old self.new }
         ensures sound { IsSound last_tick 0 self.new }
     {
-        if matches!(self.operating, Operating::ForHire) && self.roam >= u64::from(ROAMING_MOST) {
+        if matches!(self.operating, Operating::ForHire) && self.roam >= ROAMING_MOST as u64 {
             self.enter_roaming();
         }
     }
