@@ -7,7 +7,8 @@
 #
 #   commands      prints a line `WORDS|WHAT|EXAMPLE` for each command
 #   meaning_of    prints what a status means, given the status and the words
-#   question_of   sets `file`, the file at fault, and `question`, what is asked for the fault again, given status and words
+#   question_of   sets `file`, the file at fault, `other`, the one where the answer begins with `BAD OTHER`, and `question`,
+#                 what is asked for the fault again, given status and words
 #   help_on_fault prints what a fault is, given its words, and fails where there is no such fault
 #   warn_behind   says what to mind behind a call that ended with 0, given its words; mostly nothing
 #

@@ -117,7 +117,7 @@ say_unreadable() {
 
 # Says where the fault of a status lies behind a call, where that can be told.
 say_where() {
-  local status=$1 file='' question=() named fault word
+  local status=$1 file='' other='' question=() named fault word
   shift
   [ "$status" -ne 7 ] || { say_unreadable "$@"; return; }
   question_of "$status" "$@"
@@ -125,5 +125,6 @@ say_where() {
   name_files "${question[@]}"
   for word in "${named[@]}"; do is_unchanged "$word" || return 0; done
   fault=$(ask_again "$status") && [[ $fault =~ $fault_of_a_line ]] || return 0
+  [[ $fault != 'BAD OTHER '* ]] || file=$other
   ! is_unchanged "$file" || say_line "$status" "${BASH_REMATCH[-1]}"
 }

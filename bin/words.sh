@@ -2,7 +2,7 @@
 # is proved to; this says which word is off, and spares a build where nothing is built yet. `.ci/words` compares both.
 
 # The words of the table that are names of files.
-files=' TARIFF DRIVE PARAMS READINGS REQUESTS RULES BOOK ROLL '
+files=' TARIFF OTHER DRIVE PARAMS READINGS REQUESTS RULES BOOK ROLL '
 
 # The rows of a command, where it is one.
 rows_of() { commands | command=$1 awk '{ split($0, word, /[ |]/) } word[1] == ENVIRON["command"]'; }

@@ -13,10 +13,11 @@ _taxi() {
     esac
   done
   case "$((COMP_CWORD - at)) ${COMP_WORDS[at]}" in
-    '0 '*) choices='check form tables lines fare seal run bench explain totals sealed port gen offsets mark shifts help version' ;;
-    '1 help') choices='check form tables lines fare seal run bench explain totals sealed port gen offsets mark shifts' ;;
+    '0 '*) choices='check form tables lines compare fare seal run bench explain totals sealed port gen offsets mark shifts help version' ;;
+    '1 help') choices='check form tables lines compare fare seal run bench explain totals sealed port gen offsets mark shifts' ;;
     '2 tables') ;;
     '2 lines') ;;
+    '3 compare') ;;
     '3 fare') ;;
     '1 totals') ;;
     '1 sealed') ;;

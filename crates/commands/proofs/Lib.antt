@@ -24,6 +24,8 @@ mod ChainReceipts
 mod ChainScan
 -- sums over the prefixes of a chain
 mod ChainSums
+-- two tariffs, compared, or the one of them that wasn't read
+mod Comparing
 -- what the counts of faults say of a command, from the calls that it made, and over its last line
 mod Counting
 -- how the parts of a call end together

@@ -1,5 +1,6 @@
 -- The command `seal`: what it answers.
-use Rattle.std.proofs.Common.{◌≡◌, ◌≢◌, ◌⊎◌, ⊎_elim, inl, inr, ℕ, List, [], ◌++◌, Option, Result, Ok, Err, refl, sym, ap, subst, ◌∙◌}
+use Rattle.std.proofs.Common.{◌≡◌, ◌≢◌, ◌⊎◌, ⊎_elim, inl, inr, ℕ, List, [], ◌++◌, Option, Some, None, Bool, true, false, if◌then◌else◌, Result, Ok, Err, refl, sym, ap, subst, ◌∙◌}
+use Rattle.std.specs.Prelude.{◌==◌}
 use Rattle.sha2.specs.Sha256.{sha256}
 use Rattle.outside.specs.Printing.{Begins}
 use Rattle.tariff_syntax.specs.Tree.{Tree}
@@ -19,10 +20,11 @@ use Rattle.commands.specs.Course.{Answered, NoMemory, ReadFailed}
 use Rattle.commands.specs.Ending.{Comes}
 use Rattle.commands.specs.LastLine.{sealed_line, status_of}
 use Rattle.commands.specs.Opening.{opening_of, store_ended}
-use Rattle.commands.specs.Seal.{HasDecimals, IsSealable, base_in, over_totals, seal_answer, seal_command, seal_read, sealing_of, sealing_over, sealing_with, where_decimals, with_params, with_tariff}
+use Rattle.commands.specs.Seal.{HasDecimals, are_decimals, IsSealable, base_in, over_totals, seal_answer, seal_command, seal_read, sealing_of, sealing_over, sealing_with, where_decimals, with_params, with_tariff}
 use Rattle.commands.specs.SealSteps.{IsNoSeal, IsNoTariff}
 use Rattle.commands.proofs.Answering.{comes-refusal, none}
-use Rattle.commands.proofs.Openings.{as_found}
+use Rattle.commands.specs.Tariffs.{tariff_in}
+use Rattle.commands.proofs.Openings.{as_found, same_fault}
 
 -- ---- the texts
 
@@ -55,6 +57,8 @@ no_seal-tariff number found tariff params read_failed (ended.Sealed n) h = absur
 no_seal-tariff number found tariff params read_failed (ended.BadReadings row) h = absurd h
 no_seal-tariff number found tariff params read_failed ended.LongReadings h = absurd h
 no_seal-tariff number found tariff params read_failed ended.NotPassed h = absurd h
+no_seal-tariff number found tariff params read_failed ended.Different h = absurd h
+no_seal-tariff number found tariff params read_failed (ended.BadOther why) h = absurd h
 no_seal-tariff number found tariff params read_failed (ended.BadDrive line) h = absurd h
 no_seal-tariff number found tariff params read_failed ended.EndlessDrive h = absurd h
 no_seal-tariff number found tariff params read_failed ended.ReadFault h = absurd h
@@ -63,6 +67,21 @@ no_seal-tariff number found tariff params read_failed ended.BoardFault h = absur
 -- a refused tariff is no fault of a read or of the board
 pub no_tariff-fault : (found : Option ℕ) (tariff : List ℕ) (end : Ended) → IsNoTariff found tariff end → (end ≢ ended.ReadFault) × (end ≢ ended.BoardFault)
 no_tariff-fault found tariff end h = (λ e. subst (λ (x : Ended). IsNoTariff found tariff x) e h, λ e. subst (λ (x : Ended). IsNoTariff found tariff x) e h)
+
+-- a tariff of other decimals than were found is refused for them
+pub no_tariff-decimals : (found : Option ℕ) (tariff : List ℕ) (t : Tree) (end : Ended) → tariff_in tariff ≡ Ok t → are_decimals found t.decimals ≡ Err end
+    → IsNoTariff found tariff end
+no_tariff-decimals None tariff t end sound h = absurd cc
+no_tariff-decimals (Some own) tariff t end sound h = by (own == t.decimals) refl h
+  where
+    answer : Bool → Result (Unit {0}) Ended
+    answer same = if same then Ok tt else Err (ended.OtherDecimals own t.decimals)
+
+    by : (same : Bool) → same ≡ (own == t.decimals) → answer same ≡ Err end → IsNoTariff (Some own) tariff end
+    by true is h = absurd cc
+    by false is h =
+        subst (λ (x : Ended). IsNoTariff (Some own) tariff x) (same_fault (answer false) (ended.OtherDecimals own t.decimals) end refl h)
+        (t, sound, ap answer (sym is))
 
 -- what a tariff that fits makes with the parameters
 seal_with : (number : ℕ) (found : Option ℕ) (tariff params : List ℕ) (h : HasDecimals found tariff)
@@ -113,6 +132,8 @@ not_0-no_seal number found tariff text read_failed (ended.Sealed n) h = absurd h
 not_0-no_seal number found tariff text read_failed (ended.BadReadings row) h = absurd h
 not_0-no_seal number found tariff text read_failed ended.LongReadings h = absurd h
 not_0-no_seal number found tariff text read_failed ended.NotPassed h = absurd h
+not_0-no_seal number found tariff text read_failed ended.Different h = absurd h
+not_0-no_seal number found tariff text read_failed (ended.BadOther why) h = absurd h
 not_0-no_seal number found tariff text read_failed ended.ReadFault h = λ z. absurd cc
 not_0-no_seal number found tariff text read_failed ended.NoMemory h = λ z. absurd cc
 not_0-no_seal number found tariff text read_failed (ended.BadTariff why) h = λ z. absurd cc
@@ -213,6 +234,8 @@ module _ (contents left : ℕ → List ℕ) (image : List ℕ) (read_failed : �
       by (ended.BadReadings row) h = absurd h
       by ended.LongReadings h = absurd h
       by ended.NotPassed h = absurd h
+      by ended.Different h = absurd h
+      by (ended.BadOther why) h = absurd h
       by (ended.BadRules fault) h = absurd h
       by ended.LongBook h = absurd h
       by (ended.BadBook line) h = absurd h

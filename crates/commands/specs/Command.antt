@@ -3,6 +3,7 @@ use Rattle.std.specs.Prelude.{ℕ, List, Option, Some, None}
 use Rattle.commands.specs.Answer.{Answer}
 use Rattle.commands.specs.Bench.{bench_command}
 use Rattle.commands.specs.Check.{check_command}
+use Rattle.commands.specs.Compare.{compare_command}
 use Rattle.commands.specs.Course.{Command, LooksOnly}
 use Rattle.commands.specs.Explain.{explain_command}
 use Rattle.commands.specs.Fare.{fare_command}
@@ -23,6 +24,7 @@ use Rattle.commands.specs.Words.{row_of}
 use Rattle.commands.specs.declared.words.Row.{Row}
 use Rattle.commands.specs.declared.words.Row.TheVariants.{Check, Tables, Fare, Totals, Seal, Run, Bench, Gen}
 use Rattle.commands.specs.declared.words.Row.TheVariants.{Port, Offsets, Mark, Shifts, Sealed, Form, Lines, Explain}
+use Rattle.commands.specs.declared.words.Row.TheVariants.{Compare}
 
 -- each row of words is a command, and words that are no row are refused
 abbrev pub command_of : Option Row → Command
@@ -43,6 +45,7 @@ command_of (Some Sealed) = sealed_command
 command_of (Some Form) = form_command
 command_of (Some (Lines k)) = lines_command k
 command_of (Some Explain) = explain_command
+command_of (Some (Compare k)) = compare_command k
 
 -- words only look at the store where their command opens the store and writes nothing; these commands are the six of
 -- `IsLook`, as the law six_commands_only_look says

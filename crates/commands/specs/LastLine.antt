@@ -9,7 +9,7 @@ use Rattle.commands.specs.declared.ending.Ended.TheVariants.{BoardFault, NoMemor
 use Rattle.commands.specs.declared.ending.Ended.TheVariants.{TripHeld, SealEnded, OtherDecimals, BadParams, Sealed}
 use Rattle.commands.specs.declared.ending.Ended.TheVariants.{BadTrip, WrongTariff, BadRules}
 use Rattle.commands.specs.declared.ending.Ended.TheVariants.{BadReadings, LongReadings, NotPassed}
-use Rattle.commands.specs.declared.ending.Ended.TheVariants.{BadFrame, EndlessRequests, LongBook, BadBook}
+use Rattle.commands.specs.declared.ending.Ended.TheVariants.{BadFrame, EndlessRequests, LongBook, BadBook, BadOther, Different}
 use Rattle.offset_rules.specs.declared.fault.RuleFault.{RuleFault}
 use Rattle.offset_rules.specs.declared.fault.RuleFault.TheVariants as rules
 use Rattle.receipt_text.specs.Receipts.{hex_text}
@@ -63,11 +63,19 @@ fault_text (faults.TooManyCuts dimension count) = codes "TooManyCuts " ++ number
 fault_text (faults.TooManyCells count) = numbered (codes "TooManyCells") count
 fault_text faults.NoMemory = codes "NoMemory"
 
--- the last line where a tariff isn't accepted has the reason, and the number of the first bad line where there is one
+-- the text of a refusal of a tariff is `TooLong`, `Syntax` with the number of the first bad line, or that of the fault
+abbrev pub refusal_text : Refusal → List ℕ
+refusal_text TooLong = codes "TooLong"
+refusal_text (Syntax line) = numbered (codes "Syntax") line
+refusal_text (Unsound fault) = fault_text fault
+
+-- the last line where a tariff isn't accepted has the text of the refusal
 abbrev pub bad_tariff_line : Refusal → List ℕ
-bad_tariff_line TooLong = codes "BAD TARIFF TooLong\n"
-bad_tariff_line (Syntax line) = number_line (codes "BAD TARIFF Syntax ") line
-bad_tariff_line (Unsound fault) = codes "BAD TARIFF " ++ (fault_text fault ++ codes "\n")
+bad_tariff_line why = codes "BAD TARIFF " ++ (refusal_text why ++ codes "\n")
+
+-- the last line where the other one of two tariffs isn't accepted has the text of the refusal
+abbrev pub bad_other_line : Refusal → List ℕ
+bad_other_line why = codes "BAD OTHER " ++ (refusal_text why ++ codes "\n")
 
 -- the last line where a drive has a bad line has the number of the first one
 abbrev pub bad_drive_line : ℕ → List ℕ
@@ -163,6 +171,7 @@ status_of Done = 0
 status_of (Sound cells measure) = 0
 status_of BadWords = 1
 status_of (BadTariff why) = 2
+status_of (BadOther why) = 2
 status_of NotSealed = 4
 status_of (BadSlot slot) = 5
 status_of (SameNumber first second) = 5
@@ -178,6 +187,7 @@ status_of EndlessRequests = 16
 status_of (BadReadings row) = 10
 status_of LongReadings = 10
 status_of NotPassed = 11
+status_of Different = 11
 status_of (BadRules fault) = 17
 status_of LongBook = 18
 status_of (BadBook line) = 18
@@ -193,6 +203,7 @@ line_of Done = []
 line_of (Sound cells measure) = sound_line cells measure
 line_of BadWords = bad_words_line
 line_of (BadTariff why) = bad_tariff_line why
+line_of (BadOther why) = bad_other_line why
 line_of NotSealed = codes "NOT SEALED\n"
 line_of (BadSlot slot) = bad_slot_line slot
 line_of (SameNumber first second) = same_number_line first second
@@ -208,6 +219,7 @@ line_of EndlessRequests = endless_requests_line
 line_of (BadReadings row) = bad_readings_line row
 line_of LongReadings = long_readings_line
 line_of NotPassed = []
+line_of Different = []
 line_of (BadRules fault) = bad_rules_line fault
 line_of LongBook = long_book_line
 line_of (BadBook line) = bad_book_line line

@@ -2,6 +2,8 @@
 pub mod Answer
 pub mod Call
 pub mod Command
+pub mod Compare
+pub mod CompareSteps
 pub mod Course
 pub mod LastLine
 pub mod Stream

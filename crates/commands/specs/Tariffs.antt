@@ -5,7 +5,7 @@ use Rattle.tariff_syntax.specs.Tree.{Tree}
 use Rattle.tariff_check.specs.Faults.{fault_of}
 use Rattle.tariff_check.specs.declared.fault.CheckFault.{CheckFault}
 use Rattle.commands.specs.Answer.{Answer, refuses}
-use Rattle.commands.specs.LastLine.{bad_tariff_line}
+use Rattle.commands.specs.LastLine.{bad_other_line, bad_tariff_line}
 use Rattle.commands.specs.declared.tariff.Refusal.{Refusal}
 use Rattle.commands.specs.declared.tariff.Refusal.TheVariants.{TooLong, Syntax, Unsound}
 
@@ -28,3 +28,7 @@ tariff_in text = if nat_lt 65536 (length text) then Err TooLong else checked_in 
 -- the answer to a text that has no sound tariff is a refusal with the status 2
 abbrev pub bad_tariff : Refusal → Answer
 bad_tariff why = refuses 2 (bad_tariff_line why)
+
+-- the answer where the other one of two texts has no sound tariff says why
+abbrev pub bad_other : Refusal → Answer
+bad_other why = refuses 2 (bad_other_line why)

@@ -10,6 +10,7 @@ use Rattle.commands.specs.Years.{years_of}
 use Rattle.commands.specs.declared.words.Row.{Row}
 use Rattle.commands.specs.declared.words.Row.TheVariants.{Check, Tables, Fare, Totals, Seal, Run, Bench, Gen}
 use Rattle.commands.specs.declared.words.Row.TheVariants.{Port, Offsets, Mark, Shifts, Sealed, Form, Lines, Explain}
+use Rattle.commands.specs.declared.words.Row.TheVariants.{Compare}
 use Rattle.taxi_units.specs.Words.{is_word}
 
 -- a word is a constant where a number was read of it with nothing left, of at most 6 digits and from 500 to 200,000
@@ -81,14 +82,15 @@ three_words command middle last =
     then option_map signs_on (driver_of last)
     else (if is_word command (codes "lines") then option_map Lines (constant_of last) else None)))))
 
--- the row of four words is `fare TARIFF DRIVE CONSTANT`, `bench TARIFF DRIVE READINGS`, `explain TARIFF DRIVE PARAMS`
--- or `offsets RULES FROM TO`
+-- the row of four words is `fare TARIFF DRIVE CONSTANT`, `bench TARIFF DRIVE READINGS`, `explain TARIFF DRIVE PARAMS`,
+-- `offsets RULES FROM TO` or `compare TARIFF OTHER CONSTANT`
 abbrev pub four_words : (command third last : List ℕ) → Option Row
 four_words command third last =
     if is_word command (codes "fare") then option_map Fare (constant_of last)
     else (if is_word command (codes "bench") then Some Bench
     else (if is_word command (codes "explain") then Some Explain
-    else (if is_word command (codes "offsets") then option_map Offsets (years_of third last) else None)))
+    else (if is_word command (codes "offsets") then option_map Offsets (years_of third last)
+    else (if is_word command (codes "compare") then option_map Compare (constant_of last) else None))))
 
 -- words are the row of the command that they call, and no row where they are no command
 abbrev pub row_of : List (List ℕ) → Option Row

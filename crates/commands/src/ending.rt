@@ -39,6 +39,8 @@ pub enum Ended {
     BadWords,
     /// The tariff isn't accepted, and why.
     BadTariff(Refusal),
+    /// The other one of two tariffs isn't accepted, and why.
+    BadOther(Refusal),
     /// The totals' pair of slots or the seal's is blank.
     NotSealed,
     /// This slot of the store is open, and its body isn't read.
@@ -69,6 +71,8 @@ pub enum Ended {
     LongReadings,
     /// The report was printed, and a verdict in it isn't a pass.
     NotPassed,
+    /// What differs first between two tariffs was printed.
+    Different,
     /// The rules of offsets aren't accepted, and why.
     BadRules(RuleFault),
     /// The book has more than 1,048,576 bytes.
@@ -167,6 +171,7 @@ fn status(ended: Ended) -> u8
         Ended::Sound(_, _) => 0,
         Ended::BadWords => 1,
         Ended::BadTariff(_) => 2,
+        Ended::BadOther(_) => 2,
         Ended::NotSealed => 4,
         Ended::BadSlot(_) => 5,
         Ended::SameNumber(_, _) => 5,
@@ -182,6 +187,7 @@ fn status(ended: Ended) -> u8
         Ended::BadReadings(_) => 10,
         Ended::LongReadings => 10,
         Ended::NotPassed => 11,
+        Ended::Different => 11,
         Ended::BadRules(_) => 17,
         Ended::LongBook => 18,
         Ended::BadBook(_) => 18,

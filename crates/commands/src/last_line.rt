@@ -1,8 +1,8 @@
 //! The last lines of the program.
-ghost use Rattle.std.specs.Prelude.{◌≡◌, ◌+◌, ◌≤◌, ◌++◌, [], length};
+ghost use Rattle.std.specs.Prelude.{◌≡◌, ◌+◌, ◌≤◌, ◌++◌, [], codes, length};
 ghost use Rattle.arrayvec.specs.ArrayVec.{array_vec_len};
 ghost use Rattle.taxi_units.specs.Line.{line_size};
-ghost use Rattle.commands.specs.LastLine.{bad_params_line, bad_rules_line, bad_tariff_line, dimension_text, fault_text};
+ghost use Rattle.commands.specs.LastLine.{bad_params_line, bad_rules_line, dimension_text, fault_text, refusal_text};
 ghost use Rattle.commands.specs.LastLine.{line_of, name_text, numbered, other_decimals_line, param_fault_text};
 ghost use Rattle.commands.specs.LastLine.{same_number_line, sound_line, wrong_tariff_line};
 
@@ -24,7 +24,8 @@ pub fn last_line(ended: Ended) -> Line
         Ended::Done => {}
         Ended::Sound(cells, measure) => push_sound(&mut line, cells, measure),
         Ended::BadWords => push_bytes(&mut line, b"BAD WORDS\n"),
-        Ended::BadTariff(why) => push_bad_tariff(&mut line, why),
+        Ended::BadTariff(why) => push_bad(&mut line, b"BAD TARIFF ", why),
+        Ended::BadOther(why) => push_bad(&mut line, b"BAD OTHER ", why),
         Ended::NotSealed => push_bytes(&mut line, b"NOT SEALED\n"),
         Ended::BadSlot(slot) => push_number_line(&mut line, b"BAD STORE ", slot as u64),
         Ended::SameNumber(first, second) => push_same_number(&mut line, first, second),
@@ -40,6 +41,7 @@ pub fn last_line(ended: Ended) -> Line
         Ended::BadReadings(number) => push_number_line(&mut line, b"BAD READINGS ", number),
         Ended::LongReadings => push_bytes(&mut line, b"BAD READINGS TOO LONG\n"),
         Ended::NotPassed => {}
+        Ended::Different => {}
         Ended::BadRules(fault) => push_bad_rules(&mut line, fault),
         Ended::LongBook => push_bytes(&mut line, b"BAD BOOK TOO LONG\n"),
         Ended::BadBook(number) => push_number_line(&mut line, b"BAD BOOK ", number),
@@ -64,19 +66,27 @@ fn push_sound(line: &mut Line, cells: u64, measure: u64)
     push_bytes(line, b"\n");
 }
 
-/// Appends the line of a tariff that isn't accepted.
-fn push_bad_tariff(line: &mut Line, why: Refusal)
-    requires { line.old.items ≡ [] }
-    ensures { line.new.items ≡ bad_tariff_line why }
+/// Appends the line of a tariff that isn't accepted, behind a name.
+fn push_bad(line: &mut Line, name: &[u8], why: Refusal)
+    requires empty { line.old.items ≡ [] }
+    requires short { length name.now ≤ 20 }
+    ensures { line.new.items ≡ name.now ++ (refusal_text why ++ codes "\n") }
+{
+    push_bytes(line, name);
+    push_refusal(line, why);
+    push_bytes(line, b"\n");
+}
+
+/// Appends why a tariff isn't accepted.
+fn push_refusal(line: &mut Line, why: Refusal)
+    requires { array_vec_len line.old + 80 ≤ line_size }
+    ensures text { line.new.items ≡ line.old.items ++ refusal_text why }
+    ensures len { array_vec_len line.new ≤ array_vec_len line.old + 80 }
 {
     match why {
-        Refusal::TooLong => push_bytes(line, b"BAD TARIFF TooLong\n"),
-        Refusal::Syntax(number) => push_number_line(line, b"BAD TARIFF Syntax ", number as u64),
-        Refusal::Unsound(fault) => {
-            push_bytes(line, b"BAD TARIFF ");
-            push_fault(line, fault);
-            push_bytes(line, b"\n");
-        }
+        Refusal::TooLong => push_bytes(line, b"TooLong"),
+        Refusal::Syntax(number) => push_numbered(line, b"Syntax", number as u64),
+        Refusal::Unsound(fault) => push_fault(line, fault),
     }
 }
 

@@ -9,6 +9,7 @@ mod chain_laws;
 mod chains;
 mod check;
 mod command_laws;
+mod compare;
 mod ending;
 mod explain;
 mod explained_lines;

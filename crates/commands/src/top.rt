@@ -15,6 +15,7 @@ ghost use Rattle.commands.specs.Words.{row_of};
 
 use crate::bench::bench;
 use crate::check::check_tariff;
+use crate::compare::print_comparison;
 use crate::ending::{Ended, finish};
 use crate::explain::explain;
 use crate::fare::fare;
@@ -63,13 +64,14 @@ fn carry_out<F: Files, B: Board<L>, L: Ledger>(
         Row::Form => print_form(alloc, files, board, steps),
         Row::Lines(k) => print_lines(alloc, k, files, board, steps),
         Row::Explain => explain(alloc, files, board, steps),
+        Row::Compare(k) => print_comparison(alloc, k, files, board, steps),
     }
 }
 
 /// Carries out the words of a call of the program, and gives its status. Word 0 is the command; word
 /// n's file is that of place n.
 ///
-/// The words, and what is printed where the status is 0 (for `bench`, 0 or 11):
+/// The words, and what is printed where the status is 0 (for `bench` and `compare`, 0 or 11):
 ///
 /// - `check TARIFF`: `OK CELLS n MEASURE m`, for a sound tariff
 /// - `tables TARIFF CONSTANT`: the rows of its tables, with CONSTANT pulses to a kilometre
@@ -93,16 +95,18 @@ fn carry_out<F: Files, B: Board<L>, L: Ledger>(
 ///   and the first context of a meter in which it is
 /// - `explain TARIFF DRIVE PARAMS`: why the fare of each hiring that the drive closes is what it is, on a new store
 ///   that is sealed with the tariff and the parameters
+/// - `compare TARIFF OTHER CONSTANT`: what differs first between two tariffs, and the line of each, or `SAME`
 ///
 /// The statuses, their last lines, and when they come. A command looks at its words, at the store and at its
 /// files in the order of docs/FORMATS.md, and answers the first thing that is wrong: so 'exactly where' is said
 /// of a call in which nothing is wrong before, and which 7, 8 or 12 doesn't end earlier.
 ///
 /// - 0, no line: the output is whole, and the drive was read to its end; for `bench`, every row of the report
-///   passes
+///   passes, and for `compare`, the tariffs are the same
 /// - 1, `BAD WORDS`: exactly where the words are no command
 /// - 2, `BAD TARIFF` with `TooLong`, `Syntax n` or the fault: exactly where the tariff has more than 65,536
-///   bytes, its line n is the first that is no line of a tariff, or, but for `form`, this is its first fault
+///   bytes, its line n is the first that is no line of a tariff, or, but for `form`, this is its first fault;
+///   `BAD OTHER` with the same, for `compare`: exactly where the other tariff isn't accepted for this
 /// - 3, `BAD DRIVE n` or `BAD DRIVE TOO LONG`, for `fare`, `run`, `bench` and `explain`: exactly where line n is the
 ///   first that is no line of a drive, or where 2^40 bytes were taken, none of their lines is bad, and the end wasn't
 ///   told
@@ -118,8 +122,8 @@ fn carry_out<F: Files, B: Board<L>, L: Ledger>(
 /// - 9, `BAD PARAMS` with the fault, for `seal` and `explain`: exactly where the parameters have this first fault
 /// - 10, `BAD READINGS n` or `BAD READINGS TOO LONG`, for `bench`: exactly where row n is the first that is no row
 ///   of readings, or the readings have more than 1,048,576 bytes
-/// - 11, no line: exactly where a row of the report of `bench` doesn't pass; the output is whole, and each file was
-///   read to its end
+/// - 11, no line: exactly where a row of the report of `bench` doesn't pass, or the tariffs of `compare` differ; the
+///   output is whole, and each file was read to its end
 /// - 12, `NO MEMORY`: never for `totals`, `port`, `mark`, `offsets`, `sealed` and refused words; else free, before
 ///   anything is printed or written and, but for `bench` and `explain`, before the first byte of the drive is taken
 /// - 13, `TRIP HELD`, for `seal`: exactly where the totals of the store hold a trip
@@ -169,7 +173,7 @@ pub fn taxi<F: Files, B: Board<L>, L: Ledger>(
 
     // One step for the last line, one for each row of tables, at most 31 for offsets, 64 for an opening of the store,
     // 64 for each event of a drive that is run and for the supply drop at its end, one for each 512 bytes that are
-    // printed of a bench, of a form or of lines, one for each reply, and two for each byte of a shift book.
+    // printed of a bench, a form, lines or a comparison, one for each reply, and two for each byte of a shift book.
     ensures steps { (called (map string_bytes words.now)).steps F.tells B.tells_image
         (F.rest files.old) (F.rest files.new) (B.image board.old) steps.old steps.new }
 

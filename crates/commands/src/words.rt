@@ -79,6 +79,8 @@ pub enum Row {
     Lines(Constant),
     /// `explain TARIFF DRIVE PARAMS`
     Explain,
+    /// `compare TARIFF OTHER CONSTANT`
+    Compare(Constant),
 }
 
 /// The constant that a word is: 1 to 6 digits, 500 to 200,000.
@@ -232,6 +234,8 @@ fn four_words(command: &[u8], third: &[u8], last: &[u8]) -> Option<Row>
         Some(Row::Explain)
     } else if is_word(command, b"offsets") {
         Some(Row::Offsets(Years::of(third, last)?))
+    } else if is_word(command, b"compare") {
+        Some(Row::Compare(constant(last)?))
     } else {
         None
     }

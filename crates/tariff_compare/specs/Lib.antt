@@ -1,5 +1,6 @@
 pub mod Contexts
 pub mod Counting
+pub mod DifferenceTexts
 pub mod Differences
 pub mod Grids
 pub mod Same

@@ -1,6 +1,7 @@
 //! What differs first between two tariffs.
 ghost use Rattle.std.specs.Prelude.{◌≡◌, IfOk, find, not};
 ghost use Rattle.tariff_check.specs.Parts.{positions_of, zones_of};
+ghost use Rattle.tariff_compare.specs.DifferenceTexts.{IsDatedOrNone};
 ghost use Rattle.tariff_compare.specs.Differences.{context_difference, difference_of, frame_difference, is_same_rounding, is_same_supplement, other_supplement};
 ghost use Rattle.tariff_compare.specs.Grids.{IsGridOf, grid_of};
 ghost use Rattle.tariff_compare.specs.Sides.{side_of};
@@ -51,7 +52,8 @@ pub fn first_difference(
     other: &Checked,
     k: Constant,
 ) -> Result<Option<Difference>, NoMemory>
-    ensures { IfOk result (λ d. d ≡ difference_of (tree_of one.now) (tree_of other.now) k) }
+    ensures value { IfOk result (λ d. d ≡ difference_of (tree_of one.now) (tree_of other.now) k) }
+    ensures dated { IfOk result IsDatedOrNone }
 {
     match frame_difference(one, other) {
         Some(difference) => Ok(Some(difference)),
@@ -61,7 +63,8 @@ pub fn first_difference(
 
 /// What differs first in the frame of two tariffs.
 fn frame_difference(one: &Checked, other: &Checked) -> Option<Difference>
-    ensures { result ≡ frame_difference (tree_of one.now) (tree_of other.now) }
+    ensures value { result ≡ frame_difference (tree_of one.now) (tree_of other.now) }
+    ensures dated { IsDatedOrNone result }
 {
     let (step, rounding) = one.step();
     let (other_step, other_rounding) = other.step();
@@ -147,8 +150,9 @@ fn context_difference(
 ) -> Result<Option<Difference>, NoMemory>
     requires positions { positions_of (tree_of one.now).lines ≡ positions_of (tree_of other.now).lines }
     requires zones { zones_of (tree_of one.now).lines ≡ zones_of (tree_of other.now).lines }
-    ensures { IfOk result (λ d. d
+    ensures value { IfOk result (λ d. d
         ≡ context_difference (side_of (tree_of one.now) k) (side_of (tree_of other.now) k)) }
+    ensures dated { IfOk result IsDatedOrNone }
 {
     let one = Side::of(alloc, one, k)?;
     let other = Side::of(alloc, other, k)?;
@@ -160,7 +164,8 @@ fn context_difference(
 fn difference_found(one: &Side, other: &Side, grid: &Grid) -> Option<Difference>
     requires grid { grid.now ≡ grid_of one.now.tables other.now.tables }
     requires both { IsGridOf one.now.tables other.now.tables grid.now }
-    ensures { result ≡ context_difference one.now other.now }
+    ensures value { result ≡ context_difference one.now other.now }
+    ensures dated { IsDatedOrNone result }
 {
     match first_met(one, other, grid, Question::Differs) {
         Some(m) => match part_at(one, other, &m) {

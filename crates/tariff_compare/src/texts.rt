@@ -176,7 +176,7 @@ fn push_minute(text: &mut Vec<u8>, minute: u16) -> Result<(), AllocError>
 }
 
 /// A number in decimal.
-fn push_decimal(text: &mut Vec<u8>, number: u64) -> Result<(), AllocError>
+pub(crate) fn push_decimal(text: &mut Vec<u8>, number: u64) -> Result<(), AllocError>
     ensures { OnOk result (text.new.items ≡ text.old.items ++ decimal number) }
 {
     let mut line = Line::new();

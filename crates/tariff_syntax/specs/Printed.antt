@@ -71,6 +71,13 @@ entry_line decimals (initial amount covers when) rest = initial_line decimals am
 entry_line decimals (rate a b c e when) rest = rate_line decimals a b c e when rest
 entry_line decimals (minimum amount when) rest = minimum_line decimals amount when rest
 
+-- an entry without its condition says the same at all times
+abbrev pub without_when : Entry → Entry
+without_when (initial amount covers when) = initial amount covers None
+without_when (rate a b c e when) = rate a b c e None
+without_when (minimum amount when) = minimum amount None
+without_when entry = entry
+
 -- lines are printed one after another, in their order
 abbrev pub lines_text : (decimals : ℕ) → List Line → List ℕ
 lines_text decimals [] = []

@@ -28,4 +28,4 @@ pub use theorems::{
     texts_are_cut_at_their_line_feeds, texts_are_parsed_as_they_read, texts_have_their_numbers,
     texts_read_as_one_tariff,
 };
-pub use writing::print;
+pub use writing::{print, print_line};

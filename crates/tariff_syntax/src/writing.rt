@@ -1,5 +1,5 @@
 //! Writes the printed form of a tariff.
-ghost use Rattle.std.specs.Prelude.{◌≡◌, ◌≤◌, ◌++◌, IfOk, OnOk, codes, map};
+ghost use Rattle.std.specs.Prelude.{◌≡◌, ◌≤◌, ◌++◌, [], IfOk, OnOk, codes, map};
 ghost use Rattle.std.specs.Fmt.{decimal};
 ghost use Rattle.taxi_units.specs.Number.{money_text};
 ghost use Rattle.tariff_syntax.specs.Appends.{Appends};
@@ -7,12 +7,13 @@ ghost use Rattle.tariff_syntax.specs.Condition.{condition_of, condition_if};
 ghost use Rattle.tariff_syntax.specs.PrintedCondition.{condition_text};
 ghost use Rattle.tariff_syntax.specs.Printed.{printed, number_line, step_line, holiday_line, supplement_line};
 ghost use Rattle.tariff_syntax.specs.Printed.{initial_line, rate_line, minimum_line, entry_line, lines_text, when_text};
+ghost use Rattle.tariff_syntax.specs.Printed.{without_when};
 ghost use Rattle.tariff_syntax.specs.Tree.{tree_of, entry_of, line_of};
 
 use crate::condition::Cond;
 use crate::printing::{push_money, push_per, push_rounding};
 use crate::spelling::{push_condition, push_date, push_named, push_padded};
-use crate::tariff::{InitialLine, Item, MinimumLine, RateLine, Tariff, TariffLine};
+use crate::tariff::{InitialLine, Item, RateLine, Tariff, TariffLine};
 use drive_modes::Rounding;
 use std::alloc::{AllocError, Global};
 use taxi_units::NoMemory;
@@ -37,6 +38,33 @@ fn write_tariff(alloc: Global, tariff: &Tariff) -> Result<Vec<u8>, AllocError>
     push_number(&mut text, b"decimals ", tariff.decimals)?;
     push_lines(&mut text, tariff.decimals, tariff.lines.as_slice())?;
     Ok(text)
+}
+
+/// The printed form of a line up to `when`, with an LF behind it: what the line says where its condition holds. Money
+/// has `decimals` decimals, 0 to 3. `NoMemory` where memory runs out.
+pub fn print_line(alloc: Global, decimals: u8, item: &Item) -> Result<Vec<u8>, NoMemory>
+    requires { decimals ≤ 3 }
+    ensures { IfOk result (λ text. text.items ≡ entry_line decimals (without_when (entry_of item.now)) []) }
+{
+    let mut text = Vec::new(alloc);
+    match push_bare(&mut text, decimals, item) {
+        Ok(()) => Ok(text),
+        Err(_) => Err(NoMemory),
+    }
+}
+
+/// A line without its condition.
+fn push_bare(text: &mut Vec<u8>, decimals: u8, item: &Item) -> Result<(), AllocError>
+    requires { decimals ≤ 3 }
+    ensures { OnOk result (Appends text.old.items text.new.items
+        (entry_line decimals (without_when (entry_of item.now)))) }
+{
+    match item {
+        Item::Initial(initial) => push_initial(text, decimals, initial, &None),
+        Item::Rate(rate) => push_rate(text, decimals, rate, &None),
+        Item::Minimum(minimum) => push_minimum(text, decimals, minimum.amount, &None),
+        item => push_item(text, decimals, item),
+    }
 }
 
 /// Lines in their order.
@@ -65,9 +93,9 @@ fn push_item(text: &mut Vec<u8>, decimals: u8, item: &Item) -> Result<(), AllocE
             amount,
             max,
         } => { push_supplement(text, decimals, *number, *amount, *max) }
-        Item::Initial(initial) => push_initial(text, decimals, initial),
-        Item::Rate(rate) => push_rate(text, decimals, rate),
-        Item::Minimum(minimum) => push_minimum(text, decimals, minimum),
+        Item::Initial(initial) => push_initial(text, decimals, initial, &initial.cond),
+        Item::Rate(rate) => push_rate(text, decimals, rate, &rate.cond),
+        Item::Minimum(minimum) => push_minimum(text, decimals, minimum.amount, &minimum.cond),
     }
 }
 
@@ -145,43 +173,58 @@ fn push_most(text: &mut Vec<u8>, decimals: u8, amount: u64, max: u8) -> Result<(
     Ok(())
 }
 
-/// The line of an initial hire fee.
+/// The line of an initial hire fee, with a condition or none.
 #[tactic(auto, unfolding(crate::specs::Printed::initial_line))]
-fn push_initial(text: &mut Vec<u8>, decimals: u8, initial: &InitialLine) -> Result<(), AllocError>
+fn push_initial(
+    text: &mut Vec<u8>,
+    decimals: u8,
+    initial: &InitialLine,
+    cond: &Option<Cond>,
+) -> Result<(), AllocError>
     requires { decimals ≤ 3 }
     ensures { OnOk result (Appends text.old.items text.new.items
-        (initial_line decimals initial.now.amount initial.now.covers (condition_if initial.now.cond))) }
+        (initial_line decimals initial.now.amount initial.now.covers (condition_if cond.now))) }
 {
     text.extend_from_slice(b"initial ")?;
     push_money(text, initial.amount, decimals)?;
     text.extend_from_slice(b" covers ")?;
     push_money(text, initial.covers, decimals)?;
-    push_when(text, &initial.cond)
+    push_when(text, cond)
 }
 
-/// The line of a rate.
+/// The line of a rate, with a condition or none.
 #[tactic(auto, unfolding(crate::specs::Printed::rate_line))]
-fn push_rate(text: &mut Vec<u8>, decimals: u8, rate: &RateLine) -> Result<(), AllocError>
+fn push_rate(
+    text: &mut Vec<u8>,
+    decimals: u8,
+    rate: &RateLine,
+    cond: &Option<Cond>,
+) -> Result<(), AllocError>
     requires { decimals ≤ 3 }
     ensures { OnOk result (Appends text.old.items text.new.items
-        (rate_line decimals rate.now.a rate.now.b rate.now.c rate.now.e (condition_if rate.now.cond))) }
+        (rate_line decimals rate.now.a rate.now.b rate.now.c rate.now.e (condition_if cond.now))) }
 {
     text.extend_from_slice(b"rate ")?;
     push_per(text, decimals, rate.a, rate.b, b" m, ")?;
     push_per(text, decimals, rate.c, rate.e, b" s")?;
-    push_when(text, &rate.cond)
+    push_when(text, cond)
 }
 
-/// The line of a minimum fare.
+/// The line of a minimum fare, with a condition or none.
 #[tactic(auto, unfolding(crate::specs::Printed::minimum_line))]
-fn push_minimum(text: &mut Vec<u8>, decimals: u8, minimum: &MinimumLine) -> Result<(), AllocError>
+fn push_minimum(
+    text: &mut Vec<u8>,
+    decimals: u8,
+    amount: u64,
+    cond: &Option<Cond>,
+) -> Result<(), AllocError>
     requires { decimals ≤ 3 }
     ensures { OnOk result (Appends text.old.items text.new.items
-        (minimum_line decimals minimum.now.amount (condition_if minimum.now.cond))) }
+        (minimum_line decimals amount (condition_if cond.now))) }
 {
     text.extend_from_slice(b"minimum ")?;
-    push_money(text, minimum.amount, decimals)?;
-    push_when(text, &minimum.cond)
+    push_money(text, amount, decimals)?;
+    push_when(text, cond)
 }
 
 /// The end of a line that may have a condition.

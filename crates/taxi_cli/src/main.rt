@@ -8,6 +8,8 @@ mod bench_tests;
 #[cfg(test)]
 mod chain_tests;
 #[cfg(test)]
+mod compare_tests;
+#[cfg(test)]
 mod failure_tests;
 #[cfg(test)]
 mod form_tests;
