@@ -4,12 +4,15 @@ use std::alloc::Global;
 use std::test::Fail;
 use tariff_check::{CheckFault, Checked, check};
 use tariff_compile::{Tables, compile};
-use tariff_syntax::parse;
+use tariff_syntax::{parse, texts_have_their_numbers};
 
 /// The sound tariff of a text, or its fault; `NoMemory` where the text is none.
 fn checked(alloc: Global, text: &str) -> Result<Checked, CheckFault> {
     match parse(alloc, text.as_bytes()) {
-        Ok(tariff) => check(alloc, tariff),
+        Ok(tariff) => {
+            texts_have_their_numbers();
+            check(alloc, tariff)
+        }
         Err(_) => Err(CheckFault::NoMemory),
     }
 }
