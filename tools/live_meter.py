@@ -22,7 +22,7 @@ class LiveMeter:
         self.began, self.ticks, self.way = int(time.time()), 0, 0.0
         self.lines, self.first, self.torn = collections.deque(), 0, b""
         self.totals, self.status = "", None
-        self.lock = threading.RLock()
+        self.lock, self.over = threading.RLock(), threading.Event()
         self.program = None
         self.start()
         threading.Thread(target=self.keep_time, daemon=True).start()
@@ -68,12 +68,12 @@ class LiveMeter:
 
     def keep_time(self):
         """Sends the intervals of the time that passes."""
-        due = time.monotonic()
-        while True:
+        due = time.monotonic() + INTERVAL
+        while not self.over.wait(max(0.0, due - time.monotonic())):
             due += INTERVAL
-            time.sleep(max(0.0, due - time.monotonic()))
             with self.lock:
-                self.send(*self.intervals())
+                if not self.over.is_set():
+                    self.send(*self.intervals())
 
     def intervals(self):
         """The next intervals, with the pulses of the way that is driven in them."""
@@ -94,6 +94,7 @@ class LiveMeter:
     def end(self):
         """The drive ends, and so does the program."""
         with self.lock:
+            self.over.set()
             self.program.stdin.close()
         self.reader.join()
 
