@@ -18,14 +18,14 @@ use Rattle.slot_store.specs.Slots.{IsSettled, StandsFor}
 use Rattle.slot_store.specs.Syncs.{IsAsHeld, LeavesFromSync}
 use Rattle.slot_store.specs.Writes.{LeavesBeside, WritesIn}
 use Rattle.slot_store.proofs.Laws.{answer_is, at_stands, from_sync_as, goes_on, same_at, settled_already}
-use Rattle.totaliser_store.specs.declared.durable.Durable.{Durable}
-use Rattle.totaliser_store.specs.Reading as totals
-use Rattle.totaliser_store.specs.Stored as states
-use Rattle.seal_store.specs.declared.seal.Seal.{Seal}
-use Rattle.seal_store.specs.Decoding as seals
-use Rattle.seal_store.specs.Limits.{last_seal_number}
-use Rattle.seal_store.specs.Sealing.{FoundSeal, IsAmid, IsSealed, KeepsSealed, KeepsTotals, LeavesSealing, ScannedSeal, Sealing, ShowsSeal, first_written, found_number, next_number, old_seal, places_written, seal_found, totals_after, totals_found}
-use Rattle.seal_store.proofs.Laws.{seal_is_found}
+use Rattle.totals_record.specs.declared.durable.Durable.{Durable}
+use Rattle.totals_record.specs.Reading as totals
+use Rattle.meter_store.specs.Stored as states
+use Rattle.seal_record.specs.declared.seal.Seal.{Seal}
+use Rattle.seal_record.specs.Decoding as seals
+use Rattle.seal_record.specs.Limits.{last_seal_number}
+use Rattle.meter_store.specs.Sealing.{FoundSeal, IsAmid, IsSealed, KeepsSealed, KeepsTotals, LeavesSealing, ScannedSeal, Sealing, ShowsSeal, first_written, found_number, next_number, old_seal, places_written, seal_found, totals_after, totals_found}
+use Rattle.meter_store.proofs.Laws.{seal_is_found}
 use Rattle.commands.specs.declared.ending.Ended.{Ended}
 use Rattle.commands.specs.declared.ending.Ended.TheVariants as ended
 use Rattle.commands.specs.declared.opening.Opening.{Opening}

@@ -12,12 +12,12 @@ use Rattle.outside.specs.MemoryFiles.{FilesState, rest_of}
 use Rattle.outside.specs.Printing.{Begins}
 use Rattle.outside.specs.Runs.{IsSettled as NothingFlies}
 use Rattle.slot_store.proofs.Laws.{one_body}
-use Rattle.totaliser_store.specs.Reading.{reads}
-use Rattle.totaliser_store.specs.Stored.{HasState, number_of}
-use Rattle.totaliser_store.specs.Sums.{Follows}
-use Rattle.totaliser_store.specs.declared.change.Change.{Change}
-use Rattle.totaliser_store.specs.declared.durable.Durable.{Durable}
-use Rattle.totaliser_store.proofs.Laws.{changes_add_up}
+use Rattle.totals_record.specs.Reading.{reads}
+use Rattle.meter_store.specs.Stored.{HasState, number_of}
+use Rattle.totals_record.specs.Sums.{Follows}
+use Rattle.totals_record.specs.declared.change.Change.{Change}
+use Rattle.totals_record.specs.declared.durable.Durable.{Durable}
+use Rattle.totals_record.proofs.Laws.{changes_add_up}
 use Rattle.meter_run.specs.Deeds.{Deed, Prints, after_deeds, changes_of, texts}
 use Rattle.meter_run.proofs.Laws.{changes_joined, deeds_follow, the_number_tells_the_commits-beginning}
 use Rattle.commands.specs.Call.{IsEnd, MayTake}

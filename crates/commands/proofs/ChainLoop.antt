@@ -4,8 +4,8 @@ use Rattle.std.proofs.lemmas.List.{drop-drop, drop-set-lt, get_or-drop, take_all
 use Rattle.outside.specs.MemoryBoard.{new_board}
 use Rattle.outside.specs.MemoryFiles.{FilesState}
 use Rattle.outside.specs.declared.replay.Fill.{Fill}
-use Rattle.totaliser_store.specs.Stored.{HasState}
-use Rattle.totaliser_store.specs.declared.durable.Durable.{Durable}
+use Rattle.meter_store.specs.Stored.{HasState}
+use Rattle.totals_record.specs.declared.durable.Durable.{Durable}
 use Rattle.commands.specs.Chain.{AreCalls, HasChain, IsChain, Ran, last_image, last_state}
 use Rattle.commands.specs.Link.{IsLink, Link}
 use Rattle.commands.specs.ChainSteps.{HasLink}

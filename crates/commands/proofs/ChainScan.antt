@@ -8,12 +8,12 @@ use Rattle.slot_store.specs.declared.found.SlotFault.TheVariants.{DeviceFailed}
 use Rattle.slot_store.specs.declared.pair.Place.{Place}
 use Rattle.slot_store.specs.Scan.{IsAnswer, found_at}
 use Rattle.slot_store.proofs.Laws.{answer_is, at_stands, body_found}
-use Rattle.totaliser_store.specs.declared.durable.Durable.{Durable}
-use Rattle.totaliser_store.specs.Reading as totals
-use Rattle.totaliser_store.specs.Stored as states
-use Rattle.seal_store.specs.declared.seal.Seal.{Seal}
-use Rattle.seal_store.specs.Decoding as seals
-use Rattle.seal_store.specs.Sealing.{HasSeal}
+use Rattle.totals_record.specs.declared.durable.Durable.{Durable}
+use Rattle.totals_record.specs.Reading as totals
+use Rattle.meter_store.specs.Stored as states
+use Rattle.seal_record.specs.declared.seal.Seal.{Seal}
+use Rattle.seal_record.specs.Decoding as seals
+use Rattle.meter_store.specs.Sealing.{HasSeal}
 use Rattle.commands.specs.Chain.{IsSealedStore}
 use Rattle.commands.specs.Opening.{opened, opening_of, sealed_store}
 use Rattle.commands.specs.declared.opening.Opening.{Opening}

@@ -10,19 +10,19 @@ use Rattle.outside.specs.declared.replay.Fill.{Fill}
 use Rattle.outside.proofs.Laws.{same_slice}
 use Rattle.slot_store.specs.Scan.{verdict_on}
 use Rattle.slot_store.proofs.Laws.{body_found}
-use Rattle.seal_store.specs.Decoding.{number_of, reads}
-use Rattle.seal_store.specs.Sealing.{HasSeal}
-use Rattle.seal_store.specs.declared.seal.Seal.{Seal}
-use Rattle.totaliser_store.specs.Entries.{closes, closes_at, distance_of, fare_at, fare_of, hired_of, supplements_of}
-use Rattle.totaliser_store.specs.States.{IsHeldAfter, IsLast, IsRoaming, entries_of, layout_after}
-use Rattle.totaliser_store.specs.Sums.{AddsUp, Follows, ShareAddsUp, share_of}
-use Rattle.totaliser_store.specs.declared.change.Change.{Change}
-use Rattle.totaliser_store.specs.declared.change.Change.TheVariants as changes
-use Rattle.totaliser_store.specs.declared.durable.Durable.{Durable}
-use Rattle.totaliser_store.specs.declared.entry.Entry.{Entry}
-use Rattle.totaliser_store.specs.declared.totals.Totals.{Totals}
-use Rattle.totaliser_store.specs.declared.trip.Trip.{Trip}
-use Rattle.totaliser_store.proofs.Laws.{changes_add_up}
+use Rattle.seal_record.specs.Decoding.{number_of, reads}
+use Rattle.meter_store.specs.Sealing.{HasSeal}
+use Rattle.seal_record.specs.declared.seal.Seal.{Seal}
+use Rattle.totals_record.specs.Entries.{closes, closes_at, distance_of, fare_at, fare_of, hired_of, supplements_of}
+use Rattle.totals_record.specs.States.{IsHeldAfter, IsLast, IsRoaming, entries_of, layout_after}
+use Rattle.totals_record.specs.Sums.{AddsUp, Follows, ShareAddsUp, share_of}
+use Rattle.totals_record.specs.declared.change.Change.{Change}
+use Rattle.totals_record.specs.declared.change.Change.TheVariants as changes
+use Rattle.totals_record.specs.declared.durable.Durable.{Durable}
+use Rattle.totals_record.specs.declared.entry.Entry.{Entry}
+use Rattle.totals_record.specs.declared.totals.Totals.{Totals}
+use Rattle.totals_record.specs.declared.trip.Trip.{Trip}
+use Rattle.totals_record.proofs.Laws.{changes_add_up}
 use Rattle.commands.specs.Chain.{HasChain, IsChain, Ran, last_image, last_state, prefixes_of}
 use Rattle.commands.specs.Link.{Link, prefix_of}
 use Rattle.commands.specs.Run.{IsOfTotals}

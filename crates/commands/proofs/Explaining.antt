@@ -4,9 +4,9 @@ use Rattle.std.specs.Prelude.{◌⊎◌}
 use Rattle.std.proofs.lemmas.List.{append-nil}
 use Rattle.drive_text.specs.Ending.{DriveEnd, Whole, BadAt, Endless, IsGoing, IsSplit, TellsEnd, drive_end}
 use Rattle.meter_states.specs.Setting.{Setting}
-use Rattle.seal_store.specs.Reading.{params_read}
-use Rattle.seal_store.specs.declared.params.ParamFault.{ParamFault}
-use Rattle.seal_store.specs.declared.params.Params.{Params}
+use Rattle.seal_record.specs.Reading.{params_read}
+use Rattle.seal_record.specs.declared.params.ParamFault.{ParamFault}
+use Rattle.seal_record.specs.declared.params.Params.{Params}
 use Rattle.tariff_syntax.specs.Tree.{Tree}
 use Rattle.commands.specs.Answer.{Answer, shows}
 use Rattle.commands.specs.BenchSteps.{IsNoDrive, ended_for_drive}

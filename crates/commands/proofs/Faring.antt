@@ -18,7 +18,7 @@ use Rattle.commands.specs.Course.{Answered, ReadFailed, BoardFailed}
 use Rattle.drive_text.specs.Ending.{DriveEnd, Whole, BadAt, Endless, IsGoing, TellsEnd, ShowsEnd, drive_end}
 use Rattle.meter_run.specs.Drives.{RunsDrive, RunsTo}
 use Rattle.meter_run.specs.Texts.{drive_shown}
-use Rattle.seal_store.specs.declared.seal.Seal.{Seal}
+use Rattle.seal_record.specs.declared.seal.Seal.{Seal}
 use Rattle.commands.specs.Ending.{Comes, ended_by}
 use Rattle.commands.specs.Fare.{drive_answer, fare_answer, fare_command, setting_of, shown_under}
 use Rattle.commands.specs.LastLine.{status_of, line_of}

@@ -3,10 +3,10 @@ use Rattle.std.proofs.Common.{◌≡◌, ℕ, ◌+◌, ◌*◌, List, [], ◌∷
 use Rattle.std.specs.Prelude.{IsTrue}
 use Rattle.std.specs.Option.{ForSome}
 use Rattle.std.proofs.lemmas.Bool.Decides.{Decides-and, Decides-eqb, Decides-like, Decides-ltb}
-use Rattle.seal_store.proofs.Laws.{Decides-leb}
+use Rattle.seal_record.proofs.Laws.{Decides-leb}
 use Rattle.tariff_compile.specs.Tables.{TableParts}
 use Rattle.tariff_compile.specs.declared.parts.Supplement.{Supplement}
-use Rattle.totaliser_store.specs.declared.trip.Trip.{Trip}
+use Rattle.totals_record.specs.declared.trip.Trip.{Trip}
 use Rattle.meter_states.specs.Fits.{Fits}
 use Rattle.meter_states.specs.Supplements.{AreAllowed, amounts_from, most_in, supplement_in}
 use Rattle.commands.specs.Run.{are_allowed, does_fit, does_hold_fit}

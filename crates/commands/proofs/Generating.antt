@@ -16,15 +16,15 @@ use Rattle.slot_store.specs.declared.found.Found.{Found}
 use Rattle.slot_store.specs.declared.found.SlotFault.{SlotFault}
 use Rattle.slot_store.specs.Scan.{found_at}
 use Rattle.slot_store.proofs.Laws.{body_found}
-use Rattle.seal_store.specs.Sealing.{totals_found}
-use Rattle.seal_store.specs.declared.seal.Seal.{Seal}
+use Rattle.meter_store.specs.Sealing.{totals_found}
+use Rattle.seal_record.specs.declared.seal.Seal.{Seal}
 use Rattle.meter_states.specs.Setting.{IsSealOf, IsSettingOf, IsTariffOf}
 use Rattle.tariff_compile.specs.Tables.{IsTablesOf, TableParts, tables_of}
 use Rattle.verify_bench.specs.Generated.{generated}
-use Rattle.totaliser_store.specs.declared.durable.Durable.{Durable}
-use Rattle.totaliser_store.specs.Reading as totals
-use Rattle.totaliser_store.specs.Stored as states
-use Rattle.totaliser_store.specs.Stored.{HasState}
+use Rattle.totals_record.specs.declared.durable.Durable.{Durable}
+use Rattle.totals_record.specs.Reading as totals
+use Rattle.meter_store.specs.Stored as states
+use Rattle.meter_store.specs.Stored.{HasState}
 use Rattle.taxi_units.specs.Time.{first_second}
 use Rattle.tariff_syntax.specs.Tree.{Tree}
 use Rattle.commands.specs.declared.ending.Ended.{Ended}

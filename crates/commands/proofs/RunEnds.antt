@@ -13,7 +13,7 @@ use Rattle.outside.proofs.Laws.{leaves_wider}
 use Rattle.slot_store.specs.Syncs.{IsAsHeld, LeavesFromSync}
 use Rattle.slot_store.specs.Writes.{OrWithin}
 use Rattle.slot_store.proofs.Laws.{from_sync_as, goes_on, settled_already}
-use Rattle.totaliser_store.specs.declared.durable.Durable.{Durable}
+use Rattle.totals_record.specs.declared.durable.Durable.{Durable}
 use Rattle.meter_states.specs.Setting.{IsSettingOf}
 use Rattle.meter_run.specs.Deeds.{Prints, after_deeds, texts}
 use Rattle.meter_run.specs.OnStore.{HasBeside, WritesTotals}

@@ -10,8 +10,8 @@ use Rattle.outside.specs.Runs.{IsSettled as NothingFlies}
 use Rattle.outside.proofs.Laws.{begins_not}
 use Rattle.slot_store.specs.Syncs.{IsAsHeld, LeavesFromSync, ReadsOnly}
 use Rattle.slot_store.proofs.Laws.{from_sync_as}
-use Rattle.totaliser_store.specs.Stored.{HasState}
-use Rattle.totaliser_store.proofs.Laws.{changes_add_up}
+use Rattle.meter_store.specs.Stored.{HasState}
+use Rattle.totals_record.proofs.Laws.{changes_add_up}
 use Rattle.meter_run.proofs.Laws.{receipts_have_their_entries-run}
 use Rattle.meter_run.specs.Deeds.{Deed, Prints, after_deeds, texts}
 use Rattle.meter_run.specs.Points.{HasEntries, IsCut}

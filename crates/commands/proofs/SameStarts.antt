@@ -5,17 +5,17 @@ use Rattle.std.specs.Prelude.{nat_eq}
 use Rattle.sha2.specs.Sha256.{sha256}
 use Rattle.drive_text.specs.Ending.{drive_end, events_of}
 use Rattle.slot_store.specs.Scan.{IsAnswer, found_at}
-use Rattle.slot_store.specs.Sizes.{body_size}
+use Rattle.slot_bodies.specs.Bodies.{body_size}
 use Rattle.slot_store.specs.Slots.{slot_at}
 use Rattle.slot_store.specs.declared.found.Found.{Found}
 use Rattle.slot_store.specs.declared.found.SlotFault.{SlotFault}
 use Rattle.slot_store.proofs.Laws.{answer_is}
-use Rattle.totaliser_store.specs.declared.durable.Durable.{Durable}
-use Rattle.totaliser_store.specs.declared.trip.Trip.{Trip}
-use Rattle.seal_store.specs.Decoding as seals
-use Rattle.seal_store.specs.Ranges.{IsSeal}
-use Rattle.seal_store.specs.SealLaws.{gives_valid}
-use Rattle.seal_store.specs.declared.seal.Seal.{Seal}
+use Rattle.totals_record.specs.declared.durable.Durable.{Durable}
+use Rattle.totals_record.specs.declared.trip.Trip.{Trip}
+use Rattle.seal_record.specs.Decoding as seals
+use Rattle.seal_record.specs.Ranges.{IsSeal}
+use Rattle.seal_record.specs.SealLaws.{gives_valid}
+use Rattle.seal_record.specs.declared.seal.Seal.{Seal}
 use Rattle.tariff_check.specs.Faults.{fault_of}
 use Rattle.tariff_check.specs.declared.fault.CheckFault.{CheckFault}
 use Rattle.tariff_check.proofs.Laws.{sound_tariffs_have_sound_parts-none}

@@ -11,11 +11,11 @@ use Rattle.std.proofs.lemmas.List.Elements.{All-append, All-cons, All-nil}
 use Rattle.std.proofs.lemmas.Str.Parse.{digit_from_value}
 use Rattle.taxi_units.proofs.Laws.{numbers_are_short}
 use Rattle.receipt_text.specs.Receipts.{hex_digit, hex_text}
-use Rattle.seal_store.specs.declared.seal.Seal.{Seal}
-use Rattle.seal_store.specs.PlainText.{AreShown, comment_line, ended_text}
-use Rattle.seal_store.specs.Ranges.{IsSeal}
-use Rattle.seal_store.specs.Reading.{params_read}
-use Rattle.seal_store.proofs.Laws.{Decides-leb, comments_are_passed_over, comments_make_it_longer}
+use Rattle.seal_record.specs.declared.seal.Seal.{Seal}
+use Rattle.seal_record.specs.PlainText.{AreShown, comment_line, ended_text}
+use Rattle.seal_record.specs.Ranges.{IsSeal}
+use Rattle.seal_record.specs.Reading.{params_read}
+use Rattle.seal_record.proofs.Laws.{Decides-leb, comments_are_passed_over, comments_make_it_longer}
 use Rattle.commands.specs.LastLine.{numbered}
 use Rattle.commands.specs.SealedText.{seal_comments, sealed_text}
 

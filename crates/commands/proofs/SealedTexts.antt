@@ -8,9 +8,9 @@ use Rattle.outside.specs.Printing.{Begins}
 use Rattle.outside.proofs.Laws.{begins_after, begins_more}
 use Rattle.offset_rules.specs.Texts as rules
 use Rattle.offset_rules.specs.Texts.{offset_lines}
-use Rattle.seal_store.specs.declared.seal.Seal.{Seal}
-use Rattle.seal_store.specs.PlainText.{comment_line, ended_text, offset_line, offset_text}
-use Rattle.seal_store.specs.PlainText.{secured_line, settings_lines}
+use Rattle.seal_record.specs.declared.seal.Seal.{Seal}
+use Rattle.seal_record.specs.PlainText.{comment_line, ended_text, offset_line, offset_text}
+use Rattle.seal_record.specs.PlainText.{secured_line, settings_lines}
 use Rattle.receipt_text.specs.Receipts.{day_text, hex_text}
 use Rattle.commands.specs.NumberLine.{number_line}
 use Rattle.commands.specs.SealedText.{seal_comments, sealed_text}

@@ -13,11 +13,11 @@ use Rattle.slot_store.specs.declared.found.SlotFault.{SlotFault}
 use Rattle.slot_store.specs.declared.pair.Place.{Place}
 use Rattle.slot_store.specs.Scan.{IsAnswer, found_at, verdict_on}
 use Rattle.slot_store.proofs.Laws.{answer_is, at_stands}
-use Rattle.totaliser_store.specs.declared.durable.Durable.{Durable}
-use Rattle.totaliser_store.specs.Reading as totals
-use Rattle.totaliser_store.specs.Stored as states
-use Rattle.seal_store.specs.declared.seal.Seal.{Seal}
-use Rattle.seal_store.specs.Decoding as seals
+use Rattle.totals_record.specs.declared.durable.Durable.{Durable}
+use Rattle.totals_record.specs.Reading as totals
+use Rattle.meter_store.specs.Stored as states
+use Rattle.seal_record.specs.declared.seal.Seal.{Seal}
+use Rattle.seal_record.specs.Decoding as seals
 use Rattle.meter_states.specs.Fits.{Fits}
 use Rattle.tariff_compile.specs.Tables.{tables_of}
 use Rattle.tariff_syntax.specs.Tree.{Tree}

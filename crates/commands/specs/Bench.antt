@@ -3,10 +3,10 @@ use Rattle.std.specs.Prelude.{◌≡◌, ◌⊎◌, ℕ, ◌+◌, ◌≤◌, Boo
 use Rattle.drive_modes.specs.declared.meterage.Rounding.{Rounding}
 use Rattle.drive_text.specs.Ending.{DriveEnd, Whole, BadAt, Endless, IsGoing, drive_end, events_of}
 use Rattle.meter_states.specs.Setting.{Setting}
-use Rattle.seal_store.specs.declared.seal.Seal.{Seal}
+use Rattle.seal_record.specs.declared.seal.Seal.{Seal}
 use Rattle.tariff_check.specs.Parts.{step_of}
 use Rattle.tariff_syntax.specs.Tree.{Tree}
-use Rattle.totaliser_store.specs.declared.durable.Durable.{Durable}
+use Rattle.totals_record.specs.declared.durable.Durable.{Durable}
 use Rattle.verify_bench.specs.CrossOvers.{cross_overs_text}
 use Rattle.verify_bench.specs.Expecting.{expected_of}
 use Rattle.verify_bench.specs.Passing.{do_all_pass}

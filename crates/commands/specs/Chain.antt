@@ -3,12 +3,12 @@ use Rattle.std.specs.Prelude.{◌≡◌, ℕ, ◌<◌, List, [], ◌∷◌, ◌+
 use Rattle.outside.specs.MemoryBoard.{BoardState, new_board}
 use Rattle.outside.specs.MemoryFiles.{FilesState}
 use Rattle.outside.specs.declared.replay.Fill.{Fill}
-use Rattle.seal_store.specs.Sealing.{HasSeal}
-use Rattle.seal_store.specs.declared.seal.Seal.{Seal}
+use Rattle.meter_store.specs.Sealing.{HasSeal}
+use Rattle.seal_record.specs.declared.seal.Seal.{Seal}
 use Rattle.taxi_units.specs.declared.receipt.Receipt as receipts
-use Rattle.totaliser_store.specs.Stored.{HasState}
-use Rattle.totaliser_store.specs.declared.change.Change.{Change}
-use Rattle.totaliser_store.specs.declared.durable.Durable.{Durable}
+use Rattle.meter_store.specs.Stored.{HasState}
+use Rattle.totals_record.specs.declared.change.Change.{Change}
+use Rattle.totals_record.specs.declared.durable.Durable.{Durable}
 use Rattle.meter_states.specs.declared.act.Act.TheVariants.{Receipt}
 use Rattle.meter_run.specs.Deeds.{Deed, Does, texts}
 use Rattle.commands.specs.Link.{IsLink, Link, begun_with, deeds_done, prefix_of}

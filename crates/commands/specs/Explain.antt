@@ -2,9 +2,9 @@
 use Rattle.std.specs.Prelude.{◌≡◌, ◌⊎◌, ℕ, ◌+◌, ◌≤◌, ◌==◌, if◌then◌else◌, List, [], length, Some, Result, Ok, Err}
 use Rattle.drive_text.specs.Ending.{DriveEnd, Whole, BadAt, Endless, IsGoing, drive_end, events_of}
 use Rattle.meter_states.specs.Setting.{Setting}
-use Rattle.seal_store.specs.Reading.{params_read}
-use Rattle.seal_store.specs.declared.params.ParamFault.{ParamFault}
-use Rattle.seal_store.specs.declared.params.Params.{Params}
+use Rattle.seal_record.specs.Reading.{params_read}
+use Rattle.seal_record.specs.declared.params.ParamFault.{ParamFault}
+use Rattle.seal_record.specs.declared.params.Params.{Params}
 use Rattle.tariff_syntax.specs.Tree.{Tree}
 use Rattle.verify_bench.specs.Explaining.{explanations_of}
 use Rattle.commands.specs.Answer.{Answer, shows}

@@ -7,8 +7,8 @@ use Rattle.meter_run.specs.Runs.{run_deeds}
 use Rattle.meter_states.specs.Setting.{Setting}
 use Rattle.tariff_syntax.specs.Tree.{Tree}
 use Rattle.taxi_units.specs.Time.{first_second}
-use Rattle.totaliser_store.specs.States.{first_state}
-use Rattle.totaliser_store.specs.declared.durable.Durable.{Durable}
+use Rattle.totals_record.specs.States.{first_state}
+use Rattle.totals_record.specs.declared.durable.Durable.{Durable}
 use Rattle.verify_bench.specs.Generated.{generated}
 use Rattle.commands.specs.Answer.{Answer, shows}
 use Rattle.commands.specs.Course.{Command}

@@ -13,10 +13,10 @@ use Rattle.commands.specs.declared.ending.Ended.TheVariants.{BadFrame, EndlessRe
 use Rattle.offset_rules.specs.declared.fault.RuleFault.{RuleFault}
 use Rattle.offset_rules.specs.declared.fault.RuleFault.TheVariants as rules
 use Rattle.receipt_text.specs.Receipts.{hex_text}
-use Rattle.seal_store.specs.declared.params.Name.{Name}
-use Rattle.seal_store.specs.declared.params.Name.TheVariants as names
-use Rattle.seal_store.specs.declared.params.ParamFault.{ParamFault}
-use Rattle.seal_store.specs.declared.params.ParamFault.TheVariants as params
+use Rattle.seal_record.specs.declared.params.Name.{Name}
+use Rattle.seal_record.specs.declared.params.Name.TheVariants as names
+use Rattle.seal_record.specs.declared.params.ParamFault.{ParamFault}
+use Rattle.seal_record.specs.declared.params.ParamFault.TheVariants as params
 use Rattle.commands.specs.declared.tariff.Refusal.{Refusal}
 use Rattle.commands.specs.declared.tariff.Refusal.TheVariants.{TooLong, Syntax, Unsound}
 use Rattle.tariff_check.specs.declared.fault.Dimension.{Dimension}

@@ -6,10 +6,10 @@ use Rattle.outside.specs.Faults.{Rose}
 use Rattle.outside.specs.MemoryBoard.{BoardState, held_inside, image_of, left_since_of, text_of}
 use Rattle.outside.specs.MemoryFiles.{FilesState, rest_of}
 use Rattle.outside.specs.declared.replay.Fill.{Fill}
-use Rattle.totaliser_store.specs.Stored.{HasState}
-use Rattle.totaliser_store.specs.Sums.{Follows}
-use Rattle.totaliser_store.specs.declared.change.Change.{Change}
-use Rattle.totaliser_store.specs.declared.durable.Durable.{Durable}
+use Rattle.meter_store.specs.Stored.{HasState}
+use Rattle.totals_record.specs.Sums.{Follows}
+use Rattle.totals_record.specs.declared.change.Change.{Change}
+use Rattle.totals_record.specs.declared.durable.Durable.{Durable}
 use Rattle.meter_run.specs.Deeds.{Deed, changes_of}
 use Rattle.commands.specs.Call.{LeavesUnread, MayTake}
 use Rattle.commands.specs.Course.{Course, line_in, status_in, text_in}

@@ -5,11 +5,11 @@ use Rattle.slot_store.specs.declared.found.Found.TheVariants.{Blank, Latest}
 use Rattle.slot_store.specs.declared.found.SlotFault.{SlotFault}
 use Rattle.slot_store.specs.declared.found.SlotFault.TheVariants as slots
 use Rattle.slot_store.specs.Scan.{found_at}
-use Rattle.totaliser_store.specs.declared.durable.Durable.{Durable}
-use Rattle.totaliser_store.specs.Reading as totals
-use Rattle.totaliser_store.specs.Stored as states
-use Rattle.seal_store.specs.declared.seal.Seal.{Seal}
-use Rattle.seal_store.specs.Decoding as seals
+use Rattle.totals_record.specs.declared.durable.Durable.{Durable}
+use Rattle.totals_record.specs.Reading as totals
+use Rattle.meter_store.specs.Stored as states
+use Rattle.seal_record.specs.declared.seal.Seal.{Seal}
+use Rattle.seal_record.specs.Decoding as seals
 use Rattle.commands.specs.declared.ending.Ended.{Ended}
 use Rattle.commands.specs.declared.ending.Ended.TheVariants as ended
 use Rattle.commands.specs.declared.opening.Opening.{Opening}

@@ -10,10 +10,10 @@ use Rattle.outside.specs.Runs.{IsSettled, LeavesOnly}
 use Rattle.outside.specs.declared.board.Board.{Ghosts}
 use Rattle.outside.specs.declared.files.Files.{Ghosts as FileGhosts}
 use Rattle.slot_store.specs.Syncs.{LeavesFromSync}
-use Rattle.totaliser_store.specs.declared.durable.Durable.{Durable}
-use Rattle.totaliser_store.specs.declared.trip.Trip.{Trip}
-use Rattle.totaliser_store.specs.Stored.{HasState}
-use Rattle.seal_store.specs.declared.seal.Seal.{Seal}
+use Rattle.totals_record.specs.declared.durable.Durable.{Durable}
+use Rattle.totals_record.specs.declared.trip.Trip.{Trip}
+use Rattle.meter_store.specs.Stored.{HasState}
+use Rattle.seal_record.specs.declared.seal.Seal.{Seal}
 use Rattle.tariff_syntax.specs.Tree.{Tree}
 use Rattle.tariff_compile.specs.Tables.{TableParts, tables_of}
 use Rattle.tariff_compile.specs.declared.parts.Supplement.{Supplement}

@@ -5,7 +5,7 @@ use Rattle.outside.specs.Runs.{IsSettled, MayHold}
 use Rattle.outside.specs.declared.board.Board.{Ghosts}
 use Rattle.outside.specs.declared.files.Files.{Ghosts as FileGhosts}
 use Rattle.slot_store.specs.Syncs.{LeavesFromSync}
-use Rattle.seal_store.specs.declared.seal.Seal.{Seal}
+use Rattle.seal_record.specs.declared.seal.Seal.{Seal}
 use Rattle.tariff_compile.specs.Tables.{IsTablesOf, TableParts, tables_of}
 use Rattle.tariff_syntax.specs.Tree.{Tree}
 use Rattle.meter_run.specs.Runs.{OpensWith}

@@ -4,7 +4,7 @@ use Rattle.drive_text.specs.Ending.{drive_end}
 use Rattle.tariff_compare.specs.Same.{AreSame}
 use Rattle.same_tariffs.specs.Alike.{AreStoresAlike}
 use Rattle.same_tariffs.specs.Reached.{HoldGoesOn}
-use Rattle.totaliser_store.specs.States.{entries_of}
+use Rattle.totals_record.specs.States.{entries_of}
 use Rattle.meter_run.specs.Deeds.{after_deeds, changes_of, texts}
 use Rattle.commands.specs.Fare.{drive_answer}
 use Rattle.commands.specs.Run.{Start, deeds_in, run_answer, setting_in}

@@ -5,13 +5,13 @@ use Rattle.sha2.specs.Sha256.{sha256}
 use Rattle.slot_store.specs.declared.found.Found.{Found}
 use Rattle.slot_store.specs.declared.found.Found.TheVariants.{Blank, Latest}
 use Rattle.tariff_syntax.specs.Tree.{Tree}
-use Rattle.totaliser_store.specs.declared.durable.Durable.{Durable}
-use Rattle.seal_store.specs.declared.params.Params.{Params}
-use Rattle.seal_store.specs.declared.params.ParamFault.{ParamFault}
-use Rattle.seal_store.specs.declared.seal.Seal.{Seal}
-use Rattle.seal_store.specs.Limits.{last_seal_number}
-use Rattle.seal_store.specs.Reading.{params_read}
-use Rattle.seal_store.specs.Sealing.{IsAmid, IsSealed, Sealing, found_number, next_number, old_seal}
+use Rattle.totals_record.specs.declared.durable.Durable.{Durable}
+use Rattle.seal_record.specs.declared.params.Params.{Params}
+use Rattle.seal_record.specs.declared.params.ParamFault.{ParamFault}
+use Rattle.seal_record.specs.declared.seal.Seal.{Seal}
+use Rattle.seal_record.specs.Limits.{last_seal_number}
+use Rattle.seal_record.specs.Reading.{params_read}
+use Rattle.meter_store.specs.Sealing.{IsAmid, IsSealed, Sealing, found_number, next_number, old_seal}
 use Rattle.outside.specs.declared.board.Board.{Ghosts}
 use Rattle.slot_store.specs.Syncs.{LeavesFromSync}
 use Rattle.commands.specs.Answer.{Answer, says}
@@ -77,7 +77,7 @@ with_tariff number found digest (Ok t) params =
 
 -- a tariff's text and a parameter text give the seal of a number, beside decimals that were found, or the first
 -- refusal; `params_read` gives the parameters or their first fault, as the laws texts_say_their_parameters,
--- texts_are_too_long_or_lack_a_parameter and texts_say_parameters_line_by_line of seal_store say
+-- texts_are_too_long_or_lack_a_parameter and texts_say_parameters_line_by_line of seal_record say
 abbrev pub seal_read : (number : ℕ) → Option ℕ → (tariff params : List ℕ) → Result Seal Ended
 seal_read number found tariff params = with_tariff number found (sha256 tariff) (tariff_in tariff) (params_read params)
 

@@ -3,7 +3,7 @@ use Rattle.std.specs.Prelude.{◌≡◌, ◌⊎◌, ℕ, List, Option, Result, O
 use Rattle.outside.specs.Printing.{Begins}
 use Rattle.outside.specs.Runs.{MayHold}
 use Rattle.outside.specs.declared.board.Board.{Ghosts}
-use Rattle.seal_store.specs.Sealing.{Sealing}
+use Rattle.meter_store.specs.Sealing.{Sealing}
 use Rattle.tariff_syntax.specs.Tree.{Tree}
 use Rattle.commands.specs.Seal.{HasDecimals, MayLeaveSealing, are_decimals, seal_read}
 use Rattle.commands.specs.Tariffs.{tariff_in}

@@ -1,7 +1,7 @@
 -- Rules: the command `sealed`.
 use Rattle.std.specs.Prelude.{Result, Ok, Err}
-use Rattle.totaliser_store.specs.declared.durable.Durable.{Durable}
-use Rattle.seal_store.specs.declared.seal.Seal.{Seal}
+use Rattle.totals_record.specs.declared.durable.Durable.{Durable}
+use Rattle.seal_record.specs.declared.seal.Seal.{Seal}
 use Rattle.commands.specs.Answer.{Answer, shows}
 use Rattle.commands.specs.Course.{Command, store_command}
 use Rattle.commands.specs.LastLine.{refused_as}

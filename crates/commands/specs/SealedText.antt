@@ -1,8 +1,8 @@
 -- Rules: the text of what a store was sealed with.
 use Rattle.std.specs.Prelude.{ℕ, List, [], ◌∷◌, ◌++◌, codes}
 use Rattle.receipt_text.specs.Receipts.{hex_text}
-use Rattle.seal_store.specs.declared.seal.Seal.{Seal}
-use Rattle.seal_store.specs.PlainText.{commented_text}
+use Rattle.seal_record.specs.declared.seal.Seal.{Seal}
+use Rattle.seal_record.specs.PlainText.{commented_text}
 use Rattle.commands.specs.LastLine.{numbered}
 
 -- the comments of a seal say its number, the decimals of its tariff's money, and the digest of its tariff's text in

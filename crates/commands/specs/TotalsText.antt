@@ -2,11 +2,11 @@
 use Rattle.std.specs.Prelude.{ℕ, ◌+◌, List, [], ◌++◌, get_or, nat_lt, if◌then◌else◌, Option, Some, None, codes, decimal}
 use Rattle.std.specs.List.{flat_map, range_with_len}
 use Rattle.taxi_units.specs.Number.{money_text}
-use Rattle.totaliser_store.specs.declared.durable.Durable.{Durable}
-use Rattle.totaliser_store.specs.declared.totals.Share.{Share}
-use Rattle.totaliser_store.specs.declared.totals.Totals.{Totals}
-use Rattle.totaliser_store.specs.declared.trip.Trip.{Trip}
-use Rattle.totaliser_store.specs.Entries.{no_share}
+use Rattle.totals_record.specs.declared.durable.Durable.{Durable}
+use Rattle.totals_record.specs.declared.totals.Share.{Share}
+use Rattle.totals_record.specs.declared.totals.Totals.{Totals}
+use Rattle.totals_record.specs.declared.trip.Trip.{Trip}
+use Rattle.totals_record.specs.Entries.{no_share}
 use Rattle.commands.specs.NumberLine.{number_line}
 
 -- a line of an amount is its name, the amount, counted in units of the last of its decimals, and the end

@@ -4,7 +4,7 @@ use Rattle.std.specs.Cmp.Lexicographic.{pointwise}
 use Rattle.std.specs.Option.{option_map}
 use Rattle.std.specs.Str.Parse.{digits_value}
 use Rattle.taxi_units.specs.Number.{digits_at_front, number_at}
-use Rattle.pulse_input.specs.Constant.{least_constant, greatest_constant}
+use Rattle.drive_modes.specs.Constant.{least_constant, greatest_constant}
 use Rattle.shift_book.specs.Reading.{driver_of}
 use Rattle.commands.specs.Years.{years_of}
 use Rattle.commands.specs.declared.words.Row.{Row}

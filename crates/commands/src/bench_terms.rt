@@ -10,7 +10,7 @@ use crate::ending::Ended;
 use crate::sealed::open_sealed;
 use crate::sealed_tariff::read_sealed;
 use outside::{Board, Files};
-use seal_store::Seal;
+use seal_record::Seal;
 use std::alloc::Global;
 use std::sync::ledger::Ledger;
 use tariff_check::Checked;

@@ -1,10 +1,10 @@
 //! What any chain of runs and cuts of the power means, in words that share nothing with how the code works.
 ghost use Rattle.std.specs.Prelude.{ℕ, ◌∷◌, ◌++◌, List};
 ghost use Rattle.taxi_units.specs.declared.receipt.Receipt as receipts;
-ghost use Rattle.totaliser_store.specs.States.{entries_of};
-ghost use Rattle.totaliser_store.specs.Stored.{HasState};
-ghost use Rattle.totaliser_store.specs.Sums.{AddsUp, Follows};
-ghost use Rattle.totaliser_store.specs.declared.durable.Durable.{Durable};
+ghost use Rattle.totals_record.specs.States.{entries_of};
+ghost use Rattle.meter_store.specs.Stored.{HasState};
+ghost use Rattle.totals_record.specs.Sums.{AddsUp, Follows};
+ghost use Rattle.totals_record.specs.declared.durable.Durable.{Durable};
 ghost use Rattle.meter_run.specs.Points.{HasEntryOf, IsNumberedWithin};
 ghost use Rattle.commands.specs.Chain.{HasByteOf, IsChain, last_image, last_state, prefixes_of};
 ghost use Rattle.commands.specs.Link.{Link, prefix_of};

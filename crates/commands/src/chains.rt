@@ -3,10 +3,10 @@ ghost use Rattle.std.specs.Prelude.{◌≡◌, ◌≢◌, ◌⊎◌, ℕ, ◌↔
 ghost use Rattle.outside.specs.Disk.{SameBut};
 ghost use Rattle.outside.specs.MemoryBoard.{image_of, left_since_of};
 ghost use Rattle.outside.specs.declared.replay.Fill.{Fill};
-ghost use Rattle.seal_store.specs.Sealing.{HasSeal};
-ghost use Rattle.seal_store.specs.declared.seal.Seal.{Seal};
-ghost use Rattle.totaliser_store.specs.Stored.{HasState};
-ghost use Rattle.totaliser_store.specs.declared.durable.Durable.{Durable};
+ghost use Rattle.meter_store.specs.Sealing.{HasSeal};
+ghost use Rattle.seal_record.specs.declared.seal.Seal.{Seal};
+ghost use Rattle.meter_store.specs.Stored.{HasState};
+ghost use Rattle.totals_record.specs.declared.durable.Durable.{Durable};
 ghost use Rattle.commands.specs.Chain.{HasChain, IsSealedStore};
 ghost use Rattle.commands.specs.ChainSteps.{HasLink};
 ghost use Rattle.commands.specs.Link.{IsLeftInside, call_of, text_before};
@@ -22,7 +22,7 @@ use slot_store::{Found, scan};
 use std::alloc::Global;
 use std::sync::ledger::Ledger;
 use taxi_units::{NoMemory, Steps};
-use totaliser_store::Durable;
+use totals_record::Durable;
 
 /// What a run of a chain leaves: the next image, the run's status, and the number that is found in the image.
 #[derive(Drop)]

@@ -11,8 +11,8 @@ ghost use Rattle.commands.specs.CompareSteps.{IsCompared, IsNotCompared, ended_c
 use crate::ending::{Ended, refused_by};
 use crate::pieces::print_text;
 use crate::tariff::{TextFault, read_tariff};
+use drive_modes::Constant;
 use outside::{Board, Files};
-use pulse_input::Constant;
 use std::alloc::Global;
 use std::sync::ledger::Ledger;
 use tariff_check::Checked;

@@ -18,7 +18,7 @@ use data_port::PortFault;
 use meter_run::RunFault;
 use offset_rules::RuleFault;
 use outside::Board;
-use seal_store::ParamFault;
+use seal_record::ParamFault;
 use std::sync::ledger::Ledger;
 use taxi_units::Steps;
 

@@ -20,7 +20,7 @@ use crate::tariff::read_tariff;
 use crate::whole_drive::read_drive;
 use drive_text::Run;
 use outside::{Board, Files};
-use seal_store::Params;
+use seal_record::Params;
 use std::alloc::Global;
 use std::sync::ledger::Ledger;
 use tariff_check::Checked;

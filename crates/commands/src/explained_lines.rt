@@ -9,7 +9,7 @@ ghost use Rattle.commands.specs.ExplainSteps.{IsScale};
 ghost use Rattle.commands.specs.ExplainedText.{duration_text, fee_text, heading_text, minimum_text, rate_text};
 ghost use Rattle.commands.specs.ExplainedText.{span_text, stopped_text, sum_text, taken_text, title_text, way_text};
 
-use pulse_input::{Constant, millimetres};
+use drive_modes::{Constant, millimetres};
 use receipt_text::{push_calculation, push_course, push_fare, push_kind};
 use taxi_units::{Kind, Line, Receipt, push_bytes, push_money, push_number, put_padded};
 use verify_bench::{Explained, Group, Sums, Taken, Way};

@@ -8,7 +8,7 @@ ghost use Rattle.commands.specs.ExplainedText.{explanations_text, hiring_text, h
 
 use crate::explained_lines::{Scale, beginning_lines, rate_line, sum_lines, taken_line};
 use receipt_text::{push_supplements, push_total};
-use seal_store::Params;
+use seal_record::Params;
 use std::alloc::Global;
 use tariff_check::Checked;
 use taxi_units::{Line, NoMemory, Receipt};

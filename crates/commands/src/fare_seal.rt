@@ -1,14 +1,13 @@
 //! What the command `fare` is sealed with.
 ghost use Rattle.std.specs.Prelude.{◌≡◌, ◌∷◌, [], codes, pos, replicate};
 ghost use Rattle.drive_modes.specs.declared.charges.Mode.TheVariants.{Single};
-ghost use Rattle.seal_store.specs.Limits.{first_day};
+ghost use Rattle.seal_record.specs.Limits.{first_day};
 ghost use Rattle.taxi_units.specs.Time.{first_second};
 
 use arrayvec::ArrayVec;
-use drive_modes::Mode;
+use drive_modes::{Constant, Mode};
 use interval_clock::Offsets;
-use pulse_input::Constant;
-use seal_store::{FIRST_DAY, Params, Seal};
+use seal_record::{FIRST_DAY, Params, Seal};
 use taxi_units::FIRST_SECOND;
 
 /// The seal of a meter without a store: in mode S, with a hold of a minute, and local time that is UTC.

@@ -11,7 +11,7 @@ use crate::number_line::push_number_line;
 use crate::tariff::Refusal;
 use offset_rules::RuleFault;
 use receipt_text::push_hex;
-use seal_store::{Name, ParamFault};
+use seal_record::{Name, ParamFault};
 use tariff_check::{CheckFault, Dimension};
 use taxi_units::{Line, push_bytes, push_number};
 

@@ -14,7 +14,7 @@ use outside::Board;
 use shift_book::{Mark, put_mark};
 use std::sync::ledger::Ledger;
 use taxi_units::{Line, Steps};
-use totaliser_store::Durable;
+use totals_record::Durable;
 
 /// Scans the store, and prints the mark of it by which a driver signs on, or with no driver whoever is on
 /// signs off. No memory is taken.

@@ -3,18 +3,18 @@ ghost use Rattle.std.specs.Prelude.{◌≡◌, ◌+◌, ◌≤◌, IfOk, IfSome,
 ghost use Rattle.outside.specs.Faults.{Rose};
 ghost use Rattle.outside.specs.Runs.{IsSettled};
 ghost use Rattle.slot_store.specs.Syncs.{IsAsHeld, LeavesFromSync, ReadsOnly};
-ghost use Rattle.seal_store.specs.Ranges.{IsSeal};
-ghost use Rattle.totaliser_store.specs.Ranges.{IsDurable};
+ghost use Rattle.seal_record.specs.Ranges.{IsSeal};
+ghost use Rattle.totals_record.specs.Ranges.{IsDurable};
 ghost use Rattle.commands.specs.Opening as spec;
 ghost use Rattle.commands.specs.Opening.{fault_from, opening_of};
 ghost use Rattle.commands.specs.Opened.{IsOpened, IsSoundOpening};
 
 use outside::Board;
-use seal_store::Seal;
+use seal_record::Seal;
 use slot_store::{Found, SlotFault, scan};
 use std::sync::ledger::Ledger;
 use taxi_units::Steps;
-use totaliser_store::Durable;
+use totals_record::Durable;
 
 /// What the store stands for: its totals and its seal, either of which may be none yet.
 #[derive(Drop)]

@@ -1,11 +1,11 @@
 //! Reads the parameters of a word.
 ghost use Rattle.std.specs.Prelude.{◌≡◌, ◌≢◌, ℕ, [], IfOk, OnOk, Err};
 ghost use Rattle.outside.specs.Faults.{Rose};
-ghost use Rattle.seal_store.specs.Ranges.{IsParams};
-ghost use Rattle.seal_store.specs.Reading.{params_read};
+ghost use Rattle.seal_record.specs.Ranges.{IsParams};
+ghost use Rattle.seal_record.specs.Reading.{params_read};
 
 use outside::{Files, read_text};
-use seal_store::{ParamFault, Params, read_params};
+use seal_record::{ParamFault, Params, read_params};
 use std::alloc::Global;
 
 /// Why parameters weren't read.
@@ -23,7 +23,7 @@ pub enum ParamsFault {
 const MOST: usize = 65_536;
 
 /// Reads the parameters of a word, to the end of its file where they are accepted.
-#[tactic(auto, unfolding(seal_store::specs::Reading::params_read))]
+#[tactic(auto, unfolding(seal_record::specs::Reading::params_read))]
 pub fn read_parameters<F: Files>(
     alloc: Global,
     files: &mut F,

@@ -3,7 +3,7 @@ ghost use Rattle.std.specs.Prelude.{◌≡◌, ◌≢◌, ◌↔◌, ℕ, ◌+�
 ghost use Rattle.std.specs.Option.{ForSome};
 ghost use Rattle.outside.specs.Faults.{Rose};
 ghost use Rattle.meter_states.specs.Fits.{Fits};
-ghost use Rattle.seal_store.specs.Ranges.{IsSeal};
+ghost use Rattle.seal_record.specs.Ranges.{IsSeal};
 ghost use Rattle.commands.specs.Carried.{Carries};
 ghost use Rattle.commands.specs.Opened.{OnlyOpens};
 ghost use Rattle.commands.specs.Opening.{IsSealedIn};
@@ -16,12 +16,12 @@ use crate::sealed_tariff::read_sealed;
 use meter_run::run_events;
 use meter_states::fits;
 use outside::{Board, Files};
-use seal_store::Seal;
+use seal_record::Seal;
 use std::alloc::Global;
 use std::sync::ledger::Ledger;
 use tariff_compile::{Tables, compile};
 use taxi_units::Steps;
-use totaliser_store::Trip;
+use totals_record::Trip;
 
 /// What a run goes by: the seal of its store, and the tables of its tariff.
 #[derive(Drop)]

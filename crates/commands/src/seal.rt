@@ -3,9 +3,9 @@ ghost use Rattle.std.specs.Prelude.{◌≡◌, ◌≢◌, ◌⊎◌, ◌+◌, �
 ghost use Rattle.std.specs.Option.{ForSome};
 ghost use Rattle.outside.specs.Faults.{Rose};
 ghost use Rattle.slot_store.specs.Scan.{IsSound};
-ghost use Rattle.seal_store.specs.Limits.{last_seal_number};
-ghost use Rattle.seal_store.specs.Ranges.{IsSeal};
-ghost use Rattle.seal_store.specs.Sealing.{found_number, next_number, seal_found, totals_found};
+ghost use Rattle.seal_record.specs.Limits.{last_seal_number};
+ghost use Rattle.seal_record.specs.Ranges.{IsSeal};
+ghost use Rattle.meter_store.specs.Sealing.{found_number, next_number, seal_found, totals_found};
 ghost use Rattle.commands.specs.Carried.{Carries, SealComes};
 ghost use Rattle.commands.specs.Opened.{IsSoundOpening};
 ghost use Rattle.commands.specs.SealSteps.{IsNoSeal, IsNoTariff, IsTariffWith};
@@ -16,14 +16,15 @@ use crate::ending::{Ended, refused_by, refused_params, refused_store};
 use crate::opening::{Opening, open_store};
 use crate::params::read_parameters;
 use crate::tariff::{tariff_of_text, text_of_word};
+use meter_store::place_seal;
 use outside::{Board, Files};
-use seal_store::{LAST_SEAL_NUMBER, Seal, place_seal};
+use seal_record::{LAST_SEAL_NUMBER, Seal};
 use sha2::{Digest, Sha256};
 use slot_store::{Found, Place};
 use std::alloc::Global;
 use std::sync::ledger::Ledger;
 use taxi_units::Steps;
-use totaliser_store::Durable;
+use totals_record::Durable;
 
 /// What a sealing goes over: the totals and the seal that were found, and the decimals of that seal.
 #[derive(Drop)]

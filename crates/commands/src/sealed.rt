@@ -1,7 +1,7 @@
 //! The store of a command that needs a sealed one.
 ghost use Rattle.std.specs.Prelude.{◌≡◌, ◌≢◌, ◌+◌, ◌≤◌, IfErr, IfOk, IsErrOf};
-ghost use Rattle.seal_store.specs.Ranges.{IsSeal};
-ghost use Rattle.totaliser_store.specs.Ranges.{IsDurable};
+ghost use Rattle.seal_record.specs.Ranges.{IsSeal};
+ghost use Rattle.totals_record.specs.Ranges.{IsDurable};
 ghost use Rattle.commands.specs.Ending.{HasCauseOn, OnlyLooksAt};
 ghost use Rattle.commands.specs.Opened.{IsBarred, IsOpenedWith, OnlyOpens};
 ghost use Rattle.commands.specs.Opening.{opening_of, store_of};
@@ -9,10 +9,10 @@ ghost use Rattle.commands.specs.Opening.{opening_of, store_of};
 use crate::ending::{Ended, refused_store};
 use crate::opening::{open_store, sealed_store};
 use outside::Board;
-use seal_store::Seal;
+use seal_record::Seal;
 use std::sync::ledger::Ledger;
 use taxi_units::Steps;
-use totaliser_store::Durable;
+use totals_record::Durable;
 
 /// Scans the store, and gives its totals and its seal, where it is sealed. Nothing is written or printed.
 pub fn open_sealed<B: Board<L>, L: Ledger>(

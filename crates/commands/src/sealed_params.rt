@@ -5,7 +5,7 @@ ghost use Rattle.std.specs.Prelude.{◌≡◌, ◌+◌, ◌≤◌, ◌++◌, ℕ
 ghost use Rattle.outside.specs.Faults.{HasCause};
 ghost use Rattle.outside.specs.Printing.{Begins};
 ghost use Rattle.outside.specs.Runs.{KeepsStore};
-ghost use Rattle.seal_store.specs.Ranges.{IsSeal};
+ghost use Rattle.seal_record.specs.Ranges.{IsSeal};
 ghost use Rattle.commands.specs.Carried.{Carries, no_files};
 ghost use Rattle.commands.specs.Sealed.{sealed_command};
 ghost use Rattle.commands.specs.SealedText.{sealed_text};
@@ -15,7 +15,7 @@ use crate::offsets::print_pairs;
 use crate::sealed::open_sealed;
 use crate::sealed_text::{sealed_heading, secured_line};
 use outside::{Board, Failed};
-use seal_store::Seal;
+use seal_record::Seal;
 use std::sync::ledger::Ledger;
 use taxi_units::Steps;
 

@@ -2,15 +2,15 @@
 ghost use Rattle.std.specs.Prelude.{◌≡◌, ◌+◌, ◌<◌, ◌≤◌, ◌++◌, ◌∷◌, [], codes, map};
 ghost use Rattle.arrayvec.specs.ArrayVec.{array_vec_len};
 ghost use Rattle.taxi_units.specs.Line.{line_size};
-ghost use Rattle.seal_store.specs.PlainText as spec;
-ghost use Rattle.seal_store.specs.PlainText.{comment_line, ended_text, line_of, mode_text, settings_lines};
-ghost use Rattle.seal_store.specs.Ranges.{IsDay};
+ghost use Rattle.seal_record.specs.PlainText as spec;
+ghost use Rattle.seal_record.specs.PlainText.{comment_line, ended_text, line_of, mode_text, settings_lines};
+ghost use Rattle.seal_record.specs.Ranges.{IsDay};
 ghost use Rattle.commands.specs.SealedText.{seal_comments};
 
 use crate::number_line::push_number_line;
 use drive_modes::Mode;
 use receipt_text::{push_hex, put_day};
-use seal_store::{Params, Seal};
+use seal_record::{Params, Seal};
 use taxi_units::{Line, push_bytes};
 
 /// Appends the comments of a seal.

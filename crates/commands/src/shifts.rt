@@ -15,7 +15,7 @@ use shift_book::{BookFault, read_book, shifts};
 use std::alloc::Global;
 use std::sync::ledger::Ledger;
 use taxi_units::Steps;
-use totaliser_store::Durable;
+use totals_record::Durable;
 
 /// Why there is no report.
 #[derive(Clone, Copy)]

@@ -12,8 +12,8 @@ ghost use Rattle.commands.specs.Tables.{tables_command};
 
 use crate::ending::{Ended, refused_by};
 use crate::tariff::tables_of_word;
+use drive_modes::Constant;
 use outside::{Board, Failed, Files};
-use pulse_input::Constant;
 use std::alloc::Global;
 use std::sync::ledger::Ledger;
 use tariff_compile::Tables;

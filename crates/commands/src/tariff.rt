@@ -6,8 +6,8 @@ ghost use Rattle.commands.specs.Ending.{unsound_for};
 ghost use Rattle.commands.specs.TableSteps.{AreTablesIn};
 ghost use Rattle.commands.specs.Tariffs.{tariff_in};
 
+use drive_modes::Constant;
 use outside::{Files, read_text};
-use pulse_input::Constant;
 use std::alloc::Global;
 use tariff_check::{CheckFault, Checked, check};
 use tariff_compile::{Tables, compile};

@@ -1,8 +1,8 @@
 //! What the texts of the commands `sealed` and `form` are read as.
 ghost use Rattle.std.specs.Prelude.{◌≡◌, ℕ, ◌≤◌, List, length, Ok};
-ghost use Rattle.seal_store.specs.declared.seal.Seal.{Seal};
-ghost use Rattle.seal_store.specs.Ranges.{IsSeal};
-ghost use Rattle.seal_store.specs.Reading.{params_read};
+ghost use Rattle.seal_record.specs.declared.seal.Seal.{Seal};
+ghost use Rattle.seal_record.specs.Ranges.{IsSeal};
+ghost use Rattle.seal_record.specs.Reading.{params_read};
 ghost use Rattle.tariff_syntax.specs.Printed.{printed};
 ghost use Rattle.tariff_syntax.specs.Renumbered.{renumbered};
 ghost use Rattle.tariff_syntax.specs.Tree.{Tree};

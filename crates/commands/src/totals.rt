@@ -15,7 +15,7 @@ use crate::totals_text::{heading, position_line};
 use outside::{Board, Failed};
 use std::sync::ledger::Ledger;
 use taxi_units::Steps;
-use totaliser_store::{Durable, Share};
+use totals_record::{Durable, Share};
 
 /// Scans the store, and prints its totals.
 pub fn print_store<B: Board<L>, L: Ledger>(board: &mut B, steps: &mut Steps<L>) -> Ended

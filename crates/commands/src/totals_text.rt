@@ -6,7 +6,7 @@ ghost use Rattle.commands.specs.TotalsText.{amount_line, distances_text, heading
 
 use crate::number_line::push_number_line;
 use taxi_units::{Line, push_bytes, push_money, push_number};
-use totaliser_store::{Durable, Share, Totals, Trip};
+use totals_record::{Durable, Share, Totals, Trip};
 
 /// Appends a line of a name, an amount and an end.
 fn push_amount_line(line: &mut Line, name: &[u8], amount: u128, decimals: u8, end: &[u8])

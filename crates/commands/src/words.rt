@@ -11,7 +11,7 @@ ghost use Rattle.taxi_units.specs.Words.{is_word};
 
 use crate::years::Years;
 use arrayvec::ArrayVec;
-use pulse_input::{Constant, GREATEST_CONSTANT, LEAST_CONSTANT};
+use drive_modes::{Constant, GREATEST_CONSTANT, LEAST_CONSTANT};
 use shift_book::read_driver;
 use std::marker::Model;
 use taxi_units::number_at;

@@ -1,10 +1,10 @@
 -- How many bytes the items of a request have together.
 use Rattle.std.proofs.Common.{◌≡◌, ℕ, zero, suc, ◌+◌, ◌-◌, ◌<◌, ◌≤◌, List, [], ◌∷◌, length, take, get_or, map, refl, ap, ◌∙◌, arith, length-append}
 use Rattle.std.proofs.lemmas.List.{get_or-map, take_all}
-use Rattle.seal_store.specs.declared.seal.Seal.{Seal}
-use Rattle.seal_store.specs.Ranges.{IsSeal}
-use Rattle.totaliser_store.specs.declared.durable.Durable.{Durable}
-use Rattle.totaliser_store.specs.Ranges.{IsDurable}
+use Rattle.seal_record.specs.declared.seal.Seal.{Seal}
+use Rattle.seal_record.specs.Ranges.{IsSeal}
+use Rattle.totals_record.specs.declared.durable.Durable.{Durable}
+use Rattle.totals_record.specs.Ranges.{IsDurable}
 use Rattle.data_port.specs.Replies.{sizes, size_of}
 use Rattle.data_port.specs.Reply.{item_bytes, items_bytes}
 use Rattle.data_port.specs.Requests.{Rise}

@@ -6,13 +6,13 @@ use Rattle.std.proofs.lemmas.List.{take_at, drop_at}
 use Rattle.std.proofs.lemmas.List.Elements.{All-head, All-tail}
 use Rattle.std.proofs.lemmas.Nat.{from_be_bytes-to_be_bytes_2}
 use Rattle.drive_modes.specs.declared.charges.Mode.{Mode}
-use Rattle.seal_store.specs.declared.seal.Seal.{Seal}
-use Rattle.seal_store.specs.Ranges.{IsSeal}
-use Rattle.seal_store.specs.Spelling.{mode_byte, padded, signed_bytes}
-use Rattle.totaliser_store.specs.declared.durable.Durable.{Durable}
-use Rattle.totaliser_store.specs.Bytes.{four, eight, sixteen}
-use Rattle.totaliser_store.specs.Ranges.{IsDurable}
-use Rattle.totaliser_store.specs.Spelling.{share_bytes}
+use Rattle.seal_record.specs.declared.seal.Seal.{Seal}
+use Rattle.seal_record.specs.Ranges.{IsSeal}
+use Rattle.seal_record.specs.Spelling.{mode_byte, padded, signed_bytes}
+use Rattle.totals_record.specs.declared.durable.Durable.{Durable}
+use Rattle.totals_record.specs.Bytes.{four, eight, sixteen}
+use Rattle.totals_record.specs.Ranges.{IsDurable}
+use Rattle.totals_record.specs.Spelling.{share_bytes}
 use Rattle.data_port.specs.declared.request.Request.{Request}
 use Rattle.data_port.specs.Replies.{AgreeOn, Agrees, taxi, constant, secured, digest, mode, number, distance, hired, hirings, supplements, fare, held, shares, answers_in, body_of, items_in, size_of}
 use Rattle.data_port.specs.Reply.{content, framed, held_content, items_bytes, reply_to}

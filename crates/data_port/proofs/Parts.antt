@@ -3,14 +3,14 @@ use Rattle.std.proofs.Common.{◌≡◌, ℕ, ◌+◌, ◌-◌, ◌*◌, ◌<◌
 use Rattle.std.specs.List.{flat_map}
 use Rattle.std.proofs.lemmas.Grind.{flat_map-append}
 use Rattle.std.proofs.lemmas.List.{append-nil, take_all, take_more, get_or-map, length-replicate}
-use Rattle.seal_store.specs.declared.seal.Seal.{Seal}
-use Rattle.seal_store.specs.Ranges.{IsSeal}
-use Rattle.seal_store.specs.Spelling.{padded}
-use Rattle.totaliser_store.specs.declared.durable.Durable.{Durable}
-use Rattle.totaliser_store.specs.declared.totals.Share.{Share}
-use Rattle.totaliser_store.specs.declared.totals.Totals.{Totals}
-use Rattle.totaliser_store.specs.Ranges.{IsDurable}
-use Rattle.totaliser_store.specs.Spelling.{share_bytes}
+use Rattle.seal_record.specs.declared.seal.Seal.{Seal}
+use Rattle.seal_record.specs.Ranges.{IsSeal}
+use Rattle.seal_record.specs.Spelling.{padded}
+use Rattle.totals_record.specs.declared.durable.Durable.{Durable}
+use Rattle.totals_record.specs.declared.totals.Share.{Share}
+use Rattle.totals_record.specs.declared.totals.Totals.{Totals}
+use Rattle.totals_record.specs.Ranges.{IsDurable}
+use Rattle.totals_record.specs.Spelling.{share_bytes}
 use Rattle.data_port.specs.Replies.{sizes, size_of}
 use Rattle.data_port.specs.Reply.{HeldTrip, content, held_content, held_values, item_bytes, rows, shares_content}
 

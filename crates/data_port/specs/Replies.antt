@@ -2,8 +2,8 @@
 use Rattle.std.specs.Prelude.{◌≡◌, ℕ, zero, suc, ◌-◌, List, [], ◌∷◌, take, drop, get_or}
 use Rattle.std.specs.Int.{w16, from_be_bytes}
 use Rattle.std.specs.List.{All}
-use Rattle.seal_store.specs.declared.seal.Seal.{Seal}
-use Rattle.totaliser_store.specs.declared.durable.Durable.{Durable}
+use Rattle.seal_record.specs.declared.seal.Seal.{Seal}
+use Rattle.totals_record.specs.declared.durable.Durable.{Durable}
 use Rattle.data_port.specs.declared.request.Request.{Request}
 use Rattle.data_port.specs.Reply.{held_values}
 use Rattle.data_port.specs.Requests.{codes_of}

@@ -2,14 +2,14 @@
 use Rattle.std.specs.Prelude.{ℕ, ◌-◌, List, [], ◌∷◌, ◌++◌, length, get_or, replicate, Option, Some, None}
 use Rattle.std.specs.Int.{w16, to_be_bytes}
 use Rattle.std.specs.List.{flat_map}
-use Rattle.pulse_input.specs.Distance.{millimetres_of}
-use Rattle.seal_store.specs.declared.seal.Seal.{Seal}
-use Rattle.seal_store.specs.Spelling.{mode_byte, padded, signed_bytes}
-use Rattle.totaliser_store.specs.declared.durable.Durable.{Durable}
-use Rattle.totaliser_store.specs.declared.totals.Totals.{Totals}
-use Rattle.totaliser_store.specs.declared.trip.Trip.{Trip}
-use Rattle.totaliser_store.specs.Bytes.{four, eight, sixteen}
-use Rattle.totaliser_store.specs.Spelling.{share_bytes}
+use Rattle.drive_modes.specs.Distance.{millimetres_of}
+use Rattle.seal_record.specs.declared.seal.Seal.{Seal}
+use Rattle.seal_record.specs.Spelling.{mode_byte, padded, signed_bytes}
+use Rattle.totals_record.specs.declared.durable.Durable.{Durable}
+use Rattle.totals_record.specs.declared.totals.Totals.{Totals}
+use Rattle.totals_record.specs.declared.trip.Trip.{Trip}
+use Rattle.totals_record.specs.Bytes.{four, eight, sixteen}
+use Rattle.totals_record.specs.Spelling.{share_bytes}
 use Rattle.data_port.specs.declared.request.Request.{Request}
 use Rattle.data_port.specs.Requests.{codes_of}
 

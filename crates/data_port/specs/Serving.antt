@@ -3,8 +3,8 @@ use Rattle.std.specs.Prelude.{◌≡◌, ◌⊎◌, ℕ, ◌+◌, ◌<◌, ◌�
 use Rattle.std.specs.Prelude.{if◌then◌else◌, nat_lt, Result, Ok, Err}
 use Rattle.std.specs.List.{flat_map}
 use Rattle.outside.specs.Printing.{Begins}
-use Rattle.seal_store.specs.declared.seal.Seal.{Seal}
-use Rattle.totaliser_store.specs.declared.durable.Durable.{Durable}
+use Rattle.seal_record.specs.declared.seal.Seal.{Seal}
+use Rattle.totals_record.specs.declared.durable.Durable.{Durable}
 use Rattle.data_port.specs.declared.request.Request.{Request}
 use Rattle.data_port.specs.declared.serving.PortFault.{PortFault}
 use Rattle.data_port.specs.declared.serving.PortFault.TheVariants.{ReadFault, BoardFault, Frame, TooLong}

@@ -1,8 +1,8 @@
 -- For proofs: a piece of a stream that is served. Serves, in Serving, says what the whole stream comes to.
 use Rattle.std.specs.Prelude.{◌≡◌, ℕ, List, ◌++◌, Some, false, Result, Ok, Err}
 use Rattle.outside.specs.Printing.{Begins}
-use Rattle.seal_store.specs.declared.seal.Seal.{Seal}
-use Rattle.totaliser_store.specs.declared.durable.Durable.{Durable}
+use Rattle.seal_record.specs.declared.seal.Seal.{Seal}
+use Rattle.totals_record.specs.declared.durable.Durable.{Durable}
 use Rattle.data_port.specs.declared.serving.PortFault.{PortFault}
 use Rattle.data_port.specs.declared.serving.PortFault.TheVariants.{ReadFault, BoardFault, Frame, TooLong}
 use Rattle.data_port.specs.ReadingStages.{after_bytes, bad_of, ended_in}

@@ -3,17 +3,17 @@ ghost use Rattle.std.specs.Prelude.{◌≡◌, ◌++◌, ◌+◌, ◌≤◌, len
 ghost use Rattle.arrayvec.specs.ArrayVec.{array_vec_len};
 ghost use Rattle.taxi_units.specs.Line.{line_size};
 ghost use Rattle.taxi_units.specs.Money.{largest_amount};
-ghost use Rattle.seal_store.specs.Ranges.{IsSeal};
-ghost use Rattle.seal_store.specs.Spelling.{padded};
-ghost use Rattle.totaliser_store.specs.Bytes.{four, eight, sixteen};
-ghost use Rattle.totaliser_store.specs.Ranges.{IsDurable};
-ghost use Rattle.totaliser_store.specs.Spelling.{share_bytes};
+ghost use Rattle.seal_record.specs.Ranges.{IsSeal};
+ghost use Rattle.seal_record.specs.Spelling.{padded};
+ghost use Rattle.totals_record.specs.Bytes.{four, eight, sixteen};
+ghost use Rattle.totals_record.specs.Ranges.{IsDurable};
+ghost use Rattle.totals_record.specs.Spelling.{share_bytes};
 ghost use Rattle.data_port.specs.Reply.{content, held_content, held_trip, held_values, shares_content, trip_content};
 
-use pulse_input::{Constant, millimetres};
-use seal_store::{Seal, mode_byte};
+use drive_modes::{Constant, millimetres};
+use seal_record::{Seal, mode_byte};
 use taxi_units::{Line, push_bytes};
-use totaliser_store::{Durable, Share, Totals, Trip};
+use totals_record::{Durable, Share, Totals, Trip};
 
 /// Appends a number in four bytes.
 fn put_four(line: &mut Line, n: u32)

@@ -1,16 +1,16 @@
 //! The reply to a request.
 ghost use Rattle.std.specs.Prelude.{◌≡◌, [], ◌++◌, ◌≤◌};
 ghost use Rattle.arrayvec.specs.ArrayVec.{array_vec_len};
-ghost use Rattle.seal_store.specs.Ranges.{IsSeal};
-ghost use Rattle.totaliser_store.specs.Ranges.{IsDurable};
+ghost use Rattle.seal_record.specs.Ranges.{IsSeal};
+ghost use Rattle.totals_record.specs.Ranges.{IsDurable};
 ghost use Rattle.data_port.specs.Reply.{items_bytes, item_bytes, reply_to};
 ghost use Rattle.data_port.specs.Requests.{IsRequest, Rise};
 
 use crate::contents::put_content;
 use crate::request::Request;
-use seal_store::Seal;
+use seal_record::Seal;
 use taxi_units::{Line, push_bytes};
-use totaliser_store::Durable;
+use totals_record::Durable;
 
 /// The byte in front of a request and of a reply.
 pub(crate) const START: u8 = 2;

@@ -3,8 +3,8 @@ ghost use Rattle.std.specs.Prelude.{◌≡◌, ◌≢◌, ℕ, ◌+◌, ◌<◌,
 ghost use Rattle.outside.specs.Faults.{HasCause, MayRise, RisesOnlyIf, Rose};
 ghost use Rattle.outside.specs.Printing.{Begins};
 ghost use Rattle.outside.specs.Runs.{KeepsStore};
-ghost use Rattle.seal_store.specs.Ranges.{IsSeal};
-ghost use Rattle.totaliser_store.specs.Ranges.{IsDurable};
+ghost use Rattle.seal_record.specs.Ranges.{IsSeal};
+ghost use Rattle.totals_record.specs.Ranges.{IsDurable};
 ghost use Rattle.data_port.specs.Reading.{HasSense, HasTaken, bad_at_end};
 ghost use Rattle.data_port.specs.ReadingStages.{ended_in};
 ghost use Rattle.data_port.specs.Reply.{reply_to};
@@ -17,10 +17,10 @@ use crate::reply::put_reply;
 use crate::request::Request;
 use arrayvec::ArrayVec;
 use outside::{Board, Failed, Files};
-use seal_store::Seal;
+use seal_record::Seal;
 use std::sync::ledger::Ledger;
 use taxi_units::{Line, Steps};
-use totaliser_store::Durable;
+use totals_record::Durable;
 
 /// How many bytes of a stream are taken at most: 2^40.
 const LIMIT: u64 = 1 << 40;

@@ -1,3 +1,5 @@
+-- a gate counts the sum of the bursts of pulses that come to it
+mod Bursts
 -- mode S charges the time below the cross-over speed and the distance from it on
 mod Crossover
 -- the largest fare is shown from some number of display steps on
@@ -8,3 +10,5 @@ pub mod Laws
 mod Steps
 -- a meterage that is kept from charge to charge is what their sum makes of it
 mod Sums
+-- distances are the most whole millimetres for which the pulses are enough
+mod WholeMillimetres

@@ -1,3 +1,6 @@
 pub mod Charge
+pub mod Constant
+pub mod Distance
 pub mod Fare
+pub mod Gate
 pub mod Speed

@@ -5,7 +5,7 @@ use Rattle.std.specs.Char.{digit_value}
 use Rattle.std.specs.List.{AllByRecursion}
 use Rattle.std.specs.Str.Parse.{AllDigits}
 use Rattle.std.proofs.lemmas.List.Elements.{recursion_from_All}
-use Rattle.seal_store.specs.Ranges.{IsTaxi}
+use Rattle.seal_record.specs.Ranges.{IsTaxi}
 use Rattle.taxi_units.specs.Decimal.{IsDecimal}
 use Rattle.taxi_units.specs.Written.{IsAmountText, IsNumberText, IsPaddedText}
 use Rattle.taxi_units.specs.declared.receipt.Kind.{Kind}

@@ -1,5 +1,5 @@
 //! A record's bytes in its slot, behind the gate.
-ghost use Rattle.std.specs.Prelude.{◌≡◌, ℕ, ◌+◌, ◌≤◌, ◌++◌, ◌↔◌, length, replicate, take, drop, Some, IsTrue};
+ghost use Rattle.std.specs.Prelude.{◌≡◌, ℕ, ◌+◌, ◌≤◌, ◌↔◌, length, take, drop, Some, IsTrue};
 ghost use Rattle.arrayvec.specs.ArrayVec.{array_vec_len};
 ghost use Rattle.log_commands.specs.Record.{Record, IsRecord};
 ghost use Rattle.log_commands.specs.Slots.{Spells, IsRecordOf, spelling};
@@ -7,18 +7,7 @@ ghost use Rattle.log_commands.specs.Slots.{Spells, IsRecordOf, spelling};
 use crate::log_record::{LONGEST, LogRecord};
 use arrayvec::ArrayVec;
 use receipt_text::read_receipt;
-use slot_store::{Spelled, eight_at, put_bytes, two_at};
-
-/// Appends zeros, for which there is room.
-fn put_zeros(out: &mut Spelled, count: usize)
-    requires { array_vec_len out.old + count ≤ 511 }
-    ensures items { out.new.items ≡ out.old.items ++ replicate count 0 }
-    ensures len { array_vec_len out.new ≡ array_vec_len out.old + count }
-{
-    for _i in 0..count {
-        put_bytes(out, &[0]);
-    }
-}
+use slot_bodies::{Spelled, eight_at, put_bytes, put_zeros, two_at};
 
 /// The bytes of a record at a place in the log.
 pub(crate) fn spelled(place: u64, text: &[u8]) -> Spelled

@@ -4,13 +4,13 @@ use Rattle.std.specs.Option.{ForSome}
 use Rattle.std.specs.Prelude.{if◌then◌else◌}
 use Rattle.std.proofs.lemmas.List.Elements.{All-head, All-tail}
 use Rattle.tariff_compile.specs.Tables.{TableParts}
-use Rattle.totaliser_store.specs.Entries.{closes}
-use Rattle.totaliser_store.specs.Ranges.{IsDurable}
-use Rattle.totaliser_store.specs.States.{after}
-use Rattle.totaliser_store.specs.declared.durable.Durable.{Durable}
-use Rattle.totaliser_store.specs.declared.change.Change.TheVariants as changes
-use Rattle.totaliser_store.specs.declared.trip.Trip as store
-use Rattle.totaliser_store.proofs.Laws.{entries_keep_the_ranges, held_trips_keep_the_ranges}
+use Rattle.totals_record.specs.Entries.{closes}
+use Rattle.totals_record.specs.Ranges.{IsDurable}
+use Rattle.totals_record.specs.States.{after}
+use Rattle.totals_record.specs.declared.durable.Durable.{Durable}
+use Rattle.totals_record.specs.declared.change.Change.TheVariants as changes
+use Rattle.totals_record.specs.declared.trip.Trip as store
+use Rattle.totals_record.proofs.Laws.{entries_keep_the_ranges, held_trips_keep_the_ranges}
 use Rattle.meter_states.specs.Acts.{IsLawfulAct, IsEntryBeside, IsHoldBeside}
 use Rattle.meter_states.specs.Fits.{Fits}
 use Rattle.meter_states.specs.declared.act.Act.{Act}

@@ -4,21 +4,21 @@ use Rattle.std.specs.Prelude.{◌⊎◌}
 use Rattle.std.proofs.lemmas.List.{append-nil}
 use Rattle.outside.specs.Printing.{Begins}
 use Rattle.outside.proofs.Laws.{begins_whole}
-use Rattle.seal_store.specs.declared.seal.Seal.{Seal}
+use Rattle.seal_record.specs.declared.seal.Seal.{Seal}
 use Rattle.slot_store.proofs.Laws.{body_found}
 use Rattle.tariff_compile.specs.Tables.{TableParts}
 use Rattle.taxi_units.specs.declared.receipt.Kind.{Kind}
 use Rattle.taxi_units.specs.declared.receipt.Kind.TheVariants.{Closed, Aborted, Expired, Roam}
 use Rattle.taxi_units.specs.declared.receipt.Receipt as receipts
-use Rattle.totaliser_store.specs.Reading.{reads}
-use Rattle.totaliser_store.specs.States.{after, after_all}
-use Rattle.totaliser_store.specs.Stored.{number_of}
-use Rattle.totaliser_store.specs.Sums.{Follows}
-use Rattle.totaliser_store.specs.declared.change.Change.{Change}
-use Rattle.totaliser_store.specs.declared.change.Change.TheVariants as changes
-use Rattle.totaliser_store.specs.declared.durable.Durable.{Durable}
-use Rattle.totaliser_store.specs.declared.entry.Entry.{Entry}
-use Rattle.totaliser_store.proofs.Laws.{changes_add_up}
+use Rattle.totals_record.specs.Reading.{reads}
+use Rattle.totals_record.specs.States.{after, after_all}
+use Rattle.meter_store.specs.Stored.{number_of}
+use Rattle.totals_record.specs.Sums.{Follows}
+use Rattle.totals_record.specs.declared.change.Change.{Change}
+use Rattle.totals_record.specs.declared.change.Change.TheVariants as changes
+use Rattle.totals_record.specs.declared.durable.Durable.{Durable}
+use Rattle.totals_record.specs.declared.entry.Entry.{Entry}
+use Rattle.totals_record.proofs.Laws.{changes_add_up}
 use Rattle.meter_states.specs.Pairs.{ArePaired, IsReceiptOf, waiting_after}
 use Rattle.meter_states.specs.declared.act.Act.{Act}
 use Rattle.meter_states.specs.declared.act.Act.TheVariants.{Show, Refuse, Enter, Hold, Receipt}

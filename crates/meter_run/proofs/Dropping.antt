@@ -13,10 +13,10 @@ use Rattle.taxi_units.specs.declared.event.Operating.{Operating}
 use Rattle.taxi_units.specs.declared.event.Operating.TheVariants.{Off, ForHire, Hired, Stopped}
 use Rattle.taxi_units.specs.declared.event.Why.TheVariants.{NotNow}
 use Rattle.tariff_compile.specs.Tables.{IsCompiled, TableParts}
-use Rattle.seal_store.specs.declared.seal.Seal.{Seal}
-use Rattle.totaliser_store.specs.Ranges.{IsDurable}
-use Rattle.totaliser_store.specs.States.{first_state}
-use Rattle.totaliser_store.specs.declared.durable.Durable.{Durable}
+use Rattle.seal_record.specs.declared.seal.Seal.{Seal}
+use Rattle.totals_record.specs.Ranges.{IsDurable}
+use Rattle.totals_record.specs.States.{first_state}
+use Rattle.totals_record.specs.declared.durable.Durable.{Durable}
 use Rattle.meter_states.specs.Acts.{IsLawfulAct}
 use Rattle.meter_states.specs.Core.{IsSavedIn, Meets, Plain, Stands}
 use Rattle.meter_states.specs.Facts.{Whole}

@@ -4,10 +4,10 @@ use Rattle.std.proofs.lemmas.List.{take_all}
 use Rattle.outside.specs.Printing.{Begins}
 use Rattle.taxi_units.specs.declared.event.Event.{Event}
 use Rattle.tariff_compile.specs.Tables.{TableParts}
-use Rattle.seal_store.specs.declared.seal.Seal.{Seal}
+use Rattle.seal_record.specs.declared.seal.Seal.{Seal}
 use Rattle.drive_text.specs.Drive.{events_in}
 use Rattle.drive_text.specs.Ending.{DriveEnd, Whole, BadAt, Endless, IsSplit, ReachesEnd, drive_limit, events_of}
-use Rattle.totaliser_store.specs.States.{first_state}
+use Rattle.totals_record.specs.States.{first_state}
 use Rattle.meter_states.specs.Run.{actions_of}
 use Rattle.meter_states.specs.Setting.{Setting, IsSettingOf}
 use Rattle.meter_run.specs.Drives.{RunsDrive, RunsTo, answer_of}

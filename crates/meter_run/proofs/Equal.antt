@@ -7,10 +7,10 @@ use Rattle.drive_text.specs.Runs.{interval_events, intervals_events}
 use Rattle.outside.specs.Runs.{LeavesNow}
 use Rattle.outside.specs.declared.board.Board.{Ghosts}
 use Rattle.outside.proofs.Laws.{keeps_none}
-use Rattle.seal_store.specs.declared.seal.Seal.{Seal}
+use Rattle.seal_record.specs.declared.seal.Seal.{Seal}
 use Rattle.tariff_compile.specs.Tables.{TableParts}
 use Rattle.taxi_units.specs.declared.event.Event.{Event}
-use Rattle.totaliser_store.specs.declared.durable.Durable.{Durable}
+use Rattle.totals_record.specs.declared.durable.Durable.{Durable}
 use Rattle.meter_states.specs.Core.{Meets, Stands}
 use Rattle.meter_states.specs.Equals.{interval_of, intervals_of}
 use Rattle.meter_states.specs.Facts.{Whole}

@@ -8,9 +8,9 @@ use Rattle.slot_store.specs.declared.found.SlotFault.{SlotFault}
 use Rattle.slot_store.specs.declared.found.SlotFault.TheVariants.{BadBody, DeviceFailed, SameNumber}
 use Rattle.slot_store.specs.declared.pair.Place.{Place}
 use Rattle.slot_store.proofs.Laws.{answer_is}
-use Rattle.totaliser_store.specs.Reading.{reads}
-use Rattle.totaliser_store.specs.Stored.{number_of}
-use Rattle.totaliser_store.specs.declared.durable.Durable.{Durable}
+use Rattle.totals_record.specs.Reading.{reads}
+use Rattle.meter_store.specs.Stored.{number_of}
+use Rattle.totals_record.specs.declared.durable.Durable.{Durable}
 
 abbrev latest : Place → Durable → Result (Found Durable) SlotFault
 latest place d = Ok (Latest place d)

@@ -15,12 +15,12 @@ use Rattle.taxi_units.specs.declared.event.Event.TheVariants.{Up, Down, Pulses, 
 use Rattle.taxi_units.specs.declared.event.Operating.TheVariants.{Off}
 use Rattle.taxi_units.specs.declared.event.Why.TheVariants.{NotNow}
 use Rattle.tariff_compile.specs.Tables.{TableParts}
-use Rattle.seal_store.specs.declared.seal.Seal.{Seal}
+use Rattle.seal_record.specs.declared.seal.Seal.{Seal}
 use Rattle.slot_store.specs.declared.pair.Place.{Place}
-use Rattle.totaliser_store.specs.Ranges.{IsDurable, IsHeld}
-use Rattle.totaliser_store.specs.Stored.{KeepsState}
-use Rattle.totaliser_store.specs.declared.durable.Durable.{Durable}
-use Rattle.totaliser_store.specs.declared.trip.Trip as store
+use Rattle.totals_record.specs.Ranges.{IsDurable, IsHeld}
+use Rattle.meter_store.specs.Stored.{KeepsState}
+use Rattle.totals_record.specs.declared.durable.Durable.{Durable}
+use Rattle.totals_record.specs.declared.trip.Trip as store
 use Rattle.meter_states.specs.Acts.{IsLawfulAct}
 use Rattle.meter_states.specs.Core.{IsSavedIn, Meets}
 use Rattle.meter_states.specs.Facts.{Whole}

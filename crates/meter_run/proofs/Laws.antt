@@ -5,14 +5,14 @@ use Rattle.outside.specs.Disk.{MayLeaveAmid}
 use Rattle.outside.specs.Printing.{Begins}
 use Rattle.outside.specs.Runs.{IsSettled, KeepsStore, LeavesOnly}
 use Rattle.outside.specs.declared.board.Board.{Ghosts}
-use Rattle.seal_store.specs.Sealing.{HasSeal, KeepsSeal}
-use Rattle.seal_store.specs.declared.seal.Seal.{Seal}
+use Rattle.meter_store.specs.Sealing.{HasSeal, KeepsSeal}
+use Rattle.seal_record.specs.declared.seal.Seal.{Seal}
 use Rattle.slot_store.specs.declared.pair.Place.{Place}
 use Rattle.tariff_compile.specs.Tables.{TableParts}
 use Rattle.taxi_units.specs.declared.receipt.Receipt as receipts
-use Rattle.totaliser_store.specs.States.{IsHeldAfter, entries_of}
-use Rattle.totaliser_store.specs.Sums.{AddsUp}
-use Rattle.totaliser_store.specs.declared.durable.Durable.{Durable}
+use Rattle.totals_record.specs.States.{IsHeldAfter, entries_of}
+use Rattle.totals_record.specs.Sums.{AddsUp}
+use Rattle.totals_record.specs.declared.durable.Durable.{Durable}
 use Rattle.meter_states.specs.Run.{actions_of}
 use Rattle.meter_states.specs.Setting.{Setting}
 use Rattle.meter_states.specs.declared.act.Act.TheVariants.{Receipt}

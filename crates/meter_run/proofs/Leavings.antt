@@ -4,21 +4,21 @@ use Rattle.std.specs.Prelude.{get_or, Contains}
 use Rattle.std.proofs.lemmas.List.Elements.{Contains-append_left, Contains-push}
 use Rattle.outside.specs.Runs.{IsSettled}
 use Rattle.outside.specs.declared.board.Board.{Ghosts}
-use Rattle.seal_store.specs.Decoding as seals
-use Rattle.seal_store.specs.Sealing.{HasSeal, KeepsSeal}
-use Rattle.seal_store.specs.declared.seal.Seal.{Seal}
+use Rattle.seal_record.specs.Decoding as seals
+use Rattle.meter_store.specs.Sealing.{HasSeal, KeepsSeal}
+use Rattle.seal_record.specs.declared.seal.Seal.{Seal}
 use Rattle.slot_store.specs.Slots.{IsAt}
 use Rattle.slot_store.specs.declared.pair.Place.{Place}
 use Rattle.slot_store.proofs.Laws.{answer_is, apart_same, at_stands, same_at}
 use Rattle.tariff_compile.specs.Tables.{TableParts}
 use Rattle.taxi_units.specs.declared.receipt.Receipt as receipts
-use Rattle.totaliser_store.specs.Reading.{reads}
-use Rattle.totaliser_store.specs.States.{entries_of}
-use Rattle.totaliser_store.specs.Stored.{number_of}
-use Rattle.totaliser_store.specs.declared.change.Change.{Change}
-use Rattle.totaliser_store.specs.declared.change.Change.TheVariants as changes
-use Rattle.totaliser_store.specs.declared.durable.Durable.{Durable}
-use Rattle.totaliser_store.specs.declared.entry.Entry.{Entry}
+use Rattle.totals_record.specs.Reading.{reads}
+use Rattle.totals_record.specs.States.{entries_of}
+use Rattle.meter_store.specs.Stored.{number_of}
+use Rattle.totals_record.specs.declared.change.Change.{Change}
+use Rattle.totals_record.specs.declared.change.Change.TheVariants as changes
+use Rattle.totals_record.specs.declared.durable.Durable.{Durable}
+use Rattle.totals_record.specs.declared.entry.Entry.{Entry}
 use Rattle.meter_states.specs.declared.act.Act.TheVariants.{Enter, Receipt}
 use Rattle.meter_run.specs.Deeds.{Deed, Does, changes_in, changes_of}
 use Rattle.meter_run.specs.OnStore.{HasBeside, WritesTotals}

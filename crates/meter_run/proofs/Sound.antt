@@ -7,9 +7,9 @@ use Rattle.taxi_units.specs.declared.event.Operating.TheVariants.{Off, ForHire, 
 use Rattle.taxi_units.specs.declared.event.Why.{Why}
 use Rattle.taxi_units.specs.declared.event.Why.TheVariants.{KeyWaiting, ClockBack, TooFast, Expired}
 use Rattle.taxi_units.specs.declared.receipt.Kind.{Kind}
-use Rattle.totaliser_store.specs.Entries.{is_of_hiring}
-use Rattle.totaliser_store.specs.declared.durable.Durable.{Durable}
-use Rattle.totaliser_store.specs.declared.trip.Trip as store
+use Rattle.totals_record.specs.Entries.{is_of_hiring}
+use Rattle.totals_record.specs.declared.durable.Durable.{Durable}
+use Rattle.totals_record.specs.declared.trip.Trip as store
 use Rattle.meter_states.specs.Closing.{closed, trip_closed, roaming_checked, roaming_checked_in, roaming_entered}
 use Rattle.meter_states.specs.Display.{display_of, is_shown, shown}
 use Rattle.meter_states.specs.Interval.{interval_begun, pulses_taken, room_of}

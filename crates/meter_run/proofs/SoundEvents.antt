@@ -13,8 +13,8 @@ use Rattle.taxi_units.specs.declared.receipt.Kind.TheVariants as kinds
 use Rattle.tariff_check.specs.Parts.{positions_of, zones_of}
 use Rattle.tariff_compile.specs.Tables.{supplement_at}
 use Rattle.tariff_compile.specs.declared.parts.Supplement.{Supplement}
-use Rattle.totaliser_store.specs.declared.durable.Durable.{Durable}
-use Rattle.totaliser_store.specs.declared.trip.Trip as store
+use Rattle.totals_record.specs.declared.durable.Durable.{Durable}
+use Rattle.totals_record.specs.declared.trip.Trip as store
 use Rattle.meter_states.specs.Closing.{closed, roaming_entered}
 use Rattle.meter_states.specs.Core.{forgotten}
 use Rattle.meter_states.specs.Display.{shown}

@@ -3,14 +3,14 @@ use Rattle.std.proofs.Common.{◌≡◌, ◌≢◌, inl, inr, ℕ, zero, suc, �
 use Rattle.std.proofs.lemmas.Bool.{ne_eqb}
 use Rattle.drive_text.specs.Runs.{interval_events, intervals_events}
 use Rattle.outside.specs.declared.board.Board.{Ghosts}
-use Rattle.seal_store.specs.declared.seal.Seal.{Seal}
+use Rattle.seal_record.specs.declared.seal.Seal.{Seal}
 use Rattle.tariff_compile.specs.Tables.{TableParts}
 use Rattle.taxi_units.specs.declared.event.Event.{Event}
 use Rattle.taxi_units.specs.declared.event.Event.TheVariants.{Up, Down, Pulses, Tick, Clock, Key}
 use Rattle.taxi_units.specs.declared.event.Operating.{Operating}
 use Rattle.taxi_units.specs.declared.event.Operating.TheVariants.{Off, ForHire, Hired, Stopped}
-use Rattle.totaliser_store.specs.States.{first_state}
-use Rattle.totaliser_store.specs.declared.durable.Durable.{Durable}
+use Rattle.totals_record.specs.States.{first_state}
+use Rattle.totals_record.specs.declared.durable.Durable.{Durable}
 use Rattle.meter_states.specs.Core.{Meets, Plain, Stands}
 use Rattle.meter_states.specs.Facts.{Whole}
 use Rattle.meter_states.specs.Meter.{Meter, Outcome}

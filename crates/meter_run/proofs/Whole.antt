@@ -9,16 +9,16 @@ use Rattle.taxi_units.specs.declared.event.Event.TheVariants.{Down}
 use Rattle.taxi_units.specs.declared.event.Operating.{Operating}
 use Rattle.taxi_units.specs.declared.event.Operating.TheVariants.{Off, ForHire, Hired, Stopped}
 use Rattle.tariff_compile.specs.Tables.{IsCompiled, TableParts}
-use Rattle.seal_store.specs.Ranges.{IsSeal}
-use Rattle.seal_store.specs.declared.seal.Seal.{Seal}
+use Rattle.seal_record.specs.Ranges.{IsSeal}
+use Rattle.seal_record.specs.declared.seal.Seal.{Seal}
 use Rattle.drive_text.specs.Drive.{events_in}
 use Rattle.drive_text.specs.Ending.{DriveEnd, Whole, BadAt, Endless, IsSplit, ReachesEnd, drive_end, drive_limit}
 use Rattle.slot_store.specs.Slots.{slot_at}
 use Rattle.slot_store.specs.declared.pair.Place.{Place}
-use Rattle.totaliser_store.specs.Ranges.{IsDurable}
-use Rattle.totaliser_store.specs.Stored.{KeepsState}
-use Rattle.totaliser_store.specs.declared.durable.Durable.{Durable}
-use Rattle.totaliser_store.proofs.Laws.{states_are_read_by_their_table}
+use Rattle.totals_record.specs.Ranges.{IsDurable}
+use Rattle.meter_store.specs.Stored.{KeepsState}
+use Rattle.totals_record.specs.declared.durable.Durable.{Durable}
+use Rattle.totals_record.proofs.Laws.{states_are_read_by_their_table}
 use Rattle.meter_states.specs.Fits.{Fits}
 use Rattle.meter_states.specs.Lawful.{IsLawful}
 use Rattle.meter_states.specs.Meter.{Meter, Outcome}

@@ -4,10 +4,10 @@ use Rattle.std.specs.Option.{ForSome}
 use Rattle.outside.specs.Printing.{Begins}
 use Rattle.outside.specs.Runs.{LeavesOnly}
 use Rattle.outside.specs.declared.board.Board.{Ghosts}
-use Rattle.seal_store.specs.declared.seal.Seal.{Seal}
+use Rattle.seal_record.specs.declared.seal.Seal.{Seal}
 use Rattle.tariff_compile.specs.Tables.{TableParts}
-use Rattle.totaliser_store.specs.Stored.{HasState}
-use Rattle.totaliser_store.specs.declared.durable.Durable.{Durable}
+use Rattle.meter_store.specs.Stored.{HasState}
+use Rattle.totals_record.specs.declared.durable.Durable.{Durable}
 use Rattle.meter_states.specs.Fits.{Fits}
 use Rattle.meter_run.specs.Deeds.{Deed, after_deed, text_in}
 

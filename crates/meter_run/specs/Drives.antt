@@ -5,7 +5,7 @@ use Rattle.taxi_units.specs.declared.event.Event.{Event}
 use Rattle.drive_text.specs.Drive.{events_in}
 use Rattle.drive_text.specs.Ending.{DriveEnd, Whole, BadAt, Endless, IsGoing, IsSplit, TellsEnd, drive_end, drive_limit}
 use Rattle.tariff_compile.specs.Tables.{TableParts}
-use Rattle.seal_store.specs.declared.seal.Seal.{Seal}
+use Rattle.seal_record.specs.declared.seal.Seal.{Seal}
 use Rattle.meter_states.specs.Setting.{Setting, IsSettingOf}
 use Rattle.meter_run.specs.Source.{EndsBy}
 use Rattle.meter_run.specs.Supply.{drop_steps}

@@ -6,7 +6,7 @@ use Rattle.outside.specs.declared.board.Board.{Ghosts}
 use Rattle.outside.proofs.Laws.{begins_after, begins_more, keeps_none, keeps_then}
 use Rattle.taxi_units.specs.declared.event.Event.{Event}
 use Rattle.tariff_compile.specs.Tables.{TableParts}
-use Rattle.seal_store.specs.declared.seal.Seal.{Seal}
+use Rattle.seal_record.specs.declared.seal.Seal.{Seal}
 use Rattle.meter_states.specs.Meter.{Meter}
 use Rattle.meter_states.specs.Run.{run}
 use Rattle.meter_run.specs.Dry.{Carries, BreaksOff}

@@ -1,6 +1,6 @@
 -- Rules: what the store holds of the meter's trip, between two events.
 use Rattle.std.specs.Prelude.{◌≡◌}
-use Rattle.totaliser_store.specs.declared.durable.Durable.{Durable}
+use Rattle.totals_record.specs.declared.durable.Durable.{Durable}
 use Rattle.meter_states.specs.Core.{Plain, Stands}
 use Rattle.meter_states.specs.Meter.{Meter}
 use Rattle.meter_states.specs.Setting.{Setting}

@@ -6,15 +6,15 @@ use Rattle.outside.specs.Disk.{SameBut}
 use Rattle.outside.specs.Faults.{HasCause}
 use Rattle.outside.specs.Runs.{LeavesOnly, MayHold}
 use Rattle.outside.specs.declared.board.Board.{Ghosts}
-use Rattle.seal_store.specs.Ranges.{IsSeal}
-use Rattle.seal_store.specs.declared.seal.Seal.{Seal}
+use Rattle.seal_record.specs.Ranges.{IsSeal}
+use Rattle.seal_record.specs.declared.seal.Seal.{Seal}
 use Rattle.slot_store.specs.Writes.{OrWithin}
 use Rattle.slot_store.specs.declared.pair.Place.{Place}
 use Rattle.tariff_compile.specs.Tables.{TableParts}
 use Rattle.taxi_units.specs.declared.event.Event.{Event}
 use Rattle.taxi_units.specs.declared.event.Operating.TheVariants.{Off}
-use Rattle.totaliser_store.specs.Stored.{KeepsState}
-use Rattle.totaliser_store.specs.declared.durable.Durable.{Durable}
+use Rattle.meter_store.specs.Stored.{KeepsState}
+use Rattle.totals_record.specs.declared.durable.Durable.{Durable}
 use Rattle.meter_states.specs.Acts.{IsLawfulAct}
 use Rattle.meter_states.specs.Facts.{Whole}
 use Rattle.meter_states.specs.Fits.{Fits}

@@ -2,17 +2,17 @@
 use Rattle.std.specs.Prelude.{◌≡◌, ◌⊎◌, ℕ, ◌+◌, ◌<◌, ◌≤◌, List, [], ◌∷◌, ◌++◌, length, Contains, Ok}
 use Rattle.std.specs.Option.{ForSome}
 use Rattle.outside.specs.Printing.{Begins}
-use Rattle.seal_store.specs.declared.seal.Seal.{Seal}
+use Rattle.seal_record.specs.declared.seal.Seal.{Seal}
 use Rattle.slot_store.specs.Scan.{found_at}
 use Rattle.slot_store.specs.declared.found.Found.TheVariants.{Latest}
 use Rattle.slot_store.specs.declared.pair.Place.{Place}
 use Rattle.tariff_compile.specs.Tables.{TableParts}
 use Rattle.taxi_units.specs.declared.receipt.Receipt as receipts
-use Rattle.totaliser_store.specs.Reading.{reads}
-use Rattle.totaliser_store.specs.Stored.{HasState, number_of}
-use Rattle.totaliser_store.specs.Sums.{Follows}
-use Rattle.totaliser_store.specs.declared.durable.Durable.{Durable}
-use Rattle.totaliser_store.specs.declared.entry.Entry.{Entry}
+use Rattle.totals_record.specs.Reading.{reads}
+use Rattle.meter_store.specs.Stored.{HasState, number_of}
+use Rattle.totals_record.specs.Sums.{Follows}
+use Rattle.totals_record.specs.declared.durable.Durable.{Durable}
+use Rattle.totals_record.specs.declared.entry.Entry.{Entry}
 use Rattle.meter_states.specs.Fits.{Fits}
 use Rattle.meter_states.specs.Pairs.{IsReceiptOf}
 use Rattle.meter_states.specs.declared.act.Act.TheVariants.{Enter, Receipt}
@@ -20,7 +20,7 @@ use Rattle.meter_run.specs.Deeds.{Deed, Does, changes_of, texts}
 pub use Rattle.meter_run.specs.DeedPoints.{Holds, IsAmid, AtPoint, KeepsTo}
 
 -- a scan answers a durable state of an image where it finds that state as the latest body, at some place; `reads` says
--- which state the bytes of a slot are read as, as the law states_are_read_by_their_table of totaliser_store says
+-- which state the bytes of a slot are read as, as the law states_are_read_by_their_table of totals_record says
 abbrev pub ScanAnswers : (image : List ℕ) → Durable → Type 0
 ScanAnswers image durable = (place : Place) × (found_at reads number_of 0 image ≡ Ok (Latest place durable))
 

@@ -9,9 +9,9 @@ use Rattle.meter_states.specs.Pairs.{commits_of}
 use Rattle.meter_states.specs.Step.{step}
 use Rattle.meter_states.specs.declared.act.Act.{Act}
 use Rattle.meter_states.specs.declared.act.Act.TheVariants.{Show, Refuse, Enter, Hold, Receipt}
-use Rattle.totaliser_store.specs.States.{after, after_all}
-use Rattle.totaliser_store.specs.declared.change.Change.TheVariants as changes
-use Rattle.totaliser_store.specs.declared.durable.Durable.{Durable}
+use Rattle.totals_record.specs.States.{after, after_all}
+use Rattle.totals_record.specs.declared.change.Change.TheVariants as changes
+use Rattle.totals_record.specs.declared.durable.Durable.{Durable}
 use Rattle.meter_run.specs.Commits.{after_act, after_acts}
 use Rattle.meter_run.specs.Deeds.{after_deeds, deeds_of}
 use Rattle.meter_run.specs.PointLaws.{after_joined, deeds_joined}

@@ -4,12 +4,12 @@ use Rattle.std.specs.Option.{ForSome}
 use Rattle.drive_text.specs.Ending.{DriveEnd, Whole, BadAt, Endless, IsGoing, IsSplit, TellsEnd, drive_end, events_of}
 use Rattle.outside.specs.Runs.{LeavesOnly}
 use Rattle.outside.specs.declared.board.Board.{Ghosts}
-use Rattle.seal_store.specs.declared.seal.Seal.{Seal}
+use Rattle.seal_record.specs.declared.seal.Seal.{Seal}
 use Rattle.slot_store.specs.declared.pair.Place.{Place}
 use Rattle.tariff_compile.specs.Tables.{TableParts}
-use Rattle.totaliser_store.specs.Stored.{KeepsState}
-use Rattle.totaliser_store.specs.Sums.{Follows}
-use Rattle.totaliser_store.specs.declared.durable.Durable.{Durable}
+use Rattle.meter_store.specs.Stored.{KeepsState}
+use Rattle.totals_record.specs.Sums.{Follows}
+use Rattle.totals_record.specs.declared.durable.Durable.{Durable}
 use Rattle.meter_states.specs.Fits.{Fits}
 use Rattle.meter_states.specs.Run.{actions_of}
 use Rattle.meter_states.specs.Setting.{Setting, IsSettingOf}

@@ -5,13 +5,13 @@ use Rattle.outside.specs.Disk.{SameBut}
 use Rattle.outside.specs.Runs.{LeavesNow}
 use Rattle.outside.specs.declared.board.Board.{Ghosts}
 use Rattle.outside.proofs.Laws.{leaves_none, leaves_then, leaves_wider}
-use Rattle.seal_store.specs.declared.seal.Seal.{Seal}
+use Rattle.seal_record.specs.declared.seal.Seal.{Seal}
 use Rattle.slot_store.specs.Writes.{OrWithin}
 use Rattle.slot_store.specs.declared.pair.Place.{Place}
 use Rattle.tariff_compile.specs.Tables.{TableParts}
 use Rattle.taxi_units.specs.declared.event.Event.{Event}
-use Rattle.totaliser_store.specs.Stored.{KeepsState}
-use Rattle.totaliser_store.specs.declared.durable.Durable.{Durable}
+use Rattle.meter_store.specs.Stored.{KeepsState}
+use Rattle.totals_record.specs.declared.durable.Durable.{Durable}
 use Rattle.meter_states.specs.Meter.{Meter}
 use Rattle.meter_states.specs.Run.{run}
 use Rattle.meter_states.specs.Setting.{Setting}

@@ -2,7 +2,7 @@
 use Rattle.std.proofs.Common.{◌≡◌, List, [], ◌∷◌, ◌++◌, Bool, refl, sym, ◌∙◌}
 use Rattle.outside.specs.Runs.{LeavesNow}
 use Rattle.outside.specs.declared.board.Board.{Ghosts}
-use Rattle.seal_store.specs.declared.seal.Seal.{Seal}
+use Rattle.seal_record.specs.declared.seal.Seal.{Seal}
 use Rattle.tariff_compile.specs.Tables.{TableParts}
 use Rattle.taxi_units.specs.declared.event.Event.{Event}
 use Rattle.meter_states.specs.Core.{Plain}

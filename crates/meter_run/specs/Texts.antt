@@ -6,7 +6,7 @@ use Rattle.meter_states.specs.declared.act.Act.{Act}
 use Rattle.meter_states.specs.declared.act.Act.TheVariants.{Show, Refuse, Enter, Hold, Receipt}
 use Rattle.receipt_text.specs.Texts.{display_text, refusal_text}
 use Rattle.drive_text.specs.Ending.{events_of}
-use Rattle.totaliser_store.specs.States.{first_state}
+use Rattle.totals_record.specs.States.{first_state}
 
 -- the line that is shown of an act is that of its display or its refusal, and is empty for any other act
 abbrev pub shown_text : Act → List ℕ

@@ -13,11 +13,11 @@ ghost use Rattle.meter_run.specs.Dry.{IsReady};
 ghost use Rattle.meter_run.specs.Kept.{StandsWith};
 
 use meter_states::{Acts, Core};
-use seal_store::Seal;
+use seal_record::Seal;
 use std::sync::ledger::Ledger;
 use tariff_compile::Tables;
 use taxi_units::{Event, Operating, Steps};
-use totaliser_store::Durable;
+use totals_record::Durable;
 
 /// Whether the meter is off.
 pub(crate) fn is_off(core: &Core) -> bool

@@ -6,7 +6,7 @@ ghost use Rattle.meter_states.specs.Lawful.{IsTimely};
 
 use meter_states::Acts;
 use outside::{Board, Failed};
-use seal_store::Seal;
+use seal_record::Seal;
 use std::sync::ledger::Ledger;
 use tariff_compile::Tables;
 use taxi_units::{Event, Steps};
@@ -16,7 +16,7 @@ use taxi_units::{Event, Steps};
 pub(crate) trait Carrier<B: Board<L>, L: Ledger> {
     ghost use Rattle.taxi_units.specs.declared.event.Event.{Event};
     ghost use Rattle.tariff_compile.specs.Tables.{TableParts};
-    ghost use Rattle.seal_store.specs.declared.seal.Seal.{Seal};
+    ghost use Rattle.seal_record.specs.declared.seal.Seal.{Seal};
 
     /// The next event may come.
     ghost ready: { TableParts → Seal → Self → B → Type 0 };

@@ -10,7 +10,7 @@ use arrayvec::ArrayVec;
 use drive_text::Run;
 use meter_states::Acts;
 use outside::{Board, Failed, Files};
-use seal_store::Seal;
+use seal_record::Seal;
 use std::sync::ledger::Ledger;
 use tariff_compile::Tables;
 use taxi_units::Steps;

@@ -4,11 +4,11 @@ ghost use Rattle.outside.specs.Faults.{HasCause};
 ghost use Rattle.outside.specs.Printing.{Begins};
 ghost use Rattle.outside.specs.Runs.{KeepsStore};
 ghost use Rattle.tariff_compile.specs.Tables.{TableParts};
-ghost use Rattle.seal_store.specs.declared.seal.Seal.{Seal};
+ghost use Rattle.seal_record.specs.declared.seal.Seal.{Seal};
 ghost use Rattle.meter_states.specs.Lawful.{IsLawful, IsTimely};
 ghost use Rattle.taxi_units.specs.declared.event.Operating.TheVariants.{Off};
-ghost use Rattle.totaliser_store.specs.Ranges.{IsDurable};
-ghost use Rattle.totaliser_store.specs.States.{first_state};
+ghost use Rattle.totals_record.specs.Ranges.{IsDurable};
+ghost use Rattle.totals_record.specs.States.{first_state};
 ghost use Rattle.meter_run.specs.Commits.{AreFor, IsFor, after_act, after_acts};
 ghost use Rattle.meter_run.specs.Dry.{BreaksOff, Carries, IsReady};
 ghost use Rattle.meter_run.specs.Texts.{shown_text, shown_texts};
@@ -18,11 +18,11 @@ use crate::carrier::Carrier;
 use crate::printing::{print_display, print_refusal};
 use meter_states::{Act, Acts, Core};
 use outside::{Board, Failed};
-use seal_store::Seal;
+use seal_record::Seal;
 use std::sync::ledger::Ledger;
 use tariff_compile::Tables;
 use taxi_units::{Event, Steps};
-use totaliser_store::{Change, Durable};
+use totals_record::{Change, Durable};
 
 /// Carries out an act: it prints displays and refusals, and commits into the durable state.
 #[inline(never)]

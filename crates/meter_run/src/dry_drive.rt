@@ -15,7 +15,7 @@ use crate::fault::RunFault;
 use crate::source::Stop;
 use meter_states::Acts;
 use outside::{Board, Failed, Files};
-use seal_store::Seal;
+use seal_record::Seal;
 use std::sync::ledger::Ledger;
 use tariff_compile::Tables;
 use taxi_units::{Event, Steps};

@@ -5,7 +5,7 @@ ghost use Rattle.meter_states.specs.Step.{step};
 ghost use Rattle.taxi_units.specs.Time.{IsSecond};
 ghost use Rattle.taxi_units.specs.declared.event.Event.TheVariants.{Up};
 ghost use Rattle.taxi_units.specs.declared.event.Operating.TheVariants.{Off};
-ghost use Rattle.totaliser_store.specs.Ranges.{IsDurable};
+ghost use Rattle.totals_record.specs.Ranges.{IsDurable};
 ghost use Rattle.meter_run.specs.OnStore.{Agrees, Attempts, IsReadyOn};
 ghost use Rattle.meter_run.specs.Supply.{KeepsOff};
 
@@ -17,7 +17,7 @@ use crate::stored::{Known, StoreMeter};
 use crate::storing::do_acts;
 use meter_states::{Acts, Core};
 use outside::{Board, Failed};
-use seal_store::Seal;
+use seal_record::Seal;
 use std::sync::ledger::Ledger;
 use tariff_compile::Tables;
 use taxi_units::{Event, Steps, Why};

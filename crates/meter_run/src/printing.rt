@@ -4,13 +4,13 @@ ghost use Rattle.outside.specs.Disk.{piece_size};
 ghost use Rattle.receipt_text.specs.Receipts.{receipt_text};
 ghost use Rattle.receipt_text.specs.SealParts.{part_of};
 ghost use Rattle.receipt_text.specs.Texts.{display_text, refusal_text};
-ghost use Rattle.seal_store.specs.Ranges.{IsSeal};
+ghost use Rattle.seal_record.specs.Ranges.{IsSeal};
 ghost use Rattle.taxi_units.specs.Shown.{IsReceipt, IsShown};
 ghost use Rattle.meter_run.specs.Printing.{PrintsText};
 
 use outside::{Board, Failed};
 use receipt_text::{put_display, put_receipt, put_refusal};
-use seal_store::Seal;
+use seal_record::Seal;
 use std::sync::ledger::Ledger;
 use taxi_units::{Display, Line, Receipt, Steps, Why};
 

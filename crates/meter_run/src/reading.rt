@@ -3,11 +3,11 @@ ghost use Rattle.std.specs.Prelude.{◌≡◌, ◌+◌, ◌≤◌, [], Some, IfO
 ghost use Rattle.std.specs.Option.{ForSome};
 ghost use Rattle.outside.specs.Faults.{HasCause};
 ghost use Rattle.meter_states.specs.Fits.{Fits};
-ghost use Rattle.seal_store.specs.declared.seal.Seal.{Seal};
+ghost use Rattle.seal_record.specs.declared.seal.Seal.{Seal};
 ghost use Rattle.slot_store.specs.declared.pair.Place.{Place};
-ghost use Rattle.totaliser_store.specs.Ranges.{IsDurable};
-ghost use Rattle.totaliser_store.specs.Stored.{KeepsState};
-ghost use Rattle.totaliser_store.specs.declared.durable.Durable.{Durable};
+ghost use Rattle.totals_record.specs.Ranges.{IsDurable};
+ghost use Rattle.meter_store.specs.Stored.{KeepsState};
+ghost use Rattle.totals_record.specs.declared.durable.Durable.{Durable};
 ghost use Rattle.meter_run.specs.OnStore.{Agrees, WritesTotals};
 ghost use Rattle.meter_run.specs.Points.{KeepsTo};
 ghost use Rattle.meter_run.specs.declared.stored.Known.{Known};
@@ -19,7 +19,7 @@ use slot_store::{Found, SlotFault, scan};
 use std::sync::ledger::Ledger;
 use tariff_compile::Tables;
 use taxi_units::Steps;
-use totaliser_store::Durable;
+use totals_record::Durable;
 
 /// Scans the pair of totals. `None` where it stands for no durable state, or for one whose held trip doesn't
 /// fit the tables: on a board that tells its image that comes only where the image says so. At most 19 steps.

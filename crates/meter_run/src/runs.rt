@@ -10,7 +10,7 @@ use crate::carrier::Carrier;
 use drive_text::Run;
 use meter_states::Acts;
 use outside::{Board, Failed};
-use seal_store::Seal;
+use seal_record::Seal;
 use std::sync::ledger::Ledger;
 use tariff_compile::Tables;
 use taxi_units::{Event, Steps};

@@ -1,13 +1,13 @@
 //! The meter on a store, and what it knows of it.
 ghost use Rattle.std.specs.Prelude.{◌≡◌, None};
 ghost use Rattle.tariff_compile.specs.Tables.{TableParts};
-ghost use Rattle.seal_store.specs.declared.seal.Seal.{Seal};
+ghost use Rattle.seal_record.specs.declared.seal.Seal.{Seal};
 ghost use Rattle.meter_states.specs.Lawful.{IsLawful};
 ghost use Rattle.taxi_units.specs.declared.event.Operating.TheVariants.{Off};
 
 use meter_states::Core;
 use slot_store::Place;
-use totaliser_store::Durable;
+use totals_record::Durable;
 
 /// What a powered meter knows of the store: the durable state of the pair of totals, and its place.
 #[derive(Clone, Copy)]

@@ -3,11 +3,11 @@ ghost use Rattle.std.specs.Prelude.{◌≡◌, ◌+◌, ◌*◌, ◌≤◌, ◌+
 ghost use Rattle.std.specs.Option.{ForSome};
 ghost use Rattle.outside.specs.Faults.{HasCause};
 ghost use Rattle.meter_states.specs.Fits.{Fits};
-ghost use Rattle.seal_store.specs.Ranges.{IsSeal};
+ghost use Rattle.seal_record.specs.Ranges.{IsSeal};
 ghost use Rattle.tariff_compile.specs.Tables.{TableParts};
-ghost use Rattle.totaliser_store.specs.Ranges.{IsDurable};
-ghost use Rattle.totaliser_store.specs.States.{after};
-ghost use Rattle.totaliser_store.specs.Stored.{KeepsState};
+ghost use Rattle.totals_record.specs.Ranges.{IsDurable};
+ghost use Rattle.totals_record.specs.States.{after};
+ghost use Rattle.meter_store.specs.Stored.{KeepsState};
 ghost use Rattle.meter_run.specs.Commits.{AreFor, IsFor, after_act, after_acts, commits_in};
 ghost use Rattle.meter_run.specs.Deeds.{Deed, Does, act_text, after_deed, deeds_of, texts};
 ghost use Rattle.meter_run.specs.OnStore.{Agrees, MayDo, WritesTotals};
@@ -16,11 +16,12 @@ ghost use Rattle.meter_run.specs.Points.{KeepsTo};
 use crate::printing::{print_display, print_receipt, print_refusal};
 use crate::stored::Known;
 use meter_states::Act;
+use meter_store::commit;
 use outside::{Board, Failed};
-use seal_store::Seal;
+use seal_record::Seal;
 use std::sync::ledger::Ledger;
 use taxi_units::Steps;
-use totaliser_store::{Change, commit};
+use totals_record::Change;
 
 /// Commits a change of what the store has. At most 6 steps.
 fn store<B: Board<L>, L: Ledger>(

@@ -1,8 +1,8 @@
 -- Lawful acts keep the ranges of the store.
 use Rattle.std.proofs.Common.{◌≡◌, ℕ, List, All, get_or, sym, subst}
-use Rattle.totaliser_store.specs.declared.durable.Durable.{Durable}
-use Rattle.totaliser_store.specs.Ranges.{IsDurable}
-use Rattle.totaliser_store.proofs.Laws.{entries_keep_the_ranges, held_trips_keep_the_ranges}
+use Rattle.totals_record.specs.declared.durable.Durable.{Durable}
+use Rattle.totals_record.specs.Ranges.{IsDurable}
+use Rattle.totals_record.proofs.Laws.{entries_keep_the_ranges, held_trips_keep_the_ranges}
 use Rattle.tariff_compile.specs.Tables.{TableParts}
 use Rattle.meter_states.specs.Acts.{IsLawfulAct, KeepsRanges}
 use Rattle.meter_states.specs.declared.act.Act.{Act}

@@ -9,7 +9,7 @@ use Rattle.drive_modes.specs.declared.meterage.Rounding.TheVariants.{Behind, Ahe
 use Rattle.drive_modes.specs.Charge.{charge_of}
 use Rattle.drive_modes.specs.declared.charges.Mode.{Mode}
 use Rattle.drive_modes.specs.declared.charges.Weights.{Weights}
-use Rattle.seal_store.specs.declared.seal.Seal.{Seal}
+use Rattle.seal_record.specs.declared.seal.Seal.{Seal}
 use Rattle.tariff_compile.specs.Near.{IsNear}
 use Rattle.tariff_compile.specs.Tables.{IsInRangeFor, TableParts, rate_by}
 use Rattle.tariff_compile.specs.declared.parts.Lasting.{Lasting}
@@ -17,7 +17,7 @@ use Rattle.tariff_syntax.specs.declared.context.Context.{Context}
 use Rattle.taxi_units.specs.declared.event.Operating.{Operating}
 use Rattle.taxi_units.specs.declared.event.Operating.TheVariants.{Off, ForHire, Hired, Stopped}
 use Rattle.taxi_units.specs.declared.receipt.Display.{Display}
-use Rattle.totaliser_store.specs.declared.trip.Trip as store
+use Rattle.totals_record.specs.declared.trip.Trip as store
 use Rattle.meter_states.specs.Charge.{charge_at}
 use Rattle.meter_states.specs.Core.{Plain, Follows, plain_of}
 use Rattle.meter_states.specs.EqualStages.{HasTaken, LastsFrom, charged, passed, unfilled}

@@ -2,7 +2,7 @@
 use Rattle.std.proofs.Common.{◌≡◌, ◌<◌, ℕ, ◌+◌, ◌*◌, List, [], ◌∷◌, Option, length, refl, ap, ◌∙◌, subst}
 use Rattle.tariff_compile.specs.Tables.{TableParts, supplement_at}
 use Rattle.tariff_compile.specs.declared.parts.Supplement.{Supplement}
-use Rattle.totaliser_store.specs.declared.trip.Trip as store
+use Rattle.totals_record.specs.declared.trip.Trip as store
 use Rattle.meter_states.specs.Fits.{Fits}
 use Rattle.meter_states.specs.Kept.{FitsSetting}
 use Rattle.meter_states.specs.Setting.{Setting, IsTariffOf, step_of}

@@ -3,8 +3,8 @@ use Rattle.std.proofs.Common.{◌≡◌, ◌+◌, ◌*◌, ◌^◌, ◌<◌, ◌
 use Rattle.std.proofs.lemmas.Nat.{mul-le}
 use Rattle.tariff_compile.specs.Tables.{TableParts}
 use Rattle.tariff_compile.proofs.Laws.{tables_are_fit}
-use Rattle.totaliser_store.specs.Ranges as store
-use Rattle.totaliser_store.specs.declared.trip.Trip.{Trip}
+use Rattle.totals_record.specs.Ranges as store
+use Rattle.totals_record.specs.declared.trip.Trip.{Trip}
 use Rattle.meter_states.specs.Core.{Plain}
 use Rattle.meter_states.specs.Fits.{Fits}
 use Rattle.meter_states.specs.Lawful.{HasBegunBy, IsPowered, IsTripInRange}

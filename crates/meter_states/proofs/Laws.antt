@@ -11,10 +11,10 @@ use Rattle.taxi_units.specs.declared.event.Why.TheVariants.{TooFast}
 use Rattle.taxi_units.specs.declared.event.Why.TheVariants as why
 use Rattle.taxi_units.specs.declared.receipt.Display.{Display}
 use Rattle.taxi_units.specs.declared.receipt.Kind.TheVariants as kinds
-use Rattle.totaliser_store.specs.Ranges.{IsDurable}
-use Rattle.totaliser_store.specs.States.{after_all}
-use Rattle.totaliser_store.specs.declared.durable.Durable.{Durable}
-use Rattle.totaliser_store.specs.declared.trip.Trip as store
+use Rattle.totals_record.specs.Ranges.{IsDurable}
+use Rattle.totals_record.specs.States.{after_all}
+use Rattle.totals_record.specs.declared.durable.Durable.{Durable}
+use Rattle.totals_record.specs.declared.trip.Trip as store
 use Rattle.meter_states.specs.Acts.{IsLawfulAct, KeepsRanges}
 use Rattle.meter_states.specs.Closing.{closed}
 use Rattle.meter_states.specs.Display.{display_of, same_display}

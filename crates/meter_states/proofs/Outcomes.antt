@@ -5,8 +5,8 @@ use Rattle.taxi_units.specs.declared.event.Event.{Event}
 use Rattle.taxi_units.specs.declared.event.Event.TheVariants.{Down}
 use Rattle.taxi_units.specs.declared.event.Operating.{Operating}
 use Rattle.taxi_units.specs.declared.event.Operating.TheVariants.{Off}
-use Rattle.totaliser_store.specs.declared.trip.Trip.{Trip}
-use Rattle.totaliser_store.specs.declared.trip.Trip as store
+use Rattle.totals_record.specs.declared.trip.Trip.{Trip}
+use Rattle.totals_record.specs.declared.trip.Trip as store
 use Rattle.meter_states.specs.Core.{Plain, Follows, Meets, plain_of}
 use Rattle.meter_states.specs.Display.{fare_shown}
 use Rattle.meter_states.specs.Lawful.{IsBetweenEvents, IsPowered, HasTrip}

@@ -4,7 +4,7 @@ use Rattle.tariff_compile.specs.Tables.{TableParts}
 use Rattle.taxi_units.specs.declared.event.Key.{Key}
 use Rattle.taxi_units.specs.declared.event.Operating.{Operating}
 use Rattle.taxi_units.specs.declared.event.Operating.TheVariants.{Off, ForHire, Hired, Stopped}
-use Rattle.totaliser_store.specs.declared.trip.Trip.{Trip}
+use Rattle.totals_record.specs.declared.trip.Trip.{Trip}
 use Rattle.meter_states.specs.Core.{Plain, Stands, plain_of}
 use Rattle.meter_states.specs.Lawful.{HasBegunBy, HasTrip, IsAmidEvent, IsBetweenEvents, IsPowered, IsTripBeside, IsTripInRange}
 use Rattle.meter_states.specs.Meter.{Meter}

@@ -4,8 +4,8 @@ use Rattle.std.proofs.lemmas.List.Elements.{All-push}
 use Rattle.tariff_compile.specs.Tables.{TableParts}
 use Rattle.taxi_units.specs.declared.receipt.Kind.{Kind}
 use Rattle.taxi_units.specs.declared.receipt.Kind.TheVariants.{Roam}
-use Rattle.totaliser_store.specs.Entries.{closes}
-use Rattle.totaliser_store.specs.declared.entry.Entry.{Entry}
+use Rattle.totals_record.specs.Entries.{closes}
+use Rattle.totals_record.specs.declared.entry.Entry.{Entry}
 use Rattle.std.proofs.lemmas.Grind.{common_steps}
 use Rattle.meter_states.specs.Acts.{IsLawfulAct, StayLawful}
 use Rattle.meter_states.specs.declared.act.Act.{Act}

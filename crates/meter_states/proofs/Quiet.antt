@@ -13,7 +13,7 @@ use Rattle.taxi_units.specs.declared.event.Key.{Key}
 use Rattle.taxi_units.specs.declared.event.Operating.{Operating}
 use Rattle.taxi_units.specs.declared.event.Operating.TheVariants.{Off, ForHire, Hired, Stopped}
 use Rattle.taxi_units.specs.declared.receipt.Display.{Display}
-use Rattle.totaliser_store.specs.declared.trip.Trip as store
+use Rattle.totals_record.specs.declared.trip.Trip as store
 use Rattle.meter_states.specs.Closing.{roaming_checked, roaming_checked_in, roaming_entered}
 use Rattle.meter_states.specs.Core.{Plain, Follows, plain_of}
 use Rattle.meter_states.specs.Display.{display_of, extras_shown, fare_shown, is_shown, same_display, shown}

@@ -6,7 +6,7 @@ use Rattle.drive_modes.specs.Fare.{saved}
 use Rattle.drive_modes.proofs.Laws.{saved-any}
 use Rattle.tariff_compile.specs.Tables.{supplement_at}
 use Rattle.tariff_syntax.specs.Tree.{Tree}
-use Rattle.totaliser_store.specs.declared.trip.Trip as store
+use Rattle.totals_record.specs.declared.trip.Trip as store
 use Rattle.meter_states.specs.Core.{IsSavedIn, forgotten}
 use Rattle.meter_states.specs.Kept.{FitsSetting, HoldFits}
 use Rattle.meter_states.specs.Run.{numbers_from, trip_of}

@@ -1,7 +1,7 @@
 -- Runs over lists of events.
 use Rattle.std.proofs.Common.{◌≡◌, List, [], ◌∷◌, ◌++◌, refl, ap, sym, ◌∙◌, append_assoc}
 use Rattle.taxi_units.specs.declared.event.Event.{Event}
-use Rattle.totaliser_store.specs.declared.durable.Durable.{Durable}
+use Rattle.totals_record.specs.declared.durable.Durable.{Durable}
 use Rattle.meter_states.specs.Kept.{HoldFits, IsKept}
 use Rattle.meter_states.specs.Meter.{Meter, Outcome, ◌>>=◌}
 use Rattle.meter_states.specs.Run.{opened, run, run_both, whole_run}

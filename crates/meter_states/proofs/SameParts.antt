@@ -4,7 +4,7 @@ use Rattle.taxi_units.specs.declared.receipt.Display.{Display}
 use Rattle.taxi_units.specs.declared.receipt.Kind.{Kind}
 use Rattle.taxi_units.specs.declared.receipt.Receipt.{Receipt}
 use Rattle.taxi_units.specs.declared.receipt.Stamp.{Stamp}
-use Rattle.totaliser_store.specs.declared.entry.Entry.{Entry}
+use Rattle.totals_record.specs.declared.entry.Entry.{Entry}
 use Rattle.meter_states.specs.Core.{Plain}
 
 abbrev display_with : Plain → (fare supplements decimals : ℕ) → Display

@@ -3,8 +3,8 @@ use Rattle.std.proofs.Common.{◌≡◌, ℕ, ◌<◌, ◌≤◌, true, Option, 
 use Rattle.std.proofs.lemmas.Grind.{common_steps}
 use Rattle.taxi_units.specs.declared.receipt.Kind.TheVariants.{Aborted, Roam}
 use Rattle.taxi_units.specs.Time.{IsSecond}
-use Rattle.totaliser_store.specs.Ranges.{IsHeld}
-use Rattle.totaliser_store.specs.declared.trip.Trip as store
+use Rattle.totals_record.specs.Ranges.{IsHeld}
+use Rattle.totals_record.specs.declared.trip.Trip as store
 use Rattle.meter_states.specs.Closing.{closed, roaming_entered}
 use Rattle.meter_states.specs.Meter.{Meter, quiet, held}
 use Rattle.meter_states.specs.Setting.{Setting}

@@ -13,7 +13,7 @@ use Rattle.tariff_compile.specs.declared.parts.Supplement.{Supplement}
 use Rattle.tariff_syntax.specs.Tree.{Tree}
 use Rattle.tariff_syntax.specs.Writable.{IsFromTo, IsWritable}
 use Rattle.meter_states.specs.Supplements.{AreAllowed, amount_in, amounts_from, most_in, supplement_in}
-use Rattle.totaliser_store.specs.declared.trip.Trip.{Trip}
+use Rattle.totals_record.specs.declared.trip.Trip.{Trip}
 use Rattle.meter_states.specs.Lawful.{IsTrip}
 use Rattle.meter_states.proofs.Amounts.{AreBounded, allowed-few, amounts-most}
 use Rattle.taxi_units.specs.Limits.{largest_supplements}

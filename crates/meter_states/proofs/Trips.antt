@@ -6,7 +6,7 @@ use Rattle.drive_modes.specs.Fare.{saved}
 use Rattle.tariff_compile.specs.Tables.{TableParts, supplement_at}
 use Rattle.tariff_compile.specs.declared.parts.Initial.{Initial}
 use Rattle.tariff_syntax.specs.declared.context.Context.{Context}
-use Rattle.totaliser_store.specs.declared.trip.Trip as store
+use Rattle.totals_record.specs.declared.trip.Trip as store
 use Rattle.meter_states.specs.Charge.{charge_at}
 use Rattle.meter_states.specs.Setting.{Setting, IsTariffOf, modulus_of, unit_of}
 use Rattle.meter_states.specs.Supplements.{amount_in, amounts_of, counts_of, times}

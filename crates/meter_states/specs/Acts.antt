@@ -2,13 +2,13 @@
 use Rattle.std.specs.Prelude.{◌≡◌, ℕ, ◌+◌, ◌≤◌, false, List, All}
 use Rattle.tariff_compile.specs.Tables.{TableParts}
 use Rattle.taxi_units.specs.Shown.{IsShown, IsReceipt}
-use Rattle.totaliser_store.specs.Entries.{closes}
-use Rattle.totaliser_store.specs.Ranges.{IsDurable, IsEntry, IsTrip}
-use Rattle.totaliser_store.specs.States.{after}
-use Rattle.totaliser_store.specs.declared.change.Change.TheVariants as changes
-use Rattle.totaliser_store.specs.declared.durable.Durable.{Durable}
-use Rattle.totaliser_store.specs.declared.entry.Entry as store
-use Rattle.totaliser_store.specs.declared.trip.Trip.{Trip}
+use Rattle.totals_record.specs.Entries.{closes}
+use Rattle.totals_record.specs.Ranges.{IsDurable, IsEntry, IsTrip}
+use Rattle.totals_record.specs.States.{after}
+use Rattle.totals_record.specs.declared.change.Change.TheVariants as changes
+use Rattle.totals_record.specs.declared.durable.Durable.{Durable}
+use Rattle.totals_record.specs.declared.entry.Entry as store
+use Rattle.totals_record.specs.declared.trip.Trip.{Trip}
 use Rattle.meter_states.specs.Fits.{Fits}
 use Rattle.meter_states.specs.declared.act.Act.{Act}
 use Rattle.meter_states.specs.declared.act.Act.TheVariants.{Show, Refuse, Enter, Hold, Receipt}

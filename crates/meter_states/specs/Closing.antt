@@ -1,12 +1,12 @@
 -- Rules: the entries of a trip that is closed, with its receipt directly behind, and of roaming.
 use Rattle.std.specs.Prelude.{ℕ, Option, Some, None, sum, [], if◌then◌else◌, nat_le}
-use Rattle.pulse_input.specs.Distance.{millimetres_of}
+use Rattle.drive_modes.specs.Distance.{millimetres_of}
 use Rattle.taxi_units.specs.declared.event.Operating.{Operating}
 use Rattle.taxi_units.specs.declared.event.Operating.TheVariants.{ForHire}
 use Rattle.taxi_units.specs.declared.receipt.Kind.{Kind}
 use Rattle.taxi_units.specs.declared.receipt.Kind.TheVariants.{Roam}
 use Rattle.taxi_units.specs.declared.receipt.Receipt.{Receipt}
-use Rattle.totaliser_store.specs.declared.entry.Entry.{Entry}
+use Rattle.totals_record.specs.declared.entry.Entry.{Entry}
 use Rattle.meter_states.specs.Meter.{Meter, Outcome, ◌>>=◌, quiet, entered, printed}
 use Rattle.meter_states.specs.Setting.{Setting, stamp_at, step_of}
 use Rattle.meter_states.specs.Supplements.{amounts_of}

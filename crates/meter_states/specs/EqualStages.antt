@@ -2,10 +2,10 @@
 -- of them may go.
 use Rattle.std.specs.Prelude.{◌≡◌, ℕ, ◌+◌, ◌-◌, ◌*◌, ◌≤◌, []}
 use Rattle.drive_modes.specs.declared.meterage.Meterage.{Meterage}
-use Rattle.seal_store.specs.declared.seal.Seal.{Seal}
+use Rattle.seal_record.specs.declared.seal.Seal.{Seal}
 use Rattle.tariff_compile.specs.Tables.{TableParts}
 use Rattle.tariff_compile.specs.declared.parts.Lasting.{Lasting}
-use Rattle.totaliser_store.specs.declared.trip.Trip.{Trip}
+use Rattle.totals_record.specs.declared.trip.Trip.{Trip}
 use Rattle.meter_states.specs.Core.{Plain}
 use Rattle.meter_states.specs.Equals.{intervals_of}
 use Rattle.meter_states.specs.Lawful.{IsBetweenEvents}

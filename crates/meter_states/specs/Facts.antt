@@ -3,7 +3,7 @@ use Rattle.std.specs.Prelude.{◌≡◌, ℕ, ◌≤◌, true}
 use Rattle.std.specs.Option.{ForSome}
 use Rattle.interval_clock.specs.LocalTime.{local_second, local_time_of}
 use Rattle.interval_clock.specs.declared.local_time.LocalTime.{LocalTime}
-use Rattle.seal_store.specs.declared.seal.Seal.{Seal}
+use Rattle.seal_record.specs.declared.seal.Seal.{Seal}
 use Rattle.tariff_calendar.specs.Lists.{has_days, is_holiday}
 use Rattle.tariff_compile.specs.Near.{IsNear}
 use Rattle.tariff_compile.specs.Tables.{AreFit, IsInRangeFor, IsTablesOf, TableParts, rate_by}

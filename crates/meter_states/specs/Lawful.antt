@@ -7,8 +7,8 @@ use Rattle.taxi_units.specs.declared.event.Event.{Event}
 use Rattle.taxi_units.specs.declared.event.Event.TheVariants as events
 use Rattle.taxi_units.specs.declared.event.Operating.{Operating}
 use Rattle.taxi_units.specs.declared.event.Operating.TheVariants.{Off, ForHire, Hired, Stopped}
-use Rattle.totaliser_store.specs.declared.trip.Trip.{Trip}
-use Rattle.seal_store.specs.declared.seal.Seal.{Seal}
+use Rattle.totals_record.specs.declared.trip.Trip.{Trip}
+use Rattle.seal_record.specs.declared.seal.Seal.{Seal}
 use Rattle.meter_states.specs.Core.{Plain}
 use Rattle.meter_states.specs.Facts.{AreTrue, Whole}
 use Rattle.meter_states.specs.Supplements.{AreAllowed, amounts_from, supplement_in}

@@ -3,9 +3,9 @@ use Rattle.std.specs.Prelude.{◌≡◌, ℕ, ◌+◌, List, [], ◌∷◌, Opti
 use Rattle.taxi_units.specs.declared.receipt.Kind.{Kind}
 use Rattle.taxi_units.specs.declared.receipt.Kind.TheVariants.{Roam}
 use Rattle.taxi_units.specs.declared.receipt.Receipt as receipts
-use Rattle.totaliser_store.specs.declared.change.Change.{Change}
-use Rattle.totaliser_store.specs.declared.change.Change.TheVariants as changes
-use Rattle.totaliser_store.specs.declared.entry.Entry.{Entry}
+use Rattle.totals_record.specs.declared.change.Change.{Change}
+use Rattle.totals_record.specs.declared.change.Change.TheVariants as changes
+use Rattle.totals_record.specs.declared.entry.Entry.{Entry}
 use Rattle.meter_states.specs.declared.act.Act.{Act}
 use Rattle.meter_states.specs.declared.act.Act.TheVariants.{Enter, Hold, Receipt}
 

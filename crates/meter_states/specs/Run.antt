@@ -4,8 +4,8 @@ use Rattle.taxi_units.specs.Time.{first_second}
 use Rattle.taxi_units.specs.declared.event.Event.{Event}
 use Rattle.taxi_units.specs.declared.event.Operating.{Operating}
 use Rattle.taxi_units.specs.declared.event.Operating.TheVariants.{Off}
-use Rattle.totaliser_store.specs.declared.durable.Durable.{Durable}
-use Rattle.totaliser_store.specs.declared.trip.Trip as store
+use Rattle.totals_record.specs.declared.durable.Durable.{Durable}
+use Rattle.totals_record.specs.declared.trip.Trip as store
 use Rattle.meter_states.specs.Meter.{Meter, Outcome, ◌>>=◌, quiet}
 use Rattle.meter_states.specs.Setting.{Setting, modulus_of}
 use Rattle.meter_states.specs.Step.{step}

@@ -4,7 +4,7 @@ use Rattle.drive_modes.specs.declared.charges.Mode.{Mode}
 use Rattle.drive_modes.specs.declared.meterage.Rounding.{Rounding}
 use Rattle.interval_clock.specs.LocalTime.{local_second, local_time_of}
 use Rattle.interval_clock.specs.declared.local_time.LocalTime.{LocalTime}
-use Rattle.seal_store.specs.declared.seal.Seal.{Seal}
+use Rattle.seal_record.specs.declared.seal.Seal.{Seal}
 use Rattle.tariff_check.specs.Measure.{measure_of}
 use Rattle.tariff_compile.specs.Tables.{TableParts, IsTablesOf, step_in}
 use Rattle.tariff_syntax.specs.Tree.{Tree}

@@ -1,7 +1,7 @@
 -- For proofs: what a core keeps as it carries out a stage of an event, and how it follows the meter. `Core::step` says
 -- what the stages of an event come to.
 use Rattle.std.specs.Prelude.{◌≡◌, ◌⊎◌, ◌≤◌, ℕ, List, [], length}
-use Rattle.seal_store.specs.declared.seal.Seal.{Seal}
+use Rattle.seal_record.specs.declared.seal.Seal.{Seal}
 use Rattle.tariff_compile.specs.Tables.{TableParts}
 use Rattle.meter_states.specs.Acts.{StayLawful}
 use Rattle.meter_states.specs.Core.{Follows, Plain, plain_of}

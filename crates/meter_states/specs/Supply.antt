@@ -3,7 +3,7 @@ use Rattle.std.specs.Prelude.{ℕ, ◌+◌, Bool, true, false, ◌&&◌, [], Opt
 use Rattle.taxi_units.specs.declared.event.Operating.{Operating}
 use Rattle.taxi_units.specs.declared.event.Operating.TheVariants.{Off, ForHire, Hired, Stopped}
 use Rattle.taxi_units.specs.declared.receipt.Kind.TheVariants.{Aborted}
-use Rattle.totaliser_store.specs.declared.trip.Trip as store
+use Rattle.totals_record.specs.declared.trip.Trip as store
 use Rattle.meter_states.specs.Closing.{closed, roaming_entered}
 use Rattle.meter_states.specs.Display.{shown}
 use Rattle.meter_states.specs.Interval.{interval_left}

@@ -4,7 +4,7 @@ use Rattle.drive_modes.specs.Fare as fares
 use Rattle.drive_modes.specs.Fare.{saved, shown_fare, steps_above}
 use Rattle.tariff_compile.specs.declared.parts.Initial.{Initial}
 use Rattle.tariff_syntax.specs.declared.context.Context.{Context}
-use Rattle.totaliser_store.specs.declared.trip.Trip as store
+use Rattle.totals_record.specs.declared.trip.Trip as store
 use Rattle.meter_states.specs.Charge.{charge_at}
 use Rattle.meter_states.specs.Setting.{Setting, modulus_of, rounding_of, step_of, unit_of}
 use Rattle.meter_states.specs.Supplements.{amounts_of, counts_of}

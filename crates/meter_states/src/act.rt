@@ -4,7 +4,7 @@ ghost use Rattle.meter_states.specs.declared.act.Act.TheVariants.{Refuse};
 
 use arrayvec::ArrayVec;
 use taxi_units::{Display, Receipt, Why};
-use totaliser_store::{Entry, Trip};
+use totals_record::{Entry, Trip};
 
 /// What the meter does at an event.
 #[derive(Clone, Copy, Debug, PartialEq, Eq)]

@@ -1,6 +1,6 @@
 //! Entries: of a trip that is closed, with its receipt directly behind, and of roaming.
 ghost use Rattle.std.specs.Prelude.{◌≡◌, ◌≢◌, ◌⊎◌, ◌<◌, ◌≤◌, ◌+◌, ℕ, All, None, Some, length};
-ghost use Rattle.seal_store.specs.declared.seal.Seal.{Seal};
+ghost use Rattle.seal_record.specs.declared.seal.Seal.{Seal};
 ghost use Rattle.taxi_units.specs.Time.{IsSecond, last_tick, longest_trip};
 ghost use Rattle.taxi_units.specs.declared.event.Operating.TheVariants.{ForHire};
 ghost use Rattle.taxi_units.specs.declared.receipt.Kind.TheVariants.{Roam};
@@ -17,11 +17,11 @@ ghost use Rattle.taxi_units.specs.Limits.{last_number, number_most, roaming_amid
 use crate::act::{Act, Acts};
 use crate::meter_state::State;
 use crate::records::{Closing, entry, receipt, roaming_entry};
-use seal_store::Seal;
+use seal_record::Seal;
 use std::sync::ledger::Ledger;
 use tariff_compile::Tables;
 use taxi_units::{Kind, Operating, ROAMING_MOST, Steps};
-use totaliser_store::Trip;
+use totals_record::Trip;
 
 impl State {
     /// The trip is closed, and the meter is for hire. At most 12 steps.

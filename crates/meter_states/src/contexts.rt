@@ -1,9 +1,9 @@
 //! The context of an interval, and what the interval weighs in it.
 ghost use Rattle.std.specs.Prelude.{◌≡◌, ◌≤◌, ◌+◌, Some};
-ghost use Rattle.seal_store.specs.declared.seal.Seal.{Seal};
+ghost use Rattle.seal_record.specs.declared.seal.Seal.{Seal};
 ghost use Rattle.tariff_compile.specs.Tables.{AreFit, IsInRangeFor, rate_by};
 ghost use Rattle.taxi_units.specs.Time.{IsSecond, longest_trip};
-ghost use Rattle.totaliser_store.specs.declared.trip.Trip as store;
+ghost use Rattle.totals_record.specs.declared.trip.Trip as store;
 ghost use Rattle.meter_states.specs.Core.{plain_of};
 ghost use Rattle.meter_states.specs.Equals.{context_by};
 ghost use Rattle.meter_states.specs.Facts.{AreLocal, AreTrue};
@@ -16,7 +16,7 @@ ghost use Rattle.taxi_units.specs.Limits.{roaming_amid};
 use crate::facts::{Facts, LocalFacts, local_facts};
 use crate::meter_state::State;
 use drive_modes::Weights;
-use seal_store::Seal;
+use seal_record::Seal;
 use std::sync::ledger::Ledger;
 use tariff_compile::Tables;
 use tariff_syntax::Context;

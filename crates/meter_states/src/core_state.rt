@@ -1,7 +1,7 @@
 //! The core: the state of the meter, and the facts that it keeps beside it.
 ghost use Rattle.std.specs.Prelude.{◌≡◌};
 ghost use Rattle.tariff_compile.specs.Tables.{TableParts};
-ghost use Rattle.seal_store.specs.declared.seal.Seal.{Seal};
+ghost use Rattle.seal_record.specs.declared.seal.Seal.{Seal};
 ghost use Rattle.taxi_units.specs.declared.event.Operating.TheVariants.{Off};
 ghost use Rattle.meter_states.specs.Lawful.{IsLawful};
 

@@ -10,7 +10,7 @@ use crate::lookups::modulus;
 use drive_modes::Rounding;
 use tariff_compile::Tables;
 use taxi_units::HIRINGS_END;
-use totaliser_store::Trip;
+use totals_record::Trip;
 
 /// What an interval of `pulses` pulses adds to the roaming pulses, where the store has a number.
 pub(crate) fn roams(number: u64, pulses: u32) -> u32

@@ -2,11 +2,11 @@
 ghost use Rattle.std.specs.Prelude.{◌≡◌, ◌≤◌, ◌⊎◌, ◌↔◌, ◌+◌, ◌*◌, [], IfSome, IsNone, IsTrue, None, Some};
 ghost use Rattle.std.specs.Option.{ForSome};
 ghost use Rattle.tariff_compile.specs.Near.{IsNear};
-ghost use Rattle.seal_store.specs.declared.seal.Seal.{Seal};
+ghost use Rattle.seal_record.specs.declared.seal.Seal.{Seal};
 ghost use Rattle.tariff_compile.specs.Tables.{AreFit, IsInRangeFor, TableParts, rate_by};
 ghost use Rattle.tariff_syntax.specs.declared.context.Context.{Context};
 ghost use Rattle.taxi_units.specs.declared.event.Operating.TheVariants.{ForHire, Hired, Stopped};
-ghost use Rattle.totaliser_store.specs.declared.trip.Trip as store;
+ghost use Rattle.totals_record.specs.declared.trip.Trip as store;
 ghost use Rattle.meter_states.specs.Core.{Meets, Stands, plain_of};
 ghost use Rattle.meter_states.specs.EqualStages.{FollowsIntervals, HasTaken, LastsFrom};
 ghost use Rattle.meter_states.specs.Equals.{IsStill, MayBeCharged, MayGo, Outlasts, Serve, intervals_of, roams};
@@ -25,7 +25,7 @@ use crate::facts::Facts;
 use crate::meter_state::State;
 use crate::shown::is_shown;
 use drive_modes::charge;
-use seal_store::Seal;
+use seal_record::Seal;
 use tariff_compile::{Lasting, Tables};
 use taxi_units::{LONGEST_TRIP, Operating, ROAMING_MOST};
 

@@ -6,7 +6,7 @@ ghost use Rattle.tariff_compile.specs.Near.{IsNear};
 ghost use Rattle.tariff_compile.specs.Tables.{AreFit, IsInRangeFor, IsTablesOf, TableParts, rate_by};
 ghost use Rattle.tariff_syntax.specs.Tree.{Tree};
 ghost use Rattle.tariff_syntax.specs.declared.context.Context.{Context};
-ghost use Rattle.seal_store.specs.declared.seal.Seal.{Seal};
+ghost use Rattle.seal_record.specs.declared.seal.Seal.{Seal};
 ghost use Rattle.taxi_units.specs.Time.{IsSecond};
 ghost use Rattle.meter_states.specs.EqualStages.{LastsFrom};
 ghost use Rattle.meter_states.specs.Facts.{AreLasting, AreLocal, AreTrue};
@@ -15,7 +15,7 @@ ghost use Rattle.meter_states.specs.declared.facts.RateFacts.{RateFacts};
 
 use drive_modes::Weights;
 use interval_clock::civil;
-use seal_store::Seal;
+use seal_record::Seal;
 use std::sync::ledger::Ledger;
 use tariff_compile::{Lasting, Tables};
 use tariff_syntax::Context;

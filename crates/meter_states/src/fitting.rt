@@ -7,7 +7,7 @@ use crate::lookups::{find_supplement, modulus};
 use std::sync::ledger::Ledger;
 use tariff_compile::Tables;
 use taxi_units::{LARGEST_AMOUNT, Steps};
-use totaliser_store::Trip;
+use totals_record::Trip;
 
 /// Whether a saved trip fits the tables: its position and zone are among the tariff's, its rest is less
 /// than a display step, its cover no more than a tariff's, and each supplement was added at most as

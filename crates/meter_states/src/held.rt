@@ -5,9 +5,9 @@ ghost use Rattle.meter_states.specs.Core.{forgotten};
 ghost use Rattle.meter_states.specs.Setting.{Setting, IsSealOf};
 ghost use Rattle.meter_states.specs.Supply as model;
 
-use seal_store::Seal;
+use seal_record::Seal;
 use taxi_units::Operating;
-use totaliser_store::Trip;
+use totals_record::Trip;
 
 /// The operating position in which a held trip goes on.
 pub(crate) fn running(stopped: bool) -> Operating

@@ -16,7 +16,7 @@ use crate::act::{Acts, refuse};
 use crate::facts::Facts;
 use crate::meter_state::State;
 use crate::trip::{add_hired, add_rest, add_stopped};
-use seal_store::Seal;
+use seal_record::Seal;
 use std::sync::ledger::Ledger;
 use tariff_compile::Tables;
 use taxi_units::{HIRINGS_END, Operating, Steps, Why};

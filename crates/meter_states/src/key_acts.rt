@@ -1,6 +1,6 @@
 //! What keys do.
 ghost use Rattle.std.specs.Prelude.{◌≡◌, ◌≢◌, ◌≤◌, ◌+◌, None, Some};
-ghost use Rattle.seal_store.specs.declared.seal.Seal.{Seal};
+ghost use Rattle.seal_record.specs.declared.seal.Seal.{Seal};
 ghost use Rattle.tariff_compile.specs.Tables.{IsFitInitial, TableParts, initial_by, supplement_at};
 ghost use Rattle.taxi_units.specs.declared.event.Operating.TheVariants.{ForHire};
 ghost use Rattle.taxi_units.specs.declared.receipt.Kind.TheVariants.{Closed};
@@ -19,7 +19,7 @@ use crate::lookups::find_supplement;
 use crate::meter_state::State;
 use crate::records::Closing;
 use crate::trip::{add_extra, begun, times};
-use seal_store::Seal;
+use seal_record::Seal;
 use std::sync::ledger::Ledger;
 use tariff_compile::{Initial, Supplement, Tables};
 use taxi_units::{HIRINGS_END, Kind, Operating, Steps, Why};

@@ -12,7 +12,7 @@ ghost use Rattle.meter_states.specs.Stages.{IsReadyForKey, MayClose};
 
 use crate::act::{Acts, refuse};
 use crate::meter_state::State;
-use seal_store::Seal;
+use seal_record::Seal;
 use std::sync::ledger::Ledger;
 use tariff_compile::Tables;
 use taxi_units::{Key, Operating, Steps, Why};

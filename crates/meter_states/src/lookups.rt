@@ -1,15 +1,15 @@
 //! What the core looks up: in the tables, and in the seal's offsets.
 ghost use Rattle.std.specs.Prelude.{◌≡◌, ◌+◌, ◌*◌, ◌^◌, ◌<◌, ◌≤◌, ◌≢◌, None};
-ghost use Rattle.pulse_input.specs.Distance.{millimetres_of};
+ghost use Rattle.drive_modes.specs.Distance.{millimetres_of};
 ghost use Rattle.tariff_compile.specs.Tables.{IsFit, supplement_at};
 ghost use Rattle.taxi_units.specs.Shown.{IsStamp};
 ghost use Rattle.taxi_units.specs.Time.{IsSecond};
 ghost use Rattle.meter_states.specs.Setting.{Setting, IsSealOf, IsTariffOf, modulus_of, stamp_at};
 ghost use Rattle.meter_states.specs.Supplements.{amount_in, most_in, supplement_in};
 
+use drive_modes::millimetres;
 use interval_clock::civil;
-use pulse_input::millimetres;
-use seal_store::Seal;
+use seal_record::Seal;
 use std::sync::ledger::Ledger;
 use tariff_compile::{Supplement, Tables};
 use taxi_units::{Stamp, Steps};

@@ -3,7 +3,7 @@ ghost use Rattle.std.specs.Prelude.{◌≡◌, ◌≤◌, None, Some};
 ghost use Rattle.tariff_compile.specs.Tables.{TableParts};
 ghost use Rattle.taxi_units.specs.Time.{longest_trip};
 ghost use Rattle.taxi_units.specs.declared.event.Operating.TheVariants.{Off};
-ghost use Rattle.totaliser_store.specs.declared.trip.Trip as store;
+ghost use Rattle.totals_record.specs.declared.trip.Trip as store;
 ghost use Rattle.meter_states.specs.Core.{plain_of};
 ghost use Rattle.meter_states.specs.Interval as interval;
 ghost use Rattle.meter_states.specs.Lawful.{IsPowered, is_busy};
@@ -12,11 +12,11 @@ ghost use Rattle.meter_states.specs.Setting.{Setting};
 ghost use Rattle.meter_states.specs.Supply as supply;
 ghost use Rattle.taxi_units.specs.Limits.{roaming_amid};
 
+use drive_modes::Gate;
 use interval_clock::Clock;
-use pulse_input::Gate;
 use std::marker::Model;
 use taxi_units::{Display, FIRST_SECOND, Key, Operating};
-use totaliser_store::Trip;
+use totals_record::Trip;
 
 /// The meter's state: counts in place of pulses, and the saved form of the trip in place of its
 /// intervals, which it forgets, so it takes no memory. What of that form has a meaning in the store

@@ -1,8 +1,8 @@
 //! Receipts stand behind their entries, and the store has what the acts commit.
 ghost use Rattle.std.specs.Prelude.{◌≡◌, ◌++◌, List, None};
 ghost use Rattle.taxi_units.specs.declared.event.Event.{Event};
-ghost use Rattle.totaliser_store.specs.States.{after_all};
-ghost use Rattle.totaliser_store.specs.declared.durable.Durable.{Durable};
+ghost use Rattle.totals_record.specs.States.{after_all};
+ghost use Rattle.totals_record.specs.declared.durable.Durable.{Durable};
 ghost use Rattle.meter_states.specs.Meter.{Meter};
 ghost use Rattle.meter_states.specs.Pairs.{ArePaired, commits_of};
 ghost use Rattle.meter_states.specs.Run.{actions_of, run, run_both, whole_run};

@@ -4,7 +4,7 @@ ghost use Rattle.std.specs.Option.{ForSome};
 ghost use Rattle.tariff_compile.specs.Tables.{TableParts};
 ghost use Rattle.taxi_units.specs.Time.{IsSecond};
 ghost use Rattle.taxi_units.specs.declared.event.Operating.TheVariants.{ForHire};
-ghost use Rattle.totaliser_store.specs.Ranges.{IsDurable, IsHeld};
+ghost use Rattle.totals_record.specs.Ranges.{IsDurable, IsHeld};
 ghost use Rattle.meter_states.specs.Acts.{IsLawfulAct, KeepsRanges, StayLawful};
 ghost use Rattle.meter_states.specs.Core.{Follows, IsSavedIn, Meets, forgotten, plain_of};
 ghost use Rattle.meter_states.specs.Fits.{Fits};
@@ -20,11 +20,11 @@ use crate::facts::Facts;
 use crate::held::{is_within_hold, kept_form, running};
 use crate::meter_state::State;
 use crate::records::Closing;
-use seal_store::Seal;
+use seal_record::Seal;
 use std::sync::ledger::Ledger;
 use tariff_compile::Tables;
 use taxi_units::{Kind, Operating, Steps};
-use totaliser_store::{Durable, Trip};
+use totals_record::{Durable, Trip};
 
 impl Core {
     /// The supply comes at a second, 946,684,800 to 7,258,118,399, and finds a durable state in its ranges

@@ -3,7 +3,7 @@ ghost use Rattle.std.specs.Prelude.{◌≡◌, ◌≢◌, ◌+◌, ◌≤◌};
 ghost use Rattle.taxi_units.specs.Shown.{IsReceipt};
 ghost use Rattle.taxi_units.specs.Time.{IsSecond, longest_trip};
 ghost use Rattle.taxi_units.specs.declared.receipt.Kind.TheVariants.{Roam};
-ghost use Rattle.totaliser_store.specs.Ranges.{IsEntry};
+ghost use Rattle.totals_record.specs.Ranges.{IsEntry};
 ghost use Rattle.meter_states.specs.Closing as model;
 ghost use Rattle.meter_states.specs.Lawful.{IsTripBeside};
 ghost use Rattle.meter_states.specs.Setting.{Setting, IsSettingOf, IsTariffOf};
@@ -12,11 +12,11 @@ ghost use Rattle.taxi_units.specs.Limits.{number_most, roaming_amid};
 
 use crate::lookups::{distance, stamp};
 use crate::trip::{display_steps, fare};
-use seal_store::Seal;
+use seal_record::Seal;
 use std::sync::ledger::Ledger;
 use tariff_compile::Tables;
 use taxi_units::{Kind, Receipt, Steps};
-use totaliser_store::{Entry, Trip};
+use totals_record::{Entry, Trip};
 
 /// How a trip is closed, and at which second.
 #[derive(Clone, Copy)]

@@ -3,7 +3,7 @@ ghost use Rattle.std.specs.Prelude.{◌≡◌, ◌<◌, ◌≤◌, ◌+◌, [], 
 ghost use Rattle.tariff_compile.specs.Tables.{TableParts};
 ghost use Rattle.taxi_units.specs.Time.{last_tick};
 ghost use Rattle.taxi_units.specs.declared.event.Operating.TheVariants.{Off};
-ghost use Rattle.totaliser_store.specs.Ranges.{IsTrip};
+ghost use Rattle.totals_record.specs.Ranges.{IsTrip};
 ghost use Rattle.taxi_units.specs.declared.receipt.Kind.TheVariants.{Aborted};
 ghost use Rattle.meter_states.specs.Acts.{StayLawful};
 ghost use Rattle.meter_states.specs.Core.{Follows, plain_of};
@@ -19,11 +19,11 @@ ghost use Rattle.taxi_units.specs.Limits.{last_number, roaming_amid};
 use crate::act::{Act, Acts};
 use crate::meter_state::State;
 use crate::records::Closing;
-use seal_store::Seal;
+use seal_record::Seal;
 use std::sync::ledger::Ledger;
 use tariff_compile::Tables;
 use taxi_units::{Kind, LAST_NUMBER, Steps};
-use totaliser_store::Trip;
+use totals_record::Trip;
 
 impl State {
     /// The supply drops. At most 12 steps.

@@ -17,7 +17,7 @@ use crate::act::{Acts, refuse};
 use crate::facts::Facts;
 use crate::meter_state::State;
 use crate::records::Closing;
-use seal_store::Seal;
+use seal_record::Seal;
 use std::sync::ledger::Ledger;
 use tariff_compile::Tables;
 use taxi_units::{Kind, LONGEST_TRIP, Steps, Why};

@@ -5,7 +5,7 @@ ghost use Rattle.tariff_compile.specs.Tables.{AreFit, IsFitInitial, TableParts, 
 ghost use Rattle.tariff_syntax.specs.declared.context.Context.{Context};
 ghost use Rattle.taxi_units.specs.Money.{largest_amount};
 ghost use Rattle.taxi_units.specs.Time.{IsSecond, last_tick, longest_trip};
-ghost use Rattle.totaliser_store.specs.declared.trip.Trip as store;
+ghost use Rattle.totals_record.specs.declared.trip.Trip as store;
 ghost use Rattle.meter_states.specs.Lawful.{IsTrip};
 ghost use Rattle.meter_states.specs.Setting.{Setting, IsSettingOf, IsTariffOf};
 ghost use Rattle.meter_states.specs.Supplements.{supplement_in, times};
@@ -15,9 +15,9 @@ ghost use Rattle.taxi_units.specs.Limits.{largest_supplements, roaming_amid};
 use crate::lookups::modulus;
 use crate::meterage::add_charge;
 use drive_modes::{Meterage, Weights, charge};
-use seal_store::Seal;
+use seal_record::Seal;
 use tariff_compile::{Initial, Supplement, Tables};
-use totaliser_store::Trip;
+use totals_record::Trip;
 
 /// A trip that begins at a second, after these roaming pulses. What has a meaning in the store alone is
 /// as it stays while the meter is powered.

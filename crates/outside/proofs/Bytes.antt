@@ -1,6 +1,7 @@
 -- The bytes of an array or a slice are below 256.
 use Rattle.std.proofs.Common.{◌≡◌, ℕ, List, length, get_or, Fits, w8}
-use Rattle.outside.specs.Disk.{AreBytes, IsImage}
+use Rattle.taxi_units.specs.Bytes.{AreBytes}
+use Rattle.outside.specs.Disk.{IsImage}
 
 pub are_bytes : (image : List ℕ) → ((place : ℕ) → Fits w8 (get_or image place 0)) → AreBytes image
 are_bytes image each = λ place. (each place).fits

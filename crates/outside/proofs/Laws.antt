@@ -3,10 +3,11 @@ use Rattle.std.proofs.Common.{◌≡◌, inl, inr, ⊎_elim, ℕ, zero, suc, ◌
 use Rattle.std.proofs.lemmas.List.{append-nil, ext_get_or, get_or-take, get_or-drop, take-append-le, take_all}
 use Rattle.std.proofs.Math.Seq.{take-append-add}
 use Rattle.outside.specs.declared.board.Board.{Ghosts}
-use Rattle.outside.specs.Disk.{AreBytes, IsWithin, MayLeave, MayLeaveAmid, SameBut}
+use Rattle.taxi_units.specs.Bytes.{AreBytes}
+use Rattle.outside.specs.Disk.{IsWithin, MayLeave, MayLeaveAmid, SameBut}
 pub use Rattle.outside.specs.MomentLaws.{counts_now}
 pub use Rattle.outside.proofs.Rises.{cause_behind, left_by_ok, may_rise_behind, may_rise_by, may_rise_more, may_rise_not}
-pub use Rattle.outside.proofs.Rises.{rises_behind, rises_by, rises_not, rose_behind}
+pub use Rattle.outside.proofs.Rises.{on_failed, rises_behind, rises_by, rises_not, rose_behind}
 use Rattle.outside.specs.Printing.{Begins}
 use Rattle.outside.specs.Runs.{KeepsStore, LeavesNow, LeavesOnly, MayHold, PrintTakes}
 

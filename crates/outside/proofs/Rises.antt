@@ -1,7 +1,13 @@
--- What a count of faults says of a call behind others that left it.
-use Rattle.std.proofs.Common.{◌≡◌, ℕ, inl, inr, Result, Ok, IsErr, is_err, ap, sym, subst, ◌∙◌}
+-- What a call that failed leaves, and what a count of faults says of a call behind others that left it.
+use Rattle.std.proofs.Common.{◌≡◌, ℕ, true, false, inl, inr, Result, Ok, Err, IfOk, IsErr, is_err}
+use Rattle.std.proofs.Common.{ap, sym, subst, ◌∙◌}
 use Rattle.std.proofs.lemmas.Bool.{false≢true}
 use Rattle.outside.specs.Faults.{HasCause, MayRise, RisesOnlyIf, Rose}
+
+-- of a call that failed nothing is said that holds of its value
+pub on_failed : {A E : Type 0} (r : Result A E) (P : A → Type 0) → IsErr r → IfOk r P
+on_failed (Ok value) P failed = absurd (let bad : false ≡ true = failed in cc)
+on_failed (Err fault) P failed = tt
 
 -- a count that rose behind calls that left it rose over all of them
 pub rose_behind : (before between now : ℕ) → between ≡ before → Rose between now → Rose before now

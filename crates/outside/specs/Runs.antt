@@ -1,7 +1,8 @@
 -- Rules: what a run of calls leaves of a board, over the meanings of the board as a whole.
 use Rattle.std.specs.Prelude.{◌≡◌, ◌⊎◌, ℕ, ◌≤◌, List}
 use Rattle.outside.specs.declared.board.Board.{Ghosts}
-use Rattle.outside.specs.Disk.{AreBytes, Elapses, MayLeave, MayLeaveAmid, SameBut}
+use Rattle.taxi_units.specs.Bytes.{AreBytes}
+use Rattle.outside.specs.Disk.{Elapses, MayLeave, MayLeaveAmid, SameBut}
 
 -- a store may hold an image after a cut if it has any bytes at the places in flight and all others as a read gives
 -- them

@@ -16,7 +16,7 @@ use Rattle.taxi_units.specs.declared.receipt.Receipt.{Receipt}
 use Rattle.receipt_text.specs.Digests.{byte_at, bytes_at, digest_at, hex_value}
 use Rattle.receipt_text.specs.Lines.{calculation_at, heading_at, kind_at, minimum_at, part_at, sums_at, taxi_at, trip_at}
 use Rattle.receipt_text.specs.Part.{Part, IsDigest, IsPart}
-use Rattle.seal_store.specs.Ranges.{IsTaxi}
+use Rattle.seal_record.specs.Ranges.{IsTaxi}
 use Rattle.receipt_text.specs.Receipts.{calculation_text, course_text, day_text, fare_text, heading_text, hex_digit, hex_text, kind_text, minimum_text, part_text, stamp_text, sums_text, supplements_text, trip_text}
 use Rattle.receipt_text.proofs.Again.{amount_again, number_again, word_again}
 use Rattle.receipt_text.proofs.Dates.{day_again, stamp_again}

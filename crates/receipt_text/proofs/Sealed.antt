@@ -1,6 +1,6 @@
 -- What a receipt says of a seal is in its ranges.
-use Rattle.seal_store.specs.declared.seal.Seal.{Seal}
-use Rattle.seal_store.specs.Ranges.{IsSeal}
+use Rattle.seal_record.specs.declared.seal.Seal.{Seal}
+use Rattle.seal_record.specs.Ranges.{IsSeal}
 use Rattle.receipt_text.specs.Part.{IsDigest, IsPart}
 use Rattle.receipt_text.specs.SealParts.{part_of}
 

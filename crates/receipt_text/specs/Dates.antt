@@ -3,7 +3,7 @@
 use Rattle.std.specs.Prelude.{ℕ, ◌+◌, ◌*◌, ◌&&◌, nat_le, if◌then◌else◌, ℤ, pos, List, Option, Some, None, codes}
 use Rattle.interval_clock.specs.Calendar.{day_number_of, is_date}
 use Rattle.interval_clock.specs.declared.day_numbers.CalendarDate.{CalendarDate}
-use Rattle.seal_store.specs.Limits.{first_day, last_day}
+use Rattle.seal_record.specs.Limits.{first_day, last_day}
 use Rattle.taxi_units.specs.Reading.{◌>>=◌, word_at}
 use Rattle.taxi_units.specs.declared.receipt.Stamp.{Stamp}
 use Rattle.receipt_text.specs.Figures.{number_below}

@@ -1,8 +1,8 @@
 -- Rules: what a receipt says of the meter's seal.
 use Rattle.std.specs.Prelude.{◌≡◌, ℕ, ◌<◌, ◌≤◌, ℤ, List, length}
 use Rattle.std.specs.List.{AllByRecursion}
-use Rattle.pulse_input.specs.Constant.{least_constant, greatest_constant}
-use Rattle.seal_store.specs.Ranges.{IsDay, IsTaxi}
+use Rattle.drive_modes.specs.Constant.{least_constant, greatest_constant}
+use Rattle.seal_record.specs.Ranges.{IsDay, IsTaxi}
 
 -- a part of a seal is the taxi identifier, the constant in pulses per kilometre, the day number of the date of
 -- securing, and the digest of the tariff's text

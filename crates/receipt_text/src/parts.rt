@@ -8,7 +8,7 @@ ghost use Rattle.receipt_text.specs.Lines as spec;
 ghost use Rattle.receipt_text.specs.Part.{IsDigest, IsPart};
 ghost use Rattle.receipt_text.specs.Receipts.{day_text, part_text};
 ghost use Rattle.receipt_text.specs.SealParts.{part_of};
-ghost use Rattle.seal_store.specs.Ranges.{IsDay, IsSeal};
+ghost use Rattle.seal_record.specs.Ranges.{IsDay, IsSeal};
 ghost use Rattle.taxi_units.specs.Identifier.{is_identifier_character};
 
 use crate::digest::{digest_at, hex_of};
@@ -16,7 +16,7 @@ use crate::fields::{put_figure, put_text};
 use crate::figures::number_below;
 use crate::stamps::{day_at, put_day};
 use arrayvec::ArrayVec;
-use seal_store::Seal;
+use seal_record::Seal;
 use std::marker::Model;
 use taxi_units::{Line, LineFull, is_identifier_character, put_bytes, word};
 

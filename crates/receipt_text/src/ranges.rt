@@ -3,15 +3,15 @@ ghost use Rattle.std.specs.Prelude.{◌≡◌, ◌≢◌, ◌↔◌, ◌≤◌, 
 ghost use Rattle.std.specs.List.{AllByRecursion};
 ghost use Rattle.taxi_units.specs.Shown.{IsReceipt, IsStamp, fare_of};
 ghost use Rattle.taxi_units.specs.declared.receipt.Kind.TheVariants.{Roam};
-ghost use Rattle.pulse_input.specs.Constant.{least_constant, greatest_constant};
+ghost use Rattle.drive_modes.specs.Constant.{least_constant, greatest_constant};
 ghost use Rattle.receipt_text.specs.Part.{IsDigest, IsPart};
 ghost use Rattle.receipt_text.specs.ReceiptRanges.{HasAmounts, HasNumbers};
-ghost use Rattle.seal_store.specs.Ranges.{IsDay, IsTaxi};
+ghost use Rattle.seal_record.specs.Ranges.{IsDay, IsTaxi};
 ghost use Rattle.taxi_units.specs.Identifier.{IsIdentifierCharacter};
 
 use crate::parts::SealPart;
-use pulse_input::{GREATEST_CONSTANT, LEAST_CONSTANT};
-use seal_store::{FIRST_DAY, LAST_DAY};
+use drive_modes::{GREATEST_CONSTANT, LEAST_CONSTANT};
+use seal_record::{FIRST_DAY, LAST_DAY};
 use taxi_units::{
     Kind, LARGEST_AMOUNT, LARGEST_SUPPLEMENTS, Receipt, Stamp, is_date, is_identifier_character,
 };

@@ -3,7 +3,7 @@ ghost use Rattle.std.specs.Prelude.{◌≡◌, ◌+◌, ◌≤◌, ◌++◌, ◌
 ghost use Rattle.arrayvec.specs.ArrayVec.{array_vec_len};
 ghost use Rattle.taxi_units.specs.Line.{line_size};
 ghost use Rattle.taxi_units.specs.Shown.{IsReceipt};
-ghost use Rattle.seal_store.specs.Ranges.{IsDay, IsSeal};
+ghost use Rattle.seal_record.specs.Ranges.{IsDay, IsSeal};
 ghost use Rattle.receipt_text.specs.Receipts.{body_text, receipt_text};
 ghost use Rattle.receipt_text.specs.SealParts.{part_of};
 ghost use Rattle.receipt_text.specs.Spelling.{IsSpelled};
@@ -13,7 +13,7 @@ use crate::headings::put_heading;
 use crate::parts::{SealPart, part_of, put_part};
 use crate::sums::{put_minimum, put_sums, put_total};
 use crate::trips::put_trip;
-use seal_store::Seal;
+use seal_record::Seal;
 use taxi_units::{Line, LineFull, Receipt, put_bytes};
 
 /// Appends the text of a receipt: its number and kind, what it says of the meter's seal, the trip, the

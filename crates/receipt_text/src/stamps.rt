@@ -3,13 +3,13 @@ ghost use Rattle.std.specs.Prelude.{◌≡◌, ◌+◌, ◌<◌, ◌≤◌, ◌+
 ghost use Rattle.arrayvec.specs.ArrayVec.{array_vec_len};
 ghost use Rattle.taxi_units.specs.Line.{line_size};
 ghost use Rattle.taxi_units.specs.Reading.{Gives, GivesSame};
-ghost use Rattle.seal_store.specs.Ranges.{IsDay};
+ghost use Rattle.seal_record.specs.Ranges.{IsDay};
 ghost use Rattle.receipt_text.specs.Dates as spec;
 ghost use Rattle.receipt_text.specs.Receipts.{date_text, day_text, stamp_text, time_text};
 
 use crate::figures::number_below;
 use interval_clock::{CalendarDate, date_of_day, day_number};
-use seal_store::{FIRST_DAY, LAST_DAY};
+use seal_record::{FIRST_DAY, LAST_DAY};
 use taxi_units::{Line, LineFull, Stamp, put_bytes, put_padded, word};
 
 /// Appends a date.

@@ -17,10 +17,10 @@ use Rattle.taxi_units.specs.declared.event.Operating.TheVariants.{Off, ForHire, 
 use Rattle.taxi_units.specs.declared.event.Why.TheVariants as why
 use Rattle.taxi_units.specs.declared.receipt.Display.{Display}
 use Rattle.taxi_units.specs.declared.receipt.Kind.TheVariants as kinds
-use Rattle.totaliser_store.specs.States.{after, first_state}
-use Rattle.totaliser_store.specs.declared.change.Change.TheVariants as changes
-use Rattle.totaliser_store.specs.declared.durable.Durable.{Durable}
-use Rattle.totaliser_store.specs.declared.trip.Trip as store
+use Rattle.totals_record.specs.States.{after, first_state}
+use Rattle.totals_record.specs.declared.change.Change.TheVariants as changes
+use Rattle.totals_record.specs.declared.durable.Durable.{Durable}
+use Rattle.totals_record.specs.declared.trip.Trip as store
 use Rattle.tariff_calendar.specs.Lists.{is_holiday}
 use Rattle.tariff_check.specs.Faults.{IsSound}
 use Rattle.tariff_check.specs.Parts.{positions_of, zones_of}

@@ -14,10 +14,10 @@ use Rattle.taxi_units.specs.declared.receipt.Display.{Display}
 use Rattle.taxi_units.specs.declared.receipt.Kind.{Kind}
 use Rattle.taxi_units.specs.declared.receipt.Kind.TheVariants as kinds
 use Rattle.taxi_units.specs.declared.receipt.Receipt as receipts
-use Rattle.totaliser_store.specs.Entries.{closes}
-use Rattle.totaliser_store.specs.States.{after}
-use Rattle.totaliser_store.specs.declared.entry.Entry.{Entry}
-use Rattle.totaliser_store.specs.declared.trip.Trip as store
+use Rattle.totals_record.specs.Entries.{closes}
+use Rattle.totals_record.specs.States.{after}
+use Rattle.totals_record.specs.declared.entry.Entry.{Entry}
+use Rattle.totals_record.specs.declared.trip.Trip as store
 use Rattle.tariff_check.specs.Parts.{positions_of, zones_of}
 use Rattle.tariff_compile.specs.Tables.{initial_by, supplement_at}
 use Rattle.tariff_compile.specs.declared.parts.Supplement.{Supplement}

@@ -5,8 +5,8 @@ use Rattle.drive_modes.specs.Fare.{shown_fare, steps_above}
 use Rattle.drive_modes.specs.declared.meterage.Meterage.{Meterage}
 use Rattle.drive_modes.specs.declared.meterage.Rounding.{Rounding}
 use Rattle.taxi_units.specs.declared.receipt.Kind.{Kind}
-use Rattle.totaliser_store.specs.declared.trip.Trip as store
-use Rattle.pulse_input.specs.Distance.{millimetres_of}
+use Rattle.totals_record.specs.declared.trip.Trip as store
+use Rattle.drive_modes.specs.Distance.{millimetres_of}
 use Rattle.tariff_compile.specs.Tables.{supplement_at}
 use Rattle.tariff_compile.specs.declared.parts.Initial.{Initial}
 use Rattle.meter_states.specs.Closing.{entry_of, receipt_of}

@@ -2,8 +2,8 @@
 use Rattle.std.specs.Prelude.{◌≡◌, ℕ, ◌*◌, ◌<◌, List, [], ◌∷◌, Option, Some, None}
 use Rattle.drive_modes.specs.Fare.{Opening}
 use Rattle.drive_modes.specs.declared.meterage.Meterage.{Meterage}
-use Rattle.totaliser_store.specs.declared.durable.Durable.{Durable}
-use Rattle.totaliser_store.specs.declared.trip.Trip as store
+use Rattle.totals_record.specs.declared.durable.Durable.{Durable}
+use Rattle.totals_record.specs.declared.trip.Trip as store
 use Rattle.meter_states.specs.Meter.{Meter, Outcome}
 use Rattle.meter_states.specs.Setting.{Setting, unit_of}
 use Rattle.meter_states.specs.Trip.{Trip, charges_of, pulses_of, ticks_of}

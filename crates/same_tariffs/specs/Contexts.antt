@@ -2,7 +2,7 @@
 use Rattle.std.specs.Prelude.{◌≡◌, ℕ, min, unsigned_abs}
 use Rattle.interval_clock.specs.LocalTime.{day_of, local_second, minute_of_day}
 use Rattle.interval_clock.specs.Offsets.{IsOffsetList}
-use Rattle.pulse_input.specs.Constant.{least_constant, greatest_constant}
+use Rattle.drive_modes.specs.Constant.{least_constant, greatest_constant}
 use Rattle.tariff_check.specs.Faults.{IsSound}
 use Rattle.tariff_compare.specs.Contexts.{IsMeterContext, context_at, most_pulses}
 use Rattle.tariff_compare.specs.declared.meter_context.MeterContext.{MeterContext}

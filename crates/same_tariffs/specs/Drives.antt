@@ -19,7 +19,7 @@ use Rattle.meter_states.specs.Run.{opened, run}
 use Rattle.meter_states.specs.Setting.{Setting, unit_of}
 use Rattle.meter_states.specs.Trip.{Trip}
 use Rattle.same_tariffs.specs.Contexts.{without_trip}
-use Rattle.totaliser_store.specs.States.{first_state}
+use Rattle.totals_record.specs.States.{first_state}
 
 -- a meter under one offset goes by a tariff and its own parameters, with that offset at all seconds
 abbrev pub under_offset : Tree → (k : ℕ) → Mode → (hold : ℕ) → (offset : ℤ) → Setting

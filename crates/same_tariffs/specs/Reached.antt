@@ -1,7 +1,7 @@
 -- Rules: the states that a meter comes to in runs.
 use Rattle.std.specs.Prelude.{ℕ, ◌≤◌, Option, Some, None}
 use Rattle.taxi_units.specs.Time.{IsSecond, last_tick}
-use Rattle.totaliser_store.specs.declared.trip.Trip as store
+use Rattle.totals_record.specs.declared.trip.Trip as store
 use Rattle.tariff_check.specs.Parts.{positions_of, zones_of}
 use Rattle.tariff_syntax.specs.Tree.{Tree}
 use Rattle.tariff_syntax.specs.Writable.{IsFromTo}

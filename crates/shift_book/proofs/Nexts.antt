@@ -1,6 +1,6 @@
 -- The mark at the front of a text is the one that is read there.
 use Rattle.std.proofs.Common.{◌≡◌, ℕ, List, Option, Some, None, ap, ◌∙◌, arith}
-use Rattle.totaliser_store.specs.declared.durable.Durable.{Durable}
+use Rattle.totals_record.specs.declared.durable.Durable.{Durable}
 use Rattle.taxi_units.specs.Reading.{word_at}
 use Rattle.taxi_units.proofs.Laws.{words_are_read_by_their_text}
 use Rattle.shift_book.specs.declared.numbers.Numbers.{Numbers}

@@ -8,7 +8,7 @@ use crate::mark::Mark;
 use crate::numbers::numbers_in;
 use std::alloc::Global;
 use thiserror::Error;
-use totaliser_store::Durable;
+use totals_record::Durable;
 
 /// Why a text is no book.
 #[derive(Clone, Copy, Debug, PartialEq, Eq, Error)]

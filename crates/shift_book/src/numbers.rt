@@ -9,7 +9,7 @@ ghost use Rattle.shift_book.specs.Reading as spec;
 
 use crate::digits::digits_at;
 use taxi_units::{Line, push_bytes, push_number, word};
-use totaliser_store::Durable;
+use totals_record::Durable;
 
 /// The number of a state, and its totals in the order of a mark.
 #[derive(Clone, Copy)]

@@ -13,7 +13,7 @@ use crate::sums::{Sums, sums_of};
 use arrayvec::ArrayVec;
 use std::alloc::Global;
 use taxi_units::{Line, NoMemory, push_bytes, push_money, push_number};
-use totaliser_store::Durable;
+use totals_record::Durable;
 
 /// The report of a book beside the state of the store that it was read for: a line for each shift, one
 /// for each driver in byte order, the growth while nobody was on, and all growth. Each has the hirings,

@@ -1,7 +1,8 @@
 -- The laws that the public empty functions state.
 use Rattle.std.proofs.Common.{◌≡◌, inl, inr, ◌↔◌, ℕ, ◌+◌, ◌*◌, ◌≤◌, List, Option, Some, None, Result, Ok, length, take, drop, zero, suc, refl, arith, get_or, replicate, length-take, length-drop}
 use Rattle.outside.specs.declared.board.Board.{Ghosts}
-use Rattle.outside.specs.Disk.{AreBytes, SameBut}
+use Rattle.taxi_units.specs.Bytes.{AreBytes}
+use Rattle.outside.specs.Disk.{SameBut}
 use Rattle.outside.proofs.Laws.{slice_bytes}
 use Rattle.slot_store.specs.declared.pair.Pair.{Pair}
 use Rattle.slot_store.specs.declared.pair.Place.{Place}
@@ -12,7 +13,7 @@ use Rattle.slot_store.specs.Slots.{IsQuiet, IsSamePair, IsBlank, IsOpen, IsAt, I
 use Rattle.slot_store.specs.Scan.{found_at, IsAnswer}
 use Rattle.slot_store.specs.Stages.{spare_at, IsPair, IsReady, IsReadyAt}
 use Rattle.slot_store.specs.Writes.{IsApart, OrWithin, LeavesThroughout, WritesIn}
-pub use Rattle.slot_store.proofs.Causes.{on_failed, fewer_steps, steps_then}
+pub use Rattle.slot_store.proofs.Causes.{fewer_steps, steps_then}
 use Rattle.slot_store.proofs.Findings as findings
 use Rattle.slot_store.proofs.Moments as moments
 use Rattle.slot_store.proofs.Ordered as ordered

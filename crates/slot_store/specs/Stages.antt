@@ -1,7 +1,7 @@
 -- Rules: the three stages in which a pair of slots gets a new body.
 use Rattle.std.specs.Prelude.{◌≡◌, ℕ, ◌-◌, ◌<◌, ◌≤◌, Bool, false, List, Option, Some, None, is_some}
 use Rattle.outside.specs.declared.board.Board.{Ghosts}
-use Rattle.slot_store.specs.declared.body.Body.{Ghosts as BodyGhosts}
+use Rattle.slot_bodies.specs.declared.body.Body.{Ghosts as BodyGhosts}
 use Rattle.slot_store.specs.declared.pair.Pair.{Pair}
 use Rattle.slot_store.specs.declared.pair.Place.{Place}
 use Rattle.slot_store.specs.Sizes.{last_pair}

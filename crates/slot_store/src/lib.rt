@@ -3,8 +3,6 @@
 //! its sync. All of it is this project's own.
 #![tactic(auto)]
 
-mod body;
-mod body_bytes;
 mod durable;
 mod found;
 mod pair;
@@ -17,8 +15,6 @@ mod storing;
 mod sync_laws;
 mod written;
 
-pub use body::{BODY_SIZE, Body};
-pub use body_bytes::{Spelled, eight_at, four_at, put_bytes, two_at};
 pub use found::{Found, SlotFault};
 pub use pair::{Pair, Place};
 pub use pair_laws::{

@@ -1,20 +1,22 @@
 //! What the answers of a scan mean, and what stays of a pair, in words that share nothing with how
 //! the code finds it.
 ghost use Rattle.std.specs.Prelude.{◌≡◌, ◌↔◌, ℕ, ◌+◌, ◌≤◌, List, length, take, drop, Option, Some, Result, Ok};
-ghost use Rattle.outside.specs.Disk.{AreBytes, SameBut};
+ghost use Rattle.taxi_units.specs.Bytes.{AreBytes};
+ghost use Rattle.outside.specs.Disk.{SameBut};
 ghost use Rattle.slot_store.specs.declared.pair.Pair.{Pair};
 ghost use Rattle.slot_store.specs.declared.pair.Place.{Place};
 ghost use Rattle.slot_store.specs.declared.found.Found.{Found};
 ghost use Rattle.slot_store.specs.declared.found.Found.TheVariants.{Latest};
 ghost use Rattle.slot_store.specs.declared.found.SlotFault.{SlotFault};
-ghost use Rattle.slot_store.specs.Sizes.{body_size, slot_size, pair_size};
+ghost use Rattle.slot_bodies.specs.Bodies.{body_size};
+ghost use Rattle.slot_store.specs.Sizes.{slot_size, pair_size};
 ghost use Rattle.slot_store.specs.Slots.{IsQuiet, IsSamePair, IsBlank, IsOpen, IsAt, FliesNoMore, StandsFor, Shows, ShowsEither};
 ghost use Rattle.slot_store.specs.Scan.{found_at, IsAnswer};
 ghost use Rattle.slot_store.specs.Stages.{spare_at, IsPair, IsReadyOn, IsSettledOn};
 ghost use Rattle.slot_store.specs.Writes.{IsApart, OrWithin, LeavesThroughout, WritesIn};
 
-use crate::Body;
 use outside::Board;
+use slot_bodies::Body;
 use std::sync::ledger::Ledger;
 
 /// The answer to a pair of slots is the one that its image calls for, and there is just one.

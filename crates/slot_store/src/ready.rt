@@ -9,8 +9,9 @@ ghost use Rattle.slot_store.specs.Writes.{LeavesThroughout, WritesIn};
 
 use crate::durable::write_and_sync;
 use crate::pair::CLOSED;
-use crate::{Body, Pair, Place, Shut};
+use crate::{Pair, Place, Shut};
 use outside::{Board, Failed};
+use slot_bodies::Body;
 use std::marker::Model;
 use std::sync::ledger::Ledger;
 use taxi_units::Steps;

@@ -10,8 +10,9 @@ ghost use Rattle.slot_store.specs.Verdicts.{held, verdict_on};
 
 use crate::found::Held;
 use crate::pair::{OPEN, SLOT_SIZE};
-use crate::{BODY_SIZE, Body, Found, Place, SlotFault};
+use crate::{Found, Place, SlotFault};
 use outside::{Board, Failed};
+use slot_bodies::{BODY_SIZE, Body};
 use std::sync::ledger::Ledger;
 use taxi_units::Steps;
 

@@ -2,14 +2,16 @@
 ghost use Rattle.std.specs.Prelude.{◌≡◌, ◌+◌, ◌≤◌, take, drop, Option, IfOk, OnOk};
 ghost use Rattle.outside.specs.Faults.{HasCause};
 ghost use Rattle.slot_store.specs.declared.pair.Pair.{Pair};
-ghost use Rattle.slot_store.specs.Sizes.{body_size, slot_size};
+ghost use Rattle.slot_bodies.specs.Bodies.{body_size};
+ghost use Rattle.slot_store.specs.Sizes.{slot_size};
 ghost use Rattle.slot_store.specs.Slots.{Shows};
 ghost use Rattle.slot_store.specs.Stages.{spare_at, IsPair, IsBefore, IsShutOn, IsWrittenOn};
 ghost use Rattle.slot_store.specs.Writes.{LeavesThroughout, WritesIn};
 
 use crate::durable::write_and_sync;
-use crate::{BODY_SIZE, Body, Pair, Written};
+use crate::{Pair, Written};
 use outside::{Board, Failed};
+use slot_bodies::{BODY_SIZE, Body};
 use std::marker::Model;
 use std::sync::ledger::Ledger;
 use taxi_units::Steps;

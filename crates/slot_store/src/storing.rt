@@ -8,8 +8,9 @@ ghost use Rattle.slot_store.specs.Stages.{spare_at, is_spare_open, new_place, Is
 ghost use Rattle.slot_store.specs.Writes.{LeavesThroughout, WritesIn};
 ghost use Rattle.slot_store.specs.Order.{AreNewer, last_of, ShowsOne, GetsEach, StoresSome};
 
-use crate::{Body, Place, Ready};
+use crate::{Place, Ready};
 use outside::{Board, Failed};
+use slot_bodies::Body;
 use std::sync::ledger::Ledger;
 use taxi_units::Steps;
 

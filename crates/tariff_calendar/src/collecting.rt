@@ -8,8 +8,8 @@ ghost use Rattle.tariff_check.specs.Sound.{IsSoundHoliday};
 ghost use Rattle.tariff_syntax.specs.Tree.{entry_of, line_of};
 ghost use Rattle.tariff_syntax.specs.Writable.{greatest};
 
+use drive_modes::Constant;
 use interval_clock::day_number;
-use pulse_input::Constant;
 use std::alloc::Global;
 use std::collections::BTreeSet;
 use tariff_syntax::{Item, TariffLine};

@@ -6,7 +6,7 @@ ghost use Rattle.tariff_syntax.specs.Tree.{tree_of};
 
 use crate::collecting::{holiday_days, in_pulses};
 use crate::lookups::{count, count_until, has};
-use pulse_input::Constant;
+use drive_modes::Constant;
 use std::alloc::Global;
 use std::marker::Model;
 use std::sync::ledger::Ledger;

@@ -3,7 +3,7 @@ use Rattle.std.specs.Prelude.{◌≡◌, ℕ, ◌+◌, ◌≤◌, if◌then◌el
 use Rattle.interval_clock.specs.Calendar.{date_after, date_place, weekday_of}
 use Rattle.interval_clock.specs.LocalTime.{day_of, minute_of_day}
 use Rattle.interval_clock.specs.Offsets.{IsOffset}
-use Rattle.pulse_input.specs.Constant.{least_constant, greatest_constant}
+use Rattle.drive_modes.specs.Constant.{least_constant, greatest_constant}
 use Rattle.tariff_calendar.specs.Lists.{is_holiday}
 use Rattle.tariff_check.specs.Faults.{IsSound}
 use Rattle.tariff_check.specs.Parts.{positions_of, zones_of}

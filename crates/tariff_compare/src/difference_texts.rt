@@ -6,7 +6,7 @@ ghost use Rattle.tariff_compare.specs.DifferenceTexts.{IsDatedDifference, IsDate
 use crate::difference::Difference;
 use crate::sayings::line_saying;
 use crate::texts::{push_context, push_decimal};
-use pulse_input::Constant;
+use drive_modes::Constant;
 use std::alloc::{AllocError, Global};
 use tariff_check::Checked;
 use tariff_syntax::{LineKind, Tariff, TariffLine, print_line};

@@ -12,8 +12,8 @@ ghost use Rattle.tariff_compare.specs.DifferenceTexts.{IsDatedDifference, is_in_
 use crate::day::weekday_of;
 use crate::difference::Difference;
 use crate::meter_context::MeterContext;
+use drive_modes::Constant;
 use interval_clock::{CalendarDate, date_of_day};
-use pulse_input::Constant;
 use tariff_syntax::{Cond, Context, Item, LineKind, Tariff, TariffLine, sat, when_of};
 use taxi_units::date_place;
 

@@ -5,7 +5,7 @@ ghost use Rattle.tariff_compare.specs.Sides.{side_of};
 ghost use Rattle.tariff_syntax.specs.Tree.{tree_of};
 
 use crate::costs::{RateCosts, all_costs, costs_at};
-use pulse_input::Constant;
+use drive_modes::Constant;
 use std::alloc::Global;
 use std::marker::Model;
 use tariff_check::Checked;

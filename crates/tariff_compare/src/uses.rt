@@ -11,7 +11,7 @@ use crate::meter_context::MeterContext;
 use crate::question::Question;
 use crate::search::first_met;
 use crate::side::Side;
-use pulse_input::Constant;
+use drive_modes::Constant;
 use std::alloc::Global;
 use tariff_check::Checked;
 use tariff_syntax::{Item, LineKind, TariffLine, when_of};

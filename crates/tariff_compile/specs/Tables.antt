@@ -5,7 +5,7 @@ use Rattle.std.specs.Option.{unwrap_or, option_map}
 use Rattle.drive_modes.specs.declared.charges.Weights.{Weights}
 use Rattle.drive_modes.specs.declared.meterage.Rounding.{Rounding}
 use Rattle.drive_modes.specs.declared.meterage.Rounding.TheVariants.{Behind}
-use Rattle.pulse_input.specs.Constant.{least_constant, greatest_constant}
+use Rattle.drive_modes.specs.Constant.{least_constant, greatest_constant}
 use Rattle.taxi_units.specs.Money.{largest_amount}
 use Rattle.tariff_syntax.specs.Meaning.{rate_place, initial_place, minimum_place}
 use Rattle.tariff_syntax.specs.Tree.{Tree}

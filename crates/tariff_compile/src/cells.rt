@@ -13,7 +13,7 @@ use crate::bands::{bands_of, sizes_of};
 use crate::contexts::context_in;
 use crate::marking::{first_marked, marks_of_each};
 use crate::parts::{Bands, CellLines};
-use pulse_input::Constant;
+use drive_modes::Constant;
 use std::alloc::Global;
 use tariff_calendar::Cuts;
 use tariff_check::Checked;

@@ -6,7 +6,7 @@ ghost use Rattle.tariff_syntax.specs.Tree.{tree_of};
 use crate::cells::all_cells;
 use crate::lines::{all_initials, all_minimums, all_supplements, all_weights};
 use crate::tables::Tables;
-use pulse_input::Constant;
+use drive_modes::Constant;
 use std::alloc::Global;
 use tariff_calendar::Cuts;
 use tariff_check::Checked;

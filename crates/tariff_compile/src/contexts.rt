@@ -7,7 +7,7 @@ ghost use Rattle.tariff_syntax.specs.Meaning.{at_hiring};
 ghost use Rattle.tariff_syntax.specs.declared.context.Context.{Context};
 
 use crate::parts::Bands;
-use pulse_input::Constant;
+use drive_modes::Constant;
 use std::sync::ledger::Ledger;
 use tariff_calendar::{Cuts, count_at_most};
 use tariff_check::Dimension;

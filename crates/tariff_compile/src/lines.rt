@@ -8,8 +8,7 @@ ghost use Rattle.tariff_compile.specs.Tables.{fee_of, supplement_in, weights_of}
 ghost use Rattle.tariff_syntax.specs.Tree.{line_of};
 
 use crate::parts::{Fee, Supplement};
-use drive_modes::Weights;
-use pulse_input::Constant;
+use drive_modes::{Constant, Weights};
 use std::alloc::Global;
 use tariff_syntax::{Item, RateLine, TariffLine};
 use taxi_units::NoMemory;

@@ -2,7 +2,7 @@
 ghost use Rattle.std.specs.Prelude.{◌≡◌, ℕ, [], ◌∷◌, ◌+◌, ◌*◌, ◌^◌, ◌<◌, ◌≤◌, ◌≤ℤ◌, ◌++◌, ◌↔◌, true, pos, length, min, slice_index, IsOk, OnOk, OnErr};
 ghost use Rattle.arrayvec.specs.ArrayVec.{array_vec_len};
 ghost use Rattle.interval_clock.specs.Calendar.{IsDateOf};
-ghost use Rattle.pulse_input.specs.Constant.{least_constant, greatest_constant};
+ghost use Rattle.drive_modes.specs.Constant.{least_constant, greatest_constant};
 ghost use Rattle.tariff_calendar.specs.Lists.{has_day, has_days, is_holiday};
 ghost use Rattle.tariff_compile.specs.Cells.{IsBelow, cell_number};
 ghost use Rattle.tariff_compile.specs.Near.{IsNear};
@@ -17,8 +17,7 @@ use crate::bands::{cell_number, sizes_of};
 use crate::contexts::{bands_at, bands_at_hiring, bands_until, plain_bands_at};
 use crate::parts::{Bands, CellLines, Fee, Initial, Lasting, Supplement};
 use crate::rows::{cell_row, initial_row, measure_row, minimum_row, rate_row};
-use drive_modes::{Rounding, Weights};
-use pulse_input::Constant;
+use drive_modes::{Constant, Rounding, Weights};
 use std::marker::Model;
 use std::sync::ledger::Ledger;
 use tariff_calendar::Cuts;

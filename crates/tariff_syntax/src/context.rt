@@ -1,5 +1,5 @@
 //! The context in which conditions are asked.
-use pulse_input::Constant;
+use drive_modes::Constant;
 
 /// What holds at the beginning of a measuring interval, in local time: the constant of the taximeter;
 /// the tariff position and the zone, from 1; the weekday, 1 for Monday to 7 for Sunday; the day's place

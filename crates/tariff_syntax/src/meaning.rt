@@ -11,7 +11,7 @@ ghost use Rattle.tariff_syntax.specs.Tree.{entry_of, line_of, tree_of};
 use crate::condition::Cond;
 use crate::context::Context;
 use crate::tariff::{Item, Tariff, TariffLine};
-use pulse_input::reached;
+use drive_modes::reached;
 use taxi_units::date_of_place;
 
 /// Whether a condition holds in a context. Dates are compared by month and date, also ones that no year

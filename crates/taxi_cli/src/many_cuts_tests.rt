@@ -11,7 +11,7 @@ use std::marker::Brand;
 use std::sync::ledger::{Blank, Ledger};
 use std::test::Fail;
 use taxi_units::{Kind, Receipt, Steps};
-use totaliser_store::Durable;
+use totals_record::Durable;
 
 /// Numbers from a seed: the high bits of a linear congruential sequence.
 #[derive(Drop)]

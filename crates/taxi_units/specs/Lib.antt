@@ -1,3 +1,4 @@
+pub mod Bytes
 pub mod Calendar
 pub mod Counted
 pub mod Decimal

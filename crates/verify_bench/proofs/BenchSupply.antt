@@ -9,7 +9,7 @@ use Rattle.meter_states.specs.Supply.{kept}
 use Rattle.meter_states.specs.Trip.{Trip}
 use Rattle.tariff_syntax.specs.declared.context.Context.{Context}
 use Rattle.taxi_units.specs.Limits.{last_number}
-use Rattle.totaliser_store.specs.declared.trip.Trip as store
+use Rattle.totals_record.specs.declared.trip.Trip as store
 use Rattle.taxi_units.specs.Time.{IsSecond}
 use Rattle.verify_bench.specs.Bench.{AreTrips, IsSoundHeld, Stands, held_of}
 use Rattle.verify_bench.specs.declared.hiring.Hiring.{Hiring}

@@ -30,7 +30,7 @@ use Rattle.verify_bench.specs.Groups.{groups_of, sums_of}
 use Rattle.verify_bench.specs.declared.explained.Group.{Group}
 use Rattle.verify_bench.specs.declared.explained.Taken.{Taken}
 use Rattle.verify_bench.proofs.Gathering.{zero_plus}
-use Rattle.totaliser_store.specs.Entries.{is_of_hiring}
+use Rattle.totals_record.specs.Entries.{is_of_hiring}
 use Rattle.taxi_units.specs.declared.receipt.Kind.{Kind}
 use Rattle.verify_bench.specs.Hirings.{IsTrip}
 use Rattle.verify_bench.specs.declared.expected.Expected.{Expected}

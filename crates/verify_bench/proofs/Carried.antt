@@ -11,7 +11,7 @@ use Rattle.meter_states.specs.Step.{step}
 use Rattle.taxi_units.specs.declared.event.Event.{Event}
 use Rattle.taxi_units.specs.declared.event.Event.TheVariants.{Down}
 use Rattle.tariff_syntax.specs.declared.context.Context.{Context}
-use Rattle.totaliser_store.specs.States.{first_state}
+use Rattle.totals_record.specs.States.{first_state}
 use Rattle.verify_bench.specs.Bench.{GoesThroughEvent, Stands}
 use Rattle.verify_bench.specs.Carrying.{Carries, IsAmid, IsAmidExpected}
 use Rattle.verify_bench.specs.Expecting.{expected_of}

@@ -35,8 +35,8 @@ use Rattle.taxi_units.specs.declared.event.Why.TheVariants.{TooFast}
 use Rattle.taxi_units.specs.declared.receipt.Kind.{Kind}
 use Rattle.taxi_units.specs.declared.receipt.Kind.TheVariants as kinds
 use Rattle.taxi_units.specs.declared.receipt.Receipt as receipts
-use Rattle.totaliser_store.specs.States.{first_state}
-use Rattle.totaliser_store.specs.declared.trip.Trip as store
+use Rattle.totals_record.specs.States.{first_state}
+use Rattle.totals_record.specs.declared.trip.Trip as store
 use Rattle.verify_bench.proofs.AmountSums.{all_numbers}
 use Rattle.verify_bench.proofs.Benches.{hired_after}
 use Rattle.verify_bench.proofs.TreeParts.{supplement_number}

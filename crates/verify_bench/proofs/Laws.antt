@@ -9,7 +9,7 @@ use Rattle.meter_states.specs.Setting.{Setting}
 use Rattle.tariff_check.specs.Faults.{IsSound}
 use Rattle.tariff_check.specs.Parts.{RateNumbers}
 use Rattle.taxi_units.specs.declared.event.Event.{Event}
-use Rattle.totaliser_store.specs.States.{first_state}
+use Rattle.totals_record.specs.States.{first_state}
 use Rattle.verify_bench.specs.Expecting.{expected_of, hirings_in, untimed}
 use Rattle.verify_bench.specs.Explaining.{Explanation, explanations_of}
 use Rattle.verify_bench.specs.Generated.{generated, generated_lines}

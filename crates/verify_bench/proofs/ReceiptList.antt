@@ -9,7 +9,7 @@ use Rattle.meter_states.specs.Step.{step}
 use Rattle.meter_states.specs.declared.act.Act.{Act}
 use Rattle.meter_states.specs.declared.act.Act.TheVariants.{Show, Refuse, Enter, Hold, Receipt}
 use Rattle.taxi_units.specs.declared.event.Event.{Event}
-use Rattle.totaliser_store.specs.States.{first_state}
+use Rattle.totals_record.specs.States.{first_state}
 use Rattle.verify_bench.specs.Expecting.{expected_of, hirings_from, hirings_in, ticks_at, untimed}
 use Rattle.verify_bench.specs.declared.expected.Expected.{Expected}
 use Rattle.verify_bench.proofs.Benches.{hirings_in-append}

@@ -14,7 +14,7 @@ use Rattle.taxi_units.specs.Time.{IsSecond, last_tick}
 use Rattle.taxi_units.specs.declared.event.Event.{Event}
 use Rattle.taxi_units.specs.declared.event.Key.{Key}
 use Rattle.taxi_units.specs.declared.event.Operating.TheVariants.{ForHire}
-use Rattle.totaliser_store.specs.declared.trip.Trip as store
+use Rattle.totals_record.specs.declared.trip.Trip as store
 use Rattle.verify_bench.specs.Explaining.{explanation_of, explanations_in, hired_at, hired_by, trip_at}
 use Rattle.verify_bench.specs.Hirings.{IsTrip, IsWhole}
 use Rattle.verify_bench.specs.declared.explained.Explained.{Explained}

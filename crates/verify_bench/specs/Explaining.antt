@@ -24,7 +24,7 @@ use Rattle.taxi_units.specs.declared.event.Key.TheVariants.{Hire}
 use Rattle.taxi_units.specs.declared.event.Operating.{Operating}
 use Rattle.taxi_units.specs.declared.event.Operating.TheVariants.{ForHire}
 use Rattle.taxi_units.specs.declared.receipt.Receipt.{Receipt}
-use Rattle.totaliser_store.specs.States.{first_state}
+use Rattle.totals_record.specs.States.{first_state}
 use Rattle.verify_bench.specs.Groups.{groups_of, is_rest, is_in_stopped, line_numbers, sums_of}
 use Rattle.verify_bench.specs.declared.explained.Explained.{Explained}
 use Rattle.verify_bench.specs.declared.explained.Group.{Group}

@@ -1,7 +1,7 @@
 -- Rules: what the bench goes by.
 use Rattle.meter_states.specs.Setting.{Setting}
-use Rattle.seal_store.specs.declared.params.Params.{Params}
-use Rattle.seal_store.specs.declared.seal.Seal.{Seal}
+use Rattle.seal_record.specs.declared.params.Params.{Params}
+use Rattle.seal_record.specs.declared.seal.Seal.{Seal}
 use Rattle.tariff_syntax.specs.Tree.{tree_of}
 use Rattle.tariff_syntax.specs.declared.tariff.Tariff.{Tariff}
 

@@ -9,7 +9,7 @@ use Rattle.meter_states.specs.Trip.{Trip}
 use Rattle.meter_states.specs.declared.act.Act.{Act}
 use Rattle.meter_states.specs.declared.act.Act.TheVariants as acts
 use Rattle.meter_states.specs.declared.act.Act.TheVariants.{Show, Refuse, Enter, Hold}
-use Rattle.pulse_input.specs.Distance.{millimetres_of}
+use Rattle.drive_modes.specs.Distance.{millimetres_of}
 use Rattle.tariff_check.specs.Parts.{RateNumbers}
 use Rattle.tariff_compile.specs.Tables.{initial_by}
 use Rattle.tariff_syntax.specs.Writable.{IsWritable}

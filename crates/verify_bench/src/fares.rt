@@ -8,7 +8,7 @@ ghost use Rattle.verify_bench.specs.Limits.{most_charge, most_money};
 ghost use Rattle.verify_bench.specs.Settings.{setting_under};
 
 use drive_modes::Rounding;
-use seal_store::Params;
+use seal_record::Params;
 use tariff_check::Checked;
 use tariff_compile::Initial;
 use taxi_units::LARGEST_AMOUNT;

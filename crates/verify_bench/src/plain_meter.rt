@@ -10,7 +10,7 @@ ghost use Rattle.meter_states.specs.Trip.{InHired, InStopped, Rest};
 ghost use Rattle.tariff_syntax.specs.declared.context.Context as contexts;
 ghost use Rattle.taxi_units.specs.Time.{IsSecond, last_tick, longest_trip};
 ghost use Rattle.taxi_units.specs.declared.event.Operating.TheVariants.{ForHire, Off};
-ghost use Rattle.totaliser_store.specs.Entries.{is_of_hiring};
+ghost use Rattle.totals_record.specs.Entries.{is_of_hiring};
 ghost use Rattle.verify_bench.specs.Settings.{setting_under};
 
 use crate::explained::Explained;
@@ -19,7 +19,7 @@ use crate::lookups::is_holiday;
 use crate::pricing::price_of;
 use crate::telling::{Closing, explained};
 use interval_clock::civil;
-use seal_store::Params;
+use seal_record::Params;
 use std::alloc::Global;
 use std::sync::ledger::Ledger;
 use tariff_check::Checked;

@@ -8,9 +8,8 @@ ghost use Rattle.verify_bench.specs.Tree.{numbers_of};
 
 use crate::explained::Way;
 use crate::lookups::{Rate, rate_at};
-use drive_modes::Mode;
-use pulse_input::Constant;
-use seal_store::Params;
+use drive_modes::{Constant, Mode};
+use seal_record::Params;
 use tariff_check::Checked;
 use tariff_syntax::{Context, rate_of};
 

@@ -3,7 +3,7 @@ ghost use Rattle.std.specs.Prelude.{◌≡◌, List, map};
 ghost use Rattle.meter_states.specs.Run.{actions_of};
 ghost use Rattle.meter_states.specs.Setting.{Setting};
 ghost use Rattle.taxi_units.specs.declared.event.Event.{Event};
-ghost use Rattle.totaliser_store.specs.States.{first_state};
+ghost use Rattle.totals_record.specs.States.{first_state};
 ghost use Rattle.verify_bench.specs.Expecting.{expected_of, hirings_in, untimed};
 
 /// The expected list has one hiring for each receipt of the meter's actions, from an empty store, in order,

@@ -10,14 +10,14 @@ ghost use Rattle.taxi_units.specs.Limits.{last_number};
 ghost use Rattle.taxi_units.specs.Time.{IsSecond, last_tick};
 ghost use Rattle.taxi_units.specs.declared.event.Event.TheVariants.{Down};
 ghost use Rattle.taxi_units.specs.declared.event.Operating.TheVariants.{Off};
-ghost use Rattle.totaliser_store.specs.declared.trip.Trip as store;
+ghost use Rattle.totals_record.specs.declared.trip.Trip as store;
 ghost use Rattle.verify_bench.specs.Bench.{held_of};
 ghost use Rattle.verify_bench.specs.Settings.{setting_under};
 ghost use Rattle.verify_bench.specs.Supplied.{waking};
 
 use crate::explained::Explained;
 use crate::plain_meter::{Held, PlainMeter};
-use seal_store::Params;
+use seal_record::Params;
 use std::alloc::Global;
 use std::sync::ledger::Ledger;
 use tariff_check::Checked;

@@ -7,7 +7,7 @@ ghost use Rattle.verify_bench.specs.Settings.{setting_under};
 
 use crate::explained::Explained;
 use crate::plain_meter::PlainMeter;
-use seal_store::Params;
+use seal_record::Params;
 use std::alloc::Global;
 use std::sync::ledger::Ledger;
 use tariff_check::Checked;

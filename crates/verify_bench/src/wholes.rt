@@ -7,7 +7,7 @@ ghost use Rattle.meter_states.specs.Setting.{Setting};
 ghost use Rattle.tariff_check.specs.Faults.{IsSound};
 ghost use Rattle.tariff_check.specs.Parts.{RateNumbers};
 ghost use Rattle.taxi_units.specs.declared.event.Event.{Event};
-ghost use Rattle.totaliser_store.specs.States.{first_state};
+ghost use Rattle.totals_record.specs.States.{first_state};
 ghost use Rattle.verify_bench.specs.Explaining.{Explanation, explanations_of};
 ghost use Rattle.verify_bench.specs.Groups.{way_by};
 ghost use Rattle.verify_bench.specs.Wholes.{ArePartsTheWhole, IsOfTrip, MakesReceipt, charge_in_way, receipts_in};

@@ -1,5 +1,5 @@
 //! What a text of a tariff comes to.
-use pulse_input::Constant;
+use drive_modes::Constant;
 use std::alloc::Global;
 use std::test::Fail;
 use tariff_check::{CheckFault, Checked, check};

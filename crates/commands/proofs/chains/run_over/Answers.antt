@@ -1,6 +1,6 @@
 use Rattle.std.proofs.Common.{◌∙◌, refl, sym, subst, List, [], ℕ}
 use Rattle.outside.specs.MemoryBoard.{BoardState, image_of, left_since_of, moment_of, new_board}
-use Rattle.totaliser_store.specs.Stored.{HasState}
+use Rattle.meter_store.specs.Stored.{HasState}
 use Rattle.commands.specs.ChainSteps.{HasLink}
 use Rattle.commands.specs.Link.{text_before}
 use Rattle.commands.proofs.ChainLinks.{linked, since_first}

@@ -1,7 +1,7 @@
 use Rattle.std.proofs.Common.{◌∙◌, ap, arith, Ok}
 use Rattle.slot_store.specs.Scan.{found_at}
-use Rattle.totaliser_store.specs.Reading.{reads}
-use Rattle.totaliser_store.specs.Stored.{number_of}
+use Rattle.totals_record.specs.Reading.{reads}
+use Rattle.meter_store.specs.Stored.{number_of}
 use Rattle.commands.proofs.ChainScan.{number_at, number_fails, number_not}
 use Rattle.commands.proofs.chains.stored_number.Goals as goal
 

@@ -3,7 +3,7 @@ use Rattle.std.proofs.lemmas.List.{append-nil}
 use Rattle.drive_text.specs.Runs.{run_events}
 use Rattle.drive_text.specs.declared.run.Run.{Run}
 use Rattle.outside.specs.Faults.{Rose}
-use Rattle.seal_store.specs.Reading.{params_read}
+use Rattle.seal_record.specs.Reading.{params_read}
 use Rattle.tariff_syntax.specs.Tree.{tree_of}
 use Rattle.taxi_units.specs.declared.event.Event.{Event}
 use Rattle.verify_bench.specs.Explaining.{explanations_of}

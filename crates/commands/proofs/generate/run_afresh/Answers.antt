@@ -1,10 +1,10 @@
 use Rattle.std.proofs.Common.{ap, arith, refl}
 use Rattle.std.specs.Prelude.{is_err}
 use Rattle.slot_store.proofs.Laws.{at_stands}
-use Rattle.totaliser_store.specs.Reading as totals
-use Rattle.totaliser_store.specs.Stored as states
-use Rattle.totaliser_store.specs.Stored.{HasState}
-use Rattle.totaliser_store.specs.States.{first_state}
+use Rattle.totals_record.specs.Reading as totals
+use Rattle.meter_store.specs.Stored as states
+use Rattle.meter_store.specs.Stored.{HasState}
+use Rattle.totals_record.specs.States.{first_state}
 use Rattle.meter_run.specs.Runs.{OpensWith}
 use Rattle.commands.specs.Generate.{state_after}
 use Rattle.commands.proofs.Faring.{left-whole}

@@ -3,9 +3,9 @@ use Rattle.slot_store.specs.declared.found.SlotFault.TheVariants as slots
 use Rattle.slot_store.specs.Scan.{found_at}
 use Rattle.slot_store.specs.Syncs.{IsAsHeld}
 use Rattle.slot_store.proofs.Laws.{from_sync_as}
-use Rattle.totaliser_store.specs.Reading as totals
-use Rattle.totaliser_store.specs.Stored as states
-use Rattle.seal_store.specs.Decoding as seals
+use Rattle.totals_record.specs.Reading as totals
+use Rattle.meter_store.specs.Stored as states
+use Rattle.seal_record.specs.Decoding as seals
 use Rattle.commands.specs.Opening.{fault_from}
 use Rattle.commands.proofs.Openings.{failed_from, no_fault, opened_bad, opened_by, same_fault, stays_found, synced-on}
 use Rattle.commands.proofs.Unwritten.{reads-then}

@@ -2,8 +2,8 @@ use Rattle.std.proofs.Common.{◌≡◌, ◌∙◌, true, false, Err, refl, sym,
 use Rattle.std.proofs.lemmas.Result.{err_from_is_err_and}
 use Rattle.outside.specs.Faults.{Rose}
 use Rattle.tariff_compile.specs.Tables.{TableParts}
-use Rattle.totaliser_store.specs.declared.durable.Durable.{Durable}
-use Rattle.seal_store.specs.declared.seal.Seal.{Seal}
+use Rattle.totals_record.specs.declared.durable.Durable.{Durable}
+use Rattle.seal_record.specs.declared.seal.Seal.{Seal}
 use Rattle.commands.specs.declared.ending.Ended.TheVariants as ended
 use Rattle.commands.specs.Run.{does_hold_fit}
 use Rattle.commands.proofs.Openings.{as_found, as_refused, opens-barred, opens-behind, same_fault}

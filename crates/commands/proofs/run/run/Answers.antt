@@ -2,7 +2,7 @@ use Rattle.std.proofs.Common.{◌≡◌, ◌≢◌, ◌∙◌, ℕ, List, [], Er
 use Rattle.std.specs.Prelude.{IsErrOf}
 use Rattle.meter_run.specs.Runs.{EndsRun, OpensWith}
 use Rattle.meter_states.specs.Setting.{IsSettingOf}
-use Rattle.seal_store.specs.declared.seal.Seal.{Seal}
+use Rattle.seal_record.specs.declared.seal.Seal.{Seal}
 use Rattle.tariff_compile.specs.Tables.{IsTablesOf, TableParts}
 use Rattle.commands.specs.Ending.{ended_by}
 use Rattle.commands.specs.declared.ending.Ended.{Ended}

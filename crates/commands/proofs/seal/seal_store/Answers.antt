@@ -1,9 +1,9 @@
 use Rattle.std.proofs.Common.{◌≡◌, ⊎_elim, inl, inr, ◌∙◌, ℕ, Option, Err, refl, sym, ap, subst, arith, rules}
 use Rattle.std.specs.Prelude.{is_err}
 use Rattle.outside.specs.Faults.{Rose}
-use Rattle.totaliser_store.specs.declared.durable.Durable.{Durable}
-use Rattle.seal_store.specs.Sealing.{FoundTotals, old_seal}
-use Rattle.seal_store.proofs.Laws.{totals_are_found}
+use Rattle.totals_record.specs.declared.durable.Durable.{Durable}
+use Rattle.meter_store.specs.Sealing.{FoundTotals, old_seal}
+use Rattle.meter_store.proofs.Laws.{totals_are_found}
 use Rattle.commands.specs.declared.ending.Ended.{Ended}
 use Rattle.commands.specs.declared.ending.Ended.TheVariants as ended
 use Rattle.commands.specs.declared.opening.StoreFault.TheVariants as stores

@@ -1,9 +1,9 @@
 use Rattle.std.proofs.Common.{◌≡◌, ◌∙◌, Some, None, Err, inl, inr, refl, sym, ap, subst}
 use Rattle.slot_store.specs.declared.found.Found.{Found}
 use Rattle.slot_store.specs.Scan.{IsAsFound}
-use Rattle.totaliser_store.specs.declared.durable.Durable.{Durable}
-use Rattle.totaliser_store.specs.Reading as totals
-use Rattle.totaliser_store.specs.Stored as states
+use Rattle.totals_record.specs.declared.durable.Durable.{Durable}
+use Rattle.totals_record.specs.Reading as totals
+use Rattle.meter_store.specs.Stored as states
 use Rattle.commands.specs.declared.ending.Ended.TheVariants as ended
 use Rattle.commands.specs.declared.opening.StoreFault.TheVariants as stores
 use Rattle.commands.specs.Opening.{store_ended, store_of}

@@ -3,7 +3,7 @@ use Rattle.std.proofs.lemmas.Int.{to_z-of_z}
 use Rattle.std.proofs.lemmas.Result.{on_ok_weaker}
 use Rattle.outside.specs.Printing.{Begins}
 use Rattle.offset_rules.specs.Texts.{offset_lines}
-use Rattle.seal_store.specs.PlainText.{ended_text, secured_line}
+use Rattle.seal_record.specs.PlainText.{ended_text, secured_line}
 use Rattle.commands.specs.SealedText.{sealed_text}
 use Rattle.commands.proofs.SealedTexts.{begun_first, begun_second, begun_third, heading_of, printed_as, printed_whole}
 use Rattle.commands.proofs.SealedTexts.{text_parts}

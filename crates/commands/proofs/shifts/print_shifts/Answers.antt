@@ -1,7 +1,7 @@
 use Rattle.std.proofs.Common.{◌∙◌, [], Result, Err, refl, sym, ap, arith, rules, length}
 use Rattle.std.specs.Prelude.{is_err}
-use Rattle.totaliser_store.specs.declared.durable.Durable.{Durable}
-use Rattle.seal_store.specs.declared.seal.Seal.{Seal}
+use Rattle.totals_record.specs.declared.durable.Durable.{Durable}
+use Rattle.seal_record.specs.declared.seal.Seal.{Seal}
 use Rattle.commands.proofs.Counting.{read_fault-report, stops_by, unless_read}
 use Rattle.commands.specs.Ending.{ended_for_report}
 use Rattle.commands.specs.declared.ending.Ended.{Ended}

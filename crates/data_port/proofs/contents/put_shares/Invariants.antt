@@ -1,7 +1,7 @@
 use Rattle.std.proofs.Common.{◌≡◌, ◌+◌, ◌*◌, ◌++◌, take}
 use Rattle.std.specs.List.{flat_map}
 use Rattle.arrayvec.specs.ArrayVec.{array_vec_len}
-use Rattle.totaliser_store.specs.Spelling.{share_bytes}
+use Rattle.totals_record.specs.Spelling.{share_bytes}
 use Rattle.data_port.proofs.contents.put_shares.Given as goal
 
 -- the shares so far were appended

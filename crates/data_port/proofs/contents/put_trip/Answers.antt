@@ -1,6 +1,6 @@
 use Rattle.std.proofs.Common.{ℕ, ◌++◌, ◌∙◌, ap}
-use Rattle.pulse_input.specs.Distance.{millimetres_of}
-use Rattle.totaliser_store.specs.Bytes.{eight, four, sixteen}
+use Rattle.drive_modes.specs.Distance.{millimetres_of}
+use Rattle.totals_record.specs.Bytes.{eight, four, sixteen}
 use Rattle.data_port.proofs.Parts.{seven}
 use Rattle.data_port.proofs.contents.put_trip.Goals as goal
 

@@ -1,11 +1,10 @@
 use Rattle.std.proofs.Common.{◌≡◌, ◌∙◌, ◌++◌, ◌≤◌, ℕ, List, length, take, ap, refl, arith}
 use Rattle.std.proofs.lemmas.List.{take_all}
-use Rattle.outside.proofs.Laws.{begins_whole, keeps_then}
-use Rattle.seal_store.specs.declared.seal.Seal.{Seal}
-use Rattle.totaliser_store.specs.declared.durable.Durable.{Durable}
+use Rattle.outside.proofs.Laws.{begins_whole, keeps_then, on_failed}
+use Rattle.seal_record.specs.declared.seal.Seal.{Seal}
+use Rattle.totals_record.specs.declared.durable.Durable.{Durable}
 use Rattle.data_port.specs.declared.request.Request.{Request}
 use Rattle.data_port.specs.Serving.{replies}
-use Rattle.slot_store.proofs.Laws.{on_failed}
 use Rattle.data_port.proofs.Causes.{steps_within}
 use Rattle.data_port.proofs.Pieces.{begun_one, printed_one}
 use Rattle.data_port.proofs.serving.print_replies.Goals as goal

@@ -3,10 +3,10 @@ use Rattle.std.specs.Option.{ForSome}
 use Rattle.meter_states.specs.Fits.{Fits}
 use Rattle.slot_store.specs.Scan.{IsAsFound, IsSound}
 use Rattle.slot_store.specs.declared.found.Found.{Found}
-use Rattle.totaliser_store.specs.Ranges.{IsDurable}
-use Rattle.totaliser_store.specs.Reading.{reads}
-use Rattle.totaliser_store.specs.Stored.{KeepsState, number_of}
-use Rattle.totaliser_store.specs.declared.durable.Durable.{Durable}
+use Rattle.totals_record.specs.Ranges.{IsDurable}
+use Rattle.totals_record.specs.Reading.{reads}
+use Rattle.meter_store.specs.Stored.{KeepsState, number_of}
+use Rattle.totals_record.specs.declared.durable.Durable.{Durable}
 use Rattle.meter_run.specs.declared.stored.Known.{Known}
 use Rattle.meter_run.proofs.Finding.{answers, bad_body, found_is, no_fault, not_blank, same_number}
 use Rattle.meter_run.proofs.Going.{went_well}

@@ -1,8 +1,8 @@
 use Rattle.std.proofs.Common.{subst, sym}
 use Rattle.std.specs.Option.{ForSome}
 use Rattle.meter_states.specs.Fits.{Fits}
-use Rattle.totaliser_store.specs.States.{after}
-use Rattle.totaliser_store.specs.declared.durable.Durable.{Durable}
+use Rattle.totals_record.specs.States.{after}
+use Rattle.totals_record.specs.declared.durable.Durable.{Durable}
 use Rattle.meter_run.proofs.Leaves.{beside_commit, commit_point}
 use Rattle.meter_run.proofs.storing.store.Goals as goal
 

@@ -1,7 +1,7 @@
 use Rattle.std.proofs.Common.{ℕ, ◌*◌, ◌≤◌, arith}
 use Rattle.std.proofs.Math.Nat.{mul-le-mul_left}
-use Rattle.pulse_input.proofs.Laws.{millimetres-most}
-use Rattle.pulse_input.specs.Distance.{millimetres_of}
+use Rattle.drive_modes.proofs.Laws.{millimetres-most}
+use Rattle.drive_modes.specs.Distance.{millimetres_of}
 use Rattle.meter_states.proofs.lookups.distance.Goals as goal
 
 at-most : (k p : ℕ) → 500 ≤ k → millimetres_of k p ≤ 2000 * p

@@ -1,9 +1,9 @@
 use Rattle.std.proofs.Common.{◌≡◌, ℕ, false, ap, refl, ◌∙◌, arith}
-use Rattle.pulse_input.specs.Distance.{millimetres_of}
+use Rattle.drive_modes.specs.Distance.{millimetres_of}
 use Rattle.taxi_units.specs.declared.receipt.Kind.{Kind}
 use Rattle.taxi_units.specs.declared.receipt.Kind.TheVariants.{Closed, Aborted, Expired, Roam}
-use Rattle.totaliser_store.specs.declared.trip.Trip as store
-use Rattle.totaliser_store.specs.Entries.{is_of_hiring}
+use Rattle.totals_record.specs.declared.trip.Trip as store
+use Rattle.totals_record.specs.Entries.{is_of_hiring}
 use Rattle.meter_states.proofs.SameParts.{entry-same}
 use Rattle.meter_states.proofs.TableSupplements.{extras-few}
 use Rattle.meter_states.proofs.records.entry.Goals as goal

@@ -1,7 +1,7 @@
 use Rattle.std.proofs.Common.{◌≡◌, ℕ, ◌+◌, ◌*◌, ap, ◌∙◌, max, min, arith}
 use Rattle.std.proofs.Math.Nat.{mul_comm}
-use Rattle.pulse_input.specs.Distance.{millimetres_of}
-use Rattle.totaliser_store.specs.declared.trip.Trip as store
+use Rattle.drive_modes.specs.Distance.{millimetres_of}
+use Rattle.totals_record.specs.declared.trip.Trip as store
 use Rattle.meter_states.specs.Setting.{stamp_at}
 use Rattle.meter_states.proofs.Settings.{decimals-is, step-is}
 use Rattle.meter_states.proofs.SameParts.{receipt-same}

@@ -5,7 +5,7 @@ use Rattle.drive_modes.specs.declared.charges.Mode.{Mode}
 use Rattle.drive_modes.specs.declared.charges.Weights.{Weights}
 use Rattle.drive_modes.specs.declared.meterage.Meterage.{Meterage}
 use Rattle.tariff_compile.specs.Tables.{rate_by}
-use Rattle.totaliser_store.specs.declared.trip.Trip as store
+use Rattle.totals_record.specs.declared.trip.Trip as store
 use Rattle.meter_states.specs.Charge.{charge_at}
 use Rattle.meter_states.specs.Setting.{modulus_of}
 use Rattle.meter_states.specs.Trip.{charges_of, opening_of}

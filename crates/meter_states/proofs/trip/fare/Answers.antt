@@ -1,7 +1,7 @@
 use Rattle.std.proofs.Common.{ℕ, ap, ◌∙◌}
 use Rattle.drive_modes.specs.Fare.{shown_fare, steps_above, steps_of}
 use Rattle.drive_modes.specs.declared.meterage.Rounding.{Rounding}
-use Rattle.totaliser_store.specs.declared.trip.Trip as store
+use Rattle.totals_record.specs.declared.trip.Trip as store
 use Rattle.meter_states.specs.Setting.{modulus_of, step_of}
 use Rattle.meter_states.specs.Trip.{charges_of, opening_of}
 use Rattle.meter_states.proofs.Meterages.{steps-few}

@@ -2,23 +2,22 @@
 ghost use Rattle.std.specs.Prelude.{◌≡◌, IsTrue};
 ghost use Rattle.std.specs.Option.{ForSome};
 ghost use Rattle.tariff_compile.specs.Tables.{TableParts};
-ghost use Rattle.totaliser_store.specs.Ranges.{IsDurable};
+ghost use Rattle.totals_record.specs.Ranges.{IsDurable};
 ghost use Rattle.meter_states.specs.Fits.{Fits};
 ghost use Rattle.meter_states.specs.Lawful.{IsLawful, IsTimely};
 
 use crate::below::tariff_texts::compiled;
 use arrayvec::ArrayVec;
-use drive_modes::Mode;
+use drive_modes::{Constant, Mode};
 use interval_clock::Offsets;
 use meter_states::{Acts, Core};
-use pulse_input::Constant;
-use seal_store::{Params, Seal};
+use seal_record::{Params, Seal};
 use std::alloc::Global;
 use std::sync::ledger::Ledger;
 use std::test::Fail;
 use tariff_compile::Tables;
 use taxi_units::{Event, Operating, Steps};
-use totaliser_store::Durable;
+use totals_record::Durable;
 
 /// A seal with a constant of 10,000, an hour before UTC, a mode, and a hold of a minute.
 fn sealed(mode: Mode) -> Option<Seal> {

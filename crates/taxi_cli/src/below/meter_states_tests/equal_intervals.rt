@@ -7,7 +7,7 @@ use super::drives::{acts_at_first, have_constant_of, is_timely, setting};
 use super::equal_rows::{AHEAD, BEHIND, ROWS, Row};
 use drive_modes::Mode;
 use meter_states::Core;
-use seal_store::Seal;
+use seal_record::Seal;
 use std::alloc::Global;
 use std::marker::Brand;
 use std::process::Abort;

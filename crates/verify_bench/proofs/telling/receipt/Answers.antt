@@ -5,7 +5,7 @@ use Rattle.drive_modes.specs.declared.meterage.Rounding.TheVariants.{Behind}
 use Rattle.meter_states.specs.Setting.{stamp_at, step_of}
 use Rattle.meter_states.specs.Supplements.{amounts_of}
 use Rattle.meter_states.specs.Trip.{charges_of, fare_of, pulses_of, steps_shown}
-use Rattle.pulse_input.specs.Distance.{millimetres_of}
+use Rattle.drive_modes.specs.Distance.{millimetres_of}
 use Rattle.tariff_syntax.specs.declared.tariff.Tariff.{Tariff}
 use Rattle.verify_bench.specs.Settings.{setting_under}
 use Rattle.verify_bench.specs.declared.explained.Sums.{Sums}

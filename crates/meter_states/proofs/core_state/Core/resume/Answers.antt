@@ -1,5 +1,5 @@
 use Rattle.std.proofs.Common.{◌≡◌, ℕ, All, List, [], None, rules, refl, ap, sym, subst, inr, ◌∙◌, arith}
-use Rattle.totaliser_store.specs.declared.durable.Durable.{Durable}
+use Rattle.totals_record.specs.declared.durable.Durable.{Durable}
 use Rattle.meter_states.specs.Acts.{IsLawfulAct}
 use Rattle.meter_states.specs.Core.{Follows, Plain, plain_of}
 use Rattle.meter_states.specs.Display.{shown}

@@ -1,5 +1,5 @@
 use Rattle.std.proofs.Common.{◌+◌, ◌≤◌, [], ◌∷◌, ◌++◌, ap, sym, subst, ◌∙◌, arith}
-use Rattle.totaliser_store.specs.declared.entry.Entry as store
+use Rattle.totals_record.specs.declared.entry.Entry as store
 use Rattle.meter_states.specs.Closing.{entry_of}
 use Rattle.meter_states.specs.Core.{Plain}
 use Rattle.meter_states.specs.declared.act.Act.TheVariants.{Enter}

@@ -1,5 +1,5 @@
 use Rattle.std.proofs.Common.{ℕ, ◌+◌, Bool, ap, sym, subst, ◌∙◌}
-use Rattle.totaliser_store.specs.Ranges as store
+use Rattle.totals_record.specs.Ranges as store
 use Rattle.meter_states.specs.Core.{Plain}
 use Rattle.meter_states.specs.Fits.{Fits}
 use Rattle.meter_states.specs.Supply.{is_stopped}

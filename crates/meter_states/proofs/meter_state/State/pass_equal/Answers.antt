@@ -1,6 +1,6 @@
 use Rattle.std.proofs.Common.{◌≡◌, ◌+◌, ◌*◌, ◌≤◌, [], Some, ap, sym, subst, ◌∙◌, arith}
 use Rattle.std.proofs.Math.Nat.{mul-le-mul_left}
-use Rattle.totaliser_store.specs.declared.trip.Trip.{Trip}
+use Rattle.totals_record.specs.declared.trip.Trip.{Trip}
 use Rattle.tariff_compile.proofs.Laws.{tables_are_fit}
 use Rattle.meter_states.specs.Core.{Plain, Follows}
 use Rattle.meter_states.specs.EqualStages.{passed}

@@ -1,5 +1,5 @@
 use Rattle.std.proofs.Common.{Option, option_map, sym, subst, ap, ◌∙◌}
-use Rattle.totaliser_store.specs.declared.trip.Trip.{Trip}
+use Rattle.totals_record.specs.declared.trip.Trip.{Trip}
 use Rattle.meter_states.specs.Core.{Follows, forgotten}
 use Rattle.meter_states.specs.Supply.{hold_taken}
 use Rattle.meter_states.proofs.meter_state.State.take_hold.Goals as goal

@@ -1,6 +1,6 @@
 use Rattle.std.proofs.Common.{arith, rules, sym}
 use Rattle.outside.specs.Calls.{Write}
-use Rattle.outside.specs.Disk.{AreBytes}
+use Rattle.taxi_units.specs.Bytes.{AreBytes}
 use Rattle.outside.specs.MemoryBoard.{held_by}
 use Rattle.outside.proofs.Kept.{write_written, became_done, became, cause_is, write_image, write_is_image, write_flight, write_text, time_is, time_of_call}
 use Rattle.outside.proofs.memory_device.MemoryDevice.write_at.Goals as goal

@@ -1,7 +1,7 @@
 use Rattle.std.proofs.Common.{◌≡◌, ◌∙◌, ap, Option, subst, sym, true, false, None, refl}
 use Rattle.meter_states.specs.Supply.{hold_taken, is_within_hold, powered}
 use Rattle.taxi_units.specs.declared.event.Operating.TheVariants.{ForHire}
-use Rattle.totaliser_store.specs.declared.trip.Trip as store
+use Rattle.totals_record.specs.declared.trip.Trip as store
 use Rattle.verify_bench.specs.Bench.{Moves}
 use Rattle.verify_bench.specs.Settings.{setting_under}
 use Rattle.verify_bench.specs.Supplied.{waking}

@@ -1,0 +1,116 @@
+//! Sealing: totals of zero where the store has none, and then the seal.
+ghost use Rattle.std.specs.Prelude.{◌≡◌, ◌+◌, ◌≤◌, Option, Some, None, IfOk, OnOk};
+ghost use Rattle.std.specs.Option.{ForSome, option_map};
+ghost use Rattle.outside.specs.Faults.{HasCause};
+ghost use Rattle.slot_store.specs.Sizes.{pair_size};
+ghost use Rattle.slot_store.specs.Writes.{LeavesThroughout, WritesIn};
+ghost use Rattle.totals_record.specs.States.{first_state};
+ghost use Rattle.meter_store.specs.Stored.{KeepsState};
+ghost use Rattle.seal_record.specs.declared.seal.Seal.{Seal};
+ghost use Rattle.seal_record.specs.Ranges.{IsSeal};
+ghost use Rattle.meter_store.specs.Sealing.{FoundSeal, FoundTotals, HasEitherSeal, KeepsSeal, KeepsSealed, KeepsTotals};
+ghost use Rattle.meter_store.specs.Sealing.{LeavesSealing, first_written, found_number, next_number, places_written, seals_at};
+
+use crate::DeviceFailed;
+use outside::Board;
+use seal_record::Seal;
+use slot_store::{Place, Ready};
+use std::sync::ledger::Ledger;
+use taxi_units::Steps;
+use totals_record::Durable;
+
+/// Where the pair of seals begins in the store.
+const SEALS_AT: u16 = 1024;
+
+/// Seals the store. Totals that were found stay as they are, byte for byte; where none were found,
+/// totals of zero with number 1 are written first, in layout 2. Then the seal is written, whose number
+/// is the one after the found seal's, or 1. Both pairs of slots were scanned just before, with these
+/// findings: the totals, and the place and the number of the seal.
+///
+/// At each moment a cut of the power leaves the totals that were found, or where there were none, none
+/// or those of zero; and the seal that was found, or none as before, or the new one, and the new one
+/// only beside totals. So does the board's own image, also where the answer is `DeviceFailed`. Nothing
+/// is printed, and at most 10 calls of the board are made.
+///
+/// `DeviceFailed` comes only where the board's count of faults rose; after it only a scan goes on.
+pub fn place_seal<B: Board<L>, L: Ledger>(
+    board: &mut B,
+    totals: Option<Durable>,
+    found: Option<(Place, u64)>,
+    seal: &Seal,
+    steps: &mut Steps<L>,
+) -> Result<(), DeviceFailed>
+    requires valid { IsSeal seal.now }
+    requires number { seal.now.seal_number ≡ next_number (found_number found) }
+    requires slot { ForSome found (λ latest. latest.0.slot ≤ 1) }
+    requires totals { B.tells_image → FoundTotals B.Board board.old totals }
+    requires found { B.tells_image → (old : Option Seal) × FoundSeal B.Board board.old found old }
+    ensures any_moment { B.tells_image → (old : Option Seal) → FoundSeal B.Board board.old found old
+        → LeavesSealing B.Board (record { totals = totals; old = old; new = seal.now }) board.old board.new }
+    ensures sealed { B.tells_image → OnOk result (KeepsSealed B.Board totals seal.now board.new) }
+    ensures beside { WritesIn B.Board (first_written totals) (places_written totals) board.old board.new }
+    ensures cause { HasCause (B.faults board.old) (B.faults board.new) result }
+    ensures steps { steps.new ≤ steps.old + 10 }
+{
+    match totals {
+        Some(_) => {
+            put_seal(board, found, seal, steps)?;
+            Ok(())
+        }
+        None => {
+            put_totals(board, steps)?;
+            put_seal(board, found, seal, steps)?;
+            Ok(())
+        }
+    }
+}
+
+/// Writes totals of zero into a blank pair.
+fn put_totals<B: Board<L>, L: Ledger>(
+    board: &mut B,
+    steps: &mut Steps<L>,
+) -> Result<Place, DeviceFailed>
+    requires { B.tells_image → FoundTotals B.Board board.old None }
+    ensures any_moment { B.tells_image → LeavesThroughout B.Board 0 pair_size (KeepsTotals None) board.old board.new }
+    ensures settled { B.tells_image → IfOk result (λ place. KeepsState B.Board place board.new first_state) }
+    ensures beside { WritesIn B.Board 0 pair_size board.old board.new }
+    ensures cause { HasCause (B.faults board.old) (B.faults board.new) result }
+    ensures steps { steps.new ≤ steps.old + 4 }
+{
+    let place = Ready::blank(0).store(board, &Durable::zero(), steps)?;
+    Ok(place)
+}
+
+/// Writes a seal over the one that was found, or into a blank pair.
+fn put_seal<B: Board<L>, L: Ledger>(
+    board: &mut B,
+    found: Option<(Place, u64)>,
+    seal: &Seal,
+    steps: &mut Steps<L>,
+) -> Result<Place, DeviceFailed>
+    requires valid { IsSeal seal.now }
+    requires number { seal.now.seal_number ≡ next_number (found_number found) }
+    requires slot { ForSome found (λ latest. latest.0.slot ≤ 1) }
+    requires found { B.tells_image → (old : Option Seal) × FoundSeal B.Board board.old found old }
+    ensures any_moment { B.tells_image → (old : Option Seal) → FoundSeal B.Board board.old found old
+        → LeavesThroughout B.Board seals_at pair_size (HasEitherSeal old seal.now) board.old board.new }
+    ensures settled { B.tells_image → IfOk result (λ place. KeepsSeal B.Board place board.new seal.now) }
+    ensures beside { WritesIn B.Board seals_at pair_size board.old board.new }
+    ensures cause { HasCause (B.faults board.old) (B.faults board.new) result }
+    ensures steps { steps.new ≤ steps.old + 6 }
+{
+    let ready = ready_for(found);
+    let place = ready.store(board, seal, steps)?;
+    Ok(place)
+}
+
+/// The pair of seals, as it was found.
+fn ready_for(found: Option<(Place, u64)>) -> Ready
+    requires { ForSome found (λ latest. latest.0.slot ≤ 1) }
+    ensures { result ≡ record { at = seals_at; latest = option_map (λ latest. latest.0) found } }
+{
+    match found {
+        Some((place, _)) => Ready::new(SEALS_AT, place),
+        None => Ready::blank(SEALS_AT),
+    }
+}

@@ -1,0 +1,23 @@
+//! What scans say of a store that is to be sealed.
+ghost use Rattle.std.specs.Prelude.{◌≡◌, ℕ};
+ghost use Rattle.slot_store.specs.declared.found.Found.{Found};
+ghost use Rattle.totals_record.specs.declared.durable.Durable.{Durable};
+ghost use Rattle.seal_record.specs.declared.seal.Seal.{Seal};
+ghost use Rattle.meter_store.specs.Sealing.{FoundSeal, FoundTotals, ScannedSeal, ScannedTotals, old_seal, seal_found};
+ghost use Rattle.meter_store.specs.Sealing.{totals_found};
+
+use outside::Board;
+use std::sync::ledger::Ledger;
+
+/// A law: what scans of both pairs found is what a sealing asks for, and it stays so on a board with
+/// the same image of which no more is in flight, as after another scan.
+pub fn scans_find_what_a_sealing_asks_for<B: Board<L>, L: Ledger>()
+    ensures totals { (board : B) (found : Found Durable) → ScannedTotals B.Board board found
+        → FoundTotals B.Board board (totals_found found) }
+    ensures seal { (board : B) (found : Found Seal) → ScannedSeal B.Board board found
+        → FoundSeal B.Board board (seal_found found) (old_seal found) }
+    ensures totals_stay { (board after : B) (found : Found Durable) → ScannedTotals B.Board board found
+        → B.image after ≡ B.image board
+        → ((place : ℕ) → B.in_flight after place → B.in_flight board place)
+        → ScannedTotals B.Board after found }
+{}

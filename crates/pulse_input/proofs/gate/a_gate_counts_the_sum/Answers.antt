@@ -1,5 +1,0 @@
-use Rattle.pulse_input.proofs.Bursts.{gate_counts_the_sum}
-use Rattle.pulse_input.proofs.gate.a_gate_counts_the_sum.Goals as goal
-
-pub returns : goal.returns
-returns c = gate_counts_the_sum

@@ -1,3 +1,0 @@
-pub mod Constant
-pub mod Distance
-pub mod Gate

@@ -1,0 +1,52 @@
+-- Parameters that bytes give, where they are in their ranges.
+use Rattle.std.proofs.Common.{◌≡◌, ℕ, Bool, true, false, if◌then◌else◌, ℤ, List, Option, Some, None, MatchOption, Decides, refl, sym, ap, subst, ◌∙◌}
+use Rattle.std.specs.Str.{bytes_eq}
+use Rattle.std.proofs.lemmas.Slice.Eq.{bytes_eq-Decides}
+use Rattle.interval_clock.specs.Offsets.{IsOffsetList}
+use Rattle.taxi_units.specs.Reading.{Gives}
+use Rattle.seal_record.specs.declared.params.Params.{Params}
+use Rattle.seal_record.specs.declared.seal.Seal.{Seal}
+use Rattle.seal_record.specs.Decoding.{decoded, reads}
+use Rattle.seal_record.specs.OffsetList.{is_offset_list}
+use Rattle.seal_record.specs.OffsetLaws.{Decides-is_offset_list}
+use Rattle.seal_record.specs.Ranges.{IsSeal, IsTaxi}
+use Rattle.seal_record.specs.SealLaws.{Decides-is_taxi, reads_other, reads_own}
+use Rattle.seal_record.specs.Spelling.{spelling}
+use Rattle.seal_record.specs.Values.{is_taxi, taxi_read}
+
+taxi_by_test : {R : Type 0} (view : R → List ℕ) (found : Option R) (text : List ℕ) (b : Bool) → Decides b (IsTaxi text) → Gives view found (if b then Some text else None)
+    → MatchOption found (¬ (IsTaxi text)) (λ taxi. (view taxi ≡ text) × IsTaxi (view taxi))
+taxi_by_test view (Some taxi) text true decides given = let same : view taxi ≡ text = cc in (same, subst IsTaxi (sym same) (decides.0 refl))
+taxi_by_test view (Some taxi) text false decides given = absurd cc
+taxi_by_test view None text true decides given = absurd cc
+taxi_by_test view None text false decides given = λ is. absurd (let e : false ≡ true = decides.1 is in cc)
+
+pub taxi_by : {R : Type 0} (view : R → List ℕ) (found : Option R) (text : List ℕ) → Gives view found (taxi_read text)
+    → MatchOption found (¬ (IsTaxi text)) (λ taxi. (view taxi ≡ text) × IsTaxi (view taxi))
+taxi_by view found text given = taxi_by_test view found text (is_taxi text) (Decides-is_taxi text) given
+
+offsets_by_test : (found : Option (List (ℕ × ℤ))) (list : List (ℕ × ℤ)) (b : Bool) → Decides b (IsOffsetList list) → found ≡ (if b then Some list else None)
+    → MatchOption found (¬ (IsOffsetList list)) (λ offsets. (offsets ≡ list) × IsOffsetList offsets)
+offsets_by_test (Some offsets) list true decides given = let same : offsets ≡ list = cc in (same, subst IsOffsetList (sym same) (decides.0 refl))
+offsets_by_test (Some offsets) list false decides given = absurd cc
+offsets_by_test None list true decides given = absurd cc
+offsets_by_test None list false decides given = λ is. absurd (let e : false ≡ true = decides.1 is in cc)
+
+pub offsets_by : (found : Option (List (ℕ × ℤ))) (pairs list : List (ℕ × ℤ)) → pairs ≡ list → found ≡ (if is_offset_list pairs then Some pairs else None)
+    → MatchOption found (¬ (IsOffsetList list)) (λ offsets. (offsets ≡ list) × IsOffsetList offsets)
+offsets_by found pairs list same given =
+    offsets_by_test found list (is_offset_list list) (Decides-is_offset_list list) (given ∙ ap (λ (xs : List (ℕ × ℤ)). if is_offset_list xs then Some xs else None) same)
+
+-- parameters with the same fields
+pub same_params : (a b : Params) → a.taxi.items ≡ b.taxi.items → a.constant ≡ b.constant → a.mode ≡ b.mode → a.hold ≡ b.hold → a.offsets ≡ b.offsets → a.secured ≡ b.secured → a ≡ b
+same_params a b taxi constant mode hold offsets secured = λ i. record { taxi = record { items = taxi i }; constant = constant i; mode = mode i; hold = hold i; offsets = offsets i; secured = secured i }
+
+-- what the bytes of a seal in its ranges are read as, where another spelling was found, and where their own
+pub read_other : (bytes shown : List ℕ) (seal : Seal) (same : Bool) → seal ≡ decoded bytes → shown ≡ spelling seal → same ≡ bytes_eq shown bytes → same ≡ false → reads bytes ≡ None
+read_other bytes shown seal true is spelled test other = absurd cc
+read_other bytes shown seal false is spelled test other = reads_other bytes (ap (λ (xs : List ℕ). bytes_eq xs bytes) (sym (spelled ∙ ap spelling is)) ∙ sym test)
+
+pub read_own : (bytes shown : List ℕ) (seal : Seal) (same : Bool) → seal ≡ decoded bytes → IsSeal seal → shown ≡ spelling seal → same ≡ bytes_eq shown bytes → same ≡ true → reads bytes ≡ Some seal
+read_own bytes shown seal false is valid spelled test own = absurd cc
+read_own bytes shown seal true is valid spelled test own =
+    reads_own bytes (subst IsSeal is valid) (sym (spelled ∙ ap spelling is) ∙ (bytes_eq-Decides shown bytes).0 (sym test)) ∙ ap (λ (s : Seal). Some s) (sym is)

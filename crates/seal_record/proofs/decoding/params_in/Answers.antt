@@ -1,0 +1,20 @@
+use Rattle.std.proofs.Common.{refl, subst, sym, ◌∙◌, arith}
+use Rattle.std.proofs.lemmas.Int.{ints, to_z-of_z}
+use Rattle.std.specs.Int.{w32}
+use Rattle.seal_record.specs.Ranges.{IsDay}
+use Rattle.seal_record.proofs.Ranged.{same_params}
+use Rattle.seal_record.proofs.decoding.params_in.Goals as goal
+
+pub returns : goal.returns
+returns c =
+    let there = to_z-of_z w32 c.signed_at-secured.result c.signed_at-secured.ensures.fits in
+    let day : IsDay c.signed_at-secured.result = (omega (arith, ints, c.if-secured-lt-FIRST_DAY.false), omega (arith, ints, c.if-secured-gt-LAST_DAY.false)) in (
+      same_params _ _ c.in_ok-taxi.ensures.0 (c.in-Ok.ensures.value ∙ c.four_at.ensures) c.mode_in.ensures c.two_at-hold.ensures c.in_ok-offsets.ensures.0 (there ∙ c.signed_at-secured.ensures.value),
+      record {
+        taxi = c.in_ok-taxi.ensures.1;
+        constant = let range = c.in-Ok.ensures.in_range.0 refl in (omega (arith, range.0, c.in-Ok.ensures.value), omega (arith, range.1, c.in-Ok.ensures.value));
+        hold = omega (arith, c.if-hold-gt-LONGEST_HOLD.false);
+        secured = subst IsDay (sym there) day;
+        offsets = c.in_ok-offsets.ensures.1;
+      },
+    )

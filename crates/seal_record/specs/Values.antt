@@ -1,0 +1,67 @@
+-- For proofs: the values of the parameters, as they are read. The laws texts_say_parameters_line_by_line and
+-- values_are_read_by_their_forms say what they are.
+use Rattle.std.specs.Prelude.{ℕ, ◌&&◌, ◌||◌, ◌==◌, nat_le, Bool, if◌then◌else◌, ℤ, pos, neg_ℤ, List, length, Option, Some, None, codes}
+use Rattle.std.specs.List.{list_all}
+use Rattle.std.specs.Str.{bytes_eq}
+use Rattle.drive_modes.specs.declared.charges.Mode.{Mode}
+use Rattle.drive_modes.specs.declared.charges.Mode.TheVariants.{Single, Double}
+use Rattle.interval_clock.specs.Calendar.{is_date, day_number_of}
+use Rattle.taxi_units.specs.Number.{number_at, number_of_width}
+use Rattle.taxi_units.specs.Reading.{◌>>=◌, word_at}
+use Rattle.seal_record.specs.Limits.{longest_taxi, greatest_offset, first_year, last_year}
+use Rattle.taxi_units.specs.Identifier.{is_identifier_character}
+
+-- a test whether a text has 1 to 16 characters of taxi identifiers, and no other
+abbrev pub is_taxi : List ℕ → Bool
+is_taxi text = nat_le 1 (length text) && (nat_le (length text) longest_taxi && list_all is_identifier_character text)
+
+-- a text is read as a taxi identifier if it is one
+abbrev pub taxi_read : List ℕ → Option (List ℕ)
+taxi_read text = if is_taxi text then Some text else None
+
+-- a number that was read at the front of a text, if nothing stands behind it and it is in a range
+abbrev pub where_in : (low high : ℕ) → ℕ × List ℕ → Option ℕ
+where_in low high x = if (length x.1 == 0 && (nat_le low x.0 && nat_le x.0 high)) then Some x.0 else None
+
+-- a text is read as a number of a range if it is 1 to 12 digits that write such a number
+unfoldable pub number_in : (low high : ℕ) → List ℕ → Option ℕ
+number_in low high text = number_at text >>= where_in low high
+
+-- a text is read as a mode if it is the word of one
+unfoldable pub mode_read : List ℕ → Option Mode
+mode_read text =
+    if bytes_eq text (codes "single") then Some Single
+    else (if bytes_eq text (codes "double") then Some Double else None)
+
+-- a text is read as an offset if it is a number of at most 50400 seconds, perhaps with a minus before it
+unfoldable pub offset_read : List ℕ → Option ℤ
+offset_read text = signed_read text (word_at (codes "-") text)
+  where
+    signed_read : List ℕ → Option (List ℕ) → Option ℤ
+    signed_read text (Some digits) = number_in 0 greatest_offset digits >>= (λ n. Some (neg_ℤ (pos n)))
+    signed_read text None = number_in 0 greatest_offset text >>= (λ n. Some (pos n))
+
+-- a text is read as a pair if it is a second, one blank, and the offset that is in force from it on
+unfoldable pub pair_read : List ℕ → Option (ℕ × ℤ)
+pair_read text = do
+  second ← number_at text
+  rest ← word_at (codes " ") second.1
+  offset ← offset_read rest
+  Some (second.0, offset)
+
+-- a year, a month and a date that were read are a day number if nothing stands behind them and they are a date of
+-- the years 2000 to 2199
+abbrev pub where_date : (year month date : ℕ) → (rest : List ℕ) → Option ℤ
+where_date year month date rest =
+    if (length rest == 0 && (nat_le first_year year && (nat_le year last_year && is_date year month date)))
+    then Some (pos (day_number_of year month date)) else None
+
+-- a text is read as the day number of a date if it is YYYY-MM-DD
+unfoldable pub secured_read : List ℕ → Option ℤ
+secured_read text = do
+  year ← number_of_width 4 text
+  rest ← word_at (codes "-") year.1
+  month ← number_of_width 2 rest
+  rest ← word_at (codes "-") month.1
+  date ← number_of_width 2 rest
+  where_date year.0 month.0 date.0 date.1

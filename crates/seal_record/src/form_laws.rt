@@ -1,0 +1,33 @@
+//! The forms of values, in words that share nothing with how they are read.
+ghost use Rattle.std.specs.Prelude.{◌≡◌, ◌↔◌, ℕ, ℤ, List, Some, Ok, Err};
+ghost use Rattle.drive_modes.specs.declared.charges.Mode.{Mode};
+ghost use Rattle.seal_record.specs.declared.params.ParamFault.{ParamFault};
+ghost use Rattle.seal_record.specs.Faults.{IsBad};
+ghost use Rattle.seal_record.specs.Forms.{IsDateText, IsModeText, IsPairText};
+ghost use Rattle.seal_record.specs.LineSays.{SaysMore};
+ghost use Rattle.seal_record.specs.Said.{Said};
+ghost use Rattle.seal_record.specs.SaidStages.{line_read};
+ghost use Rattle.seal_record.specs.Values.{mode_read, pair_read, secured_read};
+
+/// A law: a mode is one of two words; an offset's value is the digits of its second, one blank, and a
+/// number with a minus before it or not; and the date of securing is YYYY-MM-DD of the years 2000 to
+/// 2199, whose day number the calendar gives. Values of these forms are read, and no others.
+pub fn values_are_read_by_their_forms()
+    ensures modes { (text : List ℕ) (mode : Mode) → (mode_read text ≡ Some mode) ↔ IsModeText text mode }
+    ensures pairs { (text : List ℕ) (pair : ℕ × ℤ) → (pair_read text ≡ Some pair) ↔ IsPairText text pair }
+    ensures dates { (text : List ℕ) (day : ℤ) → (secured_read text ≡ Some day) ↔ IsDateText text day }
+{}
+
+/// A law: a line is good exactly where it says nothing, or says a parameter that has not been said
+/// before by a value of its form, or one offset more of a lawful list; and then it says that alone.
+pub fn lines_say_their_parameter()
+    ensures { (said more : Said) (number : ℕ) (line : List ℕ)
+        → (line_read said number line ≡ Ok more) ↔ SaysMore said line more }
+{}
+
+/// A law: a line is refused exactly where it is bad, and its fault is the first that it has: its key is
+/// no parameter's; or it says a parameter a second time; or its value says nothing.
+pub fn bad_lines_have_their_fault()
+    ensures { (said : Said) (number : ℕ) (line : List ℕ) (fault : ParamFault)
+        → (line_read said number line ≡ Err fault) ↔ IsBad said number line fault }
+{}

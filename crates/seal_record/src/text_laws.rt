@@ -1,0 +1,35 @@
+//! What texts of parameters mean, in words that share nothing with how they are read.
+ghost use Rattle.std.specs.Prelude.{◌≡◌, ◌↔◌, ℕ, ℤ, true, List, Some, Ok, Err};
+ghost use Rattle.seal_record.specs.declared.params.ParamFault.{ParamFault};
+ghost use Rattle.seal_record.specs.declared.params.Params.{Params};
+ghost use Rattle.seal_record.specs.Lines.{key_in, lines_of, value_in};
+ghost use Rattle.interval_clock.specs.Offsets.{IsOffsetList};
+ghost use Rattle.seal_record.specs.OffsetList.{is_offset_list};
+ghost use Rattle.seal_record.specs.Ranges.{IsParams, IsTaxi};
+ghost use Rattle.seal_record.specs.Reading.{lines_read, params_read};
+ghost use Rattle.seal_record.specs.Said.{Said};
+ghost use Rattle.seal_record.specs.Says.{AreLines, BreaksAt, IsParted};
+ghost use Rattle.seal_record.specs.Values.{number_in, taxi_read};
+ghost use Rattle.taxi_units.specs.Written.{IsNumberIn};
+
+/// A law: a text has its lines, each with its LF and perhaps a CR before it, and what stands behind the
+/// last LF as its last line; a line is its key, one blank and its value, or its key alone; a number is
+/// written by 1 to 12 digits; a taxi identifier is its text; and a list of offsets may be so far exactly
+/// where it is lawful. The fault of a text is that of the first line that is bad: all lines
+/// before it are good, and it is numbered by its place among all lines.
+pub fn texts_say_parameters_line_by_line()
+    ensures lines { (text : List ℕ) (lines : List (List ℕ)) → (lines_of text ≡ lines) ↔ AreLines text lines }
+    ensures parts { (line key value : List ℕ) → ((key_in line ≡ key) × (value_in line ≡ value))
+        ↔ IsParted line key value }
+    ensures numbers { (low high : ℕ) (text : List ℕ) (n : ℕ)
+        → (number_in low high text ≡ Some n) ↔ IsNumberIn low high text n }
+    ensures taxis { (text taxi : List ℕ) → (taxi_read text ≡ Some taxi) ↔ (IsTaxi text × (text ≡ taxi)) }
+    ensures offsets { (pairs : List (ℕ × ℤ)) → (is_offset_list pairs ≡ true) ↔ IsOffsetList pairs }
+    ensures first_bad { (said : Said) (number : ℕ) (lines : List (List ℕ)) (fault : ParamFault)
+        → (lines_read said number lines ≡ Err fault) ↔ BreaksAt said number lines fault }
+{}
+
+/// A law: the parameters that a text says are in their ranges, so they may be sealed.
+pub fn parameters_are_in_their_ranges()
+    ensures { (text : List ℕ) (params : Params) → params_read text ≡ Ok params → IsParams params }
+{}

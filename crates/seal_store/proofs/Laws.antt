@@ -1,7 +1,0 @@
--- The lemmas that are the laws of the crate's public functions.
-pub use Rattle.seal_store.specs.OffsetLaws.{Decides-leb}
-pub use Rattle.seal_store.proofs.FaultLaws.{bad_lines_have_their_fault}
-pub use Rattle.seal_store.proofs.LineLaws.{lines_say_their_parameter}
-pub use Rattle.seal_store.proofs.PlainTexts.{comments_are_passed_over, comments_make_it_longer}
-pub use Rattle.seal_store.proofs.Scans.{totals_are_found, seal_is_found, totals_stay_found}
-pub use Rattle.seal_store.proofs.WholeLaws.{texts_say_their_parameters}

@@ -1,8 +1,0 @@
-use Rattle.std.proofs.Common.{ℕ, List, subst}
-use Rattle.taxi_units.specs.Reading.{Gives}
-use Rattle.seal_store.specs.Values.{taxi_read}
-use Rattle.seal_store.proofs.Ranged.{taxi_by}
-use Rattle.seal_store.proofs.decoding.taxi_in.Goals as goal
-
-pub returns : goal.returns
-returns c = taxi_by (λ taxi. taxi.items) c.taxi.result _ (subst (λ (text : List ℕ). Gives (λ taxi. taxi.items) c.taxi.result (taxi_read text)) c.before-2.ensures c.taxi.ensures)

@@ -1,5 +1,0 @@
-use Rattle.seal_store.proofs.FaultLaws.{bad_lines_have_their_fault}
-use Rattle.seal_store.proofs.form_laws.bad_lines_have_their_fault.Goals as goal
-
-pub returns : goal.returns
-returns c = bad_lines_have_their_fault

@@ -1,5 +1,0 @@
-use Rattle.seal_store.proofs.LineLaws.{lines_say_their_parameter}
-use Rattle.seal_store.proofs.form_laws.lines_say_their_parameter.Goals as goal
-
-pub returns : goal.returns
-returns c = lines_say_their_parameter

@@ -1,5 +1,0 @@
-use Rattle.seal_store.proofs.PlainTexts.{plain_texts_read_back}
-use Rattle.seal_store.proofs.plain_laws.plain_texts_are_read_back.Goals as goal
-
-pub returns : goal.returns
-returns c = plain_texts_read_back

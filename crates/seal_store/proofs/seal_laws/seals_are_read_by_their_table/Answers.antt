@@ -1,5 +1,0 @@
-use Rattle.seal_store.proofs.TextLaws.{seals_by_their_table}
-use Rattle.seal_store.proofs.seal_laws.seals_are_read_by_their_table.Goals as goal
-
-pub returns : goal.returns
-returns c = seals_by_their_table

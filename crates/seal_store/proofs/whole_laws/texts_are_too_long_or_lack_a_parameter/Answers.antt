@@ -1,5 +1,0 @@
-use Rattle.seal_store.proofs.WholeFaults.{texts_lack_a_parameter, texts_too_long}
-use Rattle.seal_store.proofs.whole_laws.texts_are_too_long_or_lack_a_parameter.Goals as goal
-
-pub returns : goal.returns
-returns c = record { too_long = texts_too_long; missing = texts_lack_a_parameter }

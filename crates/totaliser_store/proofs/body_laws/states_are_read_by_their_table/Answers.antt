@@ -1,5 +1,0 @@
-use Rattle.totaliser_store.proofs.Laws.{states_are_read_by_their_table}
-use Rattle.totaliser_store.proofs.body_laws.states_are_read_by_their_table.Goals as goal
-
-pub returns : goal.returns
-returns c = states_are_read_by_their_table

@@ -1,5 +1,0 @@
-use Rattle.totaliser_store.proofs.Laws.{changes_add_up}
-use Rattle.totaliser_store.proofs.state_laws.changes_add_up.Goals as goal
-
-pub returns : goal.returns
-returns c = changes_add_up

@@ -1,0 +1,40 @@
+-- Laws that the crates above cite.
+use Rattle.std.proofs.Common.{◌≡◌, ◌≤◌, ◌+◌, ◌↔◌, ℕ, List, Some}
+use Rattle.taxi_units.specs.Limits.{last_number}
+use Rattle.totals_record.specs.declared.change.Change.TheVariants.{Enter, Hold}
+use Rattle.totals_record.specs.declared.trip.Trip.{Trip}
+use Rattle.totals_record.specs.declared.durable.Durable.{Durable}
+use Rattle.totals_record.specs.declared.change.Change.{Change}
+use Rattle.totals_record.specs.declared.entry.Entry.{Entry}
+use Rattle.totals_record.specs.declared.totals.Totals.{Totals}
+use Rattle.totals_record.specs.Ranges.{HasRoom, IsDurable, IsEntry, IsTrip}
+use Rattle.totals_record.specs.Reading.{reads}
+use Rattle.totals_record.specs.Spelling.{spelling}
+use Rattle.totals_record.specs.States.{after, after_all}
+use Rattle.totals_record.specs.Sums.{totals_of, AddsUp, Follows}
+use Rattle.totals_record.specs.BodyLaws.{reads_exactly}
+use Rattle.totals_record.proofs.Adding.{adds_up}
+use Rattle.totals_record.proofs.Keeping.{entry_keeps, trip_keeps}
+use Rattle.totals_record.proofs.Changing.{follows}
+
+-- bytes are read as a state exactly where it is in its ranges and they are its own
+pub states_are_read_by_their_table : (bytes : List ℕ) (durable : Durable) → (reads bytes ≡ Some durable) ↔ (IsDurable durable × (bytes ≡ spelling durable))
+states_are_read_by_their_table = reads_exactly
+
+-- totals with a list of entries more have grown by the sums over the list
+pub entries_add_up : (totals : Totals) (entries : List Entry) → AddsUp totals (totals_of totals entries) entries
+entries_add_up = adds_up
+
+-- the state after a list of commits
+pub changes_add_up : (opening : Durable) (changes : List Change) → Follows opening (after_all opening changes) changes
+changes_add_up = follows
+
+-- the ranges hold after an entry as the meter makes them
+pub entries_keep_the_ranges : (durable : Durable) (entry : Entry) → IsDurable durable → durable.number ≤ last_number → IsEntry entry → HasRoom durable entry
+    → IsDurable (after durable (Enter entry))
+entries_keep_the_ranges = entry_keeps
+
+-- and after a trip is held that is in its ranges
+pub held_trips_keep_the_ranges : (durable : Durable) (trip : Trip) → IsDurable durable → durable.number + 1 ≤ last_number → IsTrip (durable.number + 1) trip
+    → IsDurable (after durable (Hold trip))
+held_trips_keep_the_ranges = trip_keeps

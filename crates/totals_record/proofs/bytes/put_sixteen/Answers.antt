@@ -1,0 +1,5 @@
+use Rattle.totals_record.proofs.Appends.{more}
+use Rattle.totals_record.proofs.bytes.put_sixteen.Goals as goal
+
+pub returns-clause-items : goal.returns-clause-items
+returns-clause-items c = more _ _ _ _ _ c.put_eight.ensures.items c.put_eight-2.ensures.items

@@ -1,0 +1,78 @@
+-- Rules: what an entry adds to the totals.
+use Rattle.std.specs.Prelude.{ℕ, ◌+◌, Bool, true, false, ◌&&◌, ◌==◌, if◌then◌else◌, List, [], ◌∷◌}
+use Rattle.taxi_units.specs.declared.receipt.Kind.{Kind}
+use Rattle.taxi_units.specs.declared.receipt.Kind.TheVariants.{Closed, Aborted, Expired, Roam}
+use Rattle.totals_record.specs.declared.entry.Entry.{Entry}
+use Rattle.totals_record.specs.declared.totals.Share.{Share}
+use Rattle.totals_record.specs.declared.totals.Totals.{Totals}
+
+-- the test `is_of_hiring` is true where a kind of entry is one of a closed hiring, which all are but roaming
+abbrev pub is_of_hiring : Kind → Bool
+is_of_hiring Closed = true
+is_of_hiring Aborted = true
+is_of_hiring Expired = true
+is_of_hiring Roam = false
+
+-- the test `closes` is true where an entry closes a hiring
+abbrev pub closes : Entry → Bool
+closes entry = is_of_hiring entry.kind
+
+-- the test `closes_at` is true where an entry closes a hiring at a tariff position
+abbrev pub closes_at : ℕ → Entry → Bool
+closes_at position entry = closes entry && entry.position == position
+
+-- the distance of an entry is what was driven roaming and when hired, in millimetres
+abbrev pub distance_of : Entry → ℕ
+distance_of entry = entry.roam_mm + entry.hired_mm
+
+-- the hired distance of an entry is what was driven when hired, in millimetres
+abbrev pub hired_of : Entry → ℕ
+hired_of entry = entry.hired_mm
+
+-- an entry counts as one hiring where it closes one, and as none otherwise
+abbrev pub hirings_of : Entry → ℕ
+hirings_of entry = if closes entry then 1 else 0
+
+-- the supplements of an entry are what was charged for them
+abbrev pub supplements_of : Entry → ℕ
+supplements_of entry = entry.supplements
+
+-- the fare of an entry is what was charged as fare
+abbrev pub fare_of : Entry → ℕ
+fare_of entry = entry.fare
+
+-- an entry counts as one hiring at a tariff position where it closes one there, and as none otherwise
+abbrev pub hirings_at : ℕ → Entry → ℕ
+hirings_at position entry = if closes_at position entry then 1 else 0
+
+-- the fare of an entry counts at a tariff position where it closes a hiring there, and is nothing otherwise
+abbrev pub fare_at : ℕ → Entry → ℕ
+fare_at position entry = if closes_at position entry then entry.fare else 0
+
+-- the share of no hiring is zero
+abbrev pub no_share : Share
+no_share = record { hirings = 0; fare = 0 }
+
+-- the share of a tariff position, with an entry more, grows by what the entry counts there
+abbrev pub share_with : Entry → ℕ → Share → Share
+share_with entry position share = record {
+  hirings = share.hirings + hirings_at position entry;
+  fare = share.fare + fare_at position entry;
+}
+
+-- shares of rising tariff positions, the first of which is `position`, grow each by what one more entry counts there
+abbrev pub shares_with : Entry → ℕ → List Share → List Share
+shares_with entry position [] = []
+shares_with entry position (share ∷ others) = share_with entry position share ∷ shares_with entry (position + 1) others
+
+-- the totals, with an entry more, grow each by what the entry counts, and what was counted before shares stays
+abbrev pub totals_with : Totals → Entry → Totals
+totals_with totals entry = record {
+  distance_mm = totals.distance_mm + distance_of entry;
+  hired_mm = totals.hired_mm + hired_of entry;
+  hirings = totals.hirings + hirings_of entry;
+  supplements = totals.supplements + supplements_of entry;
+  fare = totals.fare + fare_of entry;
+  shares = shares_with entry 1 totals.shares;
+  before = totals.before;
+}

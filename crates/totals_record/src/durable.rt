@@ -1,0 +1,81 @@
+//! The durable state: what the meter keeps over any cut of the power.
+ghost use Rattle.std.specs.Prelude.{◌≡◌, ◌+◌, ◌≤◌};
+ghost use Rattle.totals_record.specs.Ranges.{IsDurable};
+ghost use Rattle.totals_record.specs.States.{after, first_state};
+ghost use Rattle.taxi_units.specs.Limits.{last_number};
+
+use crate::{Change, Entry, Share, Totals, Trip};
+
+/// The layout that has shares, in which each commit is written.
+const WITH_SHARES: u8 = 2;
+
+/// The number of the state, which each commit raises by 1, the totals, the trip that is held, and the
+/// layout in which a slot has them: 1 or 2. In layout 1 the shares are none, and all hirings and fares
+/// were counted before. The ranges of the fields are those of `IsDurable`.
+#[derive(Clone, Copy, Debug, PartialEq, Eq)]
+pub struct Durable {
+    pub number: u64,
+    pub totals: Totals,
+    pub hold: Option<Trip>,
+    pub layout: u8,
+}
+
+impl Durable {
+    /// What sealing begins with: number 1, totals of zero, no held trip, layout 2.
+    pub fn zero() -> Durable
+        ensures state { result ≡ first_state }
+        ensures range { IsDurable result }
+    {
+        Durable {
+            number: 1,
+            totals: Totals {
+                distance_mm: 0,
+                hired_mm: 0,
+                hirings: 0,
+                supplements: 0,
+                fare: 0,
+                shares: [Share::NONE; 9],
+                before: Share::NONE,
+            },
+            hold: None,
+            layout: WITH_SHARES,
+        }
+    }
+
+    /// The state after one commit, in layout 2. An entry is added to the totals, and where it closes a
+    /// hiring, no trip is held then. A trip that is held from now on leaves the totals. The ranges must
+    /// hold afterwards, so the number is at most 2 * 10^15.
+    pub fn after(&self, commit: &Change) -> Durable
+        requires { IsDurable (after self.now commit.now) }
+        ensures state { result ≡ after self.now commit.now }
+        ensures range { IsDurable result }
+    {
+        match commit {
+            Change::Enter(entry) => self.after_entry(entry),
+            Change::Hold(trip) => self.next(self.totals, Some(*trip)),
+        }
+    }
+
+    /// The state after an entry.
+    fn after_entry(&self, entry: &Entry) -> Durable
+        requires { IsDurable (after self.now (Change.Enter entry.now)) }
+        ensures { result ≡ after self.now (Change.Enter entry.now) }
+    {
+        let hold = if entry.closes() { None } else { self.hold };
+        self.next(self.totals.with(entry), hold)
+    }
+
+    /// The state that follows, with these totals and this held trip.
+    fn next(&self, totals: Totals, hold: Option<Trip>) -> Durable
+        requires { self.now.number ≤ last_number }
+        ensures { result ≡ record { number = self.now.number + 1; totals = totals; hold = hold; layout = 2 } }
+    {
+        let layout = WITH_SHARES;
+        Durable {
+            number: self.number + 1,
+            totals,
+            hold,
+            layout,
+        }
+    }
+}

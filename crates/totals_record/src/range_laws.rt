@@ -1,0 +1,22 @@
+//! Commits of the meter keep the ranges.
+ghost use Rattle.std.specs.Prelude.{◌+◌, ◌≤◌};
+ghost use Rattle.totals_record.specs.declared.change.Change.TheVariants.{Enter, Hold};
+ghost use Rattle.totals_record.specs.declared.durable.Durable.{Durable};
+ghost use Rattle.totals_record.specs.declared.entry.Entry.{Entry};
+ghost use Rattle.totals_record.specs.declared.trip.Trip.{Trip};
+ghost use Rattle.totals_record.specs.Ranges.{HasRoom, IsDurable, IsEntry, IsTrip};
+ghost use Rattle.totals_record.specs.States.{after};
+ghost use Rattle.taxi_units.specs.Limits.{last_number};
+
+/// The condition of a commit holds for what the meter commits. From a state in its ranges with a number
+/// of at most 2 * 10^15 the ranges hold after an entry of at most 10^22 mm in all, a fare of at most
+/// 99,999,999, supplements of at most 1,584,000,000, a position of 1 to 9 where it isn't roaming, and no
+/// fare where it is. Where it is roaming beside a held trip, which it leaves, the number must leave room
+/// for that trip's own entry. The ranges hold after a trip is held that is in its ranges beside the
+/// number after, where that is at most 2 * 10^15.
+pub fn commits_keep_the_ranges()
+    ensures closed { (durable : Durable) (entry : Entry) → IsDurable durable → durable.number ≤ last_number
+        → IsEntry entry → HasRoom durable entry → IsDurable (after durable (Enter entry)) }
+    ensures held { (durable : Durable) (trip : Trip) → IsDurable durable → durable.number + 1 ≤ last_number
+        → IsTrip (durable.number + 1) trip → IsDurable (after durable (Hold trip)) }
+{}
