@@ -72,16 +72,16 @@ over_found old (Err end) tariff params s e = absurd cc
 over_found old (Ok base) tariff params s e = let both = with_found old base _ s e in (base, refl, both.0, both.1)
 
 -- what an image shows is what was found in it
-shows_totals : (image : List ℕ) (found : Found Durable) → IsAnswer totals.reads states.number_of 0 image (Ok found) → KeepsTotals (totals_found found) image
+shows_totals : (image : List ℕ) (found : Found Durable) → IsAnswer totals.reads states.state_number_of 0 image (Ok found) → KeepsTotals (totals_found found) image
 shows_totals image Blank is = inl is
-shows_totals image (Latest place durable) is = at_stands totals.reads states.number_of 0 place image durable is
+shows_totals image (Latest place durable) is = at_stands totals.reads states.state_number_of 0 place image durable is
 
-shows_seal : (image : List ℕ) (found : Found Seal) → IsAnswer seals.reads seals.number_of 1024 image (Ok found) → ShowsSeal image (old_seal found)
+shows_seal : (image : List ℕ) (found : Found Seal) → IsAnswer seals.reads seals.seal_number_of 1024 image (Ok found) → ShowsSeal image (old_seal found)
 shows_seal image Blank is = is
-shows_seal image (Latest place seal) is = at_stands seals.reads seals.number_of 1024 place image seal is
+shows_seal image (Latest place seal) is = at_stands seals.reads seals.seal_number_of 1024 place image seal is
 
 amid_found : (image tariff params : List ℕ) (t : Result (Found Durable) SlotFault) (l : Result (Found Seal) SlotFault) (s : Sealing)
-    → IsAnswer totals.reads states.number_of 0 image t → IsAnswer seals.reads seals.number_of 1024 image l
+    → IsAnswer totals.reads states.state_number_of 0 image t → IsAnswer seals.reads seals.seal_number_of 1024 image l
     → sealing_of (opened t l) tariff params ≡ Ok s → IsAmid s image
 amid_found image tariff params (Err fault) l s one two e = absurd cc
 amid_found image tariff params (Ok found) (Err fault) s one two e = absurd cc
@@ -104,10 +104,10 @@ cut_already image tariff params printed text unseen = by (sealing_of (opening_of
     by (Err end) is = refl
     by (Ok s) is = record {
       amid =
-          amid_found image tariff params (found_at totals.reads states.number_of 0 image)
-          (found_at seals.reads seals.number_of 1024 image) s
-          ((answer_is totals.reads states.number_of 0 image (found_at totals.reads states.number_of 0 image)).0 refl)
-          ((answer_is seals.reads seals.number_of 1024 image (found_at seals.reads seals.number_of 1024 image)).0 refl)
+          amid_found image tariff params (found_at totals.reads states.state_number_of 0 image)
+          (found_at seals.reads seals.seal_number_of 1024 image) s
+          ((answer_is totals.reads states.state_number_of 0 image (found_at totals.reads states.state_number_of 0 image)).0 refl)
+          ((answer_is seals.reads seals.seal_number_of 1024 image (found_at seals.reads seals.seal_number_of 1024 image)).0 refl)
           is;
       behind = λ shown. absurd (unseen s.new.seal_number shown);
     }
@@ -233,8 +233,8 @@ module _ {D L : Type 0} (B : Ghosts D L) where
   -- the store stands for what the sealing says, also behind a cut
   sealed_left : (s : Sealing) (board : D) → KeepsSealed B s.totals s.new board → (image : List ℕ) → SameBut (B.in_flight board) (B.image board) image → IsSealed s image
   sealed_left s board h image same = record {
-    totals = stays_settled totals.reads states.number_of 0 h.totals.0 (B.image board) image (B.in_flight board) (totals_after s.totals) h.totals.1 same;
-    seal = stays_settled seals.reads seals.number_of 1024 h.seal_is.0 (B.image board) image (B.in_flight board) s.new h.seal_is.1 same;
+    totals = stays_settled totals.reads states.state_number_of 0 h.totals.0 (B.image board) image (B.in_flight board) (totals_after s.totals) h.totals.1 same;
+    seal = stays_settled seals.reads seals.seal_number_of 1024 h.seal_is.0 (B.image board) image (B.in_flight board) s.new h.seal_is.1 same;
   }
 
   pub is_sealed : (s : Sealing) (board : D) → KeepsSealed B s.totals s.new board → IsSealed s (B.image board)

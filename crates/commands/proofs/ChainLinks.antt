@@ -13,8 +13,8 @@ use Rattle.outside.specs.Printing.{Begins}
 use Rattle.outside.specs.Runs.{IsSettled as NothingFlies}
 use Rattle.slot_store.proofs.Laws.{one_body}
 use Rattle.totals_record.specs.Reading.{reads}
-use Rattle.meter_store.specs.Stored.{HasState, number_of}
-use Rattle.totals_record.specs.Sums.{Follows}
+use Rattle.meter_store.specs.Stored.{HasState, state_number_of}
+use Rattle.totals_record.specs.Sums.{GrowsBy}
 use Rattle.totals_record.specs.declared.change.Change.{Change}
 use Rattle.totals_record.specs.declared.durable.Durable.{Durable}
 use Rattle.totals_record.proofs.Laws.{changes_add_up}
@@ -27,7 +27,7 @@ use Rattle.commands.specs.Link.{IsLeftInside, call_of, deeds_from, text_before}
 use Rattle.commands.specs.Chain.{Ran}
 use Rattle.commands.specs.ChainSteps.{HasLink}
 use Rattle.commands.specs.Opening.{opening_of}
-use Rattle.commands.specs.Run.{IsOfTotals, IsRun, MayFind, Stands, Start, bytes_in, deeds_in, run_command, start_of}
+use Rattle.commands.specs.Run.{IsOfTotals, IsRun, IsCutOfRun, Stands, Start, bytes_in, deeds_in, run_command, start_of}
 use Rattle.commands.specs.declared.ending.Ended.{Ended}
 use Rattle.commands.specs.declared.words.Row.{Row}
 use Rattle.commands.specs.declared.words.Row.TheVariants as rows
@@ -42,7 +42,7 @@ line_commits deeds line = changes_joined deeds (Prints line ∷ []) ∙ append-n
 
 -- an image stands for one state
 pub one_state : (image : List ℕ) (d e : Durable) → HasState image d → HasState image e → d ≡ e
-one_state image d e = one_body reads number_of 0 image d e
+one_state image d e = one_body reads state_number_of 0 image d e
 
 -- ---- what a cut leaves of a run
 
@@ -53,14 +53,14 @@ pub record Keeps (d : Durable) (commits : List Change) (image : List ℕ) : Type
   pub kept : List Change
   pub more : List Change
   pub split : commits ≡ kept ++ more
-  pub follows : Follows d found kept
+  pub follows : GrowsBy d found kept
 
 module _ (image tariff : List ℕ) (d : Durable) (has : HasState image d) where
   -- the state that a run begins with is the image's
   pub begins_with : (s : Start) → start_of (opening_of image) tariff ≡ Ok s → s.durable ≡ d
   begins_with s e = one_state image s.durable d (start_stands image tariff s e).0 has
 
-  pub keeps : (r : Result Start Ended) → start_of (opening_of image) tariff ≡ r → (bytes line i x : List ℕ) → MayFind (Unit {0}) image [] r bytes line i x
+  pub keeps : (r : Result Start Ended) → start_of (opening_of image) tariff ≡ r → (bytes line i x : List ℕ) → IsCutOfRun (Unit {0}) image [] r bytes line i x
       → Keeps d (changes_of (deeds_from r bytes)) i
   keeps (Err why) e bytes line i x m = record {
     found = d;
@@ -79,11 +79,11 @@ module _ (image tariff : List ℕ) (d : Durable) (has : HasState image d) where
         kept = changes_of cut.kept;
         more = changes_of beginning.0;
         split = sym (line_commits (deeds_in s bytes) line) ∙ ap changes_of beginning.1 ∙ changes_joined cut.kept beginning.0;
-        follows = subst (λ (b : Durable). Follows b cut.found (changes_of cut.kept)) (begins_with s e) cut.follows;
+        follows = subst (λ (b : Durable). GrowsBy b cut.found (changes_of cut.kept)) (begins_with s e) cut.follows;
       }
 
   -- the bytes of the seal
-  pub seal_same : (r : Result Start Ended) → (bytes line i x : List ℕ) → MayFind (Unit {0}) image [] r bytes line i x → SameBut IsOfTotals image i
+  pub seal_same : (r : Result Start Ended) → (bytes line i x : List ℕ) → IsCutOfRun (Unit {0}) image [] r bytes line i x → SameBut IsOfTotals image i
   seal_same (Err why) bytes line i x m = same_outside image i m.0
   seal_same (Ok s) bytes line i x m = m.seal_stays
 
@@ -99,7 +99,7 @@ module _ (image tariff : List ℕ) (d : Durable) (has : HasState image d) where
 
 -- where the text is told, and nothing was printed before
 pub told_pair : (told : Type 0) → told → (image printed : List ℕ) → printed ≡ [] → (r : Result Start Ended) (bytes line i x : List ℕ)
-    → MayFind told image printed r bytes line i x → MayFind (Unit {0}) image [] r bytes line i x
+    → IsCutOfRun told image printed r bytes line i x → IsCutOfRun (Unit {0}) image [] r bytes line i x
 told_pair told t image printed e (Err why) bytes line i x m = (m.0, λ u. subst (λ (p : List ℕ). Begins p x line) e (m.1 t))
 told_pair told t image printed e (Ok s) bytes line i x m = record {
   cut = record {
@@ -179,7 +179,7 @@ module _ {D L : Type 0} (B : Ghosts D L) (files left : FilesState) (old new : D)
   line = line_in run_command (rest_of files) image run.call.course
 
   abbrev IsLeft : List ℕ → List ℕ → Type 0
-  IsLeft i x = MayFind (Unit {0}) image [] begun bytes line i x
+  IsLeft i x = IsCutOfRun (Unit {0}) image [] begun bytes line i x
 
   -- a pair that a cut might have left since the call's start
   left_pair : (i x : List ℕ) → B.left_since new (B.moment old) i x → IsLeft i x
@@ -226,7 +226,7 @@ module _ {D L : Type 0} (B : Ghosts D L) (files left : FilesState) (old new : D)
             most = omega arith;
             stands = k.stands;
             number = is_number;
-            follows = subst (λ (l : List Change). Follows d k.found l) (sym prefix) k.follows;
+            follows = subst (λ (l : List Change). GrowsBy d k.found l) (sym prefix) k.follows;
             whole = λ uncut.
                 is_number ∙ all_kept image (rest_of files 1) d has B.tells_text (B.printed old) begun refl bytes (B.image new) (run.stands not_8) k.found
                 (subst (λ (l : List ℕ). HasState l k.found) (whole uncut) k.stands);

@@ -15,7 +15,7 @@ use Rattle.meter_run.specs.Points.{HasEntryOf, IsNumberedWithin}
 use Rattle.meter_run.proofs.Laws.{begins_in, changes_joined, receipts_are_numbered_in_order-cut, receipts_have_their_entries-cut, texts_joined, the_number_tells_the_commits-beginning}
 use Rattle.commands.specs.Chain.{HasByteOf, IsChain, last_image, last_state}
 use Rattle.commands.specs.Link.{IsLink, Link, begun_with, bytes_done, commits_done, deeds_from, last_line, prefix_of}
-use Rattle.commands.specs.Run.{IsRunCut, MayFind, Start, deeds_in, tables_in}
+use Rattle.commands.specs.Run.{IsCutOfStart, IsCutOfRun, Start, deeds_in, tables_in}
 use Rattle.commands.specs.declared.ending.Ended.{Ended}
 use Rattle.commands.proofs.ChainLinks.{begins_with, line_commits, one_state}
 
@@ -54,7 +54,7 @@ module _ (d : Durable) (image : List ℕ) (link : Link) (has : HasState image d)
   -- what the next image has of the run's commits is the prefix
   by_start : (s : Start) → begun_with image link ≡ Ok s → (receipt : receipts.Receipt) (earlier later : List Deed)
       → deeds_in s (bytes_done image link) ≡ earlier ++ Does (Receipt receipt) ∷ later → length (texts s.seal earlier) < length link.text
-      → IsRunCut (Unit {0}) image [] s (bytes_done image link) (last_line image link) link.image link.text → IsPrinted d image link receipt
+      → IsCutOfStart (Unit {0}) image [] s (bytes_done image link) (last_line image link) link.image link.text → IsPrinted d image link receipt
   by_start s begins receipt earlier later among reached pair =
       let cut = pair.cut in
       let deeds = deeds_in s (bytes_done image link) in
@@ -89,7 +89,7 @@ module _ (d : Durable) (image : List ℕ) (link : Link) (has : HasState image d)
       let e = h.begins in
       by_start h.start e receipt h.earlier h.later
       (sym (ap (λ (r : Result Start Ended). deeds_from r (bytes_done image link)) e) ∙ h.among) h.reached
-      (subst (λ (r : Result Start Ended). MayFind (Unit {0}) image [] r (bytes_done image link) (last_line image link) link.image link.text) e is.pair)
+      (subst (λ (r : Result Start Ended). IsCutOfRun (Unit {0}) image [] r (bytes_done image link) (last_line image link) link.image link.text) e is.pair)
 
 -- ---- each run of a chain
 

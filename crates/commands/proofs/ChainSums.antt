@@ -10,12 +10,12 @@ use Rattle.outside.specs.declared.replay.Fill.{Fill}
 use Rattle.outside.proofs.Laws.{same_slice}
 use Rattle.slot_store.specs.Scan.{verdict_on}
 use Rattle.slot_store.proofs.Laws.{body_found}
-use Rattle.seal_record.specs.Decoding.{number_of, reads}
+use Rattle.seal_record.specs.Decoding.{seal_number_of, reads}
 use Rattle.meter_store.specs.Sealing.{HasSeal}
 use Rattle.seal_record.specs.declared.seal.Seal.{Seal}
 use Rattle.totals_record.specs.Entries.{closes, closes_at, distance_of, fare_at, fare_of, hired_of, supplements_of}
 use Rattle.totals_record.specs.States.{IsHeldAfter, IsLast, IsRoaming, entries_of, layout_after}
-use Rattle.totals_record.specs.Sums.{AddsUp, Follows, ShareAddsUp, share_of}
+use Rattle.totals_record.specs.Sums.{AddsUp, GrowsBy, ShareAddsUp, share_of}
 use Rattle.totals_record.specs.declared.change.Change.{Change}
 use Rattle.totals_record.specs.declared.change.Change.TheVariants as changes
 use Rattle.totals_record.specs.declared.durable.Durable.{Durable}
@@ -91,7 +91,7 @@ layout_then opening [] ys = refl
 layout_then opening (x ∷ xs) [] = refl
 layout_then opening (x ∷ xs) (y ∷ ys) = refl
 
-follows_then : (a b c : Durable) (xs ys : List Change) → Follows a b xs → Follows b c ys → Follows a c (xs ++ ys)
+follows_then : (a b c : Durable) (xs ys : List Change) → GrowsBy a b xs → GrowsBy b c ys → GrowsBy a c (xs ++ ys)
 follows_then a b c xs ys first next = record {
   number = omega (arith, first.number, next.number, length-append xs ys);
   layout = next.layout ∙ ap (λ (n : ℕ). layout_after n ys) first.layout ∙ sym (layout_then a.layout xs ys);
@@ -102,7 +102,7 @@ follows_then a b c xs ys first next = record {
 
 -- ---- over a chain
 
-pub chain-state : (d : Durable) (image : List ℕ) (links : List Link) → IsChain d image links → Follows d (last_state d links) (prefixes_of d image links)
+pub chain-state : (d : Durable) (image : List ℕ) (links : List Link) → IsChain d image links → GrowsBy d (last_state d links) (prefixes_of d image links)
 chain-state d image [] chain = changes_add_up d []
 chain-state d image (link ∷ links) chain =
     follows_then d link.found (last_state link.found links) (prefix_of d image link) (prefixes_of link.found link.image links) chain.0.follows
@@ -124,6 +124,6 @@ pub chain-seal : (image last : List ℕ) (seal : Seal) → HasSeal image seal �
 chain-seal image last seal has same =
     let first : take 512 (drop 1024 last) ≡ take 512 (drop 1024 image) = same_slice IsOfTotals image last 1024 512 same (λ byte within touched. omega (arith, within.low, touched.high)) in
     let second : take 512 (drop 1536 last) ≡ take 512 (drop 1536 image) = same_slice IsOfTotals image last 1536 512 same (λ byte within touched. omega (arith, within.low, touched.high)) in
-    let found = body_found reads number_of 1024 image seal has in
+    let found = body_found reads seal_number_of 1024 image seal has in
     seal_at last found.0 seal
-    (ap (λ (x : List ℕ). verdict_on reads number_of x (take 512 (drop 1536 last))) first ∙ ap (λ (x : List ℕ). verdict_on reads number_of (take 512 (drop 1024 image)) x) second ∙ found.1)
+    (ap (λ (x : List ℕ). verdict_on reads seal_number_of x (take 512 (drop 1536 last))) first ∙ ap (λ (x : List ℕ). verdict_on reads seal_number_of (take 512 (drop 1024 image)) x) second ∙ found.1)

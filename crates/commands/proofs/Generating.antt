@@ -65,11 +65,11 @@ state_of (Err fault) = None
 
 -- a scan finds the state that the image stands for
 pub state_found : (image : List ℕ) (durable : Durable) (answer : Result (Found Durable) SlotFault) → HasState image durable
-    → answer ≡ found_at totals.reads states.number_of 0 image → state_of answer ≡ Some durable
-state_found image durable answer has e = let by = body_found totals.reads states.number_of 0 image durable has in ap state_of (e ∙ by.1)
+    → answer ≡ found_at totals.reads states.state_number_of 0 image → state_of answer ≡ Some durable
+state_found image durable answer has e = let by = body_found totals.reads states.state_number_of 0 image durable has in ap state_of (e ∙ by.1)
 
 pub state_found-ok : (image : List ℕ) (durable : Durable) (answer : Result (Found Durable) SlotFault) (found : Found Durable) → HasState image durable
-    → answer ≡ found_at totals.reads states.number_of 0 image → answer ≡ Ok found → totals_found found ≡ Some durable
+    → answer ≡ found_at totals.reads states.state_number_of 0 image → answer ≡ Ok found → totals_found found ≡ Some durable
 state_found-ok image durable answer found has e is = sym (ap state_of is) ∙ state_found image durable answer has e
 
 err-not : (answer : Result (Found Durable) SlotFault) (durable : Durable) → state_of answer ≡ Some durable → is_err answer ≡ true → ⊥
@@ -77,7 +77,7 @@ err-not (Ok found) durable f h = absurd (false-true h)
 err-not (Err fault) durable f h = absurd (none-some f)
 
 pub state_found-err : (image : List ℕ) (durable : Durable) (answer : Result (Found Durable) SlotFault) → HasState image durable
-    → answer ≡ found_at totals.reads states.number_of 0 image → is_err answer ≡ true → ⊥
+    → answer ≡ found_at totals.reads states.state_number_of 0 image → is_err answer ≡ true → ⊥
 state_found-err image durable answer has e = err-not answer durable (state_found image durable answer has e)
 
 -- a run that didn't fail is none that failed

@@ -44,13 +44,13 @@ pub as_refused : {T E : Type 0} (r s : Result T E) (a e : E) → r ≡ Err a →
 as_refused r s a e is other exact = sym (exact (λ f. other (same_fault r a e is f))) ∙ is
 
 -- the opening of an image, by what the scans of its pairs answer
-pub opened_bad : (image : List ℕ) (fault : SlotFault) → found_at totals.reads states.number_of 0 image ≡ Err fault → opening_of image ≡ Err (fault_from 0 fault)
-opened_bad image fault e = ap (λ (x : Result (Found Durable) SlotFault). opened x (found_at seals.reads seals.number_of 1024 image)) e
+pub opened_bad : (image : List ℕ) (fault : SlotFault) → found_at totals.reads states.state_number_of 0 image ≡ Err fault → opening_of image ≡ Err (fault_from 0 fault)
+opened_bad image fault e = ap (λ (x : Result (Found Durable) SlotFault). opened x (found_at seals.reads seals.seal_number_of 1024 image)) e
 
-pub opened_by : (image : List ℕ) (durable : Found Durable) (seal : Result (Found Seal) SlotFault) → found_at totals.reads states.number_of 0 image ≡ Ok durable
-    → found_at seals.reads seals.number_of 1024 image ≡ seal → opening_of image ≡ opened (Ok durable) seal
+pub opened_by : (image : List ℕ) (durable : Found Durable) (seal : Result (Found Seal) SlotFault) → found_at totals.reads states.state_number_of 0 image ≡ Ok durable
+    → found_at seals.reads seals.seal_number_of 1024 image ≡ seal → opening_of image ≡ opened (Ok durable) seal
 opened_by image durable seal e f =
-    ap (λ (x : Result (Found Durable) SlotFault). opened x (found_at seals.reads seals.number_of 1024 image)) e ∙ ap (opened (Ok durable)) f
+    ap (λ (x : Result (Found Durable) SlotFault). opened x (found_at seals.reads seals.seal_number_of 1024 image)) e ∙ ap (opened (Ok durable)) f
 
 -- what was found stays while the image does, and no more is in flight
 pub stays_found : {T : Type 0} (reads : List ℕ → Option T) (number_of : T → ℕ) (at : ℕ) (old new : List ℕ) (flown flying : ℕ → Type 0) (found : Found T) → new ≡ old

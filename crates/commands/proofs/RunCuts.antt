@@ -7,8 +7,8 @@ use Rattle.outside.proofs.Laws.{begins_after, begins_more, begins_not}
 use Rattle.slot_store.proofs.Laws.{body_found}
 use Rattle.taxi_units.specs.declared.receipt.Receipt as receipts
 use Rattle.totals_record.specs.Reading.{reads}
-use Rattle.meter_store.specs.Stored.{HasState, number_of}
-use Rattle.totals_record.specs.Sums.{Follows}
+use Rattle.meter_store.specs.Stored.{HasState, state_number_of}
+use Rattle.totals_record.specs.Sums.{GrowsBy}
 use Rattle.totals_record.specs.declared.durable.Durable.{Durable}
 use Rattle.totals_record.proofs.Laws.{changes_add_up}
 use Rattle.seal_record.specs.declared.seal.Seal.{Seal}
@@ -17,7 +17,7 @@ use Rattle.meter_states.specs.Fits.{Fits}
 use Rattle.meter_states.specs.declared.act.Act.TheVariants.{Receipt}
 use Rattle.meter_run.specs.Deeds.{Deed, Does, Prints, after_deeds, changes_of, texts}
 use Rattle.meter_run.proofs.Laws.{texts_joined}
-use Rattle.meter_run.specs.Points.{HasEntries, IsCut}
+use Rattle.meter_run.specs.Points.{HasEntries, IsCutOfDeeds}
 
 -- ---- lists
 
@@ -46,7 +46,7 @@ before_last (y ∷ ys) (x ∷ earlier) later line receipt e =
 
 module _ (tables : TableParts) (seal : Seal) (told : Type 0) (d : Durable) (printed : List ℕ) where
   abbrev Cut : List Deed → List ℕ → List ℕ → Type 0
-  Cut deeds i x = IsCut tables seal told d printed deeds i x
+  Cut deeds i x = IsCutOfDeeds tables seal told d printed deeds i x
 
   -- nothing was done yet
   pub first_cut : (deeds : List Deed) (i x : List ℕ) → HasState i d → ForSome d.hold (Fits tables) → (told → x ≡ printed) → Cut deeds i x
@@ -61,7 +61,7 @@ module _ (tables : TableParts) (seal : Seal) (told : Type 0) (d : Durable) (prin
     kept_is = inl refl;
     found = d;
     stands = has;
-    scanned = body_found reads number_of 0 i d has;
+    scanned = body_found reads state_number_of 0 i d has;
     fits = fits;
     follows = changes_add_up d [];
     receipts = λ earlier later receipt e. absurd (nothing_in earlier later (Does (Receipt receipt)) e);
@@ -88,7 +88,7 @@ module _ (tables : TableParts) (seal : Seal) (told : Type 0) (d : Durable) (prin
   }
 
   -- all was done, and the last line may have begun
-  pub last_cut : (deeds : List Deed) (line i x : List ℕ) → HasState i (after_deeds d deeds) → ForSome (after_deeds d deeds).hold (Fits tables) → Follows d (after_deeds d deeds) (changes_of deeds)
+  pub last_cut : (deeds : List Deed) (line i x : List ℕ) → HasState i (after_deeds d deeds) → ForSome (after_deeds d deeds).hold (Fits tables) → GrowsBy d (after_deeds d deeds) (changes_of deeds)
       → HasEntries d.number deeds → (told → Begins (printed ++ texts seal deeds) x line) → Cut (deeds ++ Prints line ∷ []) i x
   last_cut deeds line i x has fits follows entries text = record {
     done = deeds;
@@ -101,7 +101,7 @@ module _ (tables : TableParts) (seal : Seal) (told : Type 0) (d : Durable) (prin
     kept_is = inl refl;
     found = after_deeds d deeds;
     stands = has;
-    scanned = body_found reads number_of 0 i (after_deeds d deeds) has;
+    scanned = body_found reads state_number_of 0 i (after_deeds d deeds) has;
     fits = fits;
     follows = follows;
     receipts = λ earlier later receipt e.

@@ -18,7 +18,7 @@ use Rattle.meter_states.specs.Setting.{IsSettingOf}
 use Rattle.meter_run.specs.Deeds.{Prints, after_deeds, texts}
 use Rattle.meter_run.specs.OnStore.{HasBeside, WritesTotals}
 use Rattle.meter_run.proofs.Laws.{left_has, settled_has}
-use Rattle.meter_run.specs.Points.{IsCut}
+use Rattle.meter_run.specs.Points.{IsCutOfDeeds}
 use Rattle.meter_run.specs.Runs.{EndsRun, HasDone, HasStopped, OpensWith, RunsUpTo}
 use Rattle.meter_run.specs.declared.fault.RunFault.{RunFault}
 use Rattle.meter_run.specs.declared.fault.RunFault.TheVariants as faults
@@ -31,7 +31,7 @@ use Rattle.commands.specs.Ending.{ended_by}
 use Rattle.commands.specs.Fare.{drive_answer}
 use Rattle.commands.specs.LastLine.{line_of, status_of}
 use Rattle.commands.specs.Opening.{opening_of}
-use Rattle.commands.specs.Run.{IsOfTotals, IsRun, IsRunCut, MayFind, MayFindIn, Stands, Start, bytes_in, deeds_in, run_answer, run_command, setting_in, shown_in_run, start_at, start_of, tables_in}
+use Rattle.commands.specs.Run.{IsOfTotals, IsRun, IsCutOfStart, IsCutOfRun, IsCutOfCourse, Stands, Start, bytes_in, deeds_in, run_answer, run_command, setting_in, shown_in_run, start_at, start_of, tables_in}
 use Rattle.commands.specs.RunSteps.{RunComes}
 use Rattle.commands.specs.Unwritten.{KeepsBytes}
 use Rattle.commands.proofs.Faring.{end_of-status, left-whole, one_of}
@@ -51,8 +51,8 @@ module _ {E D L : Type 0} (F : FileGhosts E) (B : Ghosts D L) (files files' : E)
   drive = F.rest files 2
 
   -- what is found of the start is found of what the run begins with
-  found : (bytes line i x : List ℕ) → IsRunCut B.tells_text image printed s bytes line i x → MayFind B.tells_text image printed (start_at F B files old) bytes line i x
-  found bytes line i x h = subst (λ (r : Result Start Ended). MayFind B.tells_text image printed r bytes line i x) (sym begins) h
+  found : (bytes line i x : List ℕ) → IsCutOfStart B.tells_text image printed s bytes line i x → IsCutOfRun B.tells_text image printed (start_at F B files old) bytes line i x
+  found bytes line i x h = subst (λ (r : Result Start Ended). IsCutOfRun B.tells_text image printed r bytes line i x) (sym begins) h
 
   module _ (told : B.tells_image) (is : IsSettingOf (setting_in s) (tables_in s) s.seal) (opens : OpensWith B (tables_in s) mid s.durable) (fails : Type 0) (went : ¬ fails)
       (synced : LeavesFromSync B fails old mid (IsAsHeld B old)) (settled : NothingFlies B mid) (same : B.image mid ≡ B.image old) (text : B.printed mid ≡ B.printed old)
@@ -73,16 +73,16 @@ module _ {E D L : Type 0} (F : FileGhosts E) (B : Ghosts D L) (files files' : E)
         (record { size = h.bytes.size; rest = λ place outside. h.bytes.rest place (λ flies. not_flying place outside (beside.flight place flies)) })
 
     -- a cut amid the drive
-    amid : (bytes line : List ℕ) → LeavesOnly B mid new (λ i x. IsCut (tables_in s) s.seal B.tells_text s.durable (B.printed mid) (deeds_in s bytes) i x × HasBeside B mid i)
-        → LeavesFromSync B fails old new (λ i x. MayFind B.tells_text image printed (start_at F B files old) bytes line i x)
+    amid : (bytes line : List ℕ) → LeavesOnly B mid new (λ i x. IsCutOfDeeds (tables_in s) s.seal B.tells_text s.durable (B.printed mid) (deeds_in s bytes) i x × HasBeside B mid i)
+        → LeavesFromSync B fails old new (λ i x. IsCutOfRun B.tells_text image printed (start_at F B files old) bytes line i x)
     amid bytes line run =
-        let Kind : List ℕ → List ℕ → Type 0 = λ i x. MayFind B.tells_text image printed (start_at F B files old) bytes line i x in
+        let Kind : List ℕ → List ℕ → Type 0 = λ i x. IsCutOfRun B.tells_text image printed (start_at F B files old) bytes line i x in
         goes_on B (IsAsHeld B old) Kind fails fails old mid new went
         (λ i x held. found-held B.tells_text image printed (F.rest files 1) (start_at F B files old) refl bytes line i x held.image held.text) synced
-        (leaves_wider B (λ i x. IsCut (tables_in s) s.seal B.tells_text s.durable (B.printed mid) (deeds_in s bytes) i x × HasBeside B mid i) Kind mid new
+        (leaves_wider B (λ i x. IsCutOfDeeds (tables_in s) s.seal B.tells_text s.durable (B.printed mid) (deeds_in s bytes) i x × HasBeside B mid i) Kind mid new
         (λ i x h. found bytes line i x (record {
           cut = longer_cut (tables_in s) s.seal B.tells_text s.durable printed (deeds_in s bytes) (Prints line ∷ []) i x
-              (subst (λ (p : List ℕ). IsCut (tables_in s) s.seal B.tells_text s.durable p (deeds_in s bytes) i x) text h.0);
+              (subst (λ (p : List ℕ). IsCutOfDeeds (tables_in s) s.seal B.tells_text s.durable p (deeds_in s bytes) i x) text h.0);
           seal_stays = outside_left i h.1.bytes;
         })) run)
 
@@ -98,7 +98,7 @@ module _ {E D L : Type 0} (F : FileGhosts E) (B : Ghosts D L) (files files' : E)
       })
 
       rests-done : (i x : List ℕ) → MayHold (B.image new) (B.in_flight new) i → (B.tells_text → Begins (B.printed new) x line)
-          → MayFind B.tells_text image printed (start_at F B files old) bytes line i x
+          → IsCutOfRun B.tells_text image printed (start_at F B files old) bytes line i x
       rests-done i x held begun = found bytes line i x (record {
         cut = last_cut (tables_in s) s.seal B.tells_text s.durable printed (deeds_in s bytes) line i x
             (left_has done.opens.place (after_deeds s.durable (deeds_in s bytes)) (B.image new) (B.in_flight new) i done.opens.settled held.bytes)
@@ -155,7 +155,7 @@ module _ {E D L : Type 0} (F : FileGhosts E) (B : Ghosts D L) (files files' : E)
             leaves = from_sync_as B _ _ fails (status_of end ≡ 8) old new (λ f. absurd (went f)) (λ i x m. m)
                 (amid drive (line_in run_command (F.rest files) image Answered) done.cuts);
             rests = λ not_board i x held begun.
-                subst (λ (l : List ℕ). MayFind B.tells_text image printed (start_at F B files old) drive l i x) (sym line_at)
+                subst (λ (l : List ℕ). IsCutOfRun B.tells_text image printed (start_at F B files old) drive l i x) (sym line_at)
                 (rests-done drive (line_of end) done i x held begun);
             settled = λ not_board. settled-done drive (line_of end) done;
             unwritten = λ why f. absurd (not_refused why f);
@@ -231,7 +231,7 @@ module _ {E D L : Type 0} (F : FileGhosts E) (B : Ghosts D L) (files files' : E)
     (h : RunComes F B files files' old mid end) (kept : KeepsStore B mid new) (line : LeavesOnly B mid new (MayLeaveAmid (B.image mid) (B.in_flight mid) (B.printed mid) (line_of end)))
     (silent : line_of end ≡ [] → new ≡ mid) where
   abbrev Kind : List ℕ → List ℕ → Type 0
-  Kind i x = MayFindIn F B files old h.comes.course i x
+  Kind i x = IsCutOfCourse F B files old h.comes.course i x
 
   finished : (status_of end ≡ 8 → status ≡ 8) → (end ≡ ended.BoardFault) ⊎ ((end ≢ ended.BoardFault) × (status_of end ≢ 8)) → LeavesFromSync B (status_of end ≡ 8) old mid Kind
       → LeavesFromSync B (status ≡ 8) old new Kind
@@ -252,18 +252,18 @@ module _ {E D L : Type 0} (F : FileGhosts E) (B : Ghosts D L) (files files' : E)
   eighth (inr cut) z = cut.status_is
 
   -- the next run begins over what a cut leaves
-  next_start : (s : Start) (i x bytes line : List ℕ) → start_at F B files old ≡ Ok s → MayFind B.tells_text (B.image old) (B.printed old) (start_at F B files old) bytes line i x
+  next_start : (s : Start) (i x bytes line : List ℕ) → start_at F B files old ≡ Ok s → IsCutOfRun B.tells_text (B.image old) (B.printed old) (start_at F B files old) bytes line i x
       → (d : Durable) × (start_of (opening_of i) (F.rest files 1) ≡ Ok (record s { durable = d }))
   next_start s i x bytes line e m =
-      let cut : IsRunCut B.tells_text (B.image old) (B.printed old) s bytes line i x = subst (λ (r : Result Start Ended). MayFind B.tells_text (B.image old) (B.printed old) r bytes line i x) e m in
+      let cut : IsCutOfStart B.tells_text (B.image old) (B.printed old) s bytes line i x = subst (λ (r : Result Start Ended). IsCutOfRun B.tells_text (B.image old) (B.printed old) r bytes line i x) e m in
       (cut.cut.found, starts_again (B.image old) (F.rest files 1) i s cut.cut.scanned.0 cut.cut.found e cut.seal_stays cut.cut.scanned.1 cut.cut.fits)
 
   pub run-finished : (call : IsCall F B run_command files files' old new status) → call.course ≡ h.comes.course
       → IsEnd B.tells_text (Rose (B.faults mid) (B.faults new)) (status_of end) (line_of end) status (B.printed mid) (B.printed new)
       → (KeepsBytes B old mid → KeepsBytes B old new) → IsRun F B files files' old new status
   run-finished call course ends bytes =
-      let leaves : LeavesFromSync B (status ≡ 8) old new (MayFindIn F B files old call.course) =
-      from_sync_as B Kind (MayFindIn F B files old call.course) (status ≡ 8) (status ≡ 8) old new (λ f. f)
+      let leaves : LeavesFromSync B (status ≡ 8) old new (IsCutOfCourse F B files old call.course) =
+      from_sync_as B Kind (IsCutOfCourse F B files old call.course) (status ≡ 8) (status ≡ 8) old new (λ f. f)
       (λ i x m. rw course m) (finished (eighth ends) (board_or_not end) h.leaves) in
       record {
         call = call;
@@ -271,7 +271,7 @@ module _ {E D L : Type 0} (F : FileGhosts E) (B : Ghosts D L) (files files' : E)
             (subst (λ (i : List ℕ). Stands B.tells_text (B.image old) (B.printed old) (start_at F B files old) (bytes_in h.comes.course (F.rest files 2)) i) (sym kept.same)
             (h.stands (not_board not_8 ends)));
         leaves = leaves;
-        settled = λ still. settled_already B (MayFindIn F B files old call.course) (status ≡ 8) old new still
+        settled = λ still. settled_already B (IsCutOfCourse F B files old call.course) (status ≡ 8) old new still
             (found-held B.tells_text (B.image old) (B.printed old) (F.rest files 1) (start_at F B files old) refl
             (bytes_in call.course (F.rest files 2)) (line_in run_command (F.rest files) (B.image old) call.course) (B.image old) (B.printed old) refl refl) leaves;
         again = λ s i x e m. next_start s i x (bytes_in call.course (F.rest files 2)) (line_in run_command (F.rest files) (B.image old) call.course) e m;

@@ -14,7 +14,7 @@ use Rattle.meter_store.specs.Stored.{HasState}
 use Rattle.totals_record.proofs.Laws.{changes_add_up}
 use Rattle.meter_run.proofs.Laws.{receipts_have_their_entries-run}
 use Rattle.meter_run.specs.Deeds.{Deed, Prints, after_deeds, texts}
-use Rattle.meter_run.specs.Points.{HasEntries, IsCut}
+use Rattle.meter_run.specs.Points.{HasEntries, IsCutOfDeeds}
 use Rattle.commands.specs.declared.ending.Ended.{Ended}
 use Rattle.commands.specs.declared.ending.Ended.TheVariants as ended
 use Rattle.commands.specs.Answer.{Answer}
@@ -22,7 +22,7 @@ use Rattle.commands.specs.Course.{Answered, NoMemory, ReadFailed, BoardFailed, l
 use Rattle.commands.specs.Ending.{ComesOn}
 use Rattle.commands.specs.LastLine.{line_of, refused_as, status_of}
 use Rattle.commands.specs.Opening.{opening_of}
-use Rattle.commands.specs.Run.{IsOfTotals, MayFind, MayFindIn, Stands, Start, bytes_in, deeds_in, run_answer, run_command, setting_in, shown_in_run, start_at, start_of, tables_in}
+use Rattle.commands.specs.Run.{IsOfTotals, IsCutOfRun, IsCutOfCourse, Stands, Start, bytes_in, deeds_in, run_answer, run_command, setting_in, shown_in_run, start_at, start_of, tables_in}
 use Rattle.commands.specs.Stream.{Drive, Takes}
 use Rattle.commands.specs.RunSteps.{HasNotBegun, IsRefusal, RunComes}
 use Rattle.commands.proofs.Answering.{none}
@@ -52,7 +52,7 @@ outside_then old mid new first next = record {
 
 module _ (told : Type 0) (image printed tariff : List ℕ) where
   -- a cut while nothing was done yet
-  pub found-held : (r : Result Start Ended) → start_of (opening_of image) tariff ≡ r → (bytes line i x : List ℕ) → i ≡ image → x ≡ printed → MayFind told image printed r bytes line i x
+  pub found-held : (r : Result Start Ended) → start_of (opening_of image) tariff ≡ r → (bytes line i x : List ℕ) → i ≡ image → x ≡ printed → IsCutOfRun told image printed r bytes line i x
   found-held (Err why) e bytes line i x is text = (is, λ t. begins_not printed x line text)
   found-held (Ok s) e bytes line i x is text =
       let stands = start_stands image tariff s e in
@@ -64,13 +64,13 @@ module _ (told : Type 0) (image printed tariff : List ℕ) where
 
   -- and while the last line is printed, where nothing was done before
   pub found-line : (r : Result Start Ended) → start_of (opening_of image) tariff ≡ r → (bytes line i x : List ℕ) → ((s : Start) → r ≡ Ok s → bytes ≡ []) → i ≡ image
-      → (told → Begins printed x line) → MayFind told image printed r bytes line i x
+      → (told → Begins printed x line) → IsCutOfRun told image printed r bytes line i x
   found-line (Err why) e bytes line i x no_bytes is text = (is, text)
   found-line (Ok s) e bytes line i x no_bytes is text =
       let stands = start_stands image tariff s e in
       let nothing : deeds_in s bytes ≡ [] = ap (deeds_in s) (no_bytes s refl) ∙ no_deeds s in
       record {
-        cut = subst (λ (deeds : List Deed). IsCut (tables_in s) s.seal told s.durable printed (deeds ++ Prints line ∷ []) i x) (sym nothing)
+        cut = subst (λ (deeds : List Deed). IsCutOfDeeds (tables_in s) s.seal told s.durable printed (deeds ++ Prints line ∷ []) i x) (sym nothing)
             (last_cut (tables_in s) s.seal told s.durable printed [] line i x (subst (λ (l : List ℕ). HasState l s.durable) (sym is) stands.0) stands.1
             (changes_add_up s.durable []) (subst (λ (deeds : List Deed). HasEntries s.durable.number deeds) nothing (run_entries s bytes))
             (λ t. subst (λ (p : List ℕ). Begins p x line) (sym (append-nil printed)) (text t)));
@@ -105,7 +105,7 @@ module _ {E D L : Type 0} (F : FileGhosts E) (B : Ghosts D L) (files files' : E)
       record {
         comes = comes;
         stands = λ good. stands-still B.tells_text image printed tariff (start_at F B files old) refl bytes (B.image new) no_bytes (same good);
-        leaves = from_sync_as B (IsAsHeld B old) (MayFindIn F B files old comes.course) fails (status_of end ≡ 8) old new failed
+        leaves = from_sync_as B (IsAsHeld B old) (IsCutOfCourse F B files old comes.course) fails (status_of end ≡ 8) old new failed
             (λ i x held. found-held B.tells_text image printed tariff (start_at F B files old) refl bytes last i x held.image held.text) synced;
         rests = λ good i x held text.
             let is : i ≡ image = ext_get_or 0 i (B.image new) held.bytes.size (λ place lt. held.bytes.rest place (settled good place)) ∙ same good in

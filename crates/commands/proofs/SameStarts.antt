@@ -94,8 +94,8 @@ setting-range : (image tariff : List ℕ) (a : Start) → start_of (opening_of i
     → IsSettingInRange (setting_in a)
 setting-range image tariff a e =
     let h = found_in image tariff a e in
-    let at = subst (λ (r : Result (Found Seal) SlotFault). IsAnswer seals.reads seals.number_of 1024 image r) h.seal.1
-    ((answer_is seals.reads seals.number_of 1024 image (found_at seals.reads seals.number_of 1024 image)).0 refl) in
+    let at = subst (λ (r : Result (Found Seal) SlotFault). IsAnswer seals.reads seals.seal_number_of 1024 image r) h.seal.1
+    ((answer_is seals.reads seals.seal_number_of 1024 image (found_at seals.reads seals.seal_number_of 1024 image)).0 refl) in
     let seal : IsSeal a.seal = gives_valid (take body_size (drop (slot_at 1024 h.seal.0.slot + 1) image)) a.seal
     at.latest.body_is in
     let text = sealed-is (nat_lt 65536 (length tariff)) a.seal.digest tariff a.tree h.tariff_is in

@@ -143,30 +143,30 @@ has_found (Ok (Latest place durable)) (Ok (Latest other l)) tariff s e =
     }
 
 pub found_in : (image tariff : List ℕ) (s : Start) → start_of (opening_of image) tariff ≡ Ok s
-    → HasFound (found_at totals.reads states.number_of 0 image) (found_at seals.reads seals.number_of 1024 image) tariff s
-found_in image tariff s e = has_found (found_at totals.reads states.number_of 0 image) (found_at seals.reads seals.number_of 1024 image) tariff s e
+    → HasFound (found_at totals.reads states.state_number_of 0 image) (found_at seals.reads seals.seal_number_of 1024 image) tariff s
+found_in image tariff s e = has_found (found_at totals.reads states.state_number_of 0 image) (found_at seals.reads seals.seal_number_of 1024 image) tariff s e
 
 -- the opening image has the state that the run begins with, whose held trip fits
 pub start_stands : (image tariff : List ℕ) (s : Start) → start_of (opening_of image) tariff ≡ Ok s → states.HasState image s.durable × ForSome s.durable.hold (Fits (tables_in s))
 start_stands image tariff s e =
     let h = found_in image tariff s e in
-    let at = subst (λ (r : Result (Found Durable) SlotFault). IsAnswer totals.reads states.number_of 0 image r) h.totals.1
-    ((answer_is totals.reads states.number_of 0 image (found_at totals.reads states.number_of 0 image)).0 refl) in
-    (at_stands totals.reads states.number_of 0 h.totals.0 image s.durable at, hold_fits (tables_in s) s.durable.hold h.fits)
+    let at = subst (λ (r : Result (Found Durable) SlotFault). IsAnswer totals.reads states.state_number_of 0 image r) h.totals.1
+    ((answer_is totals.reads states.state_number_of 0 image (found_at totals.reads states.state_number_of 0 image)).0 refl) in
+    (at_stands totals.reads states.state_number_of 0 h.totals.0 image s.durable at, hold_fits (tables_in s) s.durable.hold h.fits)
 
 -- an image with other totals, whose held trip fits, beside the same seal: a run begins with it too
 pub starts_again : (image tariff left : List ℕ) (s : Start) (place : Place) (d : Durable) → start_of (opening_of image) tariff ≡ Ok s → SameBut IsOfTotals image left
-    → found_at totals.reads states.number_of 0 left ≡ Ok (Latest place d) → ForSome d.hold (Fits (tables_in s))
+    → found_at totals.reads states.state_number_of 0 left ≡ Ok (Latest place d) → ForSome d.hold (Fits (tables_in s))
     → start_of (opening_of left) tariff ≡ Ok (record s { durable = d })
 starts_again image tariff left s place d e same found fits =
     let h = found_in image tariff s e in
     let first : take 512 (drop 1024 left) ≡ take 512 (drop 1024 image) = same_slice IsOfTotals image left 1024 512 same (λ byte within touched. omega (arith, within.low, touched.high)) in
     let second : take 512 (drop 1536 left) ≡ take 512 (drop 1536 image) = same_slice IsOfTotals image left 1536 512 same (λ byte within touched. omega (arith, within.low, touched.high)) in
-    let seal : found_at seals.reads seals.number_of 1024 left ≡ Ok (Latest h.seal.0 s.seal) =
-    ap (λ (x : List ℕ). verdict_on seals.reads seals.number_of x (take 512 (drop 1536 left))) first
-    ∙ ap (λ (x : List ℕ). verdict_on seals.reads seals.number_of (take 512 (drop 1024 image)) x) second ∙ h.seal.1 in
+    let seal : found_at seals.reads seals.seal_number_of 1024 left ≡ Ok (Latest h.seal.0 s.seal) =
+    ap (λ (x : List ℕ). verdict_on seals.reads seals.seal_number_of x (take 512 (drop 1536 left))) first
+    ∙ ap (λ (x : List ℕ). verdict_on seals.reads seals.seal_number_of (take 512 (drop 1024 image)) x) second ∙ h.seal.1 in
     let opening : opening_of left ≡ Ok (record { totals = Latest place d; seal = Latest h.seal.0 s.seal }) =
-    ap (λ (r : Result (Found Durable) SlotFault). opened r (found_at seals.reads seals.number_of 1024 left)) found ∙ ap (opened (Ok (Latest place d))) seal in
+    ap (λ (r : Result (Found Durable) SlotFault). opened r (found_at seals.reads seals.seal_number_of 1024 left)) found ∙ ap (opened (Ok (Latest place d))) seal in
     ap (λ (r : Result Opening StoreFault). start_of r tariff) opening ∙ ap (start_with d s.seal) h.tariff_is
     ∙ rw ((Decides-hold (tables_in s) d.hold).1 fits) refl
 

@@ -7,14 +7,14 @@ use Rattle.outside.specs.MemoryBoard.{BoardState, held_inside, image_of, left_si
 use Rattle.outside.specs.MemoryFiles.{FilesState, rest_of}
 use Rattle.outside.specs.declared.replay.Fill.{Fill}
 use Rattle.meter_store.specs.Stored.{HasState}
-use Rattle.totals_record.specs.Sums.{Follows}
+use Rattle.totals_record.specs.Sums.{GrowsBy}
 use Rattle.totals_record.specs.declared.change.Change.{Change}
 use Rattle.totals_record.specs.declared.durable.Durable.{Durable}
 use Rattle.meter_run.specs.Deeds.{Deed, changes_of}
 use Rattle.commands.specs.Call.{LeavesUnread, MayTake}
 use Rattle.commands.specs.Course.{Course, line_in, status_in, text_in}
 use Rattle.commands.specs.Opening.{opening_of}
-use Rattle.commands.specs.Run.{IsOfTotals, MayFind, Start, bytes_in, deeds_in, run_command, start_of}
+use Rattle.commands.specs.Run.{IsOfTotals, IsCutOfRun, Start, bytes_in, deeds_in, run_command, start_of}
 use Rattle.commands.specs.declared.ending.Ended.{Ended}
 
 -- A run of a chain is told by what its files held and what is left of them, its board as the run left it, how the power
@@ -75,9 +75,9 @@ module _ (image : List ℕ) (link : Link) where
   last_line = line_in run_command (rest_of link.files) image link.course
 
   -- a pair of an image and a text is a point of a run where a cut of the power may leave it of the run
-  abbrev pub IsPoint : (left_image left_text : List ℕ) → Type 0
-  IsPoint left_image left_text =
-      MayFind (Unit {0}) image [] begun_with bytes_done last_line left_image left_text
+  abbrev pub IsCutOfLink : (left_image left_text : List ℕ) → Type 0
+  IsCutOfLink left_image left_text =
+      IsCutOfRun (Unit {0}) image [] begun_with bytes_done last_line left_image left_text
 
 -- the prefix of a run is the commits that the next image has, as many as its number is above that of the state before
 abbrev pub prefix_of : (durable : Durable) (image : List ℕ) → Link → List Change
@@ -102,14 +102,14 @@ pub record IsLink (durable : Durable) (image : List ℕ) (link : Link) : Type 0 
   -- the next image stands for the state after as many commits of the run
   pub stands : HasState link.image link.found
   pub number : link.number ≡ link.found.number
-  pub follows : Follows durable link.found (prefix_of durable image link)
+  pub follows : GrowsBy durable link.found (prefix_of durable image link)
   -- the commits are all those of the run where the power wasn't cut, and none where it was cut before the first call
   pub whole : link.cut ≡ None → link.number ≡ durable.number + length (commits_done image link)
   pub none : (fill : Fill) → link.cut ≡ Some (0, fill) → (link.image ≡ image) × (link.number ≡ durable.number)
   -- the board has printed the text of the run, and at each of its moments a cut leaves a point of the run
   pub printed : text_of link.board ≡ text_in run_command (rest_of link.files) image link.course
   pub moments : (left_image left_text : List ℕ) → left_since_of link.board 0 left_image left_text
-      → IsPoint image link left_image left_text
+      → IsCutOfLink image link left_image left_text
   -- the next image and what had been printed are those of the board: in the end, or inside the call of the cut
   pub text_is : link.text ≡ text_before link.cut link.board
   pub uncut : link.cut ≡ None → link.image ≡ image_of link.board
@@ -118,4 +118,4 @@ pub record IsLink (durable : Durable) (image : List ℕ) (link : Link) : Type 0 
   -- the bytes of the seal stay
   pub seal_stays : SameBut IsOfTotals image link.image
   -- the next image and what had been printed are a pair that a cut of the power leaves of the run
-  pub pair : IsPoint image link link.image link.text
+  pub pair : IsCutOfLink image link link.image link.text

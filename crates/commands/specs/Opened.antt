@@ -4,7 +4,7 @@ use Rattle.outside.specs.Faults.{Rose}
 use Rattle.outside.specs.Runs.{IsSettled}
 use Rattle.outside.specs.declared.board.Board.{Ghosts}
 use Rattle.slot_store.specs.declared.pair.Place.{Place}
-use Rattle.slot_store.specs.Scan.{IsAsFound, IsSound}
+use Rattle.slot_store.specs.Scan.{IsAsFound, IsValidFinding}
 use Rattle.slot_store.specs.Syncs.{IsAsHeld, LeavesFromSync, ReadsOnly}
 use Rattle.totals_record.specs.declared.durable.Durable.{Durable}
 use Rattle.totals_record.specs.Ranges.{IsDurable}
@@ -20,8 +20,8 @@ use Rattle.commands.specs.declared.opening.StoreFault.{StoreFault}
 
 -- an opening is sound where the durable state and the seal that it has are in their ranges
 pub record IsSoundOpening (opening : Opening) : Type 0 where
-  pub totals : IsSound IsDurable opening.totals
-  pub seal : IsSound IsSeal opening.seal
+  pub totals : IsValidFinding IsDurable opening.totals
+  pub seal : IsValidFinding IsSeal opening.seal
 
 -- a command is barred by the store where it ended by a fault of the store, or because the store isn't sealed
 abbrev pub IsBarred : Ended → Type 0
@@ -30,8 +30,8 @@ IsBarred ended = (ended ≡ NotSealed) ⊎ ((fault : StoreFault) × (ended ≡ s
 module _ {D L : Type 0} (B : Ghosts D L) where
   -- a board is opened where nothing of either pair is in flight, and both pairs are as they were found
   pub record IsOpened (board : D) (opening : Opening) : Type 0 where
-    pub totals : IsAsFound totals.reads states.number_of 0 (B.image board) (B.in_flight board) opening.totals
-    pub seal : IsAsFound seals.reads seals.number_of 1024 (B.image board) (B.in_flight board) opening.seal
+    pub totals : IsAsFound totals.reads states.state_number_of 0 (B.image board) (B.in_flight board) opening.totals
+    pub seal : IsAsFound seals.reads seals.seal_number_of 1024 (B.image board) (B.in_flight board) opening.seal
 
   -- a board is opened with a durable state where its pair of totals is settled with the state
   abbrev pub IsOpenedWith : (board : D) → Durable → Type 0

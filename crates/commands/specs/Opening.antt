@@ -31,7 +31,7 @@ opened (Ok durable) (Ok seal) = Ok (record { totals = durable; seal = seal })
 -- an image stands for what its pair of totals at 0 and its pair of seals at 1,024 stand for, or has a fault
 abbrev pub opening_of : (image : List ℕ) → Result Opening StoreFault
 opening_of image =
-    opened (found_at totals.reads states.number_of 0 image) (found_at seals.reads seals.number_of 1024 image)
+    opened (found_at totals.reads states.state_number_of 0 image) (found_at seals.reads seals.seal_number_of 1024 image)
 
 -- a store is sealed where both pairs stand for something, a durable state and a seal
 abbrev pub sealed_store : Found Durable → Found Seal → Option (Durable × Seal)

@@ -21,7 +21,7 @@ use Rattle.meter_states.specs.Setting.{Setting}
 use Rattle.meter_states.specs.Supplements.{amounts_from, most_in, supplement_in}
 use Rattle.meter_run.specs.Deeds.{Deed, Prints, after_deeds, texts}
 use Rattle.meter_run.specs.Drives.{IsBoundedBy}
-use Rattle.meter_run.specs.Points.{IsCut}
+use Rattle.meter_run.specs.Points.{IsCutOfDeeds}
 use Rattle.meter_run.specs.Runs.{run_deeds}
 use Rattle.commands.specs.Answer.{Answer}
 use Rattle.commands.specs.Call.{IsCall}
@@ -181,16 +181,16 @@ module _ (told : Type 0) (image printed : List ℕ) where
   -- scan finds less the opening one is the number of those commits, the totals are the opening ones plus the sums over
   -- their entries, and each receipt of which a byte was printed has its own entry among them. The bytes of the seal are
   -- the opening ones.
-  pub record IsRunCut (start : Start) (bytes line left_image left_text : List ℕ) : Type 0 where
-    pub cut : IsCut (tables_in start) start.seal told start.durable printed (deeds_in start bytes ++ Prints line ∷ [])
+  pub record IsCutOfStart (start : Start) (bytes line left_image left_text : List ℕ) : Type 0 where
+    pub cut : IsCutOfDeeds (tables_in start) start.seal told start.durable printed (deeds_in start bytes ++ Prints line ∷ [])
         left_image left_text
     pub seal_stays : SameBut IsOfTotals image left_image
 
   -- a cut of a run that may have been refused leaves what a cut of a run may leave where it has a start, and else the
   -- opening image and a beginning of the last line
-  abbrev pub MayFind : Result Start Ended → (bytes line left_image left_text : List ℕ) → Type 0
-  MayFind (Err why) bytes line left_image left_text = (left_image ≡ image) × (told → Begins printed left_text line)
-  MayFind (Ok start) bytes line left_image left_text = IsRunCut start bytes line left_image left_text
+  abbrev pub IsCutOfRun : Result Start Ended → (bytes line left_image left_text : List ℕ) → Type 0
+  IsCutOfRun (Err why) bytes line left_image left_text = (left_image ≡ image) × (told → Begins printed left_text line)
+  IsCutOfRun (Ok start) bytes line left_image left_text = IsCutOfStart start bytes line left_image left_text
 
   -- a run is done where the image stands for the durable state after all commits of the run, beside the opening seal
   pub record IsRunDone (start : Start) (bytes now : List ℕ) : Type 0 where
@@ -210,8 +210,8 @@ module _ {E D L : Type 0} (F : FileGhosts E) (B : Ghosts D L) where
 
   -- a cut of a run that took a course may have left an image and a text that a cut may leave of the deeds over the
   -- bytes that the course carried out, behind which the course's last line stands
-  abbrev pub MayFindIn : (files : E) (old : D) → Course → (left_image left_text : List ℕ) → Type 0
-  MayFindIn files old course = MayFind B.tells_text (B.image old) (B.printed old) (start_at files old)
+  abbrev pub IsCutOfCourse : (files : E) (old : D) → Course → (left_image left_text : List ℕ) → Type 0
+  IsCutOfCourse files old course = IsCutOfRun B.tells_text (B.image old) (B.printed old) (start_at files old)
       (bytes_in course (F.rest files 2)) (line_in run_command (F.rest files) (B.image old) course)
 
   -- The headline. A run took a course, and printed its text, which is the displays, refusals and receipts of the events
@@ -225,10 +225,10 @@ module _ {E D L : Type 0} (F : FileGhosts E) (B : Ghosts D L) where
     pub stands : ended ≢ 8
         → Stands B.tells_text (B.image old) (B.printed old) (start_at files old)
         (bytes_in call.course (F.rest files 2)) (B.image new)
-    pub leaves : LeavesFromSync B (ended ≡ 8) old new (MayFindIn files old call.course)
-    pub settled : IsSettled B old → LeavesOnly B old new (MayFindIn files old call.course)
+    pub leaves : LeavesFromSync B (ended ≡ 8) old new (IsCutOfCourse files old call.course)
+    pub settled : IsSettled B old → LeavesOnly B old new (IsCutOfCourse files old call.course)
     pub again : (start : Start) (left_image left_text : List ℕ) → start_at files old ≡ Ok start
-        → MayFindIn files old call.course left_image left_text
+        → IsCutOfCourse files old call.course left_image left_text
         → (durable : Durable)
         × (start_of (opening_of left_image) (F.rest files 1) ≡ Ok (record start { durable = durable }))
     pub unwritten : (why : Ended) → start_at files old ≡ Err why → WritesNothing B old new ended

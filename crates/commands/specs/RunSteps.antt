@@ -12,7 +12,7 @@ use Rattle.meter_run.specs.Runs.{OpensWith}
 use Rattle.commands.specs.Ending.{ComesOn}
 use Rattle.commands.specs.LastLine.{line_of, status_of}
 use Rattle.commands.specs.Opening.{IsSealedIn, opening_of}
-use Rattle.commands.specs.Run.{MayFindIn, Stands, Start, bytes_in, run_command, sealed_tariff}
+use Rattle.commands.specs.Run.{IsCutOfCourse, Stands, Start, bytes_in, run_command, sealed_tariff}
 use Rattle.commands.specs.Run.{start_at, start_of, tables_in}
 use Rattle.commands.specs.Tariffs.{tariff_in}
 use Rattle.commands.specs.Unwritten.{KeepsBytes}
@@ -78,12 +78,12 @@ module _ {E D L : Type 0} (F : FileGhosts E) (B : Ghosts D L) where
     pub comes : ComesOn F B run_command files files' old new ended
     pub stands : ended ≢ BoardFault → Stands B.tells_text (B.image old) (B.printed old) (start_at F B files old)
         (bytes_in comes.course (F.rest files 2)) (B.image new)
-    pub leaves : LeavesFromSync B (status_of ended ≡ 8) old new (MayFindIn F B files old comes.course)
+    pub leaves : LeavesFromSync B (status_of ended ≡ 8) old new (IsCutOfCourse F B files old comes.course)
     -- a cut while the last line is printed leaves such a place too
     pub rests : ended ≢ BoardFault → (left_image left_text : List ℕ)
         → MayHold (B.image new) (B.in_flight new) left_image
         → (B.tells_text → Begins (B.printed new) left_text (line_of ended))
-        → MayFindIn F B files old comes.course left_image left_text
+        → IsCutOfCourse F B files old comes.course left_image left_text
     pub settled : ended ≢ BoardFault → IsSettled B new
     pub unwritten : (why : Ended) → start_at F B files old ≡ Err why → KeepsBytes B old new
     pub same : (why : Ended) → start_at F B files old ≡ Err why → ended ≢ BoardFault → B.image new ≡ B.image old

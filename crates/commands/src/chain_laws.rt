@@ -3,7 +3,7 @@ ghost use Rattle.std.specs.Prelude.{ℕ, ◌∷◌, ◌++◌, List};
 ghost use Rattle.taxi_units.specs.declared.receipt.Receipt as receipts;
 ghost use Rattle.totals_record.specs.States.{entries_of};
 ghost use Rattle.meter_store.specs.Stored.{HasState};
-ghost use Rattle.totals_record.specs.Sums.{AddsUp, Follows};
+ghost use Rattle.totals_record.specs.Sums.{AddsUp, GrowsBy};
 ghost use Rattle.totals_record.specs.declared.durable.Durable.{Durable};
 ghost use Rattle.meter_run.specs.Points.{HasEntryOf, IsNumberedWithin};
 ghost use Rattle.commands.specs.Chain.{HasByteOf, IsChain, last_image, last_state, prefixes_of};
@@ -17,7 +17,7 @@ pub fn chains_add_up()
     ensures totals { (durable : Durable) (image : List ℕ) (links : List Link) → IsChain durable image links
         → AddsUp durable.totals (last_state durable links).totals (entries_of (prefixes_of durable image links)) }
     ensures state { (durable : Durable) (image : List ℕ) (links : List Link) → IsChain durable image links
-        → Follows durable (last_state durable links) (prefixes_of durable image links) }
+        → GrowsBy durable (last_state durable links) (prefixes_of durable image links) }
 {}
 
 /// Where a byte of a receipt stands in the text that a run of a chain left, the receipt has its entry in the

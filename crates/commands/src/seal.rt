@@ -2,7 +2,7 @@
 ghost use Rattle.std.specs.Prelude.{◌≡◌, ◌≢◌, ◌⊎◌, ◌+◌, ◌<◌, ◌≤◌, ℕ, [], IfOk, OnOk, Ok, Err};
 ghost use Rattle.std.specs.Option.{ForSome};
 ghost use Rattle.outside.specs.Faults.{Rose};
-ghost use Rattle.slot_store.specs.Scan.{IsSound};
+ghost use Rattle.slot_store.specs.Scan.{IsValidFinding};
 ghost use Rattle.seal_record.specs.Limits.{last_seal_number};
 ghost use Rattle.seal_record.specs.Ranges.{IsSeal};
 ghost use Rattle.meter_store.specs.Sealing.{found_number, next_number, seal_found, totals_found};
@@ -57,7 +57,7 @@ fn base_of(opening: Opening) -> Result<Base, Ended>
 
 /// What a sealing starts from, where the totals hold no trip.
 fn over_seal(totals: Option<Durable>, seal: Found<Seal>) -> Result<Base, Ended>
-    requires { IsSound IsSeal seal }
+    requires { IsValidFinding IsSeal seal }
     ensures answer { result ≡ spec.over_seal totals seal }
     ensures totals { IfOk result (λ base. base.totals ≡ totals) }
     ensures found { IfOk result (λ base. base.found ≡ seal_found seal) }

@@ -13,7 +13,7 @@ use Rattle.drive_text.specs.Ranges.{IsRunInRange}
 use Rattle.drive_text.specs.Reading.{Reading, HasFailed, HasTaken, TakesTo, BreaksIn}
 use Rattle.drive_text.proofs.Cuts.{runs_in-append_bad}
 use Rattle.drive_text.proofs.Parts.{no_runs}
-use Rattle.drive_text.proofs.Standing.{goes_on, failed_at, failed_stays, number_of, number_small, line_is_bad, bad_gives_none, line_too_long}
+use Rattle.drive_text.proofs.Standing.{goes_on, failed_at, failed_stays, line_number_of, number_small, line_is_bad, bad_gives_none, line_too_long}
 
 -- ---- a part
 
@@ -58,7 +58,7 @@ takes_bytes old new p one some going counted reader runs = record {
 }
 
 -- where a line is bad
-pub fails_line : (old new : Reading) (l : List ℕ) (number line : ℕ) → IsOneLine l → line_runs (old.kept ++ l) ≡ None → old.failed ≡ false → old.comment ≡ false → number ≡ number_of old → line ≡ number → HasFailed new number → FailsIn old new (l ++ 10 ∷ []) line
+pub fails_line : (old new : Reading) (l : List ℕ) (number line : ℕ) → IsOneLine l → line_runs (old.kept ++ l) ≡ None → old.failed ≡ false → old.comment ≡ false → number ≡ line_number_of old → line ≡ number → HasFailed new number → FailsIn old new (l ++ 10 ∷ []) line
 fails_line old new l number line one bad going plain is same failed = record {
   failed = failed.failed;
   number = failed.begun ∙ sym same;
@@ -68,7 +68,7 @@ fails_line old new l number line one bad going plain is same failed = record {
 }
 
 -- or too long
-pub fails_bytes : (old new : Reading) (p : List ℕ) (number line : ℕ) → IsOneLine p → is_too_long (old.kept ++ p) ≡ true → old.failed ≡ false → old.comment ≡ false → number ≡ number_of old → line ≡ number → HasFailed new number → FailsIn old new p line
+pub fails_bytes : (old new : Reading) (p : List ℕ) (number line : ℕ) → IsOneLine p → is_too_long (old.kept ++ p) ≡ true → old.failed ≡ false → old.comment ≡ false → number ≡ line_number_of old → line ≡ number → HasFailed new number → FailsIn old new p line
 fails_bytes old new p number line one long going plain is same failed = record {
   failed = failed.failed;
   number = failed.begun ∙ sym same;

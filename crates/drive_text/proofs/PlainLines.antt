@@ -24,7 +24,7 @@ use Rattle.drive_text.specs.Table.Means.{pulses, tick, intervals}
 use Rattle.drive_text.proofs.Feeding.{takes_line}
 use Rattle.drive_text.proofs.Numbers.{no_bytes}
 use Rattle.drive_text.proofs.Ranges.{runs_in_range}
-use Rattle.drive_text.proofs.Standing.{number_of, line_is_good, line_gives}
+use Rattle.drive_text.proofs.Standing.{line_number_of, line_is_good, line_gives}
 use Rattle.drive_text.proofs.Table.{line_runs-table}
 
 -- ---- plain lines
@@ -139,7 +139,7 @@ takes_before old new part piece rest before after split t = record {
   quiet = t.quiet;
 }
 
-next_number : (r : Reading) → r.kept ≡ [] → number_of r ≡ r.begun + 1
+next_number : (r : Reading) → r.kept ≡ [] → line_number_of r ≡ r.begun + 1
 next_number r none = rw none refl
 
 -- a reader between two lines takes a plain line
@@ -150,7 +150,7 @@ takes_plain old new piece rest run before after h short going plain is added =
     let good : line_runs (old.kept ++ h.line) ≡ Some (run ∷ []) = ap (λ (x : List ℕ). line_runs (x ++ h.line)) none ∙ h.gives in
     let failed = ap (λ (r : Reading). r.failed) is ∙ going in
     let begun : new.begun ≡ old.begun + 1 = ap (λ (r : Reading). r.begun) is in
-    let number : new.begun ≡ number_of old = begun ∙ sym (next_number old none) in
+    let number : new.begun ≡ line_number_of old = begun ∙ sym (next_number old none) in
     let t : TakesPart old new (h.line ++ 10 ∷ []) [] before after = takes_line old new h.line before after (run ∷ []) h.one added (runs_in_range h.line (run ∷ []) h.gives) failed (omega arith)
     (λ b taken. line_is_good old new b h.line (run ∷ []) h.one going plain good number (ap (λ (r : Reading). r.kept) is ∙ none) (ap (λ (r : Reading). r.comment) is ∙ plain) failed taken)
     (λ b taken. line_gives old b h.line (run ∷ []) h.one going plain good taken) in

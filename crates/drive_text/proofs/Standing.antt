@@ -99,8 +99,8 @@ kept_is r lines t h plain =
     (h.kept ∙ ap (λ (m : Bool). cond m [] t) e, e)
 
 -- of a line that is no comment
-abbrev pub number_of : Reading → ℕ
-number_of r = cond (eqb (length r.kept) 0) (r.begun + 1) r.begun
+abbrev pub line_number_of : Reading → ℕ
+line_number_of r = cond (eqb (length r.kept) 0) (r.begun + 1) r.begun
 
 number_by : (begun n : ℕ) (t : List ℕ) → begun ≡ cond (eqb (length t) 0) n (n + 1) → cond (eqb (length t) 0) (begun + 1) begun ≡ n + 1
 number_by begun n [] e = omega (arith, e)
@@ -109,7 +109,7 @@ number_by begun n (x ∷ xs) e =
     let is : begun ≡ n + 1 = e ∙ counted n (x ∷ xs) (omega arith) in
     rw some is
 
-number_is : (r : Reading) (lines : List (List ℕ)) (t : List ℕ) → StandsIn r lines t → r.comment ≡ false → number_of r ≡ length lines + 1
+number_is : (r : Reading) (lines : List (List ℕ)) (t : List ℕ) → StandsIn r lines t → r.comment ≡ false → line_number_of r ≡ length lines + 1
 number_is r lines t h plain =
     let k = (kept_is r lines t h plain).0 in
     ap (λ (x : List ℕ). cond (eqb (length x) 0) (r.begun + 1) r.begun) k ∙ number_by r.begun (length lines) t h.begun
@@ -166,7 +166,7 @@ number_by_test true n = omega arith
 number_by_test false n = omega arith
 
 -- at most one line begins
-pub number_small : (r : Reading) → number_of r ≤ r.begun + 1
+pub number_small : (r : Reading) → line_number_of r ≤ r.begun + 1
 number_small r = number_by_test (eqb (length r.kept) 0) r.begun
 
 -- what is kept is no comment
@@ -196,7 +196,7 @@ comment_goes_on r b p one going comment h =
 
 -- begins a comment
 pub comment_begins : (old new : Reading) (b p : List ℕ) → IsOneLine p → is_comment (old.kept ++ p) ≡ true → old.failed ≡ false → old.comment ≡ false
-    → new.begun ≡ number_of old → new.kept ≡ old.kept → new.comment ≡ true → new.failed ≡ false → HasTaken old b → HasTaken new (b ++ p)
+    → new.begun ≡ line_number_of old → new.kept ≡ old.kept → new.comment ≡ true → new.failed ≡ false → HasTaken old b → HasTaken new (b ++ p)
 comment_begins old new b p one sign going plain begun kept comment goes_on h =
     let lines = ended_lines b in
     let t = unfinished_line b in
@@ -214,7 +214,7 @@ comment_begins old new b p one sign going plain begun kept comment goes_on h =
 
 -- goes on with a line, or begins it
 pub line_goes_on : (old new : Reading) (b p : List ℕ) → IsOneLine p → 0 < length p → is_comment (old.kept ++ p) ≡ false → is_too_long (old.kept ++ p) ≡ false → old.failed ≡ false → old.comment ≡ false
-    → new.begun ≡ number_of old → new.kept ≡ old.kept ++ p → new.comment ≡ false → new.failed ≡ false → HasTaken old b → HasTaken new (b ++ p)
+    → new.begun ≡ line_number_of old → new.kept ≡ old.kept ++ p → new.comment ≡ false → new.failed ≡ false → HasTaken old b → HasTaken new (b ++ p)
 line_goes_on old new b p one some sign short going plain begun kept comment goes_on h =
     let lines = ended_lines b in
     let t = unfinished_line b in
@@ -231,7 +231,7 @@ line_goes_on old new b p one some sign short going plain begun kept comment goes
 
 -- makes a line too long
 pub line_too_long : (old new : Reading) (b p : List ℕ) → IsOneLine p → is_too_long (old.kept ++ p) ≡ true → old.failed ≡ false → old.comment ≡ false
-    → HasFailed new (number_of old) → HasTaken old b → HasTaken new (b ++ p)
+    → HasFailed new (line_number_of old) → HasTaken old b → HasTaken new (b ++ p)
 line_too_long old new b p one long going plain failed h =
     let lines = ended_lines b in
     let t = unfinished_line b in
@@ -288,7 +288,7 @@ whole_line r b l o h going plain e =
 
 -- ends a line that is good
 pub line_is_good : (old new : Reading) (b l : List ℕ) (rs : List Run) → IsOneLine l → old.failed ≡ false → old.comment ≡ false → line_runs (old.kept ++ l) ≡ Some rs
-    → new.begun ≡ number_of old → new.kept ≡ [] → new.comment ≡ false → new.failed ≡ false → HasTaken old b → HasTaken new (b ++ (l ++ 10 ∷ []))
+    → new.begun ≡ line_number_of old → new.kept ≡ [] → new.comment ≡ false → new.failed ≡ false → HasTaken old b → HasTaken new (b ++ (l ++ 10 ∷ []))
 line_is_good old new b l rs one going plain good begun kept comment goes_on h =
     let g = goes old b h going in
     good_ends new b l rs one g.ended_good (whole_line old b l (Some rs) h going plain good) (begun ∙ number_is old (ended_lines b) (unfinished_line b) g.stands plain) kept comment goes_on
@@ -297,7 +297,7 @@ pub line_gives : (old : Reading) (b l : List ℕ) (rs : List Run) → IsOneLine 
 line_gives old b l rs one going plain good h = good_runs b l rs one (goes old b h going).ended_good (whole_line old b l (Some rs) h going plain good)
 
 -- or one that is bad
-pub line_is_bad : (old new : Reading) (b l : List ℕ) → IsOneLine l → old.failed ≡ false → old.comment ≡ false → line_runs (old.kept ++ l) ≡ None → HasFailed new (number_of old)
+pub line_is_bad : (old new : Reading) (b l : List ℕ) → IsOneLine l → old.failed ≡ false → old.comment ≡ false → line_runs (old.kept ++ l) ≡ None → HasFailed new (line_number_of old)
     → HasTaken old b → HasTaken new (b ++ (l ++ 10 ∷ []))
 line_is_bad old new b l one going plain bad failed h =
     let lines = ended_lines b in

@@ -12,8 +12,8 @@ use Rattle.taxi_units.specs.declared.receipt.Kind.TheVariants.{Closed, Aborted, 
 use Rattle.taxi_units.specs.declared.receipt.Receipt as receipts
 use Rattle.totals_record.specs.Reading.{reads}
 use Rattle.totals_record.specs.States.{after, after_all}
-use Rattle.meter_store.specs.Stored.{number_of}
-use Rattle.totals_record.specs.Sums.{Follows}
+use Rattle.meter_store.specs.Stored.{state_number_of}
+use Rattle.totals_record.specs.Sums.{GrowsBy}
 use Rattle.totals_record.specs.declared.change.Change.{Change}
 use Rattle.totals_record.specs.declared.change.Change.TheVariants as changes
 use Rattle.totals_record.specs.declared.durable.Durable.{Durable}
@@ -23,7 +23,7 @@ use Rattle.meter_states.specs.Pairs.{ArePaired, IsReceiptOf, waiting_after}
 use Rattle.meter_states.specs.declared.act.Act.{Act}
 use Rattle.meter_states.specs.declared.act.Act.TheVariants.{Show, Refuse, Enter, Hold, Receipt}
 use Rattle.meter_run.specs.Deeds.{Deed, Does, Prints, after_deed, after_deeds, changes_of, deeds_of, text_in, texts}
-use Rattle.meter_run.specs.Points.{AtPoint, EndsInEntryOf, HasEntries, Holds, IsCut, IsEntered}
+use Rattle.meter_run.specs.Points.{IsPointOfDeeds, EndsInEntryOf, HasEntries, Holds, IsCutOfDeeds, IsEntered}
 
 -- ---- what deeds commit
 
@@ -36,8 +36,8 @@ after_changes d (Does (Enter entry) ∷ deeds) = after_changes (after d (changes
 after_changes d (Does (Hold trip) ∷ deeds) = after_changes (after d (changes.Hold trip)) deeds
 after_changes d (Does (Receipt receipt) ∷ deeds) = after_changes d deeds
 
-pub deeds_follow : (d : Durable) (deeds : List Deed) → Follows d (after_deeds d deeds) (changes_of deeds)
-deeds_follow d deeds = subst (λ (e : Durable). Follows d e (changes_of deeds)) (sym (after_changes d deeds)) (changes_add_up d (changes_of deeds))
+pub deeds_follow : (d : Durable) (deeds : List Deed) → GrowsBy d (after_deeds d deeds) (changes_of deeds)
+deeds_follow d deeds = subst (λ (e : Durable). GrowsBy d e (changes_of deeds)) (sym (after_changes d deeds)) (changes_add_up d (changes_of deeds))
 
 -- ---- lists
 
@@ -204,7 +204,7 @@ module _ (tables : TableParts) (seal : Seal) (told : Type 0) where
     holds = holds;
   }
 
-  reaches : (d : Durable) (p : List ℕ) (deeds : List Deed) (i x : List ℕ) → AtPoint tables seal told d p deeds i x → Reaches d p deeds i x
+  reaches : (d : Durable) (p : List ℕ) (deeds : List Deed) (i x : List ℕ) → IsPointOfDeeds tables seal told d p deeds i x → Reaches d p deeds i x
   reaches d p [] i x h = record {
     done = [];
     next = [];
@@ -236,7 +236,7 @@ module _ (tables : TableParts) (seal : Seal) (told : Type 0) where
       }
 
   -- for readers
-  pub cut_of : (d : Durable) (p : List ℕ) (deeds : List Deed) (i x : List ℕ) → HasEntries d.number deeds → AtPoint tables seal told d p deeds i x → IsCut tables seal told d p deeds i x
+  pub cut_of : (d : Durable) (p : List ℕ) (deeds : List Deed) (i x : List ℕ) → HasEntries d.number deeds → IsPointOfDeeds tables seal told d p deeds i x → IsCutOfDeeds tables seal told d p deeds i x
   cut_of d p deeds i x entries at =
       let r = reaches d p deeds i x at in
       record {
@@ -250,14 +250,14 @@ module _ (tables : TableParts) (seal : Seal) (told : Type 0) where
         kept_is = r.kept_is;
         found = after_deeds d r.kept;
         stands = r.holds.has;
-        scanned = body_found reads number_of 0 i (after_deeds d r.kept) r.holds.has;
+        scanned = body_found reads state_number_of 0 i (after_deeds d r.kept) r.holds.has;
         fits = r.holds.fits;
         follows = deeds_follow d r.kept;
         receipts = entered_in d.number deeds r.done r.next r.left r.kept entries r.split r.one r.kept_is;
       }
 
   -- with more deeds behind it
-  pub cut_longer : (d : Durable) (p : List ℕ) (deeds more : List Deed) (i x : List ℕ) → IsCut tables seal told d p deeds i x → IsCut tables seal told d p (deeds ++ more) i x
+  pub cut_longer : (d : Durable) (p : List ℕ) (deeds more : List Deed) (i x : List ℕ) → IsCutOfDeeds tables seal told d p deeds i x → IsCutOfDeeds tables seal told d p (deeds ++ more) i x
   cut_longer d p deeds more i x cut = record {
     done = cut.done;
     next = cut.next;
@@ -277,7 +277,7 @@ module _ (tables : TableParts) (seal : Seal) (told : Type 0) where
 
   -- amid a line behind all of them
   pub cut_in_line : (d : Durable) (p : List ℕ) (deeds : List Deed) (line : List ℕ) (i x : List ℕ) → HasEntries d.number deeds → Holds tables i (after_deeds d deeds) → (told → Begins (p ++ texts seal deeds) x line)
-      → IsCut tables seal told d p (deeds ++ Prints line ∷ []) i x
+      → IsCutOfDeeds tables seal told d p (deeds ++ Prints line ∷ []) i x
   cut_in_line d p deeds line i x entries holds begun = record {
     done = deeds;
     next = Prints line ∷ [];
@@ -289,7 +289,7 @@ module _ (tables : TableParts) (seal : Seal) (told : Type 0) where
     kept_is = inl refl;
     found = after_deeds d deeds;
     stands = holds.has;
-    scanned = body_found reads number_of 0 i (after_deeds d deeds) holds.has;
+    scanned = body_found reads state_number_of 0 i (after_deeds d deeds) holds.has;
     fits = holds.fits;
     follows = deeds_follow d deeds;
     receipts = entered_in d.number (deeds ++ Prints line ∷ []) deeds (Prints line ∷ []) [] deeds (line_has_entries d.number deeds line entries) refl (omega arith) (inl refl);

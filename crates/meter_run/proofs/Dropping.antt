@@ -18,8 +18,8 @@ use Rattle.totals_record.specs.Ranges.{IsDurable}
 use Rattle.totals_record.specs.States.{first_state}
 use Rattle.totals_record.specs.declared.durable.Durable.{Durable}
 use Rattle.meter_states.specs.Acts.{IsLawfulAct}
-use Rattle.meter_states.specs.Core.{IsSavedIn, Meets, Plain, Stands}
-use Rattle.meter_states.specs.Facts.{Whole}
+use Rattle.meter_states.specs.Core.{IsSavedIn, Meets, CoreData, Stands}
+use Rattle.meter_states.specs.Facts.{CachedCore}
 use Rattle.meter_states.specs.Fits.{Fits}
 use Rattle.meter_states.specs.Lawful.{IsLawful}
 use Rattle.meter_states.specs.Meter.{Meter, Outcome}
@@ -41,9 +41,9 @@ use Rattle.meter_run.proofs.SoundEvents.{event_leaves}
 -- ---- off
 
 -- a core that is off stands for states that are off
-pub off_of : (s : Setting) (core : Whole) (m : Meter) → Stands s core.plain m → core.plain.operating ≡ Off → m.operating ≡ Off
+pub off_of : (s : Setting) (core : CachedCore) (m : Meter) → Stands s core.plain m → core.plain.operating ≡ Off → m.operating ≡ Off
 off_of s core m (inl both) off = both.1
-off_of s core m (inr on) off = absurd (on.0 (sym (ap (λ (p : Plain). p.operating) on.1) ∙ off))
+off_of s core m (inr on) off = absurd (on.0 (sym (ap (λ (p : CoreData). p.operating) on.1) ∙ off))
 
 up_is : (s : Setting) (second : ℕ) (m : Meter) → m.operating ≡ Off → step s (Up second) m ≡ supply_came s second m
 up_is s second m off = rw off refl
@@ -52,7 +52,7 @@ saved_off : (s : Setting) (m : Meter) → m.operating ≡ Off → IsKept s m →
 saved_off s m off kept = subst (λ (x : Operating). IsKeptIn s x m.durable.hold m.trip m.roaming) off kept
 
 -- the supply comes
-pub came : (s : Setting) (second : ℕ) (core core' : Whole) (d : Durable) (acts : List Act) → core.plain.operating ≡ Off
+pub came : (s : Setting) (second : ℕ) (core core' : CachedCore) (d : Durable) (acts : List Act) → core.plain.operating ≡ Off
     → ((m : Meter) → m.durable ≡ d → IsSavedIn s d.hold m.trip → Meets s core'.plain acts (supply_came s second m))
     → (m : Meter) → StandsWith s core.plain d m → Meets s core'.plain acts (step s (Up second) m)
 came s second core core' d acts off meets m st =
@@ -71,18 +71,18 @@ refused_off s (Clock second) m off other = rw off refl
 refused_off s (Key key) m off other = rw off refl
 
 -- an event that isn't the coming of the supply
-pub stepped : (tables : TableParts) (s : Setting) (event : Event) (core : Whole) (d : Durable) (acts : List Act) (m : Meter) → StandsWith s core.plain d m
+pub stepped : (tables : TableParts) (s : Setting) (event : Event) (core : CachedCore) (d : Durable) (acts : List Act) (m : Meter) → StandsWith s core.plain d m
     → ((second : ℕ) → core.plain.operating ≡ Off → event ≢ Up second) → acts ≡ (step s event m).acts → All (IsLawfulAct tables core.plain.number) acts → All (IsLawfulAct tables d.number) acts
 stepped tables s event core d acts m st other is lawful = by st.core
   where
     by : Stands s core.plain m → All (IsLawfulAct tables d.number) acts
     by (inl both) = subst (All (IsLawfulAct tables d.number)) (sym (is ∙ refused_off s event m both.1 (λ second. other second both.0)))
         (All-cons (IsLawfulAct tables d.number) (Refuse NotNow) [] tt (All-nil (IsLawfulAct tables d.number)))
-    by (inr on) = subst (λ (n : ℕ). All (IsLawfulAct tables n) acts) (ap (λ (p : Plain). p.number) on.1 ∙ sym (ap (λ (x : Durable). x.number) st.durable)) lawful
+    by (inr on) = subst (λ (n : ℕ). All (IsLawfulAct tables n) acts) (ap (λ (p : CoreData). p.number) on.1 ∙ sym (ap (λ (x : Durable). x.number) st.durable)) lawful
 
 -- ---- after an event
 
-pub stands_after : (s : Setting) (event : Event) (core core' : Whole) (d d' : Durable) (acts : List Act) (m : Meter) → StandsWith s core.plain d m → Meets s core'.plain acts (step s event m) → d' ≡ after_acts d acts
+pub stands_after : (s : Setting) (event : Event) (core core' : CachedCore) (d d' : Durable) (acts : List Act) (m : Meter) → StandsWith s core.plain d m → Meets s core'.plain acts (step s event m) → d' ≡ after_acts d acts
     → StandsWith s core'.plain d' (step s event m).next
 stands_after s event core core' d d' acts m st meets is =
     let leaves = event_leaves s event m st.kept in
@@ -93,18 +93,18 @@ stands_after s event core core' d d' acts m st meets is =
     }
 
 -- they commit once at most
-pub few_commits : (tables : TableParts) (seal : Seal) (event : Event) (core core' : Whole) (d : Durable) (acts : List Act) → IsReady tables seal core d
+pub few_commits : (tables : TableParts) (seal : Seal) (event : Event) (core core' : CachedCore) (d : Durable) (acts : List Act) → IsReady tables seal core d
     → ((s : Setting) (m : Meter) → IsSettingOf s tables seal → StandsWith s core.plain d m → Meets s core'.plain acts (step s event m)) → commits_in acts ≤ 1
 few_commits tables seal event core core' d acts ready meets =
     let way = ready.way in
     subst (λ (xs : List Act). commits_in xs ≤ 1) (sym (meets way.setting way.meter way.is way.stands).done) (event_leaves way.setting event way.meter way.stands.kept).few
 
 -- the acts may be carried out
-pub acts_for : (tables : TableParts) (seal : Seal) (event : Event) (core core' : Whole) (d : Durable) (acts : List Act) → IsReady tables seal core d
+pub acts_for : (tables : TableParts) (seal : Seal) (event : Event) (core core' : CachedCore) (d : Durable) (acts : List Act) → IsReady tables seal core d
     → ((s : Setting) (m : Meter) → IsSettingOf s tables seal → StandsWith s core.plain d m → Meets s core'.plain acts (step s event m)) → All (IsLawfulAct tables d.number) acts → AreFor d acts
 acts_for tables seal event core core' d acts ready meets lawful = are_for tables d acts ready.range (few_commits tables seal event core core' d acts ready meets) lawful
 
-pub ready_after : (tables : TableParts) (seal : Seal) (event : Event) (core core' : Whole) (d d' : Durable) (acts : List Act) → IsReady tables seal core d
+pub ready_after : (tables : TableParts) (seal : Seal) (event : Event) (core core' : CachedCore) (d d' : Durable) (acts : List Act) → IsReady tables seal core d
     → ((s : Setting) (m : Meter) → IsSettingOf s tables seal → StandsWith s core.plain d m → Meets s core'.plain acts (step s event m)) → All (IsLawfulAct tables d.number) acts
     → IsLawful tables seal core' → d' ≡ after_acts d acts → IsReady tables seal core' d'
 ready_after tables seal event core core' d d' acts ready meets lawful on is =
@@ -122,10 +122,10 @@ ready_after tables seal event core core' d d' acts ready meets lawful on is =
     }
 
 -- a meter that begins, off, with nothing in its store
-pub begins : (s : Setting) (core : Whole) (d : Durable) → core.plain.operating ≡ Off → d ≡ first_state → StandsWith s core.plain d (opened s first_state)
+pub begins : (s : Setting) (core : CachedCore) (d : Durable) → core.plain.operating ≡ Off → d ≡ first_state → StandsWith s core.plain d (opened s first_state)
 begins s core d off is = record { core = inl (off, refl); durable = is; kept = refl }
 
-pub ready_first : (tables : TableParts) (seal : Seal) (core : Whole) (d : Durable) → IsCompiled tables → tables.constant ≡ seal.params.constant → IsLawful tables seal core → core.plain.operating ≡ Off → IsDurable d → d ≡ first_state
+pub ready_first : (tables : TableParts) (seal : Seal) (core : CachedCore) (d : Durable) → IsCompiled tables → tables.constant ≡ seal.params.constant → IsLawful tables seal core → core.plain.operating ≡ Off → IsDurable d → d ≡ first_state
     → IsReady tables seal core d
 ready_first tables seal core d compiled constant lawful off range is =
     let s : Setting = record { tariff = compiled.0; constant = tables.constant; mode = seal.params.mode; hold = seal.params.hold; offsets = seal.params.offsets } in
@@ -155,7 +155,7 @@ ended_on_in s Stopped m on = sym (append-nil (supply_dropped s m).acts)
 pub ended_on : (s : Setting) (m : Meter) → m.operating ≢ Off → (ended s m).acts ≡ (run s (Down ∷ []) m).acts
 ended_on s m on = ended_on_in s m.operating m on
 
-pub on_of : (s : Setting) (core : Whole) (m : Meter) → Stands s core.plain m → core.plain.operating ≢ Off → m.operating ≢ Off
+pub on_of : (s : Setting) (core : CachedCore) (m : Meter) → Stands s core.plain m → core.plain.operating ≢ Off → m.operating ≢ Off
 on_of s core m (inl both) on = absurd (on both.0)
 on_of s core m (inr both) on = both.0
 
@@ -173,7 +173,7 @@ module _ {D L : Type 0} (B : Ghosts D L) (tables : TableParts) (seal : Seal) whe
     store = store;
   }
 
-  pub breaks_event : (x : DryMeter) (b c : D) (core : Whole) (event : Event) (acts : List Act)
+  pub breaks_event : (x : DryMeter) (b c : D) (core : CachedCore) (event : Event) (acts : List Act)
       → ((s : Setting) (m : Meter) → IsSettingOf s tables seal → StandsWith s x.core.plain x.durable m → Meets s core.plain acts (step s event m))
       → (B.tells_text → Begins (B.printed b) (B.printed c) (shown_texts acts)) → KeepsStore B b c → BreaksOff B tables seal x b (event ∷ []) c
   breaks_event x b c core event acts meets begun store = record {

@@ -13,7 +13,7 @@ use Rattle.taxi_units.specs.declared.event.Event.{Event}
 use Rattle.totals_record.specs.declared.durable.Durable.{Durable}
 use Rattle.meter_states.specs.Core.{Meets, Stands}
 use Rattle.meter_states.specs.Equals.{interval_of, intervals_of}
-use Rattle.meter_states.specs.Facts.{Whole}
+use Rattle.meter_states.specs.Facts.{CachedCore}
 use Rattle.meter_states.specs.Fits.{Fits}
 use Rattle.meter_states.specs.Lawful.{IsLawful}
 use Rattle.meter_states.specs.Meter.{Meter}
@@ -56,14 +56,14 @@ kept_run s (event ∷ es) m kept = kept_run s es (step s event m).next (event_le
 same_durable : (s : Setting) (es : List Event) (m : Meter) → [] ≡ (run s es m).acts → m.durable ≡ (run s es m).next.durable
 same_durable s es m none = ap (λ (acts : List Act). after_deeds m.durable (deeds_of acts)) none ∙ sym (run_durable s es m)
 
-pub stands_still : (s : Setting) (es : List Event) (core core' : Whole) (d : Durable) (m : Meter) → StandsWith s core.plain d m → Meets s core'.plain [] (run s es m) → StandsWith s core'.plain d (run s es m).next
+pub stands_still : (s : Setting) (es : List Event) (core core' : CachedCore) (d : Durable) (m : Meter) → StandsWith s core.plain d m → Meets s core'.plain [] (run s es m) → StandsWith s core'.plain d (run s es m).next
 stands_still s es core core' d m st meets = record {
   core = meets.state;
   durable = st.durable ∙ same_durable s es m meets.done;
   kept = kept_run s es m st.kept;
 }
 
-module _ (tables : TableParts) (seal : Seal) (es : List Event) (core core' : Whole)
+module _ (tables : TableParts) (seal : Seal) (es : List Event) (core core' : CachedCore)
     (meets : (s : Setting) (m : Meter) → IsSettingOf s tables seal → Stands s core.plain m → Meets s core'.plain [] (run s es m)) (lawful : IsLawful tables seal core') where
   pub ready_still : (d : Durable) → IsReady tables seal core d → IsReady tables seal core' d
   ready_still d ready = let way = ready.way in record {
@@ -84,7 +84,7 @@ module _ (tables : TableParts) (seal : Seal) (es : List Event) (core core' : Who
     knows_still (Some known) a same knows = (ready_still known.durable knows.0, knows.1)
 
 module _ {D L : Type 0} (B : Ghosts D L) (tables : TableParts) (seal : Seal) (es : List Event) where
-  pub carries_still : (x : DryMeter) (core' : Whole) (b : D) → ((s : Setting) (m : Meter) → IsSettingOf s tables seal → Stands s x.core.plain m → Meets s core'.plain [] (run s es m))
+  pub carries_still : (x : DryMeter) (core' : CachedCore) (b : D) → ((s : Setting) (m : Meter) → IsSettingOf s tables seal → Stands s x.core.plain m → Meets s core'.plain [] (run s es m))
       → Carries B tables seal x b es (record x { core = core' }) b
   carries_still x core' b meets = record {
     stands = λ s m is st. stands_still s es x.core core' x.durable m st (meets s m is st.core);
@@ -92,7 +92,7 @@ module _ {D L : Type 0} (B : Ghosts D L) (tables : TableParts) (seal : Seal) (es
     store = keeps_none B b;
   }
 
-  pub out_still : (x : StoreMeter) (core' : Whole) (a : D) → LeavesNow B a → ((s : Setting) (m : Meter) → IsSettingOf s tables seal → Stands s x.core.plain m → Meets s core'.plain [] (run s es m))
+  pub out_still : (x : StoreMeter) (core' : CachedCore) (a : D) → LeavesNow B a → ((s : Setting) (m : Meter) → IsSettingOf s tables seal → Stands s x.core.plain m → Meets s core'.plain [] (run s es m))
       → CarriesOut B tables seal (λ s m. run s es m) x a (record x { core = core' }) a
   out_still x core' a now meets = record {
     stands = λ told s m is h.

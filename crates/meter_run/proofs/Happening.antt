@@ -23,7 +23,7 @@ use Rattle.totals_record.specs.declared.durable.Durable.{Durable}
 use Rattle.totals_record.specs.declared.trip.Trip as store
 use Rattle.meter_states.specs.Acts.{IsLawfulAct}
 use Rattle.meter_states.specs.Core.{IsSavedIn, Meets}
-use Rattle.meter_states.specs.Facts.{Whole}
+use Rattle.meter_states.specs.Facts.{CachedCore}
 use Rattle.meter_states.specs.Fits.{Fits}
 use Rattle.meter_states.specs.Kept as kept
 use Rattle.meter_states.specs.Lawful.{IsLawful}
@@ -55,14 +55,14 @@ hold_fits : (s : Setting) (tables : TableParts) (number : ℕ) (hold : Option st
 hold_fits s tables number None is held fits = tt
 hold_fits s tables number (Some trip) is held fits = the_store_keeps_the_trip-fits s tables trip is (fits trip refl) held.ranges.extras.0
 
-pub stands_opened : (s : Setting) (tables : TableParts) (core : Whole) (d : Durable) → IsTariffOf s tables → core.plain.operating ≡ Off → IsDurable d → ForSome d.hold (Fits tables) → StandsWith s core.plain d (opened s d)
+pub stands_opened : (s : Setting) (tables : TableParts) (core : CachedCore) (d : Durable) → IsTariffOf s tables → core.plain.operating ≡ Off → IsDurable d → ForSome d.hold (Fits tables) → StandsWith s core.plain d (opened s d)
 stands_opened s tables core d is off range fits = record {
   core = inl (off, refl);
   durable = refl;
   kept = the_store_keeps_the_trip-begins s d (hold_fits s tables d.number d.hold is range.held fits);
 }
 
-pub ready_opened : (tables : TableParts) (seal : Seal) (core : Whole) (d : Durable) → IsSecured tables seal → core.plain.operating ≡ Off → IsLawful tables seal core → IsDurable d → ForSome d.hold (Fits tables) → IsReady tables seal core d
+pub ready_opened : (tables : TableParts) (seal : Seal) (core : CachedCore) (d : Durable) → IsSecured tables seal → core.plain.operating ≡ Off → IsLawful tables seal core → IsDurable d → ForSome d.hold (Fits tables) → IsReady tables seal core d
 ready_opened tables seal core d secured off lawful range fits = record {
   lawful = lawful;
   range = range;
@@ -86,12 +86,12 @@ refused_event s (Clock second) m off other = rw off refl
 refused_event s (Key key) m off other = rw off refl
 
 -- acts under another name
-pub meets_as : (tables : TableParts) (seal : Seal) (core : Whole) (d : Durable) (core' : Whole) (event : Event) (xs ys : List Act) → xs ≡ ys
+pub meets_as : (tables : TableParts) (seal : Seal) (core : CachedCore) (d : Durable) (core' : CachedCore) (event : Event) (xs ys : List Act) → xs ≡ ys
     → ((s : Setting) (m : Meter) → IsSettingOf s tables seal → StandsWith s core.plain d m → Meets s core'.plain ys (step s event m))
     → (s : Setting) (m : Meter) → IsSettingOf s tables seal → StandsWith s core.plain d m → Meets s core'.plain xs (step s event m)
 meets_as tables seal core d core' event xs ys same meets s m is st = subst (λ (acts : List Act). Meets s core'.plain acts (step s event m)) (sym same) (meets s m is st)
 
-pub came_as : (tables : TableParts) (seal : Seal) (core : Whole) (d : Durable) (core' : Whole) (second : ℕ) (xs ys : List Act) → xs ≡ ys → core.plain.operating ≡ Off
+pub came_as : (tables : TableParts) (seal : Seal) (core : CachedCore) (d : Durable) (core' : CachedCore) (second : ℕ) (xs ys : List Act) → xs ≡ ys → core.plain.operating ≡ Off
     → ((s : Setting) (m : Meter) → IsSettingOf s tables seal → m.durable ≡ d → IsSavedIn s d.hold m.trip → Meets s core'.plain ys (supply_came s second m))
     → (s : Setting) (m : Meter) → IsSettingOf s tables seal → StandsWith s core.plain d m → Meets s core'.plain xs (step s (Up second) m)
 came_as tables seal core d core' second xs ys same off meets =
@@ -134,7 +134,7 @@ module _ {D L : Type 0} (B : Ghosts D L) (tables : TableParts) (seal : Seal) whe
   stands_known s x k a m is h = record { core = h.stands.core; durable = sym (known_is x.known k a m.durable is h.has).0; kept = h.stands.kept }
 
   -- from a state that is known, by the acts of the core
-  module _ (x : StoreMeter) (a : D) (k : Known) (core : Whole) (b : D) (event : Event) (acts : List Act) (known : x.known ≡ Some k)
+  module _ (x : StoreMeter) (a : D) (k : Known) (core : CachedCore) (b : D) (event : Event) (acts : List Act) (known : x.known ≡ Some k)
       (meets : (s : Setting) (m : Meter) → IsSettingOf s tables seal → StandsWith s x.core.plain k.durable m → Meets s core.plain acts (step s event m))
       (points : B.tells_image → KeepsTo B tables seal a b k.durable (deeds_of acts)) (beside : B.tells_image → WritesTotals B a b) where
     acts_are : (s : Setting) (m : Meter) → IsSettingOf s tables seal → StandsOn B tables s x a m → acts ≡ (step s event m).acts

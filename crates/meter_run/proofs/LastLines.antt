@@ -15,7 +15,7 @@ use Rattle.meter_states.specs.Fits.{Fits}
 use Rattle.meter_run.specs.Deeds.{Deed, Prints, after_deeds}
 use Rattle.meter_run.specs.OnStore.{HasBeside, WritesTotals}
 use Rattle.meter_run.specs.PointLaws.{after_joined, left_has, text_next}
-use Rattle.meter_run.specs.Points.{HasEntries, IsCut}
+use Rattle.meter_run.specs.Points.{HasEntries, IsCutOfDeeds}
 use Rattle.meter_run.specs.Runs.{CutsLeave, HasDone, HasStopped}
 use Rattle.meter_run.specs.StoreLaws.{beside_more}
 use Rattle.meter_run.proofs.Cuts.{cut_in_line, cut_longer, deeds_follow}
@@ -25,7 +25,7 @@ module _ {D L : Type 0} (B : Ghosts D L) (tables : TableParts) (seal : Seal) (a 
     (done : HasDone B tables seal a b d deeds) (beside : WritesTotals B a b) (kept : KeepsStore B b c)
     (run : LeavesOnly B b c (MayLeaveAmid (B.image b) (B.in_flight b) (B.printed b) line)) where
   -- what a cut in the line leaves
-  in_line : (i x : List ℕ) → SameBut (B.in_flight b) (B.image b) i → (B.tells_text → Begins (B.printed b) x line) → IsCut tables seal B.tells_text d (B.printed a) (deeds ++ Prints line ∷ []) i x
+  in_line : (i x : List ℕ) → SameBut (B.in_flight b) (B.image b) i → (B.tells_text → Begins (B.printed b) x line) → IsCutOfDeeds tables seal B.tells_text d (B.printed a) (deeds ++ Prints line ∷ []) i x
   in_line i x same begun = cut_in_line tables seal B.tells_text d (B.printed a) deeds line i x entries
       (record { has = left_has done.opens.place (after_deeds d deeds) (B.image b) (B.in_flight b) i done.opens.settled same; fits = done.opens.fits })
       (λ t. subst (λ (p : List ℕ). Begins p x line) (done.printed t) (begun t))
@@ -37,7 +37,7 @@ module _ {D L : Type 0} (B : Ghosts D L) (tables : TableParts) (seal : Seal) (a 
   }
 
   abbrev Cut : List Deed → List ℕ → List ℕ → Type 0
-  Cut xs i x = IsCut tables seal B.tells_text d (B.printed a) xs i x × HasBeside B a i
+  Cut xs i x = IsCutOfDeeds tables seal B.tells_text d (B.printed a) xs i x × HasBeside B a i
 
   line_cuts : CutsLeave B tables seal a c d (deeds ++ Prints line ∷ [])
   line_cuts = leaves_then B (Cut (deeds ++ Prints line ∷ [])) a b c

@@ -21,7 +21,7 @@ use Rattle.drive_text.specs.Ending.{events_of}
 use Rattle.meter_run.specs.Deeds.{Deed, Does, Prints, changes_of}
 use Rattle.meter_run.specs.OnStore.{HasBeside, WritesTotals}
 pub use Rattle.meter_run.specs.PointLaws.{left_has, settled_has, texts_joined}
-use Rattle.meter_run.specs.Points.{HasEntries, HasEntryOf, IsCut, IsNumberedWithin}
+use Rattle.meter_run.specs.Points.{HasEntries, HasEntryOf, IsCutOfDeeds, IsNumberedWithin}
 use Rattle.meter_run.specs.Runs.{HasDone, HasStopped, OpensWith, run_deeds}
 use Rattle.meter_run.proofs.Cuts.{acts_have_entries, line_has_entries}
 pub use Rattle.meter_run.proofs.Cuts.{begins_in, deeds_follow}
@@ -29,7 +29,7 @@ use Rattle.meter_run.proofs.LastLines.{line_begun, line_whole}
 use Rattle.meter_run.proofs.Leavings.{beside_bytes, kept_begins, next_opens, numbers_rise, receipt_entered, receipt_numbered, seal_kept, seal_left}
 pub use Rattle.meter_run.proofs.Leavings.{changes_joined}
 
-module _ (tables : TableParts) (seal : Seal) (told : Type 0) (opening : Durable) (printed : List ℕ) (deeds : List Deed) (image text : List ℕ) (cut : IsCut tables seal told opening printed deeds image text) where
+module _ (tables : TableParts) (seal : Seal) (told : Type 0) (opening : Durable) (printed : List ℕ) (deeds : List Deed) (image text : List ℕ) (cut : IsCutOfDeeds tables seal told opening printed deeds image text) where
   pub the_number_tells_the_commits-beginning : (more : List Deed) × (deeds ≡ cut.kept ++ more)
   the_number_tells_the_commits-beginning = kept_begins tables seal told opening printed deeds image text cut
 

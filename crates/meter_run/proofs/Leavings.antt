@@ -14,7 +14,7 @@ use Rattle.tariff_compile.specs.Tables.{TableParts}
 use Rattle.taxi_units.specs.declared.receipt.Receipt as receipts
 use Rattle.totals_record.specs.Reading.{reads}
 use Rattle.totals_record.specs.States.{entries_of}
-use Rattle.meter_store.specs.Stored.{number_of}
+use Rattle.meter_store.specs.Stored.{state_number_of}
 use Rattle.totals_record.specs.declared.change.Change.{Change}
 use Rattle.totals_record.specs.declared.change.Change.TheVariants as changes
 use Rattle.totals_record.specs.declared.durable.Durable.{Durable}
@@ -22,7 +22,7 @@ use Rattle.totals_record.specs.declared.entry.Entry.{Entry}
 use Rattle.meter_states.specs.declared.act.Act.TheVariants.{Enter, Receipt}
 use Rattle.meter_run.specs.Deeds.{Deed, Does, changes_in, changes_of}
 use Rattle.meter_run.specs.OnStore.{HasBeside, WritesTotals}
-use Rattle.meter_run.specs.Points.{HasEntries, HasEntryOf, IsCut, IsEntered, IsNumberedWithin}
+use Rattle.meter_run.specs.Points.{HasEntries, HasEntryOf, IsCutOfDeeds, IsEntered, IsNumberedWithin}
 use Rattle.meter_run.specs.Runs.{OpensWith}
 use Rattle.meter_run.proofs.Cuts.{begins_in}
 
@@ -77,7 +77,7 @@ numbered_within number most kept earlier receipt found h =
     let above : number < receipt.number = omega (arith, h.entry.numbered, ap (λ (l : List Deed). length (changes_of l)) h.entry.last, changes_before h.entry.before h.entry.entry) in
     (above, omega (arith, h.entry.numbered, found, more_changes kept earlier h.more h.has))
 
-module _ (tables : TableParts) (seal : Seal) (told : Type 0) (d : Durable) (p : List ℕ) (deeds : List Deed) (i x : List ℕ) (cut : IsCut tables seal told d p deeds i x) where
+module _ (tables : TableParts) (seal : Seal) (told : Type 0) (d : Durable) (p : List ℕ) (deeds : List Deed) (i x : List ℕ) (cut : IsCutOfDeeds tables seal told d p deeds i x) where
   pub kept_begins : (more : List Deed) × (deeds ≡ cut.kept ++ more)
   kept_begins = by cut.kept_is
     where
@@ -97,7 +97,7 @@ module _ (tables : TableParts) (seal : Seal) (told : Type 0) (d : Durable) (p : 
     place = cut.scanned.0;
     settled = record {
       quiet = λ place within flies. settled place flies;
-      is_at = subst (λ (image : List ℕ). IsAt reads number_of 0 cut.scanned.0 image cut.found) (sym is) ((answer_is reads number_of 0 i _).0 cut.scanned.1);
+      is_at = subst (λ (image : List ℕ). IsAt reads state_number_of 0 cut.scanned.0 image cut.found) (sym is) ((answer_is reads state_number_of 0 i _).0 cut.scanned.1);
     };
     fits = cut.fits;
   }
@@ -110,11 +110,11 @@ module _ {D L : Type 0} (B : Ghosts D L) where
 
   pub seal_left : (board : D) (left : List ℕ) (place : Place) (seal : Seal) → HasBeside B board left → KeepsSeal B place board seal → HasSeal left seal
   seal_left board left place seal h keeps =
-      at_stands seals.reads seals.number_of 1024 place left seal
-      (same_at seals.reads seals.number_of 1024 place (B.image board) left seal keeps.is_at (apart_same 1024 0 1024 (B.image board) (B.in_flight board) left (inl (omega arith)) keeps.quiet h.bytes))
+      at_stands seals.reads seals.seal_number_of 1024 place left seal
+      (same_at seals.reads seals.seal_number_of 1024 place (B.image board) left seal keeps.is_at (apart_same 1024 0 1024 (B.image board) (B.in_flight board) left (inl (omega arith)) keeps.quiet h.bytes))
 
   pub seal_kept : (a b : D) (place : Place) (seal : Seal) → WritesTotals B a b → KeepsSeal B place a seal → KeepsSeal B place b seal
   seal_kept a b place seal h keeps = record {
     quiet = λ byte within flies. ⊎_elim (keeps.quiet byte within) (λ touched. omega (arith, within.low, touched.high)) (h.flight byte flies);
-    is_at = same_at seals.reads seals.number_of 1024 place (B.image a) (B.image b) seal keeps.is_at (apart_same 1024 0 1024 (B.image a) (B.in_flight a) (B.image b) (inl (omega arith)) keeps.quiet h.rest);
+    is_at = same_at seals.reads seals.seal_number_of 1024 place (B.image a) (B.image b) seal keeps.is_at (apart_same 1024 0 1024 (B.image a) (B.in_flight a) (B.image b) (inl (omega arith)) keeps.quiet h.rest);
   }

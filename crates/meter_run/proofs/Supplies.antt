@@ -11,8 +11,8 @@ use Rattle.taxi_units.specs.declared.event.Operating.{Operating}
 use Rattle.taxi_units.specs.declared.event.Operating.TheVariants.{Off, ForHire, Hired, Stopped}
 use Rattle.totals_record.specs.States.{first_state}
 use Rattle.totals_record.specs.declared.durable.Durable.{Durable}
-use Rattle.meter_states.specs.Core.{Meets, Plain, Stands}
-use Rattle.meter_states.specs.Facts.{Whole}
+use Rattle.meter_states.specs.Core.{Meets, CoreData, Stands}
+use Rattle.meter_states.specs.Facts.{CachedCore}
 use Rattle.meter_states.specs.Meter.{Meter, Outcome}
 use Rattle.meter_states.specs.Run.{opened, run}
 use Rattle.meter_states.specs.Setting.{Setting, IsSettingOf}
@@ -64,12 +64,12 @@ off_behind s (event ∷ events) m before off none =
 -- ---- the core
 
 -- the core of a state that is off is off
-core_off : (s : Setting) (core : Plain) (m : Meter) → Stands s core m → m.operating ≡ Off → core.operating ≡ Off
+core_off : (s : Setting) (core : CoreData) (m : Meter) → Stands s core m → m.operating ≡ Off → core.operating ≡ Off
 core_off s core m (inl both) off = both.0
 core_off s core m (inr on) off = absurd (on.0 off)
 
 -- an event keeps a core off without the supply
-pub event_keeps_off : (tables : TableParts) (seal : Seal) (event : Event) (core core' : Whole) (d : Durable)
+pub event_keeps_off : (tables : TableParts) (seal : Seal) (event : Event) (core core' : CachedCore) (d : Durable)
     (acts : List Act) → IsReady tables seal core d
     → ((s : Setting) (m : Meter) → IsSettingOf s tables seal → StandsWith s core.plain d m
     → Meets s core'.plain acts (step s event m))
@@ -99,7 +99,7 @@ intervals_keep p (suc n) before =
     supplied_joined before (interval_events p) (intervals_events p n)
     ∙ ap (λ (b : Bool). is_supplied b (intervals_events p n)) (interval_keeps p before) ∙ intervals_keep p n before
 
-pub equal_keep_off : (old new : Plain) (p n : ℕ) → new.operating ≡ old.operating
+pub equal_keep_off : (old new : CoreData) (p n : ℕ) → new.operating ≡ old.operating
     → KeepsOff old (intervals_events p n) new
 equal_keep_off old new p n same = λ before off none. same ∙ off (sym (intervals_keep p n before) ∙ none)
 

@@ -30,7 +30,7 @@ use Rattle.meter_states.proofs.Laws.{receipts_follow_their_entries-run, the_stor
 use Rattle.meter_run.specs.Deeds.{Deed, after_deeds, deeds_of, texts}
 use Rattle.meter_run.specs.OnStore.{CarriesEvents, CarriesOut, Has, HasBeside, IsReadyOn, IsSecured, Knows, StandsOn, StopsAmid, WritesTotals}
 use Rattle.meter_run.specs.PointLaws.{deeds_joined, keeps_longer, keeps_next, text_next}
-use Rattle.meter_run.specs.Points.{AtPoint, IsCut, KeepsTo}
+use Rattle.meter_run.specs.Points.{IsPointOfDeeds, IsCutOfDeeds, KeepsTo}
 use Rattle.meter_run.specs.RunLaws.{after_deeds_of, after_is, run_durable}
 use Rattle.meter_run.specs.Runs.{CutsLeave, EndsRun, FromOpening, HasDone, HasStopped, LeavesPoints, OpensWith, RunsUpTo}
 use Rattle.meter_run.specs.Source.{EndsBy}
@@ -145,8 +145,8 @@ module _ {D L : Type 0} (B : Ghosts D L) (tables : TableParts) (seal : Seal) whe
   all_joined s d events = deeds_joined (run s events (opened s d)).acts (ended s (run s events (opened s d)).next).acts
 
   cuts_of : (a c : D) (s : Setting) (d : Durable) (events : List Event) → KeepsTo B tables seal a c d (all_deeds s d events) → WritesTotals B a c → CutsLeave B tables seal a c d (all_deeds s d events)
-  cuts_of a c s d events h beside = leaves_both B a c (IsCut tables seal B.tells_text d (B.printed a) (all_deeds s d events)) (λ i x. HasBeside B a i)
-      (leaves_wider B (AtPoint tables seal B.tells_text d (B.printed a) (all_deeds s d events)) (IsCut tables seal B.tells_text d (B.printed a) (all_deeds s d events)) a c
+  cuts_of a c s d events h beside = leaves_both B a c (IsCutOfDeeds tables seal B.tells_text d (B.printed a) (all_deeds s d events)) (λ i x. HasBeside B a i)
+      (leaves_wider B (IsPointOfDeeds tables seal B.tells_text d (B.printed a) (all_deeds s d events)) (IsCutOfDeeds tables seal B.tells_text d (B.printed a) (all_deeds s d events)) a c
       (λ i x at. cut_of tables seal B.tells_text d (B.printed a) (all_deeds s d events) i x (acts_have_entries d.number (actions_of s d events) (receipts_follow_their_entries-run s d events)) at) h.leaves) beside.leaves
 
   module _ (x : StoreMeter) (a : D) (off : x.core.plain.operating ≡ Off) (unknown : x.known ≡ None) (events : List Event) where

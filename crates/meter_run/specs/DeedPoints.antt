@@ -24,15 +24,15 @@ module _ (tables : TableParts) (seal : Seal) (told : Type 0) where
     pub begun : told → Begins printed text (text_in seal deed)
 
   -- an image and a text are at a point of a list of deeds where they are at its end, or amid one of the deeds
-  abbrev pub AtPoint : Durable → (printed : List ℕ) → List Deed → (image text : List ℕ) → Type 0
-  AtPoint durable printed [] image text = Holds tables image durable × (told → text ≡ printed)
-  AtPoint durable printed (deed ∷ deeds) image text =
+  abbrev pub IsPointOfDeeds : Durable → (printed : List ℕ) → List Deed → (image text : List ℕ) → Type 0
+  IsPointOfDeeds durable printed [] image text = Holds tables image durable × (told → text ≡ printed)
+  IsPointOfDeeds durable printed (deed ∷ deeds) image text =
       IsAmid durable printed deed image text
-      ⊎ AtPoint (after_deed durable deed) (printed ++ text_in seal deed) deeds image text
+      ⊎ IsPointOfDeeds (after_deed durable deed) (printed ++ text_in seal deed) deeds image text
 
 module _ {D L : Type 0} (B : Ghosts D L) (tables : TableParts) (seal : Seal) where
   -- calls of the board keep to deeds where they carried them out, or a part of them: a cut at each moment leaves a
   -- point of the list, and the board is at one
   pub record KeepsTo (old new : D) (durable : Durable) (deeds : List Deed) : Type 0 where
-    pub leaves : LeavesOnly B old new (AtPoint tables seal B.tells_text durable (B.printed old) deeds)
-    pub stops : AtPoint tables seal B.tells_text durable (B.printed old) deeds (B.image new) (B.printed new)
+    pub leaves : LeavesOnly B old new (IsPointOfDeeds tables seal B.tells_text durable (B.printed old) deeds)
+    pub stops : IsPointOfDeeds tables seal B.tells_text durable (B.printed old) deeds (B.image new) (B.printed new)

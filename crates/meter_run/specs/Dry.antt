@@ -9,7 +9,7 @@ use Rattle.tariff_compile.specs.Tables.{TableParts}
 use Rattle.seal_record.specs.declared.seal.Seal.{Seal}
 use Rattle.totals_record.specs.Ranges.{IsDurable}
 use Rattle.totals_record.specs.declared.durable.Durable.{Durable}
-use Rattle.meter_states.specs.Facts.{Whole}
+use Rattle.meter_states.specs.Facts.{CachedCore}
 use Rattle.meter_states.specs.Fits.{Fits}
 use Rattle.meter_states.specs.Lawful.{IsLawful}
 use Rattle.meter_states.specs.Meter.{Meter, Outcome}
@@ -22,7 +22,7 @@ use Rattle.meter_run.specs.declared.dry.DryMeter.{DryMeter}
 -- a core and a durable state are under way where they stand for some state of the meter, under some setting of the
 -- tables and the seal; the core is a whole one, which has its plain data, and beside them facts that were looked up in
 -- the tables and only save look-ups, as `Core::step` says by its clause `meets`
-pub record IsUnderWay (tables : TableParts) (seal : Seal) (core : Whole) (durable : Durable) : Type 0 where
+pub record IsUnderWay (tables : TableParts) (seal : Seal) (core : CachedCore) (durable : Durable) : Type 0 where
   pub setting : Setting
   pub meter : Meter
   pub is : IsSettingOf setting tables seal
@@ -30,7 +30,7 @@ pub record IsUnderWay (tables : TableParts) (seal : Seal) (core : Whole) (durabl
 
 -- a meter is ready for the next event where its core is lawful, its durable state is in its ranges, a held trip fits,
 -- and both are under way
-pub record IsReady (tables : TableParts) (seal : Seal) (core : Whole) (durable : Durable) : Type 0 where
+pub record IsReady (tables : TableParts) (seal : Seal) (core : CachedCore) (durable : Durable) : Type 0 where
   pub lawful : IsLawful tables seal core
   pub range : IsDurable durable
   pub fits : ForSome durable.hold (Fits tables)

@@ -16,7 +16,7 @@ use Rattle.taxi_units.specs.declared.event.Operating.TheVariants.{Off}
 use Rattle.meter_store.specs.Stored.{KeepsState}
 use Rattle.totals_record.specs.declared.durable.Durable.{Durable}
 use Rattle.meter_states.specs.Acts.{IsLawfulAct}
-use Rattle.meter_states.specs.Facts.{Whole}
+use Rattle.meter_states.specs.Facts.{CachedCore}
 use Rattle.meter_states.specs.Fits.{Fits}
 use Rattle.meter_states.specs.Lawful.{IsLawful}
 use Rattle.meter_states.specs.Meter.{Meter, Outcome}
@@ -84,7 +84,7 @@ module _ {D L : Type 0} (B : Ghosts D L) where
   -- a meter knows of the store nothing where it is off, and else a state at which the next event may come, with which
   -- the board agrees; the core of the meter is a whole one, which has its plain data, and beside them facts that were
   -- looked up in the tables and only save look-ups, as `Core::step` says by its clause `meets`
-  abbrev pub Knows : TableParts → Seal → Whole → Option Known → D → Type 0
+  abbrev pub Knows : TableParts → Seal → CachedCore → Option Known → D → Type 0
   Knows tables seal core None board = core.plain.operating ≡ Off
   Knows tables seal core (Some known) board = IsReady tables seal core known.durable × Agrees tables known board
 

@@ -13,12 +13,12 @@ use Rattle.slot_store.specs.Slots.{IsSettled}
 use Rattle.slot_store.proofs.Laws.{ready_left}
 use Rattle.tariff_compile.specs.Tables.{TableParts}
 use Rattle.totals_record.specs.Reading.{reads}
-use Rattle.meter_store.specs.Stored.{HasState, KeepsState, number_of}
+use Rattle.meter_store.specs.Stored.{HasState, KeepsState, state_number_of}
 use Rattle.totals_record.specs.declared.durable.Durable.{Durable}
 use Rattle.meter_states.specs.Fits.{Fits}
 use Rattle.meter_states.specs.declared.act.Act.{Act}
 use Rattle.meter_run.specs.Deeds.{Deed, Does, after_deed, after_deeds, deeds_of, text_in, texts}
-use Rattle.meter_run.specs.Points.{AtPoint, KeepsTo}
+use Rattle.meter_run.specs.Points.{IsPointOfDeeds, KeepsTo}
 
 -- ---- lists of deeds
 
@@ -44,7 +44,7 @@ deeds_joined (x ∷ xs) ys = ap (λ (deeds : List Deed). Does x ∷ deeds) (deed
 module _ (tables : TableParts) (seal : Seal) (told : Type 0) where
   -- an image and a text are at a point of a list of deeds, by the tables and the seal at hand
   abbrev At : Durable → List ℕ → List Deed → List ℕ → List ℕ → Type 0
-  At d p deeds i x = AtPoint tables seal told d p deeds i x
+  At d p deeds i x = IsPointOfDeeds tables seal told d p deeds i x
 
   -- what was printed before is asked of a told text alone
   pub at_same : (d : Durable) (p q : List ℕ) (deeds : List Deed) (i x : List ℕ) → (told → p ≡ q) → At d p deeds i x
@@ -79,13 +79,13 @@ module _ (tables : TableParts) (seal : Seal) (told : Type 0) where
 
 -- a cut leaves the state of a settled pair
 pub left_has : (place : Place) (d : Durable) (image : List ℕ) (flying : ℕ → Type 0) (left : List ℕ)
-    → IsSettled reads number_of 0 place image flying d → SameBut flying image left → HasState left d
+    → IsSettled reads state_number_of 0 place image flying d → SameBut flying image left → HasState left d
 left_has place d image flying left settled same =
-    ready_left reads number_of (record { at = 0; latest = Some place }) (Some d) image flying left settled same
+    ready_left reads state_number_of (record { at = 0; latest = Some place }) (Some d) image flying left settled same
 
 -- a settled pair stands for its state in the image itself
 pub settled_has : (place : Place) (d : Durable) (image : List ℕ) (flying : ℕ → Type 0)
-    → IsSettled reads number_of 0 place image flying d → HasState image d
+    → IsSettled reads state_number_of 0 place image flying d → HasState image d
 settled_has place d image flying settled =
     left_has place d image flying image settled (record { size = refl; rest = λ byte none. refl })
 
@@ -98,7 +98,7 @@ module _ {D L : Type 0} (B : Ghosts D L) (tables : TableParts) (seal : Seal) whe
 
   -- an image and a text are at a point of deeds that began at an old board
   abbrev Point : D → Durable → List Deed → List ℕ → List ℕ → Type 0
-  Point old d deeds i x = AtPoint tables seal B.tells_text d (B.printed old) deeds i x
+  Point old d deeds i x = IsPointOfDeeds tables seal B.tells_text d (B.printed old) deeds i x
 
   -- a board that is not called keeps to no deeds
   pub keeps_still : (a : D) (place : Place) (d : Durable) → LeavesNow B a → KeepsState B place a d

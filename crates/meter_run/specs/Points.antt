@@ -9,20 +9,20 @@ use Rattle.slot_store.specs.declared.pair.Place.{Place}
 use Rattle.tariff_compile.specs.Tables.{TableParts}
 use Rattle.taxi_units.specs.declared.receipt.Receipt as receipts
 use Rattle.totals_record.specs.Reading.{reads}
-use Rattle.meter_store.specs.Stored.{HasState, number_of}
-use Rattle.totals_record.specs.Sums.{Follows}
+use Rattle.meter_store.specs.Stored.{HasState, state_number_of}
+use Rattle.totals_record.specs.Sums.{GrowsBy}
 use Rattle.totals_record.specs.declared.durable.Durable.{Durable}
 use Rattle.totals_record.specs.declared.entry.Entry.{Entry}
 use Rattle.meter_states.specs.Fits.{Fits}
 use Rattle.meter_states.specs.Pairs.{IsReceiptOf}
 use Rattle.meter_states.specs.declared.act.Act.TheVariants.{Enter, Receipt}
 use Rattle.meter_run.specs.Deeds.{Deed, Does, changes_of, texts}
-pub use Rattle.meter_run.specs.DeedPoints.{Holds, IsAmid, AtPoint, KeepsTo}
+pub use Rattle.meter_run.specs.DeedPoints.{Holds, IsAmid, IsPointOfDeeds, KeepsTo}
 
 -- a scan answers a durable state of an image where it finds that state as the latest body, at some place; `reads` says
 -- which state the bytes of a slot are read as, as the law states_are_read_by_their_table of totals_record says
 abbrev pub ScanAnswers : (image : List ℕ) → Durable → Type 0
-ScanAnswers image durable = (place : Place) × (found_at reads number_of 0 image ≡ Ok (Latest place durable))
+ScanAnswers image durable = (place : Place) × (found_at reads state_number_of 0 image ≡ Ok (Latest place durable))
 
 -- deeds that begin at a number of the store end in the entry of a receipt where their last deed is that entry, and the
 -- receipt has the number that the store has behind them: one more for each of their commits
@@ -58,7 +58,7 @@ pub record IsEntered (number : ℕ) (kept earlier : List Deed) (receipt : receip
 
 -- an image and a text are what a cut of the power may leave of deeds that began at a durable state, when `printed` had
 -- been printed: some deeds had been done, the cut came amid the next one, if there is one, and the others were left
-pub record IsCut (tables : TableParts) (seal : Seal) (told : Type 0) (durable : Durable) (printed : List ℕ)
+pub record IsCutOfDeeds (tables : TableParts) (seal : Seal) (told : Type 0) (durable : Durable) (printed : List ℕ)
     (deeds : List Deed) (image text : List ℕ) : Type 0 where
   pub done : List Deed
   pub next : List Deed
@@ -78,7 +78,7 @@ pub record IsCut (tables : TableParts) (seal : Seal) (told : Type 0) (durable : 
   pub stands : HasState image found
   pub scanned : ScanAnswers image found
   pub fits : ForSome found.hold (Fits tables)
-  pub follows : Follows durable found (changes_of kept)
+  pub follows : GrowsBy durable found (changes_of kept)
   -- of each receipt of which a byte may have been printed, the entry directly before it is among what the image has,
   -- and the receipt has the number of the store behind that entry
   pub receipts : (earlier later : List Deed) (receipt : receipts.Receipt)

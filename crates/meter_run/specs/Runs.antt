@@ -8,7 +8,7 @@ use Rattle.seal_record.specs.declared.seal.Seal.{Seal}
 use Rattle.slot_store.specs.declared.pair.Place.{Place}
 use Rattle.tariff_compile.specs.Tables.{TableParts}
 use Rattle.meter_store.specs.Stored.{KeepsState}
-use Rattle.totals_record.specs.Sums.{Follows}
+use Rattle.totals_record.specs.Sums.{GrowsBy}
 use Rattle.totals_record.specs.declared.durable.Durable.{Durable}
 use Rattle.meter_states.specs.Fits.{Fits}
 use Rattle.meter_states.specs.Run.{actions_of}
@@ -16,7 +16,7 @@ use Rattle.meter_states.specs.Setting.{Setting, IsSettingOf}
 use Rattle.meter_run.specs.Deeds.{Deed, after_deeds, changes_of, deeds_of, texts}
 use Rattle.meter_run.specs.Drives.{StopsAfter}
 use Rattle.meter_run.specs.OnStore.{HasBeside}
-use Rattle.meter_run.specs.Points.{IsCut}
+use Rattle.meter_run.specs.Points.{IsCutOfDeeds}
 use Rattle.meter_run.specs.declared.fault.RunFault.{RunFault}
 use Rattle.meter_run.specs.declared.fault.RunFault.TheVariants.{ReadFault, BoardFault, BadDrive, TooLong}
 
@@ -44,19 +44,19 @@ module _ {D L : Type 0} (B : Ghosts D L) (tables : TableParts) (seal : Seal) (ol
   -- totals what it might have left there at the old board
   abbrev pub CutsLeave : Durable → List Deed → Type 0
   CutsLeave durable deeds = LeavesOnly B old new
-      (λ image text. IsCut tables seal B.tells_text durable (B.printed old) deeds image text × HasBeside B old image)
+      (λ image text. IsCutOfDeeds tables seal B.tells_text durable (B.printed old) deeds image text × HasBeside B old image)
 
   -- a board has done deeds where their texts were printed, where the text is told; the store has the state after their
   -- commits, with which a run may open; and a cut leaves a point of them
   pub record HasDone (durable : Durable) (deeds : List Deed) : Type 0 where
     pub printed : B.tells_text → B.printed new ≡ B.printed old ++ texts seal deeds
     pub opens : OpensWith B tables new (after_deeds durable deeds)
-    pub follows : Follows durable (after_deeds durable deeds) (changes_of deeds)
+    pub follows : GrowsBy durable (after_deeds durable deeds) (changes_of deeds)
     pub cuts : CutsLeave durable deeds
 
   -- a board has stopped amid deeds where what it has is a point of them, and a cut leaves a point of them too
   pub record HasStopped (durable : Durable) (deeds : List Deed) : Type 0 where
-    pub stops : IsCut tables seal B.tells_text durable (B.printed old) deeds (B.image new) (B.printed new)
+    pub stops : IsCutOfDeeds tables seal B.tells_text durable (B.printed old) deeds (B.image new) (B.printed new)
     pub cuts : CutsLeave durable deeds
 
   -- a run is whole over bytes of a drive where all of its deeds were done

@@ -3,7 +3,7 @@ use Rattle.std.specs.Prelude.{◌≡◌, ℕ, List, [], ◌∷◌, Bool, true, f
 use Rattle.taxi_units.specs.declared.event.Event.{Event}
 use Rattle.taxi_units.specs.declared.event.Event.TheVariants.{Up, Down, Pulses, Tick, Clock, Key}
 use Rattle.taxi_units.specs.declared.event.Operating.TheVariants.{Off}
-use Rattle.meter_states.specs.Core.{Plain}
+use Rattle.meter_states.specs.Core.{CoreData}
 
 -- the test `is_supplied_after` is true if the supply is there after an event: it is after an `Up`, it isn't after a
 -- `Down`, and after any other event it is if it was there before, which `before` says
@@ -27,10 +27,10 @@ abbrev pub drop_steps : List Event → ℕ
 drop_steps events = if is_supplied false events then 64 else 0
 
 -- a core is off without the supply if it is in Off or the supply is there, which `supplied` says
-abbrev pub IsOffWithout : (supplied : Bool) → Plain → Type 0
+abbrev pub IsOffWithout : (supplied : Bool) → CoreData → Type 0
 IsOffWithout supplied core = supplied ≡ false → core.operating ≡ Off
 
 -- events keep a core off without the supply if a core that was so before them is so behind them
-abbrev pub KeepsOff : (old : Plain) → List Event → (new : Plain) → Type 0
+abbrev pub KeepsOff : (old : CoreData) → List Event → (new : CoreData) → Type 0
 KeepsOff old events new =
     (before : Bool) → IsOffWithout before old → IsOffWithout (is_supplied before events) new

@@ -5,7 +5,7 @@ use Rattle.outside.specs.declared.board.Board.{Ghosts}
 use Rattle.seal_record.specs.declared.seal.Seal.{Seal}
 use Rattle.tariff_compile.specs.Tables.{TableParts}
 use Rattle.taxi_units.specs.declared.event.Event.{Event}
-use Rattle.meter_states.specs.Core.{Plain}
+use Rattle.meter_states.specs.Core.{CoreData}
 use Rattle.meter_states.specs.Run.{run}
 use Rattle.meter_run.specs.OnStore.{CarriesEvents, StopsAmid}
 use Rattle.meter_run.specs.StoreLaws.{amid_later, out_none, out_then}
@@ -18,7 +18,7 @@ pub supplied_joined : (before : Bool) (es fs : List Event)
 supplied_joined before [] fs = refl
 supplied_joined before (event ∷ es) fs = supplied_joined (is_supplied_after before event) es fs
 
-pub off_then : (es fs : List Event) (a b c : Plain) → KeepsOff a es b → KeepsOff b fs c → KeepsOff a (es ++ fs) c
+pub off_then : (es fs : List Event) (a b c : CoreData) → KeepsOff a es b → KeepsOff b fs c → KeepsOff a (es ++ fs) c
 off_then es fs a b c first next =
     λ before off none. next (is_supplied before es) (first before off) (sym (supplied_joined before es fs) ∙ none)
 

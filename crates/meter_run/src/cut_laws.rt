@@ -15,7 +15,7 @@ ghost use Rattle.meter_states.specs.Setting.{Setting};
 ghost use Rattle.meter_states.specs.declared.act.Act.TheVariants.{Receipt};
 ghost use Rattle.meter_run.specs.Deeds.{Deed, Does, Prints, changes_of};
 ghost use Rattle.meter_run.specs.OnStore.{HasBeside, WritesTotals};
-ghost use Rattle.meter_run.specs.Points.{HasEntries, HasEntryOf, IsCut, IsNumberedWithin};
+ghost use Rattle.meter_run.specs.Points.{HasEntries, HasEntryOf, IsCutOfDeeds, IsNumberedWithin};
 ghost use Rattle.meter_run.specs.Runs.{HasDone, HasStopped, OpensWith, run_deeds};
 
 use outside::Board;
@@ -26,16 +26,16 @@ use std::sync::ledger::Ledger;
 /// over their entries, and the trip that is held is the last one that no closing entry follows.
 pub fn the_number_tells_the_commits<B: Board<L>, L: Ledger>()
     ensures beginning { (tables : TableParts) (seal : Seal) (opening : Durable) (printed : List ℕ) (deeds : List Deed)
-        (image text : List ℕ) → (cut : IsCut tables seal B.tells_text opening printed deeds image text)
+        (image text : List ℕ) → (cut : IsCutOfDeeds tables seal B.tells_text opening printed deeds image text)
         → (more : List Deed) × (deeds ≡ cut.kept ++ more) }
     ensures number { (tables : TableParts) (seal : Seal) (opening : Durable) (printed : List ℕ) (deeds : List Deed)
-        (image text : List ℕ) → (cut : IsCut tables seal B.tells_text opening printed deeds image text)
+        (image text : List ℕ) → (cut : IsCutOfDeeds tables seal B.tells_text opening printed deeds image text)
         → cut.found.number ≡ opening.number + length (changes_of cut.kept) }
     ensures totals { (tables : TableParts) (seal : Seal) (opening : Durable) (printed : List ℕ) (deeds : List Deed)
-        (image text : List ℕ) → (cut : IsCut tables seal B.tells_text opening printed deeds image text)
+        (image text : List ℕ) → (cut : IsCutOfDeeds tables seal B.tells_text opening printed deeds image text)
         → AddsUp opening.totals cut.found.totals (entries_of (changes_of cut.kept)) }
     ensures held { (tables : TableParts) (seal : Seal) (opening : Durable) (printed : List ℕ) (deeds : List Deed)
-        (image text : List ℕ) → (cut : IsCut tables seal B.tells_text opening printed deeds image text)
+        (image text : List ℕ) → (cut : IsCutOfDeeds tables seal B.tells_text opening printed deeds image text)
         → IsHeldAfter opening.hold (changes_of cut.kept) cut.found.hold }
 {}
 
@@ -46,7 +46,7 @@ pub fn receipts_have_their_entries<B: Board<L>, L: Ledger>()
     ensures run { (s : Setting) (opening : Durable) (drive : List ℕ)
         → HasEntries opening.number (run_deeds s opening drive) }
     ensures cut { (tables : TableParts) (seal : Seal) (opening : Durable) (printed : List ℕ) (deeds : List Deed)
-        (image text : List ℕ) → (cut : IsCut tables seal B.tells_text opening printed deeds image text)
+        (image text : List ℕ) → (cut : IsCutOfDeeds tables seal B.tells_text opening printed deeds image text)
         → (earlier later : List Deed) (receipt : receipts.Receipt)
         → cut.done ++ cut.next ≡ earlier ++ Does (Receipt receipt) ∷ later
         → HasEntryOf receipt (entries_of (changes_of cut.kept)) }
@@ -60,7 +60,7 @@ pub fn receipts_are_numbered_in_order<B: Board<L>, L: Ledger>()
         → HasEntries number (earlier ++ Does (Receipt first) ∷ (between ++ Does (Receipt next) ∷ later))
         → first.number < next.number }
     ensures cut { (tables : TableParts) (seal : Seal) (opening : Durable) (printed : List ℕ) (deeds : List Deed)
-        (image text : List ℕ) → (cut : IsCut tables seal B.tells_text opening printed deeds image text)
+        (image text : List ℕ) → (cut : IsCutOfDeeds tables seal B.tells_text opening printed deeds image text)
         → (earlier later : List Deed) (receipt : receipts.Receipt)
         → cut.done ++ cut.next ≡ earlier ++ Does (Receipt receipt) ∷ later
         → IsNumberedWithin opening.number cut.found.number receipt }
@@ -69,7 +69,7 @@ pub fn receipts_are_numbered_in_order<B: Board<L>, L: Ledger>()
 /// A board whose image a cut left, with nothing in flight, opens the next run: with the state found.
 pub fn cuts_open_the_next_run<B: Board<L>, C: Board<L>, L: Ledger>()
     ensures { (tables : TableParts) (seal : Seal) (opening : Durable) (printed : List ℕ) (deeds : List Deed)
-        (image text : List ℕ) → (cut : IsCut tables seal B.tells_text opening printed deeds image text)
+        (image text : List ℕ) → (cut : IsCutOfDeeds tables seal B.tells_text opening printed deeds image text)
         → (board : C) → C.image board ≡ image → IsSettled C.Board board
         → OpensWith C.Board tables board cut.found }
 {}

@@ -19,7 +19,7 @@ use Rattle.taxi_units.specs.declared.event.Operating.TheVariants.{Off, ForHire, 
 use Rattle.taxi_units.specs.declared.receipt.Display.{Display}
 use Rattle.totals_record.specs.declared.trip.Trip as store
 use Rattle.meter_states.specs.Charge.{charge_at}
-use Rattle.meter_states.specs.Core.{Plain, Follows, plain_of}
+use Rattle.meter_states.specs.Core.{CoreData, ComesToOutcome, core_of}
 use Rattle.meter_states.specs.EqualStages.{HasTaken, LastsFrom, charged, passed, unfilled}
 use Rattle.meter_states.specs.Equals.{IsStill, MayBeCharged, MayGo, MayGoIn, display_by, intervals_of, roams, spare_of}
 use Rattle.meter_states.specs.Interval.{context_of, context_on, counted_in, pulses_so_far, roaming_with, ticks_so_far}
@@ -28,7 +28,7 @@ use Rattle.meter_states.specs.Meter.{Meter}
 use Rattle.meter_states.specs.Run.{run}
 use Rattle.meter_states.specs.Setting.{Setting, IsSettingOf, IsTariffOf, local_at, modulus_of}
 use Rattle.meter_states.specs.declared.facts.Facts.{Facts}
-use Rattle.meter_states.specs.declared.facts.RateFacts.{RateFacts}
+use Rattle.meter_states.specs.declared.facts.CachedRate.{CachedRate}
 use Rattle.meter_states.specs.Trip.{Trip, InHired, InStopped, charges_of, opening_of, saved_of, with_part}
 use Rattle.taxi_units.specs.Time.{longest_trip}
 use Rattle.meter_states.proofs.Charges.{charge-at}
@@ -45,19 +45,19 @@ on_in operating other is on off = on (sym is ∙ off)
 roaming-more : (p : ℕ) (n : Meter) → sum (roaming_with p n) ≡ sum n.roaming + roams n.durable.number p
 roaming-more p n = grind (arith, common_steps)
 
-hire-counted : (s : Setting) (p i : ℕ) (n : Meter) (c : Plain) → n.operating ≡ ForHire → c.gate ≡ 0 → c.began ≡ c.clock → record c { roam = c.roam + i * roams c.number p } ≡ plain_of s n
-    → record c { roam = c.roam + suc i * roams c.number p } ≡ plain_of s (record (counted_in s n.operating p n) { began = (counted_in s n.operating p n).clock })
+hire-counted : (s : Setting) (p i : ℕ) (n : Meter) (c : CoreData) → n.operating ≡ ForHire → c.gate ≡ 0 → c.began ≡ c.clock → record c { roam = c.roam + i * roams c.number p } ≡ core_of s n
+    → record c { roam = c.roam + suc i * roams c.number p } ≡ core_of s (record (counted_in s n.operating p n) { began = (counted_in s n.operating p n).clock })
 hire-counted s p i n c hire gate began e =
     let q = roams c.number p in
-    let before : c.roam + i * q ≡ sum n.roaming = ap (λ (c : Plain). c.roam) e in
-    let number : c.number ≡ n.durable.number = ap (λ (c : Plain). c.number) e in
+    let before : c.roam + i * q ≡ sum n.roaming = ap (λ (c : CoreData). c.roam) e in
+    let number : c.number ≡ n.durable.number = ap (λ (c : CoreData). c.number) e in
     let same : q ≡ roams n.durable.number p = ap (λ (x : ℕ). roams x p) number in
     let after : c.roam + suc i * q ≡ sum (roaming_with p n) = omega (arith, before, same, roaming-more p n) in
     ap (λ (g : ℕ). record c { gate = g; roam = c.roam + suc i * q }) gate
     ∙ ap (λ (b : ℕ). record c { began = b; gate = 0; roam = c.roam + suc i * q }) began
-    ∙ ap (λ (d : Plain). record d { began = d.clock; gate = 0; roam = c.roam + suc i * q }) e
-    ∙ ap (λ (x : ℕ). record (plain_of s n) { began = n.clock; gate = 0; roam = x }) after
-    ∙ ap (λ (o : Operating). plain_of s (record (counted_in s o p n) { began = (counted_in s o p n).clock })) (sym hire)
+    ∙ ap (λ (d : CoreData). record d { began = d.clock; gate = 0; roam = c.roam + suc i * q }) e
+    ∙ ap (λ (x : ℕ). record (core_of s n) { began = n.clock; gate = 0; roam = x }) after
+    ∙ ap (λ (o : Operating). core_of s (record (counted_in s o p n) { began = (counted_in s o p n).clock })) (sym hire)
 
 times-fewer : (i k q most : ℕ) → i < k → k * q ≤ most → suc i * q ≤ most
 times-fewer i k q most below few =
@@ -69,15 +69,15 @@ below-roam roam q i k below few =
     let less : suc i * q ≤ k * q = mul-le-mul_right q below in
     omega (arith, less, few)
 
-pub hire-equal : (s : Setting) (tables : TableParts) (p k : ℕ) (m : Meter) (c : Plain) → IsTariffOf s tables → 0 < modulus_of s → p ≤ 2000 → c ≡ plain_of s m → c.operating ≡ ForHire → c.trip ≡ None → IsStill tables c
-    → c.roam + k * roams c.number p ≤ roaming_between → Follows s (record c { roam = c.roam + k * roams c.number p }) [] [] (run s (intervals_of p k) m)
+pub hire-equal : (s : Setting) (tables : TableParts) (p k : ℕ) (m : Meter) (c : CoreData) → IsTariffOf s tables → 0 < modulus_of s → p ≤ 2000 → c ≡ core_of s m → c.operating ≡ ForHire → c.trip ≡ None → IsStill tables c
+    → c.roam + k * roams c.number p ≤ roaming_between → ComesToOutcome s (record c { roam = c.roam + k * roams c.number p }) [] [] (run s (intervals_of p k) m)
 hire-equal s tables p k m c is some most e hire none still few =
     let q = roams c.number p in
     let start : record c { roam = c.roam + 0 * q } ≡ c = ap (λ (x : ℕ). record c { roam = x }) (omega arith) in
     intervals-follow s p k (λ i. record c { roam = c.roam + i * q }) m
     (λ i n below same.
-    let operating : n.operating ≡ ForHire = sym (ap (λ (c : Plain). c.operating) same) ∙ hire in
-    let taken : sum n.taken ≡ 0 = sym (ap (λ (c : Plain). c.gate) same) ∙ still.gate in
+    let operating : n.operating ≡ ForHire = sym (ap (λ (c : CoreData). c.operating) same) ∙ hire in
+    let taken : sum n.taken ≡ 0 = sym (ap (λ (c : CoreData). c.gate) same) ∙ still.gate in
     let short : ticks_by c.trip ≤ 8639999 = rw none (omega arith) in
     interval-follows s tables p n (record c { roam = c.roam + suc i * q }) is some (on_in n.operating ForHire operating (λ off. absurd cc)) taken most
     (record { latch = still.latch; gate = still.gate; began = still.began; shown = still.shown }) short (below-roam c.roam q i k below few) (hire-counted s p i n c operating still.gate still.began same))
@@ -105,27 +105,27 @@ none-passed p t =
     let ticks : t.ticks + 0 ≡ t.ticks = omega arith in
     ap (λ (x : ℕ). record t { pulses = x; ticks = t.ticks + 0 }) pulses ∙ ap (λ (x : ℕ). record t { ticks = x }) ticks
 
-stopped-counted : (s : Setting) (p i : ℕ) (n : Meter) (c : Plain) (t : store.Trip) → n.operating ≡ Stopped → c.gate ≡ 0 → c.began ≡ c.clock → record c { trip = Some (passed p i t) } ≡ plain_of s n
-    → record c { trip = Some (passed p (suc i) t) } ≡ plain_of s (record (counted_in s n.operating p n) { began = (counted_in s n.operating p n).clock })
+stopped-counted : (s : Setting) (p i : ℕ) (n : Meter) (c : CoreData) (t : store.Trip) → n.operating ≡ Stopped → c.gate ≡ 0 → c.began ≡ c.clock → record c { trip = Some (passed p i t) } ≡ core_of s n
+    → record c { trip = Some (passed p (suc i) t) } ≡ core_of s (record (counted_in s n.operating p n) { began = (counted_in s n.operating p n).clock })
 stopped-counted s p i n c t stopped gate began e =
-    let trip = stopped-trip s n.trip p (passed p i t) (ap (λ (c : Plain). c.trip) e) in
+    let trip = stopped-trip s n.trip p (passed p i t) (ap (λ (c : CoreData). c.trip) e) in
     let next = record t { pulses = t.pulses + i * p + p; ticks = t.ticks + i + 1 } in
     ap (λ (t : store.Trip). record c { trip = Some t }) (passed-more p i t)
     ∙ ap (λ (g : ℕ). record c { gate = g; trip = Some next }) gate
     ∙ ap (λ (b : ℕ). record c { began = b; gate = 0; trip = Some next }) began
-    ∙ ap (λ (d : Plain). record d { began = d.clock; gate = 0; trip = Some next }) e
-    ∙ ap (λ (x : Option store.Trip). record (plain_of s n) { began = n.clock; gate = 0; trip = x }) trip
-    ∙ ap (λ (o : Operating). plain_of s (record (counted_in s o p n) { began = (counted_in s o p n).clock })) (sym stopped)
+    ∙ ap (λ (d : CoreData). record d { began = d.clock; gate = 0; trip = Some next }) e
+    ∙ ap (λ (x : Option store.Trip). record (core_of s n) { began = n.clock; gate = 0; trip = x }) trip
+    ∙ ap (λ (o : Operating). core_of s (record (counted_in s o p n) { began = (counted_in s o p n).clock })) (sym stopped)
 
-pub stopped-equal : (s : Setting) (tables : TableParts) (p k : ℕ) (m : Meter) (c : Plain) (t : store.Trip) → IsTariffOf s tables → 0 < modulus_of s → p ≤ 2000 → c ≡ plain_of s m → c.operating ≡ Stopped → c.trip ≡ Some t → IsStill tables c
-    → c.roam ≤ roaming_between → t.ticks + k ≤ 8639999 → Follows s (record c { trip = Some (passed p k t) }) [] [] (run s (intervals_of p k) m)
+pub stopped-equal : (s : Setting) (tables : TableParts) (p k : ℕ) (m : Meter) (c : CoreData) (t : store.Trip) → IsTariffOf s tables → 0 < modulus_of s → p ≤ 2000 → c ≡ core_of s m → c.operating ≡ Stopped → c.trip ≡ Some t → IsStill tables c
+    → c.roam ≤ roaming_between → t.ticks + k ≤ 8639999 → ComesToOutcome s (record c { trip = Some (passed p k t) }) [] [] (run s (intervals_of p k) m)
 stopped-equal s tables p k m c t is some most e stopped has still roam short =
     let start : record c { trip = Some (passed p 0 t) } ≡ c = ap (λ (x : store.Trip). record c { trip = Some x }) (none-passed p t) ∙ ap (λ (x : Option store.Trip). record c { trip = x }) (sym has) in
     let shown : c.shown ≡ Some (display_by tables (record c { trip = Some t })) = still.shown ∙ ap (λ (x : Option store.Trip). Some (display_by tables (record c { trip = x }))) has in
     intervals-follow s p k (λ i. record c { trip = Some (passed p i t) }) m
     (λ i n below same.
-    let operating : n.operating ≡ Stopped = sym (ap (λ (c : Plain). c.operating) same) ∙ stopped in
-    let taken : sum n.taken ≡ 0 = sym (ap (λ (c : Plain). c.gate) same) ∙ still.gate in
+    let operating : n.operating ≡ Stopped = sym (ap (λ (c : CoreData). c.operating) same) ∙ stopped in
+    let taken : sum n.taken ≡ 0 = sym (ap (λ (c : CoreData). c.gate) same) ∙ still.gate in
     interval-follows s tables p n (record c { trip = Some (passed p (suc i) t) }) is some (on_in n.operating Stopped operating (λ off. absurd cc)) taken most
     (record { latch = still.latch; gate = still.gate; began = still.began; shown = shown }) (omega (arith, short, below)) roam (stopped-counted s p i n c t operating still.gate still.began same))
     (start ∙ e)
@@ -171,14 +171,14 @@ ticks-by s (Some t) x e =
     ap (λ (x : store.Trip). x.ticks) same
 
 -- the context of a later interval, that of an earlier one being known
-pub context-later : (s : Setting) (m n : Meter) (c : Plain) (t x : store.Trip) → c ≡ plain_of s m → c.trip ≡ Some t → record c { trip = Some x } ≡ plain_of s n
+pub context-later : (s : Setting) (m n : Meter) (c : CoreData) (t x : store.Trip) → c ≡ core_of s m → c.trip ≡ Some t → record c { trip = Some x } ≡ core_of s n
     → context_of s n ≡ record (context_of s m) { pulses = x.pulses; ticks = x.ticks }
 context-later s m n c t x e has is =
-    let position : n.position ≡ m.position = sym (ap (λ (c : Plain). c.position) is) ∙ ap (λ (c : Plain). c.position) e in
-    let zone : n.zone ≡ m.zone = sym (ap (λ (c : Plain). c.zone) is) ∙ ap (λ (c : Plain). c.zone) e in
-    let began : n.began ≡ m.began = sym (ap (λ (c : Plain). c.began) is) ∙ ap (λ (c : Plain). c.began) e in
-    let pulses : pulses_so_far n.trip ≡ x.pulses = pulses-by s n.trip x (ap (λ (c : Plain). c.trip) is) in
-    let ticks : ticks_so_far n.trip ≡ x.ticks = ticks-by s n.trip x (ap (λ (c : Plain). c.trip) is) in
+    let position : n.position ≡ m.position = sym (ap (λ (c : CoreData). c.position) is) ∙ ap (λ (c : CoreData). c.position) e in
+    let zone : n.zone ≡ m.zone = sym (ap (λ (c : CoreData). c.zone) is) ∙ ap (λ (c : CoreData). c.zone) e in
+    let began : n.began ≡ m.began = sym (ap (λ (c : CoreData). c.began) is) ∙ ap (λ (c : CoreData). c.began) e in
+    let pulses : pulses_so_far n.trip ≡ x.pulses = pulses-by s n.trip x (ap (λ (c : CoreData). c.trip) is) in
+    let ticks : ticks_so_far n.trip ≡ x.ticks = ticks-by s n.trip x (ap (λ (c : CoreData). c.trip) is) in
     let base = context_on s (local_at s n.began) n in
     ap (λ (k : ℕ). record base { pulses = k }) pulses
     ∙ ap (λ (k : ℕ). record base { pulses = x.pulses; ticks = k }) ticks
@@ -204,33 +204,33 @@ none-charged p q t =
     ∙ ap (λ (x : ℕ). record t { meterage = record (unfilled q 0 t.meterage) { cover_left = x } }) cover
     ∙ ap (λ (x : ℕ). record t { meterage = record t.meterage { rest = x } }) rest
 
-hired-counted : (s : Setting) (p q i : ℕ) (n : Meter) (c : Plain) (t : store.Trip) → 0 < modulus_of s → n.operating ≡ Hired → c.gate ≡ 0 → c.began ≡ c.clock → t.meterage.rest + (suc i * q - t.meterage.cover_left) < modulus_of s → charge_at s (context_of s n) p ≡ q
-    → record c { trip = Some (charged p q i t) } ≡ plain_of s n → record c { trip = Some (charged p q (suc i) t) } ≡ plain_of s (record (counted_in s n.operating p n) { began = (counted_in s n.operating p n).clock })
+hired-counted : (s : Setting) (p q i : ℕ) (n : Meter) (c : CoreData) (t : store.Trip) → 0 < modulus_of s → n.operating ≡ Hired → c.gate ≡ 0 → c.began ≡ c.clock → t.meterage.rest + (suc i * q - t.meterage.cover_left) < modulus_of s → charge_at s (context_of s n) p ≡ q
+    → record c { trip = Some (charged p q i t) } ≡ core_of s n → record c { trip = Some (charged p q (suc i) t) } ≡ core_of s (record (counted_in s n.operating p n) { began = (counted_in s n.operating p n).clock })
 hired-counted s p q i n c t some hired gate began below charge e =
     let x = charged p q i t in
     let next = record t { pulses = t.pulses + i * p + p; ticks = t.ticks + i + 1; meterage = unfilled q (suc i) t.meterage } in
-    let trip = hired-trip s n.trip p q (context_of s n) x (unfilled q (suc i) t.meterage) some (ap (λ (c : Plain). c.trip) e) charge (unfilled-more (modulus_of s) q i t.meterage below) in
+    let trip = hired-trip s n.trip p q (context_of s n) x (unfilled q (suc i) t.meterage) some (ap (λ (c : CoreData). c.trip) e) charge (unfilled-more (modulus_of s) q i t.meterage below) in
     ap (λ (t : store.Trip). record c { trip = Some t }) (charged-more p q i t)
     ∙ ap (λ (g : ℕ). record c { gate = g; trip = Some next }) gate
     ∙ ap (λ (b : ℕ). record c { began = b; gate = 0; trip = Some next }) began
-    ∙ ap (λ (d : Plain). record d { began = d.clock; gate = 0; trip = Some next }) e
-    ∙ ap (λ (x : Option store.Trip). record (plain_of s n) { began = n.clock; gate = 0; trip = x }) trip
-    ∙ ap (λ (o : Operating). plain_of s (record (counted_in s o p n) { began = (counted_in s o p n).clock })) (sym hired)
+    ∙ ap (λ (d : CoreData). record d { began = d.clock; gate = 0; trip = Some next }) e
+    ∙ ap (λ (x : Option store.Trip). record (core_of s n) { began = n.clock; gate = 0; trip = x }) trip
+    ∙ ap (λ (o : Operating). core_of s (record (counted_in s o p n) { began = (counted_in s o p n).clock })) (sym hired)
 
-abbrev display_at : TableParts → Plain → store.Trip → (steps : ℕ) → Display
+abbrev display_at : TableParts → CoreData → store.Trip → (steps : ℕ) → Display
 display_at tables c t n = record { operating = c.operating; position = c.position; zone = c.zone; fare = shown_fare t.initial t.minimum tables.step n; supplements = t.extras_sum; decimals = tables.decimals }
 
-pub hired-equal : (s : Setting) (tables : TableParts) (p q k : ℕ) (m : Meter) (c : Plain) (t : store.Trip) → IsTariffOf s tables → 0 < modulus_of s → p ≤ 2000 → c ≡ plain_of s m → c.operating ≡ Hired → c.trip ≡ Some t → IsStill tables c
+pub hired-equal : (s : Setting) (tables : TableParts) (p q k : ℕ) (m : Meter) (c : CoreData) (t : store.Trip) → IsTariffOf s tables → 0 < modulus_of s → p ≤ 2000 → c ≡ core_of s m → c.operating ≡ Hired → c.trip ≡ Some t → IsStill tables c
     → c.roam ≤ roaming_between → t.ticks + k ≤ 8639999 → t.meterage.rest < modulus_of s → k * q ≤ spare_of tables.rounding (modulus_of s) t.meterage
-    → ((i : ℕ) (n : Meter) → i < k → record c { trip = Some (charged p q i t) } ≡ plain_of s n → charge_at s (context_of s n) p ≡ q)
-    → Follows s (record c { trip = Some (charged p q k t) }) [] [] (run s (intervals_of p k) m)
+    → ((i : ℕ) (n : Meter) → i < k → record c { trip = Some (charged p q i t) } ≡ core_of s n → charge_at s (context_of s n) p ≡ q)
+    → ComesToOutcome s (record c { trip = Some (charged p q k t) }) [] [] (run s (intervals_of p k) m)
 hired-equal s tables p q k m c t is some most e hired has still roam short rest spare charge =
     let start : record c { trip = Some (charged p q 0 t) } ≡ c = ap (λ (x : store.Trip). record c { trip = Some x }) (none-charged p q t) ∙ ap (λ (x : Option store.Trip). record c { trip = x }) (sym has) in
     let shown : c.shown ≡ Some (display_by tables (record c { trip = Some t })) = still.shown ∙ ap (λ (x : Option store.Trip). Some (display_by tables (record c { trip = x }))) has in
     intervals-follow s p k (λ i. record c { trip = Some (charged p q i t) }) m
     (λ i n below same.
-    let operating : n.operating ≡ Hired = sym (ap (λ (c : Plain). c.operating) same) ∙ hired in
-    let taken : sum n.taken ≡ 0 = sym (ap (λ (c : Plain). c.gate) same) ∙ still.gate in
+    let operating : n.operating ≡ Hired = sym (ap (λ (c : CoreData). c.operating) same) ∙ hired in
+    let taken : sum n.taken ≡ 0 = sym (ap (λ (c : CoreData). c.gate) same) ∙ still.gate in
     let fewer = times-fewer i k q (spare_of tables.rounding (modulus_of s) t.meterage) below spare in
     let steps = unfilled-steps tables.rounding (modulus_of s) q (suc i) t.meterage fewer in
     let as_before : c.shown ≡ Some (display_by tables (record c { trip = Some (charged p q (suc i) t) })) = shown ∙ ap (λ (n : ℕ). Some (display_at tables c t n)) (sym steps) in
@@ -294,8 +294,8 @@ record OneMore (tables : TableParts) (p q n : ℕ) (t : store.Trip) (lasting : L
   pub longer : n + 1 ≤ lasting.longer
   pub spare : (n + 1) * q ≤ spare_of tables.rounding (tables.step * tables.measure) t.meterage
 
-one-more : (tables : TableParts) (seal : Seal) (facts : Facts) (p q n : ℕ) (c : Plain) (t x : store.Trip) (lasting : Lasting) → c.trip ≡ Some x → x ≡ charged p q n t → q ≡ charge_of seal.params.mode lasting.weights p
-    → ((rate : RateFacts) → facts.rate ≡ Some rate → LastsFrom rate t.pulses t.ticks lasting) → t.meterage.rest < tables.step * tables.measure → n * q ≤ spare_of tables.rounding (tables.step * tables.measure) t.meterage
+one-more : (tables : TableParts) (seal : Seal) (facts : Facts) (p q n : ℕ) (c : CoreData) (t x : store.Trip) (lasting : Lasting) → c.trip ≡ Some x → x ≡ charged p q n t → q ≡ charge_of seal.params.mode lasting.weights p
+    → ((rate : CachedRate) → facts.rate ≡ Some rate → LastsFrom rate t.pulses t.ticks lasting) → t.meterage.rest < tables.step * tables.measure → n * q ≤ spare_of tables.rounding (tables.step * tables.measure) t.meterage
     → MayBeCharged tables seal facts p c → OneMore tables p q n t lasting
 one-more tables seal facts p q n c t x lasting has is charge lasts rest spare may =
     let modulus = tables.step * tables.measure in
@@ -319,8 +319,8 @@ one-more tables seal facts p q n c t x lasting has is charge lasts rest spare ma
     }
 
 -- either all were charged, or one more may not be
-pub charged-full : (tables : TableParts) (seal : Seal) (facts : Facts) (p q n near longest few count : ℕ) (c : Plain) (t x : store.Trip) (lasting : Lasting) → c.trip ≡ Some x → x ≡ charged p q n t → q ≡ charge_of seal.params.mode lasting.weights p
-    → ((rate : RateFacts) → facts.rate ≡ Some rate → LastsFrom rate t.pulses t.ticks lasting) → t.meterage.rest < tables.step * tables.measure → n * q ≤ spare_of tables.rounding (tables.step * tables.measure) t.meterage
+pub charged-full : (tables : TableParts) (seal : Seal) (facts : Facts) (p q n near longest few count : ℕ) (c : CoreData) (t x : store.Trip) (lasting : Lasting) → c.trip ≡ Some x → x ≡ charged p q n t → q ≡ charge_of seal.params.mode lasting.weights p
+    → ((rate : CachedRate) → facts.rate ≡ Some rate → LastsFrom rate t.pulses t.ticks lasting) → t.meterage.rest < tables.step * tables.measure → n * q ≤ spare_of tables.rounding (tables.step * tables.measure) t.meterage
     → (few ≡ count) ⊎ (longest_trip ≤ t.ticks + few + 1) → (longest ≡ few) ⊎ (lasting.longer < (longest + 1) * 1) → (near ≡ longest) ⊎ (lasting.further < (near + 1) * p)
     → (n ≡ near) ⊎ (spare_of tables.rounding (tables.step * tables.measure) t.meterage < (n + 1) * q) → (n ≡ count) ⊎ ¬ MayBeCharged tables seal facts p c
 charged-full tables seal facts p q n near longest few count c t x lasting has is charge lasts rest spare = by
@@ -337,11 +337,11 @@ charged-full tables seal facts p q n near longest few count c t x lasting has is
     by (inl few_is) (inl longest_is) (inl near_is) (inl n_is) = inl (n_is ∙ near_is ∙ longest_is ∙ few_is)
 
 -- a core that takes none
-pub taken-none : {p : TableParts} {inside core : Plain} (count : ℕ) → inside ≡ core → IsBetweenEvents p core → HasTaken p count core inside 0
+pub taken-none : {p : TableParts} {inside core : CoreData} (count : ℕ) → inside ≡ core → IsBetweenEvents p core → HasTaken p count core inside 0
 taken-none {p} {inside} {core} count view on = record {
   lawful = subst (IsBetweenEvents p) (sym view) on;
   most = omega arith;
-  same = (ap (λ (c : Plain). c.operating) view, ap (λ (c : Plain). c.number) view);
+  same = (ap (λ (c : CoreData). c.operating) view, ap (λ (c : CoreData). c.number) view);
 }
 
 -- the pulses of a trip
@@ -349,7 +349,7 @@ pub pulses-few : {p : TableParts} {number : ℕ} {t : store.Trip} → IsTripBesi
 pulses-few beside few = omega (arith, beside.pulses, beside.range.ticks, few)
 
 -- a core stops at the count, or where no further interval may go in its operating position
-pub full-in : (tables : TableParts) (seal : Seal) (facts : Facts) (p : ℕ) (core : Plain) (o : Operating)
+pub full-in : (tables : TableParts) (seal : Seal) (facts : Facts) (p : ℕ) (core : CoreData) (o : Operating)
     (taken count : ℕ) (Stop : Type 0) → core.operating ≡ o
     → (Stop → MayGoIn tables seal facts p core o → ⊥) → (taken ≡ count) ⊎ Stop → (taken ≡ count)
     ⊎ ¬ MayGo tables seal facts p core

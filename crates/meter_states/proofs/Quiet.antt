@@ -15,7 +15,7 @@ use Rattle.taxi_units.specs.declared.event.Operating.TheVariants.{Off, ForHire, 
 use Rattle.taxi_units.specs.declared.receipt.Display.{Display}
 use Rattle.totals_record.specs.declared.trip.Trip as store
 use Rattle.meter_states.specs.Closing.{roaming_checked, roaming_checked_in, roaming_entered}
-use Rattle.meter_states.specs.Core.{Plain, Follows, plain_of}
+use Rattle.meter_states.specs.Core.{CoreData, ComesToOutcome, core_of}
 use Rattle.meter_states.specs.Display.{display_of, extras_shown, fare_shown, is_shown, same_display, shown}
 use Rattle.meter_states.specs.Equals.{IsStill, display_by, extras_by, fare_by, interval_of, intervals_of}
 use Rattle.meter_states.specs.Interval.{counted_in, interval_begun, pulses_taken, ticks_so_far}
@@ -34,15 +34,15 @@ use Rattle.meter_states.proofs.Settings.{rounding-is, step-is}
 use Rattle.taxi_units.specs.Limits.{roaming_between, roaming_most}
 
 -- as many intervals as the cores that they lead through
-pub intervals-follow : (s : Setting) (p k : ℕ) (f : ℕ → Plain) (m : Meter) → ((i : ℕ) (n : Meter) → i < k → f i ≡ plain_of s n → Follows s (f (suc i)) [] [] (run s (interval_of p) n))
-    → f 0 ≡ plain_of s m → Follows s (f k) [] [] (run s (intervals_of p k) m)
+pub intervals-follow : (s : Setting) (p k : ℕ) (f : ℕ → CoreData) (m : Meter) → ((i : ℕ) (n : Meter) → i < k → f i ≡ core_of s n → ComesToOutcome s (f (suc i)) [] [] (run s (interval_of p) n))
+    → f 0 ≡ core_of s m → ComesToOutcome s (f k) [] [] (run s (intervals_of p k) m)
 intervals-follow s p zero f m each e = record { state = e; done = refl }
 intervals-follow s p (suc k) f m each e =
     let first = each 0 m (omega arith) e in
     let after = (run s (interval_of p) m).next in
     let others = intervals-follow s p k (λ i. f (suc i)) after (λ i n below is. each (suc i) n (omega arith) is) first.state in
     let both = follows-then s (f 1) (f (suc k)) [] [] [] (run s (interval_of p) m) (run s (intervals_of p k)) first others in
-    subst (λ (o : Outcome). Follows s (f (suc k)) [] [] o) (sym (run-append s (interval_of p) (intervals_of p k) m)) both
+    subst (λ (o : Outcome). ComesToOutcome s (f (suc k)) [] [] o) (sym (run-append s (interval_of p) (intervals_of p k) m)) both
 
 -- ---- a tick without acts
 
@@ -137,7 +137,7 @@ extras-by : (s : Setting) (trip : Option Trip) → extras_by (option_map (saved_
 extras-by s None = refl
 extras-by s (Some t) = refl
 
-display-by : (s : Setting) (p : TableParts) (m : Meter) → IsTariffOf s p → 0 < modulus_of s → display_by p (plain_of s m) ≡ display_of s m
+display-by : (s : Setting) (p : TableParts) (m : Meter) → IsTariffOf s p → 0 < modulus_of s → display_by p (core_of s m) ≡ display_of s m
 display-by s p m is some =
     let fare = fare-by s p m.trip is some in
     let extras = extras-by s m.trip in
@@ -156,15 +156,15 @@ below-false : (most n : ℕ) → n < most → nat_le most n ≡ false
 below-false most n below = grind (arith, common_steps)
 
 -- an interval that leads from a still core to a still core
-pub interval-follows : (s : Setting) (tables : TableParts) (p : ℕ) (m : Meter) (d : Plain) → IsTariffOf s tables → 0 < modulus_of s → m.operating ≢ Off → sum m.taken ≡ 0 → p ≤ 2000 → IsStill tables d → ticks_by d.trip ≤ 8639999 → d.roam ≤ roaming_between
-    → d ≡ plain_of s (record (counted_in s m.operating p m) { began = (counted_in s m.operating p m).clock }) → Follows s d [] [] (run s (interval_of p) m)
+pub interval-follows : (s : Setting) (tables : TableParts) (p : ℕ) (m : Meter) (d : CoreData) → IsTariffOf s tables → 0 < modulus_of s → m.operating ≢ Off → sum m.taken ≡ 0 → p ≤ 2000 → IsStill tables d → ticks_by d.trip ≤ 8639999 → d.roam ≤ roaming_between
+    → d ≡ core_of s (record (counted_in s m.operating p m) { began = (counted_in s m.operating p m).clock }) → ComesToOutcome s d [] [] (run s (interval_of p) m)
 interval-follows s tables p m d is some on none most still short few e =
     let n = counted_in s m.operating p m in
-    let latch : n.latch ≡ None = sym (ap (λ (c : Plain). c.latch) e) ∙ still.latch in
-    let ticks : d.trip ≡ option_map (saved_of s) n.trip = ap (λ (c : Plain). c.trip) e in
+    let latch : n.latch ≡ None = sym (ap (λ (c : CoreData). c.latch) e) ∙ still.latch in
+    let ticks : d.trip ≡ option_map (saved_of s) n.trip = ap (λ (c : CoreData). c.trip) e in
     let so_far : ticks_by d.trip ≡ ticks_so_far n.trip = ap ticks_by ticks ∙ ticks-by s n.trip in
-    let roam : d.roam ≡ sum n.roaming = ap (λ (c : Plain). c.roam) e in
-    let same : n.shown ≡ Some (display_of s n) = sym (ap (λ (c : Plain). c.shown) e) ∙ still.shown ∙ ap (λ (c : Plain). Some (display_by tables c)) e ∙ ap (λ (x : Display). Some x) (display-by s tables n is some) in
+    let roam : d.roam ≡ sum n.roaming = ap (λ (c : CoreData). c.roam) e in
+    let same : n.shown ≡ Some (display_of s n) = sym (ap (λ (c : CoreData). c.shown) e) ∙ still.shown ∙ ap (λ (c : CoreData). Some (display_by tables c)) e ∙ ap (λ (x : Display). Some x) (display-by s tables n is some) in
     let quiet-is = interval-quiet s p m n on most none refl latch (below-false longest_trip (ticks_so_far n.trip) (omega (arith, so_far, short))) (below-false roaming_most (sum n.roaming) (omega (arith, roam, few))) same in
     let done : [] ≡ (run s (interval_of p) m).acts = sym (ap (λ (o : Outcome). o.acts) quiet-is) in
-    record { state = e ∙ ap (λ (o : Outcome). plain_of s o.next) (sym quiet-is); done = done }
+    record { state = e ∙ ap (λ (o : Outcome). core_of s o.next) (sym quiet-is); done = done }

@@ -6,7 +6,7 @@ use Rattle.taxi_units.specs.declared.event.Operating.{Operating}
 use Rattle.taxi_units.specs.declared.event.Operating.TheVariants.{ForHire}
 use Rattle.meter_states.specs.Acts.{StayLawful}
 use Rattle.meter_states.specs.Closing.{roaming_checked, roaming_checked_in, roaming_entered}
-use Rattle.meter_states.specs.Core.{Plain}
+use Rattle.meter_states.specs.Core.{CoreData}
 use Rattle.meter_states.specs.Lawful.{IsAmidEvent, IsPowered}
 use Rattle.meter_states.specs.Meter.{Meter}
 use Rattle.meter_states.specs.Setting.{Setting}
@@ -36,5 +36,5 @@ pub lawful-entered : (p : TableParts) (n number roam : ℕ) (before acts : List 
 lawful-entered p n number roam before acts (inl x) many stay = subst (λ (k : ℕ). StayLawful p k before acts) x stay
 lawful-entered p n number roam before acts (inr x) many stay = absurd (omega arith)
 
-pub amid-enters : {p : TableParts} {core : Plain} → IsAmidEvent p core → IsPowered p 8639999 roaming_amid 1 core
+pub amid-enters : {p : TableParts} {core : CoreData} → IsAmidEvent p core → IsPowered p 8639999 roaming_amid 1 core
 amid-enters {p} {core} on = powered-within on.roam (trip-spare p core.number 8639999 core.trip on.trip) on

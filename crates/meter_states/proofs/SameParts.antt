@@ -5,12 +5,12 @@ use Rattle.taxi_units.specs.declared.receipt.Kind.{Kind}
 use Rattle.taxi_units.specs.declared.receipt.Receipt.{Receipt}
 use Rattle.taxi_units.specs.declared.receipt.Stamp.{Stamp}
 use Rattle.totals_record.specs.declared.entry.Entry.{Entry}
-use Rattle.meter_states.specs.Core.{Plain}
+use Rattle.meter_states.specs.Core.{CoreData}
 
-abbrev display_with : Plain → (fare supplements decimals : ℕ) → Display
+abbrev display_with : CoreData → (fare supplements decimals : ℕ) → Display
 display_with c fare supplements decimals = record { operating = c.operating; position = c.position; zone = c.zone; fare = fare; supplements = supplements; decimals = decimals }
 
-pub display-same : {c d : Plain} {f g x y m n : ℕ} → c ≡ d → f ≡ g → x ≡ y → m ≡ n → display_with c f x m ≡ display_with d g y n
+pub display-same : {c d : CoreData} {f g x y m n : ℕ} → c ≡ d → f ≡ g → x ≡ y → m ≡ n → display_with c f x m ≡ display_with d g y n
 display-same of_core fare supplements decimals = cc
 
 abbrev entry_with : Kind → (position roam hired fare supplements : ℕ) → Entry

@@ -3,7 +3,7 @@ use Rattle.std.specs.Prelude.{◌≡◌, ℕ, ◌+◌, ◌≤◌, false, List, A
 use Rattle.tariff_compile.specs.Tables.{TableParts}
 use Rattle.taxi_units.specs.Shown.{IsShown, IsReceipt}
 use Rattle.totals_record.specs.Entries.{closes}
-use Rattle.totals_record.specs.Ranges.{IsDurable, IsEntry, IsTrip}
+use Rattle.totals_record.specs.Ranges.{IsDurable, IsEntry, IsTripInItsRanges}
 use Rattle.totals_record.specs.States.{after}
 use Rattle.totals_record.specs.declared.change.Change.TheVariants as changes
 use Rattle.totals_record.specs.declared.durable.Durable.{Durable}
@@ -24,7 +24,7 @@ pub record IsEntryBeside (number : ℕ) (entry : store.Entry) : Type 0 where
 -- a trip may be held beside a store's number below 2 * 10^15 where it is in its ranges and fits the tables
 pub record IsHoldBeside (tables : TableParts) (number : ℕ) (trip : Trip) : Type 0 where
   pub room : number + 1 ≤ last_number
-  pub range : IsTrip (number + 1) trip
+  pub range : IsTripInItsRanges (number + 1) trip
   pub fits : Fits tables trip
 
 -- an act is lawful where the store has a number: what it shows or prints has a text, and what it commits keeps the

@@ -13,7 +13,7 @@ use Rattle.meter_states.specs.declared.act.Act.{Act}
 
 -- a core as plain data has counts in place of lists, the saved form of the trip in place of its intervals, and the
 -- store's number in place of what the store has
-pub record Plain : Type 0 where
+pub record CoreData : Type 0 where
   pub operating : Operating
   pub clock : ℕ
   pub began : ℕ
@@ -28,8 +28,8 @@ pub record Plain : Type 0 where
 
 -- the core of a state of the meter counts the pulses of its running interval and of its roaming, and has the saved form
 -- of its trip, the number of its store, and all else as the state has it
-abbrev pub plain_of : Setting → Meter → Plain
-plain_of s m = record {
+abbrev pub core_of : Setting → Meter → CoreData
+core_of s m = record {
   operating = m.operating;
   clock = m.clock;
   began = m.began;
@@ -44,17 +44,17 @@ plain_of s m = record {
 }
 
 -- a core stands for a state where both are off, or neither is and the core is the state's
-abbrev pub Stands : Setting → Plain → Meter → Type 0
-Stands s core m = (core.operating ≡ Off) × (m.operating ≡ Off) ⊎ (m.operating ≢ Off) × (core ≡ plain_of s m)
+abbrev pub Stands : Setting → CoreData → Meter → Type 0
+Stands s core m = (core.operating ≡ Off) × (m.operating ≡ Off) ⊎ (m.operating ≢ Off) × (core ≡ core_of s m)
 
 -- a powered core follows an outcome of a part of an event where it is the core of the outcome's state, and the
 -- outcome's acts were appended
-pub record Follows (s : Setting) (core : Plain) (before acts : List Act) (o : Outcome) : Type 0 where
-  pub state : core ≡ plain_of s o.next
+pub record ComesToOutcome (s : Setting) (core : CoreData) (before acts : List Act) (o : Outcome) : Type 0 where
+  pub state : core ≡ core_of s o.next
   pub done : acts ≡ before ++ o.acts
 
 -- a core and acts meet an outcome where the core stands for the outcome's state and the acts are the outcome's
-pub record Meets (s : Setting) (core : Plain) (acts : List Act) (o : Outcome) : Type 0 where
+pub record Meets (s : Setting) (core : CoreData) (acts : List Act) (o : Outcome) : Type 0 where
   pub state : Stands s core o.next
   pub done : acts ≡ o.acts
 

@@ -6,28 +6,28 @@ use Rattle.seal_record.specs.declared.seal.Seal.{Seal}
 use Rattle.tariff_compile.specs.Tables.{TableParts}
 use Rattle.tariff_compile.specs.declared.parts.Lasting.{Lasting}
 use Rattle.totals_record.specs.declared.trip.Trip.{Trip}
-use Rattle.meter_states.specs.Core.{Plain}
+use Rattle.meter_states.specs.Core.{CoreData}
 use Rattle.meter_states.specs.Equals.{intervals_of}
 use Rattle.meter_states.specs.Lawful.{IsBetweenEvents}
 use Rattle.meter_states.specs.Run.{run}
 use Rattle.meter_states.specs.Stages.{FollowsStage}
-use Rattle.meter_states.specs.declared.facts.RateFacts.{RateFacts}
+use Rattle.meter_states.specs.declared.facts.CachedRate.{CachedRate}
 
 -- a core has taken `taken` of `count` equal intervals where these are at most as many, it is between two events then,
 -- and its operating position and the store's number are the same
-pub record HasTaken (tables : TableParts) (count : ℕ) (old new : Plain) (taken : ℕ) : Type 0 where
+pub record HasTaken (tables : TableParts) (count : ℕ) (old new : CoreData) (taken : ℕ) : Type 0 where
   pub lawful : IsBetweenEvents tables new
   pub most : taken ≤ count
   pub same : (new.operating ≡ old.operating) × (new.number ≡ old.number)
 
 -- a core follows `count` equal intervals of p pulses under tables and a seal where it follows their events and does
 -- nothing
-abbrev pub FollowsIntervals : TableParts → Seal → (old new : Plain) → (p count : ℕ) → Type 0
+abbrev pub FollowsIntervals : TableParts → Seal → (old new : CoreData) → (p count : ℕ) → Type 0
 FollowsIntervals tables seal old new p count =
     FollowsStage tables seal old new [] [] (λ s m. run s (intervals_of p count) m)
 
 -- a kept rate lasts from these pulses and ticks of a trip on for what is left of its own further pulses and ticks
-pub record LastsFrom (rate : RateFacts) (pulses ticks : ℕ) (lasting : Lasting) : Type 0 where
+pub record LastsFrom (rate : CachedRate) (pulses ticks : ℕ) (lasting : Lasting) : Type 0 where
   pub weights : lasting.weights ≡ rate.lasting.weights
   pub further : pulses + lasting.further ≡ rate.first.pulses + rate.lasting.further
   pub longer : ticks + lasting.longer ≡ rate.first.ticks + rate.lasting.longer

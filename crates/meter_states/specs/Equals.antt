@@ -16,10 +16,10 @@ use Rattle.taxi_units.specs.declared.event.Operating.{Operating}
 use Rattle.taxi_units.specs.declared.event.Operating.TheVariants.{Off, ForHire, Hired, Stopped}
 use Rattle.taxi_units.specs.declared.receipt.Display.{Display}
 use Rattle.totals_record.specs.declared.trip.Trip.{Trip}
-use Rattle.meter_states.specs.Core.{Plain}
+use Rattle.meter_states.specs.Core.{CoreData}
 use Rattle.meter_states.specs.declared.facts.Facts.{Facts}
-use Rattle.meter_states.specs.declared.facts.LocalFacts.{LocalFacts}
-use Rattle.meter_states.specs.declared.facts.RateFacts.{RateFacts}
+use Rattle.meter_states.specs.declared.facts.CachedTime.{CachedTime}
+use Rattle.meter_states.specs.declared.facts.CachedRate.{CachedRate}
 use Rattle.taxi_units.specs.Limits.{hirings_end, roaming_most}
 
 -- a measuring interval has the event of its pulses, if it has any, and then the tick at its end
@@ -44,7 +44,7 @@ extras_by (Some t) = t.extras_sum
 
 -- the display of a core has its operating position, its position and its zone, the fare and the supplements of its
 -- trip, and the decimals of the tables
-abbrev pub display_by : TableParts → Plain → Display
+abbrev pub display_by : TableParts → CoreData → Display
 display_by tables c = record {
   operating = c.operating;
   position = c.position;
@@ -56,7 +56,7 @@ display_by tables c = record {
 
 -- a core is still where its interval began at the clock's second and has no pulses yet, no key waits, and its display
 -- was shown last
-pub record IsStill (tables : TableParts) (c : Plain) : Type 0 where
+pub record IsStill (tables : TableParts) (c : CoreData) : Type 0 where
   pub latch : c.latch ≡ None
   pub gate : c.gate ≡ 0
   pub began : c.began ≡ c.clock
@@ -73,7 +73,7 @@ spare_of Ahead modulus m = if m.rest == 0 then m.cover_left else m.cover_left + 
 
 -- the context that a core and kept local facts give, with a trip, has the core's position and zone, the local facts,
 -- and the pulses and ticks of the trip
-abbrev pub context_by : TableParts → LocalFacts → Plain → Trip → Context
+abbrev pub context_by : TableParts → CachedTime → CoreData → Trip → Context
 context_by tables local c t = record {
   constant = tables.constant;
   position = c.position;
@@ -88,23 +88,23 @@ context_by tables local c t = record {
 
 -- kept facts serve for the running interval of a core with a trip where a local time and a rate are kept, the local
 -- time is that of the second at which the interval began, and the interval's context is near the rate's own
-pub record Serve (tables : TableParts) (facts : Facts) (c : Plain) (t : Trip) : Type 0 where
-  pub local : LocalFacts
-  pub rate : RateFacts
+pub record Serve (tables : TableParts) (facts : Facts) (c : CoreData) (t : Trip) : Type 0 where
+  pub local : CachedTime
+  pub rate : CachedRate
   pub keeps_local : facts.local ≡ Some local
   pub keeps_rate : facts.rate ≡ Some rate
   pub second : local.second ≡ c.began
   pub near : IsNear rate.lasting.further rate.lasting.longer rate.first (context_by tables local c t)
 
 -- a trip outlasts an interval more where the interval isn't its last, with which it has the ticks of the longest trip
-pub record Outlasts (c : Plain) : Type 0 where
+pub record Outlasts (c : CoreData) : Type 0 where
   pub trip : Trip
   pub has : c.trip ≡ Some trip
   pub short : trip.ticks + 1 < longest_trip
 
 -- an interval of p pulses may be charged at once where the trip outlasts it, kept facts serve for it and, by their
 -- pulses and ticks, for the one behind it, and its charge fills no display step
-pub record MayBeCharged (tables : TableParts) (seal : Seal) (facts : Facts) (p : ℕ) (c : Plain) : Type 0 where
+pub record MayBeCharged (tables : TableParts) (seal : Seal) (facts : Facts) (p : ℕ) (c : CoreData) : Type 0 where
   pub outlasts : Outlasts c
   pub serve : Serve tables facts c outlasts.trip
   pub further : outlasts.trip.pulses + p ≤ serve.rate.first.pulses + serve.rate.lasting.further
@@ -114,7 +114,7 @@ pub record MayBeCharged (tables : TableParts) (seal : Seal) (facts : Facts) (p :
 
 -- an interval of p pulses may go at once in an operating position: in For Hire where no roaming is entered behind it,
 -- in Hired where it may be charged at once, and in Stopped where the trip outlasts it
-abbrev pub MayGoIn : TableParts → Seal → Facts → (p : ℕ) → Plain → Operating → Type 0
+abbrev pub MayGoIn : TableParts → Seal → Facts → (p : ℕ) → CoreData → Operating → Type 0
 MayGoIn tables seal facts p c Off = ⊥
 MayGoIn tables seal facts p c ForHire = c.roam + roams c.number p < roaming_most
 MayGoIn tables seal facts p c Hired = MayBeCharged tables seal facts p c
@@ -122,7 +122,7 @@ MayGoIn tables seal facts p c Stopped = Outlasts c
 
 -- an interval of p pulses may go at once at a core that is still, where it has at most 2,000 pulses and may go at once
 -- in the core's operating position
-pub record MayGo (tables : TableParts) (seal : Seal) (facts : Facts) (p : ℕ) (c : Plain) : Type 0 where
+pub record MayGo (tables : TableParts) (seal : Seal) (facts : Facts) (p : ℕ) (c : CoreData) : Type 0 where
   pub pulses : p ≤ 2000
   pub still : IsStill tables c
   pub goes : MayGoIn tables seal facts p c c.operating

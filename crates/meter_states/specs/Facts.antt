@@ -10,14 +10,14 @@ use Rattle.tariff_compile.specs.Tables.{AreFit, IsInRangeFor, IsTablesOf, TableP
 use Rattle.tariff_syntax.specs.Tree.{Tree}
 use Rattle.tariff_syntax.specs.Writable.{IsFromTo}
 use Rattle.tariff_syntax.specs.declared.context.Context.{Context}
-use Rattle.meter_states.specs.Core.{Plain}
+use Rattle.meter_states.specs.Core.{CoreData}
 use Rattle.meter_states.specs.declared.facts.Facts.{Facts}
-use Rattle.meter_states.specs.declared.facts.LocalFacts.{LocalFacts}
-use Rattle.meter_states.specs.declared.facts.RateFacts.{RateFacts}
+use Rattle.meter_states.specs.declared.facts.CachedTime.{CachedTime}
+use Rattle.meter_states.specs.declared.facts.CachedRate.{CachedRate}
 
 -- a whole core has its plain data, and the facts that it keeps
-pub record Whole : Type 0 where
-  pub plain : Plain
+pub record CachedCore : Type 0 where
+  pub plain : CoreData
   pub facts : Facts
 
 -- a second has this local time, by the sealed offsets
@@ -26,7 +26,7 @@ sealed_time seal second = local_time_of (local_second seal.params.offsets second
 
 -- local facts are those of their second where they are the weekday, the place in the year, the minute and the holiday
 -- of its local time
-pub record AreLocal (tables : TableParts) (seal : Seal) (local : LocalFacts) : Type 0 where
+pub record AreLocal (tables : TableParts) (seal : Seal) (local : CachedTime) : Type 0 where
   pub weekday : local.weekday ≡ (sealed_time seal local.second).weekday
   pub month_day : local.month_day ≡ (sealed_time seal local.second).month_day
   pub minute : local.minute ≡ (sealed_time seal local.second).minute
@@ -38,7 +38,7 @@ pub record AreLocal (tables : TableParts) (seal : Seal) (local : LocalFacts) : T
   pub holidays : local.holiday ≡ true → has_days tables.cuts ≡ true
 
 -- rate facts last where their weights are those of each context that is near their first one, and are fit
-pub record AreLasting (tables : TableParts) (rate : RateFacts) : Type 0 where
+pub record AreLasting (tables : TableParts) (rate : CachedRate) : Type 0 where
   pub near : (t : Tree) (x : Context) → IsTablesOf t tables → IsInRangeFor tables x
       → IsNear rate.lasting.further rate.lasting.longer rate.first x
       → rate.lasting.weights ≡ rate_by t tables.constant x

@@ -9,8 +9,8 @@ use Rattle.taxi_units.specs.declared.event.Operating.{Operating}
 use Rattle.taxi_units.specs.declared.event.Operating.TheVariants.{Off, ForHire, Hired, Stopped}
 use Rattle.totals_record.specs.declared.trip.Trip.{Trip}
 use Rattle.seal_record.specs.declared.seal.Seal.{Seal}
-use Rattle.meter_states.specs.Core.{Plain}
-use Rattle.meter_states.specs.Facts.{AreTrue, Whole}
+use Rattle.meter_states.specs.Core.{CoreData}
+use Rattle.meter_states.specs.Facts.{AreTrue, CachedCore}
 use Rattle.meter_states.specs.Supplements.{AreAllowed, amounts_from, supplement_in}
 use Rattle.taxi_units.specs.Limits.{hirings_end, last_number, number_most, roaming_amid, roaming_between}
 
@@ -22,7 +22,7 @@ IsTimely event = Unit {0}
 
 -- a saved trip is in range under the tables of a tariff where it has at most `most` ticks, fits the tables, and has its
 -- numbers in their ranges
-pub record IsTrip (tables : TableParts) (most : ℕ) (trip : Trip) : Type 0 where
+pub record IsLawfulTrip (tables : TableParts) (most : ℕ) (trip : Trip) : Type 0 where
   pub compiled : IsCompiled tables
   pub started : IsSecond trip.started
   pub roam : trip.roam ≤ roaming_amid
@@ -39,7 +39,7 @@ pub record IsTrip (tables : TableParts) (most : ℕ) (trip : Trip) : Type 0 wher
 -- a saved trip is in range beside a store's number where it is in range, and has at most 2,000 pulses for each tick and
 -- for each number, since each supply drop adds one to the number and at most 2,000 pulses to the trip
 pub record IsTripBeside (tables : TableParts) (number most : ℕ) (trip : Trip) : Type 0 where
-  pub range : IsTrip tables most trip
+  pub range : IsLawfulTrip tables most trip
   pub pulses : trip.pulses ≤ 2000 * (trip.ticks + number)
 
 -- a trip that may be none is in range where there is none, or it is in range beside the store's number
@@ -62,7 +62,7 @@ HasTrip Stopped trip = trip ≢ None
 -- a powered core is in its ranges under the tables of a tariff where at most `ticks` ticks of its trip have passed, it
 -- has at most `most` roaming pulses, and its other numbers are in range; `spare` is 1 where the trip has pulses of an
 -- unfinished interval that the store doesn't have yet
-pub record IsPowered (tables : TableParts) (ticks most spare : ℕ) (core : Plain) : Type 0 where
+pub record IsPowered (tables : TableParts) (ticks most spare : ℕ) (core : CoreData) : Type 0 where
   pub compiled : IsCompiled tables
   pub on : HasTrip core.operating core.trip
   pub position : (1 ≤ core.position) × (core.position ≤ tables.positions)
@@ -80,18 +80,18 @@ pub record IsPowered (tables : TableParts) (ticks most spare : ℕ) (core : Plai
 
 -- a powered core is between two events where it is in its ranges, its trip has fewer ticks than the longest trip, and
 -- it has fewer than 1,000,000 roaming pulses
-abbrev pub IsBetweenEvents : TableParts → Plain → Type 0
+abbrev pub IsBetweenEvents : TableParts → CoreData → Type 0
 IsBetweenEvents tables core = IsPowered tables last_tick roaming_between 0 core
 
 -- a powered core is amid an event where it is in its ranges, its trip has fewer ticks than the longest trip, and it may
 -- have the roaming pulses of one more interval
-abbrev pub IsAmidEvent : TableParts → Plain → Type 0
+abbrev pub IsAmidEvent : TableParts → CoreData → Type 0
 IsAmidEvent tables core = IsPowered tables last_tick roaming_amid 0 core
 
 -- a core is lawful between two events where it is off, or powered and in its ranges, and the facts that it keeps are
 -- true: the facts are what was looked up in the tables and only save look-ups, so that they take no part in which state
 -- of the meter the core stands for, as the clause `meets` of `Core::step` says
-pub record IsLawful (tables : TableParts) (seal : Seal) (core : Whole) : Type 0 where
+pub record IsLawful (tables : TableParts) (seal : Seal) (core : CachedCore) : Type 0 where
   pub powered : (core.plain.operating ≡ Off) ⊎ IsBetweenEvents tables core.plain
   pub facts : AreTrue tables seal core.facts
 

@@ -4,7 +4,7 @@ use Rattle.std.specs.Prelude.{◌≡◌, ◌⊎◌, ◌≤◌, ℕ, List, [], le
 use Rattle.seal_record.specs.declared.seal.Seal.{Seal}
 use Rattle.tariff_compile.specs.Tables.{TableParts}
 use Rattle.meter_states.specs.Acts.{StayLawful}
-use Rattle.meter_states.specs.Core.{Follows, Plain, plain_of}
+use Rattle.meter_states.specs.Core.{ComesToOutcome, CoreData, core_of}
 use Rattle.meter_states.specs.Lawful.{IsAmidEvent, IsBetweenEvents}
 use Rattle.meter_states.specs.Meter.{Meter, Outcome}
 use Rattle.meter_states.specs.Setting.{Setting, IsSettingOf}
@@ -16,18 +16,18 @@ Stage = Setting → Meter → Outcome
 
 -- a core follows a stage under tables and a seal where it follows the stage's outcome under each setting of theirs and
 -- from each state whose core it was before
-abbrev pub FollowsStage : TableParts → Seal → (old new : Plain) → (before acts : List Act) → Stage → Type 0
+abbrev pub FollowsStage : TableParts → Seal → (old new : CoreData) → (before acts : List Act) → Stage → Type 0
 FollowsStage tables seal old new before acts stage =
-    (s : Setting) (m : Meter) → IsSettingOf s tables seal → old ≡ plain_of s m → Follows s new before acts (stage s m)
+    (s : Setting) (m : Meter) → IsSettingOf s tables seal → old ≡ core_of s m → ComesToOutcome s new before acts (stage s m)
 
 -- a core is ready for a key where it is amid an event in which nothing has been done yet
-pub record IsReadyForKey (tables : TableParts) (core : Plain) (acts : List Act) : Type 0 where
+pub record IsReadyForKey (tables : TableParts) (core : CoreData) (acts : List Act) : Type 0 where
   pub lawful : IsAmidEvent tables core
   pub room : acts ≡ []
 
 -- a core follows a stage and commits nothing where it is amid the event then, has done at most one act, keeps the
 -- store's number, and the acts stay lawful
-pub record CommitsNothing (tables : TableParts) (seal : Seal) (old new : Plain) (before acts : List Act)
+pub record CommitsNothing (tables : TableParts) (seal : Seal) (old new : CoreData) (before acts : List Act)
     (stage : Stage) : Type 0 where
   pub lawful : IsAmidEvent tables new
   pub few : length acts ≤ 1
@@ -37,7 +37,7 @@ pub record CommitsNothing (tables : TableParts) (seal : Seal) (old new : Plain) 
 
 -- a core follows a stage that may close the trip where it is amid the event then, has done at most `most` acts, either
 -- has done at most one act and keeps the store's number or has no roaming pulses left, and the acts stay lawful
-pub record MayClose (tables : TableParts) (seal : Seal) (most : ℕ) (old new : Plain) (before acts : List Act)
+pub record MayClose (tables : TableParts) (seal : Seal) (most : ℕ) (old new : CoreData) (before acts : List Act)
     (stage : Stage) : Type 0 where
   pub lawful : IsAmidEvent tables new
   pub few : length acts ≤ most
@@ -47,7 +47,7 @@ pub record MayClose (tables : TableParts) (seal : Seal) (most : ℕ) (old new : 
 
 -- a core follows a stage that closes the trip where it is between two events then, has done at most `most` acts, has no
 -- roaming pulses left, and the acts stay lawful
-pub record ClosesTrip (tables : TableParts) (seal : Seal) (most : ℕ) (old new : Plain) (before acts : List Act)
+pub record ClosesTrip (tables : TableParts) (seal : Seal) (most : ℕ) (old new : CoreData) (before acts : List Act)
     (stage : Stage) : Type 0 where
   pub lawful : IsBetweenEvents tables new
   pub few : length acts ≤ most

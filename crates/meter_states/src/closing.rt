@@ -6,7 +6,7 @@ ghost use Rattle.taxi_units.specs.declared.event.Operating.TheVariants.{ForHire}
 ghost use Rattle.taxi_units.specs.declared.receipt.Kind.TheVariants.{Roam};
 ghost use Rattle.meter_states.specs.Acts.{IsLawfulAct, StayLawful};
 ghost use Rattle.meter_states.specs.Closing.{closed, entry_of, receipt_of, roaming_checked, roaming_entered, trip_closed};
-ghost use Rattle.meter_states.specs.Core.{Follows, plain_of};
+ghost use Rattle.meter_states.specs.Core.{ComesToOutcome, core_of};
 ghost use Rattle.meter_states.specs.Lawful.{IsAmidEvent, IsBetweenEvents, IsPowered, IsTripBeside};
 ghost use Rattle.meter_states.specs.Meter.{Meter, entered, printed};
 ghost use Rattle.meter_states.specs.Setting.{Setting, IsSettingOf, IsTariffOf};
@@ -73,8 +73,8 @@ impl State {
         ensures few { length acts.new.items ≤ length acts.old.items + 2 }
         ensures ranges { StayLawful tables.now self.old.number acts.old.items acts.new.items }
         ensures follows { (s : Setting) (m : Meter) (t : model.Trip) → IsSettingOf s tables.now seal.now
-            → trip.now ≡ model.saved_of s t → self.old ≡ plain_of s m
-            → Follows s self.new acts.old.items acts.new.items (trip_closed s closing.kind closing.finish (Some t) m) }
+            → trip.now ≡ model.saved_of s t → self.old ≡ core_of s m
+            → ComesToOutcome s self.new acts.old.items acts.new.items (trip_closed s closing.kind closing.finish (Some t) m) }
         ensures steps { steps.new ≤ steps.old + 12 }
     {
         self.enter_trip(closing.kind, trip, tables, acts);
@@ -92,8 +92,8 @@ impl State {
         ensures few { length acts.new.items ≤ length acts.old.items + 1 }
         ensures ranges { StayLawful tables.now self.old.number acts.old.items acts.new.items }
         ensures follows { (s : Setting) (m : Meter) (t : model.Trip) → IsTariffOf s tables.now
-            → trip.now ≡ model.saved_of s t → self.old ≡ plain_of s m
-            → Follows s self.new acts.old.items acts.new.items (entered (entry_of s kind m.position t) m) }
+            → trip.now ≡ model.saved_of s t → self.old ≡ core_of s m
+            → ComesToOutcome s self.new acts.old.items acts.new.items (entered (entry_of s kind m.position t) m) }
     {
         acts.push(Act::Enter(entry(kind, self.position, trip, tables)));
         self.number += 1;
@@ -119,8 +119,8 @@ impl State {
         ensures ranges { (number : ℕ) → All (IsLawfulAct tables.now number) acts.old.items
             → All (IsLawfulAct tables.now number) acts.new.items }
         ensures follows { (s : Setting) (m : Meter) (t : model.Trip) → IsSettingOf s tables.now seal.now
-            → trip.now ≡ model.saved_of s t → self.now ≡ plain_of s m
-            → Follows s self.now acts.old.items acts.new.items
+            → trip.now ≡ model.saved_of s t → self.now ≡ core_of s m
+            → ComesToOutcome s self.now acts.old.items acts.new.items
             (printed (receipt_of s closing.kind closing.finish m.position t m.durable.number) m) }
         ensures steps { steps.new ≤ steps.old + 12 }
     {

@@ -4,7 +4,7 @@ ghost use Rattle.seal_record.specs.declared.seal.Seal.{Seal};
 ghost use Rattle.tariff_compile.specs.Tables.{AreFit, IsInRangeFor, rate_by};
 ghost use Rattle.taxi_units.specs.Time.{IsSecond, longest_trip};
 ghost use Rattle.totals_record.specs.declared.trip.Trip as store;
-ghost use Rattle.meter_states.specs.Core.{plain_of};
+ghost use Rattle.meter_states.specs.Core.{core_of};
 ghost use Rattle.meter_states.specs.Equals.{context_by};
 ghost use Rattle.meter_states.specs.Facts.{AreLocal, AreTrue};
 ghost use Rattle.meter_states.specs.Interval.{context_of, context_on};
@@ -13,7 +13,7 @@ ghost use Rattle.meter_states.specs.Meter.{Meter};
 ghost use Rattle.meter_states.specs.Setting.{Setting, IsSettingOf, local_at};
 ghost use Rattle.taxi_units.specs.Limits.{roaming_amid};
 
-use crate::facts::{Facts, LocalFacts, local_facts};
+use crate::facts::{Facts, CachedTime, local_facts};
 use crate::meter_state::State;
 use drive_modes::Weights;
 use seal_record::Seal;
@@ -34,7 +34,7 @@ impl State {
         requires lawful { IsPowered tables.now longest_trip roaming_amid 1 self.now }
         requires facts { AreTrue tables.now seal.now facts.old }
         ensures facts { AreTrue tables.now seal.now facts.new }
-        ensures rate { (s : Setting) (m : Meter) → IsSettingOf s tables.now seal.now → self.now ≡ plain_of s m
+        ensures rate { (s : Setting) (m : Meter) → IsSettingOf s tables.now seal.now → self.now ≡ core_of s m
             → result ≡ rate_by s.tariff tables.now.constant (context_of s m) }
         ensures fit { AreFit tables.now.measure result }
         ensures steps { steps.new ≤ steps.old + 36 }
@@ -54,7 +54,7 @@ impl State {
     ) -> Context
         requires second { IsSecond second }
         requires lawful { IsPowered tables.now longest_trip roaming_amid 1 self.now }
-        ensures value { (s : Setting) (m : Meter) → IsSettingOf s tables.now seal.now → self.now ≡ plain_of s m
+        ensures value { (s : Setting) (m : Meter) → IsSettingOf s tables.now seal.now → self.now ≡ core_of s m
             → result ≡ context_on s (local_at s second) m }
         ensures range { IsInRangeFor tables.now result }
         ensures steps { steps.new ≤ steps.old + 14 }
@@ -64,10 +64,10 @@ impl State {
     }
 
     /// The context at a local time.
-    pub(crate) fn context_on(&self, local: &LocalFacts, tables: &Tables) -> Context
+    pub(crate) fn context_on(&self, local: &CachedTime, tables: &Tables) -> Context
         requires lawful { IsPowered tables.now longest_trip roaming_amid 1 self.now }
         ensures value { (seal : Seal) (s : Setting) (m : Meter) → AreLocal tables.now seal local.now
-            → IsSettingOf s tables.now seal → self.now ≡ plain_of s m
+            → IsSettingOf s tables.now seal → self.now ≡ core_of s m
             → result ≡ context_on s (local_at s local.now.second) m }
         ensures exact { (t : store.Trip) → self.now.trip ≡ Some t
             → result ≡ context_by tables.now local.now self.now t }

@@ -18,9 +18,9 @@ pub struct Core {
 }
 
 impl Model for Core {
-    ghost use Rattle.meter_states.specs.Facts.{Whole};
+    ghost use Rattle.meter_states.specs.Facts.{CachedCore};
 
-    ghost Value = { Whole };
+    ghost Value = { CachedCore };
 
     ghost view = { λ c. record { plain = c.state; facts = c.facts } };
 }

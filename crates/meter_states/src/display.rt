@@ -3,7 +3,7 @@ ghost use Rattle.std.specs.Prelude.{◌≡◌, ◌≤◌, ℕ, All, length};
 ghost use Rattle.seal_record.specs.declared.seal.Seal.{Seal};
 ghost use Rattle.taxi_units.specs.Shown.{IsShown};
 ghost use Rattle.meter_states.specs.Acts.{IsLawfulAct};
-ghost use Rattle.meter_states.specs.Core.{plain_of};
+ghost use Rattle.meter_states.specs.Core.{core_of};
 ghost use Rattle.meter_states.specs.Display.{display_of, extras_shown, fare_shown, shown};
 ghost use Rattle.meter_states.specs.Equals.{display_by, extras_by, fare_by};
 ghost use Rattle.meter_states.specs.Lawful.{IsBetweenEvents};
@@ -41,7 +41,7 @@ impl State {
     /// What is shown now.
     pub(crate) fn display(&self, tables: &Tables) -> Display
         requires lawful { IsBetweenEvents tables.now self.now }
-        ensures value { (s : Setting) (m : Meter) → IsTariffOf s tables.now → self.now ≡ plain_of s m
+        ensures value { (s : Setting) (m : Meter) → IsTariffOf s tables.now → self.now ≡ core_of s m
             → result ≡ display_of s m }
         ensures exact { result ≡ display_by tables.now self.now }
         ensures range { IsShown result }
@@ -59,7 +59,7 @@ impl State {
     /// The fare of the trip, 0 without one.
     fn fare(&self, tables: &Tables) -> u64
         requires lawful { IsBetweenEvents tables.now self.now }
-        ensures value { (s : Setting) (m : Meter) → IsTariffOf s tables.now → self.now ≡ plain_of s m
+        ensures value { (s : Setting) (m : Meter) → IsTariffOf s tables.now → self.now ≡ core_of s m
             → result ≡ fare_shown s m.trip }
         ensures exact { result ≡ fare_by tables.now self.now.trip }
     {
@@ -71,7 +71,7 @@ impl State {
 
     /// The amounts of its supplements, 0 without one.
     fn supplements(&self) -> u64
-        ensures value { (s : Setting) (m : Meter) → self.now ≡ plain_of s m → result ≡ extras_shown s m.trip }
+        ensures value { (s : Setting) (m : Meter) → self.now ≡ core_of s m → result ≡ extras_shown s m.trip }
         ensures exact { result ≡ extras_by self.now.trip }
     {
         match &self.trip {

@@ -4,7 +4,7 @@ ghost use Rattle.tariff_compile.specs.Tables.{TableParts};
 ghost use Rattle.taxi_units.specs.Time.{last_tick};
 ghost use Rattle.meter_states.specs.EqualStages as stages;
 ghost use Rattle.meter_states.specs.Equals as model;
-ghost use Rattle.meter_states.specs.Lawful.{IsTrip};
+ghost use Rattle.meter_states.specs.Lawful.{IsLawfulTrip};
 
 use crate::lookups::modulus;
 use drive_modes::Rounding;
@@ -34,7 +34,7 @@ pub(crate) fn most_times(count: u32, room: u128, each: u128) -> u32
 
 /// The charges that show no further display step of a trip.
 pub(crate) fn spare(trip: &Trip, tables: &Tables) -> u128
-    requires range { IsTrip tables.now last_tick trip.now }
+    requires range { IsLawfulTrip tables.now last_tick trip.now }
     ensures value { result ≡ model.spare_of tables.now.rounding (tables.now.step * tables.now.measure)
         trip.now.meterage }
     ensures most { result ≤ 3 * 10 ^ 31 }
@@ -59,7 +59,7 @@ pub(crate) fn add_passed(trip: &mut Trip, pulses: u32, count: u32)
     requires few { trip.old.pulses ≤ 5000000000000000000 }
     requires short { trip.old.ticks + count ≤ last_tick }
     ensures value { trip.new ≡ stages.passed pulses count trip.old }
-    ensures range { (tables : TableParts) → IsTrip tables last_tick trip.old → IsTrip tables last_tick trip.new }
+    ensures range { (tables : TableParts) → IsLawfulTrip tables last_tick trip.old → IsLawfulTrip tables last_tick trip.new }
 {
     trip.pulses += count as u64 * pulses as u64;
     trip.ticks += count;
@@ -73,9 +73,9 @@ pub(crate) fn add_charged(trip: &mut Trip, pulses: u32, charge: u128, count: u32
     requires rest { trip.old.meterage.rest ≤ 2 * 10 ^ 29 }
     requires most { count * charge ≤ 3 * 10 ^ 31 }
     ensures value { trip.new ≡ stages.charged pulses charge count trip.old }
-    ensures range { (tables : TableParts) → IsTrip tables last_tick trip.old
+    ensures range { (tables : TableParts) → IsLawfulTrip tables last_tick trip.old
         → count * charge ≤ model.spare_of tables.rounding (tables.step * tables.measure) trip.old.meterage
-        → IsTrip tables last_tick trip.new }
+        → IsLawfulTrip tables last_tick trip.new }
 {
     let all = count as u128 * charge;
     trip.meterage.rest += all.saturating_sub(trip.meterage.cover_left);

@@ -7,7 +7,7 @@ ghost use Rattle.tariff_compile.specs.Tables.{AreFit, IsInRangeFor, TableParts, 
 ghost use Rattle.tariff_syntax.specs.declared.context.Context.{Context};
 ghost use Rattle.taxi_units.specs.declared.event.Operating.TheVariants.{ForHire, Hired, Stopped};
 ghost use Rattle.totals_record.specs.declared.trip.Trip as store;
-ghost use Rattle.meter_states.specs.Core.{Meets, Stands, plain_of};
+ghost use Rattle.meter_states.specs.Core.{Meets, Stands, core_of};
 ghost use Rattle.meter_states.specs.EqualStages.{FollowsIntervals, HasTaken, LastsFrom};
 ghost use Rattle.meter_states.specs.Equals.{IsStill, MayBeCharged, MayGo, Outlasts, Serve, intervals_of, roams};
 ghost use Rattle.meter_states.specs.Facts.{AreLasting, AreTrue};
@@ -16,7 +16,7 @@ ghost use Rattle.meter_states.specs.Lawful.{IsBetweenEvents, IsLawful};
 ghost use Rattle.meter_states.specs.Meter.{Meter};
 ghost use Rattle.meter_states.specs.Run.{run};
 ghost use Rattle.meter_states.specs.Setting.{Setting, IsSettingOf};
-ghost use Rattle.meter_states.specs.declared.facts.RateFacts.{RateFacts};
+ghost use Rattle.meter_states.specs.declared.facts.CachedRate.{CachedRate};
 ghost use Rattle.taxi_units.specs.Limits.{roaming_between, roaming_most};
 
 use crate::core_state::Core;
@@ -178,14 +178,14 @@ impl State {
         requires lasting { ForSome facts.now.rate (AreLasting tables.now) }
         ensures fit { IfSome result (λ lasting. AreFit tables.now.measure lasting.weights) }
         ensures range { IfSome result (λ lasting. (seal : Seal) (s : Setting) (m : Meter)
-            → AreTrue tables.now seal facts.now → IsSettingOf s tables.now seal → self.now ≡ plain_of s m
+            → AreTrue tables.now seal facts.now → IsSettingOf s tables.now seal → self.now ≡ core_of s m
             → IsInRangeFor tables.now (context_of s m)) }
         ensures near { IfSome result (λ lasting. (seal : Seal) (s : Setting) (m : Meter) (y : Context)
-            → AreTrue tables.now seal facts.now → IsSettingOf s tables.now seal → self.now ≡ plain_of s m
+            → AreTrue tables.now seal facts.now → IsSettingOf s tables.now seal → self.now ≡ core_of s m
             → IsInRangeFor tables.now y
             → IsNear lasting.further lasting.longer (context_of s m) y
             → lasting.weights ≡ rate_by s.tariff tables.now.constant y) }
-        ensures lasts { IfSome result (λ lasting. (t : store.Trip) (rate : RateFacts) → self.now.trip ≡ Some t
+        ensures lasts { IfSome result (λ lasting. (t : store.Trip) (rate : CachedRate) → self.now.trip ≡ Some t
             → facts.now.rate ≡ Some rate → LastsFrom rate t.pulses t.ticks lasting) }
         ensures none { IsNone result → (t : store.Trip) → self.now.trip ≡ Some t
             → ¬ Serve tables.now facts.now self.now t }

@@ -10,8 +10,8 @@ ghost use Rattle.seal_record.specs.declared.seal.Seal.{Seal};
 ghost use Rattle.taxi_units.specs.Time.{IsSecond};
 ghost use Rattle.meter_states.specs.EqualStages.{LastsFrom};
 ghost use Rattle.meter_states.specs.Facts.{AreLasting, AreLocal, AreTrue};
-ghost use Rattle.meter_states.specs.declared.facts.LocalFacts.{LocalFacts};
-ghost use Rattle.meter_states.specs.declared.facts.RateFacts.{RateFacts};
+ghost use Rattle.meter_states.specs.declared.facts.CachedTime.{CachedTime};
+ghost use Rattle.meter_states.specs.declared.facts.CachedRate.{CachedRate};
 
 use drive_modes::Weights;
 use interval_clock::civil;
@@ -23,7 +23,7 @@ use taxi_units::Steps;
 
 /// What a condition may ask of the local time at a second.
 #[derive(Clone, Copy)]
-pub(crate) struct LocalFacts {
+pub(crate) struct CachedTime {
     pub(crate) second: u64,
     pub(crate) weekday: u8,
     pub(crate) month_day: u16,
@@ -33,7 +33,7 @@ pub(crate) struct LocalFacts {
 
 /// The weights of a context, and of those that follow it shortly.
 #[derive(Clone, Copy)]
-pub(crate) struct RateFacts {
+pub(crate) struct CachedRate {
     pub(crate) first: Context,
     pub(crate) lasting: Lasting,
 }
@@ -42,8 +42,8 @@ pub(crate) struct RateFacts {
 /// contexts that it names.
 #[derive(Drop)]
 pub(crate) struct Facts {
-    pub(crate) local: Option<LocalFacts>,
-    pub(crate) rate: Option<RateFacts>,
+    pub(crate) local: Option<CachedTime>,
+    pub(crate) rate: Option<CachedRate>,
 }
 
 /// What the tables and the seal say of a second's local time. At most 14 steps.
@@ -53,14 +53,14 @@ pub(crate) fn local_facts<L: Ledger>(
     tables: &Tables,
     seal: &Seal,
     steps: &mut Steps<L>,
-) -> LocalFacts
+) -> CachedTime
     requires { IsSecond second }
     ensures second { result.second ≡ second }
     ensures local { AreLocal tables.now seal.now result }
     ensures steps { steps.new ≤ steps.old + 14 }
 {
     let local = civil(&seal.params.offsets, second, steps);
-    LocalFacts {
+    CachedTime {
         second,
         weekday: local.weekday,
         month_day: local.month_day,
@@ -70,7 +70,7 @@ pub(crate) fn local_facts<L: Ledger>(
 }
 
 /// Whether a context follows the one of these facts so shortly that its weights are the same.
-fn is_near(rate: &RateFacts, x: &Context) -> bool
+fn is_near(rate: &CachedRate, x: &Context) -> bool
     ensures { IsTrue result ↔ IsNear rate.now.lasting.further rate.now.lasting.longer rate.now.first x.now }
 {
     let first = &rate.first;
@@ -87,7 +87,7 @@ fn is_near(rate: &RateFacts, x: &Context) -> bool
 }
 
 /// The weights of these facts, and how far they last from a context that they hold for.
-fn lasting_from(rate: &RateFacts, x: &Context) -> Lasting
+fn lasting_from(rate: &CachedRate, x: &Context) -> Lasting
     requires { IsNear rate.now.lasting.further rate.now.lasting.longer rate.now.first x.now }
     ensures weights { result.weights ≡ rate.now.lasting.weights }
     ensures near { (y : Context) → IsNear result.further result.longer x.now y
@@ -113,10 +113,10 @@ impl Facts {
     }
 
     /// The local time of a second, where it is kept.
-    pub(crate) fn kept_local(&self, second: u64) -> Option<LocalFacts>
+    pub(crate) fn kept_local(&self, second: u64) -> Option<CachedTime>
         ensures second { IfSome result (λ local. local.second ≡ second) }
         ensures kept { IfSome result (λ local. self.now.local ≡ Some local) }
-        ensures none { IsNone result → (local : LocalFacts) → self.now.local ≡ Some local → local.second ≢ second }
+        ensures none { IsNone result → (local : CachedTime) → self.now.local ≡ Some local → local.second ≢ second }
     {
         match &self.local {
             Some(local) if local.second == second => Some(*local),
@@ -132,9 +132,9 @@ impl Facts {
         ensures near { IfSome result (λ lasting. (tables : TableParts) (t : Tree) (y : Context)
             → ForSome self.now.rate (AreLasting tables) → IsTablesOf t tables → IsInRangeFor tables y
             → IsNear lasting.further lasting.longer x.now y → lasting.weights ≡ rate_by t tables.constant y) }
-        ensures lasts { IfSome result (λ lasting. (rate : RateFacts) → self.now.rate ≡ Some rate
+        ensures lasts { IfSome result (λ lasting. (rate : CachedRate) → self.now.rate ≡ Some rate
             → LastsFrom rate x.now.pulses x.now.ticks lasting) }
-        ensures none { IsNone result → (rate : RateFacts) → self.now.rate ≡ Some rate
+        ensures none { IsNone result → (rate : CachedRate) → self.now.rate ≡ Some rate
             → ¬ IsNear rate.lasting.further rate.lasting.longer rate.first x.now }
     {
         match &self.rate {
@@ -150,7 +150,7 @@ impl Facts {
         tables: &Tables,
         seal: &Seal,
         steps: &mut Steps<L>,
-    ) -> LocalFacts
+    ) -> CachedTime
         requires second { IsSecond second }
         requires facts { AreTrue tables.now seal.now self.old }
         ensures facts { AreTrue tables.now seal.now self.new }
@@ -205,7 +205,7 @@ impl Facts {
         ensures steps { steps.new ≤ steps.old + 22 }
     {
         let lasting = tables.rate_until(&x, steps);
-        self.rate = Some(RateFacts { first: x, lasting });
+        self.rate = Some(CachedRate { first: x, lasting });
         lasting.weights
     }
 }

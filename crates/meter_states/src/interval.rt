@@ -4,7 +4,7 @@ ghost use Rattle.tariff_compile.specs.Tables.{TableParts};
 ghost use Rattle.taxi_units.specs.Time.{last_tick, longest_trip};
 ghost use Rattle.taxi_units.specs.declared.event.Operating.TheVariants.{ForHire, Hired, Stopped};
 ghost use Rattle.meter_states.specs.Acts.{StayLawful};
-ghost use Rattle.meter_states.specs.Core.{Follows, plain_of};
+ghost use Rattle.meter_states.specs.Core.{ComesToOutcome, core_of};
 ghost use Rattle.meter_states.specs.Facts.{AreTrue};
 ghost use Rattle.meter_states.specs.Interval.{counted_in, interval_counted, interval_left, left_in, pulses_taken};
 ghost use Rattle.meter_states.specs.Lawful.{IsAmidEvent, IsBetweenEvents, IsPowered, counting_steps};
@@ -29,8 +29,8 @@ impl State {
         requires room { acts.old.items ≡ [] }
         ensures lawful { (tables : TableParts) → IsBetweenEvents tables self.old → IsBetweenEvents tables self.new }
         ensures ranges { (tables : TableParts) → StayLawful tables self.old.number acts.old.items acts.new.items }
-        ensures follows { (s : Setting) (m : Meter) → self.old ≡ plain_of s m
-            → Follows s self.new acts.old.items acts.new.items (pulses_taken n m) }
+        ensures follows { (s : Setting) (m : Meter) → self.old ≡ core_of s m
+            → ComesToOutcome s self.new acts.old.items acts.new.items (pulses_taken n m) }
     {
         let left = self.gate.add(n);
         if left > 0 {
@@ -51,8 +51,8 @@ impl State {
         ensures lawful { IsPowered tables.now longest_trip roaming_amid 0 self.new }
         ensures facts { AreTrue tables.now seal.now facts.new }
         ensures same { (self.new.operating ≡ self.old.operating) × (self.new.number ≡ self.old.number) }
-        ensures state { (s : Setting) (m : Meter) → IsSettingOf s tables.now seal.now → self.old ≡ plain_of s m
-            → self.new ≡ plain_of s (interval_counted s m).next }
+        ensures state { (s : Setting) (m : Meter) → IsSettingOf s tables.now seal.now → self.old ≡ core_of s m
+            → self.new ≡ core_of s (interval_counted s m).next }
         ensures steps { steps.new ≤ steps.old + counting_steps self.old.operating }
     {
         match self.operating {
@@ -69,8 +69,8 @@ impl State {
         requires roam { self.old.roam ≤ roaming_between }
         ensures lawful { (tables : TableParts) → IsBetweenEvents tables self.old → IsAmidEvent tables self.new }
         ensures same { (self.new.operating ≡ self.old.operating) × (self.new.number ≡ self.old.number) }
-        ensures state { (s : Setting) (m : Meter) → self.old ≡ plain_of s m
-            → self.new ≡ plain_of s (counted_in s ForHire (sum m.taken) m) }
+        ensures state { (s : Setting) (m : Meter) → self.old ≡ core_of s m
+            → self.new ≡ core_of s (counted_in s ForHire (sum m.taken) m) }
     {
         let pulses = self.gate.take();
         if self.number < HIRINGS_END {
@@ -92,8 +92,8 @@ impl State {
         ensures lawful { IsPowered tables.now longest_trip roaming_between 0 self.new }
         ensures facts { AreTrue tables.now seal.now facts.new }
         ensures same { (self.new.operating ≡ self.old.operating) × (self.new.number ≡ self.old.number) }
-        ensures state { (s : Setting) (m : Meter) → IsSettingOf s tables.now seal.now → self.old ≡ plain_of s m
-            → self.new ≡ plain_of s (counted_in s Hired (sum m.taken) m) }
+        ensures state { (s : Setting) (m : Meter) → IsSettingOf s tables.now seal.now → self.old ≡ core_of s m
+            → self.new ≡ core_of s (counted_in s Hired (sum m.taken) m) }
         ensures steps { steps.new ≤ steps.old + 36 }
     {
         let weights = self.weights(facts, tables, seal, steps);
@@ -110,8 +110,8 @@ impl State {
         ensures lawful { (tables : TableParts) → IsBetweenEvents tables self.old
             → IsPowered tables longest_trip roaming_between 0 self.new }
         ensures same { (self.new.operating ≡ self.old.operating) × (self.new.number ≡ self.old.number) }
-        ensures state { (s : Setting) (m : Meter) → self.old ≡ plain_of s m
-            → self.new ≡ plain_of s (counted_in s Stopped (sum m.taken) m) }
+        ensures state { (s : Setting) (m : Meter) → self.old ≡ core_of s m
+            → self.new ≡ core_of s (counted_in s Stopped (sum m.taken) m) }
     {
         let pulses = self.gate.take();
         let Some(trip) = &mut self.trip else {
@@ -126,8 +126,8 @@ impl State {
         ensures lawful { (tables : TableParts) → IsBetweenEvents tables self.old
             → IsPowered tables last_tick roaming_amid 1 self.new }
         ensures same { (self.new.operating ≡ self.old.operating) × (self.new.number ≡ self.old.number) }
-        ensures state { (s : Setting) (m : Meter) → self.old ≡ plain_of s m
-            → self.new ≡ plain_of s (interval_left m).next }
+        ensures state { (s : Setting) (m : Meter) → self.old ≡ core_of s m
+            → self.new ≡ core_of s (interval_left m).next }
     {
         match self.operating {
             Operating::Off => {}
@@ -144,8 +144,8 @@ impl State {
         ensures lawful { (tables : TableParts) → IsBetweenEvents tables self.old
             → IsPowered tables last_tick roaming_between 1 self.new }
         ensures same { (self.new.operating ≡ self.old.operating) × (self.new.number ≡ self.old.number) }
-        ensures state { (s : Setting) (m : Meter) → self.old ≡ plain_of s m
-            → self.new ≡ plain_of s (left_in Hired (sum m.taken) m) }
+        ensures state { (s : Setting) (m : Meter) → self.old ≡ core_of s m
+            → self.new ≡ core_of s (left_in Hired (sum m.taken) m) }
     {
         let pulses = self.gate.take();
         let Some(trip) = &mut self.trip else {

@@ -5,7 +5,7 @@ ghost use Rattle.tariff_compile.specs.Tables.{IsFitInitial, TableParts, initial_
 ghost use Rattle.taxi_units.specs.declared.event.Operating.TheVariants.{ForHire};
 ghost use Rattle.taxi_units.specs.declared.receipt.Kind.TheVariants.{Closed};
 ghost use Rattle.meter_states.specs.Closing.{closed};
-ghost use Rattle.meter_states.specs.Core.{plain_of};
+ghost use Rattle.meter_states.specs.Core.{core_of};
 ghost use Rattle.meter_states.specs.Interval.{context_now};
 ghost use Rattle.meter_states.specs.Keys.{extra_added, extra_added_to, hiring, position_set, zone_set};
 ghost use Rattle.meter_states.specs.Lawful.{IsAmidEvent};
@@ -51,7 +51,7 @@ impl State {
     /// What a hiring begins with at the clock's second. At most 29 steps.
     fn fee<L: Ledger>(&self, tables: &Tables, seal: &Seal, steps: &mut Steps<L>) -> Initial
         requires lawful { IsAmidEvent tables.now self.now }
-        ensures value { (s : Setting) (m : Meter) → IsSettingOf s tables.now seal.now → self.now ≡ plain_of s m
+        ensures value { (s : Setting) (m : Meter) → IsSettingOf s tables.now seal.now → self.now ≡ core_of s m
             → result ≡ initial_by s.tariff (context_now s m) }
         ensures fit { IsFitInitial result }
         ensures steps { steps.new ≤ steps.old + 29 }

@@ -3,7 +3,7 @@ ghost use Rattle.std.specs.Prelude.{◌≡◌, ◌≤◌, ◌+◌, [], None, Som
 ghost use Rattle.tariff_compile.specs.Tables.{TableParts};
 ghost use Rattle.taxi_units.specs.declared.event.Operating.TheVariants.{ForHire};
 ghost use Rattle.meter_states.specs.Acts.{StayLawful};
-ghost use Rattle.meter_states.specs.Core.{Follows, plain_of};
+ghost use Rattle.meter_states.specs.Core.{ComesToOutcome, core_of};
 ghost use Rattle.meter_states.specs.Keys.{key_in, key_pressed, latched};
 ghost use Rattle.meter_states.specs.Lawful.{IsBetweenEvents, pressing_steps};
 ghost use Rattle.meter_states.specs.Meter.{Meter};
@@ -23,8 +23,8 @@ impl State {
         requires room { acts.old.items ≡ [] }
         ensures lawful { (tables : TableParts) → IsBetweenEvents tables self.old → IsBetweenEvents tables self.new }
         ensures ranges { (tables : TableParts) → StayLawful tables self.old.number acts.old.items acts.new.items }
-        ensures follows { (s : Setting) (m : Meter) → self.old ≡ plain_of s m
-            → Follows s self.new acts.old.items acts.new.items (latched m.latch key m) }
+        ensures follows { (s : Setting) (m : Meter) → self.old ≡ core_of s m
+            → ComesToOutcome s self.new acts.old.items acts.new.items (latched m.latch key m) }
     {
         if let Some(_) = self.latch {
             refuse(Why::KeyWaiting, acts);

@@ -4,7 +4,7 @@ ghost use Rattle.tariff_compile.specs.Tables.{TableParts};
 ghost use Rattle.taxi_units.specs.Time.{longest_trip};
 ghost use Rattle.taxi_units.specs.declared.event.Operating.TheVariants.{Off};
 ghost use Rattle.totals_record.specs.declared.trip.Trip as store;
-ghost use Rattle.meter_states.specs.Core.{plain_of};
+ghost use Rattle.meter_states.specs.Core.{core_of};
 ghost use Rattle.meter_states.specs.Interval as interval;
 ghost use Rattle.meter_states.specs.Lawful.{IsPowered, is_busy};
 ghost use Rattle.meter_states.specs.Meter.{Meter};
@@ -37,9 +37,9 @@ pub(crate) struct State {
 }
 
 impl Model for State {
-    ghost use Rattle.meter_states.specs.Core.{Plain};
+    ghost use Rattle.meter_states.specs.Core.{CoreData};
 
-    ghost Value = { Plain };
+    ghost Value = { CoreData };
 
     ghost view = { λ c. record {
       operating = c.operating;
@@ -111,7 +111,7 @@ impl State {
 
     /// The pulses of the trip so far.
     pub(crate) fn pulses(&self) -> u64
-        ensures state { (s : Setting) (m : Meter) → self.now ≡ plain_of s m → result ≡ interval.pulses_so_far m.trip }
+        ensures state { (s : Setting) (m : Meter) → self.now ≡ core_of s m → result ≡ interval.pulses_so_far m.trip }
         ensures exact { (t : store.Trip) → self.now.trip ≡ Some t → result ≡ t.pulses }
         ensures range { (tables : TableParts) → IsPowered tables longest_trip roaming_amid 1 self.now
             → result ≤ 5000000000000000000 }
@@ -124,7 +124,7 @@ impl State {
 
     /// The ticks of the trip so far.
     pub(crate) fn ticks(&self) -> u32
-        ensures state { (s : Setting) (m : Meter) → self.now ≡ plain_of s m → result ≡ interval.ticks_so_far m.trip }
+        ensures state { (s : Setting) (m : Meter) → self.now ≡ core_of s m → result ≡ interval.ticks_so_far m.trip }
         ensures exact { (t : store.Trip) → self.now.trip ≡ Some t → result ≡ t.ticks }
         ensures range { (tables : TableParts) → IsPowered tables longest_trip roaming_amid 1 self.now
             → result ≤ longest_trip }

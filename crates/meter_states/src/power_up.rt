@@ -6,7 +6,7 @@ ghost use Rattle.taxi_units.specs.Time.{IsSecond};
 ghost use Rattle.taxi_units.specs.declared.event.Operating.TheVariants.{ForHire};
 ghost use Rattle.totals_record.specs.Ranges.{IsDurable, IsHeld};
 ghost use Rattle.meter_states.specs.Acts.{IsLawfulAct, KeepsRanges, StayLawful};
-ghost use Rattle.meter_states.specs.Core.{Follows, IsSavedIn, Meets, forgotten, plain_of};
+ghost use Rattle.meter_states.specs.Core.{ComesToOutcome, IsSavedIn, Meets, forgotten, core_of};
 ghost use Rattle.meter_states.specs.Fits.{Fits};
 ghost use Rattle.meter_states.specs.Lawful.{IsBetweenEvents, IsLawful};
 ghost use Rattle.meter_states.specs.Meter.{Meter};
@@ -81,8 +81,8 @@ impl State {
         ensures few { length acts.new.items ≤ 2 }
         ensures ranges { StayLawful tables.now self.old.number acts.old.items acts.new.items }
         ensures follows { (s : Setting) (m : Meter) → IsSettingOf s tables.now seal.now → IsSavedIn s hold m.trip
-            → self.old ≡ plain_of s (record m { trip = None })
-            → Follows s self.new acts.old.items acts.new.items (model.hold_taken s second hold m) }
+            → self.old ≡ core_of s (record m { trip = None })
+            → ComesToOutcome s self.new acts.old.items acts.new.items (model.hold_taken s second hold m) }
         ensures steps { steps.new ≤ steps.old + 12 }
     {
         if let Some(held) = hold {
@@ -112,8 +112,8 @@ impl State {
         ensures ranges { StayLawful tables.now self.old.number acts.old.items acts.new.items }
         ensures follows { (s : Setting) (m : Meter) → IsSettingOf s tables.now seal.now
             → Some (forgotten held) ≡ option_map (trips.saved_of s) m.trip
-            → self.old ≡ plain_of s (record m { trip = None })
-            → Follows s self.new acts.old.items acts.new.items (model.hold_taken s second (Some held) m) }
+            → self.old ≡ core_of s (record m { trip = None })
+            → ComesToOutcome s self.new acts.old.items acts.new.items (model.hold_taken s second (Some held) m) }
         ensures steps { steps.new ≤ steps.old + 12 }
     {
         if is_within_hold(&held, second, seal) {
@@ -131,8 +131,8 @@ impl State {
         ensures lawful { (tables : TableParts) → IsBetweenEvents tables self.old → Fits tables held
             → IsBetweenEvents tables self.new }
         ensures state { (s : Setting) (m : Meter) → Some (forgotten held) ≡ option_map (trips.saved_of s) m.trip
-            → self.old ≡ plain_of s (record m { trip = None })
-            → self.new ≡ plain_of s (model.resumed held m).next }
+            → self.old ≡ core_of s (record m { trip = None })
+            → self.new ≡ core_of s (model.resumed held m).next }
     {
         self.operating = running(held.stopped);
         self.position = held.position;
@@ -161,8 +161,8 @@ impl State {
         ensures ranges { StayLawful tables.now self.old.number acts.old.items acts.new.items }
         ensures follows { (s : Setting) (m : Meter) → IsSettingOf s tables.now seal.now
             → Some (forgotten held.now) ≡ option_map (trips.saved_of s) m.trip
-            → self.old ≡ plain_of s (record m { trip = None })
-            → Follows s self.new acts.old.items acts.new.items (model.aborted s held.now m) }
+            → self.old ≡ core_of s (record m { trip = None })
+            → ComesToOutcome s self.new acts.old.items acts.new.items (model.aborted s held.now m) }
         ensures steps { steps.new ≤ steps.old + 12 }
     {
         self.position = held.position;

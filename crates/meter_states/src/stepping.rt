@@ -7,7 +7,7 @@ ghost use Rattle.taxi_units.specs.declared.event.Operating.TheVariants.{Off};
 ghost use Rattle.totals_record.specs.Ranges.{IsDurable};
 ghost use Rattle.totals_record.specs.declared.durable.Durable.{Durable};
 ghost use Rattle.meter_states.specs.Acts.{IsLawfulAct, KeepsRanges, StayLawful};
-ghost use Rattle.meter_states.specs.Core.{Follows, Meets, Stands, plain_of};
+ghost use Rattle.meter_states.specs.Core.{ComesToOutcome, Meets, Stands, core_of};
 ghost use Rattle.meter_states.specs.Facts.{AreTrue};
 ghost use Rattle.meter_states.specs.Lawful.{IsBetweenEvents, IsLawful, IsTimely};
 ghost use Rattle.meter_states.specs.Meter.{Meter};
@@ -116,7 +116,7 @@ impl State {
         ensures lawful { (self.new.operating ≡ Off) ⊎ IsBetweenEvents tables.now self.new }
         ensures facts { AreTrue tables.now seal.now facts.new }
         ensures ranges { StayLawful tables.now self.old.number acts.old.items acts.new.items }
-        ensures meets { (s : Setting) (m : Meter) → IsSettingOf s tables.now seal.now → self.old ≡ plain_of s m
+        ensures meets { (s : Setting) (m : Meter) → IsSettingOf s tables.now seal.now → self.old ≡ core_of s m
             → Meets s self.new acts.new.items (powered_step s event m) }
         ensures steps { steps.new ≤ steps.old + 48 }
     {
@@ -136,8 +136,8 @@ impl State {
         requires room { acts.old.items ≡ [] }
         ensures lawful { (tables : TableParts) → IsBetweenEvents tables self.old → IsBetweenEvents tables self.new }
         ensures ranges { (tables : TableParts) → StayLawful tables self.old.number acts.old.items acts.new.items }
-        ensures follows { (s : Setting) (m : Meter) → self.old ≡ plain_of s m
-            → Follows s self.new acts.old.items acts.new.items (clock_read m.operating second m) }
+        ensures follows { (s : Setting) (m : Meter) → self.old ≡ core_of s m
+            → ComesToOutcome s self.new acts.old.items acts.new.items (clock_read m.operating second m) }
     {
         let busy = self.is_busy();
         if let Err(back) = self.clock.set(second, busy) {

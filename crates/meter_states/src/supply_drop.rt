@@ -3,10 +3,10 @@ ghost use Rattle.std.specs.Prelude.{◌≡◌, ◌<◌, ◌≤◌, ◌+◌, [], 
 ghost use Rattle.tariff_compile.specs.Tables.{TableParts};
 ghost use Rattle.taxi_units.specs.Time.{last_tick};
 ghost use Rattle.taxi_units.specs.declared.event.Operating.TheVariants.{Off};
-ghost use Rattle.totals_record.specs.Ranges.{IsTrip};
+ghost use Rattle.totals_record.specs.Ranges.{IsTripInItsRanges};
 ghost use Rattle.taxi_units.specs.declared.receipt.Kind.TheVariants.{Aborted};
 ghost use Rattle.meter_states.specs.Acts.{StayLawful};
-ghost use Rattle.meter_states.specs.Core.{Follows, plain_of};
+ghost use Rattle.meter_states.specs.Core.{ComesToOutcome, core_of};
 ghost use Rattle.meter_states.specs.Fits.{Fits};
 ghost use Rattle.meter_states.specs.Lawful.{IsBetweenEvents, IsPowered};
 ghost use Rattle.meter_states.specs.Meter.{Meter, held};
@@ -39,7 +39,7 @@ impl State {
         requires room { acts.old.items ≡ [] }
         ensures off { self.new.operating ≡ Off }
         ensures ranges { StayLawful tables.now self.old.number acts.old.items acts.new.items }
-        ensures done { (s : Setting) (m : Meter) → IsSettingOf s tables.now seal.now → self.old ≡ plain_of s m
+        ensures done { (s : Setting) (m : Meter) → IsSettingOf s tables.now seal.now → self.old ≡ core_of s m
             → acts.new.items ≡ (model.supply_dropped s m).acts }
         ensures steps { steps.new ≤ steps.old + 12 }
     {
@@ -93,8 +93,8 @@ impl State {
         ensures ranges { (tables : TableParts) → IsPowered tables last_tick roaming_amid 1 self.old
             → StayLawful tables self.old.number acts.old.items acts.new.items }
         ensures follows { (s : Setting) (m : Meter) (t : trips.Trip)
-            → trip ≡ trips.saved_of s t → self.old ≡ plain_of s m
-            → Follows s self.new acts.old.items acts.new.items
+            → trip ≡ trips.saved_of s t → self.old ≡ core_of s m
+            → ComesToOutcome s self.new acts.old.items acts.new.items
             (held (trips.held_trip s m.clock (model.is_stopped m.operating) m.position m.zone t) m) }
     {
         acts.push(Act::Hold(self.held_form(trip)));
@@ -111,7 +111,7 @@ impl State {
           position = self.now.position;
           zone = self.now.zone;
         } }
-        ensures range { IsTrip (self.now.number + 1) result }
+        ensures range { IsTripInItsRanges (self.now.number + 1) result }
         ensures fits { (tables : TableParts) → IsPowered tables last_tick roaming_amid 1 self.now
             → Fits tables result }
     {

@@ -3,7 +3,7 @@ ghost use Rattle.std.specs.Prelude.{◌≡◌, ◌≢◌, ◌≤◌, ◌+◌, []
 ghost use Rattle.tariff_compile.specs.Tables.{TableParts};
 ghost use Rattle.taxi_units.specs.Time.{longest_trip};
 ghost use Rattle.meter_states.specs.Acts.{StayLawful};
-ghost use Rattle.meter_states.specs.Core.{plain_of};
+ghost use Rattle.meter_states.specs.Core.{core_of};
 ghost use Rattle.meter_states.specs.Facts.{AreTrue};
 ghost use Rattle.meter_states.specs.Interval.{ticks_so_far};
 ghost use Rattle.meter_states.specs.Lawful.{IsAmidEvent, IsBetweenEvents, IsPowered, pressing_steps};
@@ -74,7 +74,7 @@ impl State {
 
     /// Whether the trip has reached its longest time.
     fn is_long(&self) -> bool
-        ensures state { (s : Setting) (m : Meter) → self.now ≡ plain_of s m
+        ensures state { (s : Setting) (m : Meter) → self.now ≡ core_of s m
             → result ≡ nat_le longest_trip (ticks_so_far m.trip) }
         ensures long { IsTrue result → self.now.trip ≢ None }
         ensures short { (tables : TableParts) → IsPowered tables longest_trip roaming_amid 0 self.now

@@ -6,7 +6,7 @@ ghost use Rattle.tariff_syntax.specs.declared.context.Context.{Context};
 ghost use Rattle.taxi_units.specs.Money.{largest_amount};
 ghost use Rattle.taxi_units.specs.Time.{IsSecond, last_tick, longest_trip};
 ghost use Rattle.totals_record.specs.declared.trip.Trip as store;
-ghost use Rattle.meter_states.specs.Lawful.{IsTrip};
+ghost use Rattle.meter_states.specs.Lawful.{IsLawfulTrip};
 ghost use Rattle.meter_states.specs.Setting.{Setting, IsSettingOf, IsTariffOf};
 ghost use Rattle.meter_states.specs.Supplements.{supplement_in, times};
 ghost use Rattle.meter_states.specs.Trip as model;
@@ -27,7 +27,7 @@ pub(crate) fn begun(tables: &Tables, fee: Initial, second: u64, roam: u32) -> Tr
     requires roam { roam ≤ roaming_amid }
     ensures saved { (s : Setting) → IsTariffOf s tables.now
         → result ≡ model.saved_of s (model.begun s fee second roam) }
-    ensures range { IsTrip tables.now last_tick result }
+    ensures range { IsLawfulTrip tables.now last_tick result }
     ensures none { (result.pulses ≡ 0) × (result.ticks ≡ 0) }
     ensures started { result.started ≡ second }
 {
@@ -59,11 +59,11 @@ pub(crate) fn add_hired(
     requires pulses { pulses ≤ 2000 }
     requires weights { AreFit tables.now.measure weights }
     requires few { trip.old.pulses ≤ 9000000000000000000 }
-    requires range { IsTrip tables.now last_tick trip.old }
+    requires range { IsLawfulTrip tables.now last_tick trip.old }
     ensures saved { (s : Setting) (t : model.Trip) (x : Context) → IsSettingOf s tables.now seal.now
         → weights ≡ rate_by s.tariff tables.now.constant x → trip.old ≡ model.saved_of s t
         → trip.new ≡ model.saved_of s (model.with_part (model.InHired pulses x) t) }
-    ensures range { IsTrip tables.now longest_trip trip.new }
+    ensures range { IsLawfulTrip tables.now longest_trip trip.new }
     ensures counts { (trip.new.pulses ≡ trip.old.pulses + pulses) × (trip.new.ticks ≡ trip.old.ticks + 1) }
     ensures started { trip.new.started ≡ trip.old.started }
 {
@@ -83,7 +83,7 @@ pub(crate) fn add_stopped(trip: &mut Trip, pulses: u32)
     requires short { trip.old.ticks ≤ last_tick }
     ensures saved { (s : Setting) (t : model.Trip) → trip.old ≡ model.saved_of s t
         → trip.new ≡ model.saved_of s (model.with_part (model.InStopped pulses) t) }
-    ensures range { (tables : TableParts) → IsTrip tables last_tick trip.old → IsTrip tables longest_trip trip.new }
+    ensures range { (tables : TableParts) → IsLawfulTrip tables last_tick trip.old → IsLawfulTrip tables longest_trip trip.new }
     ensures counts { (trip.new.pulses ≡ trip.old.pulses + pulses) × (trip.new.ticks ≡ trip.old.ticks + 1) }
     ensures started { trip.new.started ≡ trip.old.started }
 {
@@ -97,7 +97,7 @@ pub(crate) fn add_rest(trip: &mut Trip, pulses: u32)
     requires few { trip.old.pulses ≤ 9000000000000000000 }
     ensures saved { (s : Setting) (t : model.Trip) → trip.old ≡ model.saved_of s t
         → trip.new ≡ model.saved_of s (model.with_part (model.Rest pulses) t) }
-    ensures range { (tables : TableParts) → IsTrip tables last_tick trip.old → IsTrip tables last_tick trip.new }
+    ensures range { (tables : TableParts) → IsLawfulTrip tables last_tick trip.old → IsLawfulTrip tables last_tick trip.new }
     ensures counts { (trip.new.pulses ≡ trip.old.pulses + pulses) × (trip.new.ticks ≡ trip.old.ticks) }
     ensures started { trip.new.started ≡ trip.old.started }
 {
@@ -106,7 +106,7 @@ pub(crate) fn add_rest(trip: &mut Trip, pulses: u32)
 
 /// The display steps that are shown.
 pub(crate) fn display_steps(trip: &Trip, tables: &Tables) -> u64
-    requires range { IsTrip tables.now longest_trip trip.now }
+    requires range { IsLawfulTrip tables.now longest_trip trip.now }
     ensures value { (s : Setting) (t : model.Trip) → IsTariffOf s tables.now → trip.now ≡ model.saved_of s t
         → result ≡ model.steps_shown s t }
     ensures exact { result ≡ steps_of tables.now.rounding trip.now.meterage }
@@ -117,7 +117,7 @@ pub(crate) fn display_steps(trip: &Trip, tables: &Tables) -> u64
 
 /// The fare that is shown.
 pub(crate) fn fare(trip: &Trip, tables: &Tables) -> u64
-    requires range { IsTrip tables.now longest_trip trip.now }
+    requires range { IsLawfulTrip tables.now longest_trip trip.now }
     ensures value { (s : Setting) (t : model.Trip) → IsTariffOf s tables.now → trip.now ≡ model.saved_of s t
         → result ≡ model.fare_of s t }
     ensures exact { result ≡ shown_fare trip.now.initial trip.now.minimum tables.now.step
@@ -147,7 +147,7 @@ pub(crate) fn add_extra(trip: &mut Trip, number: u8, supplement: Supplement)
         → supplement_in tables number ≡ Some supplement → IsTariffOf s tables → trip.old ≡ model.saved_of s t
         → trip.new ≡ model.saved_of s (model.with_extra number t) }
     ensures range { (tables : TableParts) → supplement_in tables number ≡ Some supplement
-        → IsTrip tables last_tick trip.old → IsTrip tables last_tick trip.new }
+        → IsLawfulTrip tables last_tick trip.old → IsLawfulTrip tables last_tick trip.new }
     ensures counts { (trip.new.pulses ≡ trip.old.pulses) × (trip.new.ticks ≡ trip.old.ticks) }
     ensures started { trip.new.started ≡ trip.old.started }
 {

@@ -28,5 +28,5 @@ module _ {D L : Type 0} (B : Ghosts D L) where
   pub totals_stay_found : (board after : D) (found : Found Durable) → ScannedTotals B board found → B.image after ≡ B.image board
       → ((place : ℕ) → B.in_flight after place → B.in_flight board place) → ScannedTotals B after found
   totals_stay_found board after found is same less =
-      fewer totals.reads stored.number_of 0 (B.image after) (B.in_flight board) (B.in_flight after) found less
-      (subst (λ (image : List ℕ). IsAsFound totals.reads stored.number_of 0 image (B.in_flight board) found) (sym same) is)
+      fewer totals.reads stored.state_number_of 0 (B.image after) (B.in_flight board) (B.in_flight after) found less
+      (subst (λ (image : List ℕ). IsAsFound totals.reads stored.state_number_of 0 image (B.in_flight board) found) (sym same) is)

@@ -16,7 +16,7 @@ use Rattle.totals_record.specs.States.{first_state}
 use Rattle.meter_store.specs.Stored as stored
 use Rattle.meter_store.specs.Stored.{HasState, KeepsState}
 use Rattle.seal_record.specs.declared.seal.Seal.{Seal}
-use Rattle.seal_record.specs.Decoding.{reads, number_of}
+use Rattle.seal_record.specs.Decoding.{reads, seal_number_of}
 use Rattle.meter_store.specs.Sealing.{FoundSeal, FoundTotals, HasEitherSeal, IsAmid, KeepsSeal, KeepsSealed, KeepsTotals, LeavesSealing, ShowsSeal, found_number, next_number}
 
 -- the pair of seals has the found place, or none where it was found blank
@@ -45,7 +45,7 @@ module _ {D L : Type 0} (B : Ghosts D L) (start : ℕ) (old new : D) where
 
 module _ {D L : Type 0} (B : Ghosts D L) where
   -- the new seal's number is greater than the found one's
-  pub newer_found : (board : D) (found : Option (Place × ℕ)) (old : Option Seal) (number : ℕ) → FoundSeal B board found old → number ≡ next_number (found_number found) → IsBefore number_of old number
+  pub newer_found : (board : D) (found : Option (Place × ℕ)) (old : Option Seal) (number : ℕ) → FoundSeal B board found old → number ≡ next_number (found_number found) → IsBefore seal_number_of old number
   newer_found board None None number is next = tt
   newer_found board None (Some seal) number is next = absurd is
   newer_found board (Some found) None number is next = absurd is
@@ -53,19 +53,19 @@ module _ {D L : Type 0} (B : Ghosts D L) where
 
   -- what a store of the first totals, and of a seal, leaves of its pair
   pub put_first : (pair : Pair) (durable : Durable) (old new : D) → pair ≡ first_pair → durable ≡ first_state
-      → LeavesThroughout B (spare_at pair) 512 (ShowsEither totals.reads stored.number_of pair.at None durable) old new → LeavesThroughout B 0 1024 (KeepsTotals None) old new
+      → LeavesThroughout B (spare_at pair) 512 (ShowsEither totals.reads stored.state_number_of pair.at None durable) old new → LeavesThroughout B 0 1024 (KeepsTotals None) old new
   put_first pair durable old new p d run = slots.whole_leaves B first_pair (KeepsTotals None) old new (record { at_in = omega arith; slot_in = omega arith })
-      (subst (λ (x : Durable). LeavesThroughout B 0 512 (ShowsEither totals.reads stored.number_of 0 None x) old new) d
-      (subst (λ (x : Pair). LeavesThroughout B (spare_at x) 512 (ShowsEither totals.reads stored.number_of x.at None durable) old new) p run))
+      (subst (λ (x : Durable). LeavesThroughout B 0 512 (ShowsEither totals.reads stored.state_number_of 0 None x) old new) d
+      (subst (λ (x : Pair). LeavesThroughout B (spare_at x) 512 (ShowsEither totals.reads stored.state_number_of x.at None durable) old new) p run))
 
   pub put_next : (pair : Pair) (found : Option (Place × ℕ)) (seal : Seal) (before : Option Seal) (old new : D) → ForSome found (λ latest. latest.0.slot ≤ 1) → pair ≡ pair_for found
-      → LeavesThroughout B (spare_at pair) 512 (ShowsEither reads number_of pair.at before seal) old new → LeavesThroughout B 1024 1024 (HasEitherSeal before seal) old new
+      → LeavesThroughout B (spare_at pair) 512 (ShowsEither reads seal_number_of pair.at before seal) old new → LeavesThroughout B 1024 1024 (HasEitherSeal before seal) old new
   put_next pair found seal before old new slot p run = slots.whole_leaves B (pair_for found) (HasEitherSeal before seal) old new (is_pair found slot)
-      (subst (λ (x : Pair). LeavesThroughout B (spare_at x) 512 (ShowsEither reads number_of x.at before seal) old new) p run)
+      (subst (λ (x : Pair). LeavesThroughout B (spare_at x) 512 (ShowsEither reads seal_number_of x.at before seal) old new) p run)
 
   -- a pair of seals that was found is ready for a new one
   pub ready_found : (board : D) (found : Option (Place × ℕ)) (old : Option Seal) → FoundSeal B board found old
-      → IsReady reads number_of (pair_for found) (B.image board) (B.in_flight board) old
+      → IsReady reads seal_number_of (pair_for found) (B.image board) (B.in_flight board) old
   ready_found board None None is = is
   ready_found board None (Some seal) is = absurd is
   ready_found board (Some found) None is = absurd is
@@ -84,7 +84,7 @@ module _ {D L : Type 0} (B : Ghosts D L) where
   shows_found board None (Some seal) left is same = absurd is
   shows_found board (Some found) None left is same = absurd is
   shows_found board (Some found) (Some seal) left is same =
-      slots.at_stands reads number_of 1024 found.0 left seal (slots.same_at reads number_of 1024 found.0 (B.image board) left seal is.0.is_at same)
+      slots.at_stands reads seal_number_of 1024 found.0 left seal (slots.same_at reads seal_number_of 1024 found.0 (B.image board) left seal is.0.is_at same)
 
   -- and it is found so on a board on which no more of it is in flight
   still_found : (board after : D) (found : Option (Place × ℕ)) (old : Option Seal) → FoundSeal B board found old → IsSamePair 1024 (B.image board) (B.image after)
@@ -93,13 +93,13 @@ module _ {D L : Type 0} (B : Ghosts D L) where
   still_found board after None (Some seal) is same fewer = absurd is
   still_found board after (Some found) None is same fewer = absurd is
   still_found board after (Some found) (Some seal) is same fewer =
-      (slots.settled_stays reads number_of 1024 found.0 seal (B.image board) (B.image after) (B.in_flight board) (B.in_flight after) is.0 same fewer, is.1)
+      (slots.settled_stays reads seal_number_of 1024 found.0 seal (B.image board) (B.image after) (B.in_flight board) (B.in_flight after) is.0 same fewer, is.1)
 
   -- settled totals stand in each image with the same bytes
   totals_stand : (board : D) (place : Place) (durable : Durable) (left : List ℕ) → KeepsState B place board durable → SameBut (OrWithin (B.in_flight board) 1024 1024) (B.image board) left → HasState left durable
   totals_stand board place durable left kept same =
-      slots.at_stands totals.reads stored.number_of 0 place left durable
-      (slots.same_at totals.reads stored.number_of 0 place (B.image board) left durable kept.is_at (slots.apart_same 0 1024 1024 (B.image board) (B.in_flight board) left (inr (omega arith)) kept.quiet same))
+      slots.at_stands totals.reads stored.state_number_of 0 place left durable
+      (slots.same_at totals.reads stored.state_number_of 0 place (B.image board) left durable kept.is_at (slots.apart_same 0 1024 1024 (B.image board) (B.in_flight board) left (inr (omega arith)) kept.quiet same))
 
   -- a seal beside settled totals
   leaves_beside : (board after : D) (durable : Durable) (old : Option Seal) (new : Seal) → FoundTotals B board (Some durable) → WritesIn B 1024 1024 board after
@@ -116,7 +116,7 @@ module _ {D L : Type 0} (B : Ghosts D L) where
   keeps_beside board after durable new place found writes kept = record {
     totals = (
       found.0,
-      slots.settled_stays totals.reads stored.number_of 0 found.0 durable (B.image board) (B.image after) (B.in_flight board) (B.in_flight after) found.1
+      slots.settled_stays totals.reads stored.state_number_of 0 found.0 durable (B.image board) (B.image after) (B.in_flight board) (B.in_flight after) found.1
           (same_beside B 1024 board after 0 (inr (omega arith)) found.1.quiet writes) (no_more_beside B 1024 board after 0 (inr (omega arith)) writes),
     );
     seal_is = (place, kept);

@@ -15,7 +15,7 @@ use Rattle.meter_store.specs.Stored as stored
 use Rattle.meter_store.specs.Stored.{HasState, KeepsState}
 use Rattle.seal_record.specs.declared.seal.Seal.{Seal}
 pub use Rattle.seal_record.specs.Decoding.{reads}
-use Rattle.seal_record.specs.Ranges.{number_of}
+use Rattle.seal_record.specs.Ranges.{seal_number_of}
 
 -- the pair of seals begins at place 1,024 of the store
 abbrev pub seals_at : ℕ
@@ -24,15 +24,15 @@ seals_at = 1024
 -- an image has a seal if its pair of seals stands for it; `reads` says which seal the bytes of a slot are read as,
 -- as the law seals_are_read_by_their_table says
 abbrev pub HasSeal : List ℕ → Seal → Type 0
-HasSeal image seal = StandsFor reads number_of seals_at image seal
+HasSeal image seal = StandsFor reads seal_number_of seals_at image seal
 
 -- an image shows a seal if its pair of seals stands for it, and shows none if that pair is blank
 abbrev pub ShowsSeal : List ℕ → Option Seal → Type 0
-ShowsSeal image seal = Shows reads number_of seals_at image seal
+ShowsSeal image seal = Shows reads seal_number_of seals_at image seal
 
 -- an image has either seal if it has the new one, or shows the old one, of which there may be none
 abbrev pub HasEitherSeal : (old : Option Seal) → (new : Seal) → List ℕ → Type 0
-HasEitherSeal old new image = ShowsEither reads number_of seals_at old new image
+HasEitherSeal old new image = ShowsEither reads seal_number_of seals_at old new image
 
 -- a sealing begins with the totals and the seal that were found, if any, and puts a new seal in
 pub record Sealing : Type 0 where
@@ -106,7 +106,7 @@ module _ {D L : Type 0} (B : Ghosts D L) where
 
   -- a board keeps a seal at a place if its pair of seals is settled there with that seal
   abbrev pub KeepsSeal : Place → D → Seal → Type 0
-  KeepsSeal place board seal = IsSettled reads number_of seals_at place (B.image board) (B.in_flight board) seal
+  KeepsSeal place board seal = IsSettled reads seal_number_of seals_at place (B.image board) (B.in_flight board) seal
 
   -- a board has a found seal if its pair of seals is settled with it at the found place, and it has the found
   -- number; or if none was found, the pair is blank with nothing in flight
@@ -118,11 +118,11 @@ module _ {D L : Type 0} (B : Ghosts D L) where
 
   -- a scan has found totals on a board if its pair of totals is as the scan found it, with nothing in flight
   abbrev pub ScannedTotals : D → Found Durable → Type 0
-  ScannedTotals board found = IsAsFound totals.reads stored.number_of 0 (B.image board) (B.in_flight board) found
+  ScannedTotals board found = IsAsFound totals.reads stored.state_number_of 0 (B.image board) (B.in_flight board) found
 
   -- a scan has found a seal on a board if its pair of seals is as the scan found it, with nothing in flight
   abbrev pub ScannedSeal : D → Found Seal → Type 0
-  ScannedSeal board found = IsAsFound reads number_of seals_at (B.image board) (B.in_flight board) found
+  ScannedSeal board found = IsAsFound reads seal_number_of seals_at (B.image board) (B.in_flight board) found
 
   -- a board keeps what was sealed if both pairs are settled, the totals' with those that were found or the first
   -- ones, and the seals' with the new seal

@@ -6,17 +6,17 @@ use Rattle.slot_store.specs.Sizes.{slot_size}
 use Rattle.slot_store.specs.Slots.{slot_at, IsSettled, StandsFor, ShowsEither}
 use Rattle.slot_store.specs.Writes.{LeavesThroughout}
 use Rattle.totals_record.specs.declared.durable.Durable.{Durable}
-pub use Rattle.totals_record.specs.Ranges.{number_of}
+pub use Rattle.totals_record.specs.Ranges.{state_number_of}
 pub use Rattle.totals_record.specs.Reading.{reads}
 
 -- an image has a state where its pair of totals stands for it; `reads` says which state the bytes of a slot are read
 -- as, as the law states_are_read_by_their_table says
 abbrev pub HasState : List ℕ → Durable → Type 0
-HasState image durable = StandsFor reads number_of 0 image durable
+HasState image durable = StandsFor reads state_number_of 0 image durable
 
 -- an image has either of two states where its pair of totals stands for one of them
 abbrev pub HasEither : Durable → Durable → List ℕ → Type 0
-HasEither old new image = ShowsEither reads number_of 0 (Some old) new image
+HasEither old new image = ShowsEither reads state_number_of 0 (Some old) new image
 
 -- a commit over the state at a place writes the slot that begins here, which is the one that hasn't that state
 abbrev pub written_at : Place → ℕ
@@ -29,7 +29,7 @@ place_after place = record { slot = 1 - place.slot; other_open = true }
 module _ {D L : Type 0} (B : Ghosts D L) where
   -- a board keeps a state at a place where its pair of totals is settled there with that state
   abbrev pub KeepsState : Place → D → Durable → Type 0
-  KeepsState place board durable = IsSettled reads number_of 0 place (B.image board) (B.in_flight board) durable
+  KeepsState place board durable = IsSettled reads state_number_of 0 place (B.image board) (B.in_flight board) durable
 
   -- a run over the state at a place leaves either of two states where a cut at each of its moments leaves an image of
   -- the one or the other, and outside the slot that is written what it might have left at the old board

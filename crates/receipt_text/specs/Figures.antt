@@ -16,13 +16,13 @@ value_below limit start digits =
     if nat_lt (digits_value_after 10 start digits) limit then Some (digits_value_after 10 start digits) else None
 
 -- some digits, one at least, make this number, if it is below `limit`, and `rest` stands behind them
-abbrev pub number_of : (limit : ℕ) → (digits rest : List ℕ) → Option (ℕ × List ℕ)
-number_of limit digits rest =
+abbrev pub digits_below : (limit : ℕ) → (digits rest : List ℕ) → Option (ℕ × List ℕ)
+digits_below limit digits rest =
     if length digits == 0 then None else (value_below limit 0 digits >>= (λ value. Some (value, rest)))
 
 -- the digits at the front make this number, if it is below `limit`, and this text stands behind them
 unfoldable pub number_below : (limit : ℕ) → List ℕ → Option (ℕ × List ℕ)
-number_below limit text = number_of limit (take (digits_at_front text) text) (drop (digits_at_front text) text)
+number_below limit text = digits_below limit (take (digits_at_front text) text) (drop (digits_at_front text) text)
 
 -- one to three digits behind a point make this amount with `whole` before the point, if its units are below `limit`,
 -- and `rest` stands behind them

@@ -11,7 +11,7 @@ use Rattle.seal_record.specs.Limits.{longest_taxi, least_constant, greatest_cons
 use Rattle.seal_record.specs.Limits.{last_seal_number, digest_size, most_decimals}
 use Rattle.seal_record.specs.Lines.{before}
 use Rattle.seal_record.specs.OffsetList.{is_offset_list}
-pub use Rattle.seal_record.specs.Ranges.{number_of}
+pub use Rattle.seal_record.specs.Ranges.{seal_number_of}
 use Rattle.seal_record.specs.Spelling.{spelling, offset_size}
 use Rattle.seal_record.specs.Values.{is_taxi}
 use Rattle.slot_bodies.specs.BytesAt.{byte_at, two_at, four_at, eight_at}

@@ -33,5 +33,5 @@ pub record IsSeal (seal : Seal) : Type 0 where
   pub decimals : seal.decimals ≤ most_decimals
 
 -- the number of a seal is the one by which the later of two is known
-abbrev pub number_of : Seal → ℕ
-number_of seal = seal.seal_number
+abbrev pub seal_number_of : Seal → ℕ
+seal_number_of seal = seal.seal_number

@@ -3,7 +3,7 @@ ghost use Rattle.std.specs.Prelude.{◌≡◌, ℕ, ◌+◌, ◌≤◌, take, dr
 ghost use Rattle.outside.specs.Disk.{SameBut, MayLeave};
 ghost use Rattle.outside.specs.Faults.{HasCause, RisesOnlyIf};
 ghost use Rattle.outside.specs.Runs.{LeavesOnly};
-ghost use Rattle.slot_store.specs.Scan.{found_at, IsAsFound, IsSound};
+ghost use Rattle.slot_store.specs.Scan.{found_at, IsAsFound, IsValidFinding};
 ghost use Rattle.slot_store.specs.Sizes.{slot_size, last_pair};
 ghost use Rattle.slot_store.specs.Syncs.{IsAsHeld, LeavesFromSync};
 ghost use Rattle.slot_store.specs.Verdicts.{held, verdict_on};
@@ -35,7 +35,7 @@ pub fn scan<T: Body, B: Board<L>, L: Ledger>(
         → result ≡ found_at T.reads T.number_of at (B.image board.old) }
     ensures settled { B.tells_image → IfOk result
         (IsAsFound T.reads T.number_of at (B.image board.new) (B.in_flight board.new)) }
-    ensures sound { IfOk result (IsSound T.valid) }
+    ensures sound { IfOk result (IsValidFinding T.valid) }
     ensures any_moment { LeavesOnly B.Board board.old board.new
         (MayLeave (B.image board.old) (B.in_flight board.old) (B.printed board.old)) }
     ensures synced { B.tells_image → LeavesFromSync B.Board (IsErrOf result SlotFault.DeviceFailed)
@@ -110,7 +110,7 @@ fn read_slots<B: Board<L>, L: Ledger>(
 /// The answer to the bytes of two slots.
 fn judge<T: Body>(first: &[u8; SLOT_SIZE], second: &[u8; SLOT_SIZE]) -> Result<Found<T>, SlotFault>
     ensures exact { result ≡ verdict_on T.reads T.number_of first.now second.now }
-    ensures sound { IfOk result (IsSound T.valid) }
+    ensures sound { IfOk result (IsValidFinding T.valid) }
     ensures not_failed { ¬ IsErrOf result SlotFault.DeviceFailed }
 {
     match (held_in::<T>(first), held_in::<T>(second)) {

@@ -14,7 +14,7 @@ use Rattle.tariff_calendar.specs.Range.{IsInRange, IsInRangeOf}
 use Rattle.tariff_check.proofs.Laws.{lines_that_hold_are_there-initial, lines_that_hold_are_there-rate}
 use Rattle.tariff_check.specs.Parts.{RateNumbers, positions_of, rates_of, zones_of}
 use Rattle.tariff_compile.proofs.Laws.{tables_equal_the_tree-fees, tables_equal_the_tree-lines}
-use Rattle.tariff_compile.specs.Tables.{IsInRangeFor, IsTablesOf, fees_in, initial_by, lines_at, lines_in, number_of, tables_of}
+use Rattle.tariff_compile.specs.Tables.{IsInRangeFor, IsTablesOf, fees_in, initial_by, lines_at, lines_in, place_number, tables_of}
 use Rattle.tariff_compile.specs.declared.parts.CellLines.{CellLines}
 use Rattle.tariff_compile.specs.declared.parts.Initial as fees
 use Rattle.tariff_syntax.specs.Meaning.{initial_place, minimum_place, rate_place}
@@ -128,7 +128,7 @@ next_same a b =
 none_is_none : (b : ℕ) → eqb 0 (b + 1) ≡ false
 none_is_none b = ne_eqb 0 (b + 1) (λ same. omega (arith, same))
 
-at_number : (wanted : ℕ) (o : Option ℕ) → eqb (number_of o) (wanted + 1) ≡ is_at wanted o
+at_number : (wanted : ℕ) (o : Option ℕ) → eqb (place_number o) (wanted + 1) ≡ is_at wanted o
 at_number wanted None = none_is_none wanted
 at_number wanted (Some place) = next_same place wanted
 

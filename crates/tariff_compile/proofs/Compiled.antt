@@ -27,7 +27,7 @@ use Rattle.tariff_syntax.specs.Writable.{IsFromTo, IsWritable}
 use Rattle.tariff_syntax.specs.declared.context.Context.{Context}
 use Rattle.taxi_units.specs.Counted.{IsElement}
 use Rattle.tariff_compile.specs.Cells.{IsBelow, IsNarrow, bands_at, bands_of, cell_count, cell_number, sizes_of}
-use Rattle.tariff_compile.specs.Tables.{AreFit, HasAmountsOf, HasWeightsOf, IsCompiled, IsFit, IsInRangeFor, IsTablesOf, TableParts, all_cells, all_initials, all_weights, context_of, fee_of, fees_in, initial_by, initial_with, lines_at, lines_in, number_of, rate_by, sizes_for, sizes_in, supplement_at, supplement_in, tables_of, weights_of}
+use Rattle.tariff_compile.specs.Tables.{AreFit, HasAmountsOf, HasWeightsOf, IsCompiled, IsFit, IsInRangeFor, IsTablesOf, TableParts, all_cells, all_initials, all_weights, context_of, fee_of, fees_in, initial_by, initial_with, lines_at, lines_in, place_number, rate_by, sizes_for, sizes_in, supplement_at, supplement_in, tables_of, weights_of}
 use Rattle.tariff_compile.specs.declared.parts.Bands.{Bands}
 use Rattle.tariff_compile.specs.declared.parts.CellLines.{CellLines}
 use Rattle.tariff_compile.specs.declared.parts.Fee.{Fee}
@@ -243,7 +243,7 @@ pub minimums-fit : (tables : TableParts) → IsCompiled tables → All (λ amoun
 minimums-fit tables (t, is) =
     subst (λ (p : TableParts). All (λ amount. amount ≤ largest_amount) p.minimums) (sym is.parts) (parts_of_tree t tables is).minimums
 
-pub number_few : (minimums : List ℕ) (o : Option ℕ) → ((place : ℕ) → o ≡ Some place → place < length minimums) → number_of o ≤ length minimums
+pub number_few : (minimums : List ℕ) (o : Option ℕ) → ((place : ℕ) → o ≡ Some place → place < length minimums) → place_number o ≤ length minimums
 number_few minimums None there = omega arith
 number_few minimums (Some place) there = omega (arith, there place refl)
 
@@ -253,7 +253,7 @@ minimum-few t tables x is =
     rw (ap (λ (p : TableParts). length p.minimums) is.parts) (number_few (minimums_of t.lines) (minimum_place t x) (lines_that_hold_are_there-minimum t x))
 
 -- and is the one that holds first
-pub minimum-amount : (t : Tree) (tables : TableParts) (x : Context) → IsTablesOf t tables → get_or (0 ∷ tables.minimums) (lines_at t x).minimum 0 ≡ get_or (0 ∷ minimums_of t.lines) (number_of (minimum_place t x)) 0
+pub minimum-amount : (t : Tree) (tables : TableParts) (x : Context) → IsTablesOf t tables → get_or (0 ∷ tables.minimums) (lines_at t x).minimum 0 ≡ get_or (0 ∷ minimums_of t.lines) (place_number (minimum_place t x)) 0
 minimum-amount t tables x is = ap (λ (p : TableParts). get_or (0 ∷ p.minimums) (lines_at t x).minimum 0) is.parts
 
 -- the fees that tables have for a context are those of the tree
@@ -312,7 +312,7 @@ has_weights t k x sound =
     }
 
 minimum_said : (minimums : List ℕ) (o : Option ℕ) → ((place : ℕ) → o ≡ Some place → place < length minimums)
-    → MatchOption o (get_or (0 ∷ minimums) (number_of o) 0 ≡ 0) (λ n. slice_get minimums n ≡ Some (get_or (0 ∷ minimums) (number_of o) 0))
+    → MatchOption o (get_or (0 ∷ minimums) (place_number o) 0 ≡ 0) (λ n. slice_get minimums n ≡ Some (get_or (0 ∷ minimums) (place_number o) 0))
 minimum_said minimums None there = refl
 minimum_said minimums (Some place) there = rw add-one (slice_get-get_or minimums place 0 (there place refl))
 

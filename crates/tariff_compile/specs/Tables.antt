@@ -69,9 +69,9 @@ abbrev pub supplement_at : Tree → (number : ℕ) → Option Supplement
 supplement_at t number = option_map supplement_in (supplement_of t.lines number)
 
 -- the number of a place that may be none is one more than the place, and 0 for none
-abbrev pub number_of : Option ℕ → ℕ
-number_of None = 0
-number_of (Some place) = place + 1
+abbrev pub place_number : Option ℕ → ℕ
+place_number None = 0
+place_number (Some place) = place + 1
 
 -- the lines of a context are the rate that holds first in it, and the initial hire fee and the minimum fare that hold
 -- first at its hiring
@@ -80,7 +80,7 @@ lines_at t x =
     record {
       rate = unwrap_or (rate_place t x) 0;
       initial = unwrap_or (initial_place t x) 0;
-      minimum = number_of (minimum_place t x);
+      minimum = place_number (minimum_place t x);
     }
 
 -- the sizes of a tariff's dimensions are those of its positions, zones, kinds of days and cuts
@@ -100,7 +100,7 @@ cell_of t k x = cell_number (sizes_in t k) (bands_at (lists_of t k) x)
 pub record HasLinesOf (t : Tree) (x : Context) (lines : CellLines) : Type 0 where
   pub rate : rate_place t x ≡ Some lines.rate
   pub initial : initial_place t x ≡ Some lines.initial
-  pub minimum : number_of (minimum_place t x) ≡ lines.minimum
+  pub minimum : place_number (minimum_place t x) ≡ lines.minimum
 
 -- the lines in the tables of a tariff are those of the context of each cell, in the order of the cells
 abbrev pub all_cells : Tree → (k : ℕ) → List CellLines
@@ -164,7 +164,7 @@ initial_with fee minimum = record { amount = fee.amount; covers = fee.covers; mi
 abbrev pub initial_by : Tree → Context → Initial
 initial_by t x =
     initial_with (get_or (all_initials t) (unwrap_or (initial_place t x) 0) (record { amount = 0; covers = 0 }))
-    (get_or (0 ∷ minimums_of t.lines) (number_of (minimum_place t x)) 0)
+    (get_or (0 ∷ minimums_of t.lines) (place_number (minimum_place t x)) 0)
 
 -- the lines that tables have for a context are those of the cell in which it is
 abbrev pub lines_in : TableParts → Context → CellLines

@@ -5,7 +5,7 @@ ghost use Rattle.std.specs.Prelude.{◌≡◌, ℕ, ◌-◌, ◌<◌, ◌≤◌,
 ghost use Rattle.tariff_calendar.specs.Lists.{lists_of};
 ghost use Rattle.tariff_check.specs.Sound.{HasSoundParts};
 ghost use Rattle.tariff_compile.specs.Cells.{HasLowCuts, IsBelow, IsNarrow, bands_of, context_in};
-ghost use Rattle.tariff_compile.specs.Tables.{all_cells, lines_at, number_of};
+ghost use Rattle.tariff_compile.specs.Tables.{all_cells, lines_at, place_number};
 ghost use Rattle.tariff_syntax.specs.Meaning.{at_hiring};
 ghost use Rattle.tariff_syntax.specs.Tree.{tree_of};
 
@@ -121,19 +121,19 @@ fn cell_lines(rate: Option<usize>, initial: Option<usize>, minimum: Option<usize
     requires minimum { ForSome minimum (λ p. p < 255) }
     ensures rate { result.rate ≡ unwrap_or rate 0 }
     ensures initial { result.initial ≡ unwrap_or initial 0 }
-    ensures minimum { result.minimum ≡ number_of minimum }
+    ensures minimum { result.minimum ≡ place_number minimum }
 {
     CellLines {
         rate: rate.unwrap_or(0) as u8,
         initial: initial.unwrap_or(0) as u8,
-        minimum: number_of(minimum),
+        minimum: place_number(minimum),
     }
 }
 
 /// The number of a place, from 1; 0 where there is none.
-fn number_of(place: Option<usize>) -> u8
+fn place_number(place: Option<usize>) -> u8
     requires { ForSome place (λ p. p < 255) }
-    ensures { result ≡ number_of place }
+    ensures { result ≡ place_number place }
 {
     match place {
         Some(place) => place as u8 + 1,

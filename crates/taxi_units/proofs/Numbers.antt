@@ -6,21 +6,21 @@ use Rattle.std.proofs.Math.Seq.{take-append_seam, drop-append_seam}
 use Rattle.std.proofs.lemmas.Bool.{le-ltb, lt-ltb, ne_eqb, eq-eqb, eqb-true, cases_lt}
 use Rattle.std.proofs.lemmas.Int.Digits.{digits_value-lt}
 use Rattle.std.proofs.lemmas.Fmt.{decimal_is_IsNumeral_wide, length-decimal-le_wide}
-use Rattle.taxi_units.specs.Number.{NoDigitFirst, IsNumberAt, IsNumberOfWidth, padded_text, number_of, number_at, number_of_width, where_wide}
+use Rattle.taxi_units.specs.Number.{NoDigitFirst, IsNumberAt, IsNumberOfWidth, padded_text, digits_number, number_at, number_of_width, where_wide}
 use Rattle.taxi_units.specs.Reading.{◌>>=◌}
 use Rattle.taxi_units.proofs.Front.{front, count_front}
 use Rattle.taxi_units.proofs.Written.{digits_of_padded, padded_within}
 
-number_front : (digits rest : List ℕ) → AllDigits 10 digits → NoDigitFirst rest → number_at (digits ++ rest) ≡ number_of digits rest
+number_front : (digits rest : List ℕ) → AllDigits 10 digits → NoDigitFirst rest → number_at (digits ++ rest) ≡ digits_number digits rest
 unfolding number_at
 number_front digits rest all stops = rw (count_front digits rest all stops, take-append_seam digits rest, drop-append_seam digits rest) refl
 
-few_digits : (digits rest : List ℕ) → 0 < length digits → length digits ≤ 12 → number_of digits rest ≡ Some (digits_value 10 digits, rest)
+few_digits : (digits rest : List ℕ) → 0 < length digits → length digits ≤ 12 → digits_number digits rest ≡ Some (digits_value 10 digits, rest)
 few_digits digits rest some few =
     let not_none : eqb (length digits) 0 ≡ false = ne_eqb _ _ (λ e. omega arith) in
     rw (not_none, le-ltb 12 (length digits) few) refl
 
-many_digits : (digits rest : List ℕ) → 12 < length digits → number_of digits rest ≡ None
+many_digits : (digits rest : List ℕ) → 12 < length digits → digits_number digits rest ≡ None
 many_digits digits rest many =
     let not_none : eqb (length digits) 0 ≡ false = ne_eqb _ _ (λ e. omega arith) in
     rw (not_none, lt-ltb 12 (length digits) many) refl
@@ -33,7 +33,7 @@ same_found a b e =
     let same : a ≡ b = cc in
     (ap (λ (p : ℕ × List ℕ). p.0) same, ap (λ (p : ℕ × List ℕ). p.1) same)
 
-number_sound : (digits rest after : List ℕ) (value : ℕ) → AllDigits 10 digits → NoDigitFirst rest → (12 < length digits) ⊎ (length digits ≤ 12) → number_of digits rest ≡ Some (value, after) → IsNumberAt (digits ++ rest) value after
+number_sound : (digits rest after : List ℕ) (value : ℕ) → AllDigits 10 digits → NoDigitFirst rest → (12 < length digits) ⊎ (length digits ≤ 12) → digits_number digits rest ≡ Some (value, after) → IsNumberAt (digits ++ rest) value after
 number_sound [] rest after value all stops size e = absurd cc
 number_sound (c ∷ cs) rest after value all stops (inl many) e =
     let none = many_digits (c ∷ cs) rest many in

@@ -19,14 +19,14 @@ money_text zero units = decimal units
 money_text (suc more) units = decimal (units / 10 ^ suc more) ++ 46 ∷ padded_text (suc more) (units % 10 ^ suc more)
 
 -- digits give the number that they make, with the rest behind them, if they are 1 to 12, and nothing otherwise
-abbrev pub number_of : List ℕ → List ℕ → Option (ℕ × List ℕ)
-number_of digits rest =
+abbrev pub digits_number : List ℕ → List ℕ → Option (ℕ × List ℕ)
+digits_number digits rest =
     if (length digits == 0) || nat_lt 12 (length digits) then None else Some (digits_value 10 digits, rest)
 
 -- bytes begin with the number that all digits at their front make, and what stands after it, if the digits are 1 to
 -- 12; the law numbers_are_read_by_their_digits says which texts begin with which number
 unfoldable pub number_at : List ℕ → Option (ℕ × List ℕ)
-number_at bytes = number_of (take (digits_at_front bytes) bytes) (drop (digits_at_front bytes) bytes)
+number_at bytes = digits_number (take (digits_at_front bytes) bytes) (drop (digits_at_front bytes) bytes)
 
 -- a number that was found at the front of a text, with the rest after it, counts if exactly `width` bytes of the
 -- text stand before that rest

@@ -9,7 +9,7 @@ use Rattle.totals_record.specs.declared.totals.Totals.{Totals}
 use Rattle.totals_record.specs.declared.trip.Trip.{Trip}
 use Rattle.totals_record.specs.Entries.{closes}
 use Rattle.totals_record.specs.States.{after, after_all, entries_of, held_after, layout_after, IsRoaming, IsLast, IsHeldAfter}
-use Rattle.totals_record.specs.Sums.{totals_of, AddsUp, Follows}
+use Rattle.totals_record.specs.Sums.{totals_of, AddsUp, GrowsBy}
 use Rattle.totals_record.proofs.Adding.{adds_up}
 
 number_after : (opening : Durable) (changes : List Change) → (after_all opening changes).number ≡ opening.number + length changes
@@ -67,7 +67,7 @@ held_is opening [] = stood opening.hold
     stood (Some trip) = inr (All-nil IsRoaming, refl)
 held_is opening (change ∷ changes) = held_first opening.hold change changes (after_all opening (change ∷ changes)).hold (held_is (after opening change) changes)
 
-pub follows : (opening : Durable) (changes : List Change) → Follows opening (after_all opening changes) changes
+pub follows : (opening : Durable) (changes : List Change) → GrowsBy opening (after_all opening changes) changes
 follows opening changes = record {
   number = number_after opening changes;
   layout = layout_is opening changes;

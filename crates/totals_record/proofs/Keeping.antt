@@ -10,7 +10,7 @@ use Rattle.totals_record.specs.declared.totals.Share.{Share}
 use Rattle.totals_record.specs.declared.totals.Totals.{Totals}
 use Rattle.totals_record.specs.declared.trip.Trip.{Trip}
 use Rattle.totals_record.specs.Entries.{closes, no_share, totals_with}
-use Rattle.totals_record.specs.Ranges.{IsTrip, IsHeld, AreShares, IsDurable, IsEntry, HasRoom}
+use Rattle.totals_record.specs.Ranges.{IsTripInItsRanges, IsHeld, AreShares, IsDurable, IsEntry, HasRoom}
 use Rattle.totals_record.specs.States.{after}
 use Rattle.totals_record.proofs.Shares.{roams, shares_apart, shares_set, length_same}
 
@@ -65,7 +65,7 @@ shares_kept layout totals entry shares made = by (closes entry) refl
     by false roaming = roaming_shares layout totals entry shares roaming (made.roaming roaming)
 
 -- a held trip stays in its ranges beside a greater number
-trip_later : (number : ℕ) (trip : Trip) → IsTrip number trip → IsTrip (number + 1) trip
+trip_later : (number : ℕ) (trip : Trip) → IsTripInItsRanges number trip → IsTripInItsRanges (number + 1) trip
 trip_later number trip ranges = record {
   started = ranges.started;
   saved = ranges.saved;
@@ -106,7 +106,7 @@ entry_keeps durable entry valid room made held_room = record {
   layout = inr refl;
 }
 
-pub trip_keeps : (durable : Durable) (trip : Trip) → IsDurable durable → durable.number + 1 ≤ last_number → IsTrip (durable.number + 1) trip → IsDurable (after durable (Hold trip))
+pub trip_keeps : (durable : Durable) (trip : Trip) → IsDurable durable → durable.number + 1 ≤ last_number → IsTripInItsRanges (durable.number + 1) trip → IsDurable (after durable (Hold trip))
 trip_keeps durable trip valid room ranges = record {
   number = (omega arith, omega (arith, room));
   distance = omega (arith, valid.distance);

@@ -7,11 +7,11 @@ use Rattle.totals_record.specs.declared.durable.Durable.{Durable}
 use Rattle.totals_record.specs.declared.change.Change.{Change}
 use Rattle.totals_record.specs.declared.entry.Entry.{Entry}
 use Rattle.totals_record.specs.declared.totals.Totals.{Totals}
-use Rattle.totals_record.specs.Ranges.{HasRoom, IsDurable, IsEntry, IsTrip}
+use Rattle.totals_record.specs.Ranges.{HasRoom, IsDurable, IsEntry, IsTripInItsRanges}
 use Rattle.totals_record.specs.Reading.{reads}
 use Rattle.totals_record.specs.Spelling.{spelling}
 use Rattle.totals_record.specs.States.{after, after_all}
-use Rattle.totals_record.specs.Sums.{totals_of, AddsUp, Follows}
+use Rattle.totals_record.specs.Sums.{totals_of, AddsUp, GrowsBy}
 use Rattle.totals_record.specs.BodyLaws.{reads_exactly}
 use Rattle.totals_record.proofs.Adding.{adds_up}
 use Rattle.totals_record.proofs.Keeping.{entry_keeps, trip_keeps}
@@ -26,7 +26,7 @@ pub entries_add_up : (totals : Totals) (entries : List Entry) → AddsUp totals 
 entries_add_up = adds_up
 
 -- the state after a list of commits
-pub changes_add_up : (opening : Durable) (changes : List Change) → Follows opening (after_all opening changes) changes
+pub changes_add_up : (opening : Durable) (changes : List Change) → GrowsBy opening (after_all opening changes) changes
 changes_add_up = follows
 
 -- the ranges hold after an entry as the meter makes them
@@ -35,6 +35,6 @@ pub entries_keep_the_ranges : (durable : Durable) (entry : Entry) → IsDurable 
 entries_keep_the_ranges = entry_keeps
 
 -- and after a trip is held that is in its ranges
-pub held_trips_keep_the_ranges : (durable : Durable) (trip : Trip) → IsDurable durable → durable.number + 1 ≤ last_number → IsTrip (durable.number + 1) trip
+pub held_trips_keep_the_ranges : (durable : Durable) (trip : Trip) → IsDurable durable → durable.number + 1 ≤ last_number → IsTripInItsRanges (durable.number + 1) trip
     → IsDurable (after durable (Hold trip))
 held_trips_keep_the_ranges = trip_keeps

@@ -14,7 +14,7 @@ use Rattle.totals_record.specs.declared.trip.Trip.{Trip}
 use Rattle.totals_record.specs.Choices.{both, and_true, agree, if_is, if_not}
 use Rattle.totals_record.specs.Entries.{no_share}
 use Rattle.totals_record.specs.Fields.{Fit}
-use Rattle.totals_record.specs.Ranges.{IsTrip, IsHeld, IsDurable}
+use Rattle.totals_record.specs.Ranges.{IsTripInItsRanges, IsHeld, IsDurable}
 use Rattle.totals_record.specs.ShareLaws.{none_of, each_below}
 use Rattle.totals_record.specs.Tests.{is_course, is_meterage, are_counts, are_extras, is_trip, is_held}
 use Rattle.totals_record.specs.Tests.{is_none, add_up, is_layout, are_totals, are_shares, is_durable}
@@ -37,7 +37,7 @@ are_counts_of (count ∷ others) all = and_true (nat_le count 99) (are_counts ot
     test n below = grind (arith, nat_tests, below)
 
 -- a trip that passes its test is in its ranges
-trip_of : (number : ℕ) (trip : Trip) → length trip.extras ≡ 16 → is_trip number trip ≡ true → IsTrip number trip
+trip_of : (number : ℕ) (trip : Trip) → length trip.extras ≡ 16 → is_trip number trip ≡ true → IsTripInItsRanges number trip
 trip_of number trip sixteen is =
     let one = both (is_course number trip && is_meterage trip.ticks trip.meterage) (are_extras trip) is in
     let two = both (is_course number trip) (is_meterage trip.ticks trip.meterage) one.0 in
@@ -62,7 +62,7 @@ trip_of number trip sixteen is =
     }
 
 -- a trip in its ranges passes the test of its course
-course_of : (number : ℕ) (trip : Trip) → IsTrip number trip → is_course number trip ≡ true
+course_of : (number : ℕ) (trip : Trip) → IsTripInItsRanges number trip → is_course number trip ≡ true
 course_of number trip ranges =
     grind (
       arith,
@@ -78,17 +78,17 @@ course_of number trip ranges =
     )
 
 -- a trip in its ranges passes the test of its charges
-meterage_of : (number : ℕ) (trip : Trip) → IsTrip number trip → is_meterage trip.ticks trip.meterage ≡ true
+meterage_of : (number : ℕ) (trip : Trip) → IsTripInItsRanges number trip → is_meterage trip.ticks trip.meterage ≡ true
 meterage_of number trip ranges = grind (arith, nat_tests, ranges.cover_left, ranges.steps_full, ranges.rest)
 
 -- a trip in its ranges passes the test of its supplements
-extras_of : (number : ℕ) (trip : Trip) → IsTrip number trip → are_extras trip ≡ true
+extras_of : (number : ℕ) (trip : Trip) → IsTripInItsRanges number trip → are_extras trip ≡ true
 extras_of number trip ranges =
     let counts = are_counts_of trip.extras ranges.extras.1 in
     grind (arith, nat_tests, counts, ranges.extras_sum, ranges.minimum)
 
 -- a trip in its ranges passes its test
-is_trip_of : (number : ℕ) (trip : Trip) → IsTrip number trip → is_trip number trip ≡ true
+is_trip_of : (number : ℕ) (trip : Trip) → IsTripInItsRanges number trip → is_trip number trip ≡ true
 is_trip_of number trip ranges =
     and_true (is_course number trip && is_meterage trip.ticks trip.meterage) (are_extras trip)
     (and_true (is_course number trip) (is_meterage trip.ticks trip.meterage) (course_of number trip ranges)

@@ -11,11 +11,11 @@ use Rattle.totals_record.specs.Entries.{closes, distance_of, no_share}
 use Rattle.taxi_units.specs.Limits.{largest_supplements, last_number, roaming_amid}
 
 -- the number of a state is the one by which the later of two is known
-abbrev pub number_of : Durable → ℕ
-number_of durable = durable.number
+abbrev pub state_number_of : Durable → ℕ
+state_number_of durable = durable.number
 
 -- a trip is in its ranges, beside the number of a state, where each of its fields is in its own
-pub record IsTrip (number : ℕ) (trip : Trip) : Type 0 where
+pub record IsTripInItsRanges (number : ℕ) (trip : Trip) : Type 0 where
   pub started : IsSecond trip.started
   pub saved : (trip.started ≤ trip.saved) × (trip.saved ≤ last_second)
   pub position : (1 ≤ trip.position) × (trip.position ≤ 9)
@@ -34,7 +34,7 @@ pub record IsTrip (number : ℕ) (trip : Trip) : Type 0 where
 -- a trip may be held beside a number where the number leaves room for its closing entry, and the trip is in its ranges
 pub record IsHeld (number : ℕ) (trip : Trip) : Type 0 where
   pub room : number ≤ last_number
-  pub ranges : IsTrip number trip
+  pub ranges : IsTripInItsRanges number trip
 
 -- shares are those of their totals where hirings and fare are the sums of nine shares and of what was counted before
 -- there were shares; in layout 1 the shares are all zero

@@ -38,7 +38,7 @@ pub record AddsUp (old new : Totals) (entries : List Entry) : Type 0 where
 
 -- a state follows another by a list of commits where its number grew by how many they are, its totals by their entries,
 -- and its layout and its held trip are what they leave
-pub record Follows (old new : Durable) (changes : List Change) : Type 0 where
+pub record GrowsBy (old new : Durable) (changes : List Change) : Type 0 where
   pub number : new.number ≡ old.number + length changes
   pub layout : new.layout ≡ layout_after old.layout changes
   pub totals : AddsUp old.totals new.totals (entries_of changes)

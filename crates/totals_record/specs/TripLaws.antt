@@ -9,7 +9,7 @@ use Rattle.std.proofs.Math.Seq.{drop-append-add}
 use Rattle.taxi_units.specs.Limits.{last_number}
 use Rattle.totals_record.specs.declared.trip.Trip.{Trip}
 use Rattle.totals_record.specs.Bytes.{four, eight, bit}
-use Rattle.totals_record.specs.Ranges.{IsTrip, IsHeld}
+use Rattle.totals_record.specs.Ranges.{IsTripInItsRanges, IsHeld}
 use Rattle.totals_record.specs.Reading.{trip_in, held_in}
 use Rattle.totals_record.specs.Spelling.{trip_bytes, held_bytes}
 
@@ -99,7 +99,7 @@ same_trip a b e0 e1 e2 e3 e4 e5 e6 e7 e8 e9 e10 e11 e12 e13 e14 =
     b.meterage.cover_left b.meterage.steps_full b.meterage.rest b.extras b.extras_sum x) e14
 
 -- a trip is read back
-pub trip_back : (number : ℕ) (trip : Trip) (rest : List ℕ) → number ≤ last_number → IsTrip number trip
+pub trip_back : (number : ℕ) (trip : Trip) (rest : List ℕ) → number ≤ last_number → IsTripInItsRanges number trip
     → trip_in (trip_bytes trip ++ rest) ≡ trip
 trip_back number trip rest room ranges =
     let counts = trip.extras in

@@ -1,5 +1,5 @@
 //! A durable state as the body of a slot.
-ghost use Rattle.totals_record.specs.Ranges.{IsDurable, number_of};
+ghost use Rattle.totals_record.specs.Ranges.{IsDurable, state_number_of};
 ghost use Rattle.totals_record.specs.Reading.{reads};
 ghost use Rattle.totals_record.specs.Spelling.{spelling};
 
@@ -14,7 +14,7 @@ impl Body for Durable {
 
     ghost valid = { IsDurable };
 
-    ghost number_of = { number_of };
+    ghost number_of = { state_number_of };
 
     ghost spelling = { spelling };
 

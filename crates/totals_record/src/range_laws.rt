@@ -4,7 +4,7 @@ ghost use Rattle.totals_record.specs.declared.change.Change.TheVariants.{Enter, 
 ghost use Rattle.totals_record.specs.declared.durable.Durable.{Durable};
 ghost use Rattle.totals_record.specs.declared.entry.Entry.{Entry};
 ghost use Rattle.totals_record.specs.declared.trip.Trip.{Trip};
-ghost use Rattle.totals_record.specs.Ranges.{HasRoom, IsDurable, IsEntry, IsTrip};
+ghost use Rattle.totals_record.specs.Ranges.{HasRoom, IsDurable, IsEntry, IsTripInItsRanges};
 ghost use Rattle.totals_record.specs.States.{after};
 ghost use Rattle.taxi_units.specs.Limits.{last_number};
 
@@ -18,5 +18,5 @@ pub fn commits_keep_the_ranges()
     ensures closed { (durable : Durable) (entry : Entry) → IsDurable durable → durable.number ≤ last_number
         → IsEntry entry → HasRoom durable entry → IsDurable (after durable (Enter entry)) }
     ensures held { (durable : Durable) (trip : Trip) → IsDurable durable → durable.number + 1 ≤ last_number
-        → IsTrip (durable.number + 1) trip → IsDurable (after durable (Hold trip)) }
+        → IsTripInItsRanges (durable.number + 1) trip → IsDurable (after durable (Hold trip)) }
 {}

@@ -14,7 +14,7 @@ use Rattle.taxi_units.specs.Time.{IsSecond}
 use Rattle.verify_bench.specs.Bench.{AreTrips, IsSoundHeld, Stands, held_of}
 use Rattle.verify_bench.specs.declared.hiring.Hiring.{Hiring}
 use Rattle.verify_bench.specs.declared.plain_meter.Held.{Held}
-use Rattle.verify_bench.specs.declared.plain_meter.PlainMeter.{PlainMeter}
+use Rattle.verify_bench.specs.declared.plain_meter.BenchMeter.{BenchMeter}
 
 -- no trip stands beside no hiring
 pub none_beside : (s : Setting) (hired : Context) (hiring : Option Hiring) (trip : Option Trip) → hiring ≡ None → AreTrips s hired hiring trip → trip ≡ None
@@ -28,14 +28,14 @@ hold_beside None held are = absurd cc
 hold_beside (Some trip) held are = (trip, refl, cc)
 
 -- roaming is entered where there is some
-pub keeps_roaming : (s : Setting) (hired : Context) (meter : PlainMeter) (m : Meter) → Stands s hired meter m → meter.hiring ≡ None → 0 < meter.roam → kept s m.trip m ≡ roaming_entered s m
+pub keeps_roaming : (s : Setting) (hired : Context) (meter : BenchMeter) (m : Meter) → Stands s hired meter m → meter.hiring ≡ None → 0 < meter.roam → kept s m.trip m ≡ roaming_entered s m
 keeps_roaming s hired meter m stands none long =
     let trip : m.trip ≡ None = none_beside s hired meter.hiring m.trip none stands.trips in
     let some : nat_lt 0 (sum m.roaming) ≡ true = lt-ltb 0 (sum m.roaming) (omega (arith, stands.roam)) in
     rw (trip, some) refl
 
 -- the store takes a held trip, or no more
-pub holds_yet : (s : Setting) (hired : Context) (meter : PlainMeter) (m : Meter) → Stands s hired meter m → meter.number < last_number → nat_lt m.durable.number last_number ≡ true
+pub holds_yet : (s : Setting) (hired : Context) (meter : BenchMeter) (m : Meter) → Stands s hired meter m → meter.number < last_number → nat_lt m.durable.number last_number ≡ true
 holds_yet s hired meter m stands few = lt-ltb m.durable.number last_number (omega (arith, stands.number))
 
 -- what is kept of a held trip has a second of the meter
@@ -47,5 +47,5 @@ pub none_held : (hold : Option store.Trip) (held : Option Held) → held ≡ Non
 none_held None held none is = refl
 none_held (Some trip) held none is = absurd cc
 
-pub holds_no_more : (s : Setting) (hired : Context) (meter : PlainMeter) (m : Meter) → Stands s hired meter m → last_number ≤ meter.number → nat_lt m.durable.number last_number ≡ false
+pub holds_no_more : (s : Setting) (hired : Context) (meter : BenchMeter) (m : Meter) → Stands s hired meter m → last_number ≤ meter.number → nat_lt m.durable.number last_number ≡ false
 holds_no_more s hired meter m stands many = le-ltb m.durable.number last_number (omega (arith, stands.number))

@@ -17,10 +17,10 @@ use Rattle.verify_bench.specs.Carrying.{Carries, IsAmid, IsAmidExpected}
 use Rattle.verify_bench.specs.Expecting.{expected_of}
 use Rattle.verify_bench.specs.Explaining.{Explanation, explanation_of, explanations_from, explanations_of, explanations_in, hired_at, trip_at}
 use Rattle.verify_bench.specs.declared.explained.Explained.{Explained}
-use Rattle.verify_bench.specs.declared.plain_meter.PlainMeter.{PlainMeter}
+use Rattle.verify_bench.specs.declared.plain_meter.BenchMeter.{BenchMeter}
 
 -- an event
-pub carries_event : (s : Setting) (event : Event) (old new : PlainMeter) (a b : List Explained) → GoesThroughEvent s event (λ s. step s event) old new a b → Carries s (event ∷ []) old new a b
+pub carries_event : (s : Setting) (event : Event) (old new : BenchMeter) (a b : List Explained) → GoesThroughEvent s event (λ s. step s event) old new a b → Carries s (event ∷ []) old new a b
 unfolding explanations_from
 carries_event s event old new a b moves all left amid =
     let moved = moves amid.m amid.hired amid.stands in
@@ -34,11 +34,11 @@ carries_event s event old new a b moves all left amid =
     }
 
 -- no event
-pub carries_none : (s : Setting) (meter : PlainMeter) (a : List Explained) → Carries s [] meter meter a a
+pub carries_none : (s : Setting) (meter : BenchMeter) (a : List Explained) → Carries s [] meter meter a a
 carries_none s meter a all left amid = amid
 
 -- some events and then others
-pub carries_then : (s : Setting) (first others : List Event) (old mid new : PlainMeter) (a b c : List Explained) → Carries s first old mid a b → Carries s others mid new b c → Carries s (first ++ others) old new a c
+pub carries_then : (s : Setting) (first others : List Event) (old mid new : BenchMeter) (a b c : List Explained) → Carries s first old mid a b → Carries s others mid new b c → Carries s (first ++ others) old new a c
 carries_then s first others old mid new a b c one other all left amid =
     other all left (one all (others ++ left) (rw (append_assoc first others left) at amid))
 
@@ -51,7 +51,7 @@ intervals_more pulses (suc count) =
     ∙ sym (ap (intervals_events pulses) (add-one (suc count))))
 
 -- the end of the drive
-pub carried_to_the_end : (s : Setting) (all : List Explanation) (old new : PlainMeter) (a b : List Explained) → GoesThroughEvent s Down ended old new a b → IsAmid s all [] old a → map explanation_of b ≡ all
+pub carried_to_the_end : (s : Setting) (all : List Explanation) (old new : BenchMeter) (a b : List Explained) → GoesThroughEvent s Down ended old new a b → IsAmid s all [] old a → map explanation_of b ≡ all
 unfolding explanations_from
 carried_to_the_end s all old new a b moves amid = (moves amid.m amid.hired amid.stands).found ∙ amid.split
 
@@ -62,14 +62,14 @@ events_next runs place d within =
     let split : drop place runs ≡ get_or runs place d ∷ drop (place + 1) runs = rw add-one (drop-cons runs place d within) in
     rw split refl
 
-pub amid_next : (s : Setting) (all : List Explanation) (runs : List Run) (place : ℕ) (d : Run) (meter : PlainMeter) (found : List Explained) → place < length runs
+pub amid_next : (s : Setting) (all : List Explanation) (runs : List Run) (place : ℕ) (d : Run) (meter : BenchMeter) (found : List Explained) → place < length runs
     → IsAmid s all (flat_map run_events (drop place runs)) meter found → IsAmid s all (run_events (get_or runs place d) ++ flat_map run_events (drop (place + 1) runs)) meter found
 amid_next s all runs place d meter found within amid =
     let split : drop place runs ≡ get_or runs place d ∷ drop (place + 1) runs = rw add-one (drop-cons runs place d within) in
     rw split at amid
 
 -- before a drive
-pub amid_first : (s : Setting) (events : List Event) (meter : PlainMeter) → ((hired : Context) → Stands s hired meter (opened s first_state)) → IsAmid s (explanations_of s events) events meter []
+pub amid_first : (s : Setting) (events : List Event) (meter : BenchMeter) → ((hired : Context) → Stands s hired meter (opened s first_state)) → IsAmid s (explanations_of s events) events meter []
 amid_first s events meter stands = record {
   m = opened s first_state;
   hired = context_now s (opened s first_state);
@@ -77,7 +77,7 @@ amid_first s events meter stands = record {
   split = refl;
 }
 
-pub expected_first : (s : Setting) (events : List Event) (meter : PlainMeter) → ((hired : Context) → Stands s hired meter (opened s first_state)) → IsAmidExpected s (expected_of s events) events meter []
+pub expected_first : (s : Setting) (events : List Event) (meter : BenchMeter) → ((hired : Context) → Stands s hired meter (opened s first_state)) → IsAmidExpected s (expected_of s events) events meter []
 expected_first s events meter stands = record {
   m = opened s first_state;
   hired = context_now s (opened s first_state);

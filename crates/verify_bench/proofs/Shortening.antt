@@ -22,7 +22,7 @@ use Rattle.verify_bench.proofs.Gathering.{sum_more}
 use Rattle.verify_bench.specs.Shortened.{short_of}
 use Rattle.verify_bench.specs.declared.expected.Expected.{Expected}
 use Rattle.verify_bench.specs.declared.explained.Explained.{Explained}
-use Rattle.verify_bench.specs.declared.plain_meter.PlainMeter.{PlainMeter}
+use Rattle.verify_bench.specs.declared.plain_meter.BenchMeter.{BenchMeter}
 
 -- the receipts of acts
 short_in : (s : Setting) (hired : Context) (trip : Option Trip) (acts : List Act) → map short_of (explanations_in s hired trip acts) ≡ hirings_in (ticks_so_far trip) acts
@@ -76,7 +76,7 @@ short_from s (event ∷ events) m hired =
     ∙ ap (λ (list : List Expected). hirings_in (ticks_at s event m) acts ++ list) (short_from s events next (hired_at s event m hired)))
 
 -- events that are carried out from nothing found
-pub carried_short : (s : Setting) (all : List Expected) (events left : List Event) (old new : PlainMeter) (found : List Expected) (explained : List Explained)
+pub carried_short : (s : Setting) (all : List Expected) (events left : List Event) (old new : BenchMeter) (found : List Expected) (explained : List Explained)
     → Carries s events old new [] explained → IsAmidExpected s all (events ++ left) old found
     → IsAmidExpected s all left new (found ++ map short_of (map explanation_of explained))
 carried_short s all events left old new found explained carries amid =
@@ -96,7 +96,7 @@ carried_short s all events left old new found explained carries amid =
     }
 
 -- the end of the drive, from nothing found
-pub ended_short : (s : Setting) (all : List Expected) (old new : PlainMeter) (found : List Expected) (explained : List Explained)
+pub ended_short : (s : Setting) (all : List Expected) (old new : BenchMeter) (found : List Expected) (explained : List Explained)
     → GoesThroughEvent s events.Down ended old new [] explained → IsAmidExpected s all [] old found
     → found ++ map short_of (map explanation_of explained) ≡ all
 unfolding hirings_from

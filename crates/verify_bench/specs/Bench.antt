@@ -16,11 +16,11 @@ use Rattle.taxi_units.specs.declared.event.Key.{Key}
 use Rattle.taxi_units.specs.declared.event.Operating.TheVariants.{ForHire}
 use Rattle.totals_record.specs.declared.trip.Trip as store
 use Rattle.verify_bench.specs.Explaining.{explanation_of, explanations_in, hired_at, hired_by, trip_at}
-use Rattle.verify_bench.specs.Hirings.{IsTrip, IsWhole}
+use Rattle.verify_bench.specs.Hirings.{IsHiringOf, IsWhole}
 use Rattle.verify_bench.specs.declared.explained.Explained.{Explained}
 use Rattle.verify_bench.specs.declared.hiring.Hiring.{Hiring}
 use Rattle.verify_bench.specs.declared.plain_meter.Held.{Held}
-use Rattle.verify_bench.specs.declared.plain_meter.PlainMeter.{PlainMeter}
+use Rattle.verify_bench.specs.declared.plain_meter.BenchMeter.{BenchMeter}
 
 -- a count of 64 bits stands still at its last value, 2^64 - 1
 abbrev pub limited : ℕ → ℕ
@@ -34,13 +34,13 @@ held_of trip = record { saved = trip.saved; stopped = trip.stopped; position = t
 -- hired in the context
 abbrev pub AreTrips : Setting → (hired : Context) → Option Hiring → Option Trip → Type 0
 AreTrips s hired None None = Unit {0}
-AreTrips s hired (Some hiring) (Some trip) = IsTrip s hired hiring trip
+AreTrips s hired (Some hiring) (Some trip) = IsHiringOf s hired hiring trip
 AreTrips s hired None (Some trip) = ⊥
 AreTrips s hired (Some hiring) None = ⊥
 
 -- a meter of the bench stands for a state of the meter whose last trip was hired in a context if it has each part of
 -- that state of which receipts depend, with sums for the lists of pulses, and its hiring is the trip
-pub record Stands (s : Setting) (hired : Context) (meter : PlainMeter) (m : Meter) : Type 0 where
+pub record Stands (s : Setting) (hired : Context) (meter : BenchMeter) (m : Meter) : Type 0 where
   pub operating : meter.operating ≡ m.operating
   pub clock : meter.clock ≡ m.clock
   pub began : meter.began ≡ m.began
@@ -68,7 +68,7 @@ IsSoundHeld (Some held) = IsSecond held.saved
 
 -- a meter of the bench is sound if its seconds and its pulses are in their ranges, For Hire has no hiring, and a
 -- hiring is sound with at most `most` ticks and `more` unfinished intervals
-pub record IsSound (most more : ℕ) (meter : PlainMeter) : Type 0 where
+pub record IsMeterInRange (most more : ℕ) (meter : BenchMeter) : Type 0 where
   pub clock : IsSecond meter.clock
   pub began : IsSecond meter.began
   pub taken : meter.taken ≤ 2000
@@ -78,8 +78,8 @@ pub record IsSound (most more : ℕ) (meter : PlainMeter) : Type 0 where
 
 -- a meter of the bench may take an event if it is sound, its hiring short of its longest time and no interval
 -- unfinished, and the numbers of the event are in their ranges
-abbrev pub MayTake : PlainMeter → Event → Type 0
-MayTake meter event = IsSound last_tick 0 meter × IsInRange event
+abbrev pub MayTake : BenchMeter → Event → Type 0
+MayTake meter event = IsMeterInRange last_tick 0 meter × IsInRange event
 
 -- a hiring has the ticks that it counts, and if there is none they are 0
 abbrev pub HasTicks : Option Hiring → (ticks : ℕ) → Type 0
@@ -90,33 +90,33 @@ HasTicks (Some hiring) ticks = ticks ≡ hiring.whole.ticks
 -- context `next`, and behind what was found before come the explanations of the receipts among the outcome's acts, by
 -- the given trip, which was hired in the context `hired`
 pub record Moves (s : Setting) (hired next : Context) (trip : Option Trip) (before after : List Explained)
-    (meter : PlainMeter) (o : Outcome) : Type 0 where
+    (meter : BenchMeter) (o : Outcome) : Type 0 where
   pub state : Stands s next meter o.next
   pub found : map explanation_of after ≡ map explanation_of before ++ explanations_in s hired trip o.acts
 
 -- a meter of the bench goes through a stage if from each state that it stood for it has moved to what the stage
 -- comes to; receipts are explained by the trip before the stage, and none is hired
-abbrev pub GoesThrough : Setting → (stage : Setting → Meter → Outcome) → (old new : PlainMeter)
+abbrev pub GoesThrough : Setting → (stage : Setting → Meter → Outcome) → (old new : BenchMeter)
     → (before after : List Explained) → Type 0
 GoesThrough s stage old new before after =
     (m : Meter) (hired : Context) → Stands s hired old m → Moves s hired hired m.trip before after new (stage s m)
 
 -- a meter of the bench goes through a stage quietly if nothing is found in it, whatever was found before, and no trip
 -- is hired
-abbrev pub GoesThroughQuietly : Setting → (stage : Setting → Meter → Outcome) → (old new : PlainMeter) → Type 0
+abbrev pub GoesThroughQuietly : Setting → (stage : Setting → Meter → Outcome) → (old new : BenchMeter) → Type 0
 GoesThroughQuietly s stage old new =
     (trip : Option Trip) (found : List Explained) (m : Meter) (hired next : Context) → Stands s next old m
     → Moves s hired next trip found found new (stage s m)
 
 -- a meter of the bench hires if nothing is found in it, and the context of the meter is that of the hiring
-abbrev pub Hires : Setting → (old new : PlainMeter) → Type 0
+abbrev pub Hires : Setting → (old new : BenchMeter) → Type 0
 Hires s old new =
     (trip : Option Trip) (found : List Explained) (m : Meter) (hired : Context) → Stands s hired old m
     → Moves s hired (context_now s m) trip found found new (hiring s m)
 
 -- a meter of the bench goes through a key if from each state that it stood for it has moved to what the key comes to;
 -- receipts are explained by the trip before the key
-abbrev pub GoesThroughKey : Setting → Key → (old new : PlainMeter) → (before after : List Explained) → Type 0
+abbrev pub GoesThroughKey : Setting → Key → (old new : BenchMeter) → (before after : List Explained) → Type 0
 GoesThroughKey s key old new before after =
     (m : Meter) (hired : Context) → Stands s hired old m
     → Moves s hired (hired_by (Some key) m.operating (context_now s m) hired) m.trip before after new
@@ -124,7 +124,7 @@ GoesThroughKey s key old new before after =
 
 -- a meter of the bench goes through the key that waits if from each state that it stood for it has moved to what the
 -- end of the trip's time, or that key, comes to
-abbrev pub GoesThroughLatch : Setting → (old new : PlainMeter) → (before after : List Explained) → Type 0
+abbrev pub GoesThroughLatch : Setting → (old new : BenchMeter) → (before after : List Explained) → Type 0
 GoesThroughLatch s old new before after =
     (m : Meter) (hired : Context) → Stands s hired old m
     → Moves s hired (hired_by m.latch m.operating (context_now s m) hired) m.trip before after new
@@ -132,7 +132,7 @@ GoesThroughLatch s old new before after =
 
 -- a meter of the bench goes through an event if from each state that it stood for it has moved to what the event
 -- comes to; receipts are explained by the trip that the event closes
-abbrev pub GoesThroughEvent : Setting → Event → (comes_to : Setting → Meter → Outcome) → (old new : PlainMeter)
+abbrev pub GoesThroughEvent : Setting → Event → (comes_to : Setting → Meter → Outcome) → (old new : BenchMeter)
     → (before after : List Explained) → Type 0
 GoesThroughEvent s event comes_to old new before after =
     (m : Meter) (hired : Context) → Stands s hired old m

@@ -9,11 +9,11 @@ use Rattle.verify_bench.specs.Expecting.{hirings_from}
 use Rattle.verify_bench.specs.Explaining.{Explanation, explanation_of, explanations_from}
 use Rattle.verify_bench.specs.declared.expected.Expected.{Expected}
 use Rattle.verify_bench.specs.declared.explained.Explained.{Explained}
-use Rattle.verify_bench.specs.declared.plain_meter.PlainMeter.{PlainMeter}
+use Rattle.verify_bench.specs.declared.plain_meter.BenchMeter.{BenchMeter}
 
 -- a meter of the bench is amid a drive if what was found, and behind it the explanations that the events that are left
 -- come to from the state that it stands for, is all that the drive comes to
-pub record IsAmid (s : Setting) (all : List Explanation) (left : List Event) (meter : PlainMeter)
+pub record IsAmid (s : Setting) (all : List Explanation) (left : List Event) (meter : BenchMeter)
     (found : List Explained) : Type 0 where
   pub m : Meter
   pub hired : Context
@@ -22,14 +22,14 @@ pub record IsAmid (s : Setting) (all : List Explanation) (left : List Event) (me
 
 -- events were carried out between two meters of the bench if in each drive that goes on with these events the first
 -- is amid it before them, and the second behind them
-abbrev pub Carries : Setting → List Event → (old new : PlainMeter) → (before after : List Explained) → Type 0
+abbrev pub Carries : Setting → List Event → (old new : BenchMeter) → (before after : List Explained) → Type 0
 Carries s events old new before after =
     (all : List Explanation) (left : List Event)
     → IsAmid s all (events ++ left) old before → IsAmid s all left new after
 
 -- a meter of the bench is amid what a drive should come to if the hirings that were found, and behind them those that
 -- the events that are left come to from the state that it stands for, are all of them
-pub record IsAmidExpected (s : Setting) (all : List Expected) (left : List Event) (meter : PlainMeter)
+pub record IsAmidExpected (s : Setting) (all : List Expected) (left : List Event) (meter : BenchMeter)
     (found : List Expected) : Type 0 where
   pub m : Meter
   pub hired : Context

@@ -17,7 +17,7 @@ use Rattle.verify_bench.specs.declared.hiring.Hiring.{Hiring}
 -- a hiring of the bench is a trip of the meter that began with it in a context if both have the same start, fees and
 -- supplements, and the hiring has the sums of the trip's parts; its charges are at most 41 * 10^9 of the smallest units
 -- of money for each tick
-pub record IsTrip (s : Setting) (hired : Context) (hiring : Hiring) (trip : Trip) : Type 0 where
+pub record IsHiringOf (s : Setting) (hired : Context) (hiring : Hiring) (trip : Trip) : Type 0 where
   pub started : trip.started ≡ hiring.started
   pub initial : trip.initial ≡ hiring.fee.initial.amount
   pub minimum : trip.minimum ≡ hiring.fee.initial.minimum

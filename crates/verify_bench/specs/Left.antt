@@ -11,8 +11,8 @@ bytes_left r = drop r.given r.writing.text.items ++ lines_text (trips_from r.tri
 
 -- what is left is sound if no more was given than was written, at most 1,000 trips are to come, and with 7,500
 -- tenths of a second for each of them the time is within that of 1,000 trips
-abbrev pub IsSound : Remaining → Type 0
-IsSound r =
+abbrev pub HasRoomForTrips : Remaining → Type 0
+HasRoomForTrips r =
     (r.given ≤ array_vec_len r.writing.text)
     × (r.trips ≤ 1000)
     × (r.writing.tenths + 7500 * r.trips ≤ 7500000)

@@ -8,7 +8,7 @@ ghost use Rattle.taxi_units.specs.declared.event.Operating.TheVariants.{Off};
 ghost use Rattle.verify_bench.specs.Settings.{setting_under};
 
 use crate::explained::Explained;
-use crate::plain_meter::PlainMeter;
+use crate::plain_meter::BenchMeter;
 use seal_record::Params;
 use std::alloc::Global;
 use std::sync::ledger::Ledger;
@@ -18,8 +18,8 @@ use taxi_units::{Event, NoMemory, Operating, Steps};
 /// An interval has at most 2,000 pulses.
 const INTERVAL_MOST: u32 = 2000;
 
-impl PlainMeter {
-    ghost use Rattle.verify_bench.specs.Bench.{GoesThroughEvent, GoesThroughQuietly, IsSound, MayTake};
+impl BenchMeter {
+    ghost use Rattle.verify_bench.specs.Bench.{GoesThroughEvent, GoesThroughQuietly, IsMeterInRange, MayTake};
 
     /// An event.
     pub(crate) fn event<L: Ledger>(
@@ -34,7 +34,7 @@ impl PlainMeter {
         requires takes { MayTake self.old event }
         ensures moves { OnOk result (GoesThroughEvent (setting_under checked.now params.now) event (λ s. step s event)
             self.old self.new found.old.items found.new.items) }
-        ensures sound { OnOk result (IsSound last_tick 0 self.new) }
+        ensures sound { OnOk result (IsMeterInRange last_tick 0 self.new) }
     {
         match self.operating {
             Operating::Off => match event {
@@ -60,7 +60,7 @@ impl PlainMeter {
         requires takes { MayTake self.old event }
         ensures moves { OnOk result (GoesThroughEvent (setting_under checked.now params.now) event
             (λ s. powered_step s event) self.old self.new found.old.items found.new.items) }
-        ensures sound { OnOk result (IsSound last_tick 0 self.new) }
+        ensures sound { OnOk result (IsMeterInRange last_tick 0 self.new) }
     {
         match event {
             Event::Up(_) => Ok(()),
@@ -83,20 +83,20 @@ impl PlainMeter {
 
     /// The interval takes the pulses that it has room for.
     fn take_pulses(&mut self, pulses: u32)
-        requires sound { IsSound last_tick 0 self.old }
+        requires sound { IsMeterInRange last_tick 0 self.old }
         ensures moves { (s : Setting) → GoesThroughQuietly s (λ s. pulses_taken pulses) self.old self.new }
-        ensures sound { IsSound last_tick 0 self.new }
+        ensures sound { IsMeterInRange last_tick 0 self.new }
     {
         self.taken += pulses.min(INTERVAL_MOST - self.taken);
     }
 
     /// The clock is read: in a trip it doesn't go back.
     fn read_clock(&mut self, second: u64)
-        requires sound { IsSound last_tick 0 self.old }
+        requires sound { IsMeterInRange last_tick 0 self.old }
         requires second { IsSecond second }
         ensures moves { (s : Setting) → GoesThroughQuietly s (λ s m. clock_read m.operating second m)
             self.old self.new }
-        ensures sound { IsSound last_tick 0 self.new }
+        ensures sound { IsMeterInRange last_tick 0 self.new }
     {
         match self.operating {
             Operating::Off | Operating::ForHire => self.clock = second,

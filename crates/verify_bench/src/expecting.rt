@@ -15,7 +15,7 @@ ghost use Rattle.verify_bench.specs.Shortened.{short_of};
 
 use crate::expected::Expected;
 use crate::explained::Explained;
-use crate::plain_meter::PlainMeter;
+use crate::plain_meter::BenchMeter;
 use drive_text::Run;
 use seal_record::{Params, Seal};
 use std::alloc::Global;
@@ -78,7 +78,7 @@ fn explain_counted<L: Ledger>(
         ≡ explanations_of (setting_under checked.now params.now) (flat_map run_events runs.now)) }
 {
     let mut steps: Steps<L> = Steps::open(blank);
-    let mut meter = PlainMeter::new();
+    let mut meter = BenchMeter::new();
     let mut found = Vec::new(alloc);
     for run in runs {
         meter.follow(*run, alloc, checked, params, &mut found, &mut steps)?;
@@ -103,7 +103,7 @@ fn expect_counted<L: Ledger>(
         ≡ expected_of (setting_under checked.now params.now) (flat_map run_events runs.now)) }
 {
     let mut steps: Steps<L> = Steps::open(blank);
-    let mut meter = PlainMeter::new();
+    let mut meter = BenchMeter::new();
     let mut found = Vec::new(alloc);
     for run in runs {
         let mut explained = Vec::new(alloc);
@@ -133,15 +133,15 @@ fn put_expected(found: &mut Vec<Expected>, explained: &[Explained]) -> Result<()
     Ok(())
 }
 
-impl PlainMeter {
-    ghost use Rattle.verify_bench.specs.Bench.{IsSound, MayTake, Stands};
+impl BenchMeter {
+    ghost use Rattle.verify_bench.specs.Bench.{IsMeterInRange, MayTake, Stands};
 
     /// Before the supply first comes, over an empty store.
-    fn new() -> PlainMeter
+    fn new() -> BenchMeter
         ensures stands { (s : Setting) (hired : Context) → Stands s hired result (opened s first_state) }
-        ensures sound { IsSound last_tick 0 result }
+        ensures sound { IsMeterInRange last_tick 0 result }
     {
-        PlainMeter {
+        BenchMeter {
             operating: Operating::Off,
             clock: FIRST_SECOND,
             began: FIRST_SECOND,
@@ -166,11 +166,11 @@ impl PlainMeter {
         found: &mut Vec<Explained>,
         steps: &mut Steps<L>,
     ) -> Result<(), NoMemory>
-        requires sound { IsSound last_tick 0 self.old }
+        requires sound { IsMeterInRange last_tick 0 self.old }
         requires range { IsRunInRange run }
         ensures carries { OnOk result (Carries (setting_under checked.now params.now) (run_events run)
             self.old self.new found.old.items found.new.items) }
-        ensures sound { OnOk result (IsSound last_tick 0 self.new) }
+        ensures sound { OnOk result (IsMeterInRange last_tick 0 self.new) }
     {
         match run {
             Run::One(event) => self.carry(event, alloc, checked, params, found, steps),
@@ -191,11 +191,11 @@ impl PlainMeter {
         found: &mut Vec<Explained>,
         steps: &mut Steps<L>,
     ) -> Result<(), NoMemory>
-        requires sound { IsSound last_tick 0 self.old }
+        requires sound { IsMeterInRange last_tick 0 self.old }
         requires pulses { pulses ≤ 65535 }
         ensures carries { OnOk result (Carries (setting_under checked.now params.now) (intervals_events pulses count)
             self.old self.new found.old.items found.new.items) }
-        ensures sound { OnOk result (IsSound last_tick 0 self.new) }
+        ensures sound { OnOk result (IsMeterInRange last_tick 0 self.new) }
     {
         for place in 0..count {
             self.interval(pulses, alloc, checked, params, found, steps)?;
@@ -213,11 +213,11 @@ impl PlainMeter {
         found: &mut Vec<Explained>,
         steps: &mut Steps<L>,
     ) -> Result<(), NoMemory>
-        requires sound { IsSound last_tick 0 self.old }
+        requires sound { IsMeterInRange last_tick 0 self.old }
         requires pulses { pulses ≤ 65535 }
         ensures carries { OnOk result (Carries (setting_under checked.now params.now) (interval_events pulses)
             self.old self.new found.old.items found.new.items) }
-        ensures sound { OnOk result (IsSound last_tick 0 self.new) }
+        ensures sound { OnOk result (IsMeterInRange last_tick 0 self.new) }
     {
         if pulses == 0 {
             return self.carry(Event::Tick, alloc, checked, params, found, steps);
@@ -239,7 +239,7 @@ impl PlainMeter {
         requires takes { MayTake self.old event }
         ensures carries { OnOk result (Carries (setting_under checked.now params.now) (event ∷ [])
             self.old self.new found.old.items found.new.items) }
-        ensures sound { OnOk result (IsSound last_tick 0 self.new) }
+        ensures sound { OnOk result (IsMeterInRange last_tick 0 self.new) }
     {
         self.event(event, alloc, checked, params, found, steps)?;
         Ok(())

@@ -1,7 +1,7 @@
 //! The fees of a hiring, over the tree of a tariff.
 ghost use Rattle.std.specs.Prelude.{◌≡◌, ◌∷◌, get_or};
 ghost use Rattle.tariff_check.specs.Parts.{minimums_of};
-ghost use Rattle.tariff_compile.specs.Tables.{IsFitInitial, initial_by, number_of};
+ghost use Rattle.tariff_compile.specs.Tables.{IsFitInitial, initial_by, place_number};
 ghost use Rattle.tariff_syntax.specs.Meaning.{minimum_place};
 ghost use Rattle.tariff_syntax.specs.Tree.{tree_of};
 ghost use Rattle.verify_bench.specs.Explaining.{fee_line, minimum_line};
@@ -52,7 +52,7 @@ fn fee_in(tariff: &Tariff, x: &Context) -> HireFee
 /// The minimum fare of a context at the hiring, 0 where there is none.
 fn minimum_fare(tariff: &Tariff, x: &Context) -> u64
     ensures { result ≡ get_or (0 ∷ minimums_of (tree_of tariff.now).lines)
-        (number_of (minimum_place (tree_of tariff.now) x.now)) 0 }
+        (place_number (minimum_place (tree_of tariff.now) x.now)) 0 }
 {
     match minimum_of(tariff, x) {
         None => 0,

@@ -23,13 +23,13 @@ pub struct Generator {
 
 impl Model for Generator {
     ghost use Rattle.std.specs.Prelude.{List, ℕ};
-    ghost use Rattle.verify_bench.specs.Left.{IsSound, bytes_left};
+    ghost use Rattle.verify_bench.specs.Left.{HasRoomForTrips, bytes_left};
 
     ghost Value = { List ℕ };
 
     ghost view = { λ g. bytes_left g.left };
 
-    ghost invariant = { λ g. IsSound g.left };
+    ghost invariant = { λ g. HasRoomForTrips g.left };
 }
 
 impl Generator {

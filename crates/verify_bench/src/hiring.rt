@@ -8,7 +8,7 @@ ghost use Rattle.tariff_compile.specs.Tables.{IsFitInitial};
 ghost use Rattle.tariff_syntax.specs.declared.context.Context.{Context};
 ghost use Rattle.taxi_units.specs.Time.{IsSecond};
 ghost use Rattle.verify_bench.specs.Gathered.{no_sums, rate_at};
-ghost use Rattle.verify_bench.specs.Hirings.{IsTrip};
+ghost use Rattle.verify_bench.specs.Hirings.{IsHiringOf};
 ghost use Rattle.verify_bench.specs.Limits.{most_charge};
 ghost use Rattle.verify_bench.specs.Pricing.{IsPriceOf};
 
@@ -68,8 +68,8 @@ impl Hiring {
         ensures whole { OnOk result (IsWhole self.new) }
         ensures pulses { OnOk result (self.new.whole.pulses ≡ self.old.whole.pulses + pulses) }
         ensures ticks { OnOk result (self.new.whole.ticks ≡ self.old.whole.ticks + 1) }
-        ensures trip { OnOk result ((s : Setting) (hired x : Context) (trip : Trip) → IsTrip s hired self.old trip
-            → IsPriceOf s x pulses price → IsTrip s hired self.new (with_part (InHired pulses x) trip)) }
+        ensures trip { OnOk result ((s : Setting) (hired x : Context) (trip : Trip) → IsHiringOf s hired self.old trip
+            → IsPriceOf s x pulses price → IsHiringOf s hired self.new (with_part (InHired pulses x) trip)) }
     {
         let sums = Sums {
             pulses: pulses as u64,
@@ -90,8 +90,8 @@ impl Hiring {
         ensures whole { IsWhole self.new }
         ensures pulses { self.new.whole.pulses ≡ self.old.whole.pulses + pulses }
         ensures ticks { self.new.whole.ticks ≡ self.old.whole.ticks + 1 }
-        ensures trip { (s : Setting) (hired : Context) (trip : Trip) → IsTrip s hired self.old trip
-            → IsTrip s hired self.new (with_part (InStopped pulses) trip) }
+        ensures trip { (s : Setting) (hired : Context) (trip : Trip) → IsHiringOf s hired self.old trip
+            → IsHiringOf s hired self.new (with_part (InStopped pulses) trip) }
     {
         let sums = Sums {
             pulses: pulses as u64,
@@ -111,8 +111,8 @@ impl Hiring {
         ensures whole { IsWhole self.new }
         ensures pulses { self.new.whole.pulses ≡ self.old.whole.pulses + pulses }
         ensures ticks { self.new.whole.ticks ≡ self.old.whole.ticks }
-        ensures trip { (s : Setting) (hired : Context) (trip : Trip) → IsTrip s hired self.old trip
-            → IsTrip s hired self.new (with_part (Rest pulses) trip) }
+        ensures trip { (s : Setting) (hired : Context) (trip : Trip) → IsHiringOf s hired self.old trip
+            → IsHiringOf s hired self.new (with_part (Rest pulses) trip) }
     {
         let sums = Sums {
             pulses: pulses as u64,

@@ -15,7 +15,7 @@ use crate::explained::Explained;
 use crate::fees::hire_fee;
 use crate::hiring::Hiring;
 use crate::lookups::supplement_at;
-use crate::plain_meter::PlainMeter;
+use crate::plain_meter::BenchMeter;
 use seal_record::Params;
 use std::alloc::Global;
 use std::sync::ledger::Ledger;
@@ -23,14 +23,14 @@ use tariff_check::Checked;
 use tariff_compile::Supplement;
 use taxi_units::{HIRINGS_END, Key, Kind, NoMemory, Operating, Steps};
 
-impl PlainMeter {
-    ghost use Rattle.verify_bench.specs.Bench.{GoesThroughKey, GoesThroughQuietly, Hires, IsSound};
+impl BenchMeter {
+    ghost use Rattle.verify_bench.specs.Bench.{GoesThroughKey, GoesThroughQuietly, Hires, IsMeterInRange};
 
     /// A key waits, where none does.
     pub(crate) fn latch_key(&mut self, key: Key)
-        requires sound { IsSound last_tick 0 self.old }
+        requires sound { IsMeterInRange last_tick 0 self.old }
         ensures moves { (s : Setting) → GoesThroughQuietly s (λ s m. latched m.latch key m) self.old self.new }
-        ensures sound { IsSound last_tick 0 self.new }
+        ensures sound { IsMeterInRange last_tick 0 self.new }
     {
         match self.latch {
             None => self.latch = Some(key),
@@ -46,10 +46,10 @@ impl PlainMeter {
         params: &Params,
         steps: &mut Steps<L>,
     )
-        requires sound { IsSound last_tick 0 self.old }
+        requires sound { IsMeterInRange last_tick 0 self.old }
         requires for_hire { self.old.operating ≡ ForHire }
         ensures moves { Hires (setting_under checked.now params.now) self.old self.new }
-        ensures sound { IsSound last_tick 0 self.new }
+        ensures sound { IsMeterInRange last_tick 0 self.new }
     {
         if self.number >= HIRINGS_END {
             return;
@@ -63,10 +63,10 @@ impl PlainMeter {
 
     /// A tariff position is set.
     fn set_position(&mut self, number: u8, checked: &Checked)
-        requires sound { IsSound last_tick 0 self.old }
+        requires sound { IsMeterInRange last_tick 0 self.old }
         ensures moves { (params : Params) → GoesThroughQuietly (setting_under checked.now params)
             (λ s. position_set s number) self.old self.new }
-        ensures sound { IsSound last_tick 0 self.new }
+        ensures sound { IsMeterInRange last_tick 0 self.new }
     {
         if 1 <= number && number <= checked.positions() {
             self.position = number;
@@ -75,10 +75,10 @@ impl PlainMeter {
 
     /// A zone is set.
     fn set_zone(&mut self, number: u8, checked: &Checked)
-        requires sound { IsSound last_tick 0 self.old }
+        requires sound { IsMeterInRange last_tick 0 self.old }
         ensures moves { (params : Params) → GoesThroughQuietly (setting_under checked.now params)
             (λ s. zone_set s number) self.old self.new }
-        ensures sound { IsSound last_tick 0 self.new }
+        ensures sound { IsMeterInRange last_tick 0 self.new }
     {
         if 1 <= number && number <= checked.zones() {
             self.zone = number;
@@ -87,10 +87,10 @@ impl PlainMeter {
 
     /// A supplement is added to the trip, where the tariff has it, up to its most.
     fn add_supplement(&mut self, number: u8, checked: &Checked) -> Result<(), NoMemory>
-        requires sound { IsSound last_tick 0 self.old }
+        requires sound { IsMeterInRange last_tick 0 self.old }
         ensures moves { OnOk result ((params : Params) → GoesThroughQuietly (setting_under checked.now params)
             (λ s. extra_added number (supplement_at s.tariff number)) self.old self.new) }
-        ensures sound { OnOk result (IsSound last_tick 0 self.new) }
+        ensures sound { OnOk result (IsMeterInRange last_tick 0 self.new) }
     {
         match supplement_at(checked.tariff().lines.as_slice(), number) {
             None => Ok(()),
@@ -100,12 +100,12 @@ impl PlainMeter {
 
     /// It is added up to its most.
     fn add_up_to(&mut self, number: u8, supplement: Supplement) -> Result<(), NoMemory>
-        requires sound { IsSound last_tick 0 self.old }
+        requires sound { IsMeterInRange last_tick 0 self.old }
         requires number { IsSupplementNumber number }
         requires most { supplement.max ≤ 99 }
         ensures moves { OnOk result ((s : Setting) → GoesThroughQuietly s (λ s. extra_added number (Some supplement))
             self.old self.new) }
-        ensures sound { OnOk result (IsSound last_tick 0 self.new) }
+        ensures sound { OnOk result (IsMeterInRange last_tick 0 self.new) }
     {
         match &mut self.hiring {
             None => Ok(()),
@@ -129,10 +129,10 @@ impl PlainMeter {
         found: &mut Vec<Explained>,
         steps: &mut Steps<L>,
     ) -> Result<(), NoMemory>
-        requires sound { IsSound last_tick 0 self.old }
+        requires sound { IsMeterInRange last_tick 0 self.old }
         ensures moves { OnOk result (GoesThroughKey (setting_under checked.now params.now) key
             self.old self.new found.old.items found.new.items) }
-        ensures sound { OnOk result (IsSound last_tick 0 self.new) }
+        ensures sound { OnOk result (IsMeterInRange last_tick 0 self.new) }
     {
         match (key, self.operating) {
             (Key::Hire, Operating::ForHire) => {

@@ -37,7 +37,7 @@ pub(crate) struct Held {
 
 /// The states of the meter, but for what no receipt depends on. `number` is the store's.
 #[derive(Drop)]
-pub(crate) struct PlainMeter {
+pub(crate) struct BenchMeter {
     pub(crate) operating: Operating,
     pub(crate) clock: u64,
     pub(crate) began: u64,
@@ -51,12 +51,12 @@ pub(crate) struct PlainMeter {
     pub(crate) hiring: Option<Hiring>,
 }
 
-impl PlainMeter {
-    ghost use Rattle.verify_bench.specs.Bench.{GoesThrough, GoesThroughQuietly, HasTicks, IsSound, Stands};
+impl BenchMeter {
+    ghost use Rattle.verify_bench.specs.Bench.{GoesThrough, GoesThroughQuietly, HasTicks, IsMeterInRange, Stands};
 
     /// How many ticks the trip has, 0 without one.
     pub(crate) fn ticks(&self) -> u32
-        requires { IsSound longest_trip 1 self.now }
+        requires { IsMeterInRange longest_trip 1 self.now }
         ensures stands { (s : Setting) (m : Meter) (hired : contexts.Context) → Stands s hired self.now m
             → result ≡ ticks_so_far m.trip }
         ensures own { HasTicks self.now.hiring result }
@@ -69,7 +69,7 @@ impl PlainMeter {
 
     /// How many pulses the trip has, 0 without one.
     fn pulses(&self) -> u64
-        requires { IsSound longest_trip 1 self.now }
+        requires { IsMeterInRange longest_trip 1 self.now }
         ensures { (s : Setting) (m : Meter) (hired : contexts.Context) → Stands s hired self.now m
             → result ≡ pulses_so_far m.trip }
     {
@@ -88,7 +88,7 @@ impl PlainMeter {
         steps: &mut Steps<L>,
     ) -> Context
         requires second { IsSecond second }
-        requires sound { IsSound longest_trip 1 self.now }
+        requires sound { IsMeterInRange longest_trip 1 self.now }
         ensures { (m : Meter) (hired : contexts.Context)
             → Stands (setting_under checked.now params.now) hired self.now m
             → result ≡ context_on (setting_under checked.now params.now)
@@ -120,12 +120,12 @@ impl PlainMeter {
         found: &mut Vec<Explained>,
         steps: &mut Steps<L>,
     ) -> Result<(), NoMemory>
-        requires sound { IsSound longest_trip 1 self.old }
+        requires sound { IsMeterInRange longest_trip 1 self.old }
         requires kind { is_of_hiring kind ≡ true }
         requires finish { IsSecond finish }
         ensures moves { OnOk result (GoesThrough (setting_under checked.now params.now)
             (λ s. closed s kind finish) self.old self.new found.old.items found.new.items) }
-        ensures sound { OnOk result (IsSound last_tick 0 self.new) }
+        ensures sound { OnOk result (IsMeterInRange last_tick 0 self.new) }
         ensures none { OnOk result (self.new.hiring ≡ None) }
     {
         self.operating = Operating::ForHire;
@@ -149,10 +149,10 @@ impl PlainMeter {
 
     /// Roaming is entered.
     pub(crate) fn enter_roaming(&mut self)
-        requires sound { IsSound last_tick 0 self.old }
+        requires sound { IsMeterInRange last_tick 0 self.old }
         requires none { self.old.hiring ≡ None }
         ensures moves { (s : Setting) → GoesThroughQuietly s roaming_entered self.old self.new }
-        ensures sound { IsSound last_tick 0 self.new }
+        ensures sound { IsMeterInRange last_tick 0 self.new }
         ensures operating { self.new.operating ≡ self.old.operating }
     {
         self.roam = 0;
@@ -161,9 +161,9 @@ impl PlainMeter {
 
     /// Roaming is entered for hire where it is long.
     pub(crate) fn check_roaming(&mut self)
-        requires sound { IsSound last_tick 0 self.old }
+        requires sound { IsMeterInRange last_tick 0 self.old }
         ensures moves { (s : Setting) → GoesThroughQuietly s roaming_checked self.old self.new }
-        ensures sound { IsSound last_tick 0 self.new }
+        ensures sound { IsMeterInRange last_tick 0 self.new }
     {
         if matches!(self.operating, Operating::ForHire) && self.roam >= ROAMING_MOST as u64 {
             self.enter_roaming();
@@ -172,10 +172,10 @@ impl PlainMeter {
 
     /// The pulses of the interval are roamed, while the store takes hirings.
     fn roam_on(&mut self)
-        requires sound { IsSound last_tick 0 self.old }
+        requires sound { IsMeterInRange last_tick 0 self.old }
         ensures stands { (s : Setting) (m : Meter) (hired : contexts.Context) → Stands s hired self.old m
             → Stands s hired self.new (with_roaming self.old.taken m) }
-        ensures sound { IsSound last_tick 0 self.new }
+        ensures sound { IsMeterInRange last_tick 0 self.new }
     {
         let pulses = self.taken;
         self.taken = 0;
@@ -186,12 +186,12 @@ impl PlainMeter {
 
     /// The trip has an interval in Hired more, which began in a context.
     fn add_hired(&mut self, x: &Context, checked: &Checked, params: &Params) -> Result<(), NoMemory>
-        requires sound { IsSound last_tick 0 self.old }
+        requires sound { IsMeterInRange last_tick 0 self.old }
         ensures stands { OnOk result ((m : Meter) (hired : contexts.Context)
             → Stands (setting_under checked.now params.now) hired self.old m
             → Stands (setting_under checked.now params.now) hired self.new
             (with_interval (InHired self.old.taken x.now) m)) }
-        ensures sound { OnOk result (IsSound longest_trip 0 self.new) }
+        ensures sound { OnOk result (IsMeterInRange longest_trip 0 self.new) }
     {
         let pulses = self.taken;
         self.taken = 0;
@@ -203,10 +203,10 @@ impl PlainMeter {
 
     /// The trip has an interval in Stopped more.
     fn add_stopped(&mut self)
-        requires sound { IsSound last_tick 0 self.old }
+        requires sound { IsMeterInRange last_tick 0 self.old }
         ensures stands { (s : Setting) (m : Meter) (hired : contexts.Context) → Stands s hired self.old m
             → Stands s hired self.new (with_interval (InStopped self.old.taken) m) }
-        ensures sound { IsSound longest_trip 0 self.new }
+        ensures sound { IsMeterInRange longest_trip 0 self.new }
     {
         let pulses = self.taken;
         self.taken = 0;
@@ -218,10 +218,10 @@ impl PlainMeter {
 
     /// The trip has the pulses of an unfinished interval more.
     fn add_rest(&mut self)
-        requires sound { IsSound last_tick 0 self.old }
+        requires sound { IsMeterInRange last_tick 0 self.old }
         ensures stands { (s : Setting) (m : Meter) (hired : contexts.Context) → Stands s hired self.old m
             → Stands s hired self.new (with_interval (Rest self.old.taken) m) }
-        ensures sound { IsSound last_tick 1 self.new }
+        ensures sound { IsMeterInRange last_tick 1 self.new }
     {
         let pulses = self.taken;
         self.taken = 0;
@@ -238,12 +238,12 @@ impl PlainMeter {
         params: &Params,
         steps: &mut Steps<L>,
     ) -> Result<(), NoMemory>
-        requires sound { IsSound last_tick 0 self.old }
+        requires sound { IsMeterInRange last_tick 0 self.old }
         ensures stands { OnOk result ((m : Meter) (hired : contexts.Context)
             → Stands (setting_under checked.now params.now) hired self.old m
             → Stands (setting_under checked.now params.now) hired self.new
             (interval_counted (setting_under checked.now params.now) m).next) }
-        ensures sound { OnOk result (IsSound longest_trip 0 self.new) }
+        ensures sound { OnOk result (IsMeterInRange longest_trip 0 self.new) }
     {
         match self.operating {
             Operating::Off => Ok(()),
@@ -265,10 +265,10 @@ impl PlainMeter {
 
     /// A supply drop leaves the interval unfinished.
     pub(crate) fn leave_interval(&mut self)
-        requires sound { IsSound last_tick 0 self.old }
+        requires sound { IsMeterInRange last_tick 0 self.old }
         ensures stands { (s : Setting) (m : Meter) (hired : contexts.Context) → Stands s hired self.old m
             → Stands s hired self.new (interval_left m).next }
-        ensures sound { IsSound last_tick 1 self.new }
+        ensures sound { IsMeterInRange last_tick 1 self.new }
     {
         match self.operating {
             Operating::Off => {}

@@ -14,13 +14,13 @@ pub(crate) struct Remaining {
 }
 
 impl Remaining {
-    ghost use Rattle.verify_bench.specs.Left.{IsSound, bytes_left};
+    ghost use Rattle.verify_bench.specs.Left.{HasRoomForTrips, bytes_left};
 
     /// A whole drive.
     pub(crate) fn new(seed: u64, trips: u32) -> Remaining
         requires { (1 ≤ trips) × (trips ≤ 1000) }
         ensures left { bytes_left result ≡ generated seed trips }
-        ensures sound { IsSound result }
+        ensures sound { HasRoomForTrips result }
     {
         let mut writing = Writing::new(seed);
         writing.put_up();
@@ -34,12 +34,12 @@ impl Remaining {
     /// Moves the next bytes into the front of a buffer, and answers how many: some, where some are left
     /// and the buffer isn't empty.
     pub(crate) fn take(&mut self, buf: &mut [u8]) -> usize
-        requires sound { IsSound self.old }
+        requires sound { HasRoomForTrips self.old }
         requires some { 0 < length buf.old }
         ensures within { result ≤ length buf.old }
         ensures taken { bytes_left self.old ≡ take result buf.new ++ bytes_left self.new }
         ensures over { result ≡ 0 → bytes_left self.old ≡ [] }
-        ensures sound { IsSound self.new }
+        ensures sound { HasRoomForTrips self.new }
     {
         self.write_on();
         self.give(buf)
@@ -47,9 +47,9 @@ impl Remaining {
 
     /// Writes the next trip, where there is one and all that was written is given.
     fn write_on(&mut self)
-        requires sound { IsSound self.old }
+        requires sound { HasRoomForTrips self.old }
         ensures left { bytes_left self.new ≡ bytes_left self.old }
-        ensures sound { IsSound self.new }
+        ensures sound { HasRoomForTrips self.new }
         ensures some { self.new.given ≡ array_vec_len self.new.writing.text → self.new.trips ≡ 0 }
     {
         if self.given < self.writing.text.len() {
@@ -63,11 +63,11 @@ impl Remaining {
 
     /// Writes the next trip, where all that was written is given.
     fn write_trip(&mut self)
-        requires sound { IsSound self.old }
+        requires sound { HasRoomForTrips self.old }
         requires all { self.old.given ≡ array_vec_len self.old.writing.text }
         requires some { 0 < self.old.trips }
         ensures left { bytes_left self.new ≡ bytes_left self.old }
-        ensures sound { IsSound self.new }
+        ensures sound { HasRoomForTrips self.new }
         ensures some { self.new.given < array_vec_len self.new.writing.text }
     {
         self.given = 0;
@@ -78,10 +78,10 @@ impl Remaining {
 
     /// Gives bytes that are written.
     fn give(&mut self, buf: &mut [u8]) -> usize
-        requires sound { IsSound self.old }
+        requires sound { HasRoomForTrips self.old }
         ensures count { result ≡ min (length buf.old) (array_vec_len self.old.writing.text - self.old.given) }
         ensures taken { bytes_left self.old ≡ take result buf.new ++ bytes_left self.new }
-        ensures sound { IsSound self.new }
+        ensures sound { HasRoomForTrips self.new }
     {
         let count = copy_front(buf, &self.writing.text.as_slice()[self.given..]);
         self.given += count;

@@ -16,15 +16,15 @@ ghost use Rattle.verify_bench.specs.Settings.{setting_under};
 ghost use Rattle.verify_bench.specs.Supplied.{waking};
 
 use crate::explained::Explained;
-use crate::plain_meter::{Held, PlainMeter};
+use crate::plain_meter::{Held, BenchMeter};
 use seal_record::Params;
 use std::alloc::Global;
 use std::sync::ledger::Ledger;
 use tariff_check::Checked;
 use taxi_units::{Kind, LAST_NUMBER, NoMemory, Operating, Steps};
 
-impl PlainMeter {
-    ghost use Rattle.verify_bench.specs.Bench.{GoesThrough, GoesThroughEvent, GoesThroughQuietly, IsSound, Moves, Stands};
+impl BenchMeter {
+    ghost use Rattle.verify_bench.specs.Bench.{GoesThrough, GoesThroughEvent, GoesThroughQuietly, IsMeterInRange, Moves, Stands};
 
     /// The supply comes.
     pub(crate) fn come_up<L: Ledger>(
@@ -36,11 +36,11 @@ impl PlainMeter {
         found: &mut Vec<Explained>,
         steps: &mut Steps<L>,
     ) -> Result<(), NoMemory>
-        requires sound { IsSound last_tick 0 self.old }
+        requires sound { IsMeterInRange last_tick 0 self.old }
         requires second { IsSecond second }
         ensures moves { OnOk result (GoesThrough (setting_under checked.now params.now) (λ s. supply_came s second)
             self.old self.new found.old.items found.new.items) }
-        ensures sound { OnOk result (IsSound last_tick 0 self.new) }
+        ensures sound { OnOk result (IsMeterInRange last_tick 0 self.new) }
     {
         self.wake(second);
         self.take_hold(second, alloc, checked, params, found, steps)
@@ -48,11 +48,11 @@ impl PlainMeter {
 
     /// It is powered, and still off.
     fn wake(&mut self, second: u64)
-        requires sound { IsSound last_tick 0 self.old }
+        requires sound { IsMeterInRange last_tick 0 self.old }
         requires second { IsSecond second }
         ensures stands { (s : Setting) (m : Meter) (hired : Context) → Stands s hired self.old m
             → Stands s hired self.new (waking second m) }
-        ensures sound { IsSound last_tick 0 self.new }
+        ensures sound { IsMeterInRange last_tick 0 self.new }
     {
         self.operating = Operating::Off;
         self.clock = second;
@@ -74,13 +74,13 @@ impl PlainMeter {
         found: &mut Vec<Explained>,
         steps: &mut Steps<L>,
     ) -> Result<(), NoMemory>
-        requires sound { IsSound last_tick 0 self.old }
+        requires sound { IsMeterInRange last_tick 0 self.old }
         requires second { IsSecond second }
         ensures moves { OnOk result ((m : Meter) (hired : Context)
             → Stands (setting_under checked.now params.now) hired self.old (waking second m)
             → Moves (setting_under checked.now params.now) hired hired m.trip found.old.items found.new.items self.new
             (hold_taken (setting_under checked.now params.now) second m.durable.hold (powered second m))) }
-        ensures sound { OnOk result (IsSound last_tick 0 self.new) }
+        ensures sound { OnOk result (IsMeterInRange last_tick 0 self.new) }
     {
         match self.held {
             None => {
@@ -102,10 +102,10 @@ impl PlainMeter {
 
     /// A held trip goes on.
     fn resume(&mut self, held: Held)
-        requires sound { IsSound last_tick 0 self.old }
+        requires sound { IsMeterInRange last_tick 0 self.old }
         ensures moves { (s : Setting) (trip : store.Trip) → held ≡ held_of trip
             → GoesThroughQuietly s (λ s. resumed trip) self.old self.new }
-        ensures sound { IsSound last_tick 0 self.new }
+        ensures sound { IsMeterInRange last_tick 0 self.new }
     {
         self.operating = if held.stopped {
             Operating::Stopped
@@ -126,12 +126,12 @@ impl PlainMeter {
         found: &mut Vec<Explained>,
         steps: &mut Steps<L>,
     ) -> Result<(), NoMemory>
-        requires sound { IsSound last_tick 0 self.old }
+        requires sound { IsMeterInRange last_tick 0 self.old }
         requires saved { IsSecond held.saved }
         ensures moves { OnOk result ((trip : store.Trip) → held ≡ held_of trip
             → GoesThrough (setting_under checked.now params.now) (λ s. aborted s trip)
             self.old self.new found.old.items found.new.items) }
-        ensures sound { OnOk result (IsSound last_tick 0 self.new) }
+        ensures sound { OnOk result (IsMeterInRange last_tick 0 self.new) }
     {
         self.position = held.position;
         self.close(
@@ -157,10 +157,10 @@ impl PlainMeter {
         found: &mut Vec<Explained>,
         steps: &mut Steps<L>,
     ) -> Result<(), NoMemory>
-        requires sound { IsSound last_tick 0 self.old }
+        requires sound { IsMeterInRange last_tick 0 self.old }
         ensures moves { OnOk result (GoesThroughEvent (setting_under checked.now params.now) Down supply_dropped
             self.old self.new found.old.items found.new.items) }
-        ensures sound { OnOk result (IsSound last_tick 0 self.new) }
+        ensures sound { OnOk result (IsMeterInRange last_tick 0 self.new) }
     {
         self.leave_interval();
         self.keep(alloc, checked, params, found, steps)?;
@@ -178,10 +178,10 @@ impl PlainMeter {
         found: &mut Vec<Explained>,
         steps: &mut Steps<L>,
     ) -> Result<(), NoMemory>
-        requires sound { IsSound last_tick 1 self.old }
+        requires sound { IsMeterInRange last_tick 1 self.old }
         ensures moves { OnOk result (GoesThrough (setting_under checked.now params.now) (λ s m. kept s m.trip m)
             self.old self.new found.old.items found.new.items) }
-        ensures sound { OnOk result (IsSound last_tick 0 self.new) }
+        ensures sound { OnOk result (IsMeterInRange last_tick 0 self.new) }
     {
         match &self.hiring {
             None => {
@@ -209,10 +209,10 @@ impl PlainMeter {
     /// Without a trip roaming is entered, where there is any.
     #[tactic(auto, using(crate::proofs::Benches::sound_without))]
     fn keep_roaming(&mut self)
-        requires sound { IsSound last_tick 1 self.old }
+        requires sound { IsMeterInRange last_tick 1 self.old }
         requires none { self.old.hiring ≡ None }
         ensures moves { (s : Setting) → GoesThroughQuietly s (λ s m. kept s m.trip m) self.old self.new }
-        ensures sound { IsSound last_tick 0 self.new }
+        ensures sound { IsMeterInRange last_tick 0 self.new }
     {
         if self.roam == 0 {
             return;
@@ -222,11 +222,11 @@ impl PlainMeter {
 
     /// The trip is held.
     fn hold(&mut self)
-        requires sound { IsSound last_tick 1 self.old }
+        requires sound { IsMeterInRange last_tick 1 self.old }
         requires room { self.old.number < last_number }
         ensures moves { (s : Setting) (trip : Trip) → GoesThroughQuietly s (λ s m.
             held (held_trip s m.clock (is_stopped m.operating) m.position m.zone trip) m) self.old self.new }
-        ensures sound { IsSound last_tick 0 self.new }
+        ensures sound { IsMeterInRange last_tick 0 self.new }
     {
         self.held = Some(Held {
             saved: self.clock,
@@ -246,7 +246,7 @@ impl PlainMeter {
         found: &mut Vec<Explained>,
         steps: &mut Steps<L>,
     ) -> Result<(), NoMemory>
-        requires sound { IsSound last_tick 0 self.old }
+        requires sound { IsMeterInRange last_tick 0 self.old }
         ensures { OnOk result (GoesThroughEvent (setting_under checked.now params.now) Down ended
             self.old self.new found.old.items found.new.items) }
     {

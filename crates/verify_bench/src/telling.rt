@@ -14,7 +14,7 @@ ghost use Rattle.taxi_units.specs.Time.{IsSecond, longest_trip};
 ghost use Rattle.verify_bench.specs.Explaining.{explanation, explanation_of, taken_if, taken_of};
 ghost use Rattle.verify_bench.specs.Gathered.{IsTableOf, all_ways};
 ghost use Rattle.verify_bench.specs.Groups.{group_if, groups_at, groups_from, line_numbers};
-ghost use Rattle.verify_bench.specs.Hirings.{IsTrip, IsWhole};
+ghost use Rattle.verify_bench.specs.Hirings.{IsHiringOf, IsWhole};
 ghost use Rattle.verify_bench.specs.Settings.{setting_under};
 
 use crate::explained::{Explained, Group, Sums, Taken, Way};
@@ -54,7 +54,7 @@ pub(crate) fn explained<L: Ledger>(
     requires ticks { hiring.now.whole.ticks ≤ longest_trip }
     requires finish { IsSecond closing.finish }
     ensures { IfOk result (λ explained. (hired : Context) (trip : Trip)
-        → IsTrip (setting_under checked.now params.now) hired hiring.now trip → explanation_of explained
+        → IsHiringOf (setting_under checked.now params.now) hired hiring.now trip → explanation_of explained
         ≡ explanation (setting_under checked.now params.now) hired (Some trip)
         (receipt_of (setting_under checked.now params.now)
         closing.kind closing.finish closing.position trip closing.number)) }
@@ -88,7 +88,7 @@ fn receipt<L: Ledger>(
     requires ticks { hiring.now.whole.ticks ≤ longest_trip }
     requires finish { IsSecond closing.finish }
     ensures { (hired : Context) (trip : Trip)
-        → IsTrip (setting_under checked.now params.now) hired hiring.now trip
+        → IsHiringOf (setting_under checked.now params.now) hired hiring.now trip
         → result ≡ receipt_of (setting_under checked.now params.now)
         closing.kind closing.finish closing.position trip closing.number }
 {

@@ -6,15 +6,15 @@ ghost use Rattle.taxi_units.specs.declared.event.Event.TheVariants.{Tick};
 ghost use Rattle.verify_bench.specs.Settings.{setting_under};
 
 use crate::explained::Explained;
-use crate::plain_meter::PlainMeter;
+use crate::plain_meter::BenchMeter;
 use seal_record::Params;
 use std::alloc::Global;
 use std::sync::ledger::Ledger;
 use tariff_check::Checked;
 use taxi_units::{Kind, LONGEST_TRIP, NoMemory, Steps};
 
-impl PlainMeter {
-    ghost use Rattle.verify_bench.specs.Bench.{GoesThrough, GoesThroughEvent, GoesThroughLatch, IsSound};
+impl BenchMeter {
+    ghost use Rattle.verify_bench.specs.Bench.{GoesThrough, GoesThroughEvent, GoesThroughLatch, IsMeterInRange};
 
     /// A tick.
     pub(crate) fn tick<L: Ledger>(
@@ -25,10 +25,10 @@ impl PlainMeter {
         found: &mut Vec<Explained>,
         steps: &mut Steps<L>,
     ) -> Result<(), NoMemory>
-        requires sound { IsSound last_tick 0 self.old }
+        requires sound { IsMeterInRange last_tick 0 self.old }
         ensures moves { OnOk result (GoesThroughEvent (setting_under checked.now params.now) Tick ticked
             self.old self.new found.old.items found.new.items) }
-        ensures sound { OnOk result (IsSound last_tick 0 self.new) }
+        ensures sound { OnOk result (IsMeterInRange last_tick 0 self.new) }
     {
         self.count_interval(checked, params, steps)?;
         self.expire_or_press(alloc, checked, params, found, steps)?;
@@ -47,10 +47,10 @@ impl PlainMeter {
         found: &mut Vec<Explained>,
         steps: &mut Steps<L>,
     ) -> Result<(), NoMemory>
-        requires sound { IsSound longest_trip 0 self.old }
+        requires sound { IsMeterInRange longest_trip 0 self.old }
         ensures moves { OnOk result (GoesThroughLatch (setting_under checked.now params.now)
             self.old self.new found.old.items found.new.items) }
-        ensures sound { OnOk result (IsSound last_tick 0 self.new) }
+        ensures sound { OnOk result (IsMeterInRange last_tick 0 self.new) }
     {
         if self.ticks() >= LONGEST_TRIP {
             self.expire(alloc, checked, params, found, steps)
@@ -75,10 +75,10 @@ impl PlainMeter {
         found: &mut Vec<Explained>,
         steps: &mut Steps<L>,
     ) -> Result<(), NoMemory>
-        requires sound { IsSound longest_trip 0 self.old }
+        requires sound { IsMeterInRange longest_trip 0 self.old }
         ensures moves { OnOk result (GoesThrough (setting_under checked.now params.now) expired
             self.old self.new found.old.items found.new.items) }
-        ensures sound { OnOk result (IsSound last_tick 0 self.new) }
+        ensures sound { OnOk result (IsMeterInRange last_tick 0 self.new) }
         ensures none { OnOk result (self.new.hiring ≡ None) }
     {
         self.close(

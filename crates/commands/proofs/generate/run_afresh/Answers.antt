@@ -33,7 +33,7 @@ returns-in-Ok-run_events-clause-state g c = λ tells told whole calm still s is.
     let placed = c.in-Ok.ensures.sealed told in
     let opens : OpensWith g.B.Board tables c.place_seal.new.board first_state = record { place = placed.totals.0; settled = placed.totals.1; fits = λ trip e. absurd cc } in
     let done = ((c.in-Ok-run_events.ensures.ends tells).runs told s first_state is opens).opens in
-    let stands : HasState (g.B.Board.image c.run_events.new.board) (state_after s (g.F.Files.rest c.args.files.now 0)) = at_stands totals.reads states.number_of 0 done.place _ _ done.settled.is_at in
+    let stands : HasState (g.B.Board.image c.run_events.new.board) (state_after s (g.F.Files.rest c.args.files.now 0)) = at_stands totals.reads states.state_number_of 0 done.place _ _ done.settled.is_at in
     c.state_in.ensures.has told (λ rose. still (omega (
       arith,
       rose,

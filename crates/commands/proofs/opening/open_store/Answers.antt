@@ -35,7 +35,7 @@ returns-in-Err-scan-clause-exact g c = λ tells good.
     λ e. good (ap Err (c.fault_of_pair-in-Err-scan.ensures ∙ ap (fault_from 2) (same_fault c.scan-2.result fault slots.DeviceFailed c.in-Err-scan.is e))) in
     let went : ¬ (c.scan.result ≡ Err slots.DeviceFailed) = no_fault c.scan.result c.in-Ok.found slots.DeviceFailed c.in-Ok.is in
     let first = sym (c.scan.ensures.exact tells went) ∙ c.in-Ok.is in
-    let second = ap (found_at seals.reads seals.number_of 1024) (sym (c.scan.ensures.same went)) ∙ sym (c.scan-2.ensures.exact tells failed) ∙ c.in-Err-scan.is in
+    let second = ap (found_at seals.reads seals.seal_number_of 1024) (sym (c.scan.ensures.same went)) ∙ sym (c.scan-2.ensures.exact tells failed) ∙ c.in-Err-scan.is in
     ap Err c.fault_of_pair-in-Err-scan.ensures ∙ sym (opened_by (image c.args.board.now) c.in-Ok.found (Err fault) first second)
 
 pub returns-in-Err-scan-clause-reads : goal.returns-in-Err-scan-clause-reads
@@ -68,14 +68,14 @@ returns-clause-exact g c = λ tells good.
     let went : ¬ (c.scan.result ≡ Err slots.DeviceFailed) = no_fault c.scan.result c.in-Ok.found slots.DeviceFailed c.in-Ok.is in
     let went_on : ¬ (c.scan-2.result ≡ Err slots.DeviceFailed) = no_fault c.scan-2.result c.in-Ok-scan.found slots.DeviceFailed c.in-Ok-scan.is in
     let first = sym (c.scan.ensures.exact tells went) ∙ c.in-Ok.is in
-    let second = ap (found_at seals.reads seals.number_of 1024) (sym (c.scan.ensures.same went)) ∙ sym (c.scan-2.ensures.exact tells went_on) ∙ c.in-Ok-scan.is in
+    let second = ap (found_at seals.reads seals.seal_number_of 1024) (sym (c.scan.ensures.same went)) ∙ sym (c.scan-2.ensures.exact tells went_on) ∙ c.in-Ok-scan.is in
     sym (opened_by (image c.args.board.now) c.in-Ok.found (Ok c.in-Ok-scan.found) first second)
 
 pub returns-clause-opened : goal.returns-clause-opened
 returns-clause-opened g c = λ tells.
     let went_on : ¬ (c.scan-2.result ≡ Err slots.DeviceFailed) = no_fault c.scan-2.result c.in-Ok-scan.found slots.DeviceFailed c.in-Ok-scan.is in
     record {
-      totals = stays_found totals.reads states.number_of 0 (g.B.Board.image c.scan.new.board) (g.B.Board.image c.scan-2.new.board) (g.B.Board.in_flight c.scan.new.board) (g.B.Board.in_flight c.scan-2.new.board)
+      totals = stays_found totals.reads states.state_number_of 0 (g.B.Board.image c.scan.new.board) (g.B.Board.image c.scan-2.new.board) (g.B.Board.in_flight c.scan.new.board) (g.B.Board.in_flight c.scan-2.new.board)
           c.in-Ok.found (c.scan-2.ensures.same went_on) c.scan-2.ensures.flight (c.in-Ok.ensures.settled tells);
       seal = c.in-Ok-scan.ensures.settled tells;
     }

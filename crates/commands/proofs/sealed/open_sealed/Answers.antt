@@ -61,7 +61,7 @@ pub returns-in-Some-clause-found : goal.returns-in-Some-clause-found
 returns-in-Some-clause-found g c = λ told.
     let board = c.open_store.new.board in
     let found = sealed_found c.in-Ok.opening.totals c.in-Ok.opening.seal c.in-Some.durable c.in-Some.seal (sym c.sealed_store.ensures.answer ∙ c.in-Some.is) in
-    (found.0, subst (λ (f : Found Durable). IsAsFound totals.reads states.number_of 0 (g.B.Board.image board) (g.B.Board.in_flight board) f) found.1 (c.in-Ok.ensures.opened told).totals)
+    (found.0, subst (λ (f : Found Durable). IsAsFound totals.reads states.state_number_of 0 (g.B.Board.image board) (g.B.Board.in_flight board) f) found.1 (c.in-Ok.ensures.opened told).totals)
 
 pub returns-in-Some-clause-opens : goal.returns-in-Some-clause-opens
 returns-in-Some-clause-opens g c =

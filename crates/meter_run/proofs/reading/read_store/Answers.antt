@@ -1,11 +1,11 @@
 use Rattle.std.proofs.Common.{ℕ, ◌+◌, ◌≤◌, Err, None, ap, arith, subst, sym, true, false, ◌≡◌}
 use Rattle.std.specs.Option.{ForSome}
 use Rattle.meter_states.specs.Fits.{Fits}
-use Rattle.slot_store.specs.Scan.{IsAsFound, IsSound}
+use Rattle.slot_store.specs.Scan.{IsAsFound, IsValidFinding}
 use Rattle.slot_store.specs.declared.found.Found.{Found}
 use Rattle.totals_record.specs.Ranges.{IsDurable}
 use Rattle.totals_record.specs.Reading.{reads}
-use Rattle.meter_store.specs.Stored.{KeepsState, number_of}
+use Rattle.meter_store.specs.Stored.{KeepsState, state_number_of}
 use Rattle.totals_record.specs.declared.durable.Durable.{Durable}
 use Rattle.meter_run.specs.declared.stored.Known.{Known}
 use Rattle.meter_run.proofs.Finding.{answers, bad_body, found_is, no_fault, not_blank, same_number}
@@ -23,17 +23,17 @@ pub returns-in-Ok-Latest-clause-agrees : goal.returns-in-Ok-Latest-clause-agrees
 returns-in-Ok-Latest-clause-agrees g c = λ x is.
     let b = c.scan.new.board in
     let same = c.where_it_fits.ensures.same x is in
-    let sound = subst (λ (f : Found Durable). IsSound IsDurable f) c.in-Ok-Latest.field-0-is c.in-Ok-Latest.ensures.sound in
+    let sound = subst (λ (f : Found Durable). IsValidFinding IsDurable f) c.in-Ok-Latest.field-0-is c.in-Ok-Latest.ensures.sound in
     record {
       slot = subst (λ (k : Known). k.place.slot ≤ 1) (sym same) sound.0;
       settled = λ told. subst (λ (k : Known). KeepsState g.B.Board k.place b k.durable) (sym same)
-          (subst (λ (f : Found Durable). IsAsFound reads number_of 0 (g.B.Board.image b) (g.B.Board.in_flight b) f) c.in-Ok-Latest.field-0-is (c.in-Ok-Latest.ensures.settled told));
+          (subst (λ (f : Found Durable). IsAsFound reads state_number_of 0 (g.B.Board.image b) (g.B.Board.in_flight b) f) c.in-Ok-Latest.field-0-is (c.in-Ok-Latest.ensures.settled told));
       fits = c.where_it_fits.ensures.fits x is;
     }
 
 pub returns-in-Ok-Latest-clause-range : goal.returns-in-Ok-Latest-clause-range
 returns-in-Ok-Latest-clause-range g c = λ x is.
-    let sound = subst (λ (f : Found Durable). IsSound IsDurable f) c.in-Ok-Latest.field-0-is c.in-Ok-Latest.ensures.sound in
+    let sound = subst (λ (f : Found Durable). IsValidFinding IsDurable f) c.in-Ok-Latest.field-0-is c.in-Ok-Latest.ensures.sound in
     subst (λ (k : Known). IsDurable k.durable) (sym (c.where_it_fits.ensures.same x is)) sound.1
 
 pub returns-in-Ok-Latest-clause-finds : goal.returns-in-Ok-Latest-clause-finds

@@ -2,7 +2,7 @@ use Rattle.std.proofs.Common.{sym, subst}
 use Rattle.slot_store.specs.declared.pair.Pair.{Pair}
 use Rattle.slot_store.specs.Slots.{IsSettled}
 use Rattle.slot_store.specs.Stages.{IsReady}
-use Rattle.seal_record.specs.Decoding.{reads, number_of}
+use Rattle.seal_record.specs.Decoding.{reads, seal_number_of}
 use Rattle.outside.proofs.Laws.{on_failed}
 use Rattle.meter_store.proofs.Sealings.{newer_found, next_beside, put_next, ready_found}
 use Rattle.meter_store.proofs.sealing.put_seal.Goals as goal
@@ -11,7 +11,7 @@ pub returns-in_err-place-clause-any_moment : goal.returns-in_err-place-clause-an
 returns-in_err-place-clause-any_moment g c told old is =
     let board = g.B.Board in
     let here = c.ready_for-ready.ensures in
-    let ready = subst (λ (p : Pair). IsReady reads number_of p (board.image c.args.board.now) (board.in_flight c.args.board.now) old) (sym here) (ready_found board c.args.board.now c.args.found old is) in
+    let ready = subst (λ (p : Pair). IsReady reads seal_number_of p (board.image c.args.board.now) (board.in_flight c.args.board.now) old) (sym here) (ready_found board c.args.board.now c.args.found old is) in
     put_next board _ c.args.found c.args.seal.now old c.args.board.now c.store.new.board c.requires.slot here
     (c.store.ensures.any_moment told old ready (newer_found board c.args.board.now c.args.found old _ is c.requires.number))
 
@@ -19,7 +19,7 @@ pub returns-clause-any_moment : goal.returns-clause-any_moment
 returns-clause-any_moment g c told old is =
     let board = g.B.Board in
     let here = c.ready_for-ready.ensures in
-    let ready = subst (λ (p : Pair). IsReady reads number_of p (board.image c.args.board.now) (board.in_flight c.args.board.now) old) (sym here) (ready_found board c.args.board.now c.args.found old is) in
+    let ready = subst (λ (p : Pair). IsReady reads seal_number_of p (board.image c.args.board.now) (board.in_flight c.args.board.now) old) (sym here) (ready_found board c.args.board.now c.args.found old is) in
     put_next board _ c.args.found c.args.seal.now old c.args.board.now c.store.new.board c.requires.slot here
     (c.store.ensures.any_moment told old ready (newer_found board c.args.board.now c.args.found old _ is c.requires.number))
 
@@ -28,8 +28,8 @@ returns-clause-settled g c told =
     let board = g.B.Board in
     let here = c.ready_for-ready.ensures in
     let found = c.requires.found told in
-    let ready = subst (λ (p : Pair). IsReady reads number_of p (board.image c.args.board.now) (board.in_flight c.args.board.now) found.0) (sym here) (ready_found board c.args.board.now c.args.found found.0 found.1) in
-    subst (λ (p : Pair). IsSettled reads number_of p.at c.in_ok-place.place (board.image c.store.new.board) (board.in_flight c.store.new.board) c.args.seal.now) here
+    let ready = subst (λ (p : Pair). IsReady reads seal_number_of p (board.image c.args.board.now) (board.in_flight c.args.board.now) found.0) (sym here) (ready_found board c.args.board.now c.args.found found.0 found.1) in
+    subst (λ (p : Pair). IsSettled reads seal_number_of p.at c.in_ok-place.place (board.image c.store.new.board) (board.in_flight c.store.new.board) c.args.seal.now) here
     (c.in_ok-place.ensures.settled told found.0 ready (newer_found board c.args.board.now c.args.found found.0 _ found.1 c.requires.number))
 
 pub returns-in_err-place-clause-settled : goal.returns-in_err-place-clause-settled

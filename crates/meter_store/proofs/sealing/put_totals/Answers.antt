@@ -4,7 +4,7 @@ use Rattle.slot_store.specs.Slots.{IsSettled}
 use Rattle.slot_store.specs.Stages.{IsReady, is_spare_open}
 use Rattle.totals_record.specs.declared.durable.Durable.{Durable}
 use Rattle.totals_record.specs.Reading.{reads}
-use Rattle.meter_store.specs.Stored.{number_of}
+use Rattle.meter_store.specs.Stored.{state_number_of}
 use Rattle.outside.proofs.Laws.{on_failed}
 use Rattle.meter_store.proofs.Sealings.{first_beside, put_first}
 use Rattle.meter_store.proofs.sealing.put_totals.Goals as goal
@@ -12,21 +12,21 @@ use Rattle.meter_store.proofs.sealing.put_totals.Goals as goal
 pub returns-in_err-place-clause-any_moment : goal.returns-in_err-place-clause-any_moment
 returns-in_err-place-clause-any_moment g c told =
     let board = g.B.Board in
-    let ready = subst (λ (p : Pair). IsReady reads number_of p (board.image c.args.board.now) (board.in_flight c.args.board.now) None) (sym c.blank.ensures) (c.requires told) in
+    let ready = subst (λ (p : Pair). IsReady reads state_number_of p (board.image c.args.board.now) (board.in_flight c.args.board.now) None) (sym c.blank.ensures) (c.requires told) in
     put_first board _ _ c.args.board.now c.store.new.board c.blank.ensures c.zero.ensures.state (c.store.ensures.any_moment told None ready tt)
 
 pub returns-clause-any_moment : goal.returns-clause-any_moment
 returns-clause-any_moment g c told =
     let board = g.B.Board in
-    let ready = subst (λ (p : Pair). IsReady reads number_of p (board.image c.args.board.now) (board.in_flight c.args.board.now) None) (sym c.blank.ensures) (c.requires told) in
+    let ready = subst (λ (p : Pair). IsReady reads state_number_of p (board.image c.args.board.now) (board.in_flight c.args.board.now) None) (sym c.blank.ensures) (c.requires told) in
     put_first board _ _ c.args.board.now c.store.new.board c.blank.ensures c.zero.ensures.state (c.store.ensures.any_moment told None ready tt)
 
 pub returns-clause-settled : goal.returns-clause-settled
 returns-clause-settled g c told =
     let board = g.B.Board in
-    let ready = subst (λ (p : Pair). IsReady reads number_of p (board.image c.args.board.now) (board.in_flight c.args.board.now) None) (sym c.blank.ensures) (c.requires told) in
-    subst (λ (d : Durable). IsSettled reads number_of 0 c.in_ok-place.place (board.image c.store.new.board) (board.in_flight c.store.new.board) d) c.zero.ensures.state
-    (subst (λ (p : Pair). IsSettled reads number_of p.at c.in_ok-place.place (board.image c.store.new.board) (board.in_flight c.store.new.board) c.zero.result) c.blank.ensures
+    let ready = subst (λ (p : Pair). IsReady reads state_number_of p (board.image c.args.board.now) (board.in_flight c.args.board.now) None) (sym c.blank.ensures) (c.requires told) in
+    subst (λ (d : Durable). IsSettled reads state_number_of 0 c.in_ok-place.place (board.image c.store.new.board) (board.in_flight c.store.new.board) d) c.zero.ensures.state
+    (subst (λ (p : Pair). IsSettled reads state_number_of p.at c.in_ok-place.place (board.image c.store.new.board) (board.in_flight c.store.new.board) c.zero.result) c.blank.ensures
     (c.in_ok-place.ensures.settled told None ready tt))
 
 pub returns-in_err-place-clause-settled : goal.returns-in_err-place-clause-settled

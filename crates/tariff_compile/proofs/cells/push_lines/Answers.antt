@@ -13,7 +13,7 @@ use Rattle.tariff_syntax.specs.Writable.{IsWritable}
 use Rattle.tariff_syntax.specs.declared.context.Context.{Context}
 use Rattle.tariff_syntax.specs.declared.tariff.Tariff.{Tariff}
 use Rattle.tariff_syntax.specs.declared.tariff.TariffLine.{TariffLine}
-use Rattle.tariff_compile.specs.Tables.{lines_at, number_of}
+use Rattle.tariff_compile.specs.Tables.{lines_at, place_number}
 use Rattle.tariff_syntax.specs.declared.meaning.LineKind.TheVariants.{Rate, Initial, Minimum}
 use Rattle.tariff_compile.specs.declared.parts.CellLines.{CellLines}
 use Rattle.tariff_compile.proofs.Blocks.{at_place}
@@ -46,7 +46,7 @@ minimum_few t x place writable sound is =
 
 -- lines that are made of the places found
 lines_made : (t : Tree) (x : Context) (made : CellLines) (rate initial minimum : Option ℕ)
-    → made.rate ≡ unwrap_or rate 0 → made.initial ≡ unwrap_or initial 0 → made.minimum ≡ number_of minimum
+    → made.rate ≡ unwrap_or rate 0 → made.initial ≡ unwrap_or initial 0 → made.minimum ≡ place_number minimum
     → rate ≡ rate_place t x → initial ≡ initial_place t x → minimum ≡ minimum_place t x → made ≡ lines_at t x
 lines_made t x made rate initial minimum by_rate by_initial by_minimum is_rate is_initial is_minimum =
     rw (← is_rate, ← is_initial, ← is_minimum, ← by_rate, ← by_initial, ← by_minimum)

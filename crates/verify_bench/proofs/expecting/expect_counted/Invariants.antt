@@ -1,6 +1,6 @@
 use Rattle.std.proofs.Common.{drop, flat_map}
 use Rattle.drive_text.specs.Runs.{run_events}
-use Rattle.verify_bench.specs.Bench.{IsSound}
+use Rattle.verify_bench.specs.Bench.{IsMeterInRange}
 use Rattle.verify_bench.specs.Carrying.{IsAmidExpected}
 use Rattle.verify_bench.specs.Expecting.{expected_of}
 use Rattle.verify_bench.specs.Settings.{setting_under}
@@ -9,5 +9,5 @@ use Rattle.verify_bench.proofs.expecting.expect_counted.Given as goal
 abbrev pub invariant-loop-run : goal.invariant-loop-run
 invariant-loop-run g l = record {
   amid : IsAmidExpected (setting_under l.checked l.params) (expected_of (setting_under l.checked l.params) (flat_map run_events l.runs)) (flat_map run_events (drop l.run-index l.runs)) l.meter l.found.items;
-  sound : IsSound 8639999 0 l.meter;
+  sound : IsMeterInRange 8639999 0 l.meter;
 }

@@ -1,7 +1,7 @@
 use Rattle.std.proofs.Common.{◌≡◌, ℕ, All, List, [], None, rules, refl, ap, sym, subst, inr, ◌∙◌, arith}
 use Rattle.totals_record.specs.declared.durable.Durable.{Durable}
 use Rattle.meter_states.specs.Acts.{IsLawfulAct}
-use Rattle.meter_states.specs.Core.{Follows, Plain, plain_of}
+use Rattle.meter_states.specs.Core.{ComesToOutcome, CoreData, core_of}
 use Rattle.meter_states.specs.Display.{shown}
 use Rattle.meter_states.specs.Meter.{Meter}
 use Rattle.meter_states.specs.Supply.{hold_taken, powered, supply_came}
@@ -14,14 +14,14 @@ use Rattle.taxi_units.specs.Limits.{roaming_between}
 pub returns-clause-ranges : goal.returns-clause-ranges
 returns-clause-ranges g c =
     let p = c.args.tables.now in
-    let number : c.idle-state.result.number ≡ c.args.durable.now.number = ap (λ (q : Plain). q.number) c.idle-state.ensures in
+    let number : c.idle-state.result.number ≡ c.args.durable.now.number = ap (λ (q : CoreData). q.number) c.idle-state.ensures in
     let none : All (IsLawfulAct p c.idle-state.result.number) c.new-acts.result.items = rw c.new-acts.ensures (λ k d below. absurd (omega arith)) in
     c.show.ensures.ranges c.args.durable.now.number (subst (λ (n : ℕ). All (IsLawfulAct p n) c.take_hold.new.acts.items) number (c.take_hold.ensures.ranges none))
 
 pub returns-clause-commits : goal.returns-clause-commits
 returns-clause-commits g c =
     let p = c.args.tables.now in
-    let number : c.idle-state.result.number ≡ c.args.durable.now.number = ap (λ (q : Plain). q.number) c.idle-state.ensures in
+    let number : c.idle-state.result.number ≡ c.args.durable.now.number = ap (λ (q : CoreData). q.number) c.idle-state.ensures in
     let none : All (IsLawfulAct p c.idle-state.result.number) c.new-acts.result.items = rw c.new-acts.ensures (λ k d below. absurd (omega arith)) in
     let lawful = c.show.ensures.ranges c.args.durable.now.number (subst (λ (n : ℕ). All (IsLawfulAct p n) c.take_hold.new.acts.items) number (c.take_hold.ensures.ranges none)) in
     acts-keep p c.args.durable.now.number c.show.new.acts.items lawful c.args.durable.now c.requires.range refl
@@ -32,13 +32,13 @@ returns-clause-lawful g c = record { powered = inr c.show.ensures.lawful; facts 
 pub returns-clause-meets : goal.returns-clause-meets
 returns-clause-meets g c = λ s m is durable saved.
     let n = powered c.args.second m in
-    let start : c.idle-state.result ≡ plain_of s (record n { trip = None }) = c.idle-state.ensures ∙ ap (λ
-    (d : Durable). record (plain_of s (record n { trip = None })) { number = d.number }) (sym durable) in
+    let start : c.idle-state.result ≡ core_of s (record n { trip = None }) = c.idle-state.ensures ∙ ap (λ
+    (d : Durable). record (core_of s (record n { trip = None })) { number = d.number }) (sym durable) in
     let empty = c.new-acts.result.items in
     let none : c.new-acts.result.items ≡ [] = search rules in
     let middle = c.take_hold.new.acts.items in
     let acts = c.show.new.acts.items in
-    let first = subst (λ (d : Durable). Follows s c.take_hold.new.self empty middle
+    let first = subst (λ (d : Durable). ComesToOutcome s c.take_hold.new.self empty middle
     (hold_taken s c.args.second d.hold n)) (sym durable) (c.take_hold.ensures.follows s n is saved start) in
     let taken = hold_taken s c.args.second m.durable.hold n in
     let second = c.show.ensures.follows c.args.seal.now s taken.next is first.state in
@@ -46,4 +46,4 @@ returns-clause-meets g c = λ s m is durable saved.
     (k : Meter). shown s k) first second in
     follows-meets s c.args.tables.now 8639999 roaming_between 0 c.show.new.self acts
     (supply_came s c.args.second m) c.show.ensures.lawful
-    (subst (λ (l : List Act). Follows s c.show.new.self l acts (supply_came s c.args.second m)) none all)
+    (subst (λ (l : List Act). ComesToOutcome s c.show.new.self l acts (supply_came s c.args.second m)) none all)

@@ -1,11 +1,11 @@
 use Rattle.std.proofs.Common.{◌≡◌, subst}
 use Rattle.meter_states.specs.Facts.{AreLasting}
-use Rattle.meter_states.specs.declared.facts.RateFacts.{RateFacts}
+use Rattle.meter_states.specs.declared.facts.CachedRate.{CachedRate}
 use Rattle.meter_states.proofs.facts.Facts.look_up_rate.Goals as goal
 
 pub returns-clause-lasting : goal.returns-clause-lasting
 returns-clause-lasting g c =
     let tables = c.args.tables.now in
-    let new : RateFacts = record { first = c.args.x; lasting = c.rate_until-lasting.result } in
+    let new : CachedRate = record { first = c.args.x; lasting = c.rate_until-lasting.result } in
     let lasting : AreLasting tables new = record { near = c.rate_until-lasting.ensures.near; fit = c.rate_until-lasting.ensures.fit } in
     λ r is. let same : new ≡ r = cc is in subst (AreLasting tables) same lasting

@@ -1,7 +1,7 @@
 use Rattle.std.proofs.lemmas.Grind.{common_steps}
 use Rattle.std.proofs.Common.{◌≡◌, ◌<◌, Some, ap, sym, subst, ◌∙◌, arith}
 use Rattle.totals_record.specs.declared.trip.Trip as store
-use Rattle.meter_states.specs.Core.{Plain, Follows, plain_of}
+use Rattle.meter_states.specs.Core.{CoreData, ComesToOutcome, core_of}
 use Rattle.meter_states.specs.Keys.{extra_added_to}
 use Rattle.meter_states.specs.Lawful.{IsAmidEvent}
 use Rattle.meter_states.specs.Meter.{Outcome}
@@ -16,7 +16,7 @@ use Rattle.meter_states.proofs.meter_state.State.add_found.Goals as goal
 
 pub add_extra-requires-clause-sum : goal.add_extra-requires-clause-sum
 add_extra-requires-clause-sum c =
-    let has : c.args.self.now.trip ≡ Some c.in-Some.trip = sym (ap (λ (p : Plain). p.trip) c.self.view_is)
+    let has : c.args.self.now.trip ≡ Some c.in-Some.trip = sym (ap (λ (p : CoreData). p.trip) c.self.view_is)
     ∙ c.in-Some.is in
     let beside = rw has at c.requires.ready.1.lawful.trip in
     extras-few c.requires.ready.0 8639999 c.in-Some.trip beside.range
@@ -28,11 +28,11 @@ returns c = record {
       let u = c.add_extra.new.trip in
       let view = c.self.view_is in
       let acts = c.args.acts.now.items in
-      let has : c.args.self.now.trip ≡ Some t = sym (ap (λ (p : Plain). p.trip) view) ∙ c.in-Some.is in
+      let has : c.args.self.now.trip ≡ Some t = sym (ap (λ (p : CoreData). p.trip) view) ∙ c.in-Some.is in
       let beside = rw has at ready.lawful.trip in
       let counts = c.add_extra.ensures.counts in
       record {
-        lawful = subst (λ (q : Plain). IsAmidEvent tables (record q { trip = Some u })) (sym view)
+        lawful = subst (λ (q : CoreData). IsAmidEvent tables (record q { trip = Some u })) (sym view)
             (powered-trip t u has c.add_extra.ensures.started
             (record {
               range = c.add_extra.ensures.range tables found beside.range;
@@ -40,21 +40,21 @@ returns c = record {
                   (arith, beside.pulses, counts.0, counts.1);
             }) ready.lawful);
         few = few-none 1 acts ready.room;
-        number = ap (λ (q : Plain). q.number) view;
+        number = ap (λ (q : CoreData). q.number) view;
         ranges = λ before. before;
         follows = λ s m is e.
-            let saved = trip-saved s m.trip t (sym (ap (λ (p : Plain). p.trip) (view ∙ e)) ∙ c.in-Some.is) in
+            let saved = trip-saved s m.trip t (sym (ap (λ (p : CoreData). p.trip) (view ∙ e)) ∙ c.in-Some.is) in
             let few : times c.args.n saved.0.extras < c.args.supplement.max = subst (λ n. n < c.args.supplement.max)
             (c.times.ensures.times s saved.0 saved.2) c.if-times-supplement.false in
             let more = c.add_extra.ensures.saved tables s saved.0 found is.tariff saved.2 in
             let now = c.args.self.now in
-            let state = ap (λ (q : Plain). record q { trip = Some u }) e
-            ∙ ap (λ (x : store.Trip). record (plain_of s m) { trip = Some x }) more in
+            let state = ap (λ (q : CoreData). record q { trip = Some u }) e
+            ∙ ap (λ (x : store.Trip). record (core_of s m) { trip = Some x }) more in
             let added = quiet-follows s (record now { trip = Some u }) acts
             (record m { trip = Some (with_extra c.args.n saved.0) }) state in
-            let all = subst (λ (o : Outcome). Follows s (record now { trip = Some u }) acts acts o)
+            let all = subst (λ (o : Outcome). ComesToOutcome s (record now { trip = Some u }) acts acts o)
             (sym (extra-more c.args.n c.args.supplement m saved.0 saved.1 few)) added in
-            subst (λ (q : Plain). Follows s (record q { trip = Some u }) acts acts
+            subst (λ (q : CoreData). ComesToOutcome s (record q { trip = Some u }) acts acts
             (extra_added_to c.args.n c.args.supplement m.trip m)) (sym view) all;
       };
 }

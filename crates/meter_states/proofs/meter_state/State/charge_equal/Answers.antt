@@ -5,7 +5,7 @@ use Rattle.tariff_compile.proofs.Laws.{tables_are_fit}
 use Rattle.tariff_syntax.specs.declared.context.Context.{Context}
 use Rattle.totals_record.specs.declared.trip.Trip as store
 use Rattle.meter_states.specs.Charge.{charge_at}
-use Rattle.meter_states.specs.Core.{Plain, Follows, plain_of}
+use Rattle.meter_states.specs.Core.{CoreData, ComesToOutcome, core_of}
 use Rattle.meter_states.specs.EqualStages.{charged}
 use Rattle.meter_states.specs.Equals.{intervals_of, spare_of}
 use Rattle.meter_states.specs.Interval.{context_of}
@@ -30,7 +30,7 @@ returns-clause-follows c = λ s m is e.
     let t = c.in-Some-trip.trip in
     let lasting = c.in-Some.lasting in
     let some = modulus-some s tables is.tariff (tables_are_fit tables c.requires.lawful.compiled) in
-    let has : core.trip ≡ Some t = sym (ap (λ (p : Plain). p.trip) c.self.view_is) ∙ c.in-Some-trip.is in
+    let has : core.trip ≡ Some t = sym (ap (λ (p : CoreData). p.trip) c.self.view_is) ∙ c.in-Some-trip.is in
     let range = rw has at c.requires.lawful.trip in
     let fewer : n ≤ c.most_times-longest.result = omega (arith, c.most_times-n.ensures.most, c.most_times-near.ensures.most) in
     let short : t.ticks + n ≤ 8639999 = omega (arith, fewer, c.most_times-longest.ensures.most, c.min-few.ensures, range.range.ticks) in
@@ -40,8 +40,8 @@ returns-clause-follows c = λ s m is e.
     let room = rw c.spare.ensures.value at c.most_times-n.ensures.room in
     let spare : n * q ≤ spare_of tables.rounding (modulus_of s) t.meterage = subst (λ (k : ℕ). n * q ≤ spare_of tables.rounding k t.meterage) modulus room in
     let x = context_of s m in
-    let saved = sym has ∙ ap (λ (p : Plain). p.trip) e in
-    let charge : (i : ℕ) (k : Meter) → i < n → record core { trip = Some (charged p q i t) } ≡ plain_of s k → charge_at s (context_of s k) p ≡ q = λ i k below same.
+    let saved = sym has ∙ ap (λ (p : CoreData). p.trip) e in
+    let charge : (i : ℕ) (k : Meter) → i < n → record core { trip = Some (charged p q i t) } ≡ core_of s k → charge_at s (context_of s k) p ≡ q = λ i k below same.
     let y : Context = record x { pulses = t.pulses + i * p; ticks = t.ticks + i } in
     let less : i * p ≤ c.most_times-near.result * p = mul-le-mul_right p (omega (arith, below, c.most_times-n.ensures.most)) in
     let far : i * p ≤ lasting.further = omega (arith, less, c.most_times-near.ensures.room) in
@@ -54,7 +54,7 @@ returns-clause-follows c = λ s m is e.
     ap (λ (y : Context). charge_at s y p) (context-later s m k core t (charged p q i t) e has same)
     ∙ sym (c.charge-each.ensures.charge ∙ charge-by-weights s tables c.args.seal.now y p lasting.weights is weights) in
     let all = hired-equal s tables p q n m core t is.tariff some c.requires.pulses e c.requires.hired has c.requires.still c.requires.lawful.roam short rest spare charge in
-    rw c.add_charged.ensures.value (subst (λ (x : Plain). Follows s (record x { trip = Some (charged p q n t) }) [] [] (run s (intervals_of p n) m)) (sym c.self.view_is) all)
+    rw c.add_charged.ensures.value (subst (λ (x : CoreData). ComesToOutcome s (record x { trip = Some (charged p q n t) }) [] [] (run s (intervals_of p n) m)) (sym c.self.view_is) all)
 
 pub kept_rate-requires-clause-lawful : goal.kept_rate-requires-clause-lawful
 kept_rate-requires-clause-lawful c = c.requires.lawful
@@ -72,20 +72,20 @@ pub returns-in_default-trip-clause-taken : goal.returns-in_default-trip-clause-t
 returns-in_default-trip-clause-taken c = taken-none c.args.count c.self.view_is c.requires.lawful
 
 pub returns-in_default-trip-clause-follows : goal.returns-in_default-trip-clause-follows
-returns-in_default-trip-clause-follows c = λ s m is e. subst (λ (x : Plain). Follows s x [] [] (quiet m)) (sym c.self.view_is) (quiet-follows s c.args.self.now [] m e)
+returns-in_default-trip-clause-follows c = λ s m is e. subst (λ (x : CoreData). ComesToOutcome s x [] [] (quiet m)) (sym c.self.view_is) (quiet-follows s c.args.self.now [] m e)
 
 pub charge-each-requires-clause-pulses : goal.charge-each-requires-clause-pulses
 charge-each-requires-clause-pulses c = c.requires.pulses
 
 pub overflow_sub-trip : goal.overflow_sub-trip
 overflow_sub-trip c =
-    let has = sym (ap (λ (p : Plain). p.trip) c.self.view_is) ∙ c.in-Some-trip.is in
+    let has = sym (ap (λ (p : CoreData). p.trip) c.self.view_is) ∙ c.in-Some-trip.is in
     let range = rw has at c.requires.lawful.trip in
     range.range.ticks
 
 pub spare-requires : goal.spare-requires
 spare-requires c =
-    let has = sym (ap (λ (p : Plain). p.trip) c.self.view_is) ∙ c.in-Some-trip.is in
+    let has = sym (ap (λ (p : CoreData). p.trip) c.self.view_is) ∙ c.in-Some-trip.is in
     let range = rw has at c.requires.lawful.trip in
     record { range = range.range }
 
@@ -94,14 +94,14 @@ add_charged-requires-clause-pulses c = c.requires.pulses
 
 pub add_charged-requires-clause-few : goal.add_charged-requires-clause-few
 add_charged-requires-clause-few c =
-    let has = sym (ap (λ (p : Plain). p.trip) c.self.view_is) ∙ c.in-Some-trip.is in
+    let has = sym (ap (λ (p : CoreData). p.trip) c.self.view_is) ∙ c.in-Some-trip.is in
     let range = rw has at c.requires.lawful.trip in
     pulses-few range c.requires.lawful.number.1
 
 pub add_charged-requires-clause-rest : goal.add_charged-requires-clause-rest
 add_charged-requires-clause-rest c =
     let tables = c.args.tables.now in
-    let has = sym (ap (λ (p : Plain). p.trip) c.self.view_is) ∙ c.in-Some-trip.is in
+    let has = sym (ap (λ (p : CoreData). p.trip) c.self.view_is) ∙ c.in-Some-trip.is in
     let range = rw has at c.requires.lawful.trip in
     let fit = tables_are_fit tables c.requires.lawful.compiled in
     omega (arith, range.range.rest, mul-le tables.step tables.measure (10 ^ 6) (2 * 10 ^ 23) fit.step.1 fit.measure.1)
@@ -114,7 +114,7 @@ returns-clause-full c =
     let tables = c.args.tables.now in
     let t = c.in-Some-trip.trip in
     let n = c.most_times-n.result in
-    let has : c.args.self.now.trip ≡ Some t = sym (ap (λ (p : Plain). p.trip) c.self.view_is) ∙ c.in-Some-trip.is in
+    let has : c.args.self.now.trip ≡ Some t = sym (ap (λ (p : CoreData). p.trip) c.self.view_is) ∙ c.in-Some-trip.is in
     let range = rw has at c.requires.lawful.trip in
     let few : (c.min-few.result ≡ c.args.count) ⊎ (longest_trip ≤ t.ticks + c.min-few.result + 1) = grind (arith, c.min-few.ensures, range.range.ticks) in
     let spare = rw c.spare.ensures.value at c.most_times-n.ensures.room in
@@ -130,14 +130,14 @@ returns-clause-taken c =
     let t = c.in-Some-trip.trip in
     let u = c.add_charged.new.trip in
     let value = c.add_charged.ensures.value in
-    let has : c.args.self.now.trip ≡ Some t = sym (ap (λ (p : Plain). p.trip) c.self.view_is) ∙ c.in-Some-trip.is in
+    let has : c.args.self.now.trip ≡ Some t = sym (ap (λ (p : CoreData). p.trip) c.self.view_is) ∙ c.in-Some-trip.is in
     let beside = rw has at on.trip in
     let room = rw c.spare.ensures.value at c.most_times-n.ensures.room in
     let few : n * c.args.pulses ≤ n * 2000 = mul-le-mul_left n c.requires.pulses in
     let pulses = ap (λ (x : store.Trip). x.pulses) value in
     let ticks = ap (λ (x : store.Trip). x.ticks) value in
     record {
-      lawful = subst (λ (q : Plain). IsBetweenEvents tables (record q { trip = Some u })) (sym c.self.view_is)
+      lawful = subst (λ (q : CoreData). IsBetweenEvents tables (record q { trip = Some u })) (sym c.self.view_is)
           (powered-trip t u has (ap (λ (x : store.Trip). x.started) value)
           (record {
             range = c.add_charged.ensures.range tables beside.range room;
@@ -151,5 +151,5 @@ returns-clause-taken c =
         c.most_times-longest.ensures.most,
         c.min-few.ensures,
       );
-      same = (ap (λ (q : Plain). q.operating) c.self.view_is, ap (λ (q : Plain). q.number) c.self.view_is);
+      same = (ap (λ (q : CoreData). q.operating) c.self.view_is, ap (λ (q : CoreData). q.number) c.self.view_is);
     }

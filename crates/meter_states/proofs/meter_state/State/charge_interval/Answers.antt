@@ -1,6 +1,6 @@
 use Rattle.std.proofs.lemmas.Grind.{common_steps}
 use Rattle.std.proofs.Common.{ap, sym, ◌∙◌, arith}
-use Rattle.meter_states.specs.Core.{Plain}
+use Rattle.meter_states.specs.Core.{CoreData}
 use Rattle.meter_states.proofs.Powered.{amid-closes, between-amid, pulses-below}
 use Rattle.meter_states.proofs.meter_state.State.charge_interval.Goals as goal
 
@@ -18,13 +18,13 @@ add_hired-requires-clause-weights g c = c.weights-weights.ensures.fit
 
 pub add_hired-requires-clause-few : goal.add_hired-requires-clause-few
 add_hired-requires-clause-few g c =
-    let has = sym (ap (λ (p : Plain). p.trip) c.self.view_is) ∙ c.in-Some.is in
+    let has = sym (ap (λ (p : CoreData). p.trip) c.self.view_is) ∙ c.in-Some.is in
     let range = rw has at c.requires.lawful.trip in
     pulses-below range c.requires.lawful.number.1
 
 pub add_hired-requires-clause-range : goal.add_hired-requires-clause-range
 add_hired-requires-clause-range g c =
-    let has = sym (ap (λ (p : Plain). p.trip) c.self.view_is) ∙ c.in-Some.is in
+    let has = sym (ap (λ (p : CoreData). p.trip) c.self.view_is) ∙ c.in-Some.is in
     let range = rw has at c.requires.lawful.trip in
     range.range
 

@@ -2,7 +2,7 @@ use Rattle.std.proofs.Common.{ℕ, ap, sym, subst, ◌∙◌}
 use Rattle.taxi_units.specs.Time.{IsSecond}
 use Rattle.taxi_units.specs.declared.receipt.Kind.TheVariants.{Closed}
 use Rattle.meter_states.specs.Closing.{closed}
-use Rattle.meter_states.specs.Core.{Follows, Plain}
+use Rattle.meter_states.specs.Core.{ComesToOutcome, CoreData}
 use Rattle.meter_states.specs.Meter.{Outcome}
 use Rattle.meter_states.proofs.Powered.{amid-closes}
 use Rattle.meter_states.proofs.Pushes.{few-none}
@@ -16,7 +16,7 @@ close-requires-clause-trip g c = c.requires.trip
 
 pub close-requires-clause-finish : goal.close-requires-clause-finish
 close-requires-clause-finish g c = subst IsSecond (sym (c.second.ensures ∙ ap (λ
-    (p : Plain). p.clock) c.self.view_is)) c.requires.ready.lawful.clock
+    (p : CoreData). p.clock) c.self.view_is)) c.requires.ready.lawful.clock
 
 pub close-requires-clause-room : goal.close-requires-clause-room
 close-requires-clause-room g c = few-none 1 c.args.acts.now.items c.requires.ready.room
@@ -27,8 +27,8 @@ returns-clause-stage g c = record {
   few = rw c.requires.ready.room at c.close.ensures.few;
   roam = c.close.ensures.roam;
   ranges = c.close.ensures.ranges;
-  follows = λ s m is e. subst (λ (o : Outcome). Follows s c.close.new.self c.args.acts.now.items c.close.new.acts.items o)
-      (ap (λ (n : ℕ). closed s Closed n m) (c.second.ensures ∙ ap (λ (p : Plain). p.clock) (c.self.view_is ∙ e)))
+  follows = λ s m is e. subst (λ (o : Outcome). ComesToOutcome s c.close.new.self c.args.acts.now.items c.close.new.acts.items o)
+      (ap (λ (n : ℕ). closed s Closed n m) (c.second.ensures ∙ ap (λ (p : CoreData). p.clock) (c.self.view_is ∙ e)))
       (c.close.ensures.follows s m is e);
 }
 

@@ -1,7 +1,7 @@
 use Rattle.std.proofs.Common.{◌+◌, ◌≤◌, [], ◌∷◌, ◌++◌, ap, sym, subst, ◌∙◌}
 use Rattle.totals_record.specs.declared.entry.Entry as store
 use Rattle.meter_states.specs.Closing.{roaming_entry}
-use Rattle.meter_states.specs.Core.{Plain}
+use Rattle.meter_states.specs.Core.{CoreData}
 use Rattle.meter_states.specs.Lawful.{IsBetweenEvents}
 use Rattle.meter_states.specs.declared.act.Act.TheVariants.{Enter}
 use Rattle.meter_states.proofs.Powered.{powered-entered, roaming-beside, roaming-room}
@@ -10,11 +10,11 @@ use Rattle.meter_states.proofs.meter_state.State.enter_roaming.Goals as goal
 use Rattle.taxi_units.specs.Limits.{roaming_amid}
 
 pub roaming_entry-requires : goal.roaming_entry-requires
-roaming_entry-requires c = subst (λ (p : Plain). p.roam ≤ roaming_amid) (sym c.self.view_is) c.requires.lawful.roam
+roaming_entry-requires c = subst (λ (p : CoreData). p.roam ≤ roaming_amid) (sym c.self.view_is) c.requires.lawful.roam
 
 pub returns-clause-lawful : goal.returns-clause-lawful
 returns-clause-lawful c =
-    subst (λ (q : Plain). IsBetweenEvents c.args.tables.now (record q { roam = 0; number = q.number + 1 })) (sym c.self.view_is)
+    subst (λ (q : CoreData). IsBetweenEvents c.args.tables.now (record q { roam = 0; number = q.number + 1 })) (sym c.self.view_is)
     (powered-entered c.requires.hire c.requires.some c.requires.lawful)
 
 pub returns-clause-few : goal.returns-clause-few
@@ -28,8 +28,8 @@ returns-clause-ranges c =
 
 pub returns-clause-follows : goal.returns-clause-follows
 returns-clause-follows c = λ seal s m is e. record {
-  state = ap (λ (p : Plain). record p { roam = 0; number = p.number + 1 }) (c.self.view_is ∙ e);
+  state = ap (λ (p : CoreData). record p { roam = 0; number = p.number + 1 }) (c.self.view_is ∙ e);
   done = c.push.ensures.items
       ∙ ap (λ (x : store.Entry). c.args.acts.now.items ++ Enter x ∷ [])
-      (c.roaming_entry.ensures.value s is.tariff ∙ ap (λ (p : Plain). roaming_entry s p.roam) (c.self.view_is ∙ e));
+      (c.roaming_entry.ensures.value s is.tariff ∙ ap (λ (p : CoreData). roaming_entry s p.roam) (c.self.view_is ∙ e));
 }

@@ -1,7 +1,7 @@
 use Rattle.std.proofs.Common.{◌+◌, ◌≤◌, [], ◌∷◌, ◌++◌, ap, sym, subst, ◌∙◌, arith}
 use Rattle.totals_record.specs.declared.entry.Entry as store
 use Rattle.meter_states.specs.Closing.{entry_of}
-use Rattle.meter_states.specs.Core.{Plain}
+use Rattle.meter_states.specs.Core.{CoreData}
 use Rattle.meter_states.specs.declared.act.Act.TheVariants.{Enter}
 use Rattle.meter_states.proofs.Pushes.{closing-room, few-more, lawful-more}
 use Rattle.meter_states.proofs.meter_state.State.enter_trip.Goals as goal
@@ -15,13 +15,13 @@ entry-requires-clause-range c = record {
 }
 
 pub entry-requires-clause-position : goal.entry-requires-clause-position
-entry-requires-clause-position c = subst (λ (p : Plain). (1 ≤ p.position) × (p.position ≤ 9)) (sym c.self.view_is) c.requires.position
+entry-requires-clause-position c = subst (λ (p : CoreData). (1 ≤ p.position) × (p.position ≤ 9)) (sym c.self.view_is) c.requires.position
 
 pub entry-requires-clause-kind : goal.entry-requires-clause-kind
 entry-requires-clause-kind c = c.requires.kind
 
 pub returns-clause-number : goal.returns-clause-number
-returns-clause-number c = ap (λ (p : Plain). record p { number = p.number + 1 }) c.self.view_is
+returns-clause-number c = ap (λ (p : CoreData). record p { number = p.number + 1 }) c.self.view_is
 
 pub returns-clause-few : goal.returns-clause-few
 returns-clause-few c = few-more c.args.acts.now.items c.push.new.self.items (Enter c.entry.result) c.push.ensures.items
@@ -37,9 +37,9 @@ returns-clause-ranges c =
 
 pub returns-clause-follows : goal.returns-clause-follows
 returns-clause-follows c = λ s m t is saved e. record {
-  state = ap (λ (p : Plain). record p { number = p.number + 1 }) (c.self.view_is ∙ e);
+  state = ap (λ (p : CoreData). record p { number = p.number + 1 }) (c.self.view_is ∙ e);
   done = c.push.ensures.items
       ∙ ap (λ (x : store.Entry). c.args.acts.now.items ++ Enter x ∷ [])
-      (c.entry.ensures.value s t is saved ∙ ap (λ (p : Plain). entry_of s c.args.kind p.position t) (c.self.view_is
+      (c.entry.ensures.value s t is saved ∙ ap (λ (p : CoreData). entry_of s c.args.kind p.position t) (c.self.view_is
       ∙ e));
 }

@@ -1,5 +1,5 @@
 use Rattle.std.proofs.Common.{Bool, if◌then◌else◌, ap, sym, subst, inr, ◌∙◌}
-use Rattle.meter_states.specs.Core.{Follows}
+use Rattle.meter_states.specs.Core.{ComesToOutcome}
 use Rattle.meter_states.specs.Keys.{key_pressed}
 use Rattle.meter_states.specs.Meter.{Outcome}
 use Rattle.meter_states.specs.Step.{expired}
@@ -33,7 +33,7 @@ returns-then-is_long-clause-stage g c =
       ranges = stage.ranges;
       follows = λ s m is e.
           let long = sym (c.is_long.ensures.state s m e) ∙ c.if-is_long.true in
-          subst (λ (o : Outcome). Follows s c.expire.new.self c.args.acts.now.items c.expire.new.acts.items o) (ap (λ (b : Bool). if b then expired s m else key_pressed s m) (sym long)) (stage.follows s m is e);
+          subst (λ (o : Outcome). ComesToOutcome s c.expire.new.self c.args.acts.now.items c.expire.new.acts.items o) (ap (λ (b : Bool). if b then expired s m else key_pressed s m) (sym long)) (stage.follows s m is e);
     }
 
 pub returns-then-is_long-clause-steps : goal.returns-then-is_long-clause-steps
@@ -49,7 +49,7 @@ returns-else-is_long-clause-stage g c =
       ranges = stage.ranges;
       follows = λ s m is e.
           let short = sym (c.is_long.ensures.state s m e) ∙ c.if-is_long.false in
-          subst (λ (o : Outcome). Follows s c.press.new.self c.args.acts.now.items c.press.new.acts.items o) (ap (λ (b : Bool). if b then expired s m else key_pressed s m) (sym short)) (stage.follows s m is e);
+          subst (λ (o : Outcome). ComesToOutcome s c.press.new.self c.args.acts.now.items c.press.new.acts.items o) (ap (λ (b : Bool). if b then expired s m else key_pressed s m) (sym short)) (stage.follows s m is e);
     }
 
 pub returns-else-is_long-clause-steps : goal.returns-else-is_long-clause-steps

@@ -1,6 +1,6 @@
 use Rattle.std.proofs.Common.{ℕ, ◌+◌, Bool, ap, sym, subst, ◌∙◌}
 use Rattle.totals_record.specs.Ranges as store
-use Rattle.meter_states.specs.Core.{Plain}
+use Rattle.meter_states.specs.Core.{CoreData}
 use Rattle.meter_states.specs.Fits.{Fits}
 use Rattle.meter_states.specs.Supply.{is_stopped}
 use Rattle.meter_states.proofs.HeldForms.{held-fits, held-range}
@@ -12,10 +12,10 @@ returns-clause-value c =
     let now = c.args.self.now in
     let here = c.self.inside in
     ap (λ (n : ℕ). record t { saved = n; stopped = c.is_stopped.result; position = here.position; zone = here.zone })
-    (c.second.ensures ∙ ap (λ (p : Plain). p.clock) c.self.view_is)
+    (c.second.ensures ∙ ap (λ (p : CoreData). p.clock) c.self.view_is)
     ∙ ap (λ (b : Bool). record t { saved = now.clock; stopped = b; position = here.position; zone = here.zone })
     c.is_stopped.ensures
-    ∙ ap (λ (p : Plain). record t {
+    ∙ ap (λ (p : CoreData). record t {
       saved = now.clock;
       stopped = is_stopped now.operating;
       position = p.position;
@@ -26,7 +26,7 @@ returns-clause-value c =
 pub returns-clause-range : goal.returns-clause-range
 returns-clause-range c =
     let core = c.args.self.now in
-    subst (store.IsTrip (core.number + 1)) (sym (returns-clause-value c)) (held-range c.requires.lawful.0 core
+    subst (store.IsTripInItsRanges (core.number + 1)) (sym (returns-clause-value c)) (held-range c.requires.lawful.0 core
     (is_stopped core.operating) c.args.trip c.requires.lawful.1 c.requires.trip)
 
 pub returns-clause-fits : goal.returns-clause-fits

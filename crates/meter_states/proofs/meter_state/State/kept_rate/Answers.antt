@@ -4,7 +4,7 @@ use Rattle.std.proofs.lemmas.Option.{IfSome_then}
 use Rattle.tariff_compile.specs.Near.{IsNear}
 use Rattle.tariff_compile.specs.Tables.{IsInRangeFor}
 use Rattle.tariff_syntax.specs.declared.context.Context.{Context}
-use Rattle.meter_states.specs.Core.{Plain}
+use Rattle.meter_states.specs.Core.{CoreData}
 use Rattle.meter_states.specs.Interval.{context_of, context_on}
 use Rattle.meter_states.specs.Setting.{local_at}
 use Rattle.meter_states.proofs.meter_state.State.kept_rate.Goals as goal
@@ -12,7 +12,7 @@ use Rattle.meter_states.proofs.meter_state.State.kept_rate.Goals as goal
 pub returns-clause-near : goal.returns-clause-near
 returns-clause-near c = IfSome_then c.kept_rate.result c.kept_rate.ensures.near
     (λ lasting near seal s m y facts is e y_in is_near.
-    let began : c.in_ok-local.local.second ≡ m.began = c.in_ok-local.ensures.second ∙ ap (λ (p : Plain). p.began) (c.self.view_is ∙ e) in
+    let began : c.in_ok-local.local.second ≡ m.began = c.in_ok-local.ensures.second ∙ ap (λ (p : CoreData). p.began) (c.self.view_is ∙ e) in
     let same : c.context_on-x.result ≡ context_of s m = c.context_on-x.ensures.value seal s m
     (facts.local _ c.in_ok-local.ensures.kept) is e ∙ ap (λ (second : ℕ). context_on s
     (local_at s second) m) began in
@@ -25,7 +25,7 @@ returns-clause-fit c = IfSome_then c.kept_rate.result c.kept_rate.ensures.fit
 
 pub returns-clause-range : goal.returns-clause-range
 returns-clause-range c = IfSome_then c.kept_rate.result c.kept_rate.ensures.fit (λ lasting fit seal s m facts is e.
-    let began : c.in_ok-local.local.second ≡ m.began = c.in_ok-local.ensures.second ∙ ap (λ (p : Plain). p.began) (c.self.view_is ∙ e) in
+    let began : c.in_ok-local.local.second ≡ m.began = c.in_ok-local.ensures.second ∙ ap (λ (p : CoreData). p.began) (c.self.view_is ∙ e) in
     let same : c.context_on-x.result ≡ context_of s m = c.context_on-x.ensures.value seal s m
     (facts.local _ c.in_ok-local.ensures.kept) is e ∙ ap (λ (second : ℕ). context_on s
     (local_at s second) m) began in

@@ -1,6 +1,6 @@
 use Rattle.std.proofs.Common.{ap, sym, sum, ◌∙◌}
 use Rattle.taxi_units.specs.declared.event.Operating.{Operating}
-use Rattle.meter_states.specs.Core.{Plain, plain_of}
+use Rattle.meter_states.specs.Core.{CoreData, core_of}
 use Rattle.meter_states.specs.Interval.{left_in}
 use Rattle.meter_states.proofs.Powered.{powered-wider}
 use Rattle.meter_states.proofs.RoamingStages.{amid-enters}
@@ -11,21 +11,21 @@ returns-in-ForHire-clause-lawful c = λ tables on. amid-enters (c.roam_interval.
 
 pub returns-in-ForHire-clause-state : goal.returns-in-ForHire-clause-state
 returns-in-ForHire-clause-state c = λ s m e.
-    let here = sym c.in-ForHire.is ∙ ap (λ (p : Plain). p.operating) (c.self.view_is ∙ e) in
-    c.roam_interval.ensures.state s m e ∙ ap (λ (o : Operating). plain_of s (left_in o (sum m.taken) m)) here
+    let here = sym c.in-ForHire.is ∙ ap (λ (p : CoreData). p.operating) (c.self.view_is ∙ e) in
+    c.roam_interval.ensures.state s m e ∙ ap (λ (o : Operating). core_of s (left_in o (sum m.taken) m)) here
 
 pub returns-in-Hired-clause-lawful : goal.returns-in-Hired-clause-lawful
 returns-in-Hired-clause-lawful c = λ tables on. powered-wider (c.leave_trip.ensures.lawful tables on)
 
 pub returns-in-Hired-clause-state : goal.returns-in-Hired-clause-state
 returns-in-Hired-clause-state c = λ s m e.
-    let here = sym c.in-Hired.is ∙ ap (λ (p : Plain). p.operating) (c.self.view_is ∙ e) in
-    c.leave_trip.ensures.state s m e ∙ ap (λ (o : Operating). plain_of s (left_in o (sum m.taken) m)) here
+    let here = sym c.in-Hired.is ∙ ap (λ (p : CoreData). p.operating) (c.self.view_is ∙ e) in
+    c.leave_trip.ensures.state s m e ∙ ap (λ (o : Operating). core_of s (left_in o (sum m.taken) m)) here
 
 pub returns-in-Stopped-clause-lawful : goal.returns-in-Stopped-clause-lawful
 returns-in-Stopped-clause-lawful c = λ tables on. powered-wider (c.leave_trip-in-Stopped.ensures.lawful tables on)
 
 pub returns-in-Stopped-clause-state : goal.returns-in-Stopped-clause-state
 returns-in-Stopped-clause-state c = λ s m e.
-    let here = sym c.in-Stopped.is ∙ ap (λ (p : Plain). p.operating) (c.self.view_is ∙ e) in
-    c.leave_trip-in-Stopped.ensures.state s m e ∙ ap (λ (o : Operating). plain_of s (left_in o (sum m.taken) m)) here
+    let here = sym c.in-Stopped.is ∙ ap (λ (p : CoreData). p.operating) (c.self.view_is ∙ e) in
+    c.leave_trip-in-Stopped.ensures.state s m e ∙ ap (λ (o : Operating). core_of s (left_in o (sum m.taken) m)) here

@@ -1,6 +1,6 @@
 use Rattle.std.proofs.lemmas.Grind.{common_steps}
 use Rattle.std.proofs.Common.{◌≡◌, Some, ap, sym, subst, ◌∙◌, arith}
-use Rattle.meter_states.specs.Core.{Plain}
+use Rattle.meter_states.specs.Core.{CoreData}
 use Rattle.meter_states.specs.Lawful.{IsPowered}
 use Rattle.meter_states.proofs.Powered.{powered-gated, powered-trip, pulses-below}
 use Rattle.meter_states.proofs.meter_state.State.leave_trip.Goals as goal
@@ -11,7 +11,7 @@ add_rest-requires-clause-pulses c = c.take-pulses.ensures.most
 
 pub add_rest-requires-clause-few : goal.add_rest-requires-clause-few
 add_rest-requires-clause-few c =
-    let has : c.args.self.now.trip ≡ Some c.in-Some.trip = sym (ap (λ (p : Plain). p.trip) c.self.view_is)
+    let has : c.args.self.now.trip ≡ Some c.in-Some.trip = sym (ap (λ (p : CoreData). p.trip) c.self.view_is)
     ∙ c.in-Some.is in
     let beside = rw has at c.requires.lawful.1.trip in
     pulses-below beside c.requires.lawful.1.number.1
@@ -21,11 +21,11 @@ returns-clause-lawful c = λ tables on.
     let t = c.in-Some.trip in
     let u = c.add_rest.new.trip in
     let gate = c.take-pulses.new.self in
-    let has : c.args.self.now.trip ≡ Some c.in-Some.trip = sym (ap (λ (p : Plain). p.trip) c.self.view_is)
+    let has : c.args.self.now.trip ≡ Some c.in-Some.trip = sym (ap (λ (p : CoreData). p.trip) c.self.view_is)
     ∙ c.in-Some.is in
     let beside = rw has at on.trip in
     let counts = c.add_rest.ensures.counts in
-    subst (λ (q : Plain). IsPowered tables 8639999 roaming_between 1 (record q { gate = gate; trip = Some u }))
+    subst (λ (q : CoreData). IsPowered tables 8639999 roaming_between 1 (record q { gate = gate; trip = Some u }))
     (sym c.self.view_is)
     (powered-gated gate (omega (arith, c.take-pulses.ensures.empty))
     (powered-trip t u has c.add_rest.ensures.started
@@ -37,10 +37,10 @@ returns-clause-lawful c = λ tables on.
 
 pub returns-in_default-clause-lawful : goal.returns-in_default-clause-lawful
 returns-in_default-clause-lawful c = λ tables on. absurd (c.requires.trip (sym (ap (λ
-    (p : Plain). p.trip) c.self.view_is) ∙ c.in_default.is))
+    (p : CoreData). p.trip) c.self.view_is) ∙ c.in_default.is))
 
 pub returns-in_default-clause-state : goal.returns-in_default-clause-state
-returns-in_default-clause-state c = λ s m e. absurd (c.requires.trip (sym (ap (λ (p : Plain). p.trip) c.self.view_is)
+returns-in_default-clause-state c = λ s m e. absurd (c.requires.trip (sym (ap (λ (p : CoreData). p.trip) c.self.view_is)
     ∙ c.in_default.is))
 
 pub returns-clause-state : goal.returns-clause-state

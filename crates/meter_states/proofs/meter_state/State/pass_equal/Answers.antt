@@ -2,7 +2,7 @@ use Rattle.std.proofs.Common.{◌≡◌, ◌+◌, ◌*◌, ◌≤◌, [], Some, 
 use Rattle.std.proofs.Math.Nat.{mul-le-mul_left}
 use Rattle.totals_record.specs.declared.trip.Trip.{Trip}
 use Rattle.tariff_compile.proofs.Laws.{tables_are_fit}
-use Rattle.meter_states.specs.Core.{Plain, Follows}
+use Rattle.meter_states.specs.Core.{CoreData, ComesToOutcome}
 use Rattle.meter_states.specs.EqualStages.{passed}
 use Rattle.meter_states.specs.Equals.{intervals_of}
 use Rattle.meter_states.specs.Lawful.{IsBetweenEvents}
@@ -21,12 +21,12 @@ returns-clause-follows c = λ tables seal on still s m is e.
     let n = c.min-n.result in
     let t = c.in-Some.trip in
     let some = modulus-some s tables is.tariff (tables_are_fit tables on.compiled) in
-    let has : core.trip ≡ Some t = sym (ap (λ (p : Plain). p.trip) c.self.view_is) ∙ c.in-Some.is in
+    let has : core.trip ≡ Some t = sym (ap (λ (p : CoreData). p.trip) c.self.view_is) ∙ c.in-Some.is in
     let range = rw has at on.trip in
     let short : t.ticks + n ≤ 8639999 = omega (arith, c.min-n.ensures, range.range.ticks) in
     let all = stopped-equal s tables p n m core t is.tariff some c.requires.pulses e c.requires.stopped has still
     on.roam short in
-    rw c.add_passed.ensures.value (subst (λ (x : Plain). Follows s (record x { trip = Some (passed p n t) }) [] [] (run s (intervals_of p n) m)) (sym c.self.view_is) all)
+    rw c.add_passed.ensures.value (subst (λ (x : CoreData). ComesToOutcome s (record x { trip = Some (passed p n t) }) [] [] (run s (intervals_of p n) m)) (sym c.self.view_is) all)
 
 pub returns-clause-taken : goal.returns-clause-taken
 returns-clause-taken c = λ tables on.
@@ -34,13 +34,13 @@ returns-clause-taken c = λ tables on.
     let t = c.in-Some.trip in
     let u = c.add_passed.new.trip in
     let value = c.add_passed.ensures.value in
-    let has : c.args.self.now.trip ≡ Some t = sym (ap (λ (p : Plain). p.trip) c.self.view_is) ∙ c.in-Some.is in
+    let has : c.args.self.now.trip ≡ Some t = sym (ap (λ (p : CoreData). p.trip) c.self.view_is) ∙ c.in-Some.is in
     let beside = rw has at on.trip in
     let few : n * c.args.pulses ≤ n * 2000 = mul-le-mul_left n c.requires.pulses in
     let pulses = ap (λ (x : Trip). x.pulses) value in
     let ticks = ap (λ (x : Trip). x.ticks) value in
     record {
-      lawful = subst (λ (q : Plain). IsBetweenEvents tables (record q { trip = Some u })) (sym c.self.view_is)
+      lawful = subst (λ (q : CoreData). IsBetweenEvents tables (record q { trip = Some u })) (sym c.self.view_is)
           (powered-trip t u has (ap (λ (x : Trip). x.started) value)
           (record {
             range = c.add_passed.ensures.range tables beside.range;
@@ -48,12 +48,12 @@ returns-clause-taken c = λ tables on.
                 (arith, beside.pulses, few, pulses, ticks);
           }) on);
       most = omega (arith, c.min-n.ensures);
-      same = (ap (λ (q : Plain). q.operating) c.self.view_is, ap (λ (q : Plain). q.number) c.self.view_is);
+      same = (ap (λ (q : CoreData). q.operating) c.self.view_is, ap (λ (q : CoreData). q.number) c.self.view_is);
     }
 
 pub returns-in_default-clause-taken : goal.returns-in_default-clause-taken
 returns-in_default-clause-taken c = λ tables on. taken-none c.args.count c.self.view_is on
 
 pub returns-in_default-clause-follows : goal.returns-in_default-clause-follows
-returns-in_default-clause-follows c = λ tables seal on still s m is e. subst (λ (x : Plain). Follows s x [] []
+returns-in_default-clause-follows c = λ tables seal on still s m is e. subst (λ (x : CoreData). ComesToOutcome s x [] []
     (quiet m)) (sym c.self.view_is) (quiet-follows s c.args.self.now [] m e)

@@ -1,6 +1,6 @@
 use Rattle.std.proofs.Common.{◌≡◌, Some, ap, sym, subst, ◌∙◌, arith}
 use Rattle.taxi_units.specs.declared.event.Operating.{Operating}
-use Rattle.meter_states.specs.Core.{Plain}
+use Rattle.meter_states.specs.Core.{CoreData}
 use Rattle.meter_states.specs.Lawful.{HasTrip, IsPowered}
 use Rattle.meter_states.proofs.Powered.{powered-gated, powered-trip, pulses-below}
 use Rattle.meter_states.proofs.meter_state.State.pass_interval.Goals as goal
@@ -11,14 +11,14 @@ add_stopped-requires-clause-pulses c = c.take-pulses.ensures.most
 
 pub add_stopped-requires-clause-few : goal.add_stopped-requires-clause-few
 add_stopped-requires-clause-few c =
-    let has : c.args.self.now.trip ≡ Some c.in-Some.trip = sym (ap (λ (p : Plain). p.trip) c.self.view_is)
+    let has : c.args.self.now.trip ≡ Some c.in-Some.trip = sym (ap (λ (p : CoreData). p.trip) c.self.view_is)
     ∙ c.in-Some.is in
     let beside = rw has at c.requires.lawful.1.trip in
     pulses-below beside c.requires.lawful.1.number.1
 
 pub add_stopped-requires-clause-short : goal.add_stopped-requires-clause-short
 add_stopped-requires-clause-short c =
-    let has : c.args.self.now.trip ≡ Some c.in-Some.trip = sym (ap (λ (p : Plain). p.trip) c.self.view_is)
+    let has : c.args.self.now.trip ≡ Some c.in-Some.trip = sym (ap (λ (p : CoreData). p.trip) c.self.view_is)
     ∙ c.in-Some.is in
     let beside = rw has at c.requires.lawful.1.trip in
     beside.range.ticks
@@ -28,11 +28,11 @@ returns-clause-lawful c = λ tables on.
     let t = c.in-Some.trip in
     let u = c.add_stopped.new.trip in
     let gate = c.take-pulses.new.self in
-    let has : c.args.self.now.trip ≡ Some c.in-Some.trip = sym (ap (λ (p : Plain). p.trip) c.self.view_is)
+    let has : c.args.self.now.trip ≡ Some c.in-Some.trip = sym (ap (λ (p : CoreData). p.trip) c.self.view_is)
     ∙ c.in-Some.is in
     let beside = rw has at on.trip in
     let counts = c.add_stopped.ensures.counts in
-    subst (λ (q : Plain). IsPowered tables 8640000 roaming_between 0 (record q { gate = gate; trip = Some u }))
+    subst (λ (q : CoreData). IsPowered tables 8640000 roaming_between 0 (record q { gate = gate; trip = Some u }))
     (sym c.self.view_is)
     (powered-gated gate (omega (arith, c.take-pulses.ensures.empty))
     (powered-trip t u has c.add_stopped.ensures.started
@@ -45,9 +45,9 @@ returns-clause-lawful c = λ tables on.
 pub returns-in_default-clause-lawful : goal.returns-in_default-clause-lawful
 returns-in_default-clause-lawful c = λ tables on. absurd ((subst (λ
     (o : Operating). HasTrip o c.args.self.now.trip) c.requires.on on.on) (sym (ap (λ
-    (p : Plain). p.trip) c.self.view_is) ∙ c.in_default.is))
+    (p : CoreData). p.trip) c.self.view_is) ∙ c.in_default.is))
 
 pub returns-in_default-clause-state : goal.returns-in_default-clause-state
 returns-in_default-clause-state c = λ s m e. absurd ((subst (λ
     (o : Operating). HasTrip o c.args.self.now.trip) c.requires.on c.requires.lawful.1.on) (sym (ap (λ
-    (p : Plain). p.trip) c.self.view_is) ∙ c.in_default.is))
+    (p : CoreData). p.trip) c.self.view_is) ∙ c.in_default.is))

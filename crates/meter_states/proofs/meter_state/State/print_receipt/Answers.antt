@@ -1,20 +1,20 @@
 use Rattle.std.proofs.Common.{◌≤◌, [], ◌∷◌, ◌++◌, ap, sym, subst, ◌∙◌}
 use Rattle.taxi_units.specs.declared.receipt.Receipt as receipts
 use Rattle.meter_states.specs.Closing.{receipt_of}
-use Rattle.meter_states.specs.Core.{Plain}
+use Rattle.meter_states.specs.Core.{CoreData}
 use Rattle.meter_states.specs.Lawful.{IsTripBeside}
 use Rattle.meter_states.specs.declared.act.Act.TheVariants.{Receipt}
 use Rattle.meter_states.proofs.Pushes.{few-more, lawful-more}
 use Rattle.meter_states.proofs.meter_state.State.print_receipt.Goals as goal
 
 pub receipt-requires-clause-range : goal.receipt-requires-clause-range
-receipt-requires-clause-range g c = subst (λ (p : Plain). IsTripBeside c.args.tables.now p.number 8640000 c.args.trip.now) (sym c.self.view_is) c.requires.range
+receipt-requires-clause-range g c = subst (λ (p : CoreData). IsTripBeside c.args.tables.now p.number 8640000 c.args.trip.now) (sym c.self.view_is) c.requires.range
 
 pub receipt-requires-clause-position : goal.receipt-requires-clause-position
-receipt-requires-clause-position g c = subst (λ (p : Plain). (1 ≤ p.position) × (p.position ≤ 9)) (sym c.self.view_is) c.requires.position
+receipt-requires-clause-position g c = subst (λ (p : CoreData). (1 ≤ p.position) × (p.position ≤ 9)) (sym c.self.view_is) c.requires.position
 
 pub receipt-requires-clause-number : goal.receipt-requires-clause-number
-receipt-requires-clause-number g c = subst (λ (p : Plain). (1 ≤ p.number) × (p.number ≤ 2000000000000001)) (sym c.self.view_is) c.requires.number
+receipt-requires-clause-number g c = subst (λ (p : CoreData). (1 ≤ p.number) × (p.number ≤ 2000000000000001)) (sym c.self.view_is) c.requires.number
 
 pub receipt-requires-clause-kind : goal.receipt-requires-clause-kind
 receipt-requires-clause-kind g c = c.requires.kind
@@ -34,7 +34,7 @@ returns-clause-follows g c = λ s m t is saved e. record {
   state = e;
   done = c.push.ensures.items
       ∙ ap (λ (r : receipts.Receipt). c.args.acts.now.items ++ Receipt r ∷ [])
-      (c.receipt.ensures.value s t is saved ∙ ap (λ (p : Plain). receipt_of s c.args.closing.kind c.args.closing.finish p.position t p.number) (c.self.view_is ∙ e));
+      (c.receipt.ensures.value s t is saved ∙ ap (λ (p : CoreData). receipt_of s c.args.closing.kind c.args.closing.finish p.position t p.number) (c.self.view_is ∙ e));
 }
 
 pub returns-clause-steps : goal.returns-clause-steps

@@ -1,6 +1,6 @@
 use Rattle.std.proofs.Common.{◌+◌, ◌<◌, ◌≤◌, ap, refl, sym, ◌∙◌, arith}
 use Rattle.taxi_units.specs.declared.event.Operating.TheVariants.{ForHire, Hired, Stopped}
-use Rattle.meter_states.specs.Core.{Plain}
+use Rattle.meter_states.specs.Core.{CoreData}
 use Rattle.meter_states.specs.Equals.{roams}
 use Rattle.meter_states.proofs.EqualIntervals.{full-in}
 use Rattle.meter_states.proofs.meter_state.State.take_equal.Goals as goal
@@ -10,7 +10,7 @@ pub returns-in-Hired-clause-full : goal.returns-in-Hired-clause-full
 returns-in-Hired-clause-full c =
     full-in c.args.tables.now c.args.seal.now c.args.facts.now c.args.pulses c.charge_equal.new.self Hired
     c.charge_equal.result c.args.count _
-    (c.charge_equal.ensures.taken.same.0 ∙ sym (ap (λ (p : Plain). p.operating) c.self.view_is) ∙ c.in-Hired.is)
+    (c.charge_equal.ensures.taken.same.0 ∙ sym (ap (λ (p : CoreData). p.operating) c.self.view_is) ∙ c.in-Hired.is)
     (λ stop go. stop go) c.charge_equal.ensures.full
 
 pub returns-in-ForHire-clause-taken : goal.returns-in-ForHire-clause-taken
@@ -23,7 +23,7 @@ returns-in-ForHire-clause-full c =
     let taken = c.roam_equal.ensures.taken c.args.tables.now c.requires.lawful in
     full-in c.args.tables.now c.args.seal.now c.args.facts.now p core ForHire c.roam_equal.result c.args.count
     (roaming_most ≤ core.roam + roams core.number p)
-    (taken.same.0 ∙ sym (ap (λ (p : Plain). p.operating) c.self.view_is) ∙ c.in-ForHire.is)
+    (taken.same.0 ∙ sym (ap (λ (p : CoreData). p.operating) c.self.view_is) ∙ c.in-ForHire.is)
     (λ (stop : roaming_most ≤ core.roam + roams core.number p) (go : core.roam + roams core.number p < roaming_most).
     omega (arith, stop, go)) c.roam_equal.ensures.full
 
@@ -39,7 +39,7 @@ returns-in-Stopped-clause-full c =
     let taken = c.pass_equal.ensures.taken c.args.tables.now c.requires.lawful in
     full-in c.args.tables.now c.args.seal.now c.args.facts.now c.args.pulses c.pass_equal.new.self Stopped
     c.pass_equal.result c.args.count _
-    (taken.same.0 ∙ sym (ap (λ (p : Plain). p.operating) c.self.view_is) ∙ c.in-Stopped.is)
+    (taken.same.0 ∙ sym (ap (λ (p : CoreData). p.operating) c.self.view_is) ∙ c.in-Stopped.is)
     (λ stop go. stop go) c.pass_equal.ensures.full
 
 pub returns-in-Stopped-clause-follows : goal.returns-in-Stopped-clause-follows

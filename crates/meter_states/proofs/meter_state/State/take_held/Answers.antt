@@ -1,6 +1,6 @@
 use Rattle.std.proofs.lemmas.Grind.{elements}
 use Rattle.std.proofs.Common.{sym, subst, ◌∙◌, arith}
-use Rattle.meter_states.specs.Core.{Follows}
+use Rattle.meter_states.specs.Core.{ComesToOutcome}
 use Rattle.meter_states.specs.Meter.{Outcome}
 use Rattle.meter_states.specs.Supply.{resumed}
 use Rattle.meter_states.proofs.Outcomes.{quiet-follows}
@@ -35,7 +35,7 @@ returns-then-is_within_hold-clause-follows g c = λ s m is saved e.
     let held = c.args.held in
     let acts = c.args.acts.now.items in
     let within = sym (c.is_within_hold.ensures.value s is.secured) ∙ c.if-is_within_hold.true in
-    subst (λ (o : Outcome). Follows s c.go_on.new.self acts acts o) (sym (hold-resumed s c.args.second held m within))
+    subst (λ (o : Outcome). ComesToOutcome s c.go_on.new.self acts acts o) (sym (hold-resumed s c.args.second held m within))
     (quiet-follows s c.go_on.new.self acts (resumed held m).next (c.go_on.ensures.state s m saved e))
 
 pub returns-else-is_within_hold-clause-follows : goal.returns-else-is_within_hold-clause-follows

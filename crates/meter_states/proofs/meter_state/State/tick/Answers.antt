@@ -1,7 +1,7 @@
 use Rattle.std.proofs.Common.{ℕ, All, ap, sym, subst, ◌∙◌}
 use Rattle.meter_states.specs.Acts.{IsLawfulAct}
 use Rattle.meter_states.specs.Closing.{roaming_checked}
-use Rattle.meter_states.specs.Core.{Plain, plain_of}
+use Rattle.meter_states.specs.Core.{CoreData, core_of}
 use Rattle.meter_states.specs.Display.{shown}
 use Rattle.meter_states.specs.Interval.{interval_begun, interval_counted}
 use Rattle.meter_states.specs.Meter.{Meter, ◌>>=◌}
@@ -23,9 +23,9 @@ returns-clause-follows g c = λ s m is e.
     let checked = (roaming_checked s pressed).next in
     let d = c.show.ensures.follows c.args.seal.now s checked is b.state in
     let after = (shown s checked).next in
-    let clock = c.second-second.ensures ∙ ap (λ (p : Plain). p.clock) (c.self.view_is ∙ d.state) in
-    let begun = ap (λ (p : Plain). record p { began = c.second-second.result }) (c.self.view_is ∙ d.state) ∙ ap (λ
-    (n : ℕ). record (plain_of s after) { began = n }) clock in
+    let clock = c.second-second.ensures ∙ ap (λ (p : CoreData). p.clock) (c.self.view_is ∙ d.state) in
+    let begun = ap (λ (p : CoreData). record p { began = c.second-second.result }) (c.self.view_is ∙ d.state) ∙ ap (λ
+    (n : ℕ). record (core_of s after) { began = n }) clock in
     follows-then s c.count_interval.new.self _ begin begin acts (interval_counted s m) (λ (n : Meter). expired_or_pressed s n >>= (λ (n : Meter). roaming_checked s n >>= (λ (n : Meter). shown s n >>= (λ (n : Meter). interval_begun n)))) count
     (follows-then s c.expire_or_press.new.self _ begin pressed_acts acts (expired_or_pressed s counted) (λ (n : Meter). roaming_checked s n >>= (λ (n : Meter). shown s n >>= (λ (n : Meter). interval_begun n))) a
     (follows-then s c.check_roaming.new.self _ pressed_acts checked_acts acts (roaming_checked s pressed) (λ (n : Meter). shown s n >>= (λ (n : Meter). interval_begun n)) b
