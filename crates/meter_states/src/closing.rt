@@ -74,7 +74,8 @@ impl State {
         ensures ranges { StayLawful tables.now self.old.number acts.old.items acts.new.items }
         ensures follows { (s : Setting) (m : Meter) (t : model.Trip) → IsSettingOf s tables.now seal.now
             → trip.now ≡ model.saved_of s t → self.old ≡ core_of s m
-            → ComesToOutcome s self.new acts.old.items acts.new.items (trip_closed s closing.kind closing.finish (Some t) m) }
+            → ComesToOutcome s self.new acts.old.items acts.new.items
+            (trip_closed s closing.kind closing.finish (Some t) m) }
         ensures steps { steps.new ≤ steps.old + 12 }
     {
         self.enter_trip(closing.kind, trip, tables, acts);

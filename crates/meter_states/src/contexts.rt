@@ -13,7 +13,7 @@ ghost use Rattle.meter_states.specs.Meter.{Meter};
 ghost use Rattle.meter_states.specs.Setting.{Setting, IsSettingOf, local_at};
 ghost use Rattle.taxi_units.specs.Limits.{roaming_amid};
 
-use crate::facts::{Facts, CachedTime, local_facts};
+use crate::facts::{CachedTime, Facts, local_facts};
 use crate::meter_state::State;
 use drive_modes::Weights;
 use seal_record::Seal;

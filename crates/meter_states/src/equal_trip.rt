@@ -59,7 +59,8 @@ pub(crate) fn add_passed(trip: &mut Trip, pulses: u32, count: u32)
     requires few { trip.old.pulses ≤ 5000000000000000000 }
     requires short { trip.old.ticks + count ≤ last_tick }
     ensures value { trip.new ≡ stages.passed pulses count trip.old }
-    ensures range { (tables : TableParts) → IsLawfulTrip tables last_tick trip.old → IsLawfulTrip tables last_tick trip.new }
+    ensures range { (tables : TableParts) → IsLawfulTrip tables last_tick trip.old
+        → IsLawfulTrip tables last_tick trip.new }
 {
     trip.pulses += count as u64 * pulses as u64;
     trip.ticks += count;

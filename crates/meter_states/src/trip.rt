@@ -83,7 +83,8 @@ pub(crate) fn add_stopped(trip: &mut Trip, pulses: u32)
     requires short { trip.old.ticks ≤ last_tick }
     ensures saved { (s : Setting) (t : model.Trip) → trip.old ≡ model.saved_of s t
         → trip.new ≡ model.saved_of s (model.with_part (model.InStopped pulses) t) }
-    ensures range { (tables : TableParts) → IsLawfulTrip tables last_tick trip.old → IsLawfulTrip tables longest_trip trip.new }
+    ensures range { (tables : TableParts) → IsLawfulTrip tables last_tick trip.old
+        → IsLawfulTrip tables longest_trip trip.new }
     ensures counts { (trip.new.pulses ≡ trip.old.pulses + pulses) × (trip.new.ticks ≡ trip.old.ticks + 1) }
     ensures started { trip.new.started ≡ trip.old.started }
 {
@@ -97,7 +98,8 @@ pub(crate) fn add_rest(trip: &mut Trip, pulses: u32)
     requires few { trip.old.pulses ≤ 9000000000000000000 }
     ensures saved { (s : Setting) (t : model.Trip) → trip.old ≡ model.saved_of s t
         → trip.new ≡ model.saved_of s (model.with_part (model.Rest pulses) t) }
-    ensures range { (tables : TableParts) → IsLawfulTrip tables last_tick trip.old → IsLawfulTrip tables last_tick trip.new }
+    ensures range { (tables : TableParts) → IsLawfulTrip tables last_tick trip.old
+        → IsLawfulTrip tables last_tick trip.new }
     ensures counts { (trip.new.pulses ≡ trip.old.pulses + pulses) × (trip.new.ticks ≡ trip.old.ticks) }
     ensures started { trip.new.started ≡ trip.old.started }
 {

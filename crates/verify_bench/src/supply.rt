@@ -16,7 +16,7 @@ ghost use Rattle.verify_bench.specs.Settings.{setting_under};
 ghost use Rattle.verify_bench.specs.Supplied.{waking};
 
 use crate::explained::Explained;
-use crate::plain_meter::{Held, BenchMeter};
+use crate::plain_meter::{BenchMeter, Held};
 use seal_record::Params;
 use std::alloc::Global;
 use std::sync::ledger::Ledger;
