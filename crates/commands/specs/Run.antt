@@ -182,8 +182,8 @@ module _ (told : Type 0) (image printed : List ℕ) where
   -- their entries, and each receipt of which a byte was printed has its own entry among them. The bytes of the seal are
   -- the opening ones.
   pub record IsCutOfStart (start : Start) (bytes line left_image left_text : List ℕ) : Type 0 where
-    pub cut : IsCutOfDeeds (tables_in start) start.seal told start.durable printed (deeds_in start bytes ++ Prints line ∷ [])
-        left_image left_text
+    pub cut : IsCutOfDeeds (tables_in start) start.seal told start.durable printed
+        (deeds_in start bytes ++ Prints line ∷ []) left_image left_text
     pub seal_stays : SameBut IsOfTotals image left_image
 
   -- a cut of a run that may have been refused leaves what a cut of a run may leave where it has a start, and else the

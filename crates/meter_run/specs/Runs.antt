@@ -44,7 +44,8 @@ module _ {D L : Type 0} (B : Ghosts D L) (tables : TableParts) (seal : Seal) (ol
   -- totals what it might have left there at the old board
   abbrev pub CutsLeave : Durable → List Deed → Type 0
   CutsLeave durable deeds = LeavesOnly B old new
-      (λ image text. IsCutOfDeeds tables seal B.tells_text durable (B.printed old) deeds image text × HasBeside B old image)
+      (λ image text. IsCutOfDeeds tables seal B.tells_text durable (B.printed old) deeds image text
+      × HasBeside B old image)
 
   -- a board has done deeds where their texts were printed, where the text is told; the store has the state after their
   -- commits, with which a run may open; and a cut leaves a point of them

@@ -18,7 +18,8 @@ Stage = Setting → Meter → Outcome
 -- from each state whose core it was before
 abbrev pub FollowsStage : TableParts → Seal → (old new : CoreData) → (before acts : List Act) → Stage → Type 0
 FollowsStage tables seal old new before acts stage =
-    (s : Setting) (m : Meter) → IsSettingOf s tables seal → old ≡ core_of s m → ComesToOutcome s new before acts (stage s m)
+    (s : Setting) (m : Meter) → IsSettingOf s tables seal → old ≡ core_of s m
+    → ComesToOutcome s new before acts (stage s m)
 
 -- a core is ready for a key where it is amid an event in which nothing has been done yet
 pub record IsReadyForKey (tables : TableParts) (core : CoreData) (acts : List Act) : Type 0 where

@@ -42,7 +42,8 @@ Decides-is_identifier_character c =
 pub Decides-is_taxi : (text : List ℕ) → Decides (is_taxi text) (IsTaxi text)
 Decides-is_taxi text =
     let characters =
-    Decides-by_and is_identifier_character IsIdentifierCharacter (list_all is_identifier_character) Decides-is_identifier_character refl
+    Decides-by_and is_identifier_character IsIdentifierCharacter (list_all is_identifier_character)
+    Decides-is_identifier_character refl
     (λ _ _. refl) text in
     Decides-like (is_taxi text) (λ all. record { some = all.0; few = all.1.0; characters = all.1.1 })
     (λ is. (is.some, (is.few, is.characters)))

@@ -37,7 +37,8 @@ are_counts_of (count ∷ others) all = and_true (nat_le count 99) (are_counts ot
     test n below = grind (arith, nat_tests, below)
 
 -- a trip that passes its test is in its ranges
-trip_of : (number : ℕ) (trip : Trip) → length trip.extras ≡ 16 → is_trip number trip ≡ true → IsTripInItsRanges number trip
+trip_of : (number : ℕ) (trip : Trip) → length trip.extras ≡ 16 → is_trip number trip ≡ true
+    → IsTripInItsRanges number trip
 trip_of number trip sixteen is =
     let one = both (is_course number trip && is_meterage trip.ticks trip.meterage) (are_extras trip) is in
     let two = both (is_course number trip) (is_meterage trip.ticks trip.meterage) one.0 in
