@@ -47,7 +47,7 @@ cuts_fault lines dimension =
 abbrev pub has_default : List (Option Condition) → Bool
 has_default conditions = list_any is_none conditions
 
--- the first twelve faults, each there or not, stand in the order of the table of faults
+-- the faults before those of cuts, each there or not, stand in the order of the table of faults
 abbrev pub faults_before_cuts : List Line → List (Option CheckFault)
 faults_before_cuts ls =
     fault_if (is_none (step_of ls)) NoStep
@@ -74,7 +74,7 @@ faults_from_cuts ls =
     ∷ fault_if (nat_lt 64512 (cells_of ls)) (TooManyCells (cells_of ls))
     ∷ []
 
--- all faults of lines, each there or not, are the first twelve, and then those of cuts and of cells
+-- all faults, each there or not, are those before the cuts, and then those of cuts and of cells
 abbrev pub faults_of : List Line → List (Option CheckFault)
 faults_of ls = faults_before_cuts ls ++ faults_from_cuts ls
 
