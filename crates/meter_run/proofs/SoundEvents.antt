@@ -16,7 +16,7 @@ use Rattle.tariff_compile.specs.declared.parts.Supplement.{Supplement}
 use Rattle.totals_record.specs.declared.durable.Durable.{Durable}
 use Rattle.totals_record.specs.declared.trip.Trip as store
 use Rattle.meter_states.specs.Closing.{closed, roaming_entered}
-use Rattle.meter_states.specs.Core.{forgotten}
+use Rattle.meter_states.specs.Core.{IsSavedIn}
 use Rattle.meter_states.specs.Display.{shown}
 use Rattle.meter_states.specs.Interval.{context_of, roaming_with}
 use Rattle.meter_states.specs.Keys.{extra_added, extra_added_to, hired, is_among, key_in, key_pressed, latch_pressed}
@@ -25,7 +25,7 @@ use Rattle.meter_states.specs.Setting.{Setting}
 use Rattle.meter_states.specs.Step.{expired, expired_or_pressed, latch_refused, off_step, powered_step, step, step_in, ticked}
 use Rattle.meter_states.specs.Supply.{aborted, kept, hold_taken, is_stopped, is_within_hold, powered, resumed, running, supply_came, supply_dropped, turned_off}
 use Rattle.meter_states.specs.Supplements.{times}
-use Rattle.meter_states.specs.Trip.{Trip, saved_of, held_trip, with_extra, with_part, Rest, InHired, InStopped, ticks_of}
+use Rattle.meter_states.specs.Trip.{Trip, core_trip_in, core_trip_of, held_trip, with_extra, with_part, Rest, InHired, InStopped, ticks_of}
 use Rattle.meter_run.specs.Kept.{IsKept, IsKeptIn}
 use Rattle.meter_run.proofs.Sound.{Leaves, after_key, closing, either, latch_refusing, latching, more, reading, refusing, rest_of, rest_quiet, showing, still, taking, followed}
 use Rattle.taxi_units.specs.Limits.{hirings_end, last_number}
@@ -197,16 +197,16 @@ aborting s trip m some =
     followed s m.durable 1 0 (closed s kinds.Aborted trip.saved (record m { position = trip.position })) (λ m. quiet (record m { position = 1; zone = 1 })) first
     (still s (record (closed s kinds.Aborted trip.saved (record m { position = trip.position })).next { position = 1; zone = 1 }) first.kept)
 
-taken : (s : Setting) (second : ℕ) (hold : Option store.Trip) (m : Meter) → m.durable.hold ≡ hold → option_map forgotten hold ≡ option_map (saved_of s) m.trip
+taken : (s : Setting) (second : ℕ) (hold : Option store.Trip) (m : Meter) → m.durable.hold ≡ hold → IsSavedIn s hold m.trip
     → Leaves s m.durable 1 (hold_taken s second hold (powered second m))
 taken s second None m is saved = more s m.durable 0 1 (quiet (record (powered second m) { trip = None })) (omega arith) (still s (record (powered second m) { trip = None }) (is, refl))
 taken s second (Some trip) m is saved =
-    let some : m.trip ≢ None = λ none. absurd (let bad : Some (forgotten trip) ≡ None = saved ∙ ap (option_map (saved_of s)) none in cc) in
+    let some : m.trip ≢ None = λ none. absurd (let bad : Some (core_trip_in trip) ≡ None = saved ∙ ap (option_map (core_trip_of s)) none in cc) in
     let n = powered second m in
     either (Leaves s m.durable 1) (is_within_hold s second trip) (resumed trip n) (aborted s trip n)
     (record { kept = running_kept s trip.stopped m.durable.hold m.trip some; few = omega arith; durable = refl }) (aborting s trip n some)
 
-coming : (s : Setting) (second : ℕ) (m : Meter) → option_map forgotten m.durable.hold ≡ option_map (saved_of s) m.trip → Leaves s m.durable 1 (supply_came s second m)
+coming : (s : Setting) (second : ℕ) (m : Meter) → IsSavedIn s m.durable.hold m.trip → Leaves s m.durable 1 (supply_came s second m)
 coming s second m saved =
     let first = taken s second m.durable.hold m refl saved in
     let o = hold_taken s second m.durable.hold (powered second m) in

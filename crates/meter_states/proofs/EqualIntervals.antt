@@ -17,7 +17,7 @@ use Rattle.tariff_syntax.specs.declared.context.Context.{Context}
 use Rattle.taxi_units.specs.declared.event.Operating.{Operating}
 use Rattle.taxi_units.specs.declared.event.Operating.TheVariants.{Off, ForHire, Hired, Stopped}
 use Rattle.taxi_units.specs.declared.receipt.Display.{Display}
-use Rattle.totals_record.specs.declared.trip.Trip as store
+use Rattle.meter_states.specs.declared.trip.CoreTrip.{CoreTrip}
 use Rattle.meter_states.specs.Charge.{charge_at}
 use Rattle.meter_states.specs.Core.{CoreData, ComesToOutcome, core_of}
 use Rattle.meter_states.specs.EqualStages.{HasTaken, LastsFrom, charged, passed, unfilled}
@@ -29,7 +29,7 @@ use Rattle.meter_states.specs.Run.{run}
 use Rattle.meter_states.specs.Setting.{Setting, IsSettingOf, IsTariffOf, local_at, modulus_of}
 use Rattle.meter_states.specs.declared.facts.Facts.{Facts}
 use Rattle.meter_states.specs.declared.facts.CachedRate.{CachedRate}
-use Rattle.meter_states.specs.Trip.{Trip, InHired, InStopped, charges_of, opening_of, saved_of, with_part}
+use Rattle.meter_states.specs.Trip.{Trip, InHired, InStopped, charges_of, opening_of, core_trip_of, with_part}
 use Rattle.taxi_units.specs.Time.{longest_trip}
 use Rattle.meter_states.proofs.Charges.{charge-at}
 use Rattle.meter_states.proofs.Meterages.{added-less, sum-added}
@@ -85,43 +85,43 @@ hire-equal s tables p k m c is some most e hire none still few =
 
 -- ---- Stopped
 
-stopped-saved : (s : Setting) (t : Trip) (p : ℕ) (x : store.Trip) → x ≡ saved_of s t → record x { pulses = x.pulses + p; ticks = x.ticks + 1 } ≡ saved_of s (with_part (InStopped p) t)
+stopped-saved : (s : Setting) (t : Trip) (p : ℕ) (x : CoreTrip) → x ≡ core_trip_of s t → record x { pulses = x.pulses + p; ticks = x.ticks + 1 } ≡ core_trip_of s (with_part (InStopped p) t)
 stopped-saved s t p x e = grind (arith, common_steps)
 
-stopped-trip : (s : Setting) (trip : Option Trip) (p : ℕ) (x : store.Trip) → Some x ≡ option_map (saved_of s) trip
-    → Some (record x { pulses = x.pulses + p; ticks = x.ticks + 1 }) ≡ option_map (saved_of s) (option_map (with_part (InStopped p)) trip)
+stopped-trip : (s : Setting) (trip : Option Trip) (p : ℕ) (x : CoreTrip) → Some x ≡ option_map (core_trip_of s) trip
+    → Some (record x { pulses = x.pulses + p; ticks = x.ticks + 1 }) ≡ option_map (core_trip_of s) (option_map (with_part (InStopped p)) trip)
 stopped-trip s None p x e = absurd cc
-stopped-trip s (Some t) p x e = ap (λ (y : store.Trip). Some y) (stopped-saved s t p x cc)
+stopped-trip s (Some t) p x e = ap (λ (y : CoreTrip). Some y) (stopped-saved s t p x cc)
 
-passed-more : (p i : ℕ) (t : store.Trip) → passed p (suc i) t ≡ record t { pulses = t.pulses + i * p + p; ticks = t.ticks + i + 1 }
+passed-more : (p i : ℕ) (t : CoreTrip) → passed p (suc i) t ≡ record t { pulses = t.pulses + i * p + p; ticks = t.ticks + i + 1 }
 passed-more p i t =
     let pulses : t.pulses + suc i * p ≡ t.pulses + i * p + p = omega arith in
     let ticks : t.ticks + suc i ≡ t.ticks + i + 1 = omega arith in
     cc
 
-none-passed : (p : ℕ) (t : store.Trip) → passed p 0 t ≡ t
+none-passed : (p : ℕ) (t : CoreTrip) → passed p 0 t ≡ t
 none-passed p t =
     let pulses : t.pulses + 0 * p ≡ t.pulses = omega arith in
     let ticks : t.ticks + 0 ≡ t.ticks = omega arith in
     ap (λ (x : ℕ). record t { pulses = x; ticks = t.ticks + 0 }) pulses ∙ ap (λ (x : ℕ). record t { ticks = x }) ticks
 
-stopped-counted : (s : Setting) (p i : ℕ) (n : Meter) (c : CoreData) (t : store.Trip) → n.operating ≡ Stopped → c.gate ≡ 0 → c.began ≡ c.clock → record c { trip = Some (passed p i t) } ≡ core_of s n
+stopped-counted : (s : Setting) (p i : ℕ) (n : Meter) (c : CoreData) (t : CoreTrip) → n.operating ≡ Stopped → c.gate ≡ 0 → c.began ≡ c.clock → record c { trip = Some (passed p i t) } ≡ core_of s n
     → record c { trip = Some (passed p (suc i) t) } ≡ core_of s (record (counted_in s n.operating p n) { began = (counted_in s n.operating p n).clock })
 stopped-counted s p i n c t stopped gate began e =
     let trip = stopped-trip s n.trip p (passed p i t) (ap (λ (c : CoreData). c.trip) e) in
     let next = record t { pulses = t.pulses + i * p + p; ticks = t.ticks + i + 1 } in
-    ap (λ (t : store.Trip). record c { trip = Some t }) (passed-more p i t)
+    ap (λ (t : CoreTrip). record c { trip = Some t }) (passed-more p i t)
     ∙ ap (λ (g : ℕ). record c { gate = g; trip = Some next }) gate
     ∙ ap (λ (b : ℕ). record c { began = b; gate = 0; trip = Some next }) began
     ∙ ap (λ (d : CoreData). record d { began = d.clock; gate = 0; trip = Some next }) e
-    ∙ ap (λ (x : Option store.Trip). record (core_of s n) { began = n.clock; gate = 0; trip = x }) trip
+    ∙ ap (λ (x : Option CoreTrip). record (core_of s n) { began = n.clock; gate = 0; trip = x }) trip
     ∙ ap (λ (o : Operating). core_of s (record (counted_in s o p n) { began = (counted_in s o p n).clock })) (sym stopped)
 
-pub stopped-equal : (s : Setting) (tables : TableParts) (p k : ℕ) (m : Meter) (c : CoreData) (t : store.Trip) → IsTariffOf s tables → 0 < modulus_of s → p ≤ 2000 → c ≡ core_of s m → c.operating ≡ Stopped → c.trip ≡ Some t → IsStill tables c
+pub stopped-equal : (s : Setting) (tables : TableParts) (p k : ℕ) (m : Meter) (c : CoreData) (t : CoreTrip) → IsTariffOf s tables → 0 < modulus_of s → p ≤ 2000 → c ≡ core_of s m → c.operating ≡ Stopped → c.trip ≡ Some t → IsStill tables c
     → c.roam ≤ roaming_between → t.ticks + k ≤ 8639999 → ComesToOutcome s (record c { trip = Some (passed p k t) }) [] [] (run s (intervals_of p k) m)
 stopped-equal s tables p k m c t is some most e stopped has still roam short =
-    let start : record c { trip = Some (passed p 0 t) } ≡ c = ap (λ (x : store.Trip). record c { trip = Some x }) (none-passed p t) ∙ ap (λ (x : Option store.Trip). record c { trip = x }) (sym has) in
-    let shown : c.shown ≡ Some (display_by tables (record c { trip = Some t })) = still.shown ∙ ap (λ (x : Option store.Trip). Some (display_by tables (record c { trip = x }))) has in
+    let start : record c { trip = Some (passed p 0 t) } ≡ c = ap (λ (x : CoreTrip). record c { trip = Some x }) (none-passed p t) ∙ ap (λ (x : Option CoreTrip). record c { trip = x }) (sym has) in
+    let shown : c.shown ≡ Some (display_by tables (record c { trip = Some t })) = still.shown ∙ ap (λ (x : Option CoreTrip). Some (display_by tables (record c { trip = x }))) has in
     intervals-follow s p k (λ i. record c { trip = Some (passed p i t) }) m
     (λ i n below same.
     let operating : n.operating ≡ Stopped = sym (ap (λ (c : CoreData). c.operating) same) ∙ stopped in
@@ -150,28 +150,28 @@ unfilled-more modulus q i m below =
 
 -- ---- Hired
 
-hired-trip : (s : Setting) (trip : Option Trip) (p q : ℕ) (y : Context) (x : store.Trip) (m : Meterage) → 0 < modulus_of s → Some x ≡ option_map (saved_of s) trip → charge_at s y p ≡ q → m ≡ added (modulus_of s) x.meterage q
-    → Some (record x { pulses = x.pulses + p; ticks = x.ticks + 1; meterage = m }) ≡ option_map (saved_of s) (option_map (with_part (InHired p y)) trip)
+hired-trip : (s : Setting) (trip : Option Trip) (p q : ℕ) (y : Context) (x : CoreTrip) (m : Meterage) → 0 < modulus_of s → Some x ≡ option_map (core_trip_of s) trip → charge_at s y p ≡ q → m ≡ added (modulus_of s) x.meterage q
+    → Some (record x { pulses = x.pulses + p; ticks = x.ticks + 1; meterage = m }) ≡ option_map (core_trip_of s) (option_map (with_part (InHired p y)) trip)
 hired-trip s None p q y x m some e charge is = absurd cc
 hired-trip s (Some u) p q y x m some e charge is =
-    let same : x ≡ saved_of s u = cc in
-    let meterage = is ∙ ap (λ (x : store.Trip). added (modulus_of s) x.meterage q) same ∙ sum-added (opening_of s u) (charges_of s u) q some ∙ ap (λ (n : ℕ). saved (opening_of s u) (charges_of s u + n)) (sym charge) in
-    ap (λ (x : store.Trip). Some x) (hired-saved s u p y x m same meterage)
+    let same : x ≡ core_trip_of s u = cc in
+    let meterage = is ∙ ap (λ (x : CoreTrip). added (modulus_of s) x.meterage q) same ∙ sum-added (opening_of s u) (charges_of s u) q some ∙ ap (λ (n : ℕ). saved (opening_of s u) (charges_of s u + n)) (sym charge) in
+    ap (λ (x : CoreTrip). Some x) (hired-saved s u p y x m same meterage)
 
-pulses-by : (s : Setting) (trip : Option Trip) (x : store.Trip) → Some x ≡ option_map (saved_of s) trip → pulses_so_far trip ≡ x.pulses
+pulses-by : (s : Setting) (trip : Option Trip) (x : CoreTrip) → Some x ≡ option_map (core_trip_of s) trip → pulses_so_far trip ≡ x.pulses
 pulses-by s None x e = absurd cc
 pulses-by s (Some t) x e =
-    let same : saved_of s t ≡ x = cc in
-    ap (λ (x : store.Trip). x.pulses) same
+    let same : core_trip_of s t ≡ x = cc in
+    ap (λ (x : CoreTrip). x.pulses) same
 
-ticks-by : (s : Setting) (trip : Option Trip) (x : store.Trip) → Some x ≡ option_map (saved_of s) trip → ticks_so_far trip ≡ x.ticks
+ticks-by : (s : Setting) (trip : Option Trip) (x : CoreTrip) → Some x ≡ option_map (core_trip_of s) trip → ticks_so_far trip ≡ x.ticks
 ticks-by s None x e = absurd cc
 ticks-by s (Some t) x e =
-    let same : saved_of s t ≡ x = cc in
-    ap (λ (x : store.Trip). x.ticks) same
+    let same : core_trip_of s t ≡ x = cc in
+    ap (λ (x : CoreTrip). x.ticks) same
 
 -- the context of a later interval, that of an earlier one being known
-pub context-later : (s : Setting) (m n : Meter) (c : CoreData) (t x : store.Trip) → c ≡ core_of s m → c.trip ≡ Some t → record c { trip = Some x } ≡ core_of s n
+pub context-later : (s : Setting) (m n : Meter) (c : CoreData) (t x : CoreTrip) → c ≡ core_of s m → c.trip ≡ Some t → record c { trip = Some x } ≡ core_of s n
     → context_of s n ≡ record (context_of s m) { pulses = x.pulses; ticks = x.ticks }
 context-later s m n c t x e has is =
     let position : n.position ≡ m.position = sym (ap (λ (c : CoreData). c.position) is) ∙ ap (λ (c : CoreData). c.position) e in
@@ -186,14 +186,14 @@ context-later s m n c t x e has is =
     ∙ ap (λ (k : ℕ). record base { position = m.position; zone = k; pulses = x.pulses; ticks = x.ticks }) zone
     ∙ ap (λ (k : ℕ). record (context_on s (local_at s k) m) { pulses = x.pulses; ticks = x.ticks }) began
 
-charged-more : (p q i : ℕ) (t : store.Trip) → charged p q (suc i) t ≡ record t { pulses = t.pulses + i * p + p; ticks = t.ticks + i + 1; meterage = unfilled q (suc i) t.meterage }
+charged-more : (p q i : ℕ) (t : CoreTrip) → charged p q (suc i) t ≡ record t { pulses = t.pulses + i * p + p; ticks = t.ticks + i + 1; meterage = unfilled q (suc i) t.meterage }
 charged-more p q i t =
     let pulses : t.pulses + suc i * p ≡ t.pulses + i * p + p = omega arith in
     let ticks : t.ticks + suc i ≡ t.ticks + i + 1 = omega arith in
     ap (λ (x : ℕ). record t { pulses = x; ticks = t.ticks + suc i; meterage = unfilled q (suc i) t.meterage }) pulses
     ∙ ap (λ (x : ℕ). record t { pulses = t.pulses + i * p + p; ticks = x; meterage = unfilled q (suc i) t.meterage }) ticks
 
-none-charged : (p q : ℕ) (t : store.Trip) → charged p q 0 t ≡ t
+none-charged : (p q : ℕ) (t : CoreTrip) → charged p q 0 t ≡ t
 none-charged p q t =
     let pulses : t.pulses + 0 * p ≡ t.pulses = omega arith in
     let ticks : t.ticks + 0 ≡ t.ticks = omega arith in
@@ -204,29 +204,29 @@ none-charged p q t =
     ∙ ap (λ (x : ℕ). record t { meterage = record (unfilled q 0 t.meterage) { cover_left = x } }) cover
     ∙ ap (λ (x : ℕ). record t { meterage = record t.meterage { rest = x } }) rest
 
-hired-counted : (s : Setting) (p q i : ℕ) (n : Meter) (c : CoreData) (t : store.Trip) → 0 < modulus_of s → n.operating ≡ Hired → c.gate ≡ 0 → c.began ≡ c.clock → t.meterage.rest + (suc i * q - t.meterage.cover_left) < modulus_of s → charge_at s (context_of s n) p ≡ q
+hired-counted : (s : Setting) (p q i : ℕ) (n : Meter) (c : CoreData) (t : CoreTrip) → 0 < modulus_of s → n.operating ≡ Hired → c.gate ≡ 0 → c.began ≡ c.clock → t.meterage.rest + (suc i * q - t.meterage.cover_left) < modulus_of s → charge_at s (context_of s n) p ≡ q
     → record c { trip = Some (charged p q i t) } ≡ core_of s n → record c { trip = Some (charged p q (suc i) t) } ≡ core_of s (record (counted_in s n.operating p n) { began = (counted_in s n.operating p n).clock })
 hired-counted s p q i n c t some hired gate began below charge e =
     let x = charged p q i t in
     let next = record t { pulses = t.pulses + i * p + p; ticks = t.ticks + i + 1; meterage = unfilled q (suc i) t.meterage } in
     let trip = hired-trip s n.trip p q (context_of s n) x (unfilled q (suc i) t.meterage) some (ap (λ (c : CoreData). c.trip) e) charge (unfilled-more (modulus_of s) q i t.meterage below) in
-    ap (λ (t : store.Trip). record c { trip = Some t }) (charged-more p q i t)
+    ap (λ (t : CoreTrip). record c { trip = Some t }) (charged-more p q i t)
     ∙ ap (λ (g : ℕ). record c { gate = g; trip = Some next }) gate
     ∙ ap (λ (b : ℕ). record c { began = b; gate = 0; trip = Some next }) began
     ∙ ap (λ (d : CoreData). record d { began = d.clock; gate = 0; trip = Some next }) e
-    ∙ ap (λ (x : Option store.Trip). record (core_of s n) { began = n.clock; gate = 0; trip = x }) trip
+    ∙ ap (λ (x : Option CoreTrip). record (core_of s n) { began = n.clock; gate = 0; trip = x }) trip
     ∙ ap (λ (o : Operating). core_of s (record (counted_in s o p n) { began = (counted_in s o p n).clock })) (sym hired)
 
-abbrev display_at : TableParts → CoreData → store.Trip → (steps : ℕ) → Display
+abbrev display_at : TableParts → CoreData → CoreTrip → (steps : ℕ) → Display
 display_at tables c t n = record { operating = c.operating; position = c.position; zone = c.zone; fare = shown_fare t.initial t.minimum tables.step n; supplements = t.extras_sum; decimals = tables.decimals }
 
-pub hired-equal : (s : Setting) (tables : TableParts) (p q k : ℕ) (m : Meter) (c : CoreData) (t : store.Trip) → IsTariffOf s tables → 0 < modulus_of s → p ≤ 2000 → c ≡ core_of s m → c.operating ≡ Hired → c.trip ≡ Some t → IsStill tables c
+pub hired-equal : (s : Setting) (tables : TableParts) (p q k : ℕ) (m : Meter) (c : CoreData) (t : CoreTrip) → IsTariffOf s tables → 0 < modulus_of s → p ≤ 2000 → c ≡ core_of s m → c.operating ≡ Hired → c.trip ≡ Some t → IsStill tables c
     → c.roam ≤ roaming_between → t.ticks + k ≤ 8639999 → t.meterage.rest < modulus_of s → k * q ≤ spare_of tables.rounding (modulus_of s) t.meterage
     → ((i : ℕ) (n : Meter) → i < k → record c { trip = Some (charged p q i t) } ≡ core_of s n → charge_at s (context_of s n) p ≡ q)
     → ComesToOutcome s (record c { trip = Some (charged p q k t) }) [] [] (run s (intervals_of p k) m)
 hired-equal s tables p q k m c t is some most e hired has still roam short rest spare charge =
-    let start : record c { trip = Some (charged p q 0 t) } ≡ c = ap (λ (x : store.Trip). record c { trip = Some x }) (none-charged p q t) ∙ ap (λ (x : Option store.Trip). record c { trip = x }) (sym has) in
-    let shown : c.shown ≡ Some (display_by tables (record c { trip = Some t })) = still.shown ∙ ap (λ (x : Option store.Trip). Some (display_by tables (record c { trip = x }))) has in
+    let start : record c { trip = Some (charged p q 0 t) } ≡ c = ap (λ (x : CoreTrip). record c { trip = Some x }) (none-charged p q t) ∙ ap (λ (x : Option CoreTrip). record c { trip = x }) (sym has) in
+    let shown : c.shown ≡ Some (display_by tables (record c { trip = Some t })) = still.shown ∙ ap (λ (x : Option CoreTrip). Some (display_by tables (record c { trip = x }))) has in
     intervals-follow s p k (λ i. record c { trip = Some (charged p q i t) }) m
     (λ i n below same.
     let operating : n.operating ≡ Hired = sym (ap (λ (c : CoreData). c.operating) same) ∙ hired in
@@ -250,7 +250,7 @@ charge-by-weights s tables seal y p w is by =
     ∙ charge-at s.mode s.tariff s.constant y p is.tariff.compiled.writable is.tariff.compiled.sound
 
 -- the context of an interval after i further ones is near that of the first
-pub near-later : (s : Setting) (m : Meter) (t : store.Trip) (p i further longer : ℕ) → Some t ≡ option_map (saved_of s) m.trip → i * p ≤ further → i ≤ longer
+pub near-later : (s : Setting) (m : Meter) (t : CoreTrip) (p i further longer : ℕ) → Some t ≡ option_map (core_trip_of s) m.trip → i * p ≤ further → i ≤ longer
     → IsNear further longer (context_of s m) (record (context_of s m) { pulses = t.pulses + i * p; ticks = t.ticks + i })
 near-later s m t p i further longer has far long =
     let pulses = pulses-by s m.trip t has in
@@ -288,13 +288,13 @@ spare-after Behind modulus q n m below spare = omega (arith, below, spare)
 spare-after Ahead modulus q n m below spare = grind (arith, common_steps)
 
 -- what is true of the intervals so far where one more may be charged at once behind them
-record OneMore (tables : TableParts) (p q n : ℕ) (t : store.Trip) (lasting : Lasting) : Type 0 where
+record OneMore (tables : TableParts) (p q n : ℕ) (t : CoreTrip) (lasting : Lasting) : Type 0 where
   pub short : t.ticks + n + 1 < longest_trip
   pub further : (n + 1) * p ≤ lasting.further
   pub longer : n + 1 ≤ lasting.longer
   pub spare : (n + 1) * q ≤ spare_of tables.rounding (tables.step * tables.measure) t.meterage
 
-one-more : (tables : TableParts) (seal : Seal) (facts : Facts) (p q n : ℕ) (c : CoreData) (t x : store.Trip) (lasting : Lasting) → c.trip ≡ Some x → x ≡ charged p q n t → q ≡ charge_of seal.params.mode lasting.weights p
+one-more : (tables : TableParts) (seal : Seal) (facts : Facts) (p q n : ℕ) (c : CoreData) (t x : CoreTrip) (lasting : Lasting) → c.trip ≡ Some x → x ≡ charged p q n t → q ≡ charge_of seal.params.mode lasting.weights p
     → ((rate : CachedRate) → facts.rate ≡ Some rate → LastsFrom rate t.pulses t.ticks lasting) → t.meterage.rest < tables.step * tables.measure → n * q ≤ spare_of tables.rounding (tables.step * tables.measure) t.meterage
     → MayBeCharged tables seal facts p c → OneMore tables p q n t lasting
 one-more tables seal facts p q n c t x lasting has is charge lasts rest spare may =
@@ -303,12 +303,12 @@ one-more tables seal facts p q n c t x lasting has is charge lasts rest spare ma
     let same : Some u ≡ Some x = sym may.outlasts.has ∙ has in
     let one_trip : u ≡ x = cc in
     let u_is : u ≡ charged p q n t = one_trip ∙ is in
-    let ticks : u.ticks ≡ t.ticks + n = ap (λ (t : store.Trip). t.ticks) u_is in
-    let pulses : u.pulses ≡ t.pulses + n * p = ap (λ (t : store.Trip). t.pulses) u_is in
+    let ticks : u.ticks ≡ t.ticks + n = ap (λ (t : CoreTrip). t.ticks) u_is in
+    let pulses : u.pulses ≡ t.pulses + n * p = ap (λ (t : CoreTrip). t.pulses) u_is in
     let rate = may.serve.rate in
     let last = lasts rate may.serve.keeps_rate in
     let weights : charge_of seal.params.mode rate.lasting.weights p ≡ q = ap (λ (w : Weights). charge_of seal.params.mode w p) (sym last.weights) ∙ sym charge in
-    let left : spare_of tables.rounding modulus u.meterage ≡ spare_of tables.rounding modulus (unfilled q n t.meterage) = ap (λ (t : store.Trip). spare_of tables.rounding modulus t.meterage) u_is in
+    let left : spare_of tables.rounding modulus u.meterage ≡ spare_of tables.rounding modulus (unfilled q n t.meterage) = ap (λ (t : CoreTrip). spare_of tables.rounding modulus t.meterage) u_is in
     let after = spare-after tables.rounding modulus q n t.meterage rest spare in
     let one : q ≤ spare_of tables.rounding modulus (unfilled q n t.meterage) = subst (λ (k : ℕ). k ≤ spare_of tables.rounding modulus (unfilled q n t.meterage)) weights (subst (λ (k : ℕ). charge_of seal.params.mode rate.lasting.weights p ≤ k) left may.spare) in
     record {
@@ -319,7 +319,7 @@ one-more tables seal facts p q n c t x lasting has is charge lasts rest spare ma
     }
 
 -- either all were charged, or one more may not be
-pub charged-full : (tables : TableParts) (seal : Seal) (facts : Facts) (p q n near longest few count : ℕ) (c : CoreData) (t x : store.Trip) (lasting : Lasting) → c.trip ≡ Some x → x ≡ charged p q n t → q ≡ charge_of seal.params.mode lasting.weights p
+pub charged-full : (tables : TableParts) (seal : Seal) (facts : Facts) (p q n near longest few count : ℕ) (c : CoreData) (t x : CoreTrip) (lasting : Lasting) → c.trip ≡ Some x → x ≡ charged p q n t → q ≡ charge_of seal.params.mode lasting.weights p
     → ((rate : CachedRate) → facts.rate ≡ Some rate → LastsFrom rate t.pulses t.ticks lasting) → t.meterage.rest < tables.step * tables.measure → n * q ≤ spare_of tables.rounding (tables.step * tables.measure) t.meterage
     → (few ≡ count) ⊎ (longest_trip ≤ t.ticks + few + 1) → (longest ≡ few) ⊎ (lasting.longer < (longest + 1) * 1) → (near ≡ longest) ⊎ (lasting.further < (near + 1) * p)
     → (n ≡ near) ⊎ (spare_of tables.rounding (tables.step * tables.measure) t.meterage < (n + 1) * q) → (n ≡ count) ⊎ ¬ MayBeCharged tables seal facts p c
@@ -345,7 +345,7 @@ taken-none {p} {inside} {core} count view on = record {
 }
 
 -- the pulses of a trip
-pub pulses-few : {p : TableParts} {number : ℕ} {t : store.Trip} → IsTripBeside p (number + 0) 8639999 t → number ≤ 2000000000000001 → t.pulses ≤ 5000000000000000000
+pub pulses-few : {p : TableParts} {number : ℕ} {t : CoreTrip} → IsTripBeside p (number + 0) 8639999 t → number ≤ 2000000000000001 → t.pulses ≤ 5000000000000000000
 pulses-few beside few = omega (arith, beside.pulses, beside.range.ticks, few)
 
 -- a core stops at the count, or where no further interval may go in its operating position

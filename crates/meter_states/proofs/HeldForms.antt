@@ -4,21 +4,17 @@ use Rattle.std.proofs.lemmas.Nat.{mul-le}
 use Rattle.tariff_compile.specs.Tables.{TableParts}
 use Rattle.tariff_compile.proofs.Laws.{tables_are_fit}
 use Rattle.totals_record.specs.Ranges as store
-use Rattle.totals_record.specs.declared.trip.Trip.{Trip}
 use Rattle.meter_states.specs.Core.{CoreData}
 use Rattle.meter_states.specs.Fits.{Fits}
 use Rattle.meter_states.specs.Lawful.{HasBegunBy, IsPowered, IsTripInRange}
+use Rattle.meter_states.specs.Trip.{saved_at}
+use Rattle.meter_states.specs.declared.trip.CoreTrip.{CoreTrip}
 use Rattle.meter_states.proofs.TableSupplements.{counts-few, extras-few}
 use Rattle.taxi_units.specs.Limits.{roaming_amid}
 
--- a trip as a core holds it
-abbrev pub held_by : CoreData → (stopped : Bool) → Trip → Trip
-held_by core stopped trip = record trip
-    { saved = core.clock; stopped = stopped; position = core.position; zone = core.zone }
-
-pub held-range : (p : TableParts) (core : CoreData) (stopped : Bool) (trip : Trip) → IsPowered p 8639999 roaming_amid 1 core
+pub held-range : (p : TableParts) (core : CoreData) (stopped : Bool) (trip : CoreTrip) → IsPowered p 8639999 roaming_amid 1 core
     → core.trip ≡ Some trip
-    → store.IsTripInItsRanges (core.number + 1) (held_by core stopped trip)
+    → store.IsTripInItsRanges (core.number + 1) (saved_at core.clock stopped core.position core.zone trip)
 held-range p core stopped trip on has =
     let beside = subst (IsTripInRange p (core.number + 1) 8639999) has on.trip in
     let range = beside.range in
@@ -41,9 +37,9 @@ held-range p core stopped trip on has =
       minimum = range.minimum;
     }
 
-pub held-fits : (p : TableParts) (core : CoreData) (stopped : Bool) (trip : Trip) → IsPowered p 8639999 roaming_amid 1 core
+pub held-fits : (p : TableParts) (core : CoreData) (stopped : Bool) (trip : CoreTrip) → IsPowered p 8639999 roaming_amid 1 core
     → core.trip ≡ Some trip
-    → Fits p (held_by core stopped trip)
+    → Fits p (saved_at core.clock stopped core.position core.zone trip)
 held-fits p core stopped trip on has =
     let range = (subst (IsTripInRange p (core.number + 1) 8639999) has on.trip).range in
     record {

@@ -28,7 +28,7 @@ use Rattle.meter_states.specs.Refusals.{IsTooFast}
 use Rattle.meter_states.specs.Run.{actions_of, opened, run, run_both, trip_of, whole_run}
 use Rattle.meter_states.specs.Setting.{Setting, IsTariffOf}
 use Rattle.meter_states.specs.Step.{expired, step, ticked}
-use Rattle.meter_states.specs.Trip.{InHired, Part, Trip, fare_of, held_trip, saved_of, ticks_of, with_part}
+use Rattle.meter_states.specs.Trip.{InHired, Part, Trip, fare_of, held_trip, core_trip_of, ticks_of, with_part}
 use Rattle.meter_states.specs.declared.act.Act.{Act}
 use Rattle.meter_states.specs.declared.act.Act.TheVariants.{Refuse}
 use Rattle.meter_states.proofs.ActRanges.{act-keeps}
@@ -112,7 +112,7 @@ resumed_trips_go_on-fare = fare-resumed
 
 pub resumed_trips_go_on-forms : (s : Setting) (t : Trip) (parts : List Part) (extras : List ℕ) (second : ℕ) (stopped : Bool) (position zone : ℕ)
     → All IsSupplementNumber t.extras
-    → saved_of s (with_more parts extras (trip_of s (held_trip s second stopped position zone t))) ≡ saved_of s (with_more parts extras t)
+    → core_trip_of s (with_more parts extras (trip_of s (held_trip s second stopped position zone t))) ≡ core_trip_of s (with_more parts extras t)
 resumed_trips_go_on-forms = forms-resumed
 
 pub fares_depend_on_the_intervals_in_hired : (s : Setting) (t u : Trip) → t.initial ≡ u.initial → t.minimum ≡ u.minimum → t.opening.cover ≡ u.opening.cover

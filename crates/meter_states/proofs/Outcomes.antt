@@ -5,8 +5,7 @@ use Rattle.taxi_units.specs.declared.event.Event.{Event}
 use Rattle.taxi_units.specs.declared.event.Event.TheVariants.{Down}
 use Rattle.taxi_units.specs.declared.event.Operating.{Operating}
 use Rattle.taxi_units.specs.declared.event.Operating.TheVariants.{Off}
-use Rattle.totals_record.specs.declared.trip.Trip.{Trip}
-use Rattle.totals_record.specs.declared.trip.Trip as store
+use Rattle.meter_states.specs.declared.trip.CoreTrip.{CoreTrip}
 use Rattle.meter_states.specs.Core.{CoreData, ComesToOutcome, Meets, core_of}
 use Rattle.meter_states.specs.Display.{fare_shown}
 use Rattle.meter_states.specs.Lawful.{IsBetweenEvents, IsPowered, HasTrip}
@@ -15,11 +14,11 @@ use Rattle.meter_states.specs.Setting.{Setting}
 use Rattle.meter_states.specs.Step.{powered_step}
 use Rattle.meter_states.specs.Supply.{supply_dropped}
 use Rattle.meter_states.specs.Trip as model
-use Rattle.meter_states.specs.Trip.{saved_of}
+use Rattle.meter_states.specs.Trip.{core_trip_of}
 use Rattle.meter_states.specs.declared.act.Act.{Act}
 use Rattle.taxi_units.specs.Limits.{roaming_between}
 
-pub not_off : (operating : Operating) (trip : Option Trip) → HasTrip operating trip → operating ≢ Off
+pub not_off : (operating : Operating) (trip : Option CoreTrip) → HasTrip operating trip → operating ≢ Off
 not_off operating trip has = λ is. subst (λ (o : Operating). HasTrip o trip) is has
 
 pub follows-meets : (s : Setting) (p : TableParts) (ticks most spare : ℕ) (core : CoreData) (acts : List Act) (o : Outcome)
@@ -56,10 +55,10 @@ same-or L a b n r (inl x) e = inl (x.1 ∙ e)
 same-or L a b n r (inr y) e = inr y
 
 -- a trip that the core has is that of the state
-pub trip-saved : (s : Setting) (trip : Option model.Trip) (x : store.Trip) → option_map (saved_of s) trip ≡ Some x → (t : model.Trip) × (trip ≡ Some t) × (x ≡ saved_of s t)
+pub trip-saved : (s : Setting) (trip : Option model.Trip) (x : CoreTrip) → option_map (core_trip_of s) trip ≡ Some x → (t : model.Trip) × (trip ≡ Some t) × (x ≡ core_trip_of s t)
 trip-saved s None x e = absurd cc
 trip-saved s (Some t) x e = (t, refl, cc)
 
-pub fare-none : (s : Setting) (trip : Option model.Trip) → option_map (saved_of s) trip ≡ None → 0 ≡ fare_shown s trip
+pub fare-none : (s : Setting) (trip : Option model.Trip) → option_map (core_trip_of s) trip ≡ None → 0 ≡ fare_shown s trip
 fare-none s None e = refl
 fare-none s (Some t) e = absurd cc

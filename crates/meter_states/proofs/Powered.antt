@@ -4,7 +4,7 @@ use Rattle.tariff_compile.specs.Tables.{TableParts}
 use Rattle.taxi_units.specs.declared.event.Key.{Key}
 use Rattle.taxi_units.specs.declared.event.Operating.{Operating}
 use Rattle.taxi_units.specs.declared.event.Operating.TheVariants.{Off, ForHire, Hired, Stopped}
-use Rattle.totals_record.specs.declared.trip.Trip.{Trip}
+use Rattle.meter_states.specs.declared.trip.CoreTrip.{CoreTrip}
 use Rattle.meter_states.specs.Core.{CoreData, Stands, core_of}
 use Rattle.meter_states.specs.Lawful.{HasBegunBy, HasTrip, IsAmidEvent, IsBetweenEvents, IsPowered, IsTripBeside, IsTripInRange}
 use Rattle.meter_states.specs.Meter.{Meter}
@@ -12,7 +12,7 @@ use Rattle.meter_states.specs.Setting.{Setting}
 use Rattle.taxi_units.specs.Limits.{last_number, roaming_amid, roaming_between}
 
 -- a meter without a trip is for hire
-pub none-hires : (operating : Operating) (trip : Option Trip) → HasTrip operating trip → trip ≡ None → operating ≡ ForHire
+pub none-hires : (operating : Operating) (trip : Option CoreTrip) → HasTrip operating trip → trip ≡ None → operating ≡ ForHire
 none-hires Off trip has e = absurd has
 none-hires ForHire trip has e = refl
 none-hires Hired trip has e = absurd (has e)
@@ -33,7 +33,7 @@ stands-on s core m (inl x) on = absurd (on x.0)
 stands-on s core m (inr x) on = x.1
 
 -- a trip may have more ticks
-trip-longer : (p : TableParts) (number : ℕ) (trip : Option Trip) → IsTripInRange p number 8639999 trip → IsTripInRange p number 8640000 trip
+trip-longer : (p : TableParts) (number : ℕ) (trip : Option CoreTrip) → IsTripInRange p number 8639999 trip → IsTripInRange p number 8640000 trip
 trip-longer p number None range = tt
 trip-longer p number (Some t) range = record {
   range = record {
@@ -94,7 +94,7 @@ pub powered-unlatched : {p : TableParts} {ticks most spare : ℕ} {core : CoreDa
 powered-unlatched on = within None on.roam on.trip on
 
 -- a trip may have the pulses of an unfinished interval
-pub trip-spare : (p : TableParts) (number most : ℕ) (trip : Option Trip) → IsTripInRange p (number + 0) most trip → IsTripInRange p (number + 1) most trip
+pub trip-spare : (p : TableParts) (number most : ℕ) (trip : Option CoreTrip) → IsTripInRange p (number + 0) most trip → IsTripInRange p (number + 1) most trip
 trip-spare p number most None range = tt
 trip-spare p number most (Some t) range = record { range = range.range; pulses = omega (arith, range.pulses) }
 
@@ -130,7 +130,7 @@ pub roaming-beside : (n : ℕ) → n + 1 ≤ last_number → n ≤ last_number
 roaming-beside n room = omega arith
 
 -- the pulses of a trip
-pub pulses-below : {p : TableParts} {number : ℕ} {t : Trip} → IsTripBeside p (number + 0) 8639999 t → number ≤ 2000000000000001 → t.pulses ≤ 9000000000000000000
+pub pulses-below : {p : TableParts} {number : ℕ} {t : CoreTrip} → IsTripBeside p (number + 0) 8639999 t → number ≤ 2000000000000001 → t.pulses ≤ 9000000000000000000
 pulses-below beside few = omega (arith, beside.pulses, beside.range.ticks, few)
 
 -- a core with another count of pulses in its interval
@@ -153,7 +153,7 @@ powered-gated gate few on = record {
   trip = on.trip;
 }
 
-has-other : (operating : Operating) (t u : Trip) (o : Option Trip) → o ≡ Some t → HasTrip operating o
+has-other : (operating : Operating) (t u : CoreTrip) (o : Option CoreTrip) → o ≡ Some t → HasTrip operating o
     → HasTrip operating (Some u)
 has-other Off t u o is has = absurd has
 has-other ForHire t u o is none = absurd cc
@@ -161,7 +161,7 @@ has-other Hired t u o is has = λ none. absurd cc
 has-other Stopped t u o is has = λ none. absurd cc
 
 -- a core with another trip that began with its own
-pub powered-trip : {p : TableParts} {ticks ticks' most spare spare' : ℕ} {core : CoreData} (t u : Trip) → core.trip
+pub powered-trip : {p : TableParts} {ticks ticks' most spare spare' : ℕ} {core : CoreData} (t u : CoreTrip) → core.trip
     ≡ Some t → u.started ≡ t.started → IsTripBeside p (core.number + spare') ticks' u
     → IsPowered p ticks most spare core → IsPowered p ticks' most spare' (record core { trip = Some u })
 powered-trip {core = core} t u has started beside on = record {

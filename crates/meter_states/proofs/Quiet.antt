@@ -13,7 +13,7 @@ use Rattle.taxi_units.specs.declared.event.Key.{Key}
 use Rattle.taxi_units.specs.declared.event.Operating.{Operating}
 use Rattle.taxi_units.specs.declared.event.Operating.TheVariants.{Off, ForHire, Hired, Stopped}
 use Rattle.taxi_units.specs.declared.receipt.Display.{Display}
-use Rattle.totals_record.specs.declared.trip.Trip as store
+use Rattle.meter_states.specs.declared.trip.CoreTrip.{CoreTrip}
 use Rattle.meter_states.specs.Closing.{roaming_checked, roaming_checked_in, roaming_entered}
 use Rattle.meter_states.specs.Core.{CoreData, ComesToOutcome, core_of}
 use Rattle.meter_states.specs.Display.{display_of, extras_shown, fare_shown, is_shown, same_display, shown}
@@ -24,7 +24,7 @@ use Rattle.meter_states.specs.Meter.{Meter, Outcome, ◌>>=◌, quiet}
 use Rattle.meter_states.specs.Run.{run}
 use Rattle.meter_states.specs.Setting.{Setting, IsTariffOf, modulus_of, rounding_of, step_of}
 use Rattle.meter_states.specs.Step.{expired, expired_or_pressed, powered_step, step_in, ticked}
-use Rattle.meter_states.specs.Trip.{Trip, charges_of, opening_of, saved_of}
+use Rattle.meter_states.specs.Trip.{Trip, charges_of, opening_of, core_trip_of}
 use Rattle.meter_states.specs.declared.act.Act.{Act}
 use Rattle.meter_states.specs.declared.act.Act.TheVariants.{Show}
 use Rattle.meter_states.proofs.Fares.{above-more}
@@ -125,15 +125,15 @@ steps-saved r o charged some =
     (shown-sum 0 0 0 o.modulus r m [] (omega arith)).0
     ∙ ap (λ (n : ℕ). quotient r n o.modulus) (above-more o charged 0 ∙ ap (above_cover o) all)
 
-fare-by : (s : Setting) (p : TableParts) (trip : Option Trip) → IsTariffOf s p → 0 < modulus_of s → fare_by p (option_map (saved_of s) trip) ≡ fare_shown s trip
+fare-by : (s : Setting) (p : TableParts) (trip : Option Trip) → IsTariffOf s p → 0 < modulus_of s → fare_by p (option_map (core_trip_of s) trip) ≡ fare_shown s trip
 fare-by s p None is some = refl
 fare-by s p (Some t) is some =
-    let kept = (saved_of s t).meterage in
+    let kept = (core_trip_of s t).meterage in
     ap (λ (n : ℕ). shown_fare t.initial t.minimum n (steps_of p.rounding kept)) (step-is s p is)
     ∙ ap (λ (r : Rounding). shown_fare t.initial t.minimum (step_of s) (steps_of r kept)) (rounding-is s p is)
     ∙ ap (shown_fare t.initial t.minimum (step_of s)) (steps-saved (rounding_of s) (opening_of s t) (charges_of s t) some)
 
-extras-by : (s : Setting) (trip : Option Trip) → extras_by (option_map (saved_of s) trip) ≡ extras_shown s trip
+extras-by : (s : Setting) (trip : Option Trip) → extras_by (option_map (core_trip_of s) trip) ≡ extras_shown s trip
 extras-by s None = refl
 extras-by s (Some t) = refl
 
@@ -144,11 +144,11 @@ display-by s p m is some =
     let decimals : p.decimals ≡ s.tariff.decimals = ap (λ (q : TableParts). q.decimals) is.compiled.parts in
     cc
 
-abbrev pub ticks_by : Option store.Trip → ℕ
+abbrev pub ticks_by : Option CoreTrip → ℕ
 ticks_by None = 0
 ticks_by (Some t) = t.ticks
 
-ticks-by : (s : Setting) (trip : Option Trip) → ticks_by (option_map (saved_of s) trip) ≡ ticks_so_far trip
+ticks-by : (s : Setting) (trip : Option Trip) → ticks_by (option_map (core_trip_of s) trip) ≡ ticks_so_far trip
 ticks-by s None = refl
 ticks-by s (Some t) = refl
 
@@ -161,7 +161,7 @@ pub interval-follows : (s : Setting) (tables : TableParts) (p : ℕ) (m : Meter)
 interval-follows s tables p m d is some on none most still short few e =
     let n = counted_in s m.operating p m in
     let latch : n.latch ≡ None = sym (ap (λ (c : CoreData). c.latch) e) ∙ still.latch in
-    let ticks : d.trip ≡ option_map (saved_of s) n.trip = ap (λ (c : CoreData). c.trip) e in
+    let ticks : d.trip ≡ option_map (core_trip_of s) n.trip = ap (λ (c : CoreData). c.trip) e in
     let so_far : ticks_by d.trip ≡ ticks_so_far n.trip = ap ticks_by ticks ∙ ticks-by s n.trip in
     let roam : d.roam ≡ sum n.roaming = ap (λ (c : CoreData). c.roam) e in
     let same : n.shown ≡ Some (display_of s n) = sym (ap (λ (c : CoreData). c.shown) e) ∙ still.shown ∙ ap (λ (c : CoreData). Some (display_by tables c)) e ∙ ap (λ (x : Display). Some x) (display-by s tables n is some) in

@@ -7,12 +7,12 @@ use Rattle.drive_modes.proofs.Laws.{saved-any}
 use Rattle.tariff_compile.specs.Tables.{supplement_at}
 use Rattle.tariff_syntax.specs.Tree.{Tree}
 use Rattle.totals_record.specs.declared.trip.Trip as store
-use Rattle.meter_states.specs.Core.{IsSavedIn, forgotten}
+use Rattle.meter_states.specs.Core.{IsSavedIn}
 use Rattle.meter_states.specs.Kept.{FitsSetting, HoldFits}
 use Rattle.meter_states.specs.Run.{numbers_from, trip_of}
 use Rattle.meter_states.specs.Setting.{Setting, modulus_of}
 use Rattle.meter_states.specs.Supplements.{amount_in, amounts_from, amounts_of, counts_from, counts_of, times}
-use Rattle.meter_states.specs.Trip.{held_trip}
+use Rattle.meter_states.specs.Trip.{core_trip_in, held_trip}
 
 pub times-cons-same : (n : ℕ) (xs : List ℕ) → times n (n ∷ xs) ≡ times n xs + 1
 times-cons-same n xs = grind (arith, common_steps)
@@ -83,4 +83,4 @@ resumed-saved s h fits =
 -- what a run begins with
 pub begins : (s : Setting) (hold : Option store.Trip) → HoldFits s hold → IsSavedIn s hold (option_map (trip_of s) hold)
 begins s None fits = refl
-begins s (Some h) fits = sym (ap (λ (x : store.Trip). Some (forgotten x)) (resumed-saved s h fits))
+begins s (Some h) fits = sym (ap (λ (x : store.Trip). Some (core_trip_in x)) (resumed-saved s h fits))

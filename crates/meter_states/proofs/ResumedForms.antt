@@ -13,7 +13,7 @@ use Rattle.meter_states.specs.Run.{numbers_from, trip_of}
 use Rattle.meter_states.specs.Setting.{Setting, modulus_of}
 use Rattle.meter_states.specs.Supplements.{amount_in, amounts_from, amounts_of, counts_from, counts_of, times}
 use Rattle.meter_states.specs.Trip as model
-use Rattle.meter_states.specs.Trip.{Part, Trip, charge_in, charges_of, held_trip, pulses_in, saved_of, ticks_in}
+use Rattle.meter_states.specs.Trip.{Part, Trip, charge_in, charges_of, held_trip, pulses_in, core_trip_of, ticks_in}
 use Rattle.meter_states.proofs.Fares.{above-more, sum-parts}
 use Rattle.meter_states.proofs.Resumed.{amounts-numbers, counts-earlier, counts-numbers, times-cons-other, times-cons-same}
 
@@ -123,9 +123,9 @@ saved-more o a b =
 
 pub forms-resumed : (s : Setting) (t : Trip) (parts : List Part) (extras : List ℕ) (second : ℕ) (stopped : Bool) (position zone : ℕ)
     → All IsSupplementNumber t.extras
-    → saved_of s (with_more parts extras (trip_of s (held_trip s second stopped position zone t))) ≡ saved_of s (with_more parts extras t)
+    → core_trip_of s (with_more parts extras (trip_of s (held_trip s second stopped position zone t))) ≡ core_trip_of s (with_more parts extras t)
 forms-resumed s t parts extras second stopped position zone are =
-    let whole = saved_of s (with_more parts extras t) in
+    let whole = core_trip_of s (with_more parts extras t) in
     let o = model.opening_of s t in
     let held = trip_of s (held_trip s second stopped position zone t) in
     let listed = numbers_from 1 (counts_of t.extras) ++ extras in

@@ -9,7 +9,7 @@ use Rattle.meter_states.specs.Closing.{closed, roaming_entered}
 use Rattle.meter_states.specs.Meter.{Meter, quiet, held}
 use Rattle.meter_states.specs.Setting.{Setting}
 use Rattle.meter_states.specs.Supply.{hold_taken, is_stopped, is_within_hold, kept, resumed, trip_kept}
-use Rattle.meter_states.specs.Trip.{Trip, held_trip, saved_of}
+use Rattle.meter_states.specs.Trip.{Trip, held_trip, core_trip_of}
 use Rattle.taxi_units.specs.Limits.{last_number}
 
 pub aborted-closes : Aborted ≡ Roam → ⊥
@@ -21,11 +21,11 @@ roams-some s m some = grind (arith, common_steps)
 roams-none : (s : Setting) (m : Meter) → sum m.roaming ≤ 0 → kept s None m ≡ quiet m
 roams-none s m none = grind (arith, common_steps)
 
-pub kept-roams : (s : Setting) (m : Meter) (trip : Option Trip) → option_map (saved_of s) trip ≡ None → 0 < sum m.roaming → kept s trip m ≡ roaming_entered s m
+pub kept-roams : (s : Setting) (m : Meter) (trip : Option Trip) → option_map (core_trip_of s) trip ≡ None → 0 < sum m.roaming → kept s trip m ≡ roaming_entered s m
 kept-roams s m None e some = roams-some s m some
 kept-roams s m (Some t) e some = absurd cc
 
-pub kept-quiet : (s : Setting) (m : Meter) (trip : Option Trip) → option_map (saved_of s) trip ≡ None → sum m.roaming ≤ 0 → kept s trip m ≡ quiet m
+pub kept-quiet : (s : Setting) (m : Meter) (trip : Option Trip) → option_map (core_trip_of s) trip ≡ None → sum m.roaming ≤ 0 → kept s trip m ≡ quiet m
 kept-quiet s m None e none = roams-none s m none
 kept-quiet s m (Some t) e none = absurd cc
 

@@ -13,7 +13,7 @@ use Rattle.tariff_compile.specs.declared.parts.Supplement.{Supplement}
 use Rattle.tariff_syntax.specs.Tree.{Tree}
 use Rattle.tariff_syntax.specs.Writable.{IsFromTo, IsWritable}
 use Rattle.meter_states.specs.Supplements.{AreAllowed, amount_in, amounts_from, most_in, supplement_in}
-use Rattle.totals_record.specs.declared.trip.Trip.{Trip}
+use Rattle.meter_states.specs.declared.trip.CoreTrip.{CoreTrip}
 use Rattle.meter_states.specs.Lawful.{IsLawfulTrip}
 use Rattle.meter_states.proofs.Amounts.{AreBounded, allowed-few, amounts-most}
 use Rattle.taxi_units.specs.Limits.{largest_supplements}
@@ -80,11 +80,11 @@ zeros zero = []
 zeros (suc count) = 0 ∷ zeros count
 
 -- a trip in its ranges has each supplement at most 99 times
-pub counts-few : (p : TableParts) (most : ℕ) (trip : Trip) → IsLawfulTrip p most trip → All (λ count. count ≤ 99) trip.extras
+pub counts-few : (p : TableParts) (most : ℕ) (trip : CoreTrip) → IsLawfulTrip p most trip → All (λ count. count ≤ 99) trip.extras
 counts-few p most trip range = allowed-few (supplement_in p) 1 trip.extras (bounded p range.compiled) range.counts
 
 -- and they come to at most 1,584,000,000
-pub extras-few : (p : TableParts) (most : ℕ) (trip : Trip) → IsLawfulTrip p most trip → trip.extras_sum ≤ largest_supplements
+pub extras-few : (p : TableParts) (most : ℕ) (trip : CoreTrip) → IsLawfulTrip p most trip → trip.extras_sum ≤ largest_supplements
 extras-few p most trip range =
     let sum = amounts-most (supplement_in p) 1 trip.extras (bounded p range.compiled) range.counts in
     omega (arith, sum, range.extras, range.extras_sum)

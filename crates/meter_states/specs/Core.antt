@@ -1,18 +1,18 @@
 -- Rules: the core as plain data, and which state of the meter it stands for.
-use Rattle.std.specs.Prelude.{◌≡◌, ◌≢◌, ◌⊎◌, ℕ, List, ◌++◌, Option, option_map, sum, false}
+use Rattle.std.specs.Prelude.{◌≡◌, ◌≢◌, ◌⊎◌, ℕ, List, ◌++◌, Option, option_map, sum}
 use Rattle.taxi_units.specs.declared.event.Key.{Key}
 use Rattle.taxi_units.specs.declared.event.Operating.{Operating}
 use Rattle.taxi_units.specs.declared.event.Operating.TheVariants.{Off}
 use Rattle.taxi_units.specs.declared.receipt.Display.{Display}
-use Rattle.totals_record.specs.declared.trip.Trip.{Trip}
+use Rattle.totals_record.specs.declared.trip.Trip as store
 use Rattle.meter_states.specs.Meter.{Meter, Outcome}
 use Rattle.meter_states.specs.Setting.{Setting}
-use Rattle.meter_states.specs.Trip as model
-use Rattle.meter_states.specs.Trip.{saved_of}
+use Rattle.meter_states.specs.Trip.{Trip, core_trip_in, core_trip_of}
 use Rattle.meter_states.specs.declared.act.Act.{Act}
+use Rattle.meter_states.specs.declared.trip.CoreTrip.{CoreTrip}
 
--- a core as plain data has counts in place of lists, the saved form of the trip in place of its intervals, and the
--- store's number in place of what the store has
+-- a core as plain data has counts in place of lists, the sums of the trip in place of its intervals, and the store's
+-- number in place of what the store has
 pub record CoreData : Type 0 where
   pub operating : Operating
   pub clock : ℕ
@@ -24,10 +24,10 @@ pub record CoreData : Type 0 where
   pub roam : ℕ
   pub number : ℕ
   pub shown : Option Display
-  pub trip : Option Trip
+  pub trip : Option CoreTrip
 
--- the core of a state of the meter counts the pulses of its running interval and of its roaming, and has the saved form
--- of its trip, the number of its store, and all else as the state has it
+-- the core of a state of the meter counts the pulses of its running interval and of its roaming, and has what a core
+-- keeps of its trip, the number of its store, and all else as the state has it
 abbrev pub core_of : Setting → Meter → CoreData
 core_of s m = record {
   operating = m.operating;
@@ -40,7 +40,7 @@ core_of s m = record {
   roam = sum m.roaming;
   number = m.durable.number;
   shown = m.shown;
-  trip = option_map (saved_of s) m.trip;
+  trip = option_map (core_trip_of s) m.trip;
 }
 
 -- a core stands for a state where both are off, or neither is and the core is the state's
@@ -58,12 +58,6 @@ pub record Meets (s : Setting) (core : CoreData) (acts : List Act) (o : Outcome)
   pub state : Stands s core o.next
   pub done : acts ≡ o.acts
 
--- a held trip without what has a meaning in the store alone: the second of its saving, whether it was stopped, its
--- position and its zone are each set to one fixed value
-abbrev pub forgotten : Trip → Trip
-forgotten trip = record trip { saved = 0; stopped = false; position = 1; zone = 1 }
-
--- a held trip is the saved form of a trip where both are none, or where they are equal but for what has a meaning in
--- the store alone
-abbrev pub IsSavedIn : Setting → (hold : Option Trip) → Option model.Trip → Type 0
-IsSavedIn s hold trip = option_map forgotten hold ≡ option_map (saved_of s) trip
+-- a held trip is the saved form of a trip where both are none, or where a core keeps the same of both
+abbrev pub IsSavedIn : Setting → (hold : Option store.Trip) → Option Trip → Type 0
+IsSavedIn s hold trip = option_map core_trip_in hold ≡ option_map (core_trip_of s) trip

@@ -5,13 +5,13 @@ use Rattle.drive_modes.specs.declared.meterage.Meterage.{Meterage}
 use Rattle.seal_record.specs.declared.seal.Seal.{Seal}
 use Rattle.tariff_compile.specs.Tables.{TableParts}
 use Rattle.tariff_compile.specs.declared.parts.Lasting.{Lasting}
-use Rattle.totals_record.specs.declared.trip.Trip.{Trip}
 use Rattle.meter_states.specs.Core.{CoreData}
 use Rattle.meter_states.specs.Equals.{intervals_of}
 use Rattle.meter_states.specs.Lawful.{IsBetweenEvents}
 use Rattle.meter_states.specs.Run.{run}
 use Rattle.meter_states.specs.Stages.{FollowsStage}
 use Rattle.meter_states.specs.declared.facts.CachedRate.{CachedRate}
+use Rattle.meter_states.specs.declared.trip.CoreTrip.{CoreTrip}
 
 -- a core has taken `taken` of `count` equal intervals where these are at most as many, it is between two events then,
 -- and its operating position and the store's number are the same
@@ -33,7 +33,7 @@ pub record LastsFrom (rate : CachedRate) (pulses ticks : ℕ) (lasting : Lasting
   pub longer : ticks + lasting.longer ≡ rate.first.ticks + rate.lasting.longer
 
 -- a trip has passed `count` further intervals of p pulses that are free where its pulses and ticks have grown by theirs
-abbrev pub passed : (p count : ℕ) → Trip → Trip
+abbrev pub passed : (p count : ℕ) → CoreTrip → CoreTrip
 passed p count t = record t { pulses = t.pulses + count * p; ticks = t.ticks + count }
 
 -- a meterage after `count` further equal charges that fill no display step has used up its cover first, and then has
@@ -46,7 +46,7 @@ unfilled charge count m = record m {
 
 -- a trip after `count` further intervals of p pulses, whose charges fill no display step, has more pulses and ticks,
 -- and its meterage has the charges
-abbrev pub charged : (p charge count : ℕ) → Trip → Trip
+abbrev pub charged : (p charge count : ℕ) → CoreTrip → CoreTrip
 charged p charge count t = record t {
   pulses = t.pulses + count * p;
   ticks = t.ticks + count;

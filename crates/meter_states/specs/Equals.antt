@@ -15,11 +15,11 @@ use Rattle.taxi_units.specs.declared.event.Event.TheVariants.{Pulses, Tick}
 use Rattle.taxi_units.specs.declared.event.Operating.{Operating}
 use Rattle.taxi_units.specs.declared.event.Operating.TheVariants.{Off, ForHire, Hired, Stopped}
 use Rattle.taxi_units.specs.declared.receipt.Display.{Display}
-use Rattle.totals_record.specs.declared.trip.Trip.{Trip}
 use Rattle.meter_states.specs.Core.{CoreData}
 use Rattle.meter_states.specs.declared.facts.Facts.{Facts}
 use Rattle.meter_states.specs.declared.facts.CachedTime.{CachedTime}
 use Rattle.meter_states.specs.declared.facts.CachedRate.{CachedRate}
+use Rattle.meter_states.specs.declared.trip.CoreTrip.{CoreTrip}
 use Rattle.taxi_units.specs.Limits.{hirings_end, roaming_most}
 
 -- a measuring interval has the event of its pulses, if it has any, and then the tick at its end
@@ -32,13 +32,13 @@ abbrev pub intervals_of : (pulses count : ℕ) → List Event
 intervals_of p zero = []
 intervals_of p (suc count) = interval_of p ++ intervals_of p count
 
--- the fare that a core shows is the one of the saved form of its trip, and 0 without one
-abbrev pub fare_by : TableParts → Option Trip → ℕ
+-- the fare that a core shows is the one of its trip, and 0 without one
+abbrev pub fare_by : TableParts → Option CoreTrip → ℕ
 fare_by tables None = 0
 fare_by tables (Some t) = shown_fare t.initial t.minimum tables.step (steps_of tables.rounding t.meterage)
 
--- the amount of supplements that a core shows is the one of the saved form of its trip, and 0 without one
-abbrev pub extras_by : Option Trip → ℕ
+-- the amount of supplements that a core shows is the one of its trip, and 0 without one
+abbrev pub extras_by : Option CoreTrip → ℕ
 extras_by None = 0
 extras_by (Some t) = t.extras_sum
 
@@ -73,7 +73,7 @@ spare_of Ahead modulus m = if m.rest == 0 then m.cover_left else m.cover_left + 
 
 -- the context that a core and kept local facts give, with a trip, has the core's position and zone, the local facts,
 -- and the pulses and ticks of the trip
-abbrev pub context_by : TableParts → CachedTime → CoreData → Trip → Context
+abbrev pub context_by : TableParts → CachedTime → CoreData → CoreTrip → Context
 context_by tables local c t = record {
   constant = tables.constant;
   position = c.position;
@@ -88,7 +88,7 @@ context_by tables local c t = record {
 
 -- kept facts serve for the running interval of a core with a trip where a local time and a rate are kept, the local
 -- time is that of the second at which the interval began, and the interval's context is near the rate's own
-pub record Serve (tables : TableParts) (facts : Facts) (c : CoreData) (t : Trip) : Type 0 where
+pub record Serve (tables : TableParts) (facts : Facts) (c : CoreData) (t : CoreTrip) : Type 0 where
   pub local : CachedTime
   pub rate : CachedRate
   pub keeps_local : facts.local ≡ Some local
@@ -98,7 +98,7 @@ pub record Serve (tables : TableParts) (facts : Facts) (c : CoreData) (t : Trip)
 
 -- a trip outlasts an interval more where the interval isn't its last, with which it has the ticks of the longest trip
 pub record Outlasts (c : CoreData) : Type 0 where
-  pub trip : Trip
+  pub trip : CoreTrip
   pub has : c.trip ≡ Some trip
   pub short : trip.ticks + 1 < longest_trip
 

@@ -7,11 +7,11 @@ use Rattle.taxi_units.specs.declared.event.Event.{Event}
 use Rattle.taxi_units.specs.declared.event.Event.TheVariants as events
 use Rattle.taxi_units.specs.declared.event.Operating.{Operating}
 use Rattle.taxi_units.specs.declared.event.Operating.TheVariants.{Off, ForHire, Hired, Stopped}
-use Rattle.totals_record.specs.declared.trip.Trip.{Trip}
 use Rattle.seal_record.specs.declared.seal.Seal.{Seal}
 use Rattle.meter_states.specs.Core.{CoreData}
 use Rattle.meter_states.specs.Facts.{AreTrue, CachedCore}
 use Rattle.meter_states.specs.Supplements.{AreAllowed, amounts_from, supplement_in}
+use Rattle.meter_states.specs.declared.trip.CoreTrip.{CoreTrip}
 use Rattle.taxi_units.specs.Limits.{hirings_end, last_number, number_most, roaming_amid, roaming_between}
 
 -- an event is timely where its second, if it has one, is of the years 2000 to 2199
@@ -20,9 +20,9 @@ IsTimely (events.Up second) = IsSecond second
 IsTimely (events.Clock second) = IsSecond second
 IsTimely event = Unit {0}
 
--- a saved trip is in range under the tables of a tariff where it has at most `most` ticks, fits the tables, and has its
--- numbers in their ranges
-pub record IsLawfulTrip (tables : TableParts) (most : ℕ) (trip : Trip) : Type 0 where
+-- a trip of a core is in range under the tables of a tariff where it has at most `most` ticks, fits the tables, and has
+-- its numbers in their ranges
+pub record IsLawfulTrip (tables : TableParts) (most : ℕ) (trip : CoreTrip) : Type 0 where
   pub compiled : IsCompiled tables
   pub started : IsSecond trip.started
   pub roam : trip.roam ≤ roaming_amid
@@ -36,24 +36,24 @@ pub record IsLawfulTrip (tables : TableParts) (most : ℕ) (trip : Trip) : Type 
   pub counts : AreAllowed (supplement_in tables) 1 trip.extras
   pub extras_sum : trip.extras_sum ≡ amounts_from (supplement_in tables) 1 trip.extras
 
--- a saved trip is in range beside a store's number where it is in range, and has at most 2,000 pulses for each tick and
--- for each number, since each supply drop adds one to the number and at most 2,000 pulses to the trip
-pub record IsTripBeside (tables : TableParts) (number most : ℕ) (trip : Trip) : Type 0 where
+-- a trip of a core is in range beside a store's number where it is in range, and has at most 2,000 pulses for each tick
+-- and for each number, since each supply drop adds one to the number and at most 2,000 pulses to the trip
+pub record IsTripBeside (tables : TableParts) (number most : ℕ) (trip : CoreTrip) : Type 0 where
   pub range : IsLawfulTrip tables most trip
   pub pulses : trip.pulses ≤ 2000 * (trip.ticks + number)
 
 -- a trip that may be none is in range where there is none, or it is in range beside the store's number
-abbrev pub IsTripInRange : TableParts → (number most : ℕ) → Option Trip → Type 0
+abbrev pub IsTripInRange : TableParts → (number most : ℕ) → Option CoreTrip → Type 0
 IsTripInRange tables number most None = Unit {0}
 IsTripInRange tables number most (Some trip) = IsTripBeside tables number most trip
 
 -- a trip, if there is one, has begun by a second where it began no later
-abbrev pub HasBegunBy : (clock : ℕ) → Option Trip → Type 0
+abbrev pub HasBegunBy : (clock : ℕ) → Option CoreTrip → Type 0
 HasBegunBy clock None = Unit {0}
 HasBegunBy clock (Some trip) = trip.started ≤ clock
 
 -- a powered meter has a trip in Hired and in Stopped, has none in For Hire, and is never in Off
-abbrev pub HasTrip : Operating → Option Trip → Type 0
+abbrev pub HasTrip : Operating → Option CoreTrip → Type 0
 HasTrip Off trip = ⊥
 HasTrip ForHire trip = trip ≡ None
 HasTrip Hired trip = trip ≢ None

@@ -1,5 +1,5 @@
 -- Rules: a trip, as the whole list of its intervals, and its fare.
-use Rattle.std.specs.Prelude.{ℕ, ◌+◌, ◌*◌, Bool, false, List, [], ◌∷◌, ◌++◌, map, sum}
+use Rattle.std.specs.Prelude.{ℕ, ◌+◌, ◌*◌, Bool, List, [], ◌∷◌, ◌++◌, map, sum}
 use Rattle.drive_modes.specs.Fare as fares
 use Rattle.drive_modes.specs.Fare.{saved, shown_fare, steps_above}
 use Rattle.tariff_compile.specs.declared.parts.Initial.{Initial}
@@ -8,6 +8,7 @@ use Rattle.totals_record.specs.declared.trip.Trip as store
 use Rattle.meter_states.specs.Charge.{charge_at}
 use Rattle.meter_states.specs.Setting.{Setting, modulus_of, rounding_of, step_of, unit_of}
 use Rattle.meter_states.specs.Supplements.{amounts_of, counts_of}
+use Rattle.meter_states.specs.declared.trip.CoreTrip.{CoreTrip}
 
 -- a part of a trip is an interval that ended in Hired, with the context at its beginning, one that ended in Stopped, or
 -- the pulses of one that a supply drop left unfinished
@@ -101,15 +102,10 @@ with_part part t = record t { parts = t.parts ++ part ∷ [] }
 abbrev pub with_extra : (number : ℕ) → Trip → Trip
 with_extra number t = record t { extras = t.extras ++ number ∷ [] }
 
--- the saved form of a trip has its numbers, the sums of its parts, and what its charges have come to, and it lacks what
--- a supply drop adds, which is when, how and where the trip was saved
-abbrev pub saved_of : Setting → Trip → store.Trip
-saved_of s t = record {
+-- what a core keeps of a trip are its numbers, the sums of its parts, and what its charges have come to
+abbrev pub core_trip_of : Setting → Trip → CoreTrip
+core_trip_of s t = record {
   started = t.started;
-  saved = 0;
-  stopped = false;
-  position = 1;
-  zone = 1;
   roam = t.roam;
   pulses = pulses_of t;
   ticks = ticks_of t;
@@ -120,8 +116,39 @@ saved_of s t = record {
   extras_sum = amounts_of s.tariff t.extras;
 }
 
--- a held trip is the saved form of a trip at a supply drop, with the second, whether it is stopped, the position and
--- the zone
+-- what a core keeps of a trip is saved with the second, whether the trip is stopped, the position and the zone
+abbrev pub saved_at : (second : ℕ) → (stopped : Bool) → (position zone : ℕ) → CoreTrip → store.Trip
+saved_at second stopped position zone trip = record {
+  started = trip.started;
+  saved = second;
+  stopped = stopped;
+  position = position;
+  zone = zone;
+  roam = trip.roam;
+  pulses = trip.pulses;
+  ticks = trip.ticks;
+  initial = trip.initial;
+  minimum = trip.minimum;
+  meterage = trip.meterage;
+  extras = trip.extras;
+  extras_sum = trip.extras_sum;
+}
+
+-- a held trip is a trip as it is saved at a supply drop, with the second, whether it is stopped, the position and the
+-- zone
 abbrev pub held_trip : Setting → (second : ℕ) → (stopped : Bool) → (position zone : ℕ) → Trip → store.Trip
-held_trip s second stopped position zone t =
-    record (saved_of s t) { saved = second; stopped = stopped; position = position; zone = zone }
+held_trip s second stopped position zone t = saved_at second stopped position zone (core_trip_of s t)
+
+-- what a core keeps of a held trip is all that was not added as it was saved
+abbrev pub core_trip_in : store.Trip → CoreTrip
+core_trip_in held = record {
+  started = held.started;
+  roam = held.roam;
+  pulses = held.pulses;
+  ticks = held.ticks;
+  initial = held.initial;
+  minimum = held.minimum;
+  meterage = held.meterage;
+  extras = held.extras;
+  extras_sum = held.extras_sum;
+}

@@ -17,11 +17,11 @@ ghost use Rattle.taxi_units.specs.Limits.{last_number, number_most, roaming_amid
 use crate::act::{Act, Acts};
 use crate::meter_state::State;
 use crate::records::{Closing, entry, receipt, roaming_entry};
+use crate::trip::CoreTrip;
 use seal_record::Seal;
 use std::sync::ledger::Ledger;
 use tariff_compile::Tables;
 use taxi_units::{Kind, Operating, ROAMING_MOST, Steps};
-use totals_record::Trip;
 
 impl State {
     /// The trip is closed, and the meter is for hire. At most 12 steps.
@@ -57,7 +57,7 @@ impl State {
     pub(crate) fn close_trip<L: Ledger>(
         &mut self,
         closing: Closing,
-        trip: &Trip,
+        trip: &CoreTrip,
         tables: &Tables,
         seal: &Seal,
         acts: &mut Acts,
@@ -73,7 +73,7 @@ impl State {
         ensures few { length acts.new.items ≤ length acts.old.items + 2 }
         ensures ranges { StayLawful tables.now self.old.number acts.old.items acts.new.items }
         ensures follows { (s : Setting) (m : Meter) (t : model.Trip) → IsSettingOf s tables.now seal.now
-            → trip.now ≡ model.saved_of s t → self.old ≡ core_of s m
+            → trip.now ≡ model.core_trip_of s t → self.old ≡ core_of s m
             → ComesToOutcome s self.new acts.old.items acts.new.items
             (trip_closed s closing.kind closing.finish (Some t) m) }
         ensures steps { steps.new ≤ steps.old + 12 }
@@ -83,7 +83,7 @@ impl State {
     }
 
     /// A trip is entered.
-    fn enter_trip(&mut self, kind: Kind, trip: &Trip, tables: &Tables, acts: &mut Acts)
+    fn enter_trip(&mut self, kind: Kind, trip: &CoreTrip, tables: &Tables, acts: &mut Acts)
         requires range { IsTripBeside tables.now (self.old.number + 1) longest_trip trip.now }
         requires number { self.old.number ≤ last_number }
         requires position { (1 ≤ self.old.position) × (self.old.position ≤ 9) }
@@ -93,7 +93,7 @@ impl State {
         ensures few { length acts.new.items ≤ length acts.old.items + 1 }
         ensures ranges { StayLawful tables.now self.old.number acts.old.items acts.new.items }
         ensures follows { (s : Setting) (m : Meter) (t : model.Trip) → IsTariffOf s tables.now
-            → trip.now ≡ model.saved_of s t → self.old ≡ core_of s m
+            → trip.now ≡ model.core_trip_of s t → self.old ≡ core_of s m
             → ComesToOutcome s self.new acts.old.items acts.new.items (entered (entry_of s kind m.position t) m) }
     {
         acts.push(Act::Enter(entry(kind, self.position, trip, tables)));
@@ -104,7 +104,7 @@ impl State {
     fn print_receipt<L: Ledger>(
         &self,
         closing: Closing,
-        trip: &Trip,
+        trip: &CoreTrip,
         tables: &Tables,
         seal: &Seal,
         acts: &mut Acts,
@@ -120,7 +120,7 @@ impl State {
         ensures ranges { (number : ℕ) → All (IsLawfulAct tables.now number) acts.old.items
             → All (IsLawfulAct tables.now number) acts.new.items }
         ensures follows { (s : Setting) (m : Meter) (t : model.Trip) → IsSettingOf s tables.now seal.now
-            → trip.now ≡ model.saved_of s t → self.now ≡ core_of s m
+            → trip.now ≡ model.core_trip_of s t → self.now ≡ core_of s m
             → ComesToOutcome s self.now acts.old.items acts.new.items
             (printed (receipt_of s closing.kind closing.finish m.position t m.durable.number) m) }
         ensures steps { steps.new ≤ steps.old + 12 }

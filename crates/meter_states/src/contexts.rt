@@ -3,7 +3,6 @@ ghost use Rattle.std.specs.Prelude.{◌≡◌, ◌≤◌, ◌+◌, Some};
 ghost use Rattle.seal_record.specs.declared.seal.Seal.{Seal};
 ghost use Rattle.tariff_compile.specs.Tables.{AreFit, IsInRangeFor, rate_by};
 ghost use Rattle.taxi_units.specs.Time.{IsSecond, longest_trip};
-ghost use Rattle.totals_record.specs.declared.trip.Trip as store;
 ghost use Rattle.meter_states.specs.Core.{core_of};
 ghost use Rattle.meter_states.specs.Equals.{context_by};
 ghost use Rattle.meter_states.specs.Facts.{AreLocal, AreTrue};
@@ -11,6 +10,7 @@ ghost use Rattle.meter_states.specs.Interval.{context_of, context_on};
 ghost use Rattle.meter_states.specs.Lawful.{IsPowered};
 ghost use Rattle.meter_states.specs.Meter.{Meter};
 ghost use Rattle.meter_states.specs.Setting.{Setting, IsSettingOf, local_at};
+ghost use Rattle.meter_states.specs.declared.trip.CoreTrip.{CoreTrip};
 ghost use Rattle.taxi_units.specs.Limits.{roaming_amid};
 
 use crate::facts::{CachedTime, Facts, local_facts};
@@ -69,7 +69,7 @@ impl State {
         ensures value { (seal : Seal) (s : Setting) (m : Meter) → AreLocal tables.now seal local.now
             → IsSettingOf s tables.now seal → self.now ≡ core_of s m
             → result ≡ context_on s (local_at s local.now.second) m }
-        ensures exact { (t : store.Trip) → self.now.trip ≡ Some t
+        ensures exact { (t : CoreTrip) → self.now.trip ≡ Some t
             → result ≡ context_by tables.now local.now self.now t }
         ensures range { (seal : Seal) → AreLocal tables.now seal local.now → IsInRangeFor tables.now result }
     {

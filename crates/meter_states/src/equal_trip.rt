@@ -7,10 +7,10 @@ ghost use Rattle.meter_states.specs.Equals as model;
 ghost use Rattle.meter_states.specs.Lawful.{IsLawfulTrip};
 
 use crate::lookups::modulus;
+use crate::trip::CoreTrip;
 use drive_modes::Rounding;
 use tariff_compile::Tables;
 use taxi_units::HIRINGS_END;
-use totals_record::Trip;
 
 /// What an interval of `pulses` pulses adds to the roaming pulses, where the store has a number.
 pub(crate) fn roams(number: u64, pulses: u32) -> u32
@@ -33,7 +33,7 @@ pub(crate) fn most_times(count: u32, room: u128, each: u128) -> u32
 }
 
 /// The charges that show no further display step of a trip.
-pub(crate) fn spare(trip: &Trip, tables: &Tables) -> u128
+pub(crate) fn spare(trip: &CoreTrip, tables: &Tables) -> u128
     requires range { IsLawfulTrip tables.now last_tick trip.now }
     ensures value { result ≡ model.spare_of tables.now.rounding (tables.now.step * tables.now.measure)
         trip.now.meterage }
@@ -54,7 +54,7 @@ pub(crate) fn spare(trip: &Trip, tables: &Tables) -> u128
 }
 
 /// The trip has `count` intervals more that ended in Stopped.
-pub(crate) fn add_passed(trip: &mut Trip, pulses: u32, count: u32)
+pub(crate) fn add_passed(trip: &mut CoreTrip, pulses: u32, count: u32)
     requires pulses { pulses ≤ 2000 }
     requires few { trip.old.pulses ≤ 5000000000000000000 }
     requires short { trip.old.ticks + count ≤ last_tick }
@@ -67,7 +67,7 @@ pub(crate) fn add_passed(trip: &mut Trip, pulses: u32, count: u32)
 }
 
 /// The trip has `count` intervals more that ended in Hired, whose charges fill no display step.
-pub(crate) fn add_charged(trip: &mut Trip, pulses: u32, charge: u128, count: u32)
+pub(crate) fn add_charged(trip: &mut CoreTrip, pulses: u32, charge: u128, count: u32)
     requires pulses { pulses ≤ 2000 }
     requires few { trip.old.pulses ≤ 5000000000000000000 }
     requires short { trip.old.ticks + count ≤ last_tick }

@@ -6,7 +6,6 @@ ghost use Rattle.seal_record.specs.declared.seal.Seal.{Seal};
 ghost use Rattle.tariff_compile.specs.Tables.{AreFit, IsInRangeFor, TableParts, rate_by};
 ghost use Rattle.tariff_syntax.specs.declared.context.Context.{Context};
 ghost use Rattle.taxi_units.specs.declared.event.Operating.TheVariants.{ForHire, Hired, Stopped};
-ghost use Rattle.totals_record.specs.declared.trip.Trip as store;
 ghost use Rattle.meter_states.specs.Core.{Meets, Stands, core_of};
 ghost use Rattle.meter_states.specs.EqualStages.{FollowsIntervals, HasTaken, LastsFrom};
 ghost use Rattle.meter_states.specs.Equals.{IsStill, MayBeCharged, MayGo, Outlasts, Serve, intervals_of, roams};
@@ -17,6 +16,7 @@ ghost use Rattle.meter_states.specs.Meter.{Meter};
 ghost use Rattle.meter_states.specs.Run.{run};
 ghost use Rattle.meter_states.specs.Setting.{Setting, IsSettingOf};
 ghost use Rattle.meter_states.specs.declared.facts.CachedRate.{CachedRate};
+ghost use Rattle.meter_states.specs.declared.trip.CoreTrip.{CoreTrip};
 ghost use Rattle.taxi_units.specs.Limits.{roaming_between, roaming_most};
 
 use crate::core_state::Core;
@@ -185,9 +185,9 @@ impl State {
             → IsInRangeFor tables.now y
             → IsNear lasting.further lasting.longer (context_of s m) y
             → lasting.weights ≡ rate_by s.tariff tables.now.constant y) }
-        ensures lasts { IfSome result (λ lasting. (t : store.Trip) (rate : CachedRate) → self.now.trip ≡ Some t
+        ensures lasts { IfSome result (λ lasting. (t : CoreTrip) (rate : CachedRate) → self.now.trip ≡ Some t
             → facts.now.rate ≡ Some rate → LastsFrom rate t.pulses t.ticks lasting) }
-        ensures none { IsNone result → (t : store.Trip) → self.now.trip ≡ Some t
+        ensures none { IsNone result → (t : CoreTrip) → self.now.trip ≡ Some t
             → ¬ Serve tables.now facts.now self.now t }
     {
         let local = facts.kept_local(self.began)?;

@@ -1,7 +1,6 @@
-//! Held trips: how they go on, how long they may be held, and what of them the core keeps.
+//! Held trips: how they go on, and how long they may be held.
 ghost use Rattle.std.specs.Prelude.{◌≡◌, ◌≤◌, true};
 ghost use Rattle.taxi_units.specs.Time.{IsSecond};
-ghost use Rattle.meter_states.specs.Core.{forgotten};
 ghost use Rattle.meter_states.specs.Setting.{Setting, IsSealOf};
 ghost use Rattle.meter_states.specs.Supply as model;
 
@@ -27,17 +26,4 @@ pub(crate) fn is_within_hold(held: &Trip, second: u64, seal: &Seal) -> bool
     ensures later { result ≡ true → held.now.saved ≤ second }
 {
     held.saved <= second && second <= held.saved + seal.params.hold as u64
-}
-
-/// A held trip as the core keeps it: without what has a meaning in the store alone.
-pub(crate) fn kept_form(held: Trip) -> Trip
-    ensures { result ≡ forgotten held }
-{
-    Trip {
-        saved: 0,
-        stopped: false,
-        position: 1,
-        zone: 1,
-        ..held
-    }
 }

@@ -11,7 +11,7 @@ ghost use Rattle.meter_states.specs.Meter.{Meter};
 ghost use Rattle.meter_states.specs.Run.{opened, run, trip_of, whole_run};
 ghost use Rattle.meter_states.specs.Setting.{IsTariffOf, Setting};
 ghost use Rattle.meter_states.specs.Step.{step};
-ghost use Rattle.meter_states.specs.Trip.{Part, Trip, fare_of, held_trip, saved_of};
+ghost use Rattle.meter_states.specs.Trip.{Part, Trip, fare_of, held_trip, core_trip_of};
 
 /// While the meter is off the store holds the saved form of its trip, and for hire there is none: a run
 /// begins so where the held trip fits, as one that fits the tables does, and each event, each list of
@@ -37,8 +37,8 @@ pub fn resumed_trips_go_on()
         ≡ fare_of s (with_parts parts t) }
     ensures forms { (s : Setting) (t : Trip) (parts : List Part) (extras : List ℕ) (second : ℕ) (stopped : Bool)
         (position zone : ℕ) → All IsSupplementNumber t.extras
-        → saved_of s (with_more parts extras (trip_of s (held_trip s second stopped position zone t)))
-        ≡ saved_of s (with_more parts extras t) }
+        → core_trip_of s (with_more parts extras (trip_of s (held_trip s second stopped position zone t)))
+        ≡ core_trip_of s (with_more parts extras t) }
 {}
 
 /// The fare of a trip depends on the initial hire fee, the cover and the minimum fare of its hiring and

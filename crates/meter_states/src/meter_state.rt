@@ -3,24 +3,23 @@ ghost use Rattle.std.specs.Prelude.{◌≡◌, ◌≤◌, None, Some};
 ghost use Rattle.tariff_compile.specs.Tables.{TableParts};
 ghost use Rattle.taxi_units.specs.Time.{longest_trip};
 ghost use Rattle.taxi_units.specs.declared.event.Operating.TheVariants.{Off};
-ghost use Rattle.totals_record.specs.declared.trip.Trip as store;
 ghost use Rattle.meter_states.specs.Core.{core_of};
 ghost use Rattle.meter_states.specs.Interval as interval;
 ghost use Rattle.meter_states.specs.Lawful.{IsPowered, is_busy};
 ghost use Rattle.meter_states.specs.Meter.{Meter};
 ghost use Rattle.meter_states.specs.Setting.{Setting};
 ghost use Rattle.meter_states.specs.Supply as supply;
+ghost use Rattle.meter_states.specs.declared.trip.CoreTrip.{CoreTrip};
 ghost use Rattle.taxi_units.specs.Limits.{roaming_amid};
 
+use crate::trip::CoreTrip;
 use drive_modes::Gate;
 use interval_clock::Clock;
 use std::marker::Model;
 use taxi_units::{Display, FIRST_SECOND, Key, Operating};
-use totals_record::Trip;
 
-/// The meter's state: counts in place of pulses, and the saved form of the trip in place of its
-/// intervals, which it forgets, so it takes no memory. What of that form has a meaning in the store
-/// alone stays as it is at the hiring.
+/// The meter's state: counts in place of pulses, and the sums of the trip in place of its intervals,
+/// which it forgets, so it takes no memory.
 #[derive(Drop)]
 pub(crate) struct State {
     pub(crate) operating: Operating,
@@ -33,7 +32,7 @@ pub(crate) struct State {
     pub(crate) roam: u32,
     pub(crate) number: u64,
     pub(crate) shown: Option<Display>,
-    pub(crate) trip: Option<Trip>,
+    pub(crate) trip: Option<CoreTrip>,
 }
 
 impl Model for State {
@@ -112,7 +111,7 @@ impl State {
     /// The pulses of the trip so far.
     pub(crate) fn pulses(&self) -> u64
         ensures state { (s : Setting) (m : Meter) → self.now ≡ core_of s m → result ≡ interval.pulses_so_far m.trip }
-        ensures exact { (t : store.Trip) → self.now.trip ≡ Some t → result ≡ t.pulses }
+        ensures exact { (t : CoreTrip) → self.now.trip ≡ Some t → result ≡ t.pulses }
         ensures range { (tables : TableParts) → IsPowered tables longest_trip roaming_amid 1 self.now
             → result ≤ 5000000000000000000 }
     {
@@ -125,7 +124,7 @@ impl State {
     /// The ticks of the trip so far.
     pub(crate) fn ticks(&self) -> u32
         ensures state { (s : Setting) (m : Meter) → self.now ≡ core_of s m → result ≡ interval.ticks_so_far m.trip }
-        ensures exact { (t : store.Trip) → self.now.trip ≡ Some t → result ≡ t.ticks }
+        ensures exact { (t : CoreTrip) → self.now.trip ≡ Some t → result ≡ t.ticks }
         ensures range { (tables : TableParts) → IsPowered tables longest_trip roaming_amid 1 self.now
             → result ≤ longest_trip }
     {

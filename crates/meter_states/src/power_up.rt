@@ -6,7 +6,7 @@ ghost use Rattle.taxi_units.specs.Time.{IsSecond};
 ghost use Rattle.taxi_units.specs.declared.event.Operating.TheVariants.{ForHire};
 ghost use Rattle.totals_record.specs.Ranges.{IsDurable, IsHeld};
 ghost use Rattle.meter_states.specs.Acts.{IsLawfulAct, KeepsRanges, StayLawful};
-ghost use Rattle.meter_states.specs.Core.{ComesToOutcome, IsSavedIn, Meets, forgotten, core_of};
+ghost use Rattle.meter_states.specs.Core.{ComesToOutcome, IsSavedIn, Meets, core_of};
 ghost use Rattle.meter_states.specs.Fits.{Fits};
 ghost use Rattle.meter_states.specs.Lawful.{IsBetweenEvents, IsLawful};
 ghost use Rattle.meter_states.specs.Meter.{Meter};
@@ -17,9 +17,10 @@ ghost use Rattle.meter_states.specs.Trip as trips;
 use crate::act::Acts;
 use crate::core_state::Core;
 use crate::facts::Facts;
-use crate::held::{is_within_hold, kept_form, running};
+use crate::held::{is_within_hold, running};
 use crate::meter_state::State;
 use crate::records::Closing;
+use crate::trip::core_trip;
 use seal_record::Seal;
 use std::sync::ledger::Ledger;
 use tariff_compile::Tables;
@@ -111,7 +112,7 @@ impl State {
         ensures few { length acts.new.items ≤ 2 }
         ensures ranges { StayLawful tables.now self.old.number acts.old.items acts.new.items }
         ensures follows { (s : Setting) (m : Meter) → IsSettingOf s tables.now seal.now
-            → Some (forgotten held) ≡ option_map (trips.saved_of s) m.trip
+            → Some (trips.core_trip_in held) ≡ option_map (trips.core_trip_of s) m.trip
             → self.old ≡ core_of s (record m { trip = None })
             → ComesToOutcome s self.new acts.old.items acts.new.items (model.hold_taken s second (Some held) m) }
         ensures steps { steps.new ≤ steps.old + 12 }
@@ -130,14 +131,15 @@ impl State {
         requires range { IsHeld self.old.number held }
         ensures lawful { (tables : TableParts) → IsBetweenEvents tables self.old → Fits tables held
             → IsBetweenEvents tables self.new }
-        ensures state { (s : Setting) (m : Meter) → Some (forgotten held) ≡ option_map (trips.saved_of s) m.trip
+        ensures state { (s : Setting) (m : Meter)
+            → Some (trips.core_trip_in held) ≡ option_map (trips.core_trip_of s) m.trip
             → self.old ≡ core_of s (record m { trip = None })
             → self.new ≡ core_of s (model.resumed held m).next }
     {
         self.operating = running(held.stopped);
         self.position = held.position;
         self.zone = held.zone;
-        self.trip = Some(kept_form(held));
+        self.trip = Some(core_trip(&held));
     }
 
     /// A held trip is closed at its position, and the position and the zone are the first. At most 12
@@ -160,7 +162,7 @@ impl State {
         ensures few { length acts.new.items ≤ 2 }
         ensures ranges { StayLawful tables.now self.old.number acts.old.items acts.new.items }
         ensures follows { (s : Setting) (m : Meter) → IsSettingOf s tables.now seal.now
-            → Some (forgotten held.now) ≡ option_map (trips.saved_of s) m.trip
+            → Some (trips.core_trip_in held.now) ≡ option_map (trips.core_trip_of s) m.trip
             → self.old ≡ core_of s (record m { trip = None })
             → ComesToOutcome s self.new acts.old.items acts.new.items (model.aborted s held.now m) }
         ensures steps { steps.new ≤ steps.old + 12 }
@@ -170,7 +172,7 @@ impl State {
             kind: Kind::Aborted,
             finish: held.saved,
         };
-        self.close_trip(closing, &kept_form(*held), tables, seal, acts, steps);
+        self.close_trip(closing, &core_trip(held), tables, seal, acts, steps);
         self.position = 1;
         self.zone = 1;
     }

@@ -11,12 +11,12 @@ ghost use Rattle.meter_states.specs.Trip as trips;
 ghost use Rattle.taxi_units.specs.Limits.{number_most, roaming_amid};
 
 use crate::lookups::{distance, stamp};
-use crate::trip::{display_steps, fare};
+use crate::trip::{CoreTrip, display_steps, fare};
 use seal_record::Seal;
 use std::sync::ledger::Ledger;
 use tariff_compile::Tables;
 use taxi_units::{Kind, Receipt, Steps};
-use totals_record::{Entry, Trip};
+use totals_record::Entry;
 
 /// How a trip is closed, and at which second.
 #[derive(Clone, Copy)]
@@ -26,11 +26,11 @@ pub(crate) struct Closing {
 }
 
 /// The entry of a trip that is closed at a tariff position.
-pub(crate) fn entry(kind: Kind, position: u8, trip: &Trip, tables: &Tables) -> Entry
+pub(crate) fn entry(kind: Kind, position: u8, trip: &CoreTrip, tables: &Tables) -> Entry
     requires range { IsTripBeside tables.now number_most longest_trip trip.now }
     requires position { (1 ≤ position) × (position ≤ 9) }
     requires kind { kind ≢ Roam }
-    ensures value { (s : Setting) (t : trips.Trip) → IsTariffOf s tables.now → trip.now ≡ trips.saved_of s t
+    ensures value { (s : Setting) (t : trips.Trip) → IsTariffOf s tables.now → trip.now ≡ trips.core_trip_of s t
         → result ≡ model.entry_of s kind position t }
     ensures range { IsEntry result }
     ensures kind { result.kind ≡ kind }
@@ -65,7 +65,7 @@ pub(crate) fn roaming_entry(pulses: u32, tables: &Tables) -> Entry
 pub(crate) fn receipt<L: Ledger>(
     closing: Closing,
     position: u8,
-    trip: &Trip,
+    trip: &CoreTrip,
     number: u64,
     tables: &Tables,
     seal: &Seal,
@@ -77,7 +77,7 @@ pub(crate) fn receipt<L: Ledger>(
     requires kind { closing.kind ≢ Roam }
     requires finish { IsSecond closing.finish }
     ensures value { (s : Setting) (t : trips.Trip) → IsSettingOf s tables.now seal.now
-        → trip.now ≡ trips.saved_of s t
+        → trip.now ≡ trips.core_trip_of s t
         → result ≡ model.receipt_of s closing.kind closing.finish position t number }
     ensures range { IsReceipt result }
     ensures steps { steps.new ≤ steps.old + 12 }

@@ -19,6 +19,7 @@ ghost use Rattle.taxi_units.specs.Limits.{last_number, roaming_amid};
 use crate::act::{Act, Acts};
 use crate::meter_state::State;
 use crate::records::Closing;
+use crate::trip::{CoreTrip, saved_at};
 use seal_record::Seal;
 use std::sync::ledger::Ledger;
 use tariff_compile::Tables;
@@ -85,7 +86,7 @@ impl State {
     }
 
     /// The trip is held.
-    fn hold(&mut self, trip: Trip, acts: &mut Acts)
+    fn hold(&mut self, trip: CoreTrip, acts: &mut Acts)
         requires lawful { (tables : TableParts) × IsPowered tables last_tick roaming_amid 1 self.old }
         requires trip { self.old.trip ≡ Some trip }
         requires number { self.old.number < last_number }
@@ -93,34 +94,30 @@ impl State {
         ensures ranges { (tables : TableParts) → IsPowered tables last_tick roaming_amid 1 self.old
             → StayLawful tables self.old.number acts.old.items acts.new.items }
         ensures follows { (s : Setting) (m : Meter) (t : trips.Trip)
-            → trip ≡ trips.saved_of s t → self.old ≡ core_of s m
+            → trip ≡ trips.core_trip_of s t → self.old ≡ core_of s m
             → ComesToOutcome s self.new acts.old.items acts.new.items
             (held (trips.held_trip s m.clock (model.is_stopped m.operating) m.position m.zone t) m) }
     {
-        acts.push(Act::Hold(self.held_form(trip)));
+        acts.push(Act::Hold(self.saved_trip(&trip)));
         self.number += 1;
     }
 
-    /// The trip as it is held.
-    fn held_form(&self, trip: Trip) -> Trip
+    /// The trip as it is saved.
+    fn saved_trip(&self, trip: &CoreTrip) -> Trip
         requires lawful { (tables : TableParts) × IsPowered tables last_tick roaming_amid 1 self.now }
-        requires trip { self.now.trip ≡ Some trip }
-        ensures value { result ≡ record trip {
-          saved = self.now.clock;
-          stopped = model.is_stopped self.now.operating;
-          position = self.now.position;
-          zone = self.now.zone;
-        } }
+        requires trip { self.now.trip ≡ Some trip.now }
+        ensures value { result ≡ trips.saved_at self.now.clock (model.is_stopped self.now.operating)
+            self.now.position self.now.zone trip.now }
         ensures range { IsTripInItsRanges (self.now.number + 1) result }
         ensures fits { (tables : TableParts) → IsPowered tables last_tick roaming_amid 1 self.now
             → Fits tables result }
     {
-        Trip {
-            saved: self.clock.second(),
-            stopped: self.is_stopped(),
-            position: self.position,
-            zone: self.zone,
-            ..trip
-        }
+        saved_at(
+            trip,
+            self.clock.second(),
+            self.is_stopped(),
+            self.position,
+            self.zone,
+        )
     }
 }

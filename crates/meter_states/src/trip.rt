@@ -1,11 +1,11 @@
-//! The saved form of a trip: what begins it, and what an interval and a supplement add.
+//! What the core keeps of a trip: what begins it, what an interval and a supplement add, and how it is saved
+//! and goes on.
 ghost use Rattle.std.specs.Prelude.{◌≡◌, ◌+◌, ◌-◌, ◌^◌, ◌<◌, ◌≤◌, Some, slice_index};
 ghost use Rattle.drive_modes.specs.Fare.{shown_fare, steps_of};
 ghost use Rattle.tariff_compile.specs.Tables.{AreFit, IsFitInitial, TableParts, rate_by};
 ghost use Rattle.tariff_syntax.specs.declared.context.Context.{Context};
 ghost use Rattle.taxi_units.specs.Money.{largest_amount};
 ghost use Rattle.taxi_units.specs.Time.{IsSecond, last_tick, longest_trip};
-ghost use Rattle.totals_record.specs.declared.trip.Trip as store;
 ghost use Rattle.meter_states.specs.Lawful.{IsLawfulTrip};
 ghost use Rattle.meter_states.specs.Setting.{Setting, IsSettingOf, IsTariffOf};
 ghost use Rattle.meter_states.specs.Supplements.{supplement_in, times};
@@ -19,24 +19,73 @@ use seal_record::Seal;
 use tariff_compile::{Initial, Supplement, Tables};
 use totals_record::Trip;
 
-/// A trip that begins at a second, after these roaming pulses. What has a meaning in the store alone is
-/// as it stays while the meter is powered.
-pub(crate) fn begun(tables: &Tables, fee: Initial, second: u64, roam: u32) -> Trip
+/// A trip as the core keeps it: the second of its start, the pulses that were roamed before the hiring, its
+/// pulses and ticks, the initial hire fee and the minimum fare, what its charges have come to, how often each
+/// of the supplements 1 to 16 was added, and the sum of their amounts. Money is in the tariff's smallest units.
+#[derive(Clone, Copy)]
+pub(crate) struct CoreTrip {
+    pub(crate) started: u64,
+    pub(crate) roam: u32,
+    pub(crate) pulses: u64,
+    pub(crate) ticks: u32,
+    pub(crate) initial: u64,
+    pub(crate) minimum: u64,
+    pub(crate) meterage: Meterage,
+    pub(crate) extras: [u8; 16],
+    pub(crate) extras_sum: u64,
+}
+
+/// What the core keeps of a held trip.
+pub(crate) fn core_trip(held: &Trip) -> CoreTrip
+    ensures { result ≡ model.core_trip_in held.now }
+{
+    CoreTrip {
+        started: held.started,
+        roam: held.roam,
+        pulses: held.pulses,
+        ticks: held.ticks,
+        initial: held.initial,
+        minimum: held.minimum,
+        meterage: held.meterage,
+        extras: held.extras,
+        extras_sum: held.extras_sum,
+    }
+}
+
+/// A trip as it is saved at a second, stopped or not, at a position and a zone.
+pub(crate) fn saved_at(trip: &CoreTrip, second: u64, stopped: bool, position: u8, zone: u8) -> Trip
+    ensures { result ≡ model.saved_at second stopped position zone trip.now }
+{
+    Trip {
+        started: trip.started,
+        saved: second,
+        stopped,
+        position,
+        zone,
+        roam: trip.roam,
+        pulses: trip.pulses,
+        ticks: trip.ticks,
+        initial: trip.initial,
+        minimum: trip.minimum,
+        meterage: trip.meterage,
+        extras: trip.extras,
+        extras_sum: trip.extras_sum,
+    }
+}
+
+/// A trip that begins at a second, after these roaming pulses.
+pub(crate) fn begun(tables: &Tables, fee: Initial, second: u64, roam: u32) -> CoreTrip
     requires second { IsSecond second }
     requires fee { IsFitInitial fee }
     requires roam { roam ≤ roaming_amid }
     ensures saved { (s : Setting) → IsTariffOf s tables.now
-        → result ≡ model.saved_of s (model.begun s fee second roam) }
+        → result ≡ model.core_trip_of s (model.begun s fee second roam) }
     ensures range { IsLawfulTrip tables.now last_tick result }
     ensures none { (result.pulses ≡ 0) × (result.ticks ≡ 0) }
     ensures started { result.started ≡ second }
 {
-    Trip {
+    CoreTrip {
         started: second,
-        saved: 0,
-        stopped: false,
-        position: 1,
-        zone: 1,
         roam,
         pulses: 0,
         ticks: 0,
@@ -50,7 +99,7 @@ pub(crate) fn begun(tables: &Tables, fee: Initial, second: u64, roam: u32) -> Tr
 
 /// The trip has an interval more that ended in Hired.
 pub(crate) fn add_hired(
-    trip: &mut Trip,
+    trip: &mut CoreTrip,
     tables: &Tables,
     seal: &Seal,
     weights: Weights,
@@ -61,8 +110,8 @@ pub(crate) fn add_hired(
     requires few { trip.old.pulses ≤ 9000000000000000000 }
     requires range { IsLawfulTrip tables.now last_tick trip.old }
     ensures saved { (s : Setting) (t : model.Trip) (x : Context) → IsSettingOf s tables.now seal.now
-        → weights ≡ rate_by s.tariff tables.now.constant x → trip.old ≡ model.saved_of s t
-        → trip.new ≡ model.saved_of s (model.with_part (model.InHired pulses x) t) }
+        → weights ≡ rate_by s.tariff tables.now.constant x → trip.old ≡ model.core_trip_of s t
+        → trip.new ≡ model.core_trip_of s (model.with_part (model.InHired pulses x) t) }
     ensures range { IsLawfulTrip tables.now longest_trip trip.new }
     ensures counts { (trip.new.pulses ≡ trip.old.pulses + pulses) × (trip.new.ticks ≡ trip.old.ticks + 1) }
     ensures started { trip.new.started ≡ trip.old.started }
@@ -77,12 +126,12 @@ pub(crate) fn add_hired(
 }
 
 /// The trip has an interval more that ended in Stopped.
-pub(crate) fn add_stopped(trip: &mut Trip, pulses: u32)
+pub(crate) fn add_stopped(trip: &mut CoreTrip, pulses: u32)
     requires pulses { pulses ≤ 2000 }
     requires few { trip.old.pulses ≤ 9000000000000000000 }
     requires short { trip.old.ticks ≤ last_tick }
-    ensures saved { (s : Setting) (t : model.Trip) → trip.old ≡ model.saved_of s t
-        → trip.new ≡ model.saved_of s (model.with_part (model.InStopped pulses) t) }
+    ensures saved { (s : Setting) (t : model.Trip) → trip.old ≡ model.core_trip_of s t
+        → trip.new ≡ model.core_trip_of s (model.with_part (model.InStopped pulses) t) }
     ensures range { (tables : TableParts) → IsLawfulTrip tables last_tick trip.old
         → IsLawfulTrip tables longest_trip trip.new }
     ensures counts { (trip.new.pulses ≡ trip.old.pulses + pulses) × (trip.new.ticks ≡ trip.old.ticks + 1) }
@@ -93,11 +142,11 @@ pub(crate) fn add_stopped(trip: &mut Trip, pulses: u32)
 }
 
 /// The trip has the pulses of an interval that was left unfinished.
-pub(crate) fn add_rest(trip: &mut Trip, pulses: u32)
+pub(crate) fn add_rest(trip: &mut CoreTrip, pulses: u32)
     requires pulses { pulses ≤ 2000 }
     requires few { trip.old.pulses ≤ 9000000000000000000 }
-    ensures saved { (s : Setting) (t : model.Trip) → trip.old ≡ model.saved_of s t
-        → trip.new ≡ model.saved_of s (model.with_part (model.Rest pulses) t) }
+    ensures saved { (s : Setting) (t : model.Trip) → trip.old ≡ model.core_trip_of s t
+        → trip.new ≡ model.core_trip_of s (model.with_part (model.Rest pulses) t) }
     ensures range { (tables : TableParts) → IsLawfulTrip tables last_tick trip.old
         → IsLawfulTrip tables last_tick trip.new }
     ensures counts { (trip.new.pulses ≡ trip.old.pulses + pulses) × (trip.new.ticks ≡ trip.old.ticks) }
@@ -107,9 +156,9 @@ pub(crate) fn add_rest(trip: &mut Trip, pulses: u32)
 }
 
 /// The display steps that are shown.
-pub(crate) fn display_steps(trip: &Trip, tables: &Tables) -> u64
+pub(crate) fn display_steps(trip: &CoreTrip, tables: &Tables) -> u64
     requires range { IsLawfulTrip tables.now longest_trip trip.now }
-    ensures value { (s : Setting) (t : model.Trip) → IsTariffOf s tables.now → trip.now ≡ model.saved_of s t
+    ensures value { (s : Setting) (t : model.Trip) → IsTariffOf s tables.now → trip.now ≡ model.core_trip_of s t
         → result ≡ model.steps_shown s t }
     ensures exact { result ≡ steps_of tables.now.rounding trip.now.meterage }
     ensures most { result < 10 ^ 18 }
@@ -118,9 +167,9 @@ pub(crate) fn display_steps(trip: &Trip, tables: &Tables) -> u64
 }
 
 /// The fare that is shown.
-pub(crate) fn fare(trip: &Trip, tables: &Tables) -> u64
+pub(crate) fn fare(trip: &CoreTrip, tables: &Tables) -> u64
     requires range { IsLawfulTrip tables.now longest_trip trip.now }
-    ensures value { (s : Setting) (t : model.Trip) → IsTariffOf s tables.now → trip.now ≡ model.saved_of s t
+    ensures value { (s : Setting) (t : model.Trip) → IsTariffOf s tables.now → trip.now ≡ model.core_trip_of s t
         → result ≡ model.fare_of s t }
     ensures exact { result ≡ shown_fare trip.now.initial trip.now.minimum tables.now.step
         (steps_of tables.now.rounding trip.now.meterage) }
@@ -130,24 +179,25 @@ pub(crate) fn fare(trip: &Trip, tables: &Tables) -> u64
 }
 
 /// How often the supplement of a number was added.
-pub(crate) fn times(trip: &Trip, number: u8) -> u8
+pub(crate) fn times(trip: &CoreTrip, number: u8) -> u8
     requires { (1 ≤ number) × (number ≤ 16) }
     ensures value { result ≡ slice_index trip.now.extras (number - 1) }
-    ensures times { (s : Setting) (t : model.Trip) → trip.now ≡ model.saved_of s t → result ≡ times number t.extras }
+    ensures times { (s : Setting) (t : model.Trip) → trip.now ≡ model.core_trip_of s t
+        → result ≡ times number t.extras }
 {
     trip.extras[number as usize - 1]
 }
 
 /// The trip has a supplement of the tariff more, which it hasn't had as often as it may.
-pub(crate) fn add_extra(trip: &mut Trip, number: u8, supplement: Supplement)
+pub(crate) fn add_extra(trip: &mut CoreTrip, number: u8, supplement: Supplement)
     requires number { (1 ≤ number) × (number ≤ 16) }
     requires few { slice_index trip.old.extras (number - 1) < supplement.max }
     requires most { supplement.max ≤ 99 }
     requires amount { supplement.amount ≤ 1000000 }
     requires sum { trip.old.extras_sum ≤ largest_supplements }
     ensures saved { (tables : TableParts) (s : Setting) (t : model.Trip)
-        → supplement_in tables number ≡ Some supplement → IsTariffOf s tables → trip.old ≡ model.saved_of s t
-        → trip.new ≡ model.saved_of s (model.with_extra number t) }
+        → supplement_in tables number ≡ Some supplement → IsTariffOf s tables → trip.old ≡ model.core_trip_of s t
+        → trip.new ≡ model.core_trip_of s (model.with_extra number t) }
     ensures range { (tables : TableParts) → supplement_in tables number ≡ Some supplement
         → IsLawfulTrip tables last_tick trip.old → IsLawfulTrip tables last_tick trip.new }
     ensures counts { (trip.new.pulses ≡ trip.old.pulses) × (trip.new.ticks ≡ trip.old.ticks) }

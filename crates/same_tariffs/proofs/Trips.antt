@@ -17,7 +17,7 @@ use Rattle.meter_states.specs.Run.{trip_of}
 use Rattle.meter_states.specs.Setting.{Setting, modulus_of, rounding_of, stamp_at, step_of, unit_of}
 use Rattle.meter_states.specs.Supplements.{amount_in, amounts_of, counts_of}
 use Rattle.meter_states.specs.Trip as model
-use Rattle.meter_states.specs.Trip.{InHired, Part, Rest, Trip, begun, charge_in, charges_of, fare_of, held_trip, pulses_in, pulses_of, saved_of, steps_shown, ticks_in, ticks_of, with_extra, with_part}
+use Rattle.meter_states.specs.Trip.{InHired, Part, Rest, Trip, begun, charge_in, charges_of, fare_of, held_trip, pulses_in, pulses_of, core_trip_of, steps_shown, ticks_in, ticks_of, with_extra, with_part}
 use Rattle.same_tariffs.specs.Alike.{AreHeldAlike, AreHoldsAlike, AreMeteragesAlike, AreOpeningsAlike, AreTripsAlike, AreTripsOfBothAlike, IsSameMoney, with_trips}
 use Rattle.same_tariffs.proofs.Agreeing.{Agree}
 use Rattle.same_tariffs.proofs.Money.{none-same, saved-same, steps-same, sum-same, times-money, times-same}
@@ -133,7 +133,7 @@ openings-alike s t a b agree same = record {
 }
 
 pub meterage-alike : (s t : Setting) (a b : Trip) → Agree s t → AreTripsAlike s t a b
-    → AreMeteragesAlike (unit_of s) (unit_of t) (saved_of s a).meterage (saved_of t b).meterage
+    → AreMeteragesAlike (unit_of s) (unit_of t) (core_trip_of s a).meterage (core_trip_of t b).meterage
 meterage-alike s t a b agree same =
     saved-same (unit_of s) (unit_of t) (model.opening_of s a) (model.opening_of t b) (charges_of s a) (charges_of t b)
     agree.some_unit agree.also_unit (openings-alike s t a b agree same) same.charges
@@ -204,7 +204,7 @@ pub held-alike : (s t : Setting) (a b : Trip) (second : ℕ) (stopped : Bool) (p
 held-alike s t a b second stopped position zone agree same =
     record {
       meterage = meterage-alike s t a b agree same;
-      others = saved-by (saved_of t b).meterage second stopped position zone same.started same.roam same.pulses
+      others = saved-by (core_trip_of t b).meterage second stopped position zone same.started same.roam same.pulses
           same.ticks same.initial same.minimum (ap counts_of same.extras) (amounts-alike s t a b agree same);
     }
 

@@ -2,7 +2,7 @@ use Rattle.std.proofs.Common.{◌≡◌, ℕ, false, ap, refl, ◌∙◌, arith}
 use Rattle.drive_modes.specs.Distance.{millimetres_of}
 use Rattle.taxi_units.specs.declared.receipt.Kind.{Kind}
 use Rattle.taxi_units.specs.declared.receipt.Kind.TheVariants.{Closed, Aborted, Expired, Roam}
-use Rattle.totals_record.specs.declared.trip.Trip as store
+use Rattle.meter_states.specs.declared.trip.CoreTrip.{CoreTrip}
 use Rattle.totals_record.specs.Entries.{is_of_hiring}
 use Rattle.meter_states.proofs.SameParts.{entry-same}
 use Rattle.meter_states.proofs.TableSupplements.{extras-few}
@@ -32,7 +32,7 @@ fare-requires c = record { range = c.requires.range.range }
 pub returns-clause-value : goal.returns-clause-value
 returns-clause-value c = λ s t is saved.
     entry-same c.args.kind c.args.position
-    (c.distance.ensures.value ∙ ap (λ (k : ℕ). millimetres_of k c.args.trip.now.roam) is.constant ∙ ap (λ (x : store.Trip). millimetres_of s.constant x.roam) saved)
-    (c.distance-2.ensures.value ∙ ap (λ (k : ℕ). millimetres_of k c.args.trip.now.pulses) is.constant ∙ ap (λ (x : store.Trip). millimetres_of s.constant x.pulses) saved)
+    (c.distance.ensures.value ∙ ap (λ (k : ℕ). millimetres_of k c.args.trip.now.roam) is.constant ∙ ap (λ (x : CoreTrip). millimetres_of s.constant x.roam) saved)
+    (c.distance-2.ensures.value ∙ ap (λ (k : ℕ). millimetres_of k c.args.trip.now.pulses) is.constant ∙ ap (λ (x : CoreTrip). millimetres_of s.constant x.pulses) saved)
     (c.fare.ensures.value s t is saved)
-    (ap (λ (x : store.Trip). x.extras_sum) saved)
+    (ap (λ (x : CoreTrip). x.extras_sum) saved)

@@ -1,7 +1,7 @@
 use Rattle.std.proofs.Common.{◌≡◌, ℕ, ◌+◌, ◌*◌, ap, ◌∙◌, max, min, arith}
 use Rattle.std.proofs.Math.Nat.{mul_comm}
 use Rattle.drive_modes.specs.Distance.{millimetres_of}
-use Rattle.totals_record.specs.declared.trip.Trip as store
+use Rattle.meter_states.specs.declared.trip.CoreTrip.{CoreTrip}
 use Rattle.meter_states.specs.Setting.{stamp_at}
 use Rattle.meter_states.proofs.Settings.{decimals-is, step-is}
 use Rattle.meter_states.proofs.SameParts.{receipt-same}
@@ -49,13 +49,13 @@ fare-requires g c = record { range = c.requires.range.range }
 pub returns-clause-value : goal.returns-clause-value
 returns-clause-value g c = λ s t is saved.
     receipt-same c.args.number c.args.closing.kind c.args.position
-    (c.stamp-start.ensures.value s is.secured ∙ ap (λ (x : store.Trip). stamp_at s x.started) saved)
+    (c.stamp-start.ensures.value s is.secured ∙ ap (λ (x : CoreTrip). stamp_at s x.started) saved)
     (c.stamp-finish.ensures.value s is.secured)
-    (c.distance.ensures.value ∙ ap (λ (k : ℕ). millimetres_of k c.args.trip.now.pulses) is.tariff.constant ∙ ap (λ (x : store.Trip). millimetres_of s.constant x.pulses) saved)
-    (ap (λ (x : store.Trip). x.initial) saved)
-    (ap (λ (x : store.Trip). x.minimum) saved)
+    (c.distance.ensures.value ∙ ap (λ (k : ℕ). millimetres_of k c.args.trip.now.pulses) is.tariff.constant ∙ ap (λ (x : CoreTrip). millimetres_of s.constant x.pulses) saved)
+    (ap (λ (x : CoreTrip). x.initial) saved)
+    (ap (λ (x : CoreTrip). x.minimum) saved)
     (c.display_steps.ensures.value s t is.tariff saved)
     (c.step.ensures.value ∙ step-is s c.args.tables.now is.tariff)
     (c.fare.ensures.value s t is.tariff saved)
-    (ap (λ (x : store.Trip). x.extras_sum) saved)
+    (ap (λ (x : CoreTrip). x.extras_sum) saved)
     (c.decimals.ensures.value ∙ decimals-is s c.args.tables.now is.tariff)

@@ -5,7 +5,7 @@ use Rattle.drive_modes.specs.declared.charges.Mode.{Mode}
 use Rattle.drive_modes.specs.declared.charges.Weights.{Weights}
 use Rattle.drive_modes.specs.declared.meterage.Meterage.{Meterage}
 use Rattle.tariff_compile.specs.Tables.{rate_by}
-use Rattle.totals_record.specs.declared.trip.Trip as store
+use Rattle.meter_states.specs.declared.trip.CoreTrip.{CoreTrip}
 use Rattle.meter_states.specs.Charge.{charge_at}
 use Rattle.meter_states.specs.Setting.{modulus_of}
 use Rattle.meter_states.specs.Trip.{charges_of, opening_of}
@@ -23,7 +23,7 @@ returns-clause-saved c = λ s t x is by e.
     ∙ ap (λ (k : ℕ). charge_of s.mode (rate_by s.tariff k x) c.args.pulses) is.tariff.constant
     ∙ charge-at s.mode s.tariff s.constant x c.args.pulses is.tariff.compiled.writable is.tariff.compiled.sound in
     let before : c.args.trip.now.meterage ≡ saved (record { cover = t.opening.cover; above = t.opening.above; modulus = c.modulus.result }) (charges_of s t) =
-    ap (λ (x : store.Trip). x.meterage) e ∙ ap (λ (n : ℕ). saved (record { cover = t.opening.cover; above = t.opening.above; modulus = n }) (charges_of s t)) (sym modulus) in
+    ap (λ (x : CoreTrip). x.meterage) e ∙ ap (λ (n : ℕ). saved (record { cover = t.opening.cover; above = t.opening.above; modulus = n }) (charges_of s t)) (sym modulus) in
     let after = c.add_charge.ensures.sum t.opening.cover t.opening.above (charges_of s t) before in
     hired-saved s t c.args.pulses x c.args.trip.now c.add_charge.new.meterage e
     (after

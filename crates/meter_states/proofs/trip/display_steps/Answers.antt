@@ -1,7 +1,7 @@
 use Rattle.std.proofs.Common.{ap, ◌∙◌}
 use Rattle.drive_modes.specs.Fare.{steps_above, steps_of}
 use Rattle.drive_modes.specs.declared.meterage.Rounding.{Rounding}
-use Rattle.totals_record.specs.declared.trip.Trip as store
+use Rattle.meter_states.specs.declared.trip.CoreTrip.{CoreTrip}
 use Rattle.meter_states.specs.Setting.{modulus_of}
 use Rattle.meter_states.specs.Trip.{charges_of, opening_of}
 use Rattle.meter_states.proofs.Meterages.{steps-below, steps-few}
@@ -14,7 +14,7 @@ steps-requires c = record { steps = steps-few c.requires.range.ticks c.requires.
 pub returns-clause-value : goal.returns-clause-value
 returns-clause-value c = λ s t is saved.
     let some = modulus-above s c.args.tables.now c.args.trip.now.meterage.rest is c.requires.range.rest in
-    c.steps.ensures.sum t.opening.cover t.opening.above (modulus_of s) (charges_of s t) some (ap (λ (x : store.Trip). x.meterage) saved)
+    c.steps.ensures.sum t.opening.cover t.opening.above (modulus_of s) (charges_of s t) some (ap (λ (x : CoreTrip). x.meterage) saved)
     ∙ ap (λ (r : Rounding). steps_above r (opening_of s t) (charges_of s t)) (c.rounding.ensures ∙ rounding-is s c.args.tables.now is)
 
 pub returns-clause-exact : goal.returns-clause-exact

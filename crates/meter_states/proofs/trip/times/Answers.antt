@@ -1,5 +1,5 @@
 use Rattle.std.proofs.Common.{◌≡◌, ℕ, ◌+◌, ◌-◌, get_or, ap, ◌∙◌, arith}
-use Rattle.totals_record.specs.declared.trip.Trip as store
+use Rattle.meter_states.specs.declared.trip.CoreTrip.{CoreTrip}
 use Rattle.meter_states.specs.Supplements.{times}
 use Rattle.meter_states.proofs.Counts.{counts-at}
 use Rattle.meter_states.proofs.trip.times.Goals as goal
@@ -8,4 +8,4 @@ pub returns-clause-times : goal.returns-clause-times
 returns-clause-times c = λ s t e.
     let n = c.args.number in
     let same : 1 + (n - 1) ≡ n = omega arith in
-    ap (λ (x : store.Trip). get_or x.extras (n - 1) 0) e ∙ counts-at 16 1 (n - 1) t.extras (omega arith) ∙ ap (λ (k : ℕ). times k t.extras) same
+    ap (λ (x : CoreTrip). get_or x.extras (n - 1) 0) e ∙ counts-at 16 1 (n - 1) t.extras (omega arith) ∙ ap (λ (k : ℕ). times k t.extras) same

@@ -4,7 +4,7 @@ use Rattle.taxi_units.specs.declared.event.Operating.{Operating}
 use Rattle.taxi_units.specs.declared.event.Operating.TheVariants.{ForHire}
 use Rattle.taxi_units.specs.declared.receipt.Kind.TheVariants.{Aborted}
 use Rattle.meter_states.specs.Closing.{closed, trip_closed}
-use Rattle.meter_states.specs.Core.{CoreData, ComesToOutcome, forgotten, core_of}
+use Rattle.meter_states.specs.Core.{CoreData, ComesToOutcome, core_of}
 use Rattle.meter_states.specs.Meter.{Meter, quiet}
 use Rattle.meter_states.specs.Trip as model
 use Rattle.meter_states.proofs.Outcomes.{follows-then, quiet-follows, trip-saved}
@@ -18,8 +18,8 @@ returns-clause-follows g c = λ s m is saved st.
     let hire : m.operating ≡ ForHire = sym (ap (λ (q : CoreData). q.operating) st) ∙ c.requires.hire in
     let n : Meter = record m { operating = ForHire; trip = None; position = held.position } in
     let start = ap (λ (q : CoreData). record q { position = held.position }) (c.self.view_is ∙ st) ∙ ap (λ (o : Operating). core_of s (record m { operating = o; trip = None; position = held.position })) hire in
-    let has = trip-saved s m.trip (forgotten held) (sym saved) in
-    let first = c.close_trip.ensures.follows s n has.0 is (c.kept_form.ensures ∙ has.2) start in
+    let has = trip-saved s m.trip (model.core_trip_in held) (sym saved) in
+    let first = c.close_trip.ensures.follows s n has.0 is (c.core_trip.ensures ∙ has.2) start in
     let whole = subst (λ (o : Option model.Trip). ComesToOutcome s c.close_trip.new.self begin acts (trip_closed s Aborted held.saved o n)) (sym has.1) first in
     let after = (trip_closed s Aborted held.saved m.trip n).next in
     follows-then s c.close_trip.new.self _ begin acts acts (closed s Aborted held.saved (record m { position = held.position })) (λ (k : Meter). quiet (record k { position = 1; zone = 1 })) whole

@@ -1,6 +1,6 @@
 use Rattle.std.proofs.lemmas.Grind.{common_steps}
 use Rattle.std.proofs.Common.{◌≡◌, ◌<◌, Some, ap, sym, subst, ◌∙◌, arith}
-use Rattle.totals_record.specs.declared.trip.Trip as store
+use Rattle.meter_states.specs.declared.trip.CoreTrip.{CoreTrip}
 use Rattle.meter_states.specs.Core.{CoreData, ComesToOutcome, core_of}
 use Rattle.meter_states.specs.Keys.{extra_added_to}
 use Rattle.meter_states.specs.Lawful.{IsAmidEvent}
@@ -49,7 +49,7 @@ returns c = record {
             let more = c.add_extra.ensures.saved tables s saved.0 found is.tariff saved.2 in
             let now = c.args.self.now in
             let state = ap (λ (q : CoreData). record q { trip = Some u }) e
-            ∙ ap (λ (x : store.Trip). record (core_of s m) { trip = Some x }) more in
+            ∙ ap (λ (x : CoreTrip). record (core_of s m) { trip = Some x }) more in
             let added = quiet-follows s (record now { trip = Some u }) acts
             (record m { trip = Some (with_extra c.args.n saved.0) }) state in
             let all = subst (λ (o : Outcome). ComesToOutcome s (record now { trip = Some u }) acts acts o)

@@ -3,7 +3,7 @@ use Rattle.std.proofs.Math.Nat.{mul-le-mul_left, mul-le-mul_right}
 use Rattle.std.proofs.lemmas.Nat.{mul-le}
 use Rattle.tariff_compile.proofs.Laws.{tables_are_fit}
 use Rattle.tariff_syntax.specs.declared.context.Context.{Context}
-use Rattle.totals_record.specs.declared.trip.Trip as store
+use Rattle.meter_states.specs.declared.trip.CoreTrip.{CoreTrip}
 use Rattle.meter_states.specs.Charge.{charge_at}
 use Rattle.meter_states.specs.Core.{CoreData, ComesToOutcome, core_of}
 use Rattle.meter_states.specs.EqualStages.{charged}
@@ -134,11 +134,11 @@ returns-clause-taken c =
     let beside = rw has at on.trip in
     let room = rw c.spare.ensures.value at c.most_times-n.ensures.room in
     let few : n * c.args.pulses ≤ n * 2000 = mul-le-mul_left n c.requires.pulses in
-    let pulses = ap (λ (x : store.Trip). x.pulses) value in
-    let ticks = ap (λ (x : store.Trip). x.ticks) value in
+    let pulses = ap (λ (x : CoreTrip). x.pulses) value in
+    let ticks = ap (λ (x : CoreTrip). x.ticks) value in
     record {
       lawful = subst (λ (q : CoreData). IsBetweenEvents tables (record q { trip = Some u })) (sym c.self.view_is)
-          (powered-trip t u has (ap (λ (x : store.Trip). x.started) value)
+          (powered-trip t u has (ap (λ (x : CoreTrip). x.started) value)
           (record {
             range = c.add_charged.ensures.range tables beside.range room;
             pulses = omega

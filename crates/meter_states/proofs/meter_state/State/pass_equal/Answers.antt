@@ -1,6 +1,6 @@
 use Rattle.std.proofs.Common.{◌≡◌, ◌+◌, ◌*◌, ◌≤◌, [], Some, ap, sym, subst, ◌∙◌, arith}
 use Rattle.std.proofs.Math.Nat.{mul-le-mul_left}
-use Rattle.totals_record.specs.declared.trip.Trip.{Trip}
+use Rattle.meter_states.specs.declared.trip.CoreTrip.{CoreTrip}
 use Rattle.tariff_compile.proofs.Laws.{tables_are_fit}
 use Rattle.meter_states.specs.Core.{CoreData, ComesToOutcome}
 use Rattle.meter_states.specs.EqualStages.{passed}
@@ -37,11 +37,11 @@ returns-clause-taken c = λ tables on.
     let has : c.args.self.now.trip ≡ Some t = sym (ap (λ (p : CoreData). p.trip) c.self.view_is) ∙ c.in-Some.is in
     let beside = rw has at on.trip in
     let few : n * c.args.pulses ≤ n * 2000 = mul-le-mul_left n c.requires.pulses in
-    let pulses = ap (λ (x : Trip). x.pulses) value in
-    let ticks = ap (λ (x : Trip). x.ticks) value in
+    let pulses = ap (λ (x : CoreTrip). x.pulses) value in
+    let ticks = ap (λ (x : CoreTrip). x.ticks) value in
     record {
       lawful = subst (λ (q : CoreData). IsBetweenEvents tables (record q { trip = Some u })) (sym c.self.view_is)
-          (powered-trip t u has (ap (λ (x : Trip). x.started) value)
+          (powered-trip t u has (ap (λ (x : CoreTrip). x.started) value)
           (record {
             range = c.add_passed.ensures.range tables beside.range;
             pulses = omega

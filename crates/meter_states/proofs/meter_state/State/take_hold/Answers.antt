@@ -1,6 +1,7 @@
 use Rattle.std.proofs.Common.{Option, option_map, sym, subst, ap, ◌∙◌}
 use Rattle.totals_record.specs.declared.trip.Trip.{Trip}
-use Rattle.meter_states.specs.Core.{ComesToOutcome, forgotten}
+use Rattle.meter_states.specs.Core.{ComesToOutcome}
+use Rattle.meter_states.specs.Trip.{core_trip_in}
 use Rattle.meter_states.specs.Supply.{hold_taken}
 use Rattle.meter_states.proofs.meter_state.State.take_hold.Goals as goal
 
@@ -34,7 +35,7 @@ returns-in-Some-clause-ranges g c = c.take_held.ensures.ranges
 pub returns-in-Some-clause-follows : goal.returns-in-Some-clause-follows
 returns-in-Some-clause-follows g c = λ s m is saved e.
     subst (λ (o : Option Trip). ComesToOutcome s c.take_held.new.self c.args.acts.now.items c.take_held.new.acts.items (hold_taken s c.args.second o m)) (sym c.in-Some.is)
-    (c.take_held.ensures.follows s m is (ap (option_map forgotten) (sym c.in-Some.is) ∙ saved) e)
+    (c.take_held.ensures.follows s m is (ap (option_map core_trip_in) (sym c.in-Some.is) ∙ saved) e)
 
 pub returns-in-Some-clause-steps : goal.returns-in-Some-clause-steps
 returns-in-Some-clause-steps g c = c.take_held.ensures.steps

@@ -3,34 +3,29 @@ use Rattle.totals_record.specs.Ranges as store
 use Rattle.meter_states.specs.Core.{CoreData}
 use Rattle.meter_states.specs.Fits.{Fits}
 use Rattle.meter_states.specs.Supply.{is_stopped}
+use Rattle.meter_states.specs.Trip.{saved_at}
 use Rattle.meter_states.proofs.HeldForms.{held-fits, held-range}
-use Rattle.meter_states.proofs.meter_state.State.held_form.Goals as goal
+use Rattle.meter_states.proofs.meter_state.State.saved_trip.Goals as goal
 
 pub returns-clause-value : goal.returns-clause-value
 returns-clause-value c =
-    let t = c.args.trip in
+    let t = c.args.trip.now in
     let now = c.args.self.now in
     let here = c.self.inside in
-    ap (λ (n : ℕ). record t { saved = n; stopped = c.is_stopped.result; position = here.position; zone = here.zone })
+    c.saved_at.ensures
+    ∙ ap (λ (n : ℕ). saved_at n c.is_stopped.result here.position here.zone t)
     (c.second.ensures ∙ ap (λ (p : CoreData). p.clock) c.self.view_is)
-    ∙ ap (λ (b : Bool). record t { saved = now.clock; stopped = b; position = here.position; zone = here.zone })
-    c.is_stopped.ensures
-    ∙ ap (λ (p : CoreData). record t {
-      saved = now.clock;
-      stopped = is_stopped now.operating;
-      position = p.position;
-      zone
-          = p.zone;
-    }) c.self.view_is
+    ∙ ap (λ (b : Bool). saved_at now.clock b here.position here.zone t) c.is_stopped.ensures
+    ∙ ap (λ (p : CoreData). saved_at now.clock (is_stopped now.operating) p.position p.zone t) c.self.view_is
 
 pub returns-clause-range : goal.returns-clause-range
 returns-clause-range c =
     let core = c.args.self.now in
     subst (store.IsTripInItsRanges (core.number + 1)) (sym (returns-clause-value c)) (held-range c.requires.lawful.0 core
-    (is_stopped core.operating) c.args.trip c.requires.lawful.1 c.requires.trip)
+    (is_stopped core.operating) c.args.trip.now c.requires.lawful.1 c.requires.trip)
 
 pub returns-clause-fits : goal.returns-clause-fits
 returns-clause-fits c = λ tables on.
     let core = c.args.self.now in
     subst (Fits tables) (sym (returns-clause-value c)) (held-fits tables core
-    (is_stopped core.operating) c.args.trip on c.requires.trip)
+    (is_stopped core.operating) c.args.trip.now on c.requires.trip)
