@@ -14,7 +14,7 @@ ghost use Rattle.meter_run.specs.Dry.{BreaksOff, Carries, IsReady};
 ghost use Rattle.meter_run.specs.Texts.{shown_text, shown_texts};
 
 use crate::advancing::advance;
-use crate::carrier::Carrier;
+use crate::carrier::{Carrier, SealedTables};
 use crate::printing::{print_display, print_refusal};
 use meter_states::{Act, Acts, Core};
 use outside::{Board, Failed};
@@ -134,34 +134,33 @@ impl<B: Board<L>, L: Ledger> Carrier<B, L> for DryMeter {
     ghost use Rattle.meter_run.specs.Dry.{Carries, BreaksOff, IsReady};
     ghost use Rattle.meter_run.specs.DryLaws.{breaks_later, breaks_sooner, carries_none, carries_then};
 
-    ghost ready = { λ tables seal meter board. IsReady tables seal meter.core meter.durable };
+    ghost ready = { λ r meter board. IsReady r.tables.now r.seal.now meter.core meter.durable };
 
-    ghost carried = { λ tables seal x a events y b. Carries B.Board tables seal x a events y b };
+    ghost carried = { λ r x a events y b. Carries B.Board r.tables.now r.seal.now x a events y b };
 
-    ghost broke_off = { λ tables seal x a events b. BreaksOff B.Board tables seal x a events b };
+    ghost broke_off = { λ r x a events b. BreaksOff B.Board r.tables.now r.seal.now x a events b };
 
-    ghost nothing = { λ t k x a ready. carries_none _ t k x a };
+    ghost nothing = { λ r x a ready. carries_none _ r.tables.now r.seal.now x a };
 
-    ghost behind = { λ t k es fs x a y b z c first next. carries_then _ t k es fs x a y b z c first next };
+    ghost behind = { λ r es fs x a y b z c h i. carries_then _ r.tables.now r.seal.now es fs x a y b z c h i };
 
-    ghost later = { λ t k es fs x a y b c first next. breaks_later _ t k es fs x a y b c first next };
+    ghost later = { λ r es fs x a y b c h i. breaks_later _ r.tables.now r.seal.now es fs x a y b c h i };
 
-    ghost sooner = { λ t k es fs x a c h. breaks_sooner _ t k es fs x a c h };
+    ghost sooner = { λ r es fs x a c h. breaks_sooner _ r.tables.now r.seal.now es fs x a c h };
 
-    fn carry_equal(&mut self, tables: &Tables, seal: &Seal, pulses: u32, count: u32) -> u32 {
-        self.core.equal_intervals(tables, seal, pulses, count)
+    fn carry_equal(&mut self, by: &SealedTables<'_>, pulses: u32, count: u32) -> u32 {
+        self.core.equal_intervals(by.tables, by.seal, pulses, count)
     }
 
     #[inline(always)]
     fn carry_out(
         &mut self,
-        tables: &Tables,
-        seal: &Seal,
+        by: &SealedTables<'_>,
         event: Event,
         acts: &mut Acts,
         board: &mut B,
         steps: &mut Steps<L>,
     ) -> Result<(), Failed> {
-        self.carry_event(tables, seal, event, acts, board, steps)
+        self.carry_event(by.tables, by.seal, event, acts, board, steps)
     }
 }

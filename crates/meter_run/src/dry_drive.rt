@@ -8,7 +8,7 @@ ghost use Rattle.meter_run.specs.Drives.{IsBoundedBy, RunsDrive, answer_of};
 ghost use Rattle.meter_run.specs.Dry.{IsReady, Prints, PrintsSome};
 
 use crate::advancing::is_off;
-use crate::carrier::Carrier;
+use crate::carrier::{Carrier, SealedTables};
 use crate::drive::carry_drive;
 use crate::dry::DryMeter;
 use crate::fault::RunFault;
@@ -52,8 +52,9 @@ pub fn dry_run<F: Files, B: Board<L>, L: Ledger>(
     ensures store { KeepsStore B.Board board.old board.new }
 {
     tables.known();
+    let by = SealedTables { tables, seal };
     let mut meter = DryMeter::new();
-    match carry_drive(&mut meter, tables, seal, files, word, board, steps) {
+    match carry_drive(&mut meter, &by, files, word, board, steps) {
         Ok(stop) => match drop_at_end(&mut meter, tables, seal, board, steps) {
             Ok(()) => answer(stop),
             Err(_) => Err(RunFault::BoardFault),
@@ -82,7 +83,8 @@ fn drop_at_end<B: Board<L>, L: Ledger>(
         return Ok(());
     }
     let mut acts = Acts::new();
-    meter.carry_out(tables, seal, Event::Down, &mut acts, board, steps)
+    let by = SealedTables { tables, seal };
+    meter.carry_out(&by, Event::Down, &mut acts, board, steps)
 }
 
 /// The answer of a run that stopped so.

@@ -10,7 +10,7 @@ ghost use Rattle.meter_run.specs.OnStore.{Agrees, Attempts, IsReadyOn};
 ghost use Rattle.meter_run.specs.Supply.{KeepsOff};
 
 use crate::advancing::{advance, is_off};
-use crate::carrier::Carrier;
+use crate::carrier::{Carrier, SealedTables};
 use crate::printing::print_refusal;
 use crate::reading::read_store;
 use crate::stored::{Known, StoreMeter};
@@ -171,13 +171,13 @@ impl<B: Board<L>, L: Ledger> Carrier<B, L> for StoreMeter {
     ghost use Rattle.meter_run.specs.StoreLaws.{amid_sooner};
     ghost use Rattle.meter_run.specs.SupplyLaws.{carried_later, carried_none, carried_then};
 
-    ghost ready = { λ tables seal meter board. IsReadyOn B.Board tables seal meter board };
+    ghost ready = { λ r meter board. IsReadyOn B.Board r.tables.now r.seal.now meter board };
 
-    ghost carried = { λ tables seal x a events y b. CarriesEvents B.Board tables seal events x a y b };
+    ghost carried = { λ r x a events y b. CarriesEvents B.Board r.tables.now r.seal.now events x a y b };
 
-    ghost broke_off = { λ tables seal x a events b. StopsAmid B.Board tables seal (λ s m. run s events m) x a b };
+    ghost broke_off = { λ r x a events b. StopsAmid B.Board r.tables.now r.seal.now (λ s m. run s events m) x a b };
 
-    ghost nothing = { λ t k x a ready. carried_none (record {
+    ghost nothing = { λ r x a ready. carried_none (record {
       tells_image = B.tells_image;
       tells_text = B.tells_text;
       image = B.image;
@@ -186,28 +186,27 @@ impl<B: Board<L>, L: Ledger> Carrier<B, L> for StoreMeter {
       moment = B.moment;
       left_since = B.left_since;
       faults = B.faults;
-    }) t k x a (B.only_now a) };
+    }) r.tables.now r.seal.now x a (B.only_now a) };
 
-    ghost behind = { λ t k es fs x a y b z c first next. carried_then _ t k es fs x a y b z c first next };
+    ghost behind = { λ r es fs x a y b z c h i. carried_then _ r.tables.now r.seal.now es fs x a y b z c h i };
 
-    ghost later = { λ t k es fs x a y b c first next. carried_later _ t k es fs x a y b c first next };
+    ghost later = { λ r es fs x a y b c h i. carried_later _ r.tables.now r.seal.now es fs x a y b c h i };
 
-    ghost sooner = { λ t k es fs x a c h. amid_sooner _ t k es fs x a c h };
+    ghost sooner = { λ r es fs x a c h. amid_sooner _ r.tables.now r.seal.now es fs x a c h };
 
     #[inline(always)]
     fn carry_out(
         &mut self,
-        tables: &Tables,
-        seal: &Seal,
+        by: &SealedTables<'_>,
         event: Event,
         acts: &mut Acts,
         board: &mut B,
         steps: &mut Steps<L>,
     ) -> Result<(), Failed> {
-        self.carry_event(tables, seal, event, acts, board, steps)
+        self.carry_event(by.tables, by.seal, event, acts, board, steps)
     }
 
-    fn carry_equal(&mut self, tables: &Tables, seal: &Seal, pulses: u32, count: u32) -> u32 {
-        self.core.equal_intervals(tables, seal, pulses, count)
+    fn carry_equal(&mut self, by: &SealedTables<'_>, pulses: u32, count: u32) -> u32 {
+        self.core.equal_intervals(by.tables, by.seal, pulses, count)
     }
 }

@@ -10,7 +10,7 @@ ghost use Rattle.meter_run.specs.OnStore.{CarriesOut, IsReadyOn, StopsAmid, Writ
 ghost use Rattle.meter_run.specs.Runs.{EndsRun, LeavesPoints};
 
 use crate::advancing::is_off;
-use crate::carrier::Carrier;
+use crate::carrier::{Carrier, SealedTables};
 use crate::drive::carry_drive;
 use crate::dry_drive::answer;
 use crate::fault::RunFault;
@@ -67,8 +67,9 @@ pub fn run_events<F: Files, B: Board<L>, L: Ledger>(
         (F.faults files.old other) (F.faults files.new other) }
 {
     tables.known();
+    let by = SealedTables { tables, seal };
     let mut meter = StoreMeter::new();
-    match carry_drive(&mut meter, tables, seal, files, word, board, steps) {
+    match carry_drive(&mut meter, &by, files, word, board, steps) {
         Ok(stop) => match end(&mut meter, tables, seal, board, steps) {
             Ok(()) => answer(stop),
             Err(_) => Err(RunFault::BoardFault),
@@ -97,5 +98,6 @@ fn end<B: Board<L>, L: Ledger>(
         return Ok(());
     }
     let mut acts = Acts::new();
-    meter.carry_out(tables, seal, Event::Down, &mut acts, board, steps)
+    let by = SealedTables { tables, seal };
+    meter.carry_out(&by, Event::Down, &mut acts, board, steps)
 }

@@ -12,14 +12,13 @@ use Rattle.meter_run.proofs.drive.carry_drive.Goals as goal
 
 pub loop-stop-init : goal.loop-stop-init
 loop-stop-init g c =
-    let t = c.args.tables.now in
-    let k = c.args.seal.now in
+    let r = c.args.by.now in
     let m = c.args.meter.now in
     let b = c.args.board.now in
     record {
       ready = c.requires.ready;
-      so_far = so_far_none g.F.Files.tells c.new-source.result (g.F.Files.rest c.args.files.now c.args.word) (λ (es : List Event). g.C.Carrier.carried t k m b es m b) c.args.steps.now
-          c.new-source.ensures.given c.new-source.ensures.none (g.met.C.Carrier.nothing t k m b c.requires.ready);
+      so_far = so_far_none g.F.Files.tells c.new-source.result (g.F.Files.rest c.args.files.now c.args.word) (λ (es : List Event). g.C.Carrier.carried r m b es m b) c.args.steps.now
+          c.new-source.ensures.given c.new-source.ensures.none (g.met.C.Carrier.nothing r m b c.requires.ready);
       faults = no_more (g.B.Board.faults b);
       others = λ other differs. refl;
       counts = λ other. no_more (g.F.Files.faults c.args.files.now other);
@@ -58,38 +57,36 @@ returns-in_err-carry_runs-clause-counts g c = λ other. may_rise_behind (c.loop-
 
 pub returns-in_err-carry_runs-clause-broke_off : goal.returns-in_err-carry_runs-clause-broke_off
 returns-in_err-carry_runs-clause-broke_off g c =
-    let t = c.args.tables.now in
-    let k = c.args.seal.now in
+    let r = c.args.by.now in
     let m = c.args.meter.now in
     let b = c.args.board.now in
     let s = c.loop-stop.invariant.so_far in
     let new = c.carry_runs.new.board in
     let runs = c.next-stop.new.runs.items in
-    let broken = subst (λ (rs : List Run). g.C.Carrier.broke_off t k c.loop-stop.meter c.loop-stop.board (flat_map run_events rs) new) c.as_slice.ensures.value c.in_err-carry_runs.ensures.broke_off in
+    let broken = subst (λ (rs : List Run). g.C.Carrier.broke_off r c.loop-stop.meter c.loop-stop.board (flat_map run_events rs) new) c.as_slice.ensures.value c.in_err-carry_runs.ensures.broke_off in
     on_err c.from_residual.result
-    (BreaksDrive g.F.Files.tells (g.F.Files.rest c.args.files.now c.args.word) (g.F.Files.rest c.next-stop.new.files c.args.word) (λ (es : List Event). g.C.Carrier.broke_off t k m b es new) c.args.steps.now c.carry_runs.new.steps)
+    (BreaksDrive g.F.Files.tells (g.F.Files.rest c.args.files.now c.args.word) (g.F.Files.rest c.next-stop.new.files c.args.word) (λ (es : List Event). g.C.Carrier.broke_off r m b es new) c.args.steps.now c.carry_runs.new.steps)
     (breaks_amid g.F.Files.tells c.loop-stop.source c.next-stop.new.self (g.F.Files.rest c.args.files.now c.args.word) (g.F.Files.rest c.loop-stop.files c.args.word) (g.F.Files.rest c.next-stop.new.files c.args.word)
-    (λ (es : List Event). g.C.Carrier.carried t k m b es c.loop-stop.meter c.loop-stop.board) (λ (es : List Event). g.C.Carrier.broke_off t k m b es new)
+    (λ (es : List Event). g.C.Carrier.carried r m b es c.loop-stop.meter c.loop-stop.board) (λ (es : List Event). g.C.Carrier.broke_off r m b es new)
     c.args.steps.now c.loop-stop.steps c.carry_runs.new.steps runs c.next-stop.result s
     (λ none. c.next-stop.ensures.more none s.given s.stands)
     (λ x is. stop_at c.next-stop.result _ x is c.next-stop.ensures.stops s.given s.stands)
-    (λ done. g.met.C.Carrier.later t k (events_in s.given) (flat_map run_events runs) m b c.loop-stop.meter c.loop-stop.board new done broken)
-    (λ es fs h. g.met.C.Carrier.sooner t k es fs m b new h)
+    (λ done. g.met.C.Carrier.later r (events_in s.given) (flat_map run_events runs) m b c.loop-stop.meter c.loop-stop.board new done broken)
+    (λ es fs h. g.met.C.Carrier.sooner r es fs m b new h)
     (subst (λ (rs : List Run). IsBounded c.loop-stop.steps c.carry_runs.new.steps (flat_map run_events rs)) c.as_slice.ensures.value c.carry_runs.ensures.steps))
 
 pub returns-in-Some-clause-carried : goal.returns-in-Some-clause-carried
 returns-in-Some-clause-carried g c =
-    let t = c.args.tables.now in
-    let k = c.args.seal.now in
+    let r = c.args.by.now in
     let m = c.args.meter.now in
     let b = c.args.board.now in
     let s = c.loop-stop.invariant.so_far in
     let runs = c.next-stop.new.runs.items in
-    let next = subst (λ (rs : List Run). g.C.Carrier.carried t k c.loop-stop.meter c.loop-stop.board (flat_map run_events rs) c.carry_runs.new.meter c.carry_runs.new.board) c.as_slice.ensures.value c.in_ok-carry_runs.ensures.carried in
+    let next = subst (λ (rs : List Run). g.C.Carrier.carried r c.loop-stop.meter c.loop-stop.board (flat_map run_events rs) c.carry_runs.new.meter c.carry_runs.new.board) c.as_slice.ensures.value c.in_ok-carry_runs.ensures.carried in
     takes_last g.F.Files.tells c.loop-stop.source (g.F.Files.rest c.args.files.now c.args.word) (g.F.Files.rest c.loop-stop.files c.args.word) (g.F.Files.rest c.next-stop.new.files c.args.word)
-    (λ (es : List Event). g.C.Carrier.carried t k m b es c.loop-stop.meter c.loop-stop.board) (λ (es : List Event). g.C.Carrier.carried t k m b es c.carry_runs.new.meter c.carry_runs.new.board)
+    (λ (es : List Event). g.C.Carrier.carried r m b es c.loop-stop.meter c.loop-stop.board) (λ (es : List Event). g.C.Carrier.carried r m b es c.carry_runs.new.meter c.carry_runs.new.board)
     c.args.steps.now c.loop-stop.steps c.carry_runs.new.steps runs c.in-Some.stop s (c.in-Some.ensures.stops s.given s.stands)
-    (λ done. g.met.C.Carrier.behind t k (events_in s.given) (flat_map run_events runs) m b c.loop-stop.meter c.loop-stop.board c.carry_runs.new.meter c.carry_runs.new.board done next)
+    (λ done. g.met.C.Carrier.behind r (events_in s.given) (flat_map run_events runs) m b c.loop-stop.meter c.loop-stop.board c.carry_runs.new.meter c.carry_runs.new.board done next)
     (subst (λ (rs : List Run). IsBounded c.loop-stop.steps c.carry_runs.new.steps (flat_map run_events rs)) c.as_slice.ensures.value c.carry_runs.ensures.steps)
 
 pub returns-in-Some-clause-ready : goal.returns-in-Some-clause-ready
@@ -125,19 +122,18 @@ loop-stop-smaller g c =
 
 pub loop-stop-preserved : goal.loop-stop-preserved
 loop-stop-preserved g c =
-    let t = c.args.tables.now in
-    let k = c.args.seal.now in
+    let r = c.args.by.now in
     let m = c.args.meter.now in
     let b = c.args.board.now in
     let s = c.loop-stop.invariant.so_far in
     let runs = c.next-stop.new.runs.items in
-    let next = subst (λ (rs : List Run). g.C.Carrier.carried t k c.loop-stop.meter c.loop-stop.board (flat_map run_events rs) c.carry_runs.new.meter c.carry_runs.new.board) c.as_slice.ensures.value c.in_ok-carry_runs.ensures.carried in
+    let next = subst (λ (rs : List Run). g.C.Carrier.carried r c.loop-stop.meter c.loop-stop.board (flat_map run_events rs) c.carry_runs.new.meter c.carry_runs.new.board) c.as_slice.ensures.value c.in_ok-carry_runs.ensures.carried in
     record {
       ready = c.in_ok-carry_runs.ensures.ready;
       so_far = so_far_more g.F.Files.tells c.loop-stop.source c.next-stop.new.self (g.F.Files.rest c.args.files.now c.args.word) (g.F.Files.rest c.loop-stop.files c.args.word) (g.F.Files.rest c.next-stop.new.files c.args.word)
-          (λ (es : List Event). g.C.Carrier.carried t k m b es c.loop-stop.meter c.loop-stop.board) (λ (es : List Event). g.C.Carrier.carried t k m b es c.carry_runs.new.meter c.carry_runs.new.board)
+          (λ (es : List Event). g.C.Carrier.carried r m b es c.loop-stop.meter c.loop-stop.board) (λ (es : List Event). g.C.Carrier.carried r m b es c.carry_runs.new.meter c.carry_runs.new.board)
           c.args.steps.now c.loop-stop.steps c.carry_runs.new.steps runs s (c.next-stop.ensures.more c.in_default.is s.given s.stands)
-          (λ done. g.met.C.Carrier.behind t k (events_in s.given) (flat_map run_events runs) m b c.loop-stop.meter c.loop-stop.board c.carry_runs.new.meter c.carry_runs.new.board done next)
+          (λ done. g.met.C.Carrier.behind r (events_in s.given) (flat_map run_events runs) m b c.loop-stop.meter c.loop-stop.board c.carry_runs.new.meter c.carry_runs.new.board done next)
           (subst (λ (rs : List Run). IsBounded c.loop-stop.steps c.carry_runs.new.steps (flat_map run_events rs)) c.as_slice.ensures.value c.carry_runs.ensures.steps);
       faults = counts_more _ _ _ c.loop-stop.invariant.faults (c.in_ok-carry_runs.ensures.cause.kept refl);
       others = λ other differs. c.next-stop.ensures.others other differs ∙ c.loop-stop.invariant.others other differs;

@@ -5,9 +5,9 @@ use Rattle.meter_run.proofs.drive.carry_drive.Given as goal
 -- so far the runs of bytes of the drive were given, and their events were carried out
 abbrev pub invariant-loop-stop : goal.invariant-loop-stop
 invariant-loop-stop g l = record {
-  ready : g.C.Carrier.ready l.tables l.seal l.meter l.board;
+  ready : g.C.Carrier.ready l.by l.meter l.board;
   so_far : IsSoFar g.F.Files.tells l.source (g.F.Files.rest l.fn.files l.word) (g.F.Files.rest l.files l.word)
-      (λ events. g.C.Carrier.carried l.tables l.seal l.fn.meter l.fn.board events l.meter l.board) l.fn.steps l.steps;
+      (λ events. g.C.Carrier.carried l.by l.fn.meter l.fn.board events l.meter l.board) l.fn.steps l.steps;
   faults : g.B.Board.faults l.board ≡ g.B.Board.faults l.fn.board;
   others : (other : ℕ) → other ≢ l.word → g.F.Files.rest l.files other ≡ g.F.Files.rest l.fn.files other;
   counts : (other : ℕ) → g.F.Files.faults l.files other ≡ g.F.Files.faults l.fn.files other;

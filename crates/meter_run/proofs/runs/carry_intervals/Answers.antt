@@ -9,17 +9,16 @@ carry_equal-done-requires g c = (c.carry_interval.new.board, c.in_ok-carry_inter
 
 pub loop-done-preserved : goal.loop-done-preserved
 loop-done-preserved g c =
-    let t = c.args.tables.now in
-    let k = c.args.seal.now in
+    let r = c.args.by.now in
     let p = c.args.pulses in
     let i = c.loop-done.done in
     let n = c.carry_equal-done.result in
-    let one = intervals_carried (g.C.Carrier.carried t k) (g.C.Carrier.broke_off t k) (g.met.C.Carrier.behind t k) (g.met.C.Carrier.later t k) (g.met.C.Carrier.sooner t k)
+    let one = intervals_carried (g.C.Carrier.carried r) (g.C.Carrier.broke_off r) (g.met.C.Carrier.behind r) (g.met.C.Carrier.later r) (g.met.C.Carrier.sooner r)
     p i c.args.meter.now c.args.board.now c.loop-done.meter c.loop-done.board c.carry_interval.new.meter c.carry_interval.new.board c.loop-done.invariant.carried c.in_ok-carry_interval.ensures.carried in
     record {
       few = omega (arith, c.carry_equal-done.ensures.most);
       ready = c.carry_equal-done.ensures.ready c.carry_interval.new.board c.in_ok-carry_interval.ensures.ready;
-      carried = intervals_further (g.C.Carrier.carried t k) (g.C.Carrier.broke_off t k) (g.met.C.Carrier.behind t k) (g.met.C.Carrier.later t k) (g.met.C.Carrier.sooner t k)
+      carried = intervals_further (g.C.Carrier.carried r) (g.C.Carrier.broke_off r) (g.met.C.Carrier.behind r) (g.met.C.Carrier.later r) (g.met.C.Carrier.sooner r)
           p (i + 1) n c.args.meter.now c.args.board.now c.carry_interval.new.meter c.carry_interval.new.board c.carry_equal-done.new.self c.carry_interval.new.board one (c.carry_equal-done.ensures.carried c.carry_interval.new.board c.in_ok-carry_interval.ensures.ready);
       faults = counts_more _ _ _ c.loop-done.invariant.faults (c.in_ok-carry_interval.ensures.cause.kept refl);
       steps = bounded_further p (i + 1) n c.args.steps.now c.carry_interval.new.steps
@@ -28,9 +27,8 @@ loop-done-preserved g c =
 
 pub returns-in_err-carry_interval-clause-broke_off : goal.returns-in_err-carry_interval-clause-broke_off
 returns-in_err-carry_interval-clause-broke_off g c =
-    let t = c.args.tables.now in
-    let k = c.args.seal.now in
-    on_err c.from_residual.result _ (intervals_broken (g.C.Carrier.carried t k) (g.C.Carrier.broke_off t k) (g.met.C.Carrier.behind t k) (g.met.C.Carrier.later t k) (g.met.C.Carrier.sooner t k)
+    let r = c.args.by.now in
+    on_err c.from_residual.result _ (intervals_broken (g.C.Carrier.carried r) (g.C.Carrier.broke_off r) (g.met.C.Carrier.behind r) (g.met.C.Carrier.later r) (g.met.C.Carrier.sooner r)
     c.args.pulses c.loop-done.done c.args.count c.args.meter.now c.args.board.now c.loop-done.meter c.loop-done.board c.carry_interval.new.board c.loop-done-test.true c.loop-done.invariant.carried c.in_err-carry_interval.ensures.broke_off)
 
 pub returns-in_err-carry_interval-clause-steps : goal.returns-in_err-carry_interval-clause-steps
@@ -40,13 +38,13 @@ returns-in_err-carry_interval-clause-steps g c =
 pub returns-clause-carried : goal.returns-clause-carried
 returns-clause-carried g c =
     let all : c.loop-done.done ≡ c.args.count = omega (arith, c.loop-done-test.false, c.loop-done.invariant.few) in
-    subst (λ (n : ℕ). g.C.Carrier.carried c.args.tables.now c.args.seal.now c.args.meter.now c.args.board.now (intervals_events c.args.pulses n) c.loop-done.meter c.loop-done.board) all c.loop-done.invariant.carried
+    subst (λ (n : ℕ). g.C.Carrier.carried c.args.by.now c.args.meter.now c.args.board.now (intervals_events c.args.pulses n) c.loop-done.meter c.loop-done.board) all c.loop-done.invariant.carried
 
 pub loop-done-init : goal.loop-done-init
 loop-done-init g c = record {
   few = omega arith;
   ready = c.requires.ready;
-  carried = g.met.C.Carrier.nothing c.args.tables.now c.args.seal.now c.args.meter.now c.args.board.now c.requires.ready;
+  carried = g.met.C.Carrier.nothing c.args.by.now c.args.meter.now c.args.board.now c.requires.ready;
   faults = no_more (g.B.Board.faults c.args.board.now);
   steps = omega arith;
 }

@@ -8,13 +8,12 @@ use Rattle.meter_run.proofs.runs.carry_runs.Goals as goal
 
 pub loop-run-preserved : goal.loop-run-preserved
 loop-run-preserved g c =
-    let t = c.args.tables.now in
-    let k = c.args.seal.now in
+    let r = c.args.by.now in
     let runs = c.args.runs.now in
     let i = c.loop-run.run-index in
     record {
       ready = c.in_ok-carry_run.ensures.ready;
-      carried = runs_carried (g.C.Carrier.carried t k) (g.C.Carrier.broke_off t k) (g.met.C.Carrier.behind t k) (g.met.C.Carrier.later t k) (g.met.C.Carrier.sooner t k)
+      carried = runs_carried (g.C.Carrier.carried r) (g.C.Carrier.broke_off r) (g.met.C.Carrier.behind r) (g.met.C.Carrier.later r) (g.met.C.Carrier.sooner r)
           runs i _ c.args.meter.now c.args.board.now c.loop-run.meter c.loop-run.board c.carry_run.new.meter c.carry_run.new.board c.loop-run-test.true c.loop-run.invariant.carried c.in_ok-carry_run.ensures.carried;
       faults = counts_more _ _ _ c.loop-run.invariant.faults (c.in_ok-carry_run.ensures.cause.kept refl);
       steps = bounded_run runs i _ c.args.steps.now c.loop-run.steps c.carry_run.new.steps c.loop-run-test.true c.loop-run.invariant.steps c.carry_run.ensures.steps;
@@ -22,9 +21,8 @@ loop-run-preserved g c =
 
 pub returns-in_err-carry_run-clause-broke_off : goal.returns-in_err-carry_run-clause-broke_off
 returns-in_err-carry_run-clause-broke_off g c =
-    let t = c.args.tables.now in
-    let k = c.args.seal.now in
-    on_err c.from_residual.result _ (runs_broken (g.C.Carrier.carried t k) (g.C.Carrier.broke_off t k) (g.met.C.Carrier.behind t k) (g.met.C.Carrier.later t k) (g.met.C.Carrier.sooner t k)
+    let r = c.args.by.now in
+    on_err c.from_residual.result _ (runs_broken (g.C.Carrier.carried r) (g.C.Carrier.broke_off r) (g.met.C.Carrier.behind r) (g.met.C.Carrier.later r) (g.met.C.Carrier.sooner r)
     c.args.runs.now c.loop-run.run-index _ c.args.meter.now c.args.board.now c.loop-run.meter c.loop-run.board c.carry_run.new.board c.loop-run-test.true c.loop-run.invariant.carried c.in_err-carry_run.ensures.broke_off)
 
 pub returns-in_err-carry_run-clause-steps : goal.returns-in_err-carry_run-clause-steps
@@ -34,7 +32,7 @@ returns-in_err-carry_run-clause-steps g c =
 pub loop-run-init : goal.loop-run-init
 loop-run-init g c = record {
   ready = c.requires.ready;
-  carried = g.met.C.Carrier.nothing c.args.tables.now c.args.seal.now c.args.meter.now c.args.board.now c.requires.ready;
+  carried = g.met.C.Carrier.nothing c.args.by.now c.args.meter.now c.args.board.now c.requires.ready;
   faults = no_more (g.B.Board.faults c.args.board.now);
   steps = omega arith;
 }
@@ -56,7 +54,7 @@ returns-clause-ready g c = c.loop-run.invariant.ready
 
 pub returns-clause-carried : goal.returns-clause-carried
 returns-clause-carried g c =
-    subst (λ (runs : List Run). g.C.Carrier.carried c.args.tables.now c.args.seal.now c.args.meter.now c.args.board.now (flat_map run_events runs) c.loop-run.meter c.loop-run.board)
+    subst (λ (runs : List Run). g.C.Carrier.carried c.args.by.now c.args.meter.now c.args.board.now (flat_map run_events runs) c.loop-run.meter c.loop-run.board)
     (take_all c.loop-run.run-index c.args.runs.now c.loop-run-test.false) c.loop-run.invariant.carried
 
 pub returns-clause-broke_off : goal.returns-clause-broke_off
