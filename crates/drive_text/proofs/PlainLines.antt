@@ -105,26 +105,62 @@ in_range low high bytes number rest h above below = record { numeral = h.numeral
 begins : (line : List ℕ) (run : Run) (bytes rest : List ℕ) → bytes ≡ line ++ 10 ∷ rest → IsPlain line → Means line (run ∷ []) → BeginsWithLine bytes run rest
 begins line run bytes rest split plain means = record { line = line; split = split; one = no_lf line plain; gives = plain_run line run plain means }
 
-pub tick_line : (bytes behind rest : List ℕ) → bytes ≡ 84 ∷ behind → behind ≡ 10 ∷ rest → BeginsWithLine bytes (One Tick) rest
-tick_line bytes behind rest word end = begins (codes "T") (One Tick) bytes rest (word ∙ ap (λ (x : List ℕ). 84 ∷ x) end) (one_plain 84 (omega arith)) tick
+-- the byte in front of bytes, and what stands behind it
+in_front : (bytes : List ℕ) (byte : ℕ) → 1 ≤ length bytes → get_or bytes 0 0 ≡ byte
+    → bytes ≡ byte ∷ take (length bytes - 1) (drop 1 bytes)
+in_front [] byte some is = absurd (omega arith)
+in_front (x ∷ xs) byte some is =
+    let all : take (length (x ∷ xs) - 1) xs ≡ xs = take_all (length (x ∷ xs) - 1) xs (omega arith) in
+    ap (λ (y : ℕ). y ∷ xs) is ∙ ap (λ (ys : List ℕ). byte ∷ ys) (sym all)
 
-pub pulses_line : (bytes behind rest : List ℕ) (p : ℕ) → BeginsWithNumber bytes p behind → behind ≡ 10 ∷ rest → 1 ≤ p → p ≤ 65535 → BeginsWithLine (codes "P " ++ bytes) (One (Pulses p)) rest
-pulses_line bytes behind rest p h end some most =
-    let split : codes "P " ++ bytes ≡ (codes "P " ++ h.digits) ++ 10 ∷ rest = ap (λ (x : List ℕ). codes "P " ++ x) (h.split ∙ ap (λ (x : List ℕ). h.digits ++ x) end) in
-    let plain : IsPlain (codes "P " ++ h.digits) = more_plain 80 (32 ∷ h.digits) (omega arith) (more_plain 32 h.digits (omega arith) (plain_digits h.digits h.numeral.1)) in
-    begins (codes "P " ++ h.digits) (One (Pulses p)) (codes "P " ++ bytes) rest split plain (pulses p h.digits (in_range 1 65535 bytes p behind h some most))
+-- the two bytes in front
+two_in_front : (bytes : List ℕ) (first second : ℕ) → 2 ≤ length bytes → get_or bytes 0 0 ≡ first → get_or bytes 1 0 ≡ second
+    → bytes ≡ first ∷ second ∷ take (length bytes - 2) (drop 2 bytes)
+two_in_front [] first second some is next = absurd (omega arith)
+two_in_front (x ∷ []) first second some is next = absurd (omega arith)
+two_in_front (x ∷ y ∷ ys) first second some is next =
+    let all : take (length (x ∷ y ∷ ys) - 2) ys ≡ ys = take_all (length (x ∷ y ∷ ys) - 2) ys (omega arith) in
+    ap (λ (n : ℕ). n ∷ y ∷ ys) is ∙ (ap (λ (n : ℕ). first ∷ n ∷ ys) next ∙ ap (λ (zs : List ℕ). first ∷ second ∷ zs) (sym all))
 
-pub intervals_line : (bytes behind second end rest : List ℕ) (p n : ℕ) → BeginsWithNumber bytes p behind → behind ≡ 32 ∷ second → BeginsWithNumber second n end → end ≡ 10 ∷ rest → p ≤ 65535 → 1 ≤ n → n ≤ 36000 → BeginsWithLine (codes "I " ++ bytes) (Many p n) rest
-intervals_line bytes behind second end rest p n h blank k lf few some most =
+pub tick_line : (bytes : List ℕ) → 2 ≤ length bytes → get_or bytes 0 0 ≡ 84 → get_or bytes 1 0 ≡ 10
+    → BeginsWithLine bytes (One Tick) (take (length bytes - 2) (drop 2 bytes))
+tick_line bytes some word end =
+    begins (codes "T") (One Tick) bytes (take (length bytes - 2) (drop 2 bytes)) (two_in_front bytes 84 10 some word end)
+    (one_plain 84 (omega arith)) tick
+
+pub pulses_line : (bytes behind : List ℕ) (p : ℕ) → BeginsWithNumber bytes p behind → 1 ≤ length behind
+    → get_or behind 0 0 ≡ 10 → 1 ≤ p → p ≤ 65535
+    → BeginsWithLine (codes "P " ++ bytes) (One (Pulses p)) (take (length behind - 1) (drop 1 behind))
+pulses_line bytes behind p h some end least most =
+    let rest : List ℕ = take (length behind - 1) (drop 1 behind) in
+    let parts : bytes ≡ h.digits ++ 10 ∷ rest = h.split ∙ ap (λ (x : List ℕ). h.digits ++ x) (in_front behind 10 some end) in
+    let split : codes "P " ++ bytes ≡ (codes "P " ++ h.digits) ++ 10 ∷ rest = ap (λ (x : List ℕ). codes "P " ++ x) parts in
+    let digits : IsPlain h.digits = plain_digits h.digits h.numeral.1 in
+    let plain : IsPlain (codes "P " ++ h.digits) = more_plain 80 (32 ∷ h.digits) (omega arith) (more_plain 32 h.digits (omega arith) digits) in
+    begins (codes "P " ++ h.digits) (One (Pulses p)) (codes "P " ++ bytes) rest split plain
+    (pulses p h.digits (in_range 1 65535 bytes p behind h least most))
+
+-- the second number stands behind the blank, and the LF behind that
+pub intervals_line : (bytes behind end : List ℕ) (p n : ℕ) → BeginsWithNumber bytes p behind → 1 ≤ length behind
+    → get_or behind 0 0 ≡ 32 → BeginsWithNumber (take (length behind - 1) (drop 1 behind)) n end → 1 ≤ length end
+    → get_or end 0 0 ≡ 10 → p ≤ 65535 → 1 ≤ n → n ≤ 36000
+    → BeginsWithLine (codes "I " ++ bytes) (Many p n) (take (length end - 1) (drop 1 end))
+intervals_line bytes behind end p n h more blank k some lf few least most =
+    let second : List ℕ = take (length behind - 1) (drop 1 behind) in
+    let rest : List ℕ = take (length end - 1) (drop 1 end) in
     let fields : List ℕ = h.digits ++ (codes " " ++ k.digits) in
+    let last : second ≡ k.digits ++ 10 ∷ rest = k.split ∙ ap (λ (x : List ℕ). k.digits ++ x) (in_front end 10 some lf) in
+    let whole : behind ≡ 32 ∷ k.digits ++ 10 ∷ rest = in_front behind 32 more blank ∙ ap (λ (x : List ℕ). 32 ∷ x) last in
     let parts : bytes ≡ fields ++ 10 ∷ rest =
-    h.split ∙ (ap (λ (x : List ℕ). h.digits ++ x) (blank ∙ ap (λ (x : List ℕ). 32 ∷ x) (k.split ∙ ap (λ (x : List ℕ). k.digits ++ x) lf)) ∙ sym (append_assoc h.digits (codes " " ++ k.digits) (10 ∷ rest))) in
-    let numbers : IsPlain fields = All-append (λ x. 32 ≤ x) h.digits (codes " " ++ k.digits) (plain_digits h.digits h.numeral.1) (more_plain 32 k.digits (omega arith) (plain_digits k.digits k.numeral.1)) in
-    begins (codes "I " ++ fields) (Many p n) (codes "I " ++ bytes) rest (ap (λ (x : List ℕ). codes "I " ++ x) parts) (more_plain 73 (32 ∷ fields) (omega arith) (more_plain 32 fields (omega arith) numbers))
-    (intervals p n h.digits k.digits (in_range 0 65535 bytes p behind h (omega arith) few) (in_range 1 36000 second n end k some most))
+    h.split ∙ (ap (λ (x : List ℕ). h.digits ++ x) whole ∙ sym (append_assoc h.digits (codes " " ++ k.digits) (10 ∷ rest))) in
+    let numbers : IsPlain fields = All-append (λ x. 32 ≤ x) h.digits (codes " " ++ k.digits) (plain_digits h.digits h.numeral.1)
+    (more_plain 32 k.digits (omega arith) (plain_digits k.digits k.numeral.1)) in
+    begins (codes "I " ++ fields) (Many p n) (codes "I " ++ bytes) rest (ap (λ (x : List ℕ). codes "I " ++ x) parts)
+    (more_plain 73 (32 ∷ fields) (omega arith) (more_plain 32 fields (omega arith) numbers))
+    (intervals p n h.digits k.digits (in_range 0 65535 bytes p behind h (omega arith) few) (in_range 1 36000 second n end k least most))
 
 -- what is taken of a part is taken of a piece that begins with it
-takes_before : (old new : Reading) (part piece rest : List ℕ) (before after : List Run) → piece ≡ part ++ rest → TakesPart old new part [] before after → TakesPart old new piece rest before after
+pub takes_before : (old new : Reading) (part piece rest : List ℕ) (before after : List Run) → piece ≡ part ++ rest → TakesPart old new part [] before after → TakesPart old new piece rest before after
 takes_before old new part piece rest before after split t = record {
   part = t.part;
   split = split ∙ ap (λ (x : List ℕ). x ++ rest) (t.split ∙ append-nil t.part);
@@ -138,6 +174,14 @@ takes_before old new part piece rest before after split t = record {
   read = t.read;
   quiet = t.quiet;
 }
+
+-- what is taken of a part is taken of a piece that is that part, with nothing left
+pub takes_whole : (old new : Reading) (piece line : List ℕ) (runs : List Run) → piece ≡ line
+    → TakesPart old new line [] runs runs
+    → TakesPart old new piece (take (length line - length line) (drop (length line) line)) runs runs
+takes_whole old new piece line runs is t =
+    let none : length line - length line ≡ 0 = omega arith in
+    rw (none, is) t
 
 next_number : (r : Reading) → r.kept ≡ [] → line_number_of r ≡ r.begun + 1
 next_number r none = rw none refl

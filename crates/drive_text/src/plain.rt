@@ -1,6 +1,6 @@
 //! The lines that a drive has most of, read in one pass over their bytes: ticks, pulses and intervals, with numbers of
 //! at most 5 digits and an LF alone at the end. Where a line isn't read so, nothing is said of it: fields.rt reads it.
-ghost use Rattle.std.specs.Prelude.{◌≡◌, ◌∷◌, ◌++◌, IfSome, codes};
+ghost use Rattle.std.specs.Prelude.{◌++◌, IfSome, codes};
 ghost use Rattle.drive_text.specs.Plain.{BeginsWithLine, BeginsWithNumber};
 
 use crate::run::Run;
@@ -26,22 +26,19 @@ fn short_number(bytes: &[u8]) -> Option<(u32, &[u8])>
     Some((number, &bytes[count..]))
 }
 
-/// What stands behind this byte at the front of the bytes.
-fn behind(bytes: &[u8], byte: u8) -> Option<&[u8]>
-    ensures { IfSome result (λ rest. bytes.now ≡ byte ∷ rest.now) }
-{
-    let (first, rest) = bytes.split_first()?;
-    if *first == byte { Some(rest) } else { None }
-}
-
 /// The intervals of a line, from behind its word and blank.
 #[tactic(auto, using(crate::proofs::PlainLines::intervals_line))]
 fn plain_intervals(bytes: &[u8]) -> Option<(Run, &[u8])>
     ensures { IfSome result (λ x. BeginsWithLine (codes "I " ++ bytes.now) x.0 x.1.now) }
 {
     let (pulses, rest) = short_number(bytes)?;
-    let (count, rest) = short_number(behind(rest, b' ')?)?;
-    let rest = behind(rest, b'\n')?;
+    let [b' ', rest @ ..] = rest else {
+        return None;
+    };
+    let (count, rest) = short_number(rest)?;
+    let [b'\n', rest @ ..] = rest else {
+        return None;
+    };
     if pulses > 65535 || count == 0 || count > 36000 {
         return None;
     }
@@ -54,7 +51,9 @@ fn plain_pulses(bytes: &[u8]) -> Option<(Run, &[u8])>
     ensures { IfSome result (λ x. BeginsWithLine (codes "P " ++ bytes.now) x.0 x.1.now) }
 {
     let (pulses, rest) = short_number(bytes)?;
-    let rest = behind(rest, b'\n')?;
+    let [b'\n', rest @ ..] = rest else {
+        return None;
+    };
     if pulses == 0 || pulses > 65535 {
         return None;
     }
@@ -66,11 +65,10 @@ fn plain_pulses(bytes: &[u8]) -> Option<(Run, &[u8])>
 pub(crate) fn plain_line(bytes: &[u8]) -> Option<(Run, &[u8])>
     ensures { IfSome result (λ x. BeginsWithLine bytes.now x.0 x.1.now) }
 {
-    let (word, rest) = bytes.split_first()?;
-    match *word {
-        b'I' => plain_intervals(behind(rest, b' ')?),
-        b'P' => plain_pulses(behind(rest, b' ')?),
-        b'T' => Some((Run::One(Event::Tick), behind(rest, b'\n')?)),
+    match bytes {
+        [b'I', b' ', rest @ ..] => plain_intervals(rest),
+        [b'P', b' ', rest @ ..] => plain_pulses(rest),
+        [b'T', b'\n', rest @ ..] => Some((Run::One(Event::Tick), rest)),
         _ => None,
     }
 }

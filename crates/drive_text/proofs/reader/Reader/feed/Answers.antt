@@ -5,7 +5,7 @@ use Rattle.std.proofs.lemmas.Result.{err_from_is_err_and}
 use Rattle.drive_text.specs.declared.run.Run.{Run}
 use Rattle.drive_text.specs.Ranges.{IsRunInRange}
 use Rattle.drive_text.specs.Reading.{Reading, HasTaken}
-use Rattle.drive_text.proofs.Feeding.{Feeds, feeds_none, feeds_more, takes_to, feeds_reader, breaks_in, breaks_reader, some_taken}
+use Rattle.drive_text.proofs.Feeding.{Feeds, feeds_none, feeds_more, takes_to, feeds_reader, breaks_in, breaks_reader, some_taken, shorter}
 use Rattle.drive_text.proofs.Standing.{failed_stays}
 use Rattle.drive_text.proofs.reader.Reader.feed.Goals as goal
 
@@ -89,3 +89,14 @@ pub returns-clause-runs : goal.returns-clause-runs
 returns-clause-runs c = λ b h.
     let none : length c.loop-rest.rest.now ≡ 0 = search rules in
     takes_to c.args.self.now _ c.args.piece.now c.loop-rest.rest.now c.args.out.now.items c.loop-rest.out.items _ c.loop-rest.invariant (none_left c.loop-rest.rest.now none (length c.args.piece.now)) (inl none) b h
+
+pub overflow_sub-result : goal.overflow_sub-result
+overflow_sub-result c =
+    let f = c.loop-rest.invariant in
+    omega (arith, ap length f.split, length-append f.done c.loop-rest.rest.now)
+
+pub loop-rest-smaller : goal.loop-rest-smaller
+loop-rest-smaller c = shorter _ _ _ _ _ _ c.in_ok-rest.ensures.ok
+
+pub returns-clause-range : goal.returns-clause-range
+returns-clause-range c = the_range c.args.out.now.items c.loop-rest.invariant.runs c.loop-rest.out.items c.loop-rest.invariant.added c.loop-rest.invariant.in_range

@@ -2,7 +2,7 @@ use Rattle.std.proofs.Common.{rules, ◌≡◌, length, ◌++◌, ◌∷◌, [],
 use Rattle.std.proofs.lemmas.Result.{err_from_is_err_and}
 use Rattle.drive_text.specs.Part.{reading_of}
 use Rattle.drive_text.proofs.Feeding.{fails_before, split_of}
-use Rattle.drive_text.proofs.PlainLines.{takes_plain}
+use Rattle.drive_text.proofs.PlainLines.{takes_plain, takes_before, takes_whole}
 use Rattle.drive_text.proofs.state.State.take.Goals as goal
 
 pub returns-clause-ok : goal.returns-clause-ok
@@ -16,3 +16,17 @@ returns-in_err-end_line-in-Some-rest-clause-err c =
     let p = err_from_is_err_and c.from_residual.result c.from_residual.ensures.1 in
     rw (p.1, p.2) (fails_before (reading_of c.args.self.now) (reading_of c.end_line.new.self) (c.split_at_byte.result.0.now ++ 10 ∷ []) c.args.piece.now c.in-Some-rest.rest.now _
     (parts ∙ sym (append_assoc c.split_at_byte.result.0.now (10 ∷ []) c.in-Some-rest.rest.now)) c.in_err-end_line-in-Some-rest.ensures.err)
+
+pub returns-in_ok-end_line-in-Some-rest-clause-ok : goal.returns-in_ok-end_line-in-Some-rest-clause-ok
+returns-in_ok-end_line-in-Some-rest-clause-ok c =
+    let line = c.split_at_byte.result.0.now in
+    let rest = c.in-Some-rest.rest.now in
+    let parts = split_of (λ r. r.now) c.args.piece.now line c.split_at_byte.result.1 c.in-Some-rest.rest c.in-Some-rest.is c.split_at_byte.ensures.after in
+    takes_before (reading_of c.args.self.now) _ (line ++ 10 ∷ []) c.args.piece.now rest c.args.out.now.items c.end_line.new.out.items
+    (parts ∙ sym (append_assoc line (10 ∷ []) rest)) c.in_ok-end_line-in-Some-rest.ensures.ok
+
+pub returns-in_ok-keep-in-None-clause-ok : goal.returns-in_ok-keep-in-None-clause-ok
+returns-in_ok-keep-in-None-clause-ok c =
+    let whole = rw c.in-None.is at c.split_at_byte.ensures.after in
+    takes_whole (reading_of c.args.self.now) _ c.args.piece.now c.split_at_byte.result.0.now c.args.out.now.items whole
+    (c.in_ok-keep-in-None.ensures.ok c.args.out.now.items)
