@@ -2,8 +2,14 @@ use Rattle.std.proofs.Common.{◌≡◌, ◌∙◌, ◌-◌, sym, subst, pos, �
 use Rattle.std.proofs.lemmas.Int.{to_z-of_z}
 use Rattle.jiff_core.proofs.SignedLemmas.{signed_arith}
 use Rattle.interval_clock.specs.Offsets.{IsInForce, IsOffsetList, offset_at, offset_of}
-use Rattle.interval_clock.proofs.OffsetLists.{found_in_force, offset_from-in_force}
+use Rattle.interval_clock.proofs.OffsetLists.{found_in_force, offset_from-in_force, parted}
 use Rattle.interval_clock.proofs.offsets.Offsets.at.Goals as goal
+
+pub at_most-found-requires : goal.at_most-found-requires
+at_most-found-requires g c =
+    let same : c.of.result ≡ c.args.self.now = c.of.ensures ∙ c.pairs.ensures.value in
+    let list : IsOffsetList c.of.result = rw same c.pairs.ensures.lawful in
+    parted c.of.result c.args.second list
 
 pub returns-in-Some-clause-value : goal.returns-in-Some-clause-value
 returns-in-Some-clause-value g c =
