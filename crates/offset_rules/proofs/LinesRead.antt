@@ -30,6 +30,19 @@ pub record StandsAt {A : Type 0} (Form : List ℕ → A → Type 0) (text : List
 four_parts : (a b c d rest : List ℕ) → a ++ (32 ∷ (b ++ (32 ∷ (c ++ (32 ∷ (d ++ rest)))))) ≡ (a ++ (32 ∷ (b ++ (32 ∷ (c ++ (32 ∷ d)))))) ++ rest
 four_parts a b c d rest = sym (simp append_assoc)
 
+-- a text that is parted into four parts, with a blank before each but the first, and a rest
+parted : (text a b c d after_a from_b after_b from_c after_c from_d rest : List ℕ) → text ≡ a ++ after_a
+    → after_a ≡ 32 ∷ from_b → from_b ≡ b ++ after_b → after_b ≡ 32 ∷ from_c → from_c ≡ c ++ after_c
+    → after_c ≡ 32 ∷ from_d → from_d ≡ d ++ rest
+    → text ≡ (a ++ (32 ∷ (b ++ (32 ∷ (c ++ (32 ∷ d)))))) ++ rest
+parted text a b c d after_a from_b after_b from_c after_c from_d rest e1 e2 e3 e4 e5 e6 e7 =
+    rw (e1, e2, e3, e4, e5, e6, e7) (four_parts a b c d rest)
+
+-- a text that is a name, a value and an LF, and a rest
+named : (text name value after_name after_value rest : List ℕ) → text ≡ name ++ after_name
+    → after_name ≡ value ++ after_value → after_value ≡ 10 ∷ rest → text ≡ (name ++ value) ++ 10 ∷ rest
+named text name value after_name after_value rest e1 e2 e3 = rw (e1, e2, e3) (sym (append_assoc name value (10 ∷ rest)))
+
 pub change_is : (text : List ℕ) (x : Change × List ℕ) → change_at text ≡ Some x → StandsAt IsChangeText text x.0 x.1
 unfolding change_at
 change_is text x e =
@@ -45,12 +58,11 @@ change_is text x e =
     let m = name_is month_names months.0 month.0 month.1 in
     let t = time_is time.0 minute.0 minute.1 in
     let change : Change = record { number = number.0.0; weekday = weekday.0.0; month = month.0.0; minute = minute.0.0 } in
-    let last : month.0.1 ≡ 32 ∷ (t.time ++ minute.0.1) = word_is (32 ∷ []) month.0.1 time.0 time.1 ∙ ap (λ (r : List ℕ). 32 ∷ r) t.text_is in
-    let third : weekday.0.1 ≡ 32 ∷ (m.name ++ (32 ∷ (t.time ++ minute.0.1))) = word_is (32 ∷ []) weekday.0.1 months.0 months.1 ∙ ap (λ (r : List ℕ). 32 ∷ r) (m.text_is ∙ ap (λ (r : List ℕ). m.name ++ r) last) in
-    let second : number.0.1 ≡ 32 ∷ (w.name ++ (32 ∷ (m.name ++ (32 ∷ (t.time ++ minute.0.1))))) = word_is (32 ∷ []) number.0.1 days.0 days.1 ∙ ap (λ (r : List ℕ). 32 ∷ r) (w.text_is ∙ ap (λ (r : List ℕ). w.name ++ r) third) in
     let there : StandsAt IsChangeText text change minute.0.1 = record {
       front = n.name ++ (32 ∷ (w.name ++ (32 ∷ (m.name ++ (32 ∷ t.time)))));
-      text_is = n.text_is ∙ (ap (λ (r : List ℕ). n.name ++ r) second ∙ four_parts n.name w.name m.name t.time minute.0.1);
+      text_is = parted text n.name w.name m.name t.time number.0.1 days.0 weekday.0.1 months.0 month.0.1 time.0 minute.0.1
+          n.text_is (word_is (32 ∷ []) number.0.1 days.0 days.1) w.text_is (word_is (32 ∷ []) weekday.0.1 months.0 months.1)
+          m.text_is (word_is (32 ∷ []) month.0.1 time.0 time.1) t.text_is;
       is = record { number = n.name; weekday = w.name; month = m.name; time = t.time; text_is = refl; number_is = n.is; weekday_is = w.is; month_is = m.is; time_is = t.is };
     } in
     subst (λ (z : Change × List ℕ). StandsAt IsChangeText text z.0 z.1) (same_pair (change, minute.0.1) x minute.2) there
@@ -89,7 +101,7 @@ offset_line_is name text x e =
     let after = word_is (10 ∷ []) offset.0.1 rest.0 rest.1 in
     let there : LineFirst (IsOffsetLine name) text offset.0.0 rest.0 = record {
       line = name ++ o.value;
-      text_is = word_is name text value.0 value.1 ∙ (ap (λ (t : List ℕ). name ++ t) (o.text_is ∙ ap (λ (t : List ℕ). o.value ++ t) after) ∙ sym (append_assoc name o.value (10 ∷ rest.0)));
+      text_is = named text name o.value value.0 offset.0.1 rest.0 (word_is name text value.0 value.1) o.text_is after;
       is = record { value = o.value; line_is = refl; value_is = o.seconds };
     } in
     subst (λ (z : ℤ × List ℕ). LineFirst (IsOffsetLine name) text z.0 z.1) (same_pair (offset.0.0, rest.0) x rest.2) there
@@ -110,7 +122,7 @@ change_line_is name text x e =
     let after = word_is (10 ∷ []) change.0.1 rest.0 rest.1 in
     let there : LineFirst (IsChangeLine name) text change.0.0 rest.0 = record {
       line = name ++ c.front;
-      text_is = word_is name text value.0 value.1 ∙ (ap (λ (t : List ℕ). name ++ t) (c.text_is ∙ ap (λ (t : List ℕ). c.front ++ t) after) ∙ sym (append_assoc name c.front (10 ∷ rest.0)));
+      text_is = named text name c.front value.0 change.0.1 rest.0 (word_is name text value.0 value.1) c.text_is after;
       is = record { value = c.front; line_is = refl; value_is = c.is };
     } in
     subst (λ (z : Change × List ℕ). LineFirst (IsChangeLine name) text z.0 z.1) (same_pair (change.0.0, rest.0) x rest.2) there
