@@ -140,7 +140,43 @@ pulses_line bytes behind p h some end least most =
     begins (codes "P " ++ h.digits) (One (Pulses p)) (codes "P " ++ bytes) rest split plain
     (pulses p h.digits (in_range 1 65535 bytes p behind h least most))
 
--- the second number stands behind the blank, and the LF behind that
+-- the three bytes in front
+three_in_front : (bytes : List ℕ) (first second third : ℕ) → 3 ≤ length bytes → get_or bytes 0 0 ≡ first
+    → get_or bytes 1 0 ≡ second → get_or bytes 2 0 ≡ third
+    → bytes ≡ first ∷ second ∷ third ∷ take (length bytes - 3) (drop 3 bytes)
+three_in_front [] first second third some is next last = absurd (omega arith)
+three_in_front (x ∷ []) first second third some is next last = absurd (omega arith)
+three_in_front (x ∷ y ∷ []) first second third some is next last = absurd (omega arith)
+three_in_front (x ∷ y ∷ z ∷ zs) first second third some is next last =
+    let all : take (length (x ∷ y ∷ z ∷ zs) - 3) zs ≡ zs = take_all (length (x ∷ y ∷ z ∷ zs) - 3) zs (omega arith) in
+    rw (all, is, next, last) refl
+
+-- the number 1 as it is written
+number_one : IsNumberIn 1 36000 (49 ∷ []) 1
+number_one =
+    let one : digit_value 49 ≡ 1 = digit_value_is 49 refl in
+    record {
+      numeral = (omega arith, (omega (arith, one), tt));
+      few = omega arith;
+      value = omega (arith, one);
+      above = omega arith;
+      below = omega arith;
+    }
+
+-- the digits of the second number stand behind the blank, and the LF behind them
+intervals_text : (bytes behind digits rest : List ℕ) (p n : ℕ) → BeginsWithNumber bytes p behind
+    → behind ≡ 32 ∷ (digits ++ 10 ∷ rest) → p ≤ 65535 → IsNumberIn 1 36000 digits n
+    → BeginsWithLine (codes "I " ++ bytes) (Many p n) rest
+intervals_text bytes behind digits rest p n h blank few k =
+    let fields : List ℕ = h.digits ++ (codes " " ++ digits) in
+    let parts : bytes ≡ fields ++ 10 ∷ rest =
+    h.split ∙ (ap (λ (x : List ℕ). h.digits ++ x) blank ∙ sym (append_assoc h.digits (codes " " ++ digits) (10 ∷ rest))) in
+    let numbers : IsPlain fields = All-append (λ x. 32 ≤ x) h.digits (codes " " ++ digits) (plain_digits h.digits h.numeral.1)
+    (more_plain 32 digits (omega arith) (plain_digits digits k.numeral.1)) in
+    begins (codes "I " ++ fields) (Many p n) (codes "I " ++ bytes) rest (ap (λ (x : List ℕ). codes "I " ++ x) parts)
+    (more_plain 73 (32 ∷ fields) (omega arith) (more_plain 32 fields (omega arith) numbers))
+    (intervals p n h.digits digits (in_range 0 65535 bytes p behind h (omega arith) few) k)
+
 pub intervals_line : (bytes behind end : List ℕ) (p n : ℕ) → BeginsWithNumber bytes p behind → 1 ≤ length behind
     → get_or behind 0 0 ≡ 32 → BeginsWithNumber (take (length behind - 1) (drop 1 behind)) n end → 1 ≤ length end
     → get_or end 0 0 ≡ 10 → p ≤ 65535 → 1 ≤ n → n ≤ 36000
@@ -148,16 +184,17 @@ pub intervals_line : (bytes behind end : List ℕ) (p n : ℕ) → BeginsWithNum
 intervals_line bytes behind end p n h more blank k some lf few least most =
     let second : List ℕ = take (length behind - 1) (drop 1 behind) in
     let rest : List ℕ = take (length end - 1) (drop 1 end) in
-    let fields : List ℕ = h.digits ++ (codes " " ++ k.digits) in
     let last : second ≡ k.digits ++ 10 ∷ rest = k.split ∙ ap (λ (x : List ℕ). k.digits ++ x) (in_front end 10 some lf) in
-    let whole : behind ≡ 32 ∷ k.digits ++ 10 ∷ rest = in_front behind 32 more blank ∙ ap (λ (x : List ℕ). 32 ∷ x) last in
-    let parts : bytes ≡ fields ++ 10 ∷ rest =
-    h.split ∙ (ap (λ (x : List ℕ). h.digits ++ x) whole ∙ sym (append_assoc h.digits (codes " " ++ k.digits) (10 ∷ rest))) in
-    let numbers : IsPlain fields = All-append (λ x. 32 ≤ x) h.digits (codes " " ++ k.digits) (plain_digits h.digits h.numeral.1)
-    (more_plain 32 k.digits (omega arith) (plain_digits k.digits k.numeral.1)) in
-    begins (codes "I " ++ fields) (Many p n) (codes "I " ++ bytes) rest (ap (λ (x : List ℕ). codes "I " ++ x) parts)
-    (more_plain 73 (32 ∷ fields) (omega arith) (more_plain 32 fields (omega arith) numbers))
-    (intervals p n h.digits k.digits (in_range 0 65535 bytes p behind h (omega arith) few) (in_range 1 36000 second n end k least most))
+    let whole : behind ≡ 32 ∷ (k.digits ++ 10 ∷ rest) = in_front behind 32 more blank ∙ ap (λ (x : List ℕ). 32 ∷ x) last in
+    intervals_text bytes behind k.digits rest p n h whole few (in_range 1 36000 second n end k least most)
+
+-- a line of one interval
+pub one_interval_line : (bytes behind : List ℕ) (p : ℕ) → BeginsWithNumber bytes p behind → 3 ≤ length behind
+    → get_or behind 0 0 ≡ 32 → get_or behind 1 0 ≡ 49 → get_or behind 2 0 ≡ 10 → p ≤ 65535
+    → BeginsWithLine (codes "I " ++ bytes) (Many p 1) (take (length behind - 3) (drop 3 behind))
+one_interval_line bytes behind p h some blank one lf few =
+    intervals_text bytes behind (49 ∷ []) (take (length behind - 3) (drop 3 behind)) p 1 h
+    (three_in_front behind 32 49 10 some blank one lf) few number_one
 
 -- what is taken of a part is taken of a piece that begins with it
 pub takes_before : (old new : Reading) (part piece rest : List ℕ) (before after : List Run) → piece ≡ part ++ rest → TakesPart old new part [] before after → TakesPart old new piece rest before after

@@ -26,12 +26,18 @@ fn short_number(bytes: &[u8]) -> Option<(u32, &[u8])>
     Some((number, &bytes[count..]))
 }
 
-/// The intervals of a line, from behind its word and blank.
+/// The intervals of a line, from behind its word and blank. A meter that is fed while it runs has one a line.
 #[tactic(auto, using(crate::proofs::PlainLines::intervals_line))]
 fn plain_intervals(bytes: &[u8]) -> Option<(Run, &[u8])>
     ensures { IfSome result (λ x. BeginsWithLine (codes "I " ++ bytes.now) x.0 x.1.now) }
 {
     let (pulses, rest) = short_number(bytes)?;
+    if pulses > 65535 {
+        return None;
+    }
+    if let [b' ', b'1', b'\n', rest @ ..] = rest {
+        return Some((Run::Many { pulses, count: 1 }, rest));
+    }
     let [b' ', rest @ ..] = rest else {
         return None;
     };
@@ -39,7 +45,7 @@ fn plain_intervals(bytes: &[u8]) -> Option<(Run, &[u8])>
     let [b'\n', rest @ ..] = rest else {
         return None;
     };
-    if pulses > 65535 || count == 0 || count > 36000 {
+    if count == 0 || count > 36000 {
         return None;
     }
     Some((Run::Many { pulses, count }, rest))
