@@ -1,6 +1,7 @@
 //! The board, which has a store and prints.
 ghost use Rattle.std.specs.Prelude.{◌≡◌, ◌⊎◌, ℕ, ◌+◌, ◌<◌, ◌≤◌, ◌++◌, List, length, take, drop, OnOk};
-ghost use Rattle.outside.specs.Disk.{store_size, piece_size, IsImage, IsPiece, IsWithin, SameBut, MayLeave, MayLeaveAmid, Elapses};
+ghost use Rattle.outside.specs.Disk.{piece_size, store_size, CallTakes, IsImage, IsPiece, IsWithin, MayLeave, PieceTakes};
+ghost use Rattle.outside.specs.Disk.{SameBut};
 ghost use Rattle.outside.specs.Faults.{HasCause};
 ghost use Rattle.outside.specs.Printing.{Begins};
 
@@ -56,8 +57,7 @@ pub trait Board<L: Ledger> {
         ensures image { image self.new ≡ image self.old }
         ensures flight { (place : ℕ) → in_flight self.new place → in_flight self.old place }
         ensures text { printed self.new ≡ printed self.old }
-        ensures time { Elapses (moment self.old) (moment self.new) (left_since self.old) (left_since self.new)
-            (MayLeave (image self.new) (in_flight self.new) (printed self.new)) }
+        ensures time { CallTakes moment left_since image in_flight printed self.old self.new }
         ensures cause { HasCause (faults self.old) (faults self.new) result }
         ensures step { steps.new ≡ steps.old + 1 };
 
@@ -70,8 +70,7 @@ pub trait Board<L: Ledger> {
         ensures flight { (place : ℕ) → in_flight self.new place → in_flight self.old place
             ⊎ IsWithin at (length bytes.now) place }
         ensures text { printed self.new ≡ printed self.old }
-        ensures time { Elapses (moment self.old) (moment self.new) (left_since self.old) (left_since self.new)
-            (MayLeave (image self.new) (in_flight self.new) (printed self.new)) }
+        ensures time { CallTakes moment left_since image in_flight printed self.old self.new }
         ensures cause { HasCause (faults self.old) (faults self.new) result }
         ensures step { steps.new ≡ steps.old + 1 };
 
@@ -83,8 +82,7 @@ pub trait Board<L: Ledger> {
         ensures image { SameBut (in_flight self.old) (image self.old) (image self.new) }
         ensures flight { (place : ℕ) → in_flight self.new place → in_flight self.old place }
         ensures text { printed self.new ≡ printed self.old }
-        ensures time { Elapses (moment self.old) (moment self.new) (left_since self.old) (left_since self.new)
-            (MayLeave (image self.new) (in_flight self.new) (printed self.new)) }
+        ensures time { CallTakes moment left_since image in_flight printed self.old self.new }
         ensures cause { HasCause (faults self.old) (faults self.new) result }
         ensures step { steps.new ≡ steps.old + 1 };
 
@@ -97,8 +95,7 @@ pub trait Board<L: Ledger> {
         ensures begun { tells_text → Begins (printed self.old) (printed self.new) bytes.now }
         ensures image { image self.new ≡ image self.old }
         ensures flight { (place : ℕ) → in_flight self.new place → in_flight self.old place }
-        ensures time { Elapses (moment self.old) (moment self.new) (left_since self.old) (left_since self.new)
-            (MayLeaveAmid (image self.new) (in_flight self.new) (printed self.old) bytes.now) }
+        ensures time { PieceTakes moment left_since image in_flight printed bytes.now self.old self.new }
         ensures cause { HasCause (faults self.old) (faults self.new) result }
         ensures step { steps.new ≡ steps.old + 1 };
 
