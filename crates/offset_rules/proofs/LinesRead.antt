@@ -63,7 +63,7 @@ change_is text x e =
       text_is = parted text n.name w.name m.name t.time number.0.1 days.0 weekday.0.1 months.0 month.0.1 time.0 minute.0.1
           n.text_is (word_is (32 ∷ []) number.0.1 days.0 days.1) w.text_is (word_is (32 ∷ []) weekday.0.1 months.0 months.1)
           m.text_is (word_is (32 ∷ []) month.0.1 time.0 time.1) t.text_is;
-      is = record { number = n.name; weekday = w.name; month = m.name; time = t.time; text_is = refl; number_is = n.is; weekday_is = w.is; month_is = m.is; time_is = t.is };
+      is = record { number = n.name; weekday = w.name; month = m.name; time = t.time; text_is = refl {a = n.name ++ (32 ∷ (w.name ++ (32 ∷ (m.name ++ (32 ∷ t.time)))))}; number_is = n.is; weekday_is = w.is; month_is = m.is; time_is = t.is };
     } in
     subst (λ (z : Change × List ℕ). StandsAt IsChangeText text z.0 z.1) (same_pair (change, minute.0.1) x minute.2) there
 
@@ -102,7 +102,7 @@ offset_line_is name text x e =
     let there : LineFirst (IsOffsetLine name) text offset.0.0 rest.0 = record {
       line = name ++ o.value;
       text_is = named text name o.value value.0 offset.0.1 rest.0 (word_is name text value.0 value.1) o.text_is after;
-      is = record { value = o.value; line_is = refl; value_is = o.seconds };
+      is = record { value = o.value; line_is = refl {a = name ++ o.value}; value_is = o.seconds };
     } in
     subst (λ (z : ℤ × List ℕ). LineFirst (IsOffsetLine name) text z.0 z.1) (same_pair (offset.0.0, rest.0) x rest.2) there
 
@@ -123,7 +123,7 @@ change_line_is name text x e =
     let there : LineFirst (IsChangeLine name) text change.0.0 rest.0 = record {
       line = name ++ c.front;
       text_is = named text name c.front value.0 change.0.1 rest.0 (word_is name text value.0 value.1) c.text_is after;
-      is = record { value = c.front; line_is = refl; value_is = c.is };
+      is = record { value = c.front; line_is = refl {a = name ++ c.front}; value_is = c.is };
     } in
     subst (λ (z : Change × List ℕ). LineFirst (IsChangeLine name) text z.0 z.1) (same_pair (change.0.0, rest.0) x rest.2) there
 
