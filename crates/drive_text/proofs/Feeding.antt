@@ -103,8 +103,8 @@ fails_before old new part piece rest line is h = record {
     whole b = ap (λ (x : List ℕ). b ++ x) is ∙ sym (append_assoc b part rest)
 
 -- what is left of a piece behind a part is shorter
-pub shorter : (old new : Reading) (piece rest : List ℕ) (before after : List Run) → TakesPart old new piece rest before after
-    → length rest < length piece
+pub shorter : (old new : Reading) (piece rest : List ℕ) (before after : List Run)
+    → TakesPart old new piece rest before after → length rest < length piece
 shorter old new piece rest before after t = omega (arith, t.some, ap length t.split, length-append t.part rest)
 
 -- ---- a piece

@@ -114,29 +114,32 @@ in_front (x ∷ xs) byte some is =
     ap (λ (y : ℕ). y ∷ xs) is ∙ ap (λ (ys : List ℕ). byte ∷ ys) (sym all)
 
 -- the two bytes in front
-two_in_front : (bytes : List ℕ) (first second : ℕ) → 2 ≤ length bytes → get_or bytes 0 0 ≡ first → get_or bytes 1 0 ≡ second
-    → bytes ≡ first ∷ second ∷ take (length bytes - 2) (drop 2 bytes)
+two_in_front : (bytes : List ℕ) (first second : ℕ) → 2 ≤ length bytes → get_or bytes 0 0 ≡ first
+    → get_or bytes 1 0 ≡ second → bytes ≡ first ∷ second ∷ take (length bytes - 2) (drop 2 bytes)
 two_in_front [] first second some is next = absurd (omega arith)
 two_in_front (x ∷ []) first second some is next = absurd (omega arith)
 two_in_front (x ∷ y ∷ ys) first second some is next =
     let all : take (length (x ∷ y ∷ ys) - 2) ys ≡ ys = take_all (length (x ∷ y ∷ ys) - 2) ys (omega arith) in
-    ap (λ (n : ℕ). n ∷ y ∷ ys) is ∙ (ap (λ (n : ℕ). first ∷ n ∷ ys) next ∙ ap (λ (zs : List ℕ). first ∷ second ∷ zs) (sym all))
+    rw (all, is, next) refl
 
 pub tick_line : (bytes : List ℕ) → 2 ≤ length bytes → get_or bytes 0 0 ≡ 84 → get_or bytes 1 0 ≡ 10
     → BeginsWithLine bytes (One Tick) (take (length bytes - 2) (drop 2 bytes))
 tick_line bytes some word end =
-    begins (codes "T") (One Tick) bytes (take (length bytes - 2) (drop 2 bytes)) (two_in_front bytes 84 10 some word end)
-    (one_plain 84 (omega arith)) tick
+    let split : bytes ≡ 84 ∷ 10 ∷ take (length bytes - 2) (drop 2 bytes) = two_in_front bytes 84 10 some word end in
+    begins (codes "T") (One Tick) bytes (take (length bytes - 2) (drop 2 bytes)) split (one_plain 84 (omega arith)) tick
 
 pub pulses_line : (bytes behind : List ℕ) (p : ℕ) → BeginsWithNumber bytes p behind → 1 ≤ length behind
     → get_or behind 0 0 ≡ 10 → 1 ≤ p → p ≤ 65535
     → BeginsWithLine (codes "P " ++ bytes) (One (Pulses p)) (take (length behind - 1) (drop 1 behind))
 pulses_line bytes behind p h some end least most =
     let rest : List ℕ = take (length behind - 1) (drop 1 behind) in
-    let parts : bytes ≡ h.digits ++ 10 ∷ rest = h.split ∙ ap (λ (x : List ℕ). h.digits ++ x) (in_front behind 10 some end) in
-    let split : codes "P " ++ bytes ≡ (codes "P " ++ h.digits) ++ 10 ∷ rest = ap (λ (x : List ℕ). codes "P " ++ x) parts in
+    let last : behind ≡ 10 ∷ rest = in_front behind 10 some end in
+    let parts : bytes ≡ h.digits ++ 10 ∷ rest = h.split ∙ ap (λ (x : List ℕ). h.digits ++ x) last in
+    let split : codes "P " ++ bytes ≡ (codes "P " ++ h.digits) ++ 10 ∷ rest =
+    ap (λ (x : List ℕ). codes "P " ++ x) parts in
     let digits : IsPlain h.digits = plain_digits h.digits h.numeral.1 in
-    let plain : IsPlain (codes "P " ++ h.digits) = more_plain 80 (32 ∷ h.digits) (omega arith) (more_plain 32 h.digits (omega arith) digits) in
+    let plain : IsPlain (codes "P " ++ h.digits) =
+    more_plain 80 (32 ∷ h.digits) (omega arith) (more_plain 32 h.digits (omega arith) digits) in
     begins (codes "P " ++ h.digits) (One (Pulses p)) (codes "P " ++ bytes) rest split plain
     (pulses p h.digits (in_range 1 65535 bytes p behind h least most))
 
@@ -170,9 +173,11 @@ intervals_text : (bytes behind digits rest : List ℕ) (p n : ℕ) → BeginsWit
 intervals_text bytes behind digits rest p n h blank few k =
     let fields : List ℕ = h.digits ++ (codes " " ++ digits) in
     let parts : bytes ≡ fields ++ 10 ∷ rest =
-    h.split ∙ (ap (λ (x : List ℕ). h.digits ++ x) blank ∙ sym (append_assoc h.digits (codes " " ++ digits) (10 ∷ rest))) in
-    let numbers : IsPlain fields = All-append (λ x. 32 ≤ x) h.digits (codes " " ++ digits) (plain_digits h.digits h.numeral.1)
-    (more_plain 32 digits (omega arith) (plain_digits digits k.numeral.1)) in
+    h.split ∙ (ap (λ (x : List ℕ). h.digits ++ x) blank
+    ∙ sym (append_assoc h.digits (codes " " ++ digits) (10 ∷ rest))) in
+    let second : IsPlain (codes " " ++ digits) = more_plain 32 digits (omega arith) (plain_digits digits k.numeral.1) in
+    let numbers : IsPlain fields =
+    All-append (λ x. 32 ≤ x) h.digits (codes " " ++ digits) (plain_digits h.digits h.numeral.1) second in
     begins (codes "I " ++ fields) (Many p n) (codes "I " ++ bytes) rest (ap (λ (x : List ℕ). codes "I " ++ x) parts)
     (more_plain 73 (32 ∷ fields) (omega arith) (more_plain 32 fields (omega arith) numbers))
     (intervals p n h.digits digits (in_range 0 65535 bytes p behind h (omega arith) few) k)
@@ -184,8 +189,10 @@ pub intervals_line : (bytes behind end : List ℕ) (p n : ℕ) → BeginsWithNum
 intervals_line bytes behind end p n h more blank k some lf few least most =
     let second : List ℕ = take (length behind - 1) (drop 1 behind) in
     let rest : List ℕ = take (length end - 1) (drop 1 end) in
-    let last : second ≡ k.digits ++ 10 ∷ rest = k.split ∙ ap (λ (x : List ℕ). k.digits ++ x) (in_front end 10 some lf) in
-    let whole : behind ≡ 32 ∷ (k.digits ++ 10 ∷ rest) = in_front behind 32 more blank ∙ ap (λ (x : List ℕ). 32 ∷ x) last in
+    let last : second ≡ k.digits ++ 10 ∷ rest =
+    k.split ∙ ap (λ (x : List ℕ). k.digits ++ x) (in_front end 10 some lf) in
+    let whole : behind ≡ 32 ∷ (k.digits ++ 10 ∷ rest) =
+    in_front behind 32 more blank ∙ ap (λ (x : List ℕ). 32 ∷ x) last in
     intervals_text bytes behind k.digits rest p n h whole few (in_range 1 36000 second n end k least most)
 
 -- a line of one interval
@@ -197,7 +204,8 @@ one_interval_line bytes behind p h some blank one lf few =
     (three_in_front behind 32 49 10 some blank one lf) few number_one
 
 -- what is taken of a part is taken of a piece that begins with it
-pub takes_before : (old new : Reading) (part piece rest : List ℕ) (before after : List Run) → piece ≡ part ++ rest → TakesPart old new part [] before after → TakesPart old new piece rest before after
+pub takes_before : (old new : Reading) (part piece rest : List ℕ) (before after : List Run) → piece ≡ part ++ rest
+    → TakesPart old new part [] before after → TakesPart old new piece rest before after
 takes_before old new part piece rest before after split t = record {
   part = t.part;
   split = split ∙ ap (λ (x : List ℕ). x ++ rest) (t.split ∙ append-nil t.part);

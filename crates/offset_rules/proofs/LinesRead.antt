@@ -60,10 +60,21 @@ change_is text x e =
     let change : Change = record { number = number.0.0; weekday = weekday.0.0; month = month.0.0; minute = minute.0.0 } in
     let there : StandsAt IsChangeText text change minute.0.1 = record {
       front = n.name ++ (32 ∷ (w.name ++ (32 ∷ (m.name ++ (32 ∷ t.time)))));
-      text_is = parted text n.name w.name m.name t.time number.0.1 days.0 weekday.0.1 months.0 month.0.1 time.0 minute.0.1
-          n.text_is (word_is (32 ∷ []) number.0.1 days.0 days.1) w.text_is (word_is (32 ∷ []) weekday.0.1 months.0 months.1)
-          m.text_is (word_is (32 ∷ []) month.0.1 time.0 time.1) t.text_is;
-      is = record { number = n.name; weekday = w.name; month = m.name; time = t.time; text_is = refl {a = n.name ++ (32 ∷ (w.name ++ (32 ∷ (m.name ++ (32 ∷ t.time)))))}; number_is = n.is; weekday_is = w.is; month_is = m.is; time_is = t.is };
+      text_is = parted text n.name w.name m.name t.time number.0.1 days.0 weekday.0.1 months.0 month.0.1 time.0
+          minute.0.1 n.text_is (word_is (32 ∷ []) number.0.1 days.0 days.1) w.text_is
+          (word_is (32 ∷ []) weekday.0.1 months.0 months.1) m.text_is
+          (word_is (32 ∷ []) month.0.1 time.0 time.1) t.text_is;
+      is = record {
+        number = n.name;
+        weekday = w.name;
+        month = m.name;
+        time = t.time;
+        text_is = refl {a = n.name ++ (32 ∷ (w.name ++ (32 ∷ (m.name ++ (32 ∷ t.time)))))};
+        number_is = n.is;
+        weekday_is = w.is;
+        month_is = m.is;
+        time_is = t.is;
+      };
     } in
     subst (λ (z : Change × List ℕ). StandsAt IsChangeText text z.0 z.1) (same_pair (change, minute.0.1) x minute.2) there
 

@@ -5,7 +5,8 @@ use Rattle.std.proofs.lemmas.Result.{err_from_is_err_and}
 use Rattle.drive_text.specs.declared.run.Run.{Run}
 use Rattle.drive_text.specs.Ranges.{IsRunInRange}
 use Rattle.drive_text.specs.Reading.{Reading, HasTaken}
-use Rattle.drive_text.proofs.Feeding.{Feeds, feeds_none, feeds_more, takes_to, feeds_reader, breaks_in, breaks_reader, some_taken, shorter}
+use Rattle.drive_text.proofs.Feeding.{Feeds, feeds_none, feeds_more, takes_to, feeds_reader}
+use Rattle.drive_text.proofs.Feeding.{breaks_in, breaks_reader, some_taken, shorter}
 use Rattle.drive_text.proofs.Standing.{failed_stays}
 use Rattle.drive_text.proofs.reader.Reader.feed.Goals as goal
 
@@ -99,4 +100,6 @@ pub loop-rest-smaller : goal.loop-rest-smaller
 loop-rest-smaller c = shorter _ _ _ _ _ _ c.in_ok-rest.ensures.ok
 
 pub returns-clause-range : goal.returns-clause-range
-returns-clause-range c = the_range c.args.out.now.items c.loop-rest.invariant.runs c.loop-rest.out.items c.loop-rest.invariant.added c.loop-rest.invariant.in_range
+returns-clause-range c =
+    let f = c.loop-rest.invariant in
+    the_range c.args.out.now.items f.runs c.loop-rest.out.items f.added f.in_range

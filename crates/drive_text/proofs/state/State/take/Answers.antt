@@ -21,9 +21,11 @@ pub returns-in_ok-end_line-in-Some-rest-clause-ok : goal.returns-in_ok-end_line-
 returns-in_ok-end_line-in-Some-rest-clause-ok c =
     let line = c.split_at_byte.result.0.now in
     let rest = c.in-Some-rest.rest.now in
-    let parts = split_of (λ r. r.now) c.args.piece.now line c.split_at_byte.result.1 c.in-Some-rest.rest c.in-Some-rest.is c.split_at_byte.ensures.after in
-    takes_before (reading_of c.args.self.now) _ (line ++ 10 ∷ []) c.args.piece.now rest c.args.out.now.items c.end_line.new.out.items
-    (parts ∙ sym (append_assoc line (10 ∷ []) rest)) c.in_ok-end_line-in-Some-rest.ensures.ok
+    let found = c.split_at_byte.result.1 in
+    let parts = split_of (λ r. r.now) c.args.piece.now line found c.in-Some-rest.rest c.in-Some-rest.is
+    c.split_at_byte.ensures.after in
+    takes_before (reading_of c.args.self.now) _ (line ++ 10 ∷ []) c.args.piece.now rest c.args.out.now.items
+    c.end_line.new.out.items (parts ∙ sym (append_assoc line (10 ∷ []) rest)) c.in_ok-end_line-in-Some-rest.ensures.ok
 
 pub returns-in_ok-keep-in-None-clause-ok : goal.returns-in_ok-keep-in-None-clause-ok
 returns-in_ok-keep-in-None-clause-ok c =
