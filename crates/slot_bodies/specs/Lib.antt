@@ -1,2 +1,4 @@
 pub mod Bodies
 pub mod BytesAt
+pub mod Codec
+pub mod ReadBack

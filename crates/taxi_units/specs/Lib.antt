@@ -12,6 +12,7 @@ pub mod NumberStages
 pub mod Parting
 pub mod Reading
 pub mod Shown
+pub mod Test
 pub mod Time
 pub mod Weekdays
 pub mod Words

@@ -1,13 +1,13 @@
 -- Shares with an entry more.
 use Rattle.std.proofs.Common.{◌≡◌, ℕ, ◌+◌, ◌<◌, suc, zero, Bool, true, false, ◌&&◌, if◌then◌else◌, List, [], ◌∷◌, length, get_or, set, refl, sym, ◌∙◌, ap, subst, arith}
 use Rattle.std.specs.List.{All}
+use Rattle.std.proofs.lemmas.Bool.{eq-eqb, ne_eqb}
 use Rattle.std.proofs.lemmas.List.{get_or-set_same}
 use Rattle.std.proofs.lemmas.List.Elements.{All-get_or}
 use Rattle.totals_record.specs.declared.entry.Entry.{Entry}
 use Rattle.totals_record.specs.declared.totals.Share.{Share}
 use Rattle.totals_record.specs.declared.totals.Totals.{Totals}
 use Rattle.totals_record.specs.Entries.{closes, closes_at, no_share, share_with, shares_with, totals_with}
-use Rattle.totals_record.specs.Choices.{agree, differ}
 
 abbrev share_of : ℕ → ℕ → Share
 share_of hirings fare = record { hirings = hirings; fare = fare }
@@ -32,7 +32,7 @@ shares_apart entry first (share ∷ others) apart =
 
 -- an entry closes at no other position than its own
 pub elsewhere : (entry : Entry) (position : ℕ) → (entry.position ≡ position → ⊥) → closes_at position entry ≡ false
-elsewhere entry position other = rw (differ entry.position position other) (no (closes entry))
+elsewhere entry position other = rw (ne_eqb entry.position position other) (no (closes entry))
   where
     no : (b : Bool) → (b && false) ≡ false
     no true = refl
@@ -40,7 +40,7 @@ elsewhere entry position other = rw (differ entry.position position other) (no (
 
 -- an entry that closes a hiring does it at its own position
 pub at_its_own : (entry : Entry) (position : ℕ) → closes entry ≡ true → entry.position ≡ position → closes_at position entry ≡ true
-at_its_own entry position closing same = rw closing (agree entry.position position same)
+at_its_own entry position closing same = rw closing (eq-eqb entry.position position same)
 
 -- an entry of roaming closes at none
 pub roams : (entry : Entry) (position : ℕ) → closes entry ≡ false → closes_at position entry ≡ false

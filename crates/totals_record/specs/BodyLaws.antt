@@ -1,303 +1,185 @@
 -- For proofs: a state's bytes are read as that state, and no others are.
-use Rattle.std.proofs.Common.{◌≡◌, ◌↔◌, ◌⊎◌, ◌≤◌, ℕ, Bool, true, false, ◌&&◌, ◌==◌, if◌then◌else◌, List, [], ◌∷◌}
-use Rattle.std.proofs.Common.{◌++◌, length, drop, get_or, replicate, Option, Some, None, refl, sym, ◌∙◌, ap}
-use Rattle.std.proofs.Common.{subst, inl, inr, arith, append_assoc, length-append, length-take, length-drop}
-use Rattle.std.specs.List.{sum_by, flat_map}
-use Rattle.std.specs.Str.{bytes_eq}
-use Rattle.std.proofs.lemmas.Slice.Eq.{bytes_eq-Decides}
-use Rattle.std.proofs.lemmas.Nat.{from_be_bytes-to_be_bytes_8}
-use Rattle.std.proofs.lemmas.List.{get_or-append_right}
-use Rattle.std.proofs.Math.Seq.{drop-append_seam}
+use Rattle.std.proofs.Common.{◌≡◌, ◌↔◌, ◌⊎◌, inl, inr, ◌≤◌, ◌<◌, ◌^◌, ◌==◌, ℕ, if◌then◌else◌, List, [], ◌∷◌, ◌++◌}
+use Rattle.std.proofs.Common.{length, replicate, Option, Some, None, IfSome, refl, sym, ap, ◌∙◌, arith}
+use Rattle.std.proofs.Common.{append_assoc, append-nil}
+use Rattle.std.specs.List.{All, flat_map, sum_by}
+use Rattle.std.proofs.lemmas.List.Elements.{All-nil, All-cons}
+use Rattle.std.proofs.lemmas.List.Sums.{sum_by-cons}
 use Rattle.slot_bodies.specs.Bodies.{AreBodies, body_size}
+use Rattle.slot_bodies.specs.Codec.{spell_optional, ◌⊙◌}
+use Rattle.slot_bodies.proofs.Laws as below
+use Rattle.taxi_units.specs.Limits.{last_number}
 use Rattle.totals_record.specs.declared.durable.Durable.{Durable}
 use Rattle.totals_record.specs.declared.totals.Share.{Share}
-use Rattle.totals_record.specs.declared.totals.Totals.{Totals}
 use Rattle.totals_record.specs.declared.trip.Trip.{Trip}
-use Rattle.slot_bodies.specs.BytesAt.{byte_at, eight_at, sixteen_at}
-use Rattle.totals_record.specs.Choices.{when_some, taken, refused_second, refused_third, both, agree, equal}
-use Rattle.totals_record.specs.Choices.{if_is, if_not}
-use Rattle.totals_record.specs.Entries.{no_share}
-use Rattle.totals_record.specs.Fields.{Fit}
-use Rattle.totals_record.specs.Ranges.{AreShares, IsDurable}
-use Rattle.totals_record.specs.RangeTests.{HasCounts, durable_of, is_durable_of, fit_of}
-use Rattle.totals_record.specs.Reading.{share_at, shares_in, shares_of, before_of, totals_in, held_in, trip_in}
-use Rattle.totals_record.specs.Reading.{decoded, reads}
-use Rattle.totals_record.specs.ShareLaws.{same_share, share_back, shares_back, row_long}
-use Rattle.totals_record.specs.Spelling.{head_bytes, held_bytes, share_bytes, shared_bytes, spelling}
-use Rattle.totals_record.specs.Tests.{is_durable}
-use Rattle.totals_record.specs.TripLaws.{halves, held_back, held_long}
+use Rattle.totals_record.specs.Bytes.{four, eight}
+use Rattle.totals_record.specs.Ranges.{IsDurable, IsHeld, IsTripInItsRanges}
+use Rattle.totals_record.specs.Reading.{decoded, durable_test, front_of, front_table, layout_1, layout_2, reads}
+use Rattle.totals_record.specs.Reading.{share_table, state_of}
+use Rattle.totals_record.specs.Spelling.{course_bytes, head_bytes, held_bytes, meterage_bytes, share_bytes}
+use Rattle.totals_record.specs.Spelling.{shared_bytes, spelling, trip_bytes}
+use Rattle.totals_record.specs.TripTable.{meterage_table, trip_table}
 
--- parts of 80, 108 and 322 bytes, and one byte behind them, are found at their places
-record Parts (one two three : List ℕ) (last : ℕ) : Type 0 where
-  second : drop 80 (((one ++ two) ++ three) ++ last ∷ []) ≡ two ++ (three ++ last ∷ [])
-  third : drop 188 (((one ++ two) ++ three) ++ last ∷ []) ≡ three ++ last ∷ []
-  fourth : get_or (((one ++ two) ++ three) ++ last ∷ []) 510 0 ≡ last
-  size : length (((one ++ two) ++ three) ++ last ∷ []) ≡ 511
+-- ---- what is in its ranges fits its bytes
 
--- lists of these lengths, one behind the other, are such parts
-parts : (one two three : List ℕ) (last : ℕ) → length one ≡ 80 → length two ≡ 108 → length three ≡ 322
-    → Parts one two three last
-parts one two three last long longer longest =
-    let end = last ∷ [] in
-    let right : ((one ++ two) ++ three) ++ end ≡ one ++ (two ++ (three ++ end)) =
-    append_assoc (one ++ two) three end ∙ append_assoc one two (three ++ end) in
-    let front : length (one ++ two) ≡ 188 = omega (arith, length-append one two, long, longer) in
-    let all : length ((one ++ two) ++ three) ≡ 510 = omega (arith, length-append (one ++ two) three, front, longest) in
-    record {
-      second = ap (λ (l : List ℕ). drop 80 l) right
-          ∙ ap (λ (n : ℕ). drop n (one ++ (two ++ (three ++ end)))) (sym long)
-          ∙ drop-append_seam one (two ++ (three ++ end));
-      third = ap (λ (l : List ℕ). drop 188 l) (append_assoc (one ++ two) three end)
-          ∙ ap (λ (n : ℕ). drop n ((one ++ two) ++ (three ++ end))) (sym front)
-          ∙ drop-append_seam (one ++ two) (three ++ end);
-      fourth = get_or-append_right ((one ++ two) ++ three) end 510 510 0 all (omega arith);
-      size = omega (arith, length-append ((one ++ two) ++ three) end, all);
-    }
+-- each number of a sum is below what the sum is below
+each_below : (f : Share → ℕ) (shares : List Share) (bound : ℕ) → sum_by f shares < bound
+    → All (λ share. f share < bound) shares
+each_below f [] bound below = All-nil (λ s. f s < bound)
+each_below f (share ∷ others) bound below =
+    let split = sum_by-cons f share others in
+    All-cons (λ s. f s < bound) share others (omega (arith, split, below))
+    (each_below f others bound (omega (arith, split, below)))
 
--- the part of the shares has 322 bytes
-shared_long : (layout : ℕ) (totals : Totals) → length totals.shares ≡ 9 → length (shared_bytes layout totals) ≡ 322
-shared_long layout totals nine = by (layout == 1)
-  where
-    by : (b : Bool) → length (if b then replicate 322 0 else flat_map share_bytes totals.shares ++ share_bytes
-        totals.before ++ replicate 82 0) ≡ 322
-    by true = refl
-    by false = omega (
-      arith,
-      nine,
-      row_long totals.shares,
-      length-append (flat_map share_bytes totals.shares) (share_bytes totals.before),
-      length-append (flat_map share_bytes totals.shares ++ share_bytes totals.before) (replicate 82 0),
+-- a trip in its ranges fits
+trip_fits : (number : ℕ) (trip : Trip) → number ≤ last_number → IsTripInItsRanges number trip → trip_table.Fits trip
+trip_fits number trip room is =
+    let started : trip.started < 2 ^ 64 = omega (arith, is.started.1) in
+    let saved : trip.saved < 2 ^ 64 = omega (arith, is.saved.1) in
+    let roam : trip.roam < 2 ^ 32 = omega (arith, is.roam) in
+    let pulses : trip.pulses < 2 ^ 64 = omega (arith, is.pulses, is.ticks, room) in
+    let ticks : trip.ticks < 2 ^ 32 = omega (arith, is.ticks) in
+    let initial : trip.initial < 2 ^ 32 = omega (arith, is.initial) in
+    let cover_left : trip.meterage.cover_left < 2 ^ 128 = omega (arith, is.cover_left) in
+    let steps_full : trip.meterage.steps_full < 2 ^ 64 = omega (arith, is.steps_full, is.ticks) in
+    let rest : trip.meterage.rest < 2 ^ 128 = omega (arith, is.rest) in
+    let extras_sum : trip.extras_sum < 2 ^ 64 = omega (arith, is.extras_sum) in
+    let meterage : meterage_table.Fits trip.meterage = (cover_left ⊙ steps_full ⊙ rest, refl) in
+    let minimum : trip.minimum < 2 ^ 32 = omega (arith, is.minimum) in (
+      started ⊙ saved ⊙ tt ⊙ tt ⊙ tt ⊙ roam ⊙ pulses ⊙ ticks ⊙ initial ⊙ meterage ⊙ is.extras.0 ⊙ extras_sum ⊙ minimum,
+      refl,
     )
 
--- the spelling of a state has those parts
-parts_of : (durable : Durable) → IsDurable durable
-    → Parts (head_bytes durable.number durable.totals) (held_bytes durable.hold)
-    (shared_bytes durable.layout durable.totals) durable.layout
-parts_of durable valid = parts _ _ _ durable.layout refl (held_long durable.number durable.hold valid.held)
-    (shared_long durable.layout durable.totals valid.shares.nine)
+-- what is held fits
+held_fits : (number : ℕ) (hold : Option Trip) → IfSome hold (IsHeld number) → IfSome hold trip_table.Fits
+held_fits number None held = tt
+held_fits number (Some trip) held = trip_fits number trip held.room held.ranges
 
--- a spelling fills a body
-size : (durable : Durable) → IsDurable durable → length (spelling durable) ≡ body_size
-size durable valid = (parts_of durable valid).size
+-- what a state in its ranges begins with fits
+front_fits : (durable : Durable) → IsDurable durable → front_table.Fits (front_of durable)
+front_fits durable is =
+    let totals = durable.totals in
+    let number : durable.number < 2 ^ 64 = omega (arith, is.number.1) in
+    let distance : totals.distance_mm < 2 ^ 128 = omega (arith, is.distance, is.number.1) in
+    let hired : totals.hired_mm < 2 ^ 128 = omega (arith, is.hired, is.distance, is.number.1) in
+    let hirings : totals.hirings < 2 ^ 64 = omega (arith, is.hirings, is.number.1) in
+    let supplements : totals.supplements < 2 ^ 128 = omega (arith, is.supplements, is.number.1) in
+    let fare : totals.fare < 2 ^ 128 = omega (arith, is.fare, is.number.1) in
+    number ⊙ distance ⊙ hired ⊙ hirings ⊙ supplements ⊙ fare ⊙ held_fits durable.number durable.hold is.held
 
--- the part of the shares in layout 2 is the shares, what was counted before, and zeros, before what comes behind it
-laid_out : (layout : ℕ) (totals : Totals) (rest : List ℕ) → layout ≡ 2
-    → shared_bytes layout totals ++ rest ≡ flat_map share_bytes totals.shares ++
-    (share_bytes totals.before ++ (replicate 82 0 ++ rest))
-laid_out layout totals rest two =
-    let row = flat_map share_bytes totals.shares in
-    ap (λ (l : List ℕ). l ++ rest) (if_not layout 1 (replicate 322 0)
-    (row ++ share_bytes totals.before ++ replicate 82 0) (λ one. omega (arith, one, two)))
-    ∙ append_assoc (row ++ share_bytes totals.before) (replicate 82 0) rest
-    ∙ append_assoc row (share_bytes totals.before) (replicate 82 0 ++ rest)
+-- a state in its ranges fits layout 1
+fits_1 : (durable : Durable) → IsDurable durable → durable.layout ≡ 1 → layout_1.Fits durable
+fits_1 durable is one =
+    let none = is.shares.unshared one in
+    let hirings : durable.totals.hirings ≡ durable.totals.before.hirings =
+    omega (arith, is.shares.hirings, ap (λ (l : List Share). sum_by (λ share. share.hirings) l) none) in
+    let fare : durable.totals.fare ≡ durable.totals.before.fare =
+    omega (arith, is.shares.fare, ap (λ (l : List Share). sum_by (λ share. share.fare) l) none) in (
+      (front_fits durable is, (tt, tt)),
+      λ i. state_of (front_of durable) (sym none i) (record { hirings = hirings i; fare = fare i }) durable.layout,
+    )
 
--- the shares are read back in either layout
-shares_read : (layout : ℕ) (totals : Totals) (rest : List ℕ) → AreShares layout totals → Fit totals
-    → (layout ≡ 1) ⊎ (layout ≡ 2)
-    → shares_of layout (shared_bytes layout totals ++ rest) ≡ totals.shares
-shares_read layout totals rest shares fit (inl one) = if_is layout 1 (replicate 9 no_share)
-    (shares_in (shared_bytes layout totals ++ rest)) one ∙ sym (shares.unshared one)
-shares_read layout totals rest shares fit (inr two) =
-    if_not layout 1 (replicate 9 no_share) (shares_in (shared_bytes layout totals ++ rest))
-    (λ one. omega (arith, one, two))
-    ∙ ap (λ (l : List ℕ). shares_in l) (laid_out layout totals rest two)
-    ∙ shares_back totals.shares (share_bytes totals.before ++
-    (replicate 82 0 ++ rest)) shares.nine fit.shares_hirings fit.shares_fare
+-- a state in its ranges fits layout 2
+fits_2 : (durable : Durable) → IsDurable durable → layout_2.Fits durable
+fits_2 durable is =
+    let totals = durable.totals in
+    let hirings = each_below (λ share. share.hirings) totals.shares (2 ^ 64)
+    (omega (arith, is.shares.hirings, is.hirings, is.number.1)) in
+    let fare = each_below (λ share. share.fare) totals.shares (2 ^ 128)
+    (omega (arith, is.shares.fare, is.fare, is.number.1)) in
+    let shares : All share_table.Fits totals.shares =
+    λ k d within. ((hirings k d within, fare k d within), refl) in
+    let hirings_before : totals.before.hirings < 2 ^ 64 =
+    omega (arith, is.shares.hirings, is.hirings, is.number.1) in
+    let fare_before : totals.before.fare < 2 ^ 128 = omega (arith, is.shares.fare, is.fare, is.number.1) in
+    let before : share_table.Fits totals.before = ((hirings_before, fare_before), refl) in
+    (front_fits durable is ⊙ (is.shares.nine ⊙ shares) ⊙ before ⊙ tt ⊙ tt, refl)
 
--- what was counted before is read back in either layout
-before_read : (layout : ℕ) (totals : Totals) (rest : List ℕ) → AreShares layout totals → Fit totals
-    → (layout ≡ 1) ⊎ (layout ≡ 2)
-    → before_of layout (record { hirings = totals.hirings; fare = totals.fare }) (shared_bytes layout totals ++ rest)
-    ≡ totals.before
-before_read layout totals rest shares fit (inl one) =
-    if_is layout 1 (record { hirings = totals.hirings; fare = totals.fare })
-    (share_at (shared_bytes layout totals ++ rest) 216) one
-    ∙ same_share (record { hirings = totals.hirings; fare = totals.fare }) totals.before
-    (omega (arith, shares.hirings, ap (λ (l : List Share). sum_by (λ share. share.hirings) l) (shares.unshared one)))
-    (omega (arith, shares.fare, ap (λ (l : List Share). sum_by (λ share. share.fare) l) (shares.unshared one)))
-before_read layout totals rest shares fit (inr two) =
-    if_not layout 1 (record { hirings = totals.hirings; fare = totals.fare })
-    (share_at (shared_bytes layout totals ++ rest) 216) (λ one. omega (arith, one, two))
-    ∙ ap (λ (l : List ℕ). share_at l 216) (laid_out layout totals rest two)
-    ∙ share_back (flat_map share_bytes totals.shares) 216 totals.before (replicate 82 0 ++ rest)
-    (omega (arith, row_long totals.shares, shares.nine))
-    (omega (arith, shares.hirings, fit.hirings)) (omega (arith, shares.fare, fit.fare))
+-- ---- the spelling is that of the tables
 
--- the totals of these fields
-abbrev totals_of : ℕ → ℕ → ℕ → ℕ → ℕ → List Share → Share → Totals
-totals_of distance hired hirings supplements fare shares before =
-    record {
-      distance_mm = distance;
-      hired_mm = hired;
-      hirings = hirings;
-      supplements = supplements;
-      fare = fare;
-      shares = shares;
-      before = before;
-    }
+-- the bytes of a trip are those of its table
+trip_spelled : (trip : Trip) → trip_bytes trip ≡ trip_table.spell trip
+trip_spelled trip = ap (λ (l : List ℕ). (course_bytes trip ++ meterage_bytes trip.meterage) ++ l)
+    (append_assoc trip.extras (eight trip.extras_sum) (four trip.minimum))
 
--- totals whose fields are the same are the same
-same_totals : (a b : Totals) → a.distance_mm ≡ b.distance_mm → a.hired_mm ≡ b.hired_mm → a.hirings ≡ b.hirings
-    → a.supplements ≡ b.supplements → a.fare ≡ b.fare
-    → a.shares ≡ b.shares → a.before ≡ b.before → a ≡ b
-same_totals a b one two three four five six seven =
-    ap (λ (n : ℕ). totals_of n a.hired_mm a.hirings a.supplements a.fare a.shares a.before) one
-    ∙ ap (λ (n : ℕ). totals_of b.distance_mm n a.hirings a.supplements a.fare a.shares a.before) two
-    ∙ ap (λ (n : ℕ). totals_of b.distance_mm b.hired_mm n a.supplements a.fare a.shares a.before) three
-    ∙ ap (λ (n : ℕ). totals_of b.distance_mm b.hired_mm b.hirings n a.fare a.shares a.before) four
-    ∙ ap (λ (n : ℕ). totals_of b.distance_mm b.hired_mm b.hirings b.supplements n a.shares a.before) five
-    ∙ ap (λ (l : List Share). totals_of b.distance_mm b.hired_mm b.hirings b.supplements b.fare l a.before) six
-    ∙ ap (λ (s : Share). totals_of b.distance_mm b.hired_mm b.hirings b.supplements b.fare b.shares s) seven
+-- the bytes of what is held are those of its table
+held_spelled : (hold : Option Trip) → held_bytes hold ≡ spell_optional trip_table hold
+held_spelled None = refl
+held_spelled (Some trip) = ap (λ (l : List ℕ). 1 ∷ l) (trip_spelled trip)
 
--- the totals are read back where their shares are
-totals_read : (layout number : ℕ) (totals : Totals) (rest shared : List ℕ) → Fit totals
-    → shares_of layout shared ≡ totals.shares
-    → before_of layout (record { hirings = totals.hirings; fare = totals.fare }) shared ≡ totals.before
-    → totals_in layout (head_bytes number totals ++ rest) shared ≡ totals
-totals_read layout number totals rest shared fit shares before =
-    let front = head_bytes number totals ++ rest in
-    let hirings : eight_at front 40 ≡ totals.hirings = from_be_bytes-to_be_bytes_8 totals.hirings fit.hirings in
-    let fare : sixteen_at front 64 ≡ totals.fare = halves totals.fare fit.fare in
-    same_totals (totals_in layout front shared) totals
-    (halves totals.distance_mm fit.distance)
-    (halves totals.hired_mm fit.hired)
-    hirings
-    (halves totals.supplements fit.supplements)
-    fare
-    shares
-    (ap (λ (s : Share). before_of layout s shared)
-    (same_share (record { hirings = eight_at front 40; fare = sixteen_at front 64 })
-    (record { hirings = totals.hirings; fare = totals.fare }) hirings fare) ∙ before)
+-- the bytes of a state in layout 1 are those of its table
+spelled_1 : (durable : Durable) → durable.layout ≡ 1 → spelling durable ≡ layout_1.spell durable
+spelled_1 durable one =
+    let head = head_bytes durable.number durable.totals in
+    let held = held_spelled durable.hold in
+    let end = durable.layout ∷ [] in
+    let shared : shared_bytes durable.layout durable.totals ≡ replicate 322 0 =
+    ap (λ (n : ℕ). shared_bytes n durable.totals) one in
+    (λ i. ((head ++ held i) ++ shared i) ++ end)
+    ∙ append_assoc (head ++ spell_optional trip_table durable.hold) (replicate 322 0) end
 
--- the state of these fields
-abbrev durable_with : ℕ → Totals → Option Trip → ℕ → Durable
-durable_with number totals hold layout = record { number = number; totals = totals; hold = hold; layout = layout }
-
--- states whose fields are the same are the same
-same_durable : (a b : Durable) → a.number ≡ b.number → a.totals ≡ b.totals → a.hold ≡ b.hold → a.layout ≡ b.layout
-    → a ≡ b
-same_durable a b one two three four =
-    ap (λ (n : ℕ). durable_with n a.totals a.hold a.layout) one
-    ∙ ap (λ (t : Totals). durable_with b.number t a.hold a.layout) two
-    ∙ ap (λ (h : Option Trip). durable_with b.number b.totals h a.layout) three
-    ∙ ap (λ (n : ℕ). durable_with b.number b.totals b.hold n) four
-
--- each field of a state in its ranges is read back
-decoded_back : (durable : Durable) → IsDurable durable → decoded (spelling durable) ≡ durable
-decoded_back durable valid =
+-- the bytes of a state in layout 2 are those of its table
+spelled_2 : (durable : Durable) → durable.layout ≡ 2 → spelling durable ≡ layout_2.spell durable
+spelled_2 durable two =
     let totals = durable.totals in
     let head = head_bytes durable.number totals in
-    let held = held_bytes durable.hold in
-    let shared = shared_bytes durable.layout totals in
+    let held = held_spelled durable.hold in
+    let row = flat_map share_bytes totals.shares in
+    let before = share_bytes totals.before in
+    let spare = replicate 82 0 in
     let end = durable.layout ∷ [] in
-    let place = parts_of durable valid in
-    let fit = fit_of durable valid in
-    let right : ((head ++ held) ++ shared) ++ end ≡ head ++ (held ++ (shared ++ end)) = append_assoc
-    (head ++ held) shared end ∙ append_assoc head held (shared ++ end) in
-    same_durable (decoded (((head ++ held) ++ shared) ++ end)) durable
-    (from_be_bytes-to_be_bytes_8 durable.number (omega (arith, valid.number.1)))
-    (ap (λ (n : ℕ). totals_in n (((head ++ held) ++ shared) ++ end)
-    (drop 188 (((head ++ held) ++ shared) ++ end))) place.fourth
-    ∙ ap (λ (l : List ℕ). totals_in durable.layout (((head ++ held) ++ shared) ++ end) l) place.third
-    ∙ ap (λ (l : List ℕ). totals_in durable.layout l (shared ++ end)) right
-    ∙ totals_read durable.layout durable.number totals (held ++ (shared ++ end)) (shared ++ end) fit
-    (shares_read durable.layout totals end valid.shares fit valid.layout)
-    (before_read durable.layout totals end valid.shares fit valid.layout))
-    (ap (λ (l : List ℕ). held_in l) place.second ∙ held_back durable.number durable.hold (shared ++ end) valid.held)
-    place.fourth
+    let shared : shared_bytes durable.layout totals ≡ (row ++ before) ++ spare =
+    ap (λ (n : ℕ). shared_bytes n totals) two in
+    (λ i. ((head ++ held i) ++ shared i) ++ end)
+    ∙ append_assoc (head ++ spell_optional trip_table durable.hold) ((row ++ before) ++ spare) end
+    ∙ ap (λ (l : List ℕ). (head ++ spell_optional trip_table durable.hold) ++ l)
+    (append_assoc (row ++ before) spare end ∙ append_assoc row before (spare ++ end))
 
--- the spelling of a state in its ranges is read as that state
-reads_it : (durable : Durable) → IsDurable durable → reads (spelling durable) ≡ Some durable
-reads_it durable valid =
+-- ---- what bytes are read as
+
+-- the two layouts
+is_one_or_two : (P : Type 0) (layout : ℕ) → (layout ≡ 1) ⊎ (layout ≡ 2) → (layout ≡ 1 → P) → (layout ≡ 2 → P) → P
+is_one_or_two P layout (inl one) first second = first one
+is_one_or_two P layout (inr two) first second = second two
+
+-- a spelling fills a body
+long : (durable : Durable) → IsDurable durable → length (spelling durable) ≡ body_size
+long durable is = is_one_or_two (length (spelling durable) ≡ body_size) durable.layout is.layout
+    (λ one. ap (λ (l : List ℕ). length l) (spelled_1 durable one) ∙ layout_1.long durable (fits_1 durable is one))
+    (λ two. ap (λ (l : List ℕ). length l) (spelled_2 durable two) ∙ layout_2.long durable (fits_2 durable is))
+
+-- a state in layout 1 is read again
+again_1 : (durable : Durable) → IsDurable durable → durable.layout ≡ 1 → decoded (spelling durable) ≡ durable
+again_1 durable is one =
     let bytes = spelling durable in
-    ap (λ (d : Durable). if length bytes == 511 && is_durable d && bytes_eq (spelling d) bytes then Some d else None)
-    (decoded_back durable valid)
-    ∙ taken (length bytes == 511) (is_durable durable) (bytes_eq bytes bytes) durable
-    (agree (length bytes) 511 (size durable valid)) (is_durable_of durable valid)
-    ((bytes_eq-Decides bytes bytes).1 refl)
+    let back : layout_1.read bytes 0 ≡ durable =
+    ap (λ (l : List ℕ). layout_1.read l 0) (spelled_1 durable one ∙ sym (append-nil (layout_1.spell durable)))
+    ∙ layout_1.again durable [] [] 0 (fits_1 durable is one) refl in
+    ap (λ (n : ℕ). if n == 1 then layout_1.read bytes 0 else layout_2.read bytes 0)
+    (ap (λ (d : Durable). d.layout) back ∙ one) ∙ back
 
--- bytes that are read as a state have passed each test
-passed : (bytes : List ℕ) (durable : Durable) → reads bytes ≡ Some durable
-    → (length bytes ≡ 511) × (is_durable (decoded bytes) ≡ true) × (spelling (decoded bytes) ≡ bytes)
-    × (decoded bytes ≡ durable)
-passed bytes durable read =
-    let found = decoded bytes in
-    let result = when_some (length bytes == 511 && is_durable found
-    && bytes_eq (spelling found) bytes) found durable read in
-    let last = both (length bytes == 511 && is_durable found) (bytes_eq (spelling found) bytes) result.0 in
-    let first = both (length bytes == 511) (is_durable found) last.0 in
-    (equal (length bytes) 511 first.0, first.1, (bytes_eq-Decides (spelling found) bytes).0 last.1, result.1)
+-- a state in layout 2 is read again
+again_2 : (durable : Durable) → IsDurable durable → durable.layout ≡ 2 → decoded (spelling durable) ≡ durable
+again_2 durable is two =
+    let bytes = spelling durable in
+    let back : layout_2.read bytes 0 ≡ durable =
+    ap (λ (l : List ℕ). layout_2.read l 0) (spelled_2 durable two ∙ sym (append-nil (layout_2.spell durable)))
+    ∙ layout_2.again durable [] [] 0 (fits_2 durable is) refl in
+    ap (λ (n : ℕ). if n == 1 then layout_1.read bytes 0 else layout_2.read bytes 0)
+    (ap (λ (d : Durable). d.layout) back ∙ two) ∙ back
 
--- bytes that are read as a state are its spelling
-nothing_else : (bytes : List ℕ) (durable : Durable) → reads bytes ≡ Some durable → bytes ≡ spelling durable
-nothing_else bytes durable read =
-    let tests = passed bytes durable read in
-    sym tests.2 ∙ ap spelling tests.3
-
--- there are nine shares, whatever the bytes are
-nine_in : (layout : ℕ) (bytes : List ℕ) → length (shares_of layout bytes) ≡ 9
-nine_in layout bytes = by (layout == 1)
-  where
-    by : (b : Bool) → length (if b then replicate 9 no_share else shares_in bytes) ≡ 9
-    by true = refl
-    by false = refl
-
--- a held trip has sixteen counts, whatever the bytes are
-counts_in : (bytes : List ℕ) → 108 ≤ length bytes → HasCounts (held_in bytes)
-counts_in bytes long = by (byte_at bytes 0 == 1)
-  where
-    by : (b : Bool) → HasCounts (if b then Some (trip_in (drop 1 bytes)) else None)
-    by true = omega (
-      arith,
-      length-take 16 (drop 79 (drop 1 bytes)),
-      length-drop 79
-          (drop 1 bytes),
-      length-drop 1 bytes,
-      long,
-    )
-    by false = tt
-
--- the fields of 511 bytes are in their ranges where they pass their test
-pub in_ranges : (bytes : List ℕ) → length bytes ≡ 511 → is_durable (decoded bytes) ≡ true → IsDurable (decoded bytes)
-in_ranges bytes long pass = durable_of (decoded bytes) (nine_in (byte_at bytes 510) (drop 188 bytes))
-    (counts_in (drop 80 bytes) (omega (arith, long, length-drop 80 bytes))) pass
-
--- a state that is read is in its ranges
-gives_valid : (bytes : List ℕ) (durable : Durable) → reads bytes ≡ Some durable → IsDurable durable
-gives_valid bytes durable read =
-    let tests = passed bytes durable read in
-    subst IsDurable tests.3 (in_ranges bytes tests.0 tests.1)
-
--- bytes whose fields fail the test of their ranges aren't read
-pub out_of_range : (bytes : List ℕ) → is_durable (decoded bytes) ≡ false → reads bytes ≡ None
-out_of_range bytes fails = refused_second (length bytes == 511) (is_durable (decoded bytes))
-    (bytes_eq (spelling (decoded bytes)) bytes) (decoded bytes) fails
-
--- bytes that aren't the spelling of their fields aren't read
-pub other_bytes : (bytes : List ℕ) → bytes_eq (spelling (decoded bytes)) bytes ≡ false → reads bytes ≡ None
-other_bytes bytes differs = refused_third (length bytes == 511) (is_durable (decoded bytes))
-    (bytes_eq (spelling (decoded bytes)) bytes) (decoded bytes) differs
-
--- 511 bytes that pass each test are read as the state of their fields
-pub own_bytes : (bytes : List ℕ) → length bytes ≡ 511 → is_durable (decoded bytes) ≡ true
-    → bytes_eq (spelling (decoded bytes)) bytes ≡ true → reads bytes ≡ Some (decoded bytes)
-own_bytes bytes long pass same = taken (length bytes == 511) (is_durable (decoded bytes))
-    (bytes_eq (spelling (decoded bytes)) bytes) (decoded bytes) (agree (length bytes) 511 long) pass same
+-- each state in its ranges is read again
+again : (durable : Durable) → IsDurable durable → decoded (spelling durable) ≡ durable
+again durable is = is_one_or_two (decoded (spelling durable) ≡ durable) durable.layout is.layout
+    (again_1 durable is) (again_2 durable is)
 
 -- bytes are read as a state exactly where it is in its ranges and the bytes are its spelling
 pub reads_exactly : (bytes : List ℕ) (durable : Durable)
     → (reads bytes ≡ Some durable) ↔ (IsDurable durable × (bytes ≡ spelling durable))
-reads_exactly bytes durable = (
-  λ read. (gives_valid bytes durable read, nothing_else bytes durable read),
-  λ spelled. ap reads spelled.1
-      ∙ reads_it durable spelled.0,
-)
+unfolding reads
+reads_exactly bytes durable = below.reads_exactly durable_test spelling decoded again bytes durable
 
 -- states in their ranges are bodies
 pub states_are_bodies : AreBodies IsDurable spelling reads
-states_are_bodies = record {
-  size = size;
-  reads_it = reads_it;
-  gives_valid = gives_valid;
-  nothing_else = λ bytes durable long small read. nothing_else bytes durable read;
-}
+unfolding reads
+states_are_bodies = below.bodies_of durable_test spelling decoded long again

@@ -1,14 +1,10 @@
 pub mod BodyLaws
 pub mod Bytes
-pub mod Choices
 pub mod Entries
 pub mod Fields
-pub mod RangeTests
 pub mod Ranges
 pub mod Reading
-pub mod ShareLaws
 pub mod Spelling
 pub mod States
 pub mod Sums
-pub mod Tests
-pub mod TripLaws
+pub mod TripTable

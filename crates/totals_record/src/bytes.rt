@@ -1,5 +1,5 @@
 //! Numbers in bytes, the greatest byte first.
-ghost use Rattle.std.specs.Prelude.{◌≡◌, ◌++◌, ◌+◌, ◌<◌, ◌≤◌, length, drop};
+ghost use Rattle.std.specs.Prelude.{◌≡◌, ◌++◌, ◌+◌, ◌<◌, ◌≤◌, length};
 ghost use Rattle.arrayvec.specs.ArrayVec.{array_vec_len};
 ghost use Rattle.slot_bodies.specs.Bodies.{body_size};
 ghost use Rattle.totals_record.specs.Bytes.{four, eight, sixteen, bit};
@@ -43,14 +43,6 @@ pub fn bit_of(yes: bool) -> u8
     ensures { result ≡ bit yes }
 {
     if yes { 1 } else { 0 }
-}
-
-/// The bytes from a place on.
-pub fn behind(bytes: &[u8], place: usize) -> &[u8]
-    requires { place ≤ length bytes.now }
-    ensures { result.now ≡ drop place bytes.now }
-{
-    &bytes[place..]
 }
 
 /// The number in the sixteen bytes from a place on.

@@ -1,9 +1,11 @@
-//! The fields of a durable state at their places in bytes.
+//! The fields of a durable state at their places in bytes, each place one less than in the slot.
 ghost use Rattle.std.specs.Prelude.{◌≡◌, ◌+◌, ◌≤◌, length};
-ghost use Rattle.totals_record.specs.Reading.{decoded, held_in, before_of, share_at, shares_in, shares_of};
-ghost use Rattle.totals_record.specs.Reading.{totals_in, trip_in};
+ghost use Rattle.slot_bodies.specs.BytesAt.{byte_at};
+ghost use Rattle.slot_bodies.specs.Codec.{optional, row};
+ghost use Rattle.totals_record.specs.Reading.{decoded, front_table, layout_1, layout_2, share_table, state_of};
+ghost use Rattle.totals_record.specs.TripTable.{trip_table};
 
-use crate::bytes::{behind, sixteen_at};
+use crate::bytes::sixteen_at;
 use crate::{Durable, Share, Totals, Trip};
 use drive_modes::Meterage;
 use slot_bodies::{BODY_SIZE, eight_at, four_at};
@@ -12,79 +14,72 @@ use slot_bodies::{BODY_SIZE, eight_at, four_at};
 pub fn decode(bytes: &[u8; BODY_SIZE]) -> Durable
     ensures { result ≡ decoded bytes.now }
 {
+    if bytes[510] == 1 {
+        unshared(bytes)
+    } else {
+        shared(bytes)
+    }
+}
+
+/// The state in layout 1, which has no shares, so that all was counted before.
+fn unshared(bytes: &[u8; BODY_SIZE]) -> Durable
+    ensures { result ≡ layout_1.read bytes.now 0 }
+{
+    let before = Share {
+        hirings: eight_at(bytes, 40),
+        fare: sixteen_at(bytes, 64),
+    };
+    state_with(bytes, [Share::NONE; 9], before)
+}
+
+/// The state in layout 2.
+fn shared(bytes: &[u8; BODY_SIZE]) -> Durable
+    ensures { result ≡ layout_2.read bytes.now 0 }
+{
+    state_with(bytes, shares_in(bytes), share_at(bytes, 404))
+}
+
+/// The state of these shares and what was counted before, whose other fields have these bytes.
+fn state_with(bytes: &[u8; BODY_SIZE], shares: [Share; 9], before: Share) -> Durable
+    ensures { result ≡ state_of (front_table.read bytes.now 0) shares before (byte_at bytes.now 510) }
+{
     Durable {
         number: eight_at(bytes, 0),
-        totals: totals_in(bytes[510], bytes, behind(bytes, 188)),
-        hold: held_in(behind(bytes, 80)),
+        totals: Totals {
+            distance_mm: sixteen_at(bytes, 8),
+            hired_mm: sixteen_at(bytes, 24),
+            hirings: eight_at(bytes, 40),
+            supplements: sixteen_at(bytes, 48),
+            fare: sixteen_at(bytes, 64),
+            shares,
+            before,
+        },
+        hold: held_in(bytes),
         layout: bytes[510],
     }
 }
 
-/// The totals.
-fn totals_in(layout: u8, front: &[u8], shared: &[u8]) -> Totals
-    requires front { 80 ≤ length front.now }
-    requires shared { 240 ≤ length shared.now }
-    ensures { result ≡ totals_in layout front.now shared.now }
-{
-    let hirings = eight_at(front, 40);
-    let fare = sixteen_at(front, 64);
-    Totals {
-        distance_mm: sixteen_at(front, 8),
-        hired_mm: sixteen_at(front, 24),
-        hirings,
-        supplements: sixteen_at(front, 48),
-        fare,
-        shares: shares_of(layout, shared),
-        before: before_of(layout, Share { hirings, fare }, shared),
-    }
-}
-
-/// The shares, which are none in layout 1.
-fn shares_of(layout: u8, shared: &[u8]) -> [Share; 9]
-    requires { 240 ≤ length shared.now }
-    ensures { result ≡ shares_of layout shared.now }
-{
-    if layout == 1 {
-        [Share::NONE; 9]
-    } else {
-        shares_in(shared)
-    }
-}
-
-/// What was counted before there were shares: in layout 1 all.
-fn before_of(layout: u8, all: Share, shared: &[u8]) -> Share
-    requires { 240 ≤ length shared.now }
-    ensures { result ≡ before_of layout all shared.now }
-{
-    if layout == 1 {
-        all
-    } else {
-        share_at(shared, 216)
-    }
-}
-
 /// The nine shares.
-fn shares_in(bytes: &[u8]) -> [Share; 9]
-    requires { 216 ≤ length bytes.now }
-    ensures { result ≡ shares_in bytes.now }
+fn shares_in(bytes: &[u8; BODY_SIZE]) -> [Share; 9]
+    ensures { result ≡ (row 9 share_table).read bytes.now 188 }
 {
     [
-        share_at(bytes, 0),
-        share_at(bytes, 24),
-        share_at(bytes, 48),
-        share_at(bytes, 72),
-        share_at(bytes, 96),
-        share_at(bytes, 120),
-        share_at(bytes, 144),
-        share_at(bytes, 168),
-        share_at(bytes, 192),
+        share_at(bytes, 188),
+        share_at(bytes, 212),
+        share_at(bytes, 236),
+        share_at(bytes, 260),
+        share_at(bytes, 284),
+        share_at(bytes, 308),
+        share_at(bytes, 332),
+        share_at(bytes, 356),
+        share_at(bytes, 380),
     ]
 }
 
 /// The share that begins at a place.
 fn share_at(bytes: &[u8], at: usize) -> Share
     requires { at + 24 ≤ length bytes.now }
-    ensures { result ≡ share_at bytes.now at }
+    ensures { result ≡ share_table.read bytes.now at }
 {
     Share {
         hirings: eight_at(bytes, at),
@@ -93,41 +88,39 @@ fn share_at(bytes: &[u8], at: usize) -> Share
 }
 
 /// The held trip, where there is one.
-fn held_in(bytes: &[u8]) -> Option<Trip>
-    requires { 108 ≤ length bytes.now }
-    ensures { result ≡ held_in bytes.now }
+fn held_in(bytes: &[u8; BODY_SIZE]) -> Option<Trip>
+    ensures { result ≡ (optional trip_table).read bytes.now 80 }
 {
-    if bytes[0] == 1 {
-        Some(trip_in(behind(bytes, 1)))
+    if bytes[80] == 1 {
+        Some(trip_in(bytes))
     } else {
         None
     }
 }
 
-/// The trip whose bytes begin here.
-fn trip_in(bytes: &[u8]) -> Trip
-    requires { 107 ≤ length bytes.now }
-    ensures { result ≡ trip_in bytes.now }
+/// The trip.
+fn trip_in(bytes: &[u8; BODY_SIZE]) -> Trip
+    ensures { result ≡ trip_table.read bytes.now 81 }
 {
     let mut extras = [0; 16];
-    extras.copy_from_slice(&bytes[79..95]);
+    extras.copy_from_slice(&bytes[160..176]);
     Trip {
-        started: eight_at(bytes, 0),
-        saved: eight_at(bytes, 8),
-        stopped: bytes[16] == 1,
-        position: bytes[17],
-        zone: bytes[18],
-        roam: four_at(bytes, 19),
-        pulses: eight_at(bytes, 23),
-        ticks: four_at(bytes, 31),
-        initial: u64::from(four_at(bytes, 35)),
-        minimum: u64::from(four_at(bytes, 103)),
+        started: eight_at(bytes, 81),
+        saved: eight_at(bytes, 89),
+        stopped: bytes[97] == 1,
+        position: bytes[98],
+        zone: bytes[99],
+        roam: four_at(bytes, 100),
+        pulses: eight_at(bytes, 104),
+        ticks: four_at(bytes, 112),
+        initial: u64::from(four_at(bytes, 116)),
+        minimum: u64::from(four_at(bytes, 184)),
         meterage: Meterage {
-            cover_left: sixteen_at(bytes, 39),
-            steps_full: eight_at(bytes, 55),
-            rest: sixteen_at(bytes, 63),
+            cover_left: sixteen_at(bytes, 120),
+            steps_full: eight_at(bytes, 136),
+            rest: sixteen_at(bytes, 144),
         },
         extras,
-        extras_sum: eight_at(bytes, 95),
+        extras_sum: eight_at(bytes, 176),
     }
 }

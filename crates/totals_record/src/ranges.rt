@@ -1,11 +1,12 @@
 //! The ranges of what a totals' slot holds, in the order of its table.
-ghost use Rattle.std.specs.Prelude.{◌≡◌, ◌+◌, ◌*◌, ◌≤◌, true};
+ghost use Rattle.std.specs.Prelude.{◌≡◌, ◌+◌, ◌≤◌, nat_le};
 ghost use Rattle.std.specs.List.{list_all};
-ghost use Rattle.taxi_units.specs.Time.{last_tick};
-ghost use Rattle.totals_record.specs.Tests.{is_digit, is_course, is_meterage, are_counts, are_extras};
-ghost use Rattle.totals_record.specs.Tests.{is_layout, is_trip, is_held, is_none, add_up, are_totals};
-ghost use Rattle.totals_record.specs.Tests.{are_shares, is_durable};
 ghost use Rattle.taxi_units.specs.Limits.{last_number};
+ghost use Rattle.taxi_units.specs.Test.{each, if_some, within, ◌&◌};
+ghost use Rattle.taxi_units.specs.Time.{last_tick};
+ghost use Rattle.totals_record.specs.Reading.{durable_test, layout_test, none_test, sums_test, totals_test};
+ghost use Rattle.totals_record.specs.TripTable.{counts_test, course_test, extras_test, held_test};
+ghost use Rattle.totals_record.specs.TripTable.{meterage_test, trip_test};
 
 use crate::{Durable, Share, Totals, Trip};
 use drive_modes::Meterage;
@@ -16,7 +17,7 @@ use taxi_units::{
 
 /// Whether each field of a state is in its range.
 pub fn is_durable(durable: &Durable) -> bool
-    ensures { result ≡ is_durable durable.now }
+    ensures { result ≡ (durable_test durable.now).passes }
 {
     1 <= durable.number
         && durable.number <= LAST_NUMBER + 1
@@ -28,7 +29,7 @@ pub fn is_durable(durable: &Durable) -> bool
 /// Whether the five totals are in their ranges beside a number.
 fn are_totals(number: u64, totals: &Totals) -> bool
     requires { number ≤ last_number + 1 }
-    ensures { result ≡ are_totals number totals.now }
+    ensures { result ≡ (totals_test number totals.now).passes }
 {
     let number_wide = u128::from(number);
     totals.distance_mm <= 10_000_000_000_000_000_000_000 * number_wide
@@ -41,7 +42,7 @@ fn are_totals(number: u64, totals: &Totals) -> bool
 /// Whether no trip is held, or one that is in its ranges beside a number.
 fn is_held(number: u64, hold: &Option<Trip>) -> bool
     requires { number ≤ last_number + 1 }
-    ensures { result ≡ is_held number hold.now }
+    ensures { result ≡ (if_some (held_test number) hold.now).passes }
 {
     match hold {
         Some(trip) => number <= LAST_NUMBER && is_trip(number, trip),
@@ -51,7 +52,7 @@ fn is_held(number: u64, hold: &Option<Trip>) -> bool
 
 /// Whether a number is 1 to 9.
 pub fn is_digit(n: u8) -> bool
-    ensures { result ≡ is_digit n }
+    ensures { result ≡ (within 1 n 9).passes }
 {
     1 <= n && n <= 9
 }
@@ -59,7 +60,7 @@ pub fn is_digit(n: u8) -> bool
 /// Whether a trip is in its ranges beside a number.
 fn is_trip(number: u64, trip: &Trip) -> bool
     requires { number ≤ last_number + 1 }
-    ensures { result ≡ is_trip number trip.now }
+    ensures { result ≡ (trip_test number trip.now).passes }
 {
     is_course(number, trip) && is_meterage(trip.ticks, &trip.meterage) && are_extras(trip)
 }
@@ -67,7 +68,7 @@ fn is_trip(number: u64, trip: &Trip) -> bool
 /// Whether a trip has come as far as it may beside a number.
 fn is_course(number: u64, trip: &Trip) -> bool
     requires { number ≤ last_number + 1 }
-    ensures { result ≡ is_course number trip.now }
+    ensures { result ≡ (course_test number trip.now).passes }
 {
     FIRST_SECOND <= trip.started
         && trip.started <= LAST_SECOND
@@ -84,7 +85,7 @@ fn is_course(number: u64, trip: &Trip) -> bool
 /// Whether the charges of a trip of `ticks` intervals may have come to this.
 fn is_meterage(ticks: u32, meterage: &Meterage) -> bool
     requires { ticks ≤ last_tick }
-    ensures { result ≡ is_meterage ticks meterage.now }
+    ensures { result ≡ (meterage_test ticks meterage.now).passes }
 {
     meterage.cover_left <= 20_000_000_000_000_000_000_000_000_000_000
         && meterage.steps_full <= 41_000_000_000 * u64::from(ticks)
@@ -93,16 +94,23 @@ fn is_meterage(ticks: u32, meterage: &Meterage) -> bool
 
 /// Whether the supplements and the minimum fare of a trip are in their ranges.
 fn are_extras(trip: &Trip) -> bool
-    ensures { result ≡ are_extras trip.now }
+    ensures { result ≡ (extras_test trip.now).passes }
 {
     are_counts(&trip.extras)
         && trip.extras_sum <= LARGEST_SUPPLEMENTS
         && trip.minimum <= LARGEST_AMOUNT
 }
 
-/// Whether each count of a supplement is at most 99.
-fn are_counts(counts: &[u8]) -> bool
-    ensures { result ≡ are_counts counts.now }
+/// Whether each count of the sixteen supplements is in its range.
+fn are_counts(counts: &[u8; 16]) -> bool
+    ensures { result ≡ (counts_test counts.now).passes }
+{
+    are_few(counts)
+}
+
+/// Whether each count is at most 99.
+fn are_few(counts: &[u8]) -> bool
+    ensures { result ≡ list_all (λ count. nat_le count 99) counts.now }
 {
     counts.iter().all(|count| *count <= 99)
 }
@@ -110,15 +118,16 @@ fn are_counts(counts: &[u8]) -> bool
 /// Whether hirings and fare are what the shares and what was counted before come to, the shares being
 /// none in layout 1, and whether the layout is 1 or 2.
 fn are_shares(layout: u8, totals: &Totals) -> bool
-    ensures { result ≡ are_shares layout totals.now }
+    ensures { result ≡ (sums_test totals.now.shares totals.now.before totals.now.hirings totals.now.fare
+        & layout_test layout totals.now.shares).passes }
 {
     add_up(&totals.shares, totals.before, totals.hirings, totals.fare)
         && is_layout(layout, &totals.shares)
 }
 
 /// Whether the layout is 1 and has no share, or is 2.
-fn is_layout(layout: u8, shares: &[Share]) -> bool
-    ensures { result ≡ is_layout layout shares.now }
+fn is_layout(layout: u8, shares: &[Share; 9]) -> bool
+    ensures { result ≡ (layout_test layout shares.now).passes }
 {
     if layout == 1 {
         are_none(shares)
@@ -129,21 +138,21 @@ fn is_layout(layout: u8, shares: &[Share]) -> bool
 
 /// Whether no share has a hiring.
 fn are_none(shares: &[Share]) -> bool
-    ensures { result ≡ list_all is_none shares.now }
+    ensures { result ≡ (each none_test shares.now).passes }
 {
     shares.iter().all(is_none)
 }
 
 /// Whether a share has no hiring.
 fn is_none(share: &Share) -> bool
-    ensures { result ≡ is_none share.now }
+    ensures { result ≡ (none_test share.now).passes }
 {
     share.hirings == 0 && share.fare == 0
 }
 
 /// Whether the shares and what was counted before come to these hirings and this fare.
 fn add_up(shares: &[Share], before: Share, hirings: u64, fare: u128) -> bool
-    ensures { result ≡ add_up shares.now before hirings fare }
+    ensures { result ≡ (sums_test shares.now before hirings fare).passes }
 {
     let mut hirings_left = hirings;
     let mut fare_left = fare;

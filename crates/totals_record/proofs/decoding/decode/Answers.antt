@@ -1,11 +1,15 @@
-use Rattle.std.proofs.Common.{refl, length, ap, arith, length-drop}
+use Rattle.std.proofs.Common.{◌==◌, sym, ◌∙◌}
+use Rattle.std.proofs.lemmas.Bool.{cond-false, cond-true, eq-eqb, ne_eqb}
+use Rattle.slot_bodies.specs.BytesAt.{byte_at}
+use Rattle.totals_record.specs.Reading.{layout_1, layout_2}
 use Rattle.totals_record.proofs.decoding.decode.Goals as goal
 
-pub totals_in-requires-clause-shared : goal.totals_in-requires-clause-shared
-totals_in-requires-clause-shared c = omega (arith, c.told-bytes, ap length c.behind.ensures, length-drop 188 c.args.bytes.now)
+pub returns-then-bytes-eq1 : goal.returns-then-bytes-eq1
+returns-then-bytes-eq1 c = c.unshared.ensures
+    ∙ sym (cond-true (byte_at c.args.bytes.now 510 == 1) (layout_1.read c.args.bytes.now 0)
+    (layout_2.read c.args.bytes.now 0) (eq-eqb (byte_at c.args.bytes.now 510) 1 c.if-bytes-eq1.true))
 
-pub held_in-requires : goal.held_in-requires
-held_in-requires c = omega (arith, c.told-bytes, ap length c.behind-2.ensures, length-drop 80 c.args.bytes.now)
-
-pub returns : goal.returns
-returns c = rw c.eight_at.ensures (rw c.totals_in.ensures (rw c.held_in.ensures (rw c.behind.ensures (rw c.behind-2.ensures refl))))
+pub returns-else-bytes-eq1 : goal.returns-else-bytes-eq1
+returns-else-bytes-eq1 c = c.shared.ensures
+    ∙ sym (cond-false (byte_at c.args.bytes.now 510 == 1) (layout_1.read c.args.bytes.now 0)
+    (layout_2.read c.args.bytes.now 0) (ne_eqb (byte_at c.args.bytes.now 510) 1 c.if-bytes-eq1.false))

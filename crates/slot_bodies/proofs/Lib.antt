@@ -1,0 +1,6 @@
+-- the laws that the crates above may cite
+pub mod Laws
+-- what bytes are read as, and that values are bodies of slots
+mod ReadBack
+-- rows of values, one behind the other
+mod Rows

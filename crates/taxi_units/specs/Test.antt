@@ -1,0 +1,106 @@
+-- For proofs: tests, each with the fact that it decides, and how longer tests are made of shorter ones. So a list of
+-- comparisons passes exactly where each of them holds.
+use Rattle.std.specs.Prelude.{◌≡◌, ◌⊎◌, ℕ, ◌≤◌, ◌<◌, Bool, true, false, ◌&&◌, ◌||◌, ◌==◌, nat_le, nat_lt}
+use Rattle.std.specs.Prelude.{if◌then◌else◌, List, Option, Some, None, IfSome, Decides}
+use Rattle.std.specs.List.{All, list_all}
+use Rattle.std.proofs.Common.{refl}
+use Rattle.std.proofs.lemmas.Bool.{leb-true, le-leb, false≢true}
+use Rattle.std.proofs.lemmas.Bool.Decides.{Decides-and, Decides-by_and, Decides-eqb, Decides-like, Decides-ltb, Decides-or}
+
+-- a test passes, or doesn't, and it passes exactly where its fact holds
+pub record Test : Type 1 where
+  pub passes : Bool
+  pub Fact : Type 0
+  pub decides : Decides passes Fact
+
+-- a number is at most another
+abbrev pub at_most : ℕ → ℕ → Test
+at_most a b = record { passes = nat_le a b; Fact = a ≤ b; decides = (leb-true a b, le-leb a b) }
+
+-- a number is less than another
+abbrev pub less : ℕ → ℕ → Test
+less a b = record { passes = nat_lt a b; Fact = a < b; decides = Decides-ltb a b }
+
+-- a number is another
+abbrev pub same : ℕ → ℕ → Test
+same a b = record { passes = a == b; Fact = a ≡ b; decides = Decides-eqb a b }
+
+infixl 20 ◌&◌
+-- both of two tests pass, the second being asked where the first passes
+abbrev pub ◌&◌ : Test → Test → Test
+one & two = record {
+  passes = one.passes && two.passes;
+  Fact = one.Fact × two.Fact;
+  decides = Decides-and one.passes two.passes one.decides two.decides;
+}
+
+infixl 20 ◌⊕◌
+-- two facts, as the fact of both tests
+abbrev pub ◌⊕◌ : {P Q : Type 0} → P → Q → P × Q
+one ⊕ two = (one, two)
+
+-- one of two tests passes
+abbrev pub either : Test → Test → Test
+either one two = record {
+  passes = one.passes || two.passes;
+  Fact = one.Fact ⊎ two.Fact;
+  decides = Decides-or one.passes two.passes one.decides two.decides;
+}
+
+-- a number is from a first one to a last one
+abbrev pub within : ℕ → ℕ → ℕ → Test
+within first n last = at_most first n & at_most n last
+
+-- where one test passes, the next has to, and where it doesn't, the last has to
+pub choice_decides : {P Q R : Type 0} (one two three : Bool) → Decides one P → Decides two Q → Decides three R
+    → Decides (if one then two else three) ((P → Q) × (¬ P → R))
+choice_decides true two three p q r =
+    (λ passes. (λ holds. q.0 passes, λ not. absurd (not (p.0 refl))), λ facts. q.1 (facts.0 (p.0 refl)))
+choice_decides false two three p q r = (
+  λ passes. (λ holds. absurd (false≢true (p.1 holds)), λ not. r.0 passes),
+  λ facts. r.1 (facts.1 (λ holds. absurd (false≢true (p.1 holds)))),
+)
+
+-- where one test passes, the next has to, and where it doesn't, the last has to
+abbrev pub choice : Test → Test → Test → Test
+choice one two three = record {
+  passes = if one.passes then two.passes else three.passes;
+  Fact = (one.Fact → two.Fact) × (¬ one.Fact → three.Fact);
+  decides = choice_decides one.passes two.passes three.passes one.decides two.decides three.decides;
+}
+
+-- a test passes of each element of a list
+abbrev pub each : {A : Type 0} → (A → Test) → List A → Test
+each test xs = record {
+  passes = list_all (λ x. (test x).passes) xs;
+  Fact = All (λ x. (test x).Fact) xs;
+  decides = Decides-by_and (λ x. (test x).passes) (λ x. (test x).Fact) (list_all (λ x. (test x).passes))
+      (λ x. (test x).decides) refl (λ _ _. refl) xs;
+}
+
+-- a test passes of what may be there, which it does where nothing is
+abbrev pub passes_if_some : {A : Type 0} → (A → Test) → Option A → Bool
+passes_if_some test None = true
+passes_if_some test (Some x) = (test x).passes
+
+-- that test decides its fact
+pub decides_if_some : {A : Type 0} (test : A → Test) (found : Option A)
+    → Decides (passes_if_some test found) (IfSome found (λ x. (test x).Fact))
+decides_if_some test None = (λ passes. tt, λ fact. refl)
+decides_if_some test (Some x) = (test x).decides
+
+-- what may be there passes a test where it is there
+abbrev pub if_some : {A : Type 0} → (A → Test) → Option A → Test
+if_some test found = record {
+  passes = passes_if_some test found;
+  Fact = IfSome found (λ x. (test x).Fact);
+  decides = decides_if_some test found;
+}
+
+-- a test whose fact is said in other words
+abbrev pub stated : (P : Type 0) → (test : Test) → (test.Fact → P) → (P → test.Fact) → Test
+stated P test there back = record {
+  passes = test.passes;
+  Fact = P;
+  decides = Decides-like test.passes there back test.decides;
+}
