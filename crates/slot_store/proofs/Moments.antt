@@ -1,9 +1,11 @@
 -- What calls leave at each moment.
-use Rattle.std.proofs.Common.{◌≡◌, ℕ, ◌+◌, ◌≤◌, List, length, get_or, ap, inl, inr, ⊎_elim, ◌∙◌, refl, subst, arith}
+use Rattle.std.proofs.Common.{◌≡◌, ℕ, ◌+◌, ◌≤◌, List, inl, inr, ⊎_elim, ◌∙◌, refl, subst, arith}
 use Rattle.outside.specs.declared.board.Board.{Ghosts}
 use Rattle.outside.specs.Disk.{Elapses, IsWithin, SameBut, MayLeave}
 use Rattle.outside.specs.Runs.{LeavesNow, LeavesOnly}
 use Rattle.outside.proofs.Laws.{leaves_none, leaves_then, leaves_wider}
+use Rattle.slot_store.specs.declared.pair.Pair.{Pair}
+use Rattle.slot_store.specs.Stages.{spare_at, WritesOfSpare}
 use Rattle.slot_store.specs.Writes.{OrWithin, LeavesThroughout, WritesIn}
 
 -- what lies in a part lies in the whole
@@ -12,41 +14,6 @@ in_whole in_flight part count start size old new low high same = record {
   size = same.size;
   rest = λ place none. same.rest place (⊎_elim (λ flying. none (inl flying)) (λ within. none (inr (record { low = omega (arith, within.low); high = omega (arith, within.high) }))));
 }
-
-module _ {D L : Type 0} (B : Ghosts D L) where
-  -- what a board may leave behind a read, seen from before it
-  left_before : (old new : D) → B.image new ≡ B.image old → ((place : ℕ) → B.in_flight new place → B.in_flight old place) → B.printed new ≡ B.printed old
-      → (left text : List ℕ) → MayLeave (B.image new) (B.in_flight new) (B.printed new) left text → MayLeave (B.image old) (B.in_flight old) (B.printed old) left text
-  left_before old new same flight printed left text now = record {
-    bytes = record {
-      size = now.bytes.size ∙ ap length same;
-      rest = λ place none. now.bytes.rest place (λ flies. none (flight place flies)) ∙ ap (λ (bytes : List ℕ). get_or bytes place 0) same;
-    };
-    small = now.small;
-    text = now.text ∙ printed;
-  }
-
-  -- a read
-  pub read_leaves : (old new : D) → LeavesNow B old → B.image new ≡ B.image old → ((place : ℕ) → B.in_flight new place → B.in_flight old place) → B.printed new ≡ B.printed old
-      → Elapses (B.moment old) (B.moment new) (B.left_since old) (B.left_since new) (MayLeave (B.image new) (B.in_flight new) (B.printed new))
-      → LeavesOnly B old new (MayLeave (B.image old) (B.in_flight old) (B.printed old))
-  read_leaves old new only_now same flight printed time = record {
-    later = time.later;
-    each = λ left text was. ⊎_elim (only_now left text) (left_before old new same flight printed left text) (time.nothing_else (B.moment old) left text (omega arith) was);
-    before = λ start left text le was. ⊎_elim (λ before. inl before) (λ now. inr (left_before old new same flight printed left text now)) (time.nothing_else start left text le was);
-  }
-
-  -- and one more read
-  pub next_read_leaves : (old between new : D) → B.image new ≡ B.image old → ((place : ℕ) → B.in_flight new place → B.in_flight old place) → B.printed new ≡ B.printed old
-      → Elapses (B.moment between) (B.moment new) (B.left_since between) (B.left_since new) (MayLeave (B.image new) (B.in_flight new) (B.printed new))
-      → LeavesOnly B old between (MayLeave (B.image old) (B.in_flight old) (B.printed old))
-      → LeavesOnly B old new (MayLeave (B.image old) (B.in_flight old) (B.printed old))
-  next_read_leaves old between new same flight printed time first = record {
-    later = omega (arith, first.later, time.later);
-    each = λ left text was. ⊎_elim (first.each left text) (left_before old new same flight printed left text) (time.nothing_else (B.moment old) left text first.later was);
-    before = λ start left text le was. ⊎_elim (first.before start left text le) (λ now. inr (left_before old new same flight printed left text now))
-        (time.nothing_else start left text (omega (arith, le, first.later)) was);
-  }
 
 module _ {D L : Type 0} (B : Ghosts D L) (start count : ℕ) where
   -- a write of a part lies in it
@@ -181,3 +148,16 @@ module _ {D L : Type 0} (B : Ghosts D L) where
       flight = λ place flying. ⊎_elim (λ was. inl was) (λ within. inr (record { low = omega (arith, within.low); high = omega (arith, within.high) })) (writes.flight place flying);
       text = writes.text;
     }
+
+module _ {D L : Type 0} (B : Ghosts D L) (pair : Pair) where
+  -- no call writes nothing of a slot
+  pub writes_nothing : (board : D) (start count : ℕ) → WritesOfSpare B pair start count board board
+  writes_nothing board start count =
+      record { alone = writes_none B start count board; in_slot = writes_none B (spare_at pair) 512 board }
+
+  -- writes of a part of a slot
+  pub writes_of_spare : (old new : D) (start count : ℕ) → spare_at pair ≤ start
+      → start + count ≤ spare_at pair + 512 → WritesIn B start count old new
+      → WritesOfSpare B pair start count old new
+  writes_of_spare old new start count low high writes =
+      record { alone = writes; in_slot = writes_in_part B (spare_at pair) 512 start count old new low high writes }

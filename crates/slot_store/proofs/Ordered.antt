@@ -86,6 +86,19 @@ module _ {T : Type 0} (reads : List ℕ → Option T) (number_of : T → ℕ) (a
         → IsReadyAt reads number_of at place (B.image board) (B.in_flight board) latest → GetsEach reads number_of at B board (B.moment board) latest [] []
     rests board place latest only_now ready = (omega arith, λ left text was. quiet_leaves place latest (B.image board) left (B.in_flight board) ready (only_now left text was).bytes)
 
+    -- where each body of a list was stored in its turn, none is begun and none is left
+    pub stored_all : (old new : D) (latest : Option T) (bodies : List T)
+        → GetsEach reads number_of at B new (B.moment old) latest bodies []
+        → StoresSome reads number_of at B latest bodies old new
+    stored_all old new latest bodies gets = record {
+      stored = bodies;
+      begun = [];
+      left = [];
+      split = sym (append-nil bodies);
+      one = omega arith;
+      each = gets;
+    }
+
     module _ (old between new : D) (pair : Pair) (here : pair.at ≡ at) (latest : Option T) (bodies : List T) (n : ℕ) (body : T) (lt : n < length bodies) (is : body ≡ get_or bodies n body) where
       pub one_more : take (n + 1) bodies ≡ take n bodies ++ body ∷ []
       one_more = take_more bodies n body lt ∙ ap (λ (b : T). take n bodies ++ b ∷ []) (sym is)
@@ -131,12 +144,13 @@ module _ {T : Type 0} (reads : List ℕ → Option T) (number_of : T → ℕ) (a
       }
 
       -- where a stage of the next body failed, a cut leaves one of the list, and some of the list were stored
-      pub broken_off : AreNewer number_of latest bodies → WritesIn B at 1024 old between → LeavesThroughout B at 1024 (ShowsOne reads number_of at latest (take n bodies)) old between
-          → GetsEach reads number_of at B between (B.moment old) latest (take n bodies) [] → (IsBefore number_of (last_of latest (take n bodies)) (number_of body) → NextLeaves)
-          → LeavesThroughout B at 1024 (ShowsOne reads number_of at latest bodies) old new × StoresSome reads number_of at B latest bodies old new
-      broken_off newer writes so_far gets next =
-          let leaves = next (newer_next newer) in
-          (moments_whole (n + 1) (moments_more writes so_far leaves), stores_some gets leaves)
+      pub broken_off : WritesIn B at 1024 old between
+          → LeavesThroughout B at 1024 (ShowsOne reads number_of at latest (take n bodies)) old between
+          → GetsEach reads number_of at B between (B.moment old) latest (take n bodies) [] → NextLeaves
+          → LeavesThroughout B at 1024 (ShowsOne reads number_of at latest bodies) old new
+          × StoresSome reads number_of at B latest bodies old new
+      broken_off writes so_far gets next =
+          (moments_whole (n + 1) (moments_more writes so_far next), stores_some gets next)
 
       pub next_stored : (place : Place) → GetsEach reads number_of at B between (B.moment old) latest (take n bodies) [] → NextLeaves → IsSettled reads number_of pair.at place (B.image new) (B.in_flight new) body
           → ((left text : List ℕ) → B.left_since new (B.moment new) left text → MayLeave (B.image new) (B.in_flight new) (B.printed new) left text) → GetsEach reads number_of at B new (B.moment old) latest (take (n + 1) bodies) []

@@ -1,11 +1,11 @@
 -- What a call leaves from its opening sync on.
-use Rattle.std.proofs.Common.{◌≡◌, inl, inr, ⊎_elim, ℕ, List, ◌∙◌, arith}
+use Rattle.std.proofs.Common.{◌≡◌, inl, inr, ⊎_elim, ℕ, List, length, get_or, ap, ◌∙◌, arith}
 use Rattle.std.proofs.lemmas.List.{ext_get_or}
 use Rattle.outside.specs.declared.board.Board.{Ghosts}
 use Rattle.outside.specs.Disk.{Elapses, MayLeave, SameBut}
 use Rattle.outside.specs.Runs.{IsSettled, LeavesNow, LeavesOnly}
 use Rattle.outside.proofs.Laws.{leaves_then, leaves_wider}
-use Rattle.slot_store.specs.Syncs.{IsAsHeld, IsSynced, LeavesFromSync, ReadsOnly}
+use Rattle.slot_store.specs.Syncs.{IsAsHeld, IsSynced, LeavesFromSync, ReadsOnly, SyncsFirst}
 
 -- images that are the same but where nothing is in flight are the same
 same_image : (image left : List ℕ) (in_flight : ℕ → Type 0) → ((place : ℕ) → ¬ in_flight place) → SameBut in_flight image left → left ≡ image
@@ -46,26 +46,75 @@ module _ {D L : Type 0} (B : Ghosts D L) where
   held_on old synced new is run =
       leaves_wider B (IsAsHeld B synced) (IsAsHeld B old) synced new (λ i x held. record { image = held.image ∙ is.same; text = held.text ∙ is.reads.text }) (as_held synced new is.settled run)
 
+  -- what a board may leave behind a call that only reads, seen from before it
+  left_before : (old new : D) → SameBut (B.in_flight old) (B.image old) (B.image new)
+      → ((place : ℕ) → B.in_flight new place → B.in_flight old place) → B.printed new ≡ B.printed old
+      → (i x : List ℕ) → MayLeave (B.image new) (B.in_flight new) (B.printed new) i x
+      → MayLeave (B.image old) (B.in_flight old) (B.printed old) i x
+  left_before old new image flight text i x now = record {
+    bytes = record {
+      size = now.bytes.size ∙ image.size;
+      rest = λ place grounded.
+          now.bytes.rest place (λ flies. grounded (flight place flies)) ∙ image.rest place grounded;
+    };
+    small = now.small;
+    text = now.text ∙ text;
+  }
+
   -- a sync, as a run of its own
-  pub reads_sync : (old new : D) → LeavesNow B old → SameBut (B.in_flight old) (B.image old) (B.image new) → ((place : ℕ) → B.in_flight new place → B.in_flight old place)
-      → B.printed new ≡ B.printed old → Elapses (B.moment old) (B.moment new) (B.left_since old) (B.left_since new) (MayLeave (B.image new) (B.in_flight new) (B.printed new)) → ReadsOnly B old new
+  pub reads_sync : (old new : D) → LeavesNow B old → SameBut (B.in_flight old) (B.image old) (B.image new)
+      → ((place : ℕ) → B.in_flight new place → B.in_flight old place) → B.printed new ≡ B.printed old
+      → Elapses (B.moment old) (B.moment new) (B.left_since old) (B.left_since new)
+      (MayLeave (B.image new) (B.in_flight new) (B.printed new))
+      → ReadsOnly B old new
   reads_sync old new only_now image flight text time = record {
     leaves = record {
       later = time.later;
-      each = λ i x left. ⊎_elim (only_now i x) (earlier i x) (time.nothing_else (B.moment old) i x (omega arith) left);
-      before = λ start i x le left. ⊎_elim (λ was. inl was) (λ is. inr (earlier i x is)) (time.nothing_else start i x le left);
+      each = λ i x left. ⊎_elim (only_now i x) (left_before old new image flight text i x)
+          (time.nothing_else (B.moment old) i x (omega arith) left);
+      before = λ start i x le left. ⊎_elim (λ was. inl was)
+          (λ is. inr (left_before old new image flight text i x is)) (time.nothing_else start i x le left);
     };
     image = image;
     flight = flight;
     text = text;
   }
-    where
-      earlier : (i x : List ℕ) → MayLeave (B.image new) (B.in_flight new) (B.printed new) i x → MayLeave (B.image old) (B.in_flight old) (B.printed old) i x
-      earlier i x now = record {
-        bytes = record {
-          size = now.bytes.size ∙ image.size;
-          rest = λ place grounded. now.bytes.rest place (λ flies. grounded (flight place flies)) ∙ image.rest place grounded;
-        };
-        small = now.small;
-        text = now.text ∙ text;
-      }
+
+  -- a read, as a run of its own
+  pub reads_one : (old new : D) → LeavesNow B old → B.image new ≡ B.image old
+      → ((place : ℕ) → B.in_flight new place → B.in_flight old place) → B.printed new ≡ B.printed old
+      → Elapses (B.moment old) (B.moment new) (B.left_since old) (B.left_since new)
+      (MayLeave (B.image new) (B.in_flight new) (B.printed new))
+      → ReadsOnly B old new
+  reads_one old new only_now same flight text time =
+      reads_sync old new only_now (record {
+        size = ap length same;
+        rest = λ place none. ap (λ (bytes : List ℕ). get_or bytes place 0) same;
+      }) flight text time
+
+  -- two runs that only read, one behind the other
+  pub reads_then : (old between new : D) → ReadsOnly B old between → ReadsOnly B between new → ReadsOnly B old new
+  reads_then old between new first second = record {
+    leaves =
+        leaves_then B (MayLeave (B.image old) (B.in_flight old) (B.printed old)) old between new first.leaves
+        (leaves_wider B (MayLeave (B.image between) (B.in_flight between) (B.printed between))
+        (MayLeave (B.image old) (B.in_flight old) (B.printed old)) between new
+        (left_before old between first.image first.flight first.text) second.leaves);
+    image = record {
+      size = second.image.size ∙ first.image.size;
+      rest = λ place none.
+          second.image.rest place (λ flies. none (first.flight place flies)) ∙ first.image.rest place none;
+    };
+    flight = λ place flies. first.flight place (second.flight place flies);
+    text = second.text ∙ first.text;
+  }
+
+  -- a call that syncs first, where more may be known of how it fails
+  pub syncs_as : (fails fails' : Type 0) (old new : D) → (fails → fails')
+      → SyncsFirst B fails old new → SyncsFirst B fails' old new
+  syncs_as fails fails' old new there syncs = record {
+    leaves = λ told.
+        from_sync_as (IsAsHeld B old) (IsAsHeld B old) fails fails' old new there (λ i x is. is) (syncs.leaves told);
+    same = λ good. syncs.same (λ failed. good (there failed));
+    settled = λ told good. syncs.settled told (λ failed. good (there failed));
+  }

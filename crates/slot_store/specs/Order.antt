@@ -1,8 +1,12 @@
 -- Rules: a list of bodies that a pair of slots gets, one after the other.
-use Rattle.std.specs.Prelude.{◌≡◌, ◌⊎◌, ℕ, ◌≤◌, List, [], ◌∷◌, ◌++◌, length, Option, Some}
+use Rattle.std.specs.Prelude.{◌≡◌, ◌⊎◌, ℕ, ◌≤◌, List, [], ◌∷◌, ◌++◌, length, Option, Some, Result, IfOk, OnOk}
 use Rattle.outside.specs.declared.board.Board.{Ghosts}
+use Rattle.slot_bodies.specs.declared.body.Body.{Ghosts as BodyGhosts}
+use Rattle.slot_store.specs.declared.pair.Pair.{Pair}
+use Rattle.slot_store.specs.Sizes.{pair_size}
 use Rattle.slot_store.specs.Slots.{Shows}
-use Rattle.slot_store.specs.Stages.{IsBefore}
+use Rattle.slot_store.specs.Stages.{IsBefore, IsReadyOn}
+use Rattle.slot_store.specs.Writes.{LeavesThroughout}
 
 -- bodies are newer if the number of each is greater than that of the body before it, and the first one's than that
 -- of the latest
@@ -48,3 +52,23 @@ module _ {T : Type 0} (reads : List ℕ → Option T) (number_of : T → ℕ) (a
       pub split : bodies ≡ stored ++ (begun ++ left)
       pub one : length begun ≤ 1
       pub each : GetsEach new (B.moment old) latest stored begun
+
+-- what holds of a pair that gets a list on a board, over the meanings of a type of bodies and of a type of boards
+module _ {T : Type 0} (meanings : BodyGhosts T) {D L : Type 0} (B : Ghosts D L) where
+  -- a pair may get each body of a list over the latest one, of which there may be none, if it is ready with the latest
+  -- one, and the numbers rise from that one's on
+  pub record MayGetEach (pair : Pair) (board : D) (latest : Option T) (bodies : List T) : Type 0 where
+    pub ready : IsReadyOn meanings B pair board latest
+    pub newer : AreNewer meanings.number_of latest bodies
+
+  -- a run stores a list over the latest body if a cut at each of its moments leaves a pair that shows the latest or one
+  -- of the list, it stores some of the list in their turn, and, where it ends well, all of it, and the pair is ready
+  -- with the last body
+  pub record StoresEach {E : Type 0} (pair : Pair) (latest : Option T) (bodies : List T) (old new : D)
+      (result : Result Pair E) : Type 0 where
+    pub any_moment : LeavesThroughout B pair.at pair_size
+        (ShowsOne meanings.reads meanings.number_of pair.at latest bodies) old new
+    pub in_order : StoresSome meanings.reads meanings.number_of pair.at B latest bodies old new
+    pub all : OnOk result
+        (GetsEach meanings.reads meanings.number_of pair.at B new (B.moment old) latest bodies [])
+    pub ready : IfOk result (λ ready. IsReadyOn meanings B ready new (last_of latest bodies))

@@ -4,8 +4,9 @@ use Rattle.outside.specs.declared.board.Board.{Ghosts}
 use Rattle.slot_bodies.specs.declared.body.Body.{Ghosts as BodyGhosts}
 use Rattle.slot_store.specs.declared.pair.Pair.{Pair}
 use Rattle.slot_store.specs.declared.pair.Place.{Place}
-use Rattle.slot_store.specs.Sizes.{last_pair}
-use Rattle.slot_store.specs.Slots.{slot_at, IsQuiet, IsClosed, IsBlank, IsOpen, HasBody, IsSettled}
+use Rattle.slot_store.specs.Sizes.{slot_size, last_pair}
+use Rattle.slot_store.specs.Slots.{slot_at, HasBody, IsBlank, IsClosed, IsOpen, IsQuiet, IsSettled, Shows, ShowsEither}
+use Rattle.slot_store.specs.Writes.{LeavesThroughout, WritesIn}
 
 -- the kept slot is the one with the latest body, and slot 1 of a blank pair
 abbrev pub kept_slot : Option Place → ℕ
@@ -80,6 +81,13 @@ module _ {T : Type 0} (reads : List ℕ → Option T) (number_of : T → ℕ) wh
     pub body_is : HasBody reads (spare_at pair) image (Some body)
     pub newer : IsBefore number_of latest (number_of body)
 
+module _ {D L : Type 0} (B : Ghosts D L) where
+  -- a stage writes `count` places from `start` on, of the slot that is written next, if its writes lie there, and so in
+  -- that slot
+  pub record WritesOfSpare (pair : Pair) (start count : ℕ) (old new : D) : Type 0 where
+    pub alone : WritesIn B start count old new
+    pub in_slot : WritesIn B (spare_at pair) slot_size old new
+
 -- what holds of a pair on a board, over the meanings of a type of bodies and of a type of boards
 module _ {T : Type 0} (meanings : BodyGhosts T) {D L : Type 0} (B : Ghosts D L) where
   -- a pair is ready on a board if it is ready in the board's image, with what is in flight there
@@ -100,3 +108,45 @@ module _ {T : Type 0} (meanings : BodyGhosts T) {D L : Type 0} (B : Ghosts D L) 
   abbrev pub IsSettledOn : ℕ → Place → D → T → Type 0
   IsSettledOn at place board body =
       IsSettled meanings.reads meanings.number_of at place (B.image board) (B.in_flight board) body
+
+  -- a pair may get a body over the latest one, of which there may be none, if it is ready with the latest one, and the
+  -- body's number is greater than that one's
+  pub record MayGet (pair : Pair) (board : D) (latest : Option T) (body : T) : Type 0 where
+    pub ready : IsReadyOn pair board latest
+    pub newer : IsBefore meanings.number_of latest (meanings.number_of body)
+
+  -- a body may be written behind the shut gate of a pair if the pair is shut with the latest one, and the body's number
+  -- is greater than that one's
+  pub record MayWrite (pair : Pair) (board : D) (latest : Option T) (body : T) : Type 0 where
+    pub shut : IsShutOn pair board latest
+    pub newer : IsBefore meanings.number_of latest (meanings.number_of body)
+
+  -- a run shuts a pair if, with whatever latest body it was ready on the old board, it is shut on the new one
+  abbrev pub Shuts : Pair → D → D → Type 0
+  Shuts pair old new = (latest : Option T) → IsReadyOn pair old latest → IsShutOn pair new latest
+
+  -- a run writes a body behind a gate if, over whatever latest body it may be written on the old board, it is written
+  -- on the new one
+  abbrev pub WritesBody : Pair → T → D → D → Type 0
+  WritesBody pair body old new =
+      (latest : Option T) → MayWrite pair old latest body → IsWrittenOn pair new latest body
+
+  -- a run opens the written slot of a pair at a place if, with whatever body it was written on the old board, the pair
+  -- is settled there with that body on the new one
+  abbrev pub OpensAt : Pair → D → D → Place → Type 0
+  OpensAt pair old new place =
+      (latest : Option T) (body : T) → IsWrittenOn pair old latest body → IsSettledOn pair.at place new body
+
+  -- a run leaves the latest body if a cut at each of its moments leaves a pair that shows it, and outside the slot that
+  -- is written next what it might have left at the old board
+  abbrev pub LeavesLatest : Pair → Option T → D → D → Type 0
+  LeavesLatest pair latest old new =
+      LeavesThroughout B (spare_at pair) slot_size
+      (λ image. Shows meanings.reads meanings.number_of pair.at image latest) old new
+
+  -- a run leaves the latest body or a new one if a cut at each of its moments leaves a pair that shows either, and
+  -- outside the slot that is written next what it might have left at the old board
+  abbrev pub LeavesLatestOrNew : Pair → Option T → T → D → D → Type 0
+  LeavesLatestOrNew pair latest body old new =
+      LeavesThroughout B (spare_at pair) slot_size
+      (ShowsEither meanings.reads meanings.number_of pair.at latest body) old new

@@ -31,3 +31,10 @@ module _ {D L : Type 0} (B : Ghosts D L) where
   pub record IsAsHeld (board : D) (left_image left_text : List ℕ) : Type 0 where
     pub image : left_image ≡ B.image board
     pub text : left_text ≡ B.printed board
+
+  -- a call syncs first if a cut from its opening sync on leaves what the board held before the call, and, unless it
+  -- fails, the image is as it was and nothing is in flight any more
+  pub record SyncsFirst (fails : Type 0) (old new : D) : Type 0 where
+    pub leaves : B.tells_image → LeavesFromSync fails old new (IsAsHeld old)
+    pub same : ¬ fails → B.image new ≡ B.image old
+    pub settled : B.tells_image → ¬ fails → IsSettled B new

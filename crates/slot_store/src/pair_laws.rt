@@ -1,6 +1,6 @@
 //! What the answers of a scan mean, and what stays of a pair, in words that share nothing with how
 //! the code finds it.
-ghost use Rattle.std.specs.Prelude.{◌≡◌, ◌↔◌, ℕ, ◌+◌, ◌≤◌, List, length, take, drop, Option, Some, Result, Ok};
+ghost use Rattle.std.specs.Prelude.{◌≡◌, ◌↔◌, ℕ, ◌+◌, ◌≤◌, List, length, Option, Some, Result, Ok};
 ghost use Rattle.taxi_units.specs.Bytes.{AreBytes};
 ghost use Rattle.outside.specs.Disk.{SameBut};
 ghost use Rattle.slot_store.specs.declared.pair.Pair.{Pair};
@@ -8,9 +8,9 @@ ghost use Rattle.slot_store.specs.declared.pair.Place.{Place};
 ghost use Rattle.slot_store.specs.declared.found.Found.{Found};
 ghost use Rattle.slot_store.specs.declared.found.Found.TheVariants.{Latest};
 ghost use Rattle.slot_store.specs.declared.found.SlotFault.{SlotFault};
-ghost use Rattle.slot_bodies.specs.Bodies.{body_size};
 ghost use Rattle.slot_store.specs.Sizes.{slot_size, pair_size};
-ghost use Rattle.slot_store.specs.Slots.{IsQuiet, IsSamePair, IsBlank, IsOpen, IsAt, FliesNoMore, StandsFor, Shows, ShowsEither};
+ghost use Rattle.slot_store.specs.Slots.{bytes_behind, FliesNoMore, IsAt, IsBlank, IsOpen, IsQuiet, IsSamePair};
+ghost use Rattle.slot_store.specs.Slots.{Shows, ShowsEither, StandsFor};
 ghost use Rattle.slot_store.specs.Scan.{found_at, IsAnswer};
 ghost use Rattle.slot_store.specs.Stages.{spare_at, IsPair, IsReadyOn, IsSettledOn};
 ghost use Rattle.slot_store.specs.Writes.{IsApart, OrWithin, LeavesThroughout, WritesIn};
@@ -40,7 +40,7 @@ pub fn a_pair_stands_for_one_body<T: Body>()
 /// An open slot whose body is read has that body's own spelling, in an image of bytes.
 pub fn an_open_slot_has_a_spelling<T: Body>()
     ensures { (start : ℕ) (image : List ℕ) (body : T) → AreBytes image → start + slot_size ≤ length image
-        → IsOpen T.reads start image (Some body) → take body_size (drop (start + 1) image) ≡ T.spelling body }
+        → IsOpen T.reads start image (Some body) → bytes_behind start image ≡ T.spelling body }
 {}
 
 /// A pair whose latest body is at a place stands for that body. It stays so, and a blank pair stays

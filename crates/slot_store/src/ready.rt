@@ -2,10 +2,9 @@
 ghost use Rattle.std.specs.Prelude.{◌≡◌, ◌+◌, ◌≤◌, true, false, get_or, Option, Some, None, IfOk, OnOk, IsOk};
 ghost use Rattle.outside.specs.Faults.{HasCause};
 ghost use Rattle.slot_store.specs.declared.pair.Pair.{Pair};
-ghost use Rattle.slot_store.specs.Sizes.{slot_size, last_pair};
-ghost use Rattle.slot_store.specs.Slots.{Shows};
-ghost use Rattle.slot_store.specs.Stages.{spare_at, is_spare_open, IsPair, IsReadyOn, IsShutOn};
-ghost use Rattle.slot_store.specs.Writes.{LeavesThroughout, WritesIn};
+ghost use Rattle.slot_store.specs.Sizes.{last_pair};
+ghost use Rattle.slot_store.specs.Stages.{is_spare_open, spare_at, IsPair, IsReadyOn};
+ghost use Rattle.slot_store.specs.Stages.{LeavesLatest, Shuts, WritesOfSpare};
 
 use crate::durable::write_and_sync;
 use crate::pair::CLOSED;
@@ -76,16 +75,13 @@ impl Ready {
     ) -> Result<Shut, Failed>
         requires ready { B.tells_image → (latest : Option T) × IsReadyOn T.Body B.Board self board.old latest }
         ensures any_moment { B.tells_image → (latest : Option T) → IsReadyOn T.Body B.Board self board.old latest
-            → LeavesThroughout B.Board (spare_at self) slot_size
-            (λ image. Shows T.reads T.number_of self.at image latest) board.old board.new }
-        ensures shut { B.tells_image → OnOk result ((latest : Option T) → IsReadyOn T.Body B.Board self board.old latest
-            → IsShutOn T.Body B.Board self board.new latest) }
+            → LeavesLatest T.Body B.Board self latest board.old board.new }
+        ensures shut { B.tells_image → OnOk result (Shuts T.Body B.Board self board.old board.new) }
         ensures gate { B.tells_image → is_spare_open self.latest ≡ true
             → OnOk result (get_or (B.image board.new) (spare_at self) 0 ≡ 0) }
         ensures closed { is_spare_open self.latest ≡ false
             → IsOk result × (board.new ≡ board.old) × (steps.new ≡ steps.old) }
-        ensures gate_alone { WritesIn B.Board (spare_at self) 1 board.old board.new }
-        ensures beside { WritesIn B.Board (spare_at self) slot_size board.old board.new }
+        ensures writes { WritesOfSpare B.Board self (spare_at self) 1 board.old board.new }
         ensures pair { IfOk result (λ shut. shut ≡ self) }
         ensures cause { HasCause (B.faults board.old) (B.faults board.new) result }
         ensures calls { is_spare_open self.latest ≡ true → OnOk result (steps.new ≡ steps.old + 2) }

@@ -1,12 +1,10 @@
 //! What a pair of slots stands for.
-ghost use Rattle.std.specs.Prelude.{◌≡◌, ℕ, ◌+◌, ◌≤◌, take, drop, IfOk, OnOk, IsErr, IsErrOf};
-ghost use Rattle.outside.specs.Disk.{SameBut, MayLeave};
+ghost use Rattle.std.specs.Prelude.{◌≡◌, ◌+◌, ◌≤◌, IfOk, OnOk, IsErr, IsErrOf};
 ghost use Rattle.outside.specs.Faults.{HasCause, RisesOnlyIf};
-ghost use Rattle.outside.specs.Runs.{LeavesOnly};
 ghost use Rattle.slot_store.specs.Scan.{found_at, IsAsFound, IsValidFinding};
-ghost use Rattle.slot_store.specs.Sizes.{slot_size, last_pair};
-ghost use Rattle.slot_store.specs.Syncs.{IsAsHeld, LeavesFromSync};
-ghost use Rattle.slot_store.specs.Verdicts.{held, verdict_on};
+ghost use Rattle.slot_store.specs.Sizes.{last_pair};
+ghost use Rattle.slot_store.specs.Syncs.{ReadsOnly, SyncsFirst};
+ghost use Rattle.slot_store.specs.Verdicts.{held, verdict_on, AreOfSlots};
 
 use crate::found::Held;
 use crate::pair::{OPEN, SLOT_SIZE};
@@ -36,16 +34,8 @@ pub fn scan<T: Body, B: Board<L>, L: Ledger>(
     ensures settled { B.tells_image → IfOk result
         (IsAsFound T.reads T.number_of at (B.image board.new) (B.in_flight board.new)) }
     ensures sound { IfOk result (IsValidFinding T.valid) }
-    ensures any_moment { LeavesOnly B.Board board.old board.new
-        (MayLeave (B.image board.old) (B.in_flight board.old) (B.printed board.old)) }
-    ensures synced { B.tells_image → LeavesFromSync B.Board (IsErrOf result SlotFault.DeviceFailed)
-        board.old board.new (IsAsHeld B.Board board.old) }
-    ensures same { ¬ IsErrOf result SlotFault.DeviceFailed → B.image board.new ≡ B.image board.old }
-    ensures durable { B.tells_image → ¬ IsErrOf result SlotFault.DeviceFailed
-        → (place : ℕ) → ¬ B.in_flight board.new place }
-    ensures image { SameBut (B.in_flight board.old) (B.image board.old) (B.image board.new) }
-    ensures flight { (place : ℕ) → B.in_flight board.new place → B.in_flight board.old place }
-    ensures text { B.printed board.new ≡ B.printed board.old }
+    ensures reads { ReadsOnly B.Board board.old board.new }
+    ensures synced { SyncsFirst B.Board (IsErrOf result SlotFault.DeviceFailed) board.old board.new }
     ensures cause { RisesOnlyIf (IsErrOf result SlotFault.DeviceFailed) (B.faults board.old) (B.faults board.new) }
     ensures calls { ¬ IsErrOf result SlotFault.DeviceFailed → steps.new ≡ steps.old + 3 }
     ensures steps { steps.new ≤ steps.old + 3 }
@@ -61,18 +51,9 @@ fn read_pair<B: Board<L>, L: Ledger>(
     steps: &mut Steps<L>,
 ) -> Result<([u8; SLOT_SIZE], [u8; SLOT_SIZE]), Failed>
     requires { at ≤ last_pair }
-    ensures first { B.tells_image → IfOk result (λ slots. slots.0 ≡ take slot_size (drop at (B.image board.old))) }
-    ensures second { B.tells_image
-        → IfOk result (λ slots. slots.1 ≡ take slot_size (drop (at + slot_size) (B.image board.old))) }
-    ensures same { OnOk result (B.image board.new ≡ B.image board.old) }
-    ensures durable { B.tells_image → OnOk result ((place : ℕ) → ¬ B.in_flight board.new place) }
-    ensures synced { B.tells_image → LeavesFromSync B.Board (IsErr result)
-        board.old board.new (IsAsHeld B.Board board.old) }
-    ensures any_moment { LeavesOnly B.Board board.old board.new
-        (MayLeave (B.image board.old) (B.in_flight board.old) (B.printed board.old)) }
-    ensures image { SameBut (B.in_flight board.old) (B.image board.old) (B.image board.new) }
-    ensures flight { (place : ℕ) → B.in_flight board.new place → B.in_flight board.old place }
-    ensures text { B.printed board.new ≡ B.printed board.old }
+    ensures slots { B.tells_image → IfOk result (AreOfSlots at (B.image board.old)) }
+    ensures reads { ReadsOnly B.Board board.old board.new }
+    ensures synced { SyncsFirst B.Board (IsErr result) board.old board.new }
     ensures cause { HasCause (B.faults board.old) (B.faults board.new) result }
     ensures calls { OnOk result (steps.new ≡ steps.old + 3) }
     ensures steps { steps.new ≤ steps.old + 3 }
@@ -88,14 +69,9 @@ fn read_slots<B: Board<L>, L: Ledger>(
     steps: &mut Steps<L>,
 ) -> Result<([u8; SLOT_SIZE], [u8; SLOT_SIZE]), Failed>
     requires { at ≤ last_pair }
-    ensures first { B.tells_image → IfOk result (λ slots. slots.0 ≡ take slot_size (drop at (B.image board.old))) }
-    ensures second { B.tells_image
-        → IfOk result (λ slots. slots.1 ≡ take slot_size (drop (at + slot_size) (B.image board.old))) }
+    ensures slots { B.tells_image → IfOk result (AreOfSlots at (B.image board.old)) }
     ensures same { B.image board.new ≡ B.image board.old }
-    ensures any_moment { LeavesOnly B.Board board.old board.new
-        (MayLeave (B.image board.old) (B.in_flight board.old) (B.printed board.old)) }
-    ensures flight { (place : ℕ) → B.in_flight board.new place → B.in_flight board.old place }
-    ensures text { B.printed board.new ≡ B.printed board.old }
+    ensures reads { ReadsOnly B.Board board.old board.new }
     ensures cause { HasCause (B.faults board.old) (B.faults board.new) result }
     ensures calls { OnOk result (steps.new ≡ steps.old + 2) }
     ensures steps { steps.new ≤ steps.old + 2 }

@@ -1,12 +1,11 @@
 //! The second stage: the body is written behind the shut gate.
-ghost use Rattle.std.specs.Prelude.{◌≡◌, ◌+◌, ◌≤◌, take, drop, Option, IfOk, OnOk};
+ghost use Rattle.std.specs.Prelude.{◌≡◌, ◌+◌, ◌≤◌, Option, IfOk, OnOk};
 ghost use Rattle.outside.specs.Faults.{HasCause};
 ghost use Rattle.slot_store.specs.declared.pair.Pair.{Pair};
 ghost use Rattle.slot_bodies.specs.Bodies.{body_size};
-ghost use Rattle.slot_store.specs.Sizes.{slot_size};
-ghost use Rattle.slot_store.specs.Slots.{Shows};
-ghost use Rattle.slot_store.specs.Stages.{spare_at, IsPair, IsBefore, IsShutOn, IsWrittenOn};
-ghost use Rattle.slot_store.specs.Writes.{LeavesThroughout, WritesIn};
+ghost use Rattle.slot_store.specs.Slots.{bytes_behind};
+ghost use Rattle.slot_store.specs.Stages.{spare_at, IsPair, IsShutOn};
+ghost use Rattle.slot_store.specs.Stages.{LeavesLatest, MayWrite, WritesBody, WritesOfSpare};
 
 use crate::durable::write_and_sync;
 use crate::{Pair, Written};
@@ -50,20 +49,13 @@ impl Shut {
         steps: &mut Steps<L>,
     ) -> Result<Written, Failed>
         requires valid { T.valid body.now }
-        requires shut { B.tells_image → (latest : Option T) × IsShutOn T.Body B.Board self board.old latest
-            × IsBefore T.number_of latest (T.number_of body.now) }
-        ensures any_moment { B.tells_image → (latest : Option T)
-            → IsShutOn T.Body B.Board self board.old latest
-            → LeavesThroughout B.Board (spare_at self) slot_size
-            (λ image. Shows T.reads T.number_of self.at image latest) board.old board.new }
-        ensures written { B.tells_image → OnOk result ((latest : Option T)
-            → IsShutOn T.Body B.Board self board.old latest
-            → IsBefore T.number_of latest (T.number_of body.now)
-            → IsWrittenOn T.Body B.Board self board.new latest body.now) }
-        ensures spelled { B.tells_image → OnOk result
-            (take body_size (drop (spare_at self + 1) (B.image board.new)) ≡ T.spelling body.now) }
-        ensures body_alone { WritesIn B.Board (spare_at self + 1) body_size board.old board.new }
-        ensures beside { WritesIn B.Board (spare_at self) slot_size board.old board.new }
+        requires shut { B.tells_image → (latest : Option T) × MayWrite T.Body B.Board self board.old latest body.now }
+        ensures any_moment { B.tells_image → (latest : Option T) → IsShutOn T.Body B.Board self board.old latest
+            → LeavesLatest T.Body B.Board self latest board.old board.new }
+        ensures written { B.tells_image → OnOk result (WritesBody T.Body B.Board self body.now board.old board.new) }
+        ensures spelled { B.tells_image
+            → OnOk result (bytes_behind (spare_at self) (B.image board.new) ≡ T.spelling body.now) }
+        ensures writes { WritesOfSpare B.Board self (spare_at self + 1) body_size board.old board.new }
         ensures pair { IfOk result (λ written. written ≡ self) }
         ensures cause { HasCause (B.faults board.old) (B.faults board.new) result }
         ensures calls { OnOk result (steps.new ≡ steps.old + 2) }

@@ -1,12 +1,11 @@
 //! The three stages in a row, for one body and for a list of them.
-ghost use Rattle.std.specs.Prelude.{◌≡◌, ◌+◌, ◌*◌, ◌≤◌, false, [], length, Option, IfOk, OnOk};
+ghost use Rattle.std.specs.Prelude.{◌≡◌, ◌+◌, ◌*◌, ◌≤◌, false, length, Option, IfOk};
 ghost use Rattle.std.specs.List.{All};
 ghost use Rattle.outside.specs.Faults.{HasCause};
 ghost use Rattle.slot_store.specs.Sizes.{slot_size, pair_size};
-ghost use Rattle.slot_store.specs.Slots.{ShowsEither};
-ghost use Rattle.slot_store.specs.Stages.{spare_at, is_spare_open, new_place, IsBefore, IsReadyOn, IsSettledOn};
-ghost use Rattle.slot_store.specs.Writes.{LeavesThroughout, WritesIn};
-ghost use Rattle.slot_store.specs.Order.{AreNewer, last_of, ShowsOne, GetsEach, StoresSome};
+ghost use Rattle.slot_store.specs.Stages.{spare_at, is_spare_open, new_place, IsSettledOn, LeavesLatestOrNew, MayGet};
+ghost use Rattle.slot_store.specs.Writes.{WritesIn};
+ghost use Rattle.slot_store.specs.Order.{MayGetEach, StoresEach};
 
 use crate::{Place, Ready};
 use outside::{Board, Failed};
@@ -27,17 +26,11 @@ impl Ready {
         steps: &mut Steps<L>,
     ) -> Result<Place, Failed>
         requires valid { T.valid body.now }
-        requires ready { B.tells_image → (latest : Option T) × IsReadyOn T.Body B.Board self board.old latest
-            × IsBefore T.number_of latest (T.number_of body.now) }
-        ensures any_moment { B.tells_image → (latest : Option T)
-            → IsReadyOn T.Body B.Board self board.old latest
-            → IsBefore T.number_of latest (T.number_of body.now)
-            → LeavesThroughout B.Board (spare_at self) slot_size
-            (ShowsEither T.reads T.number_of self.at latest body.now) board.old board.new }
-        ensures settled { B.tells_image → IfOk result (λ place. (latest : Option T)
-            → IsReadyOn T.Body B.Board self board.old latest
-            → IsBefore T.number_of latest (T.number_of body.now)
-            → IsSettledOn T.Body B.Board self.at place board.new body.now) }
+        requires ready { B.tells_image → (latest : Option T) × MayGet T.Body B.Board self board.old latest body.now }
+        ensures any_moment { B.tells_image → (latest : Option T) → MayGet T.Body B.Board self board.old latest body.now
+            → LeavesLatestOrNew T.Body B.Board self latest body.now board.old board.new }
+        ensures settled { B.tells_image
+            → IfOk result (λ place. IsSettledOn T.Body B.Board self.at place board.new body.now) }
         ensures beside { WritesIn B.Board (spare_at self) slot_size board.old board.new }
         ensures place { IfOk result (λ place. place ≡ new_place self) }
         ensures slot_in { IfOk result (λ place. place.slot ≤ 1) }
@@ -62,25 +55,11 @@ impl Ready {
         steps: &mut Steps<L>,
     ) -> Result<Ready, Failed>
         requires valid { All T.valid bodies.now }
-        requires ready { B.tells_image → (latest : Option T) × IsReadyOn T.Body B.Board self board.old latest
-            × AreNewer T.number_of latest bodies.now }
-        ensures any_moment { B.tells_image → (latest : Option T)
-            → IsReadyOn T.Body B.Board self board.old latest
-            → AreNewer T.number_of latest bodies.now
-            → LeavesThroughout B.Board self.at pair_size
-            (ShowsOne T.reads T.number_of self.at latest bodies.now) board.old board.new }
-        ensures in_order { B.tells_image → (latest : Option T)
-            → IsReadyOn T.Body B.Board self board.old latest
-            → AreNewer T.number_of latest bodies.now
-            → StoresSome T.reads T.number_of self.at B.Board latest bodies.now board.old board.new }
-        ensures all { B.tells_image → OnOk result ((latest : Option T)
-            → IsReadyOn T.Body B.Board self board.old latest
-            → AreNewer T.number_of latest bodies.now
-            → GetsEach T.reads T.number_of self.at B.Board board.new (B.moment board.old) latest bodies.now []) }
-        ensures ready { B.tells_image → IfOk result (λ ready. (latest : Option T)
-            → IsReadyOn T.Body B.Board self board.old latest
-            → AreNewer T.number_of latest bodies.now
-            → IsReadyOn T.Body B.Board ready board.new (last_of latest bodies.now)) }
+        requires ready { B.tells_image → (latest : Option T)
+            × MayGetEach T.Body B.Board self board.old latest bodies.now }
+        ensures stores { B.tells_image → (latest : Option T)
+            → MayGetEach T.Body B.Board self board.old latest bodies.now
+            → StoresEach T.Body B.Board self latest bodies.now board.old board.new result }
         ensures pair { IfOk result (λ ready. ready.at ≡ self.at) }
         ensures beside { WritesIn B.Board self.at pair_size board.old board.new }
         ensures cause { HasCause (B.faults board.old) (B.faults board.new) result }

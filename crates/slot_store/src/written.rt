@@ -2,10 +2,8 @@
 ghost use Rattle.std.specs.Prelude.{◌≡◌, ◌+◌, ◌≤◌, Option, IfOk, OnOk};
 ghost use Rattle.outside.specs.Faults.{HasCause};
 ghost use Rattle.slot_store.specs.declared.pair.Pair.{Pair};
-ghost use Rattle.slot_store.specs.Sizes.{slot_size};
-ghost use Rattle.slot_store.specs.Slots.{ShowsEither};
-ghost use Rattle.slot_store.specs.Stages.{spare_at, new_place, IsPair, IsWrittenOn, IsSettledOn};
-ghost use Rattle.slot_store.specs.Writes.{LeavesThroughout, WritesIn};
+ghost use Rattle.slot_store.specs.Stages.{spare_at, new_place, IsPair, IsWrittenOn};
+ghost use Rattle.slot_store.specs.Stages.{LeavesLatestOrNew, OpensAt, WritesOfSpare};
 
 use crate::durable::write_and_sync;
 use crate::pair::OPEN;
@@ -52,13 +50,9 @@ impl Written {
             × ((body : T) × IsWrittenOn T.Body B.Board self board.old latest body) }
         ensures any_moment { B.tells_image → (latest : Option T) (body : T)
             → IsWrittenOn T.Body B.Board self board.old latest body
-            → LeavesThroughout B.Board (spare_at self) slot_size
-            (ShowsEither T.reads T.number_of self.at latest body) board.old board.new }
-        ensures settled { B.tells_image → IfOk result (λ place. (latest : Option T) (body : T)
-            → IsWrittenOn T.Body B.Board self board.old latest body
-            → IsSettledOn T.Body B.Board self.at place board.new body) }
-        ensures gate_alone { WritesIn B.Board (spare_at self) 1 board.old board.new }
-        ensures beside { WritesIn B.Board (spare_at self) slot_size board.old board.new }
+            → LeavesLatestOrNew T.Body B.Board self latest body board.old board.new }
+        ensures settled { B.tells_image → IfOk result (OpensAt T.Body B.Board self board.old board.new) }
+        ensures writes { WritesOfSpare B.Board self (spare_at self) 1 board.old board.new }
         ensures place { IfOk result (λ place. place ≡ new_place self) }
         ensures slot_in { IfOk result (λ place. place.slot ≤ 1) }
         ensures cause { HasCause (B.faults board.old) (B.faults board.new) result }

@@ -44,48 +44,48 @@ returns-in-Ok-Latest-clause-finds g c = λ told place d settled fits.
     (record { durable = b; place = p }, (c.where_it_fits.ensures.finds (subst (λ (x : Durable). ForSome x.hold (Fits c.args.tables.now)) (sym e) fits), e))
 
 pub returns-in-Ok-Latest-clause-points : goal.returns-in-Ok-Latest-clause-points
-returns-in-Ok-Latest-clause-points g c = λ told seal place d settled fits. scan_point g.B.Board c.args.tables.now seal c.args.board.now c.scan.new.board d place settled fits c.scan.ensures.image c.scan.ensures.any_moment c.scan.ensures.text
+returns-in-Ok-Latest-clause-points g c = λ told seal place d settled fits. scan_point g.B.Board c.args.tables.now seal c.args.board.now c.scan.new.board d place settled fits c.scan.ensures.reads.image c.scan.ensures.reads.leaves c.scan.ensures.reads.text
 
 pub returns-in-Ok-Latest-clause-beside : goal.returns-in-Ok-Latest-clause-beside
-returns-in-Ok-Latest-clause-beside g c = λ told. beside_scan g.B.Board c.args.board.now c.scan.new.board c.scan.ensures.image c.scan.ensures.flight c.scan.ensures.any_moment
+returns-in-Ok-Latest-clause-beside g c = λ told. beside_scan g.B.Board c.args.board.now c.scan.new.board c.scan.ensures.reads.image c.scan.ensures.reads.flight c.scan.ensures.reads.leaves
 
 pub returns-in-Ok-Blank-clause-finds : goal.returns-in-Ok-Blank-clause-finds
 returns-in-Ok-Blank-clause-finds g c = λ told place d settled fits. absurd (not_blank c.in-Ok-Blank.field-0 place d (g.B.Board.image c.args.board.now) c.in-Ok-Blank.field-0-is settled.is_at (c.in-Ok-Blank.ensures.exact told (answers c.in-Ok-Blank.field-0)))
 
 pub returns-in-Ok-Blank-clause-points : goal.returns-in-Ok-Blank-clause-points
-returns-in-Ok-Blank-clause-points g c = λ told seal place d settled fits. scan_point g.B.Board c.args.tables.now seal c.args.board.now c.scan.new.board d place settled fits c.scan.ensures.image c.scan.ensures.any_moment c.scan.ensures.text
+returns-in-Ok-Blank-clause-points g c = λ told seal place d settled fits. scan_point g.B.Board c.args.tables.now seal c.args.board.now c.scan.new.board d place settled fits c.scan.ensures.reads.image c.scan.ensures.reads.leaves c.scan.ensures.reads.text
 
 pub returns-in-Ok-Blank-clause-beside : goal.returns-in-Ok-Blank-clause-beside
-returns-in-Ok-Blank-clause-beside g c = λ told. beside_scan g.B.Board c.args.board.now c.scan.new.board c.scan.ensures.image c.scan.ensures.flight c.scan.ensures.any_moment
+returns-in-Ok-Blank-clause-beside g c = λ told. beside_scan g.B.Board c.args.board.now c.scan.new.board c.scan.ensures.reads.image c.scan.ensures.reads.flight c.scan.ensures.reads.leaves
 
 pub returns-in-Err-DeviceFailed-clause-points : goal.returns-in-Err-DeviceFailed-clause-points
-returns-in-Err-DeviceFailed-clause-points g c = λ told seal place d settled fits. scan_point g.B.Board c.args.tables.now seal c.args.board.now c.scan.new.board d place settled fits c.scan.ensures.image c.scan.ensures.any_moment c.scan.ensures.text
+returns-in-Err-DeviceFailed-clause-points g c = λ told seal place d settled fits. scan_point g.B.Board c.args.tables.now seal c.args.board.now c.scan.new.board d place settled fits c.scan.ensures.reads.image c.scan.ensures.reads.leaves c.scan.ensures.reads.text
 
 pub returns-in-Err-DeviceFailed-clause-beside : goal.returns-in-Err-DeviceFailed-clause-beside
-returns-in-Err-DeviceFailed-clause-beside g c = λ told. beside_scan g.B.Board c.args.board.now c.scan.new.board c.scan.ensures.image c.scan.ensures.flight c.scan.ensures.any_moment
+returns-in-Err-DeviceFailed-clause-beside g c = λ told. beside_scan g.B.Board c.args.board.now c.scan.new.board c.scan.ensures.reads.image c.scan.ensures.reads.flight c.scan.ensures.reads.leaves
 
 pub returns-in-Err-BadBody-clause-finds : goal.returns-in-Err-BadBody-clause-finds
 returns-in-Err-BadBody-clause-finds g c = λ told place d settled fits. absurd (no_fault c.in-Err-BadBody.field-0 place d (g.B.Board.image c.args.board.now) settled.is_at
     (c.in-Err-BadBody.ensures.exact told (bad_body c.in-Err-BadBody.field-0 _ c.in-Err-BadBody.field-0-is)))
 
 pub returns-in-Err-BadBody-clause-points : goal.returns-in-Err-BadBody-clause-points
-returns-in-Err-BadBody-clause-points g c = λ told seal place d settled fits. scan_point g.B.Board c.args.tables.now seal c.args.board.now c.scan.new.board d place settled fits c.scan.ensures.image c.scan.ensures.any_moment c.scan.ensures.text
+returns-in-Err-BadBody-clause-points g c = λ told seal place d settled fits. scan_point g.B.Board c.args.tables.now seal c.args.board.now c.scan.new.board d place settled fits c.scan.ensures.reads.image c.scan.ensures.reads.leaves c.scan.ensures.reads.text
 
 pub returns-in-Err-BadBody-clause-beside : goal.returns-in-Err-BadBody-clause-beside
-returns-in-Err-BadBody-clause-beside g c = λ told. beside_scan g.B.Board c.args.board.now c.scan.new.board c.scan.ensures.image c.scan.ensures.flight c.scan.ensures.any_moment
+returns-in-Err-BadBody-clause-beside g c = λ told. beside_scan g.B.Board c.args.board.now c.scan.new.board c.scan.ensures.reads.image c.scan.ensures.reads.flight c.scan.ensures.reads.leaves
 
 pub returns-in-Err-SameNumber-clause-finds : goal.returns-in-Err-SameNumber-clause-finds
 returns-in-Err-SameNumber-clause-finds g c = λ told place d settled fits. absurd (no_fault c.in-Err-SameNumber.field-0 place d (g.B.Board.image c.args.board.now) settled.is_at
     (c.in-Err-SameNumber.ensures.exact told (same_number c.in-Err-SameNumber.field-0 _ c.in-Err-SameNumber.field-0-is)))
 
 pub returns-in-Err-SameNumber-clause-points : goal.returns-in-Err-SameNumber-clause-points
-returns-in-Err-SameNumber-clause-points g c = λ told seal place d settled fits. scan_point g.B.Board c.args.tables.now seal c.args.board.now c.scan.new.board d place settled fits c.scan.ensures.image c.scan.ensures.any_moment c.scan.ensures.text
+returns-in-Err-SameNumber-clause-points g c = λ told seal place d settled fits. scan_point g.B.Board c.args.tables.now seal c.args.board.now c.scan.new.board d place settled fits c.scan.ensures.reads.image c.scan.ensures.reads.leaves c.scan.ensures.reads.text
 
 pub returns-in-Err-SameNumber-clause-beside : goal.returns-in-Err-SameNumber-clause-beside
-returns-in-Err-SameNumber-clause-beside g c = λ told. beside_scan g.B.Board c.args.board.now c.scan.new.board c.scan.ensures.image c.scan.ensures.flight c.scan.ensures.any_moment
+returns-in-Err-SameNumber-clause-beside g c = λ told. beside_scan g.B.Board c.args.board.now c.scan.new.board c.scan.ensures.reads.image c.scan.ensures.reads.flight c.scan.ensures.reads.leaves
 
 pub returns-in-Ok-Latest-clause-text : goal.returns-in-Ok-Latest-clause-text
-returns-in-Ok-Latest-clause-text g c = c.scan.ensures.text
+returns-in-Ok-Latest-clause-text g c = c.scan.ensures.reads.text
 
 pub returns-in-Ok-Latest-clause-steps : goal.returns-in-Ok-Latest-clause-steps
 returns-in-Ok-Latest-clause-steps g c = omega (arith, c.scan.ensures.steps, c.where_it_fits.ensures.steps)
@@ -97,7 +97,7 @@ pub returns-in-Ok-Blank-clause-range : goal.returns-in-Ok-Blank-clause-range
 returns-in-Ok-Blank-clause-range g c = nothing_found _
 
 pub returns-in-Ok-Blank-clause-text : goal.returns-in-Ok-Blank-clause-text
-returns-in-Ok-Blank-clause-text g c = c.scan.ensures.text
+returns-in-Ok-Blank-clause-text g c = c.scan.ensures.reads.text
 
 pub returns-in-Ok-Blank-clause-steps : goal.returns-in-Ok-Blank-clause-steps
 returns-in-Ok-Blank-clause-steps g c = few c.args.steps.now c.scan.new.steps c.scan.ensures.steps
@@ -112,7 +112,7 @@ pub returns-in-Err-DeviceFailed-clause-finds : goal.returns-in-Err-DeviceFailed-
 returns-in-Err-DeviceFailed-clause-finds g c = λ told place d settled fits. tt
 
 pub returns-in-Err-DeviceFailed-clause-text : goal.returns-in-Err-DeviceFailed-clause-text
-returns-in-Err-DeviceFailed-clause-text g c = c.scan.ensures.text
+returns-in-Err-DeviceFailed-clause-text g c = c.scan.ensures.reads.text
 
 pub returns-in-Err-DeviceFailed-clause-steps : goal.returns-in-Err-DeviceFailed-clause-steps
 returns-in-Err-DeviceFailed-clause-steps g c = few c.args.steps.now c.scan.new.steps c.scan.ensures.steps
@@ -124,7 +124,7 @@ pub returns-in-Err-BadBody-clause-range : goal.returns-in-Err-BadBody-clause-ran
 returns-in-Err-BadBody-clause-range g c = nothing_found _
 
 pub returns-in-Err-BadBody-clause-text : goal.returns-in-Err-BadBody-clause-text
-returns-in-Err-BadBody-clause-text g c = c.scan.ensures.text
+returns-in-Err-BadBody-clause-text g c = c.scan.ensures.reads.text
 
 pub returns-in-Err-BadBody-clause-steps : goal.returns-in-Err-BadBody-clause-steps
 returns-in-Err-BadBody-clause-steps g c = few c.args.steps.now c.scan.new.steps c.scan.ensures.steps
@@ -136,7 +136,7 @@ pub returns-in-Err-SameNumber-clause-range : goal.returns-in-Err-SameNumber-clau
 returns-in-Err-SameNumber-clause-range g c = nothing_found _
 
 pub returns-in-Err-SameNumber-clause-text : goal.returns-in-Err-SameNumber-clause-text
-returns-in-Err-SameNumber-clause-text g c = c.scan.ensures.text
+returns-in-Err-SameNumber-clause-text g c = c.scan.ensures.reads.text
 
 pub returns-in-Err-SameNumber-clause-steps : goal.returns-in-Err-SameNumber-clause-steps
 returns-in-Err-SameNumber-clause-steps g c = few c.args.steps.now c.scan.new.steps c.scan.ensures.steps

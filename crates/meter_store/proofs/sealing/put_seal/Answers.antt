@@ -13,7 +13,10 @@ returns-in_err-place-clause-any_moment g c told old is =
     let here = c.ready_for-ready.ensures in
     let ready = subst (λ (p : Pair). IsReady reads seal_number_of p (board.image c.args.board.now) (board.in_flight c.args.board.now) old) (sym here) (ready_found board c.args.board.now c.args.found old is) in
     put_next board _ c.args.found c.args.seal.now old c.args.board.now c.store.new.board c.requires.slot here
-    (c.store.ensures.any_moment told old ready (newer_found board c.args.board.now c.args.found old _ is c.requires.number))
+    (c.store.ensures.any_moment told old (record {
+      ready = ready;
+      newer = newer_found board c.args.board.now c.args.found old _ is c.requires.number;
+    }))
 
 pub returns-clause-any_moment : goal.returns-clause-any_moment
 returns-clause-any_moment g c told old is =
@@ -21,16 +24,17 @@ returns-clause-any_moment g c told old is =
     let here = c.ready_for-ready.ensures in
     let ready = subst (λ (p : Pair). IsReady reads seal_number_of p (board.image c.args.board.now) (board.in_flight c.args.board.now) old) (sym here) (ready_found board c.args.board.now c.args.found old is) in
     put_next board _ c.args.found c.args.seal.now old c.args.board.now c.store.new.board c.requires.slot here
-    (c.store.ensures.any_moment told old ready (newer_found board c.args.board.now c.args.found old _ is c.requires.number))
+    (c.store.ensures.any_moment told old (record {
+      ready = ready;
+      newer = newer_found board c.args.board.now c.args.found old _ is c.requires.number;
+    }))
 
 pub returns-clause-settled : goal.returns-clause-settled
 returns-clause-settled g c told =
     let board = g.B.Board in
     let here = c.ready_for-ready.ensures in
-    let found = c.requires.found told in
-    let ready = subst (λ (p : Pair). IsReady reads seal_number_of p (board.image c.args.board.now) (board.in_flight c.args.board.now) found.0) (sym here) (ready_found board c.args.board.now c.args.found found.0 found.1) in
     subst (λ (p : Pair). IsSettled reads seal_number_of p.at c.in_ok-place.place (board.image c.store.new.board) (board.in_flight c.store.new.board) c.args.seal.now) here
-    (c.in_ok-place.ensures.settled told found.0 ready (newer_found board c.args.board.now c.args.found found.0 _ found.1 c.requires.number))
+    (c.in_ok-place.ensures.settled told)
 
 pub returns-in_err-place-clause-settled : goal.returns-in_err-place-clause-settled
 returns-in_err-place-clause-settled g c told = on_failed c.from_residual.result _ c.from_residual.ensures.0

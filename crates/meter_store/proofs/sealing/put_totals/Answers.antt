@@ -13,21 +13,20 @@ pub returns-in_err-place-clause-any_moment : goal.returns-in_err-place-clause-an
 returns-in_err-place-clause-any_moment g c told =
     let board = g.B.Board in
     let ready = subst (λ (p : Pair). IsReady reads state_number_of p (board.image c.args.board.now) (board.in_flight c.args.board.now) None) (sym c.blank.ensures) (c.requires told) in
-    put_first board _ _ c.args.board.now c.store.new.board c.blank.ensures c.zero.ensures.state (c.store.ensures.any_moment told None ready tt)
+    put_first board _ _ c.args.board.now c.store.new.board c.blank.ensures c.zero.ensures.state (c.store.ensures.any_moment told None (record { ready = ready; newer = tt }))
 
 pub returns-clause-any_moment : goal.returns-clause-any_moment
 returns-clause-any_moment g c told =
     let board = g.B.Board in
     let ready = subst (λ (p : Pair). IsReady reads state_number_of p (board.image c.args.board.now) (board.in_flight c.args.board.now) None) (sym c.blank.ensures) (c.requires told) in
-    put_first board _ _ c.args.board.now c.store.new.board c.blank.ensures c.zero.ensures.state (c.store.ensures.any_moment told None ready tt)
+    put_first board _ _ c.args.board.now c.store.new.board c.blank.ensures c.zero.ensures.state (c.store.ensures.any_moment told None (record { ready = ready; newer = tt }))
 
 pub returns-clause-settled : goal.returns-clause-settled
 returns-clause-settled g c told =
     let board = g.B.Board in
-    let ready = subst (λ (p : Pair). IsReady reads state_number_of p (board.image c.args.board.now) (board.in_flight c.args.board.now) None) (sym c.blank.ensures) (c.requires told) in
     subst (λ (d : Durable). IsSettled reads state_number_of 0 c.in_ok-place.place (board.image c.store.new.board) (board.in_flight c.store.new.board) d) c.zero.ensures.state
     (subst (λ (p : Pair). IsSettled reads state_number_of p.at c.in_ok-place.place (board.image c.store.new.board) (board.in_flight c.store.new.board) c.zero.result) c.blank.ensures
-    (c.in_ok-place.ensures.settled told None ready tt))
+    (c.in_ok-place.ensures.settled told))
 
 pub returns-in_err-place-clause-settled : goal.returns-in_err-place-clause-settled
 returns-in_err-place-clause-settled g c told = on_failed c.from_residual.result _ c.from_residual.ensures.0
