@@ -96,6 +96,8 @@ mod Streams
 mod Tabling
 -- the sound tariff of a text that was read
 mod Tariffs
+-- the files of two words that are read one behind the other
+mod Turns
 -- calls that write nothing, one after another
 mod Unwritten
 -- a drive that is read whole into memory, part by part

@@ -51,6 +51,7 @@ pub mod ExplainSteps
 pub mod FormSteps
 pub mod LinesSteps
 pub mod Opened
+pub mod ReadInTurn
 pub mod RunSteps
 pub mod SealSteps
 pub mod TableSteps

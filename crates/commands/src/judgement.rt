@@ -1,5 +1,5 @@
 //! Judges readings by a drive.
-ghost use Rattle.std.specs.Prelude.{◌≡◌, ◌≢◌, ◌⊎◌, ℕ, [], All, flat_map, IfOk, OnOk, Ok, Err};
+ghost use Rattle.std.specs.Prelude.{◌≡◌, ◌≢◌, ℕ, [], All, flat_map, IfOk, OnOk, Ok, Err};
 ghost use Rattle.drive_text.specs.Ending.{Whole, drive_end};
 ghost use Rattle.drive_text.specs.Ranges.{IsRunInRange};
 ghost use Rattle.drive_text.specs.Runs.{run_events};
@@ -8,6 +8,7 @@ ghost use Rattle.verify_bench.specs.Readings.{readings_in};
 ghost use Rattle.commands.specs.BenchSteps.{IsJudged, IsNoReadings, IsNotJudged, terms_in};
 ghost use Rattle.commands.specs.BenchSteps.{judged_pass, judged_text};
 ghost use Rattle.commands.specs.Bench.{ended_for_readings};
+ghost use Rattle.commands.specs.ReadInTurn.{ReadsInTurn};
 
 use crate::bench_terms::Terms;
 use crate::ending::{Ended, refused_drive};
@@ -42,14 +43,9 @@ pub fn judge_drive<F: Files>(
     ensures refused { (why : Ended) → F.tells → result ≡ Err why → IsNotJudged (terms_in terms.now)
         (F.rest files.old 2) (F.rest files.new 2) (F.rest files.old 3)
         (Rose (F.faults files.old 2) (F.faults files.new 2)) (Rose (F.faults files.old 3) (F.faults files.new 3)) why }
-    ensures read_fault { result ≡ Err Ended.ReadFault → (Rose (F.faults files.old 2) (F.faults files.new 2)
-        × ((other : ℕ) → other ≢ 2 → F.rest files.new other ≡ F.rest files.old other))
-        ⊎ Rose (F.faults files.old 3) (F.faults files.new 3) }
     ensures not_board { result ≢ Err Ended.BoardFault }
-    ensures others { (other : ℕ) → other ≢ 2 → other ≢ 3 → F.rest files.new other ≡ F.rest files.old other }
-    ensures unread { F.tells → (other : ℕ) → other ≢ 2 → ¬ ((other ≡ 3) × (drive_end (F.rest files.old 2) ≡ Whole))
-        → F.rest files.new other ≡ F.rest files.old other }
-    ensures counts { result ≢ Err Ended.ReadFault → (other : ℕ) → F.faults files.new other ≡ F.faults files.old other }
+    ensures reads { ReadsInTurn F.Files 2 3 (drive_end (F.rest files.old 2) ≡ Whole) (result ≡ Err Ended.ReadFault)
+        files.old files.new }
 {
     let runs = match read_drive(alloc, files, 2) {
         Ok(runs) => runs,

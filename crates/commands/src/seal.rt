@@ -1,13 +1,13 @@
 //! The command `seal`.
-ghost use Rattle.std.specs.Prelude.{◌≡◌, ◌≢◌, ◌⊎◌, ◌+◌, ◌<◌, ◌≤◌, ℕ, [], IfOk, OnOk, Ok, Err};
+ghost use Rattle.std.specs.Prelude.{◌≡◌, ◌≢◌, ◌⊎◌, ◌+◌, ◌<◌, ◌≤◌, [], IfOk, OnOk, Ok, Err};
 ghost use Rattle.std.specs.Option.{ForSome};
-ghost use Rattle.outside.specs.Faults.{Rose};
 ghost use Rattle.slot_store.specs.Scan.{IsValidFinding};
 ghost use Rattle.seal_record.specs.Limits.{last_seal_number};
 ghost use Rattle.seal_record.specs.Ranges.{IsSeal};
 ghost use Rattle.meter_store.specs.Sealing.{found_number, next_number, seal_found, totals_found};
 ghost use Rattle.commands.specs.Carried.{Carries, SealComes};
 ghost use Rattle.commands.specs.Opened.{IsSoundOpening};
+ghost use Rattle.commands.specs.ReadInTurn.{HasFailed, ReadsInTurn};
 ghost use Rattle.commands.specs.SealSteps.{IsNoSeal, IsNoTariff, IsTariffWith};
 ghost use Rattle.commands.specs.Seal.{HasDecimals, seal_command, seal_read};
 ghost use Rattle.commands.specs.Seal as spec;
@@ -128,17 +128,11 @@ fn read_seal<F: Files>(
         → IfOk result (λ seal. seal_read number found (F.rest files.old 1) (F.rest files.old 2) ≡ Ok seal) }
     ensures tariff_ended { F.tells → OnOk result (F.rest files.new 1 ≡ []) }
     ensures params_ended { F.tells → OnOk result (F.rest files.new 2 ≡ []) }
-    ensures refused { (ended : Ended) → F.tells → result ≡ Err ended
-        → IsNoSeal number found (F.rest files.old 1) (F.rest files.old 2)
-        (λ word. Rose (F.faults files.old word) (F.faults files.new word)) ended }
-    ensures read_fault { result ≡ Err Ended.ReadFault → (Rose (F.faults files.old 1) (F.faults files.new 1)
-        × ((other : ℕ) → other ≢ 1 → F.rest files.new other ≡ F.rest files.old other))
-        ⊎ Rose (F.faults files.old 2) (F.faults files.new 2) }
+    ensures refused { (why : Ended) → F.tells → result ≡ Err why
+        → IsNoSeal number found (F.rest files.old 1) (F.rest files.old 2) (HasFailed F.Files files.old files.new) why }
     ensures not_board { result ≢ Err Ended.BoardFault }
-    ensures others { (other : ℕ) → other ≢ 1 → other ≢ 2 → F.rest files.new other ≡ F.rest files.old other }
-    ensures unread { F.tells → (other : ℕ) → other ≢ 1 → ¬ ((other ≡ 2) × HasDecimals found (F.rest files.old 1))
-        → F.rest files.new other ≡ F.rest files.old other }
-    ensures counts { result ≢ Err Ended.ReadFault → (other : ℕ) → F.faults files.new other ≡ F.faults files.old other }
+    ensures reads { ReadsInTurn F.Files 1 2 (HasDecimals found (F.rest files.old 1)) (result ≡ Err Ended.ReadFault)
+        files.old files.new }
 {
     let text = match text_of_word(alloc, files, 1) {
         Ok(text) => text,

@@ -117,24 +117,24 @@ returns-in-Err-judge_drive g c =
         c.open_terms.ensures.counts (no_fault c.open_terms.result c.in-Ok.terms ended.ReadFault
             c.in-Ok.is) 3,
       );
-      behind = λ other lt. c.judge_drive.ensures.others other (λ is. absurd (omega (arith, lt, is)))
+      behind = λ other lt. c.judge_drive.ensures.reads.others other (λ is. absurd (omega (arith, lt, is)))
           (λ is. absurd (omega (arith, lt, is)))
           ∙ c.open_terms.ensures.others other (λ is. absurd (omega (arith, lt, is)));
     })
-    (c.judge_drive.ensures.read_fault (c.in-Err-judge_drive.is ∙ ap Err e)))
+    (c.judge_drive.ensures.reads.read_fault (c.in-Err-judge_drive.is ∙ ap Err e)))
     (record {
       count = λ good. c.open_terms.ensures.opens.count
           (no_fault c.open_terms.result c.in-Ok.terms ended.BoardFault c.in-Ok.is);
       failed = λ e. absurd
           (c.judge_drive.ensures.not_board (c.in-Err-judge_drive.is ∙ ap Err e));
     })
-    (λ word not. c.judge_drive.ensures.others word (λ e. not (inr (inl e))) (λ e. not (inr (inr e))) ∙ c.open_terms.ensures.others word (λ e. not (inl e)))
+    (λ word not. c.judge_drive.ensures.reads.others word (λ e. not (inr (inl e))) (λ e. not (inr (inr e))) ∙ c.open_terms.ensures.others word (λ e. not (inl e)))
     (λ known. let rest = g.F.Files.rest in
     unread-terms (rest c.args.files.now) (rest c.open_terms.new.files) (rest c.judge_drive.new.files)
     (g.B.Board.image c.args.board.now) (terms_in c.in-Ok.terms)
     (c.in-Ok.ensures.found known.0 known.1) (c.open_terms.ensures.others 2 two-one)
-    (c.open_terms.ensures.unread known.1) (c.judge_drive.ensures.unread known.0))
-    (λ read good word. c.judge_drive.ensures.counts (λ f. read
+    (c.open_terms.ensures.unread known.1) (c.judge_drive.ensures.reads.unread known.0))
+    (λ read good word. c.judge_drive.ensures.reads.counts (λ f. read
     (same_fault c.judge_drive.result c.in-Err-judge_drive.why ended.ReadFault c.in-Err-judge_drive.is f)) word
     ∙ c.open_terms.ensures.counts (no_fault c.open_terms.result c.in-Ok.terms ended.ReadFault c.in-Ok.is) word)
     (record {
@@ -153,7 +153,7 @@ returns-in-Ok-print_text g c =
     (λ known. let tells = known.0 in let told = known.1 in
     let rest = g.F.Files.rest in
     let j = has_judged (rest c.args.files.now) (rest c.open_terms.new.files) (rest c.judge_drive.new.files) (g.B.Board.image c.args.board.now) (c.in-Ok.ensures.found tells told) (c.in-Ok.ensures.ended tells)
-    c.open_terms.ensures.others c.judge_drive.ensures.others (c.in-Ok-judge_drive.ensures.judged tells) (c.in-Ok-judge_drive.ensures.ended tells) in
+    c.open_terms.ensures.others c.judge_drive.ensures.reads.others (c.in-Ok-judge_drive.ensures.judged tells) (c.in-Ok-judge_drive.ensures.ended tells) in
     subst (λ (end : Ended). ComesOn g.F.Files g.B.Board bench_command c.args.files.now c.judge_drive.new.files c.args.board.now c.print_text.new.board end) (sym c.ended.ensures)
     (comes-judged (rest c.args.files.now) (rest c.judge_drive.new.files) (g.B.Board.image c.args.board.now) _ _ g.B.Board.tells_text (g.B.Board.printed c.args.board.now) (g.B.Board.printed c.print_text.new.board) j
     (λ t. c.in-Ok-print_text.ensures.whole t ∙ ap (λ (x : List ℕ). x ++ c.as_slice.result.now) c.open_terms.ensures.opens.reads.text
@@ -162,7 +162,7 @@ returns-in-Ok-print_text g c =
     let rest = g.F.Files.rest in
     let bound = steps-judged (rest c.args.files.now) (rest c.judge_drive.new.files) (g.B.Board.image c.args.board.now)
     (has_judged (rest c.args.files.now) (rest c.open_terms.new.files) (rest c.judge_drive.new.files) (g.B.Board.image c.args.board.now) (c.in-Ok.ensures.found tells told) (c.in-Ok.ensures.ended tells)
-    c.open_terms.ensures.others c.judge_drive.ensures.others (c.in-Ok-judge_drive.ensures.judged tells) (c.in-Ok-judge_drive.ensures.ended tells))
+    c.open_terms.ensures.others c.judge_drive.ensures.reads.others (c.in-Ok-judge_drive.ensures.judged tells) (c.in-Ok-judge_drive.ensures.ended tells))
     c.as_slice.result.now _ _ _ c.open_terms.ensures.steps c.as_slice.ensures.value c.print_text.ensures.steps in omega (arith, le, bound))
     (λ e. absurd ((not_fault-passing c.in-Ok-judge_drive.judgement.pass).0 (sym c.ended.ensures ∙ e)))
     (record {
@@ -170,13 +170,13 @@ returns-in-Ok-print_text g c =
           ∙ c.open_terms.ensures.opens.count (no_fault c.open_terms.result c.in-Ok.terms ended.BoardFault c.in-Ok.is);
       failed = λ e. absurd ((not_fault-passing c.in-Ok-judge_drive.judgement.pass).1 (sym c.ended.ensures ∙ e));
     })
-    (λ word not. c.judge_drive.ensures.others word (λ e. not (inr (inl e))) (λ e. not (inr (inr e))) ∙ c.open_terms.ensures.others word (λ e. not (inl e)))
+    (λ word not. c.judge_drive.ensures.reads.others word (λ e. not (inr (inl e))) (λ e. not (inr (inr e))) ∙ c.open_terms.ensures.others word (λ e. not (inl e)))
     (λ known. let rest = g.F.Files.rest in
     unread-terms (rest c.args.files.now) (rest c.open_terms.new.files) (rest c.judge_drive.new.files)
     (g.B.Board.image c.args.board.now) (terms_in c.in-Ok.terms)
     (c.in-Ok.ensures.found known.0 known.1) (c.open_terms.ensures.others 2 two-one)
-    (c.open_terms.ensures.unread known.1) (c.judge_drive.ensures.unread known.0))
-    (λ read good word. c.judge_drive.ensures.counts (no_fault c.judge_drive.result c.in-Ok-judge_drive.judgement
+    (c.open_terms.ensures.unread known.1) (c.judge_drive.ensures.reads.unread known.0))
+    (λ read good word. c.judge_drive.ensures.reads.counts (no_fault c.judge_drive.result c.in-Ok-judge_drive.judgement
     ended.ReadFault c.in-Ok-judge_drive.is) word
     ∙ c.open_terms.ensures.counts (no_fault c.open_terms.result c.in-Ok.terms ended.ReadFault c.in-Ok.is) word)
     (record {
@@ -198,7 +198,7 @@ returns g c =
     (λ known. let tells = known.0 in let told = known.1 in
     let rest = g.F.Files.rest in
     let j = has_judged (rest c.args.files.now) (rest c.open_terms.new.files) (rest c.judge_drive.new.files) (g.B.Board.image c.args.board.now) (c.in-Ok.ensures.found tells told) (c.in-Ok.ensures.ended tells)
-    c.open_terms.ensures.others c.judge_drive.ensures.others (c.in-Ok-judge_drive.ensures.judged tells) (c.in-Ok-judge_drive.ensures.ended tells) in
+    c.open_terms.ensures.others c.judge_drive.ensures.reads.others (c.in-Ok-judge_drive.ensures.judged tells) (c.in-Ok-judge_drive.ensures.ended tells) in
     let last = c.print_text.new.board in
     let printed = g.B.Board.printed in
     comes-begun (rest c.args.files.now) (rest c.judge_drive.new.files) (g.B.Board.image c.args.board.now) _ _ g.B.Board.tells_text (printed c.args.board.now) (printed last) j
@@ -213,7 +213,7 @@ returns g c =
     let rest = g.F.Files.rest in
     let bound = steps-judged (rest c.args.files.now) (rest c.judge_drive.new.files) (g.B.Board.image c.args.board.now)
     (has_judged (rest c.args.files.now) (rest c.open_terms.new.files) (rest c.judge_drive.new.files) (g.B.Board.image c.args.board.now) (c.in-Ok.ensures.found tells told) (c.in-Ok.ensures.ended tells)
-    c.open_terms.ensures.others c.judge_drive.ensures.others (c.in-Ok-judge_drive.ensures.judged tells) (c.in-Ok-judge_drive.ensures.ended tells))
+    c.open_terms.ensures.others c.judge_drive.ensures.reads.others (c.in-Ok-judge_drive.ensures.judged tells) (c.in-Ok-judge_drive.ensures.ended tells))
     c.as_slice.result.now _ _ _ c.open_terms.ensures.steps c.as_slice.ensures.value c.print_text.ensures.steps in omega (arith, le, bound))
     (λ e. absurd cc)
     (record {
@@ -225,13 +225,13 @@ returns g c =
             (no_fault c.open_terms.result c.in-Ok.terms ended.BoardFault c.in-Ok.is),
       );
     })
-    (λ word not. c.judge_drive.ensures.others word (λ e. not (inr (inl e))) (λ e. not (inr (inr e))) ∙ c.open_terms.ensures.others word (λ e. not (inl e)))
+    (λ word not. c.judge_drive.ensures.reads.others word (λ e. not (inr (inl e))) (λ e. not (inr (inr e))) ∙ c.open_terms.ensures.others word (λ e. not (inl e)))
     (λ known. let rest = g.F.Files.rest in
     unread-terms (rest c.args.files.now) (rest c.open_terms.new.files) (rest c.judge_drive.new.files)
     (g.B.Board.image c.args.board.now) (terms_in c.in-Ok.terms)
     (c.in-Ok.ensures.found known.0 known.1) (c.open_terms.ensures.others 2 two-one)
-    (c.open_terms.ensures.unread known.1) (c.judge_drive.ensures.unread known.0))
-    (λ read good word. c.judge_drive.ensures.counts (no_fault c.judge_drive.result c.in-Ok-judge_drive.judgement
+    (c.open_terms.ensures.unread known.1) (c.judge_drive.ensures.reads.unread known.0))
+    (λ read good word. c.judge_drive.ensures.reads.counts (no_fault c.judge_drive.result c.in-Ok-judge_drive.judgement
     ended.ReadFault c.in-Ok-judge_drive.is) word
     ∙ c.open_terms.ensures.counts (no_fault c.open_terms.result c.in-Ok.terms ended.ReadFault c.in-Ok.is) word)
     (record {

@@ -1,12 +1,14 @@
-use Rattle.std.proofs.Common.{◌≡◌, ◌≢◌, ◌∙◌, ℕ, List, Err, refl, sym, ap, subst, arith, inl}
+use Rattle.std.proofs.Common.{◌≡◌, ◌≢◌, ◌∙◌, ℕ, List, Err, refl, sym, ap, subst, arith}
 use Rattle.std.proofs.lemmas.Result.{err_from_is_err_and}
 use Rattle.outside.specs.Faults.{Rose}
 use Rattle.tariff_syntax.specs.declared.tariff.Tariff.{Tariff}
-use Rattle.commands.specs.BenchSteps.{IsNoReadings, IsNotJudged, IsWholeDrive, terms_in}
+use Rattle.commands.specs.BenchSteps.{IsNoReadings, IsNotJudged, IsWholeDrive, ended_for_drive, terms_in}
 use Rattle.commands.specs.declared.ending.Ended.{Ended}
+use Rattle.commands.specs.declared.ending.Ended.TheVariants as ended
 use Rattle.commands.specs.declared.whole_drive.DriveFault.TheVariants as drives
 use Rattle.commands.proofs.Judging.{no_readings-as, not_board-drive, not_judged-drive, not_judged-memory, not_judged-readings, read_fault-drive}
 use Rattle.commands.proofs.Openings.{same_fault, no_fault}
+use Rattle.commands.proofs.Turns.{first_alone, first_then}
 use Rattle.commands.proofs.judgement.judge_drive.Goals as goal
 
 two-three : (n : ℕ) → n ≡ 2 → n ≢ 3
@@ -26,14 +28,6 @@ returns-in-Err-clause-refused g c = λ why tells e.
     subst (λ (w : Ended). IsNotJudged (terms_in c.args.terms.now) (rest files 2) (rest new 2) (rest files 3) failed text_failed w) (sym c.refused_drive.ensures ∙ same_fault _ _ _ refl e)
     (not_judged-drive (terms_in c.args.terms.now) (rest files 2) (rest new 2) (rest files 3) failed text_failed c.in-Err.fault (c.in-Err.ensures.refused tells)
     (λ f. c.read_drive.ensures.read_fault (c.in-Err.is ∙ ap Err f)))
-
-pub returns-in-Err-clause-read_fault : goal.returns-in-Err-clause-read_fault
-returns-in-Err-clause-read_fault g c = λ e.
-    inl (
-      c.read_drive.ensures.read_fault (c.in-Err.is ∙ ap Err
-          (read_fault-drive c.in-Err.fault (sym c.refused_drive.ensures ∙ same_fault _ _ _ refl e))),
-      c.read_drive.ensures.others,
-    )
 
 pub returns-in-Err-clause-not_board : goal.returns-in-Err-clause-not_board
 returns-in-Err-clause-not_board g c = λ e. not_board-drive c.in-Err.fault (sym c.refused_drive.ensures ∙ same_fault _ _ _ refl e)
@@ -83,19 +77,52 @@ returns-clause-refused g c = λ why tells e.
     subst (λ (w : Ended). IsNotJudged terms (rest files 2) (rest new 2) (rest files 3) failed text_failed w) (same_fault _ _ _ refl e)
     (not_judged-memory terms (rest files 2) (rest new 2) (rest files 3) failed text_failed c.in-Ok.runs.items whole)
 
--- ---- what is left unread
+-- ---- what is read
 
-pub returns-in_err-readings-clause-unread : goal.returns-in_err-readings-clause-unread
-returns-in_err-readings-clause-unread g c = λ tells other not_2 never.
-    c.readings_of_word.ensures.others other (λ e. never (e, (c.in-Ok.ensures.whole tells).end_is)) ∙
-    c.read_drive.ensures.others other not_2
+pub returns-in-Err-clause-reads : goal.returns-in-Err-clause-reads
+returns-in-Err-clause-reads g c =
+    first_alone g.F.Files 2 3 _ _ c.args.files.now c.read_drive.new.files
+    (c.read_drive.result ≡ Err drives.ReadFault)
+    (λ e. c.in-Err.is ∙ ap Err
+    (read_fault-drive c.in-Err.fault (sym c.refused_drive.ensures ∙ same_fault _ _ _ refl e)))
+    (λ e. ap Err (c.refused_drive.ensures
+    ∙ ap ended_for_drive (same_fault c.read_drive.result c.in-Err.fault drives.ReadFault c.in-Err.is e)))
+    c.read_drive.ensures.read_fault c.read_drive.ensures.others c.read_drive.ensures.counts
 
-pub returns-in-Ok-judge_readings-clause-unread : goal.returns-in-Ok-judge_readings-clause-unread
-returns-in-Ok-judge_readings-clause-unread g c = λ tells other not_2 never.
-    c.readings_of_word.ensures.others other (λ e. never (e, (c.in-Ok.ensures.whole tells).end_is)) ∙
-    c.read_drive.ensures.others other not_2
+pub returns-in_err-readings-clause-reads : goal.returns-in_err-readings-clause-reads
+returns-in_err-readings-clause-reads g c =
+    let p = err_from_is_err_and c.from_residual.result c.from_residual.ensures.1 in
+    let end = c.in_err-readings.field-0.0 in
+    let went = no_fault c.read_drive.result c.in-Ok.runs drives.ReadFault c.in-Ok.is in
+    let came = λ (tells : g.F.Files.tells). (c.in-Ok.ensures.whole tells).end_is in
+    rw (p.1, p.2) (first_then g.F.Files 2 3 _ _ c.args.files.now c.readings_of_word.new.files
+    c.read_drive.new.files
+    (c.readings_of_word.result ≡ Err ended.ReadFault) came
+    (λ e. c.in_err-readings.was ∙ ap Err (same_fault _ _ _ refl e))
+    (λ e. ap Err (same_fault c.readings_of_word.result end ended.ReadFault c.in_err-readings.was e))
+    c.read_drive.ensures.others (c.read_drive.ensures.counts went)
+    c.readings_of_word.ensures.read_fault c.readings_of_word.ensures.others c.readings_of_word.ensures.counts)
 
-pub returns-clause-unread : goal.returns-clause-unread
-returns-clause-unread g c = λ tells other not_2 never.
-    c.readings_of_word.ensures.others other (λ e. never (e, (c.in-Ok.ensures.whole tells).end_is)) ∙
-    c.read_drive.ensures.others other not_2
+pub returns-in-Ok-judge_readings-clause-reads : goal.returns-in-Ok-judge_readings-clause-reads
+returns-in-Ok-judge_readings-clause-reads g c =
+    let went = no_fault c.read_drive.result c.in-Ok.runs drives.ReadFault c.in-Ok.is in
+    let came = λ (tells : g.F.Files.tells). (c.in-Ok.ensures.whole tells).end_is in
+    first_then g.F.Files 2 3 _ _ c.args.files.now c.readings_of_word.new.files c.read_drive.new.files
+    (c.readings_of_word.result ≡ Err ended.ReadFault) came
+    (λ e. absurd cc)
+    (λ e. absurd (no_fault c.readings_of_word.result c.in_ok-readings.readings ended.ReadFault
+    c.in_ok-readings.was e))
+    c.read_drive.ensures.others (c.read_drive.ensures.counts went)
+    c.readings_of_word.ensures.read_fault c.readings_of_word.ensures.others c.readings_of_word.ensures.counts
+
+pub returns-clause-reads : goal.returns-clause-reads
+returns-clause-reads g c =
+    let went = no_fault c.read_drive.result c.in-Ok.runs drives.ReadFault c.in-Ok.is in
+    let came = λ (tells : g.F.Files.tells). (c.in-Ok.ensures.whole tells).end_is in
+    first_then g.F.Files 2 3 _ _ c.args.files.now c.readings_of_word.new.files c.read_drive.new.files
+    (c.readings_of_word.result ≡ Err ended.ReadFault) came
+    (λ e. absurd cc)
+    (λ e. absurd (no_fault c.readings_of_word.result c.in_ok-readings.readings ended.ReadFault
+    c.in_ok-readings.was e))
+    c.read_drive.ensures.others (c.read_drive.ensures.counts went)
+    c.readings_of_word.ensures.read_fault c.readings_of_word.ensures.others c.readings_of_word.ensures.counts

@@ -1,11 +1,16 @@
-use Rattle.std.proofs.Common.{◌∙◌, ℕ, List, Err, inl, refl, sym, ap, subst}
+use Rattle.std.proofs.Common.{◌≡◌, ◌∙◌, ℕ, List, Err, refl, sym, ap, subst}
 use Rattle.std.proofs.lemmas.Result.{err_from_is_err_and}
 use Rattle.outside.specs.Faults.{Rose}
+use Rattle.commands.specs.Ending.{ended_for, ended_for_params}
 use Rattle.commands.specs.Seal.{HasDecimals}
 use Rattle.commands.specs.SealSteps.{IsNoSeal}
 use Rattle.commands.proofs.Counting.{read_fault-text}
-use Rattle.commands.proofs.Openings.{same_fault}
+use Rattle.commands.specs.declared.params.ParamsFault.TheVariants as params
+use Rattle.commands.specs.declared.tariff.TextFault.TheVariants as texts
+use Rattle.commands.proofs.Explaining.{read_fault-params}
+use Rattle.commands.proofs.Openings.{no_fault, same_fault}
 use Rattle.commands.proofs.Sealings.{no_seal-tariff, no_tariff-fault}
+use Rattle.commands.proofs.Turns.{first_alone, first_then}
 use Rattle.commands.proofs.seal.read_seal.Goals as goal
 
 pub returns-in_err-decimals-clause-refused : goal.returns-in_err-decimals-clause-refused
@@ -21,13 +26,6 @@ returns-in_err-decimals-clause-refused g c =
     subst (λ (x : List ℕ). IsNoSeal c.args.number c.args.found x params failed end) (c.as_slice.ensures.value ∙ c.in-Ok.ensures.text read)
     (no_seal-tariff c.args.number c.args.found text params failed end why))
 
-pub returns-in_err-decimals-clause-read_fault : goal.returns-in_err-decimals-clause-read_fault
-returns-in_err-decimals-clause-read_fault g c =
-    let p = err_from_is_err_and c.from_residual.result c.from_residual.ensures.1 in
-    rw (p.1, p.2) (λ e.
-    let end = c.in_err-decimals.field-0.0 in
-    absurd ((no_tariff-fault c.args.found c.as_slice.result.now end (c.decimals_of.ensures.refused end c.in_err-decimals.was)).0 (same_fault _ _ _ refl e)))
-
 pub returns-in_err-decimals-clause-not_board : goal.returns-in_err-decimals-clause-not_board
 returns-in_err-decimals-clause-not_board g c =
     let p = err_from_is_err_and c.from_residual.result c.from_residual.ensures.1 in
@@ -35,24 +33,54 @@ returns-in_err-decimals-clause-not_board g c =
     let end = c.in_err-decimals.field-0.0 in
     (no_tariff-fault c.args.found c.as_slice.result.now end (c.decimals_of.ensures.refused end c.in_err-decimals.was)).1 (same_fault _ _ _ refl e))
 
-pub returns-in-Err-clause-read_fault : goal.returns-in-Err-clause-read_fault
-returns-in-Err-clause-read_fault g c = λ e.
-    inl (
-      c.text_of_word.ensures.read_fault (c.in-Err.is ∙ ap Err
-          (read_fault-text c.in-Err.fault (sym c.refused_by.ensures ∙ same_fault _ _ _ refl e))),
-      c.text_of_word.ensures.others,
-    )
+-- ---- what is read
 
--- ---- what is left unread
+pub returns-in-Err-clause-reads : goal.returns-in-Err-clause-reads
+returns-in-Err-clause-reads g c =
+    first_alone g.F.Files 1 2 _ _ c.args.files.now c.text_of_word.new.files
+    (c.text_of_word.result ≡ Err texts.ReadFault)
+    (λ e. c.in-Err.is ∙ ap Err
+    (read_fault-text c.in-Err.fault (sym c.refused_by.ensures ∙ same_fault _ _ _ refl e)))
+    (λ e. ap Err (c.refused_by.ensures
+    ∙ ap ended_for (same_fault c.text_of_word.result c.in-Err.fault texts.ReadFault c.in-Err.is e)))
+    c.text_of_word.ensures.read_fault c.text_of_word.ensures.others c.text_of_word.ensures.counts
 
-pub returns-in-Err-read_parameters-clause-unread : goal.returns-in-Err-read_parameters-clause-unread
-returns-in-Err-read_parameters-clause-unread g c = λ read other not_1 never.
-    let has = subst (λ (x : List ℕ). HasDecimals c.args.found x) (c.as_slice.ensures.value ∙ c.in-Ok.ensures.text read)
-    c.in_ok-decimals.ensures.sound.has in
-    c.read_parameters.ensures.others other (λ e. never (e, has)) ∙ c.text_of_word.ensures.others other not_1
+pub returns-in_err-decimals-clause-reads : goal.returns-in_err-decimals-clause-reads
+returns-in_err-decimals-clause-reads g c =
+    let p = err_from_is_err_and c.from_residual.result c.from_residual.ensures.1 in
+    let end = c.in_err-decimals.field-0.0 in
+    let why = no_tariff-fault c.args.found c.as_slice.result.now end
+    (c.decimals_of.ensures.refused end c.in_err-decimals.was) in
+    rw (p.1, p.2) (first_alone g.F.Files 1 2 _ _ c.args.files.now c.text_of_word.new.files
+    (c.text_of_word.result ≡ Err texts.ReadFault)
+    (λ e. absurd (why.0 (same_fault _ _ _ refl e)))
+    (λ e. absurd (no_fault c.text_of_word.result c.in-Ok.text texts.ReadFault c.in-Ok.is e))
+    c.text_of_word.ensures.read_fault c.text_of_word.ensures.others c.text_of_word.ensures.counts)
 
-pub returns-clause-unread : goal.returns-clause-unread
-returns-clause-unread g c = λ read other not_1 never.
-    let has = subst (λ (x : List ℕ). HasDecimals c.args.found x) (c.as_slice.ensures.value ∙ c.in-Ok.ensures.text read)
-    c.in_ok-decimals.ensures.sound.has in
-    c.read_parameters.ensures.others other (λ e. never (e, has)) ∙ c.text_of_word.ensures.others other not_1
+pub returns-in-Err-read_parameters-clause-reads : goal.returns-in-Err-read_parameters-clause-reads
+returns-in-Err-read_parameters-clause-reads g c =
+    let went = no_fault c.text_of_word.result c.in-Ok.text texts.ReadFault c.in-Ok.is in
+    let has = λ (read : g.F.Files.tells). subst (λ (x : List ℕ). HasDecimals c.args.found x)
+    (c.as_slice.ensures.value ∙ c.in-Ok.ensures.text read) c.in_ok-decimals.ensures.sound.has in
+    let fault = c.in-Err-read_parameters.fault in
+    first_then g.F.Files 1 2 _ _ c.args.files.now c.read_parameters.new.files c.text_of_word.new.files
+    (c.read_parameters.result ≡ Err params.ReadFault) has
+    (λ e. c.in-Err-read_parameters.is ∙ ap Err
+    (read_fault-params fault (sym c.refused_params.ensures ∙ same_fault _ _ _ refl e)))
+    (λ e. ap Err (c.refused_params.ensures
+    ∙ ap ended_for_params (same_fault c.read_parameters.result fault params.ReadFault c.in-Err-read_parameters.is e)))
+    c.text_of_word.ensures.others (c.text_of_word.ensures.counts went)
+    c.read_parameters.ensures.read_fault c.read_parameters.ensures.others c.read_parameters.ensures.counts
+
+pub returns-clause-reads : goal.returns-clause-reads
+returns-clause-reads g c =
+    let went = no_fault c.text_of_word.result c.in-Ok.text texts.ReadFault c.in-Ok.is in
+    let has = λ (read : g.F.Files.tells). subst (λ (x : List ℕ). HasDecimals c.args.found x)
+    (c.as_slice.ensures.value ∙ c.in-Ok.ensures.text read) c.in_ok-decimals.ensures.sound.has in
+    first_then g.F.Files 1 2 _ _ c.args.files.now c.read_parameters.new.files c.text_of_word.new.files
+    (c.read_parameters.result ≡ Err params.ReadFault) has
+    (λ e. absurd cc)
+    (λ e. absurd (no_fault c.read_parameters.result c.in-Ok-read_parameters.params params.ReadFault
+    c.in-Ok-read_parameters.is e))
+    c.text_of_word.ensures.others (c.text_of_word.ensures.counts went)
+    c.read_parameters.ensures.read_fault c.read_parameters.ensures.others c.read_parameters.ensures.counts

@@ -144,21 +144,21 @@ returns-in-Err-read_seal-clause-carries g c = record {
         word = 2;
         reads = inr refl;
         rose = two;
-        behind = λ other lt. c.read_seal.ensures.others other (λ is. absurd (omega (arith, lt, is)))
+        behind = λ other lt. c.read_seal.ensures.reads.others other (λ is. absurd (omega (arith, lt, is)))
             (λ is. absurd (omega (arith, lt, is)));
       })
-      (c.read_seal.ensures.read_fault (c.in-Err-read_seal.is ∙ ap Err e));
+      (c.read_seal.ensures.reads.read_fault (c.in-Err-read_seal.is ∙ ap Err e));
   board_fault = λ e. absurd (c.read_seal.ensures.not_board (c.in-Err-read_seal.is ∙ ap Err e));
-  others = λ word not. c.read_seal.ensures.others word (λ e. not (inl e)) (λ e. not (inr e));
+  others = λ word not. c.read_seal.ensures.reads.others word (λ e. not (inl e)) (λ e. not (inr e));
   unread =
       λ known. unread-sealing (g.F.Files.rest c.args.files.now) (g.F.Files.rest c.read_seal.new.files)
       (g.B.Board.image c.args.board.now) c.in-Ok.opening c.in-Ok-base_of.base
       (as_found c.open_store.result (opening_of (g.B.Board.image c.args.board.now)) c.in-Ok.opening stores.BoardFault
       c.in-Ok.is (c.open_store.ensures.exact known.1))
-      (sym c.base_of.ensures.answer ∙ c.in-Ok-base_of.is) (c.read_seal.ensures.unread known.0);
+      (sym c.base_of.ensures.answer ∙ c.in-Ok-base_of.is) (c.read_seal.ensures.reads.unread known.0);
   count = λ good. c.open_store.ensures.count (no_fault c.open_store.result c.in-Ok.opening stores.BoardFault
       c.in-Ok.is);
-  counts = λ read good. c.read_seal.ensures.counts (λ e. read
+  counts = λ read good. c.read_seal.ensures.reads.counts (λ e. read
       (same_fault c.read_seal.result _ _ c.in-Err-read_seal.is e));
   kept = λ shut. absurd (shut tt);
   unwritten = λ not. bytes-read g.B.Board c.args.board.now c.open_store.new.board c.open_store.ensures.reads;
@@ -218,16 +218,16 @@ returns-in-Ok-place_seal-clause-carries g c = record {
   steps = λ later le. search (rules, le);
   read_fault = λ e. absurd cc;
   board_fault = λ e. absurd cc;
-  others = λ word not. c.read_seal.ensures.others word (λ e. not (inl e)) (λ e. not (inr e));
+  others = λ word not. c.read_seal.ensures.reads.others word (λ e. not (inl e)) (λ e. not (inr e));
   unread =
       λ known. unread-sealing (g.F.Files.rest c.args.files.now) (g.F.Files.rest c.read_seal.new.files)
       (g.B.Board.image c.args.board.now) c.in-Ok.opening c.in-Ok-base_of.base
       (as_found c.open_store.result (opening_of (g.B.Board.image c.args.board.now)) c.in-Ok.opening stores.BoardFault
       c.in-Ok.is (c.open_store.ensures.exact known.1))
-      (sym c.base_of.ensures.answer ∙ c.in-Ok-base_of.is) (c.read_seal.ensures.unread known.0);
+      (sym c.base_of.ensures.answer ∙ c.in-Ok-base_of.is) (c.read_seal.ensures.reads.unread known.0);
   count = λ good. c.in-Ok-place_seal.ensures.cause.kept refl ∙ c.open_store.ensures.count
       (no_fault c.open_store.result c.in-Ok.opening stores.BoardFault c.in-Ok.is);
-  counts = λ read good. c.read_seal.ensures.counts (no_fault c.read_seal.result _ _ c.in-Ok-read_seal.is);
+  counts = λ read good. c.read_seal.ensures.reads.counts (no_fault c.read_seal.result _ _ c.in-Ok-read_seal.is);
   kept = λ shut. absurd (shut tt);
   unwritten = λ not. absurd (not (inl refl));
   same = λ not good. absurd (not (inl refl));
@@ -279,15 +279,15 @@ returns-in-Err-place_seal-clause-carries g c = record {
     c.open_store.ensures.count
         (no_fault c.open_store.result c.in-Ok.opening stores.BoardFault c.in-Ok.is),
   );
-  others = λ word not. c.read_seal.ensures.others word (λ e. not (inl e)) (λ e. not (inr e));
+  others = λ word not. c.read_seal.ensures.reads.others word (λ e. not (inl e)) (λ e. not (inr e));
   unread =
       λ known. unread-sealing (g.F.Files.rest c.args.files.now) (g.F.Files.rest c.read_seal.new.files)
       (g.B.Board.image c.args.board.now) c.in-Ok.opening c.in-Ok-base_of.base
       (as_found c.open_store.result (opening_of (g.B.Board.image c.args.board.now)) c.in-Ok.opening stores.BoardFault
       c.in-Ok.is (c.open_store.ensures.exact known.1))
-      (sym c.base_of.ensures.answer ∙ c.in-Ok-base_of.is) (c.read_seal.ensures.unread known.0);
+      (sym c.base_of.ensures.answer ∙ c.in-Ok-base_of.is) (c.read_seal.ensures.reads.unread known.0);
   count = λ good. absurd (good refl);
-  counts = λ read good. c.read_seal.ensures.counts (no_fault c.read_seal.result _ _ c.in-Ok-read_seal.is);
+  counts = λ read good. c.read_seal.ensures.reads.counts (no_fault c.read_seal.result _ _ c.in-Ok-read_seal.is);
   kept = λ shut. absurd (shut tt);
   unwritten = λ not. absurd (not (inr refl));
   same = λ not good. absurd (not (inr refl));

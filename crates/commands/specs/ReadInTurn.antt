@@ -1,0 +1,21 @@
+-- For proofs: what is left of its files by a part of a command that reads the files of two words, one behind the other.
+use Rattle.std.specs.Prelude.{◌≡◌, ◌≢◌, ◌⊎◌, ℕ}
+use Rattle.outside.specs.Faults.{Rose}
+use Rattle.outside.specs.declared.files.Files.{Ghosts as FileGhosts}
+
+-- a read of a word's file failed if the count of that file's faults rose
+abbrev pub HasFailed : {E : Type 0} → FileGhosts E → (files files' : E) → (word : ℕ) → Type 0
+HasFailed F files files' word = Rose (F.faults files word) (F.faults files' word)
+
+-- the files of two words were read in turn if, where a read `failed`, the count of the first word's file rose and no
+-- other word was read, or that of the second word's rose; no third word was read; the second wasn't where the call
+-- didn't come to it; and no count rose where no read failed
+pub record ReadsInTurn {E : Type 0} (F : FileGhosts E) (first second : ℕ) (comes failed : Type 0)
+    (files files' : E) : Type 0 where
+  pub read_fault : failed → (HasFailed F files files' first
+      × ((other : ℕ) → other ≢ first → F.rest files' other ≡ F.rest files other))
+      ⊎ HasFailed F files files' second
+  pub others : (other : ℕ) → other ≢ first → other ≢ second → F.rest files' other ≡ F.rest files other
+  pub unread : F.tells → (other : ℕ) → other ≢ first → ¬ ((other ≡ second) × comes)
+      → F.rest files' other ≡ F.rest files other
+  pub counts : ¬ failed → (other : ℕ) → F.faults files' other ≡ F.faults files other
