@@ -76,7 +76,8 @@ change_is text x e =
         time_is = t.is;
       };
     } in
-    subst (λ (z : Change × List ℕ). StandsAt IsChangeText text z.0 z.1) (same_pair (change, minute.0.1) x minute.2) there
+    subst (λ (z : Change × List ℕ). StandsAt IsChangeText text z.0 z.1) {x = (change, minute.0.1)}
+    (same_pair (change, minute.0.1) x minute.2) there
 
 pub change_from : (text rest : List ℕ) (change : Change) → IsChangeText text change → NoDigitFirst rest → change_at (text ++ rest) ≡ Some (change, rest)
 unfolding change_at
