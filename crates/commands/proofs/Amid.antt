@@ -126,7 +126,7 @@ stays_settled reads number_of at place image left flying body h same =
     at_stands reads number_of at place left body
     (same_at reads number_of at place image left body h.is_at (record { size = same.size; bytes = λ byte within. same.rest byte (h.quiet byte within) }))
 
-module _ {D L : Type 0} (B : Ghosts D L) where
+module _ {D L : Type 0} {N : ℕ} (B : Ghosts D N L) where
   -- what a cut may leave of a sealing that began on the old board
   abbrev Amid : Result Sealing Ended → D → List ℕ → List ℕ → Type 0
   Amid sealing old i x = MayLeaveSealing sealing (B.image old) (B.printed old) i x

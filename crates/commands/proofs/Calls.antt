@@ -16,7 +16,7 @@ use Rattle.commands.proofs.Counting.{rose_after, rose_before}
 use Rattle.commands.proofs.Endings.{ends-with, finishes-later, may-then}
 use Rattle.commands.proofs.Unwritten.{bytes-kept, bytes-then}
 
-module _ {E D L : Type 0} (F : FileGhosts E) (B : Ghosts D L) (files files' : E) (old mid new : D) (end : Ended) (status : ℕ)
+module _ {E D L : Type 0} {N : ℕ} (F : FileGhosts E) (B : Ghosts D N L) (files files' : E) (old mid new : D) (end : Ended) (status : ℕ)
     (cause : HasCauseOn B old mid end) (later : RisesOnlyIf (status ≢ status_of end) (B.faults mid) (B.faults new))
     (finish : IsEnd B.tells_text (Rose (B.faults mid) (B.faults new)) (status_of end) (line_of end) status (B.printed mid) (B.printed new)) where
   pub call_from : (command : Command) → ComesOn F B command files files' old mid end
@@ -73,7 +73,7 @@ module _ {E D L : Type 0} (F : FileGhosts E) (B : Ghosts D L) (files files' : E)
       carried.at_rest known told opened (no_board not_8) place (kept.flight place flies)
 
 -- without a fault of the outside the status is that of the answer, unless memory ran out
-module _ {E D L : Type 0} (F : FileGhosts E) (B : Ghosts D L) (c : Command) (files files' : E) (old new : D) (status : ℕ)
+module _ {E D L : Type 0} {N : ℕ} (F : FileGhosts E) (B : Ghosts D N L) (c : Command) (files files' : E) (old new : D) (status : ℕ)
     (read : ¬ (HasReadFault F c files files')) (calm : ¬ (Rose (B.faults old) (B.faults new))) where
   abbrev Completes : Type 0
   Completes = (status ≡ (c.answer (F.rest files) (B.image old)).status) ⊎ ((status ≡ 12) × MayLack c (F.rest files) (B.image old))

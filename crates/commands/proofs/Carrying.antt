@@ -38,7 +38,7 @@ module _ (c : Command) (contents left : ℕ → List ℕ) (image : List ℕ) (re
         h.stands;
   }
 
-module _ {E D L : Type 0} (F : FileGhosts E) (B : Ghosts D L) (c : Command) where
+module _ {E D L : Type 0} {N : ℕ} (F : FileGhosts E) (B : Ghosts D N L) (c : Command) where
   -- a command that only looks at the store
   pub carries-looked : (files files' : E) (old new : D) (before now : ℕ) (ended : Ended) → c.opens → ((status : ℕ) → ¬ (c.writes status))
       → (c.known F.tells B.tells_image → ComesOn F B c files files' old new ended)

@@ -163,7 +163,7 @@ not_read row is word not_1 not_2 reads = by (subst (λ (r : Option Row). (comman
 abbrev files_told : FileGhosts FilesState
 files_told = record { tells = Unit {0}; rest = rest_of; faults = λ files word. files.failed }
 
-module _ {D L : Type 0} (B : Ghosts D L) (files left : FilesState) (old new : D) (ended : ℕ) (run : IsRun files_told B files left old new ended)
+module _ {D L : Type 0} {N : ℕ} (B : Ghosts D N L) (files left : FilesState) (old new : D) (ended : ℕ) (run : IsRun files_told B files left old new ended)
     (told : B.tells_text) (silent : B.printed old ≡ []) (still : NothingFlies B old) (not_8 : ended ≢ 8) (not_12 : ended ≢ 12)
     (unread : (word : ℕ) → word ≢ 1 → word ≢ 2 → rest_of left word ≡ rest_of files word) where
   abbrev image : List ℕ

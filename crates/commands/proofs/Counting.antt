@@ -44,7 +44,8 @@ unless_read r fault read end is ended_is end_is left not_read not_board =
     left (λ failed. not_read (ended_is ∙ ap end (same_fault r fault read is failed) ∙ end_is))
 
 -- a command that was carried out ended with its cause
-pub cause_carried : {E D L : Type 0} {F : FileGhosts E} {B : Ghosts D L} {c : Command} {files files' : E} {old new : D}
+pub cause_carried : {E D L : Type 0} {N : ℕ} {F : FileGhosts E} {B : Ghosts D N L} {c : Command} {files files' : E}
+    {old new : D}
     {before now : ℕ} {ended : Ended} → Carries F B c files files' old new before now ended → HasCauseOn B old new ended
 cause_carried h = record { count = h.count; failed = h.board_fault }
 
@@ -92,7 +93,8 @@ stops_by word r fault read end is ended_is only reads rose others e =
 
 -- ---- over the last line
 
-module _ {D L : Type 0} (B : Ghosts D L) (old mid new : D) (end : Ended) (status : ℕ) (cause : HasCauseOn B old mid end)
+module _ {D L : Type 0} {N : ℕ} (B : Ghosts D N L) (old mid new : D) (end : Ended) (status : ℕ)
+    (cause : HasCauseOn B old mid end)
     (later : RisesOnlyIf (status ≢ status_of end) (B.faults mid) (B.faults new))
     (finish : IsEnd B.tells_text (Rose (B.faults mid) (B.faults new)) (status_of end) (line_of end) status
     (B.printed mid) (B.printed new)) where

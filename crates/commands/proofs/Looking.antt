@@ -16,7 +16,7 @@ use Rattle.commands.specs.Unwritten.{LeavesImage}
 use Rattle.commands.proofs.Rests.{board_or_not}
 use Rattle.commands.proofs.Unwritten.{bytes-kept, bytes-read, bytes-then}
 
-module _ {D L : Type 0} (B : Ghosts D L) where
+module _ {D L : Type 0} {N : ℕ} (B : Ghosts D N L) where
   -- an image as it was, whatever the text is
   abbrev Same : D → List ℕ → List ℕ → Type 0
   Same board left_image left_text = left_image ≡ B.image board

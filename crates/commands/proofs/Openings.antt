@@ -68,7 +68,7 @@ pub store_opened : (image : List ℕ) (opening : Opening) (found : Option (Durab
 store_opened image opening found e f = ap store_of (sym e) ∙ ap sealed_or (sym f)
 
 -- an opening, where what fails is known by another name
-pub opens-as : {D L : Type 0} (B : Ghosts D L) (fails fails' : Type 0) (old new : D) → (fails → fails') → (fails' → fails) → OnlyOpens B fails old new → OnlyOpens B fails' old new
+pub opens-as : {D L : Type 0} {N : ℕ} (B : Ghosts D N L) (fails fails' : Type 0) (old new : D) → (fails → fails') → (fails' → fails) → OnlyOpens B fails old new → OnlyOpens B fails' old new
 opens-as B fails fails' old new more fewer h =
     let held = IsAsHeld B old in
     record {
@@ -81,19 +81,19 @@ opens-as B fails fails' old new more fewer h =
     }
 
 -- what an opening left, by the answer that is made of its refusal, and by one behind its success
-pub opens-barred : {S T D L : Type 0} (B : Ghosts D L) (r : Result S Ended) (made : Result T Ended) (why : Ended) (old new : D) → r ≡ Err why → made ≡ Err why
+pub opens-barred : {S T D L : Type 0} {N : ℕ} (B : Ghosts D N L) (r : Result S Ended) (made : Result T Ended) (why : Ended) (old new : D) → r ≡ Err why → made ≡ Err why
     → OnlyOpens B (r ≡ Err ended.BoardFault) old new → OnlyOpens B (made ≡ Err ended.BoardFault) old new
 opens-barred B r made why old new is made_is h =
     opens-as B (r ≡ Err ended.BoardFault) (made ≡ Err ended.BoardFault) old new (λ f. made_is ∙ ap Err (same_fault r why ended.BoardFault is f))
     (λ f. is ∙ ap Err (same_fault made why ended.BoardFault made_is f)) h
 
-pub opens-behind : {S D L : Type 0} (B : Ghosts D L) (r : Result S Ended) (x : S) (fails : Type 0) (old new : D) → r ≡ Ok x → ¬ fails
+pub opens-behind : {S D L : Type 0} {N : ℕ} (B : Ghosts D N L) (r : Result S Ended) (x : S) (fails : Type 0) (old new : D) → r ≡ Ok x → ¬ fails
     → OnlyOpens B (r ≡ Err ended.BoardFault) old new → OnlyOpens B fails old new
 opens-behind B r x fails old new is good h =
     opens-as B (r ≡ Err ended.BoardFault) fails old new (λ f. absurd (no_fault r x ended.BoardFault is f)) (λ f. absurd (good f)) h
 
 -- the second scan behind a first one that went well
-module _ {D L : Type 0} (B : Ghosts D L) (old mid new : D) (first : ReadsOnly B old mid) (same : B.image mid ≡ B.image old) where
+module _ {D L : Type 0} {N : ℕ} (B : Ghosts D N L) (old mid new : D) (first : ReadsOnly B old mid) (same : B.image mid ≡ B.image old) where
   pub synced-on : (fails fails' : Type 0) → ¬ fails → IsSettled B mid → LeavesFromSync B fails old mid (IsAsHeld B old)
       → LeavesOnly B mid new (MayLeave (B.image mid) (B.in_flight mid) (B.printed mid)) → LeavesFromSync B fails' old new (IsAsHeld B old)
   synced-on fails fails' went settled synced next =

@@ -40,7 +40,7 @@ use Rattle.commands.proofs.RunCuts.{cut_begins, last_cut, longer_cut}
 use Rattle.commands.proofs.Starting.{starts_again}
 use Rattle.commands.proofs.Running.{found-held, outside_then, run_entries, same_outside}
 
-module _ {E D L : Type 0} (F : FileGhosts E) (B : Ghosts D L) (files files' : E) (old mid new : D) (s : Start) (begins : start_at F B files old ≡ Ok s) where
+module _ {E D L : Type 0} {N : ℕ} (F : FileGhosts E) (B : Ghosts D N L) (files files' : E) (old mid new : D) (s : Start) (begins : start_at F B files old ≡ Ok s) where
   abbrev image : List ℕ
   image = B.image old
 
@@ -227,7 +227,7 @@ ran-writes (Err faults.BoardFault) = inr (inr (inr refl))
 
 -- ---- after the last line
 
-module _ {E D L : Type 0} (F : FileGhosts E) (B : Ghosts D L) (files files' : E) (old mid new : D) (end : Ended) (status : ℕ)
+module _ {E D L : Type 0} {N : ℕ} (F : FileGhosts E) (B : Ghosts D N L) (files files' : E) (old mid new : D) (end : Ended) (status : ℕ)
     (h : RunComes F B files files' old mid end) (kept : KeepsStore B mid new) (line : LeavesOnly B mid new (MayLeaveAmid (B.image mid) (B.in_flight mid) (B.printed mid) (line_of end)))
     (silent : line_of end ≡ [] → new ≡ mid) where
   abbrev Kind : List ℕ → List ℕ → Type 0

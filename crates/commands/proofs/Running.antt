@@ -87,7 +87,7 @@ module _ (told : Type 0) (image printed tariff : List ℕ) where
         seal_stays = same_outside image now is;
       }
 
-module _ {E D L : Type 0} (F : FileGhosts E) (B : Ghosts D L) (files files' : E) (old new : D) where
+module _ {E D L : Type 0} {N : ℕ} (F : FileGhosts E) (B : Ghosts D N L) (files files' : E) (old new : D) where
   abbrev Here : Ended → Type 0
   Here end = ComesOn F B run_command files files' old new end
 

@@ -19,7 +19,7 @@ use Rattle.commands.proofs.Openings.{as_found, as_refused, no_fault}
 use Rattle.commands.proofs.Showing.{comes-begun, comes-shown}
 
 -- a command whose answer is one to the store that it opened, over the boards before and behind the opening
-module _ {D L : Type 0} (B : Ghosts D L) (c : Command) (contents left : ℕ → List ℕ) (read_failed : ℕ → Type 0) (old mid : D)
+module _ {D L : Type 0} {N : ℕ} (B : Ghosts D N L) (c : Command) (contents left : ℕ → List ℕ) (read_failed : ℕ → Type 0) (old mid : D)
     (answer : Result (Durable × Seal) Ended → Answer) (is : c.answer contents (B.image old) ≡ answer (store_of (opening_of (B.image old))))
     (untouched : Takes c.drive contents left []) (r : Result (Durable × Seal) Ended) (exact : ¬ (r ≡ Err ended.BoardFault) → r ≡ store_of (opening_of (B.image old)))
     (opens : OnlyOpens B (r ≡ Err ended.BoardFault) old mid) where

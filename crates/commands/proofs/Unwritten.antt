@@ -18,7 +18,7 @@ but_then flown flying old mid new fewer first next = record {
   rest = λ place none. next.rest place (λ flies. none (fewer place flies)) ∙ first.rest place none;
 }
 
-module _ {D L : Type 0} (B : Ghosts D L) where
+module _ {D L : Type 0} {N : ℕ} (B : Ghosts D N L) where
   -- one scan after another that went well
   pub reads-then : (old mid new : D) → ReadsOnly B old mid → B.image mid ≡ B.image old → ReadsOnly B mid new → ReadsOnly B old new
   reads-then old mid new first same next = record {

@@ -73,7 +73,7 @@ abbrev pub IsEnd : (tells_text board_failed : Type 0) (status : ℕ) (text : Lis
 IsEnd tells_text board_failed status text ended before now =
     IsWhole tells_text status text ended before now ⊎ IsCutShort tells_text board_failed text ended before now
 
-module _ {E D L : Type 0} (F : FileGhosts E) (B : Ghosts D L) where
+module _ {E D L : Type 0} {N : ℕ} (F : FileGhosts E) (B : Ghosts D N L) where
   -- a call of a command took a course, ended with the course's status and text, or with 8 and a beginning of the text,
   -- and left each file as it was to whose read the command doesn't come
   pub record IsCall (c : Command) (files files' : E) (board board' : D) (ended : ℕ) : Type 0 where

@@ -1,5 +1,6 @@
 -- For proofs: how a command was carried out, but for its last line. Call and Course say what a call is.
 use Rattle.std.specs.Prelude.{◌≡◌, ◌≢◌, ℕ, ◌+◌, ◌≤◌, List, [], Some}
+use Rattle.outside.specs.Disk.{store_size}
 use Rattle.outside.specs.Faults.{Rose}
 use Rattle.outside.specs.Runs.{IsSettled, KeepsStore}
 use Rattle.outside.specs.declared.board.Board.{Ghosts}
@@ -19,7 +20,7 @@ use Rattle.commands.specs.declared.ending.Ended.TheVariants.{BoardFault, ReadFau
 use Rattle.commands.specs.declared.words.Row.{Row}
 use Rattle.commands.specs.declared.words.Row.TheVariants.{Run, Seal}
 
-module _ {E D L : Type 0} (F : FileGhosts E) (B : Ghosts D L) where
+module _ {E D L : Type 0} {N : ℕ} (F : FileGhosts E) (B : Ghosts D N L) where
   -- a command was carried out, from its files, board and count of steps to those behind it, where all holds that its
   -- record says of a call but for the last line, each fault of the outside has its cause, a command that may write at
   -- all may have written where the board fails, and one that opens the store leaves nothing in flight unless the board
@@ -66,7 +67,7 @@ abbrev pub no_files : (contents : ℕ → List ℕ) → FileGhosts (Unit {0})
 no_files contents = record { tells = Unit {0}; rest = λ files. contents; faults = λ files word. 0 }
 
 -- a command that is given no board may be called over any image, prints nothing, and has no fault of a board
-abbrev pub no_board : (image : List ℕ) → Ghosts (Unit {0}) (Unit {0})
+abbrev pub no_board : (image : List ℕ) → Ghosts (Unit {0}) store_size (Unit {0})
 no_board image = record {
   tells_image = Unit {0};
   tells_text = Unit {0};

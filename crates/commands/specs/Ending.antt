@@ -108,7 +108,7 @@ abbrev pub ComesUnprinted : Command → (contents left : ℕ → List ℕ) → L
 ComesUnprinted c contents left image read_failed ended =
     Comes c contents left image read_failed ⊥ (λ text. text ≡ []) (λ text. ⊥) ended
 
-module _ {E D L : Type 0} (F : FileGhosts E) (B : Ghosts D L) where
+module _ {E D L : Type 0} {N : ℕ} (F : FileGhosts E) (B : Ghosts D N L) where
   -- a command comes to an end on files and a board, whose contents, images, texts and counts of faults are those of the
   -- call
   abbrev pub ComesOn : Command → (files files' : E) (board board' : D) → Ended → Type 0
@@ -118,7 +118,7 @@ module _ {E D L : Type 0} (F : FileGhosts E) (B : Ghosts D L) where
       (λ text. B.tells_text → B.printed board' ≡ B.printed board ++ text)
       (λ text. B.tells_text → Begins (B.printed board) (B.printed board') text) ended
 
-module _ {D L : Type 0} (B : Ghosts D L) where
+module _ {D L : Type 0} {N : ℕ} (B : Ghosts D N L) where
   -- a command comes to an end on a board, whatever files it may have
   abbrev pub ComesFrom : Command → (contents left : ℕ → List ℕ) → (ℕ → Type 0) → (board board' : D) → Ended → Type 0
   ComesFrom c contents left read_failed board board' ended =

@@ -1,5 +1,5 @@
 -- For proofs: what an opening of the store leaves. Opening says what an image stands for.
-use Rattle.std.specs.Prelude.{◌≡◌, ◌⊎◌}
+use Rattle.std.specs.Prelude.{◌≡◌, ◌⊎◌, ℕ}
 use Rattle.outside.specs.Faults.{Rose}
 use Rattle.outside.specs.Runs.{IsSettled}
 use Rattle.outside.specs.declared.board.Board.{Ghosts}
@@ -27,7 +27,7 @@ pub record IsSoundOpening (opening : Opening) : Type 0 where
 abbrev pub IsBarred : Ended → Type 0
 IsBarred ended = (ended ≡ NotSealed) ⊎ ((fault : StoreFault) × (ended ≡ store_ended fault))
 
-module _ {D L : Type 0} (B : Ghosts D L) where
+module _ {D L : Type 0} {N : ℕ} (B : Ghosts D N L) where
   -- a board is opened where nothing of either pair is in flight, and both pairs are as they were found
   pub record IsOpened (board : D) (opening : Opening) : Type 0 where
     pub totals : IsAsFound totals.reads states.state_number_of 0 (B.image board) (B.in_flight board) opening.totals

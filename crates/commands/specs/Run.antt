@@ -203,7 +203,7 @@ module _ (told : Type 0) (image printed : List ℕ) where
   Stands (Err why) bytes now = now ≡ image
   Stands (Ok start) bytes now = IsRunDone start bytes now
 
-module _ {E D L : Type 0} (F : FileGhosts E) (B : Ghosts D L) where
+module _ {E D L : Type 0} {N : ℕ} (F : FileGhosts E) (B : Ghosts D N L) where
   -- the start of a run on a board is the one that the image of the store and the file of word 1, its tariff, give
   abbrev pub start_at : (files : E) (board : D) → Result Start Ended
   start_at files board = start_of (opening_of (B.image board)) (F.rest files 1)

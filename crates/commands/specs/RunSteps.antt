@@ -44,7 +44,7 @@ AreNoTables digest text read_failed why = ⊥
 
 -- ---- how a run begins
 
-module _ {D L : Type 0} (B : Ghosts D L) where
+module _ {D L : Type 0} {N : ℕ} (B : Ghosts D N L) where
   -- a run has begun over the opening image where it has a start with this seal and these tables, and the board may open
   -- with its durable state
   pub record HasBegun (image tariff : List ℕ) (board : D) (seal : Seal) (tables : TableParts) : Type 0 where
@@ -71,7 +71,7 @@ HasNotBegun image tariff read_failed board_failed why = (start_of (opening_of im
 
 -- ---- what it leaves
 
-module _ {E D L : Type 0} (F : FileGhosts E) (B : Ghosts D L) where
+module _ {E D L : Type 0} {N : ℕ} (F : FileGhosts E) (B : Ghosts D N L) where
   -- a run came to its last line, or to a fault of the board before it, where all holds of it that `IsRun` says of a run
   -- in the end
   pub record RunComes (files files' : E) (old new : D) (ended : Ended) : Type 0 where

@@ -168,7 +168,7 @@ abbrev pub MayLeaveSealing : Result Sealing Ended → (image printed left_image 
 MayLeaveSealing (Err ended) image printed left_image left_text = left_image ≡ image
 MayLeaveSealing (Ok sealing) image printed left_image left_text = IsSealCut sealing printed left_image left_text
 
-module _ {D L : Type 0} (B : Ghosts D L) where
+module _ {D L : Type 0} {N : ℕ} (B : Ghosts D N L) where
   -- a call seals the store where at 0 the store stands for what the sealing says, and a cut from the opening sync on
   -- leaves what a cut of the sealing may leave, and one before that sync has succeeded what it might have left before
   -- the call

@@ -36,7 +36,7 @@ IsNoSeal number found tariff params read_failed (BadParams fault) =
     seal_read number found tariff params ≡ Err (BadParams fault)
 IsNoSeal number found tariff params read_failed ended = ⊥
 
-module _ {D L : Type 0} (B : Ghosts D L) where
+module _ {D L : Type 0} {N : ℕ} (B : Ghosts D N L) where
   -- a board rests amid a sealing that began with an image and a printed text where a cut while a last line is printed
   -- leaves only what a cut of the sealing may leave
   abbrev pub RestsAmid : Result Sealing Ended → (image printed line : List ℕ) → D → Type 0

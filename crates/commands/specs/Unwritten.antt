@@ -5,7 +5,7 @@ use Rattle.outside.specs.Disk.{SameBut}
 use Rattle.outside.specs.Runs.{MayHold}
 use Rattle.slot_store.specs.Syncs.{LeavesFromSync}
 
-module _ {D L : Type 0} (B : Ghosts D L) where
+module _ {D L : Type 0} {N : ℕ} (B : Ghosts D N L) where
   -- nothing was written where bytes may have changed only where some were in flight, nothing more is in flight, and a
   -- cut at a moment since any earlier one might have left what it might have left before, or an image that it might
   -- have left at the old board

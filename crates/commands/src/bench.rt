@@ -8,7 +8,7 @@ use crate::bench_terms::open_terms;
 use crate::ending::Ended;
 use crate::judgement::judge_drive;
 use crate::pieces::print_text;
-use outside::{Board, Files};
+use outside::{Board, Files, STORE_SIZE};
 use std::alloc::Global;
 use std::sync::ledger::Ledger;
 use taxi_units::Steps;
@@ -16,7 +16,7 @@ use taxi_units::Steps;
 /// Scans the store, reads the tariff of word 1, which has to be the sealed one, the drive of word 2 and the
 /// readings of word 3, and prints the cross-over speeds and the report. Nothing is printed before all was
 /// read, and nothing is written.
-pub fn bench<F: Files, B: Board<L>, L: Ledger>(
+pub fn bench<F: Files, B: Board<STORE_SIZE, L>, L: Ledger>(
     alloc: Global,
     files: &mut F,
     board: &mut B,

@@ -9,7 +9,7 @@ ghost use Rattle.commands.specs.Opening.{IsSealedIn, opening_of};
 use crate::ending::Ended;
 use crate::sealed::open_sealed;
 use crate::sealed_tariff::read_sealed;
-use outside::{Board, Files};
+use outside::{Board, Files, STORE_SIZE};
 use seal_record::Seal;
 use std::alloc::Global;
 use std::sync::ledger::Ledger;
@@ -25,7 +25,7 @@ pub struct Terms {
 
 /// Scans the store, and reads the tariff of word 1, which has to be the one that was sealed. Nothing is
 /// written or printed.
-pub fn open_terms<F: Files, B: Board<L>, L: Ledger>(
+pub fn open_terms<F: Files, B: Board<STORE_SIZE, L>, L: Ledger>(
     alloc: Global,
     files: &mut F,
     board: &mut B,

@@ -12,7 +12,7 @@ use crate::ending::{Ended, refused_by};
 use crate::pieces::print_text;
 use crate::tariff::{TextFault, read_tariff};
 use drive_modes::Constant;
-use outside::{Board, Files};
+use outside::{Board, Files, STORE_SIZE};
 use std::alloc::Global;
 use std::sync::ledger::Ledger;
 use tariff_check::Checked;
@@ -39,7 +39,7 @@ pub enum CompareFault {
 
 /// Reads the tariff of word 1, and then the other of word 2, and prints what differs first between them under a
 /// constant. Nothing is printed before both were read.
-pub fn print_comparison<F: Files, B: Board<L>, L: Ledger>(
+pub fn print_comparison<F: Files, B: Board<STORE_SIZE, L>, L: Ledger>(
     alloc: Global,
     constant: Constant,
     files: &mut F,

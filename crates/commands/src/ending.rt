@@ -17,7 +17,7 @@ use crate::whole_drive::DriveFault;
 use data_port::PortFault;
 use meter_run::RunFault;
 use offset_rules::RuleFault;
-use outside::Board;
+use outside::{Board, STORE_SIZE};
 use seal_record::ParamFault;
 use std::sync::ledger::Ledger;
 use taxi_units::Steps;
@@ -201,7 +201,11 @@ fn status(ended: Ended) -> u8
 
 /// Prints the last line of an end, and gives its status, or 8 where the board fails.
 #[tactic(auto, using(crate::proofs::BoardRuns::board_runs))]
-pub fn finish<B: Board<L>, L: Ledger>(ended: Ended, board: &mut B, steps: &mut Steps<L>) -> u8
+pub fn finish<B: Board<STORE_SIZE, L>, L: Ledger>(
+    ended: Ended,
+    board: &mut B,
+    steps: &mut Steps<L>,
+) -> u8
     ensures ends { IsEnd B.tells_text (Rose (B.faults board.old) (B.faults board.new)) (status_of ended) (line_of ended)
         result (B.printed board.old) (B.printed board.new) }
     ensures count { RisesOnlyIf (result ≢ status_of ended) (B.faults board.old) (B.faults board.new) }

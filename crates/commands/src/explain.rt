@@ -19,7 +19,7 @@ use crate::pieces::print_text;
 use crate::tariff::read_tariff;
 use crate::whole_drive::read_drive;
 use drive_text::Run;
-use outside::{Board, Files};
+use outside::{Board, Files, STORE_SIZE};
 use seal_record::Params;
 use std::alloc::Global;
 use std::sync::ledger::Ledger;
@@ -29,7 +29,7 @@ use verify_bench::explain as explain_runs;
 
 /// Reads the tariff of word 1, the parameters of word 3 and the drive of word 2, and prints why the fares of its
 /// hirings are what they are, as on a new store. Nothing is printed before all is known, and no store is opened.
-pub fn explain<F: Files, B: Board<L>, L: Ledger>(
+pub fn explain<F: Files, B: Board<STORE_SIZE, L>, L: Ledger>(
     alloc: Global,
     files: &mut F,
     board: &mut B,

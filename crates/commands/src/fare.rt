@@ -7,14 +7,14 @@ use crate::fare_seal::fare_seal;
 use crate::tariff::tables_of_word;
 use drive_modes::Constant;
 use meter_run::dry_run;
-use outside::{Board, Files};
+use outside::{Board, Files, STORE_SIZE};
 use std::alloc::Global;
 use std::sync::ledger::Ledger;
 use taxi_units::Steps;
 
 /// Reads the tariff of word 1, and carries out the drive of word 2 under its tables, without a store.
 #[tactic(auto, using(crate::proofs::BoardRuns::board_runs))]
-pub fn fare<F: Files, B: Board<L>, L: Ledger>(
+pub fn fare<F: Files, B: Board<STORE_SIZE, L>, L: Ledger>(
     alloc: Global,
     constant: Constant,
     files: &mut F,

@@ -8,14 +8,14 @@ ghost use Rattle.commands.specs.FormSteps.{IsFormOf};
 use crate::ending::{Ended, refused_by};
 use crate::pieces::print_text;
 use crate::tariff::{Refusal, TextFault, text_of_word};
-use outside::{Board, Files};
+use outside::{Board, Files, STORE_SIZE};
 use std::alloc::Global;
 use std::sync::ledger::Ledger;
 use tariff_syntax::{ParseFault, parse, print};
 use taxi_units::Steps;
 
 /// Reads the tariff of word 1, sound or not, and prints its printed form.
-pub fn print_form<F: Files, B: Board<L>, L: Ledger>(
+pub fn print_form<F: Files, B: Board<STORE_SIZE, L>, L: Ledger>(
     alloc: Global,
     files: &mut F,
     board: &mut B,

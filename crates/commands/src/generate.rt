@@ -116,7 +116,10 @@ fn latest_in(found: Found<Durable>) -> Option<Durable>
 }
 
 /// The durable state that the store has. None where the board fails, or the store has none.
-fn state_in<B: Board<L>, L: Ledger>(board: &mut B, steps: &mut Steps<L>) -> Option<Durable>
+fn state_in<B: Board<STORE_SIZE, L>, L: Ledger>(
+    board: &mut B,
+    steps: &mut Steps<L>,
+) -> Option<Durable>
     ensures has { B.tells_image → ¬ Rose (B.faults board.old) (B.faults board.new)
         → (durable : Durable) → HasState (B.image board.old) durable → result ≡ Some durable }
     ensures steps { steps.new ≤ steps.old + 3 }
@@ -129,7 +132,7 @@ fn state_in<B: Board<L>, L: Ledger>(board: &mut B, steps: &mut Steps<L>) -> Opti
 
 /// Seals a new store, carries out the drive of word 0 on it, and gives the durable state that it has then.
 /// None where a read or the board fails, or the drive has a bad line.
-fn run_afresh<F: Files, B: Board<L>, L: Ledger>(
+fn run_afresh<F: Files, B: Board<STORE_SIZE, L>, L: Ledger>(
     tables: &Tables,
     seal: &Seal,
     files: &mut F,
@@ -200,7 +203,7 @@ fn summary(seed: u64, trips: u32, durable: &Durable, decimals: u8) -> Line
 /// Carries out the drive of a seed and of 1 to 1,000 trips on a meter of its own under the city tariff, and
 /// prints the number of its events and the totals of that meter.
 #[tactic(auto, using(crate::proofs::BoardRuns::board_runs))]
-pub fn generate<B: Board<L>, L: Ledger>(
+pub fn generate<B: Board<STORE_SIZE, L>, L: Ledger>(
     alloc: Global,
     seed: u64,
     trips: u32,

@@ -10,7 +10,7 @@ use crate::ending::{Ended, refused_by};
 use crate::pieces::print_text;
 use crate::tariff::{Refusal, TextFault, tariff_of_text, text_of_word};
 use drive_modes::Constant;
-use outside::{Board, Files};
+use outside::{Board, Files, STORE_SIZE};
 use std::alloc::Global;
 use std::sync::ledger::Ledger;
 use tariff_compare::{line_uses, print_uses};
@@ -18,7 +18,7 @@ use taxi_units::Steps;
 
 /// Reads the tariff of word 1, and prints for each of its lines whether it is ever the one that counts under a
 /// constant.
-pub fn print_lines<F: Files, B: Board<L>, L: Ledger>(
+pub fn print_lines<F: Files, B: Board<STORE_SIZE, L>, L: Ledger>(
     alloc: Global,
     constant: Constant,
     files: &mut F,

@@ -10,7 +10,7 @@ ghost use Rattle.commands.specs.Mark as spec;
 use crate::ending::Ended;
 use crate::sealed::open_sealed;
 use arrayvec::ArrayVec;
-use outside::Board;
+use outside::{Board, STORE_SIZE};
 use shift_book::{Mark, put_mark};
 use std::sync::ledger::Ledger;
 use taxi_units::{Line, Steps};
@@ -18,7 +18,7 @@ use totals_record::Durable;
 
 /// Scans the store, and prints the mark of it by which a driver signs on, or with no driver whoever is on
 /// signs off. No memory is taken.
-pub fn print_mark<B: Board<L>, L: Ledger>(
+pub fn print_mark<B: Board<STORE_SIZE, L>, L: Ledger>(
     driver: Option<ArrayVec<u8, 16>>,
     board: &mut B,
     steps: &mut Steps<L>,

@@ -15,7 +15,7 @@ ghost use Rattle.commands.specs.Offsets.{offsets_command};
 use crate::ending::Ended;
 use crate::years::Years;
 use offset_rules::{RuleFault, Rules, put_offset, read_rules};
-use outside::{Board, Failed, Files, RoomFault, read_whole};
+use outside::{Board, Failed, Files, RoomFault, STORE_SIZE, read_whole};
 use std::sync::ledger::Ledger;
 use taxi_units::{Line, Steps};
 
@@ -32,7 +32,7 @@ pub enum RulesFault {
 const ROOM: usize = 4097;
 
 /// Reads the rules of word 1, and prints the list of offsets that they give for some years, a line a pair.
-pub fn print_offsets<F: Files, B: Board<L>, L: Ledger>(
+pub fn print_offsets<F: Files, B: Board<STORE_SIZE, L>, L: Ledger>(
     years: Years,
     files: &mut F,
     board: &mut B,
@@ -87,7 +87,7 @@ fn rules_of_word<F: Files>(files: &mut F, word: usize) -> Result<Rules, RulesFau
 }
 
 /// Prints the lines of a list of offsets, one after the other.
-pub fn print_pairs<B: Board<L>, L: Ledger>(
+pub fn print_pairs<B: Board<STORE_SIZE, L>, L: Ledger>(
     pairs: &[(u64, i32)],
     board: &mut B,
     steps: &mut Steps<L>,

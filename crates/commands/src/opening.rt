@@ -9,7 +9,7 @@ ghost use Rattle.commands.specs.Opening as spec;
 ghost use Rattle.commands.specs.Opening.{fault_from, opening_of};
 ghost use Rattle.commands.specs.Opened.{IsOpened, IsSoundOpening};
 
-use outside::Board;
+use outside::{Board, STORE_SIZE};
 use seal_record::Seal;
 use slot_store::{Found, SlotFault, scan};
 use std::sync::ledger::Ledger;
@@ -39,7 +39,7 @@ pub enum StoreFault {
 /// `BadSlot` and `SameNumber` come exactly by the image, for the totals' pair before the seal's.
 /// `BoardFault` comes only where the board's count of faults rose. From the first sync on a cut leaves
 /// the image as it was, and after each other answer nothing is in flight.
-pub fn open_store<B: Board<L>, L: Ledger>(
+pub fn open_store<B: Board<STORE_SIZE, L>, L: Ledger>(
     board: &mut B,
     steps: &mut Steps<L>,
 ) -> Result<Opening, StoreFault>

@@ -5,7 +5,7 @@ ghost use Rattle.outside.specs.Printing.{Begins};
 ghost use Rattle.outside.specs.Runs.{KeepsStore};
 ghost use Rattle.commands.specs.Pieces.{pieces_of};
 
-use outside::{Board, Failed};
+use outside::{Board, Failed, STORE_SIZE};
 use std::sync::ledger::Ledger;
 use taxi_units::Steps;
 
@@ -14,7 +14,7 @@ const PIECE_SIZE: usize = 512;
 
 /// Prints a text in pieces of at most 512 bytes, a step each.
 #[tactic(auto, using(crate::proofs::BoardRuns::board_runs))]
-pub fn print_text<B: Board<L>, L: Ledger>(
+pub fn print_text<B: Board<STORE_SIZE, L>, L: Ledger>(
     text: &[u8],
     board: &mut B,
     steps: &mut Steps<L>,

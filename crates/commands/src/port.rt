@@ -5,12 +5,12 @@ ghost use Rattle.commands.specs.Port.{port_command};
 use crate::ending::{Ended, ended_of_serving};
 use crate::sealed::open_sealed;
 use data_port::serve;
-use outside::{Board, Files};
+use outside::{Board, Files, STORE_SIZE};
 use std::sync::ledger::Ledger;
 use taxi_units::Steps;
 
 /// Scans the store, and serves the requests of word 1 from what it found.
-pub fn serve_requests<F: Files, B: Board<L>, L: Ledger>(
+pub fn serve_requests<F: Files, B: Board<STORE_SIZE, L>, L: Ledger>(
     files: &mut F,
     board: &mut B,
     steps: &mut Steps<L>,

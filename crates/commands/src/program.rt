@@ -7,7 +7,7 @@ ghost use Rattle.commands.specs.Words.{row_of};
 ghost use Rattle.commands.specs.declared.words.Row.TheVariants.{Run};
 
 use crate::top::taxi;
-use outside::{Board, Files, MemoryBoard, MemoryFiles};
+use outside::{Board, Files, MemoryBoard, MemoryFiles, STORE_SIZE};
 use std::alloc::Global;
 use std::sync::ledger::Ledger;
 use taxi_units::Steps;
@@ -34,7 +34,7 @@ pub trait Program<L: Ledger> {
     ) -> u8
         requires { row_of (map string_bytes words.now) ≡ Some Run }
         ensures ran { ran files.old board.old.state files.new board.new.state result }
-        ensures runs { IsRun ⟦<MemoryFiles as Files>⟧ ⟦<MemoryBoard as Board<L>>⟧
+        ensures runs { IsRun ⟦<MemoryFiles as Files>⟧ ⟦<MemoryBoard as Board<STORE_SIZE, L>>⟧
             files.old files.new board.old board.new result }
         ensures others { (word : ℕ) → word ≢ 1 → word ≢ 2 → rest_of files.new word ≡ rest_of files.old word };
 }
@@ -43,7 +43,7 @@ pub trait Program<L: Ledger> {
 pub struct Taximeter;
 
 impl<L: Ledger> Program<L> for Taximeter {
-    ghost ran = { IsRunInMemory ⟦<MemoryFiles as Files>⟧ ⟦<MemoryBoard as Board<L>>⟧ };
+    ghost ran = { IsRunInMemory ⟦<MemoryFiles as Files>⟧ ⟦<MemoryBoard as Board<STORE_SIZE, L>>⟧ };
 
     fn run(
         alloc: Global,

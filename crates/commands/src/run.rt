@@ -15,7 +15,7 @@ use crate::sealed::open_sealed;
 use crate::sealed_tariff::read_sealed;
 use meter_run::run_events;
 use meter_states::fits;
-use outside::{Board, Files};
+use outside::{Board, Files, STORE_SIZE};
 use seal_record::Seal;
 use std::alloc::Global;
 use std::sync::ledger::Ledger;
@@ -64,7 +64,7 @@ fn hold_fits<L: Ledger>(hold: &Option<Trip>, tables: &Tables, steps: &mut Steps<
 
 /// Scans the store, reads the tariff of word 1, and asks whether the held trip fits it. Nothing is written
 /// or printed.
-fn begin<F: Files, B: Board<L>, L: Ledger>(
+fn begin<F: Files, B: Board<STORE_SIZE, L>, L: Ledger>(
     alloc: Global,
     files: &mut F,
     board: &mut B,
@@ -95,7 +95,7 @@ fn begin<F: Files, B: Board<L>, L: Ledger>(
 
 /// Scans the store, reads the tariff of word 1, which has to be the sealed one, and carries out the drive of
 /// word 2 on the store.
-pub fn run<F: Files, B: Board<L>, L: Ledger>(
+pub fn run<F: Files, B: Board<STORE_SIZE, L>, L: Ledger>(
     alloc: Global,
     files: &mut F,
     board: &mut B,

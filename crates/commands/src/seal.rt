@@ -17,7 +17,7 @@ use crate::opening::{Opening, open_store};
 use crate::params::read_parameters;
 use crate::tariff::{tariff_of_text, text_of_word};
 use meter_store::place_seal;
-use outside::{Board, Files};
+use outside::{Board, Files, STORE_SIZE};
 use seal_record::{LAST_SEAL_NUMBER, Seal};
 use sha2::{Digest, Sha256};
 use slot_store::{Found, Place};
@@ -165,7 +165,7 @@ fn number_after(found: Option<(Place, u64)>) -> u64
 
 /// Scans the store, reads the tariff of word 1 and the parameters of word 2, and seals the store with
 /// them, beside the totals that were found or totals of zero.
-pub fn seal_store<F: Files, B: Board<L>, L: Ledger>(
+pub fn seal_store<F: Files, B: Board<STORE_SIZE, L>, L: Ledger>(
     alloc: Global,
     files: &mut F,
     board: &mut B,

@@ -8,14 +8,14 @@ ghost use Rattle.commands.specs.Opening.{opening_of, store_of};
 
 use crate::ending::{Ended, refused_store};
 use crate::opening::{open_store, sealed_store};
-use outside::Board;
+use outside::{Board, STORE_SIZE};
 use seal_record::Seal;
 use std::sync::ledger::Ledger;
 use taxi_units::Steps;
 use totals_record::Durable;
 
 /// Scans the store, and gives its totals and its seal, where it is sealed. Nothing is written or printed.
-pub fn open_sealed<B: Board<L>, L: Ledger>(
+pub fn open_sealed<B: Board<STORE_SIZE, L>, L: Ledger>(
     board: &mut B,
     steps: &mut Steps<L>,
 ) -> Result<(Durable, Seal), Ended>

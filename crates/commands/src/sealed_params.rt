@@ -14,13 +14,16 @@ use crate::ending::Ended;
 use crate::offsets::print_pairs;
 use crate::sealed::open_sealed;
 use crate::sealed_text::{sealed_heading, secured_line};
-use outside::{Board, Failed};
+use outside::{Board, Failed, STORE_SIZE};
 use seal_record::Seal;
 use std::sync::ledger::Ledger;
 use taxi_units::Steps;
 
 /// Scans the store, and prints what it was sealed with. No memory is taken.
-pub fn print_sealed<B: Board<L>, L: Ledger>(board: &mut B, steps: &mut Steps<L>) -> Ended
+pub fn print_sealed<B: Board<STORE_SIZE, L>, L: Ledger>(
+    board: &mut B,
+    steps: &mut Steps<L>,
+) -> Ended
     ensures { (contents : ℕ → List ℕ) → Carries (no_files contents) B.Board sealed_command tt tt
         board.old board.new steps.old steps.new result }
 {
@@ -35,7 +38,7 @@ pub fn print_sealed<B: Board<L>, L: Ledger>(board: &mut B, steps: &mut Steps<L>)
 }
 
 /// Prints a seal: the comments and the settings, a line for each pair of the offsets, and the date of securing.
-fn print_seal<B: Board<L>, L: Ledger>(
+fn print_seal<B: Board<STORE_SIZE, L>, L: Ledger>(
     seal: &Seal,
     board: &mut B,
     steps: &mut Steps<L>,

@@ -10,7 +10,7 @@ ghost use Rattle.commands.specs.Shifts.{ended_for_book, reported, shifts_command
 use crate::ending::Ended;
 use crate::pieces::print_text;
 use crate::sealed::open_sealed;
-use outside::{Board, Files, TextFault, read_text};
+use outside::{Board, Files, STORE_SIZE, TextFault, read_text};
 use shift_book::{BookFault, read_book, shifts};
 use std::alloc::Global;
 use std::sync::ledger::Ledger;
@@ -33,7 +33,7 @@ const MOST: usize = 1_048_576;
 
 /// Scans the store, reads the book of word 1, and prints its report, which is made in memory before its
 /// first byte is printed.
-pub fn print_shifts<F: Files, B: Board<L>, L: Ledger>(
+pub fn print_shifts<F: Files, B: Board<STORE_SIZE, L>, L: Ledger>(
     alloc: Global,
     files: &mut F,
     board: &mut B,

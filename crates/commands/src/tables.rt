@@ -13,14 +13,14 @@ ghost use Rattle.commands.specs.Tables.{tables_command};
 use crate::ending::{Ended, refused_by};
 use crate::tariff::tables_of_word;
 use drive_modes::Constant;
-use outside::{Board, Failed, Files};
+use outside::{Board, Failed, Files, STORE_SIZE};
 use std::alloc::Global;
 use std::sync::ledger::Ledger;
 use tariff_compile::Tables;
 use taxi_units::{Line, Steps};
 
 /// Reads the tariff of word 1, and prints all rows of its tables under a constant.
-pub fn print_tables<F: Files, B: Board<L>, L: Ledger>(
+pub fn print_tables<F: Files, B: Board<STORE_SIZE, L>, L: Ledger>(
     alloc: Global,
     constant: Constant,
     files: &mut F,
@@ -41,7 +41,7 @@ pub fn print_tables<F: Files, B: Board<L>, L: Ledger>(
 }
 
 /// Prints the rows of tables, one after the other.
-fn print_rows<B: Board<L>, L: Ledger>(
+fn print_rows<B: Board<STORE_SIZE, L>, L: Ledger>(
     tables: &Tables,
     board: &mut B,
     steps: &mut Steps<L>,

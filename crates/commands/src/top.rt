@@ -32,13 +32,13 @@ use crate::shifts::print_shifts;
 use crate::tables::print_tables;
 use crate::totals::print_store;
 use crate::words::{Row, row_in};
-use outside::{Board, Files};
+use outside::{Board, Files, STORE_SIZE};
 use std::alloc::Global;
 use std::sync::ledger::Ledger;
 use taxi_units::Steps;
 
 /// Carries out a command, but for its last line.
-fn carry_out<F: Files, B: Board<L>, L: Ledger>(
+fn carry_out<F: Files, B: Board<STORE_SIZE, L>, L: Ledger>(
     alloc: Global,
     row: Row,
     files: &mut F,
@@ -140,7 +140,7 @@ fn carry_out<F: Files, B: Board<L>, L: Ledger>(
 ///   the first that is no mark, may not follow those before it, or has a number greater than the store's
 ///
 /// The words, the statuses and the lines are this project's own.
-pub fn taxi<F: Files, B: Board<L>, L: Ledger>(
+pub fn taxi<F: Files, B: Board<STORE_SIZE, L>, L: Ledger>(
     alloc: Global,
     words: &[String],
     files: &mut F,

@@ -12,13 +12,13 @@ ghost use Rattle.commands.specs.TotalsText.{position_at, totals_text};
 use crate::ending::Ended;
 use crate::sealed::open_sealed;
 use crate::totals_text::{heading, position_line};
-use outside::{Board, Failed};
+use outside::{Board, Failed, STORE_SIZE};
 use std::sync::ledger::Ledger;
 use taxi_units::Steps;
 use totals_record::{Durable, Share};
 
 /// Scans the store, and prints its totals.
-pub fn print_store<B: Board<L>, L: Ledger>(board: &mut B, steps: &mut Steps<L>) -> Ended
+pub fn print_store<B: Board<STORE_SIZE, L>, L: Ledger>(board: &mut B, steps: &mut Steps<L>) -> Ended
     ensures { (contents : ℕ → List ℕ) → Carries (no_files contents) B.Board totals_command tt tt
         board.old board.new steps.old steps.new result }
 {
@@ -33,7 +33,7 @@ pub fn print_store<B: Board<L>, L: Ledger>(board: &mut B, steps: &mut Steps<L>) 
 }
 
 /// Prints totals, the lines of the tariff positions at the end.
-fn print_totals<B: Board<L>, L: Ledger>(
+fn print_totals<B: Board<STORE_SIZE, L>, L: Ledger>(
     durable: &Durable,
     decimals: u8,
     board: &mut B,
@@ -57,7 +57,7 @@ fn print_totals<B: Board<L>, L: Ledger>(
 }
 
 /// Prints the line of the tariff position whose share is at a place, where it has hirings.
-fn print_position<B: Board<L>, L: Ledger>(
+fn print_position<B: Board<STORE_SIZE, L>, L: Ledger>(
     shares: &[Share; 9],
     place: usize,
     decimals: u8,

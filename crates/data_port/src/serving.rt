@@ -16,7 +16,7 @@ use crate::port::Port;
 use crate::reply::put_reply;
 use crate::request::Request;
 use arrayvec::ArrayVec;
-use outside::{Board, Failed, Files};
+use outside::{Board, Failed, Files, STORE_SIZE};
 use seal_record::Seal;
 use std::sync::ledger::Ledger;
 use taxi_units::{Line, Steps};
@@ -48,7 +48,7 @@ pub enum PortFault {
 /// neither; with these two a beginning of the replies was printed. The store stays as it was.
 ///
 /// The durable state and the seal are in their ranges. All of it is this project's own.
-pub fn serve<F: Files, B: Board<L>, L: Ledger>(
+pub fn serve<F: Files, B: Board<STORE_SIZE, L>, L: Ledger>(
     durable: &Durable,
     seal: &Seal,
     files: &mut F,
@@ -137,7 +137,7 @@ fn end(port: &Port) -> Result<(), PortFault>
 }
 
 /// Prints the replies to the requests that end in a piece.
-fn serve_piece<B: Board<L>, L: Ledger>(
+fn serve_piece<B: Board<STORE_SIZE, L>, L: Ledger>(
     port: &mut Port,
     piece: &[u8],
     durable: &Durable,
@@ -176,7 +176,7 @@ fn serve_piece<B: Board<L>, L: Ledger>(
 
 /// Prints the replies to requests, in order.
 #[tactic(auto, using(outside::proofs::Laws::keeps_none, outside::proofs::Laws::keeps_then))]
-fn print_replies<B: Board<L>, L: Ledger>(
+fn print_replies<B: Board<STORE_SIZE, L>, L: Ledger>(
     requests: &[Request],
     durable: &Durable,
     seal: &Seal,
@@ -202,7 +202,7 @@ fn print_replies<B: Board<L>, L: Ledger>(
 
 /// Prints the reply to a request.
 #[tactic(auto, using(outside::proofs::Laws::keeps_print))]
-fn print_reply<B: Board<L>, L: Ledger>(
+fn print_reply<B: Board<STORE_SIZE, L>, L: Ledger>(
     request: &Request,
     durable: &Durable,
     seal: &Seal,

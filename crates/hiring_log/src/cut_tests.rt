@@ -1,7 +1,7 @@
 //! Cuts of the power inside the calls of a filing, over logs in memory.
 use crate::keep_log_tests::{FILE, called, filing, must_at, receipts, shows};
-use crate::memory_log::MemoryLog;
-use outside::Fill;
+use crate::memory_log::cut_of;
+use outside::{Fill, MemoryLog};
 use std::alloc::Global;
 use std::test::Fail;
 
@@ -35,13 +35,13 @@ pub(crate) fn cut(alloc: Global, log: &MemoryLog, call: u64, fill: Fill) -> Resu
     if call > log.calls() {
         return Err(Fail::new("no such call"));
     }
-    Ok(log.cut(alloc, call, fill)?)
+    Ok(cut_of(alloc, log, call, fill)?)
 }
 
 /// Whether a roll that is filed in the log of an image leaves another image, with status 0.
 fn becomes(alloc: Global, image: &[u8], roll: &[u8], whole: &[u8]) -> Result<bool, Fail> {
     let ended = called(alloc, image, FILE, roll)?;
-    Ok(ended.1 == 0 && ended.0.image() == whole)
+    Ok(ended.1 == 0 && ended.0.image().as_slice() == whole)
 }
 
 /// Whether the log of an image is shown with receipts of these numbers, and a roll that is filed in it leaves another
@@ -114,7 +114,7 @@ fn must_go_on_each(
     roll: &[u8],
 ) -> Result<(), Fail> {
     for (call, left) in calls {
-        must_go_on(alloc, log, *call, left, roll, log.image())?;
+        must_go_on(alloc, log, *call, left, roll, log.image().as_slice())?;
     }
     Ok(())
 }

@@ -3,8 +3,8 @@ use crate::cut_tests::{DONE, Left, OPENED, SHUT, WRITTEN, goes_on, must_go_on};
 use crate::keep_log_tests::{
     FILE, SHOW, called, failing, filed, filed_to, filing, image_of, is_end, must, must_at, receipts,
 };
-use crate::memory_log::MemoryLog;
 use crate::receipt_tests::put_receipt;
+use outside::MemoryLog;
 use std::alloc::Global;
 use std::test::Fail;
 
@@ -34,7 +34,11 @@ fn must_break_off(
     printed: &[u8],
 ) -> Result<(), Fail> {
     let log = broken_off(alloc, image, words, roll, number, printed)?;
-    must_at(log.image() == image, "another image at call", number)
+    must_at(
+        log.image().as_slice() == image,
+        "another image at call",
+        number,
+    )
 }
 
 /// Each of the calls before the append to a full log fails: the opening sync, 256 reads, and the read of the newest

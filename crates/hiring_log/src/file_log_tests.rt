@@ -3,8 +3,8 @@ ghost use Rattle.std.specs.Prelude.{◌≡◌, ◌<◌};
 
 use crate::keep_log_tests::{must, must_at};
 use crate::receipt_tests::put_receipt;
-use log_commands::{FileLog, keep_log};
-use outside::HostFiles;
+use log_commands::keep_log;
+use outside::{FileLog, HostFiles};
 use std::io::ErrorKind;
 use std::marker::Brand;
 use std::sync::ledger::{Blank, Ledger};

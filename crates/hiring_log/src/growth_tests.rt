@@ -15,7 +15,7 @@ fn told(alloc: Global, ended: &Ended, roll: &[u8]) -> Result<(), Fail> {
     if refused == 0 && is_end(ended, "FILED 2\n", 0) {
         return Ok(());
     }
-    let is_begun = shows_a_beginning(alloc, ended.0.image(), roll)?;
+    let is_begun = shows_a_beginning(alloc, ended.0.image().as_slice(), roll)?;
     if is_begun && refused > 0 && is_end(ended, "", 8) {
         return Err(Fail::new("the log had no memory"));
     }

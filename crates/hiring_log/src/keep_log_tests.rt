@@ -2,10 +2,10 @@
 //! docs/FORMATS.md.
 ghost use Rattle.std.specs.Prelude.{◌≡◌, ◌<◌};
 
-use crate::memory_log::MemoryLog;
+use crate::memory_log::memory_log;
 use crate::receipt_tests::put_receipt;
 use log_commands::keep_log;
-use outside::MemoryFiles;
+use outside::{MemoryFiles, MemoryLog};
 use std::alloc::Global;
 use std::marker::Brand;
 use std::sync::ledger::{Blank, Ledger};
@@ -56,7 +56,7 @@ pub(crate) fn log_of(alloc: Global, image: &[u8], calls: &[u64]) -> Result<Memor
     if image.len() != 131_072 {
         return Err(Fail::new("no image of a log"));
     }
-    Ok(MemoryLog::new(alloc, image, calls)?)
+    Ok(memory_log(alloc, image, calls)?)
 }
 
 /// The log after a call of these words over its image and a roll, in which these reads of the roll and these calls of
@@ -109,7 +109,7 @@ pub(crate) fn is_end(ended: &Ended, output: &str, status: u8) -> bool {
 
 /// The bytes of a log.
 pub(crate) fn image_of(alloc: Global, log: &MemoryLog) -> Result<Vec<u8>, Fail> {
-    Ok(Vec::from_slice(alloc, log.image())?)
+    Ok(Vec::from_slice(alloc, log.image().as_slice())?)
 }
 
 /// A log of zeros.
@@ -169,7 +169,7 @@ pub(crate) fn filed_to(alloc: Global, last: u32) -> Result<Vec<u8>, Fail> {
 /// Whether the log of an image is shown with this text and status 0, and stays as it is.
 fn shows_text(alloc: Global, image: &[u8], text: &[u8]) -> Result<bool, Fail> {
     let ended = called(alloc, image, SHOW, b"")?;
-    Ok(ended.1 == 0 && ended.0.printed() == text && ended.0.image() == image)
+    Ok(ended.1 == 0 && ended.0.printed() == text && ended.0.image().as_slice() == image)
 }
 
 /// Whether the log of an image is shown with receipts of these numbers and status 0, and stays as it is.
@@ -198,7 +198,7 @@ fn a_roll_is_filed_once_and_shown(rt: HostRuntime) -> Result<(), Fail> {
 fn words_that_are_no_command(rt: HostRuntime) -> Result<(), Fail> {
     let image = filed_to(rt.alloc(), 2)?;
     let ended = failing(rt.alloc(), &image, &["FILE", "roll"], b"", &[1], &[])?;
-    let stays = ended.0.image() == image.as_slice();
+    let stays = ended.0.image().as_slice() == image.as_slice();
     must(
         is_end(&ended, "BAD WORDS\n", 1) && stays,
         "another end",

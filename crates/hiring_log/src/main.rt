@@ -20,8 +20,8 @@ mod receipt_tests;
 
 ghost use Rattle.std.specs.Prelude.{◌≡◌, ◌<◌};
 
-use log_commands::{Call, FileLog, call_in, keep_log};
-use outside::{HostFiles, program_words};
+use log_commands::{Call, call_in, keep_log};
+use outside::{FileLog, HostFiles, program_words};
 use std::marker::Brand;
 use std::process::ExitCode;
 use std::sync::ledger::{Blank, Ledger};

@@ -3,9 +3,7 @@ ghost use Rattle.std.specs.Prelude.{◌≡◌, ◌<◌};
 
 use crate::cut_tests::cut;
 use crate::keep_log_tests::{log_of, must, must_at, zeros};
-use crate::memory_log::MemoryLog;
-use log_commands::LogBoard;
-use outside::Fill;
+use outside::{Board, Fill, MemoryLog};
 use std::alloc::Global;
 use std::marker::Brand;
 use std::sync::ledger::{Blank, Ledger};

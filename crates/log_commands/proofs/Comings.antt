@@ -54,7 +54,7 @@ some_all records filed image stands = record {
   stands = inl (subst (λ (xs : List Record). StandsFor (last_ones 256 (records ++ xs)) image) (sym (take_all (length filed) filed (omega arith))) stands);
 }
 
-module _ {D L : Type 0} (B : Ghosts D L) where
+module _ {D L : Type 0} {N : ℕ} (B : Ghosts D N L) where
   -- a board whose image stands for a list, and of which nothing was written
   held_stands : (log : D) (list filed : List Record) → StandsFor list (B.image log) → (image text : List ℕ) → IsAsHeld B log image text → StandsForSome list filed image
   held_stands log list filed stands image text held = some_none list filed image (subst (StandsFor list) (sym held.image) stands)
@@ -67,7 +67,7 @@ module _ {D L : Type 0} (B : Ghosts D L) where
     settled = λ not. absurd (not is);
   }
 
-module _ {E D L : Type 0} (F : FileGhosts E) (B : Ghosts D L) where
+module _ {E D L : Type 0} {N : ℕ} (F : FileGhosts E) (B : Ghosts D N L) where
   -- ---- the log isn't read
 
   pub comes_unread : (call : Option Call) (files files' : E) (log log' : D) (steps steps' : ℕ) (fault : FindFault) → IsCommand call

@@ -89,7 +89,7 @@ few_are_fewer None before more now few fewer = omega (arith, few, fewer)
 few_are_fewer (Some Show) before more now few fewer = omega (arith, few, fewer)
 few_are_fewer (Some File) before more now few fewer = tt
 
-module _ {D L T : Type 0} (B : Ghosts D L) (kind : List ℕ → List ℕ → Type 0) (old new : D) (r : Result T FindFault) where
+module _ {D L T : Type 0} {N : ℕ} (B : Ghosts D N L) (kind : List ℕ → List ℕ → Type 0) (old new : D) (r : Result T FindFault) where
   -- where no end is found, a sync that fails is the fault
   pub unread_sync : (fault : FindFault) → r ≡ Err fault → LeavesFromSync B (r ≡ Err faults.LogFault) old new kind → LeavesFromSync B (fault ≡ faults.LogFault) old new kind
   unread_sync fault is synced = from_sync_as B kind kind (r ≡ Err faults.LogFault) (fault ≡ faults.LogFault) old new (λ e. same_fault T fault faults.LogFault (sym is ∙ e)) (λ image text is_kind. is_kind) synced

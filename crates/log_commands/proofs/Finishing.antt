@@ -64,7 +64,7 @@ may_later call image roll rest read_failed then now BoardFault found filed later
 
 -- ---- what the last line leaves of the log
 
-module _ {D L : Type 0} (B : Ghosts D L) where
+module _ {D L : Type 0} {N : ℕ} (B : Ghosts D N L) where
   settled_hold : (board : D) (image : List ℕ) → IsSettled B board → MayHold (B.image board) (B.in_flight board) image → image ≡ B.image board
   settled_hold board image settled hold = ext_get_or 0 image (B.image board) hold.bytes.size (λ place lt. hold.bytes.rest place (settled place))
 
@@ -214,7 +214,7 @@ module _ {D L : Type 0} (B : Ghosts D L) where
   has_finished call ended log log' status has (inl whole) = subst (MayHave call) (sym whole.0) has
   has_finished call ended log log' status has (inr cut) = fault_has call status cut.0
 
-module _ {E D L : Type 0} (F : FileGhosts E) (B : Ghosts D L) where
+module _ {E D L : Type 0} {N : ℕ} (F : FileGhosts E) (B : Ghosts D N L) where
   -- a call
   pub call_told : (call : Option Call) (files files' : E) (log mid log' : D) (steps steps' steps'' : ℕ) (ended : Ended) (status' : ℕ) → LeavesNow B mid → Comes F B call files files' log mid steps steps' ended
       → IsTold B ended mid log' status' → (line_of ended ≡ [] → (log' ≡ mid) × (status' ≡ status_of ended))

@@ -6,7 +6,7 @@ use Rattle.outside.specs.Runs.{LeavesNow}
 use Rattle.outside.proofs.Laws.{leaves_none, leaves_then, leaves_wider}
 use Rattle.slot_store.specs.Syncs.{IsSynced, ReadsOnly}
 
-module _ {D L : Type 0} (B : Ghosts D L) where
+module _ {D L : Type 0} {N : ℕ} (B : Ghosts D N L) where
   -- what a cut may leave of a board whose image is the same but for what was in flight, and with nothing more in flight
   earlier : (old new : D) (i x : List ℕ) → SameBut (B.in_flight old) (B.image old) (B.image new) → ((place : ℕ) → B.in_flight new place → B.in_flight old place) → B.printed new ≡ B.printed old
       → MayLeave (B.image new) (B.in_flight new) (B.printed new) i x → MayLeave (B.image old) (B.in_flight old) (B.printed old) i x

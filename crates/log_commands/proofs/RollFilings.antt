@@ -76,7 +76,7 @@ module _ (old new : Place) (first then now : ℕ) (stays : old.end ≡ Some Read
     }
   ]
 
-module _ {D L : Type 0} (B : Ghosts D L) (tl tf : Type 0) where
+module _ {D L : Type 0} {N : ℕ} (B : Ghosts D N L) (tl tf : Type 0) where
   -- ---- a receipt more
 
   pub filing_by : (f : Filing) (mid new : D) (then last : Tail) (it : Record) (steps steps' : ℕ) → f ≢ OtherTaxi

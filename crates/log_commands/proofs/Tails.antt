@@ -103,7 +103,7 @@ some_behind records filed more image h = record {
 
 -- ---- receipts filed one after another
 
-module _ {D L : Type 0} (B : Ghosts D L) (told : Type 0) where
+module _ {D L : Type 0} {N : ℕ} (B : Ghosts D N L) (told : Type 0) where
   -- what is filed behind others leaves what either leaves
   pub moments_then : (old mid new : D) (first last : Tail) (receipts filed more : List Record) → FilesTo B told old mid first last receipts filed → LeavesSome B told mid new last more → LeavesSome B told old new first (filed ++ more)
   moments_then old mid new first last receipts filed more to then is records at =

@@ -107,7 +107,7 @@ shown_of ended found = []
 abbrev pub text_of : Ended → (found : List Record) → List ℕ
 text_of ended found = shown_of ended found ++ line_of ended
 
-module _ {D L : Type 0} (B : Ghosts D L) where
+module _ {D L : Type 0} {N : ℕ} (B : Ghosts D N L) where
   -- a call ends whole where the text of its end was printed, where the text is told, and the status is that of the end
   pub record IsWhole (ended : Ended) (found : List Record) (log log' : D) (status : ℕ) : Type 0 where
     pub status_is : status ≡ status_of ended
@@ -141,7 +141,7 @@ module _ {D L : Type 0} (B : Ghosts D L) where
 abbrev pub WritesNothing : Option Call → (status : ℕ) → Type 0
 WritesNothing call status = (call ≢ Some File) ⊎ ((1 ≤ status) × (status ≤ 3))
 
-module _ {E D L : Type 0} (F : FileGhosts E) (B : Ghosts D L) where
+module _ {E D L : Type 0} {N : ℕ} (F : FileGhosts E) (B : Ghosts D N L) where
   -- a call comes to an end for its reason, and prints its text, whole or cut short; where it is `file` it leaves what a
   -- filing leaves of the list that its log stands for, and takes at most 260 steps and 6 for each filed receipt
   pub record IsCall (call : Option Call) (files files' : E) (log log' : D) (steps steps' status : ℕ) : Type 0 where

@@ -13,7 +13,7 @@ use Rattle.log_commands.specs.declared.ending.Ended.TheVariants.{BoardFault}
 use Rattle.log_commands.specs.declared.words.Call.{Call}
 use Rattle.log_commands.specs.declared.words.Call.TheVariants.{File}
 
-module _ {D L : Type 0} (B : Ghosts D L) where
+module _ {D L : Type 0} {N : ℕ} (B : Ghosts D N L) where
   -- the last line of a course is due where the call has ended so and what is shown before that line is printed
   pub record IsDue (course : Ended) (found : List Record) (log log' : D) (ended : Ended) : Type 0 where
     pub ended_is : ended ≡ course
@@ -33,7 +33,7 @@ module _ {D L : Type 0} (B : Ghosts D L) where
       ⊎ ((status ≡ 8) × Rose (B.faults log) (B.faults log')
       × (B.tells_text → Begins (B.printed log) (B.printed log') (line_of ended)))
 
-module _ {E D L : Type 0} (F : FileGhosts E) (B : Ghosts D L) where
+module _ {E D L : Type 0} {N : ℕ} (F : FileGhosts E) (B : Ghosts D N L) where
   -- a call comes to an end on a course, for the course's reason, and its last line is due or the course is broken off
   pub record Comes (call : Option Call) (files files' : E) (log log' : D) (steps steps' : ℕ)
       (ended : Ended) : Type 0 where

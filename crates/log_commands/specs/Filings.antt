@@ -35,7 +35,7 @@ pub record IsTailOf (image : List ℕ) (in_flight : ℕ → Type 0) (tail : Tail
   pub ready : IsReady image in_flight tail.last tail.is_open (last_ones 256 records)
   pub newest : newest_of records ≡ tail.newest
 
-module _ {D L : Type 0} (B : Ghosts D L) (told : Type 0) where
+module _ {D L : Type 0} {N : ℕ} (B : Ghosts D N L) (told : Type 0) where
   -- a run leaves some of a filing where a cut at any moment of it leaves a log that stands for the found list with some
   -- first ones of the filed behind it
   abbrev pub LeavesSome : (old new : D) (first : Tail) (filed : List Record) → Type 0
@@ -52,7 +52,7 @@ module _ {D L : Type 0} (B : Ghosts D L) (told : Type 0) where
         → IsTailOf (B.image new) (B.in_flight new) last (records ++ filed)
     pub moments : LeavesSome old new first filed
 
-module _ {D L : Type 0} (B : Ghosts D L) (told_log told_files : Type 0) where
+module _ {D L : Type 0} {N : ℕ} (B : Ghosts D N L) (told_log told_files : Type 0) where
   -- a run files a roll where it files receipts of it and comes to this end, in at most 6 steps for each that is filed
   pub record FilesRoll (old new : D) (first last : Tail) (roll rest : List ℕ) (end : FileEnd) (steps steps' : ℕ)
       : Type 0 where

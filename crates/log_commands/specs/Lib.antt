@@ -1,6 +1,5 @@
 pub mod AppendStages
 pub mod Appends
-pub mod Boards
 pub mod Calls
 pub mod Comes
 pub mod Endings
@@ -11,7 +10,6 @@ pub mod LogList
 pub mod LogRow
 pub mod LogScan
 pub mod Looking
-pub mod Moments
 pub mod Reading
 pub mod Record
 pub mod Roll

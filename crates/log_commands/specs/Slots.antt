@@ -3,10 +3,6 @@ use Rattle.std.specs.Prelude.{◌≡◌, ◌≢◌, ℕ, ◌+◌, ◌-◌, ◌*�
 use Rattle.std.specs.Int.{w16, w64, to_be_bytes}
 use Rattle.log_commands.specs.Record.{Record, IsRecord}
 
--- the store of the log's board has 131,072 bytes
-abbrev pub log_size : ℕ
-log_size = 131072
-
 -- the slots of the log, numbered from 0 to 255, begin 512 bytes from one another, the first at byte 0
 abbrev pub slot_at : ℕ → ℕ
 slot_at slot = 512 * slot

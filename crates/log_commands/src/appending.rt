@@ -3,16 +3,15 @@ ghost use Rattle.std.specs.Prelude.{◌≡◌, ◌⊎◌, ◌+◌, ◌≤◌, �
 ghost use Rattle.outside.specs.Faults.{HasCause};
 ghost use Rattle.outside.specs.Runs.{LeavesOnly};
 ghost use Rattle.log_commands.specs.Appends.{IsKept, IsReady, IsShut, IsStep, IsWritten};
-ghost use Rattle.log_commands.specs.Boards.{board_of};
 ghost use Rattle.log_commands.specs.LogList.{RiseFrom, StandsFor, last_ones};
 ghost use Rattle.log_commands.specs.Record.{Record, IsRecord};
 ghost use Rattle.log_commands.specs.Slots.{slot_at, slot_of};
 
-use crate::durable::write_and_sync;
-use crate::log_board::{LogBoard, SLOTS};
 use crate::log_record::LogRecord;
+use crate::scanning::SLOTS;
 use crate::slot_record::spelled;
-use outside::Failed;
+use outside::{Board, Failed, LOG_SIZE};
+use slot_store::write_and_sync;
 use std::sync::ledger::Ledger;
 use taxi_units::Steps;
 
@@ -32,7 +31,7 @@ fn next_at(last: u64) -> u32
 
 /// The first stage: where the gate of the next place is open, 0x00 is written there and synced. Where it is
 /// closed it is left alone.
-fn shut_gate<G: LogBoard<L>, L: Ledger>(
+fn shut_gate<G: Board<LOG_SIZE, L>, L: Ledger>(
     last: u64,
     is_open: bool,
     log: &mut G,
@@ -40,7 +39,7 @@ fn shut_gate<G: LogBoard<L>, L: Ledger>(
 ) -> Result<(), Failed>
     ensures any_moment { G.tells_image → (records : List Record)
         → IsReady (G.image log.old) (G.in_flight log.old) last is_open records
-        → LeavesOnly (board_of G.LogBoard) log.old log.new (λ image text. IsKept records image) }
+        → LeavesOnly G.Board log.old log.new (λ image text. IsKept records image) }
     ensures shut { G.tells_image → OnOk result ((records : List Record)
         → IsReady (G.image log.old) (G.in_flight log.old) last is_open records
         → IsShut (G.image log.new) (G.in_flight log.new) last (last_ones 255 records)) }
@@ -55,7 +54,7 @@ fn shut_gate<G: LogBoard<L>, L: Ledger>(
 }
 
 /// The second stage: the record's bytes are written behind the closed gate and synced.
-fn write_body<G: LogBoard<L>, L: Ledger>(
+fn write_body<G: Board<LOG_SIZE, L>, L: Ledger>(
     last: u64,
     it: &LogRecord,
     log: &mut G,
@@ -65,7 +64,7 @@ fn write_body<G: LogBoard<L>, L: Ledger>(
     requires place { last < it.now.number }
     ensures any_moment { G.tells_image → (records : List Record)
         → IsShut (G.image log.old) (G.in_flight log.old) last records
-        → LeavesOnly (board_of G.LogBoard) log.old log.new (λ image text. StandsFor records image) }
+        → LeavesOnly G.Board log.old log.new (λ image text. StandsFor records image) }
     ensures written { G.tells_image → OnOk result ((records : List Record)
         → IsShut (G.image log.old) (G.in_flight log.old) last records
         → IsWritten (G.image log.new) (G.in_flight log.new) last records it.now) }
@@ -78,14 +77,14 @@ fn write_body<G: LogBoard<L>, L: Ledger>(
 }
 
 /// The third stage: 0xA5 is written at the gate and synced.
-fn open_gate<G: LogBoard<L>, L: Ledger>(
+fn open_gate<G: Board<LOG_SIZE, L>, L: Ledger>(
     last: u64,
     log: &mut G,
     steps: &mut Steps<L>,
 ) -> Result<(), Failed>
     ensures any_moment { G.tells_image → (records : List Record) (it : Record)
         → IsWritten (G.image log.old) (G.in_flight log.old) last records it → RiseFrom 0 (records ++ it ∷ [])
-        → LeavesOnly (board_of G.LogBoard) log.old log.new
+        → LeavesOnly G.Board log.old log.new
         (λ image text. StandsFor records image ⊎ StandsFor (records ++ it ∷ []) image) }
     ensures ready { G.tells_image → OnOk result ((records : List Record) (it : Record)
         → IsWritten (G.image log.old) (G.in_flight log.old) last records it → RiseFrom 0 (records ++ it ∷ [])
@@ -102,7 +101,7 @@ fn open_gate<G: LogBoard<L>, L: Ledger>(
 /// a log that stands for the list before, or for it without its oldest where that one's slot is written
 /// again, or for the last 256 of the list with the new record. `Failed` comes exactly where the count
 /// of faults rose, which it does by one.
-pub(crate) fn append<G: LogBoard<L>, L: Ledger>(
+pub(crate) fn append<G: Board<LOG_SIZE, L>, L: Ledger>(
     last: u64,
     is_open: bool,
     it: &LogRecord,
@@ -113,7 +112,7 @@ pub(crate) fn append<G: LogBoard<L>, L: Ledger>(
     requires place { last < it.now.number }
     ensures any_moment { G.tells_image → (records : List Record)
         → IsReady (G.image log.old) (G.in_flight log.old) last is_open records → RiseFrom 0 (records ++ it.now ∷ [])
-        → LeavesOnly (board_of G.LogBoard) log.old log.new (λ image text. IsStep records it.now image) }
+        → LeavesOnly G.Board log.old log.new (λ image text. IsStep records it.now image) }
     ensures ready { G.tells_image → OnOk result ((records : List Record)
         → IsReady (G.image log.old) (G.in_flight log.old) last is_open records → RiseFrom 0 (records ++ it.now ∷ [])
         → IsReady (G.image log.new) (G.in_flight log.new) (last + 1) (nat_lt 254 last)

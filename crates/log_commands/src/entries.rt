@@ -2,19 +2,18 @@
 ghost use Rattle.std.specs.Prelude.{◌≡◌, ℕ, ◌+◌, ◌≤◌, ◌<◌, IfOk, Err};
 ghost use Rattle.outside.specs.Faults.{RisesOnlyIf};
 ghost use Rattle.slot_store.specs.Syncs.{ReadsOnly};
-ghost use Rattle.log_commands.specs.Boards.{board_of};
 ghost use Rattle.log_commands.specs.LogRow.{AreEntries};
 ghost use Rattle.log_commands.specs.LogScan.{IsBad, IsEntry, IsLowestBad};
 ghost use Rattle.log_commands.specs.declared.scanning.ScanFault.{ScanFault};
 ghost use Rattle.log_commands.specs.declared.scanning.ScanFault.TheVariants.{BadSlot, DeviceFailed};
 
-use crate::log_board::{LogBoard, SLOTS};
-use crate::scanning::{Entry, ScanFault, entry_of, read_slot};
+use crate::scanning::{Entry, SLOTS, ScanFault, entry_of, read_slot};
+use outside::{Board, LOG_SIZE};
 use std::sync::ledger::Ledger;
 use taxi_units::Steps;
 
 /// What is known of a slot, 0 to 255.
-fn read_entry<G: LogBoard<L>, L: Ledger>(
+fn read_entry<G: Board<LOG_SIZE, L>, L: Ledger>(
     slot: u32,
     log: &mut G,
     steps: &mut Steps<L>,
@@ -25,7 +24,7 @@ fn read_entry<G: LogBoard<L>, L: Ledger>(
         → (other ≡ slot) × (G.tells_image → IsBad (G.image log.old) slot) }
     ensures cause { RisesOnlyIf (result ≡ Err DeviceFailed) (G.faults log.old) (G.faults log.new) }
     ensures image { G.image log.new ≡ G.image log.old }
-    ensures reads { ReadsOnly (board_of G.LogBoard) log.old log.new }
+    ensures reads { ReadsOnly G.Board log.old log.new }
     ensures step { steps.new ≡ steps.old + 1 }
 {
     let content = read_slot(slot, log, steps)?;
@@ -34,7 +33,7 @@ fn read_entry<G: LogBoard<L>, L: Ledger>(
 
 /// What is known of each slot of the log. `BadSlot` names the lowest slot that is open and holds no record
 /// at a place whose slot it is.
-pub(crate) fn read_entries<G: LogBoard<L>, L: Ledger>(
+pub(crate) fn read_entries<G: Board<LOG_SIZE, L>, L: Ledger>(
     log: &mut G,
     steps: &mut Steps<L>,
 ) -> Result<[Option<Entry>; SLOTS], ScanFault>
@@ -42,7 +41,7 @@ pub(crate) fn read_entries<G: LogBoard<L>, L: Ledger>(
     ensures bad { (slot : ℕ) → result ≡ Err (BadSlot slot) → G.tells_image → IsLowestBad (G.image log.old) slot }
     ensures cause { RisesOnlyIf (result ≡ Err DeviceFailed) (G.faults log.old) (G.faults log.new) }
     ensures image { G.image log.new ≡ G.image log.old }
-    ensures reads { ReadsOnly (board_of G.LogBoard) log.old log.new }
+    ensures reads { ReadsOnly G.Board log.old log.new }
     ensures steps { steps.new ≤ steps.old + 256 }
 {
     let mut entries = [None; SLOTS];

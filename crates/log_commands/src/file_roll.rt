@@ -1,14 +1,12 @@
 //! Files the receipts of a roll.
 ghost use Rattle.std.specs.Prelude.{◌≡◌, ◌≢◌, ℕ, ◌≤◌, Ok, IfOk, OnOk, OnErr};
 ghost use Rattle.outside.specs.Faults.{HasCause, MayRise, Rose};
-ghost use Rattle.log_commands.specs.Boards.{board_of};
 ghost use Rattle.log_commands.specs.Filings.{FailsInRoll, FilesRoll, IsLast, MayHaveFailed};
 
 use crate::filing::Filing;
-use crate::log_board::LogBoard;
 use crate::roll::{Roll, RollEnd};
 use crate::tail::{Tail, file_one};
-use outside::{Failed, Files};
+use outside::{Board, Failed, Files, LOG_SIZE};
 use std::sync::ledger::Ledger;
 use taxi_units::Steps;
 
@@ -40,7 +38,7 @@ fn file_end(end: RollEnd, filed: u64) -> FileEnd
 
 /// Files the receipts of the roll of a word behind the log's end: those of its taxi that are newer than the
 /// newest record, up to the first of another taxi.
-pub(crate) fn file_roll<F: Files, G: LogBoard<L>, L: Ledger>(
+pub(crate) fn file_roll<F: Files, G: Board<LOG_SIZE, L>, L: Ledger>(
     tail: &mut Tail,
     files: &mut F,
     word: usize,
@@ -50,9 +48,9 @@ pub(crate) fn file_roll<F: Files, G: LogBoard<L>, L: Ledger>(
     requires last { IsLast tail.old.last tail.old.newest }
     requires none { tail.old.filed ≡ 0 }
     ensures last { OnOk result (IsLast tail.new.last tail.new.newest) }
-    ensures ok { IfOk result (λ end. FilesRoll (board_of G.LogBoard) G.tells_image F.tells log.old log.new
+    ensures ok { IfOk result (λ end. FilesRoll G.Board G.tells_image F.tells log.old log.new
         tail.old tail.new (F.rest files.old word) (F.rest files.new word) end steps.old steps.new) }
-    ensures failed { OnErr result (FailsInRoll (board_of G.LogBoard) G.tells_image F.tells log.old log.new
+    ensures failed { OnErr result (FailsInRoll G.Board G.tells_image F.tells log.old log.new
         tail.old (F.rest files.old word) (F.rest files.new word) steps.old steps.new) }
     ensures text { G.printed log.new ≡ G.printed log.old }
     ensures cause { HasCause (G.faults log.old) (G.faults log.new) result }

@@ -3,7 +3,6 @@ ghost use Rattle.std.specs.Prelude.{◌≡◌, ◌≢◌, ◌↔◌, ℕ, ◌+�
 ghost use Rattle.outside.specs.Faults.{RisesOnlyIf};
 ghost use Rattle.slot_store.specs.Syncs.{IsAsHeld, LeavesFromSync, ReadsOnly};
 ghost use Rattle.log_commands.specs.Appends.{IsStill};
-ghost use Rattle.log_commands.specs.Boards.{board_of};
 ghost use Rattle.log_commands.specs.Filings.{IsLast, IsTailOf, newest_of};
 ghost use Rattle.log_commands.specs.LogList.{EndsWith, StandsAt, StandsFor};
 ghost use Rattle.log_commands.specs.LogScan.{IsBroken, IsLowestBad, IsSoundContent};
@@ -15,13 +14,12 @@ ghost use Rattle.log_commands.specs.declared.finding.FindFault.TheVariants.{Brok
 ghost use Rattle.log_commands.specs.LogRow.{AreEntries};
 
 use crate::entries::read_entries;
-use crate::log_board::{LogBoard, SLOTS};
 use crate::log_record::LogRecord;
 use crate::newest::newest_place;
 use crate::row::is_row;
-use crate::scanning::{Content, Entry, ScanFault, read_slot};
+use crate::scanning::{Content, Entry, SLOTS, ScanFault, read_slot};
 use crate::tail::Tail;
-use outside::Failed;
+use outside::{Board, Failed, LOG_SIZE};
 use std::sync::ledger::Ledger;
 use taxi_units::Steps;
 
@@ -38,7 +36,7 @@ fn record_at(last: u64, content: Content) -> Option<LogRecord>
 }
 
 /// The newest record, which is at this place in the log; none where the place is 0.
-fn read_newest<G: LogBoard<L>, L: Ledger>(
+fn read_newest<G: Board<LOG_SIZE, L>, L: Ledger>(
     last: u64,
     log: &mut G,
     steps: &mut Steps<L>,
@@ -49,7 +47,7 @@ fn read_newest<G: LogBoard<L>, L: Ledger>(
     ensures last { IfOk result (IsLast last) }
     ensures cause { RisesOnlyIf (result ≡ Err DeviceFailed) (G.faults log.old) (G.faults log.new) }
     ensures image { G.image log.new ≡ G.image log.old }
-    ensures reads { ReadsOnly (board_of G.LogBoard) log.old log.new }
+    ensures reads { ReadsOnly G.Board log.old log.new }
     ensures step { steps.new ≤ steps.old + 1 }
 {
     if last == 0 {
@@ -97,7 +95,7 @@ fn fault_of(fault: ScanFault) -> FindFault
 }
 
 /// The end of a log whose slots are known, and that was synced. Nothing is written.
-fn tail_of<G: LogBoard<L>, L: Ledger>(
+fn tail_of<G: Board<LOG_SIZE, L>, L: Ledger>(
     entries: &[Option<Entry>; SLOTS],
     log: &mut G,
     steps: &mut Steps<L>,
@@ -111,7 +109,7 @@ fn tail_of<G: LogBoard<L>, L: Ledger>(
     ensures last { IfOk result (λ tail. IsLast tail.last tail.newest × (tail.filed ≡ 0)) }
     ensures cause { RisesOnlyIf (result ≡ Err LogFault) (G.faults log.old) (G.faults log.new) }
     ensures image { G.image log.new ≡ G.image log.old }
-    ensures reads { ReadsOnly (board_of G.LogBoard) log.old log.new }
+    ensures reads { ReadsOnly G.Board log.old log.new }
     ensures steps { steps.new ≤ steps.old + 1 }
 {
     let last = newest_place(entries);
@@ -134,7 +132,7 @@ fn tail_of<G: LogBoard<L>, L: Ledger>(
 /// place whose slot it is, and else `Broken` comes where the log stands for no list. Nothing is written:
 /// from the sync on a cut leaves what the log held before the call. `LogFault` comes exactly where the
 /// count of faults rose, which it does by one.
-pub(crate) fn find_tail<G: LogBoard<L>, L: Ledger>(
+pub(crate) fn find_tail<G: Board<LOG_SIZE, L>, L: Ledger>(
     log: &mut G,
     steps: &mut Steps<L>,
 ) -> Result<Tail, FindFault>
@@ -145,9 +143,9 @@ pub(crate) fn find_tail<G: LogBoard<L>, L: Ledger>(
     ensures broken { result ≡ Err Broken → G.tells_image → IsBroken (G.image log.old) }
     ensures last { IfOk result (λ tail. IsLast tail.last tail.newest × (tail.filed ≡ 0)) }
     ensures cause { RisesOnlyIf (result ≡ Err LogFault) (G.faults log.old) (G.faults log.new) }
-    ensures synced { G.tells_image → LeavesFromSync (board_of G.LogBoard) (result ≡ Err LogFault)
-        log.old log.new (IsAsHeld (board_of G.LogBoard) log.old) }
-    ensures reads { ReadsOnly (board_of G.LogBoard) log.old log.new }
+    ensures synced { G.tells_image → LeavesFromSync G.Board (result ≡ Err LogFault)
+        log.old log.new (IsAsHeld G.Board log.old) }
+    ensures reads { ReadsOnly G.Board log.old log.new }
     ensures same { result ≢ Err LogFault → G.image log.new ≡ G.image log.old }
     ensures steps { steps.new ≤ steps.old + 258 }
 {

@@ -6,16 +6,13 @@
 #![tactic(auto)]
 
 mod appending;
-mod durable;
 mod ending;
 mod entries;
-mod file_log;
 mod file_roll;
 mod filing;
 mod filing_laws;
 mod finding;
 mod front;
-mod log_board;
 mod log_laws;
 mod log_record;
 mod look;
@@ -31,13 +28,11 @@ mod tail;
 mod top;
 mod words;
 
-pub use file_log::FileLog;
 pub use filing::{Filing, filing_of};
 pub use filing_laws::{
     a_beginning_is_read_as_the_roll, a_reader_hands_out_the_receipts, a_roll_is_read_once,
     filing_again_appends_nothing, receipts_are_filed_once, receipts_stand_apart,
 };
-pub use log_board::{LOG_SIZE, LogBoard};
 pub use log_laws::an_image_stands_for_one_list;
 pub use log_record::LogRecord;
 pub use roll::{Roll, RollEnd};

@@ -3,8 +3,7 @@ ghost use Rattle.std.specs.Prelude.{◌≡◌, ◌⊎◌, ℕ, ◌≤◌, List};
 ghost use Rattle.log_commands.specs.LogList.{StandsAt};
 ghost use Rattle.log_commands.specs.LogRow.{AreEntries, IsAtMost, IsPlaceOf};
 
-use crate::log_board::SLOTS;
-use crate::scanning::Entry;
+use crate::scanning::{Entry, SLOTS};
 
 /// The greater of a place and that of an entry.
 fn greater(place: u64, entry: Option<Entry>) -> u64

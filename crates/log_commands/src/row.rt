@@ -5,8 +5,7 @@ ghost use Rattle.log_commands.specs.LogRow.{AreEntries, IsBound, IsRow, slot_bac
 ghost use Rattle.log_commands.specs.LogScan.{IsEntry};
 ghost use Rattle.log_commands.specs.Record.{Record};
 
-use crate::log_board::SLOTS;
-use crate::scanning::Entry;
+use crate::scanning::{Entry, SLOTS};
 
 /// The slot that lies a number of places before a place in the log.
 fn slot_back(last: u64, back: u64) -> usize

@@ -2,17 +2,18 @@
 ghost use Rattle.std.specs.Prelude.{◌≡◌, ◌+◌, ◌<◌, IfOk};
 ghost use Rattle.outside.specs.Faults.{HasCause};
 ghost use Rattle.slot_store.specs.Syncs.{ReadsOnly};
-ghost use Rattle.log_commands.specs.Boards.{board_of};
 ghost use Rattle.log_commands.specs.declared.scanning.ScanFault.TheVariants.{DeviceFailed};
 ghost use Rattle.log_commands.specs.LogScan.{IsContent, IsContentOf, IsEntryOf, IsSoundContent};
 
 use crate::appending::OPEN;
-use crate::log_board::{LogBoard, SLOTS};
 use crate::log_record::LogRecord;
 use crate::slot_record::record_in;
-use outside::Failed;
+use outside::{Board, Failed, LOG_SIZE};
 use std::sync::ledger::Ledger;
 use taxi_units::Steps;
+
+/// How many slots the log has.
+pub(crate) const SLOTS: usize = 256;
 
 /// What is known of an open slot: the place in the log and the number of its record.
 #[derive(Clone, Copy)]
@@ -48,7 +49,7 @@ fn content_in(bytes: &[u8; 512]) -> Content
 }
 
 /// Reads a slot, 0 to 255.
-pub(crate) fn read_slot<G: LogBoard<L>, L: Ledger>(
+pub(crate) fn read_slot<G: Board<LOG_SIZE, L>, L: Ledger>(
     slot: u32,
     log: &mut G,
     steps: &mut Steps<L>,
@@ -57,7 +58,7 @@ pub(crate) fn read_slot<G: LogBoard<L>, L: Ledger>(
     ensures content { G.tells_image → IfOk result (IsContent (G.image log.old) slot) }
     ensures sound { IfOk result IsSoundContent }
     ensures image { G.image log.new ≡ G.image log.old }
-    ensures reads { ReadsOnly (board_of G.LogBoard) log.old log.new }
+    ensures reads { ReadsOnly G.Board log.old log.new }
     ensures cause { HasCause (G.faults log.old) (G.faults log.new) result }
     ensures step { steps.new ≡ steps.old + 1 }
 {

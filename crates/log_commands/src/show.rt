@@ -3,21 +3,19 @@ ghost use Rattle.std.specs.Prelude.{◌≡◌, ◌+◌, ◌*◌, ◌^◌, ◌<�
 ghost use Rattle.outside.specs.Faults.{HasCause};
 ghost use Rattle.outside.specs.Printing.{Begins};
 ghost use Rattle.outside.specs.Runs.{KeepsStore};
-ghost use Rattle.log_commands.specs.Boards.{board_of};
 ghost use Rattle.log_commands.specs.LogList.{AreHeld};
 ghost use Rattle.log_commands.specs.Record.{Record};
 ghost use Rattle.log_commands.specs.Showing.{texts_of};
 ghost use Rattle.log_commands.specs.Slots.{Holds, slot_of};
 
-use crate::log_board::{LogBoard, SLOTS};
 use crate::log_record::LogRecord;
-use crate::scanning::{Content, read_slot};
-use outside::Failed;
+use crate::scanning::{Content, SLOTS, read_slot};
+use outside::{Board, Failed, LOG_SIZE};
 use std::sync::ledger::Ledger;
 use taxi_units::Steps;
 
 /// Prints the text of the record at a place in the log.
-fn show_one<G: LogBoard<L>, L: Ledger>(
+fn show_one<G: Board<LOG_SIZE, L>, L: Ledger>(
     place: u64,
     log: &mut G,
     steps: &mut Steps<L>,
@@ -27,7 +25,7 @@ fn show_one<G: LogBoard<L>, L: Ledger>(
         → OnOk result (G.printed log.new ≡ G.printed log.old ++ it.text) }
     ensures begun { G.tells_image → G.tells_text → (it : Record) → Holds (G.image log.old) (slot_of place) place it
         → Begins (G.printed log.old) (G.printed log.new) it.text }
-    ensures keeps { KeepsStore (board_of G.LogBoard) log.old log.new }
+    ensures keeps { KeepsStore G.Board log.old log.new }
     ensures cause { HasCause (G.faults log.old) (G.faults log.new) result }
     ensures steps { steps.new ≤ steps.old + 2 }
 {
@@ -42,7 +40,7 @@ fn show_one<G: LogBoard<L>, L: Ledger>(
 /// Prints the texts of a number of records of the log, which stand one after another from a place on. Nothing
 /// is written, and `Failed` comes exactly where the count of faults rose, by one: a beginning of the texts is
 /// printed then.
-pub(crate) fn show_records<G: LogBoard<L>, L: Ledger>(
+pub(crate) fn show_records<G: Board<LOG_SIZE, L>, L: Ledger>(
     first: u64,
     count: u64,
     log: &mut G,
@@ -56,7 +54,7 @@ pub(crate) fn show_records<G: LogBoard<L>, L: Ledger>(
     ensures begun { G.tells_image → G.tells_text → (records : List Record)
         → AreHeld (G.image log.old) first records → length records ≡ count
         → Begins (G.printed log.old) (G.printed log.new) (texts_of records) }
-    ensures keeps { KeepsStore (board_of G.LogBoard) log.old log.new }
+    ensures keeps { KeepsStore G.Board log.old log.new }
     ensures cause { HasCause (G.faults log.old) (G.faults log.new) result }
     ensures steps { steps.new ≤ steps.old + 2 * count }
 {

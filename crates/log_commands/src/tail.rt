@@ -1,16 +1,14 @@
 //! The end of the log, as it is kept in memory while receipts are filed.
 ghost use Rattle.std.specs.Prelude.{◌≡◌, ◌+◌, ◌^◌, ◌<◌, ◌≤◌, [], ◌∷◌, Ok, Some, OnOk, OnErr};
 ghost use Rattle.outside.specs.Faults.{HasCause};
-ghost use Rattle.log_commands.specs.Boards.{board_of};
 ghost use Rattle.log_commands.specs.Filed.{IsNewer, IsOther};
 ghost use Rattle.log_commands.specs.Filings.{FilesTo, IsLast, LeavesSome};
 ghost use Rattle.log_commands.specs.Record.{IsRecord};
 
 use crate::appending::append;
 use crate::filing::{Filing, filing_of};
-use crate::log_board::LogBoard;
 use crate::log_record::LogRecord;
-use outside::Failed;
+use outside::{Board, Failed, LOG_SIZE};
 use std::sync::ledger::Ledger;
 use taxi_units::Steps;
 
@@ -25,7 +23,7 @@ pub(crate) struct Tail {
 }
 
 /// Appends a receipt that is newer than the newest record.
-fn append_one<G: LogBoard<L>, L: Ledger>(
+fn append_one<G: Board<LOG_SIZE, L>, L: Ledger>(
     tail: &mut Tail,
     receipt: LogRecord,
     log: &mut G,
@@ -37,9 +35,9 @@ fn append_one<G: LogBoard<L>, L: Ledger>(
     requires few { tail.old.filed < 2 ^ 63 }
     ensures last { OnOk result (IsLast tail.new.last tail.new.newest) }
     ensures filed { OnOk result (tail.new.filed ≡ tail.old.filed + 1) }
-    ensures files { OnOk result (FilesTo (board_of G.LogBoard) G.tells_image log.old log.new tail.old tail.new
+    ensures files { OnOk result (FilesTo G.Board G.tells_image log.old log.new tail.old tail.new
         (receipt ∷ []) (receipt ∷ [])) }
-    ensures any_moment { LeavesSome (board_of G.LogBoard) G.tells_image log.old log.new tail.old (receipt ∷ []) }
+    ensures any_moment { LeavesSome G.Board G.tells_image log.old log.new tail.old (receipt ∷ []) }
     ensures text { G.printed log.new ≡ G.printed log.old }
     ensures cause { HasCause (G.faults log.old) (G.faults log.new) result }
     ensures steps { steps.new ≤ steps.old + 6 }
@@ -53,7 +51,7 @@ fn append_one<G: LogBoard<L>, L: Ledger>(
 }
 
 /// Does with a receipt what is to be done with it.
-pub(crate) fn file_one<G: LogBoard<L>, L: Ledger>(
+pub(crate) fn file_one<G: Board<LOG_SIZE, L>, L: Ledger>(
     tail: &mut Tail,
     receipt: LogRecord,
     log: &mut G,
@@ -66,12 +64,12 @@ pub(crate) fn file_one<G: LogBoard<L>, L: Ledger>(
     ensures filed { OnOk result ((tail.old.filed ≤ tail.new.filed) × (tail.new.filed ≤ tail.old.filed + 1)) }
     ensures other { result ≡ Ok Filing.OtherTaxi → IsOther tail.old.newest receipt
         × (tail.new ≡ tail.old) × (log.new ≡ log.old) × (steps.new ≡ steps.old) }
-    ensures passed { result ≡ Ok Filing.Passed → FilesTo (board_of G.LogBoard) G.tells_image log.old log.new
+    ensures passed { result ≡ Ok Filing.Passed → FilesTo G.Board G.tells_image log.old log.new
         tail.old tail.new (receipt ∷ []) [] × (steps.new ≡ steps.old) }
-    ensures appended { result ≡ Ok Filing.Appended → FilesTo (board_of G.LogBoard) G.tells_image log.old log.new
+    ensures appended { result ≡ Ok Filing.Appended → FilesTo G.Board G.tells_image log.old log.new
         tail.old tail.new (receipt ∷ []) (receipt ∷ []) }
     ensures failed { OnErr result (IsNewer tail.old.newest receipt
-        × LeavesSome (board_of G.LogBoard) G.tells_image log.old log.new tail.old (receipt ∷ [])) }
+        × LeavesSome G.Board G.tells_image log.old log.new tail.old (receipt ∷ [])) }
     ensures text { G.printed log.new ≡ G.printed log.old }
     ensures cause { HasCause (G.faults log.old) (G.faults log.new) result }
     ensures steps { steps.new ≤ steps.old + 6 }

@@ -2,7 +2,6 @@
 ghost use Rattle.std.specs.Prelude.{◌≡◌, ◌≢◌, ◌⊎◌, ℕ, ◌+◌, ◌<◌, ◌≤◌, List, [], length, true, false, Some, map, string_bytes};
 ghost use Rattle.outside.specs.Faults.{MayRise, RisesOnlyIf, Rose};
 ghost use Rattle.outside.specs.Runs.{KeepsStore};
-ghost use Rattle.log_commands.specs.Boards.{board_of};
 ghost use Rattle.log_commands.specs.Calls.{AppendsNothing, AreFew, IsCall, IsFit, MayHave, MayHaveReadFault, OnlyLooks};
 ghost use Rattle.log_commands.specs.Calls.{WritesNothing, known_of};
 ghost use Rattle.log_commands.specs.Comes.{Comes, IsTold};
@@ -16,11 +15,11 @@ ghost use Rattle.log_commands.specs.Words.{call_of};
 use crate::ending::{Ended, last_line, status};
 use crate::file_roll::{FileEnd, file_roll};
 use crate::finding::{FindFault, find_tail};
-use crate::log_board::{LogBoard, SLOTS};
+use crate::scanning::SLOTS;
 use crate::show::show_records;
 use crate::tail::Tail;
 use crate::words::{Call, call_in};
-use outside::Files;
+use outside::{Board, Files, LOG_SIZE};
 use std::sync::ledger::Ledger;
 use taxi_units::Steps;
 
@@ -48,12 +47,12 @@ fn ended_filing(end: FileEnd) -> Ended
 }
 
 /// Finds the end of the log, and files the receipts of the roll of word 1 behind it.
-fn file<F: Files, G: LogBoard<L>, L: Ledger>(
+fn file<F: Files, G: Board<LOG_SIZE, L>, L: Ledger>(
     files: &mut F,
     log: &mut G,
     steps: &mut Steps<L>,
 ) -> Ended
-    ensures comes { F.tells → G.tells_image → Comes F.Files (board_of G.LogBoard) (Some Call.File)
+    ensures comes { F.tells → G.tells_image → Comes F.Files G.Board (Some Call.File)
         files.old files.new log.old log.new steps.old steps.new result }
     ensures read_fault { result ≡ Ended.ReadFault → Rose (F.faults files.old 1) (F.faults files.new 1) }
     ensures reads { (word : ℕ) → MayRise (MayHaveReadFault (status_of result))
@@ -61,7 +60,7 @@ fn file<F: Files, G: LogBoard<L>, L: Ledger>(
     ensures board_fault { RisesOnlyIf (result ≡ Ended.BoardFault) (G.faults log.old) (G.faults log.new) }
     ensures has { MayHave (Some Call.File) (status_of result) }
     ensures looks { WritesNothing (Some Call.File) (status_of result)
-        → OnlyLooks (board_of G.LogBoard) log.old log.new (status_of result) }
+        → OnlyLooks G.Board log.old log.new (status_of result) }
     ensures untaken { WritesNothing (Some Call.File) (status_of result) → files.new ≡ files.old }
     ensures others { (word : ℕ) → word ≢ 1 → F.rest files.new word ≡ F.rest files.old word }
 {
@@ -93,13 +92,13 @@ fn count_of(tail: &Tail) -> u64
 }
 
 /// Finds the end of the log, and prints its records, the oldest first.
-fn show<F: Files, G: LogBoard<L>, L: Ledger>(log: &mut G, steps: &mut Steps<L>) -> Ended
-    ensures comes { G.tells_image → (files : F) → Comes F.Files (board_of G.LogBoard) (Some Call.Show)
+fn show<F: Files, G: Board<LOG_SIZE, L>, L: Ledger>(log: &mut G, steps: &mut Steps<L>) -> Ended
+    ensures comes { G.tells_image → (files : F) → Comes F.Files G.Board (Some Call.Show)
         files files log.old log.new steps.old steps.new result }
     ensures unread { result ≢ Ended.ReadFault }
     ensures board_fault { RisesOnlyIf (result ≡ Ended.BoardFault) (G.faults log.old) (G.faults log.new) }
     ensures has { MayHave (Some Call.Show) (status_of result) }
-    ensures looks { OnlyLooks (board_of G.LogBoard) log.old log.new (status_of result) }
+    ensures looks { OnlyLooks G.Board log.old log.new (status_of result) }
     ensures steps { steps.new ≤ steps.old + 770 }
 {
     let tail = match find_tail(log, steps) {
@@ -114,13 +113,13 @@ fn show<F: Files, G: LogBoard<L>, L: Ledger>(log: &mut G, steps: &mut Steps<L>) 
 }
 
 /// Carries out a command, but for its last line.
-fn carry_out<F: Files, G: LogBoard<L>, L: Ledger>(
+fn carry_out<F: Files, G: Board<LOG_SIZE, L>, L: Ledger>(
     call: Option<Call>,
     files: &mut F,
     log: &mut G,
     steps: &mut Steps<L>,
 ) -> Ended
-    ensures comes { known_of call F.tells G.tells_image → Comes F.Files (board_of G.LogBoard) call
+    ensures comes { known_of call F.tells G.tells_image → Comes F.Files G.Board call
         files.old files.new log.old log.new steps.old steps.new result }
     ensures read_fault { result ≡ Ended.ReadFault → Rose (F.faults files.old 1) (F.faults files.new 1) }
     ensures reads { (word : ℕ) → MayRise (MayHaveReadFault (status_of result))
@@ -128,7 +127,7 @@ fn carry_out<F: Files, G: LogBoard<L>, L: Ledger>(
     ensures board_fault { RisesOnlyIf (result ≡ Ended.BoardFault) (G.faults log.old) (G.faults log.new) }
     ensures has { MayHave call (status_of result) }
     ensures looks { WritesNothing call (status_of result)
-        → OnlyLooks (board_of G.LogBoard) log.old log.new (status_of result) }
+        → OnlyLooks G.Board log.old log.new (status_of result) }
     ensures untaken { WritesNothing call (status_of result) → files.new ≡ files.old }
     ensures others { (word : ℕ) → word ≢ 1 → F.rest files.new word ≡ F.rest files.old word }
     ensures steps { AreFew call steps.old (steps.new + 1) }
@@ -141,10 +140,10 @@ fn carry_out<F: Files, G: LogBoard<L>, L: Ledger>(
 }
 
 /// Prints the last line of an end, and gives its status, or 8 where the board fails.
-fn finish<G: LogBoard<L>, L: Ledger>(ended: Ended, log: &mut G, steps: &mut Steps<L>) -> u8
-    ensures told { IsTold (board_of G.LogBoard) ended log.old log.new result }
+fn finish<G: Board<LOG_SIZE, L>, L: Ledger>(ended: Ended, log: &mut G, steps: &mut Steps<L>) -> u8
+    ensures told { IsTold G.Board ended log.old log.new result }
     ensures silent { line_of ended ≡ [] → (log.new ≡ log.old) × (result ≡ status_of ended) }
-    ensures keeps { KeepsStore (board_of G.LogBoard) log.old log.new }
+    ensures keeps { KeepsStore G.Board log.old log.new }
     ensures cause { ended ≢ Ended.BoardFault → RisesOnlyIf (result ≡ 8) (G.faults log.old) (G.faults log.new) }
     ensures steps { steps.new ≤ steps.old + 1 }
 {
@@ -180,7 +179,7 @@ fn finish<G: LogBoard<L>, L: Ledger>(ended: Ended, log: &mut G, steps: &mut Step
 /// The words are looked at before the log, and the log before the roll. Where a receipt in 2^40 bytes of the roll
 /// is of another taxi, the last in them too, the status is 4, also if the read behind the bytes that were taken
 /// failed. The words, the statuses and the lines are this project's own.
-pub fn keep_log<F: Files, G: LogBoard<L>, L: Ledger>(
+pub fn keep_log<F: Files, G: Board<LOG_SIZE, L>, L: Ledger>(
     words: &[String],
     files: &mut F,
     log: &mut G,
@@ -191,7 +190,7 @@ pub fn keep_log<F: Files, G: LogBoard<L>, L: Ledger>(
     // before that sync has succeeded leaves what it might have left before the call. In the end all that is filed
     // stands behind the list.
     ensures call { known_of (call_of (map string_bytes words.now)) F.tells G.tells_image
-        → IsCall F.Files (board_of G.LogBoard) (call_of (map string_bytes words.now))
+        → IsCall F.Files G.Board (call_of (map string_bytes words.now))
         files.old files.new log.old log.new steps.old steps.new result }
 
     // After status 0, 4 or 5 filing the roll again appends nothing, however much of it is read then.
@@ -215,7 +214,7 @@ pub fn keep_log<F: Files, G: LogBoard<L>, L: Ledger>(
 
     // `show` and a call with refused words or a refused log write nothing, and take nothing of the roll.
     ensures looks { WritesNothing (call_of (map string_bytes words.now)) result
-        → OnlyLooks (board_of G.LogBoard) log.old log.new result }
+        → OnlyLooks G.Board log.old log.new result }
     ensures untaken { WritesNothing (call_of (map string_bytes words.now)) result → files.new ≡ files.old }
     ensures others { (word : ℕ) → word ≢ 1 → F.rest files.new word ≡ F.rest files.old word }
 

@@ -62,7 +62,7 @@ all_at P [] n x lt all = absurd (omega arith)
 all_at P (act ∷ acts) zero x lt all = All-head P act acts all
 all_at P (act ∷ acts) (suc n) x lt all = all_at P acts n x (omega arith) (All-tail P act acts all)
 
-module _ {D L : Type 0} (B : Ghosts D L) (tables : TableParts) where
+module _ {D L : Type 0} {N : ℕ} (B : Ghosts D N L) (tables : TableParts) where
   -- the act at a place may be done where all may be done from the start, and the board agrees now
   pub may_at : (k l : Known) (a b : D) (acts : List Act) (n : ℕ) (x : Act) → n < length acts → MayDo B tables k a acts → Agrees B tables l b
       → MayDo B tables l b (get_or acts n x ∷ [])
@@ -72,7 +72,7 @@ module _ {D L : Type 0} (B : Ghosts D L) (tables : TableParts) where
     lawful = All-cons (IsLawfulAct tables may.number) (get_or acts n x) [] (all_at (IsLawfulAct tables may.number) acts n x lt may.lawful) (All-nil (IsLawfulAct tables may.number));
   }
 
-module _ {D L : Type 0} (B : Ghosts D L) (tables : TableParts) (seal : Seal) where
+module _ {D L : Type 0} {N : ℕ} (B : Ghosts D N L) (tables : TableParts) (seal : Seal) where
   module _ (a b c : D) (acts : List Act) (n : ℕ) (x : Act) (lt : n < length acts) (text : B.tells_text → B.printed b ≡ B.printed a ++ texts seal (deeds_of (take n acts))) where
     -- an act more
     pub points_more : (d e : Durable) → e ≡ after_acts d (take n acts) → KeepsTo B tables seal a b d (deeds_of (take n acts)) → KeepsTo B tables seal b c e (Does (get_or acts n x) ∷ [])

@@ -159,7 +159,7 @@ pub on_of : (s : Setting) (core : CachedCore) (m : Meter) → Stands s core.plai
 on_of s core m (inl both) on = absurd (on both.0)
 on_of s core m (inr both) on = both.0
 
-module _ {D L : Type 0} (B : Ghosts D L) (tables : TableParts) (seal : Seal) where
+module _ {D L : Type 0} {N : ℕ} (B : Ghosts D N L) (tables : TableParts) (seal : Seal) where
   -- one event
   texts_one : (s : Setting) (event : Event) (m : Meter) (acts : List Act) → acts ≡ (step s event m).acts → shown_texts acts ≡ shown_texts (run s (event ∷ []) m).acts
   texts_one s event m acts is = ap shown_texts (is ∙ sym (append-nil (step s event m).acts))

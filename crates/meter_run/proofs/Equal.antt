@@ -78,12 +78,12 @@ module _ (tables : TableParts) (seal : Seal) (es : List Event) (core core' : Cac
     };
   }
 
-  module _ {D L : Type 0} (B : Ghosts D L) where
+  module _ {D L : Type 0} {N : ℕ} (B : Ghosts D N L) where
     pub knows_still : (known : Option Known) (a : D) → core'.plain.operating ≡ core.plain.operating → Knows B tables seal core known a → Knows B tables seal core' known a
     knows_still None a same off = same ∙ off
     knows_still (Some known) a same knows = (ready_still known.durable knows.0, knows.1)
 
-module _ {D L : Type 0} (B : Ghosts D L) (tables : TableParts) (seal : Seal) (es : List Event) where
+module _ {D L : Type 0} {N : ℕ} (B : Ghosts D N L) (tables : TableParts) (seal : Seal) (es : List Event) where
   pub carries_still : (x : DryMeter) (core' : CachedCore) (b : D) → ((s : Setting) (m : Meter) → IsSettingOf s tables seal → Stands s x.core.plain m → Meets s core'.plain [] (run s es m))
       → Carries B tables seal x b es (record x { core = core' }) b
   carries_still x core' b meets = record {

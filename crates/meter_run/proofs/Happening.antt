@@ -110,7 +110,7 @@ never_found o a one none = by (sym one ∙ none)
     by : Some a ≡ None → ⊥
     by bad = absurd cc
 
-module _ {D L : Type 0} (B : Ghosts D L) (tables : TableParts) (seal : Seal) where
+module _ {D L : Type 0} {N : ℕ} (B : Ghosts D N L) (tables : TableParts) (seal : Seal) where
   -- a meter that knows a state is ready at it, and one that knows none is off
   pub known_ready : (x : StoreMeter) (k : Known) (a : D) → x.known ≡ Some k → IsReadyOn B tables seal x a → IsReady tables seal x.core k.durable
   known_ready x k a is ready = (subst (λ (o : Option Known). Knows B tables seal x.core o a) is ready.knows).0

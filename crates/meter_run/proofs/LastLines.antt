@@ -21,7 +21,7 @@ use Rattle.meter_run.specs.StoreLaws.{beside_more}
 use Rattle.meter_run.proofs.Cuts.{cut_in_line, cut_longer, deeds_follow}
 use Rattle.meter_run.proofs.Leaves.{settled_kept}
 
-module _ {D L : Type 0} (B : Ghosts D L) (tables : TableParts) (seal : Seal) (a b c : D) (d : Durable) (deeds : List Deed) (line : List ℕ) (entries : HasEntries d.number deeds)
+module _ {D L : Type 0} {N : ℕ} (B : Ghosts D N L) (tables : TableParts) (seal : Seal) (a b c : D) (d : Durable) (deeds : List Deed) (line : List ℕ) (entries : HasEntries d.number deeds)
     (done : HasDone B tables seal a b d deeds) (beside : WritesTotals B a b) (kept : KeepsStore B b c)
     (run : LeavesOnly B b c (MayLeaveAmid (B.image b) (B.in_flight b) (B.printed b) line)) where
   -- what a cut in the line leaves

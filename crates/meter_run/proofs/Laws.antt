@@ -48,7 +48,7 @@ module _ (tables : TableParts) (seal : Seal) (told : Type 0) (opening : Durable)
   pub receipts_are_numbered_in_order-cut : (earlier later : List Deed) (receipt : receipts.Receipt) → cut.done ++ cut.next ≡ earlier ++ Does (Receipt receipt) ∷ later → IsNumberedWithin opening.number cut.found.number receipt
   receipts_are_numbered_in_order-cut = receipt_numbered tables seal told opening printed deeds image text cut
 
-  pub cuts_open_the_next_run : {D L : Type 0} (B : Ghosts D L) (board : D) → B.image board ≡ image → IsSettled B board → OpensWith B tables board cut.found
+  pub cuts_open_the_next_run : {D L : Type 0} {N : ℕ} (B : Ghosts D N L) (board : D) → B.image board ≡ image → IsSettled B board → OpensWith B tables board cut.found
   cuts_open_the_next_run B board is settled = next_opens tables seal told opening printed deeds image text cut B board is settled
 
 pub receipts_have_their_entries-run : (s : Setting) (opening : Durable) (drive : List ℕ) → HasEntries opening.number (run_deeds s opening drive)
@@ -62,7 +62,7 @@ receipts_are_numbered_in_order-rise = numbers_rise
 pub receipts_have_their_entries-line : (number : ℕ) (deeds : List Deed) (line : List ℕ) → HasEntries number deeds → HasEntries number (deeds ++ Prints line ∷ [])
 receipts_have_their_entries-line = line_has_entries
 
-module _ {D L : Type 0} (B : Ghosts D L) where
+module _ {D L : Type 0} {N : ℕ} (B : Ghosts D N L) where
   pub runs_leave_the_seals-bytes : (board : D) (left : List ℕ) (place : ℕ) → HasBeside B board left → 1024 ≤ place → ¬ B.in_flight board place → get_or left place 0 ≡ get_or (B.image board) place 0
   runs_leave_the_seals-bytes = beside_bytes B
 

@@ -29,11 +29,11 @@ abbrev pair_at : Place → Pair
 pair_at place = record { at = 0; latest = Some place }
 
 -- a pair that was settled stays so on a board whose store is kept
-pub settled_kept : {D L : Type 0} (B : Ghosts D L) (place : Place) (d : Durable) (a b : D) → KeepsStore B a b → KeepsState B place a d → KeepsState B place b d
+pub settled_kept : {D L : Type 0} {N : ℕ} (B : Ghosts D N L) (place : Place) (d : Durable) (a b : D) → KeepsStore B a b → KeepsState B place a d → KeepsState B place b d
 settled_kept B place d a b kept settled = settled_stays reads state_number_of 0 place d (B.image a) (B.image b) (B.in_flight a) (B.in_flight b) settled
     (record { size = ap (λ (image : List ℕ). length image) kept.same; bytes = λ byte within. ap (λ (image : List ℕ). get_or image byte 0) kept.same }) (λ byte within flies. kept.flight byte flies)
 
-module _ {D L : Type 0} (B : Ghosts D L) where
+module _ {D L : Type 0} {N : ℕ} (B : Ghosts D N L) where
   pub agrees_kept : (tables : TableParts) (known : Known) (a b : D) → KeepsStore B a b → Agrees B tables known a → Agrees B tables known b
   agrees_kept tables known a b kept agrees = record { slot = agrees.slot; settled = λ told. settled_kept B known.place known.durable a b kept (agrees.settled told); fits = agrees.fits }
 
@@ -71,7 +71,7 @@ module _ {D L : Type 0} (B : Ghosts D L) where
             (λ i x left. record { bytes = left.beside.bytes; small = left.beside.small }) run.leaves;
       }
 
-module _ {D L : Type 0} (B : Ghosts D L) (tables : TableParts) (seal : Seal) (a b : D) (d : Durable) where
+module _ {D L : Type 0} {N : ℕ} (B : Ghosts D N L) (tables : TableParts) (seal : Seal) (a b : D) (d : Durable) where
   -- a print is any deed with its text
   pub print_point : (place : Place) (deed : Deed) (piece : List ℕ) → text_in seal deed ≡ piece → KeepsState B place a d → ForSome d.hold (Fits tables) → KeepsStore B a b
       → LeavesOnly B a b (MayLeaveAmid (B.image a) (B.in_flight a) (B.printed a) piece) → (B.tells_text → Begins (B.printed a) (B.printed b) piece)

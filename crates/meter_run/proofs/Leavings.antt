@@ -92,7 +92,7 @@ module _ (tables : TableParts) (seal : Seal) (told : Type 0) (d : Durable) (p : 
   receipt_numbered earlier later receipt is = numbered_within d.number cut.found.number cut.kept earlier receipt cut.follows.number (cut.receipts earlier later receipt is)
 
   -- the next run may open with it
-  pub next_opens : {D L : Type 0} (B : Ghosts D L) (board : D) → B.image board ≡ i → IsSettled B board → OpensWith B tables board cut.found
+  pub next_opens : {D L : Type 0} {N : ℕ} (B : Ghosts D N L) (board : D) → B.image board ≡ i → IsSettled B board → OpensWith B tables board cut.found
   next_opens B board is settled = record {
     place = cut.scanned.0;
     settled = record {
@@ -104,7 +104,7 @@ module _ (tables : TableParts) (seal : Seal) (told : Type 0) (d : Durable) (p : 
 
 -- ---- the seals
 
-module _ {D L : Type 0} (B : Ghosts D L) where
+module _ {D L : Type 0} {N : ℕ} (B : Ghosts D N L) where
   pub beside_bytes : (board : D) (left : List ℕ) (place : ℕ) → HasBeside B board left → 1024 ≤ place → ¬ B.in_flight board place → get_or left place 0 ≡ get_or (B.image board) place 0
   beside_bytes board left place h le grounded = h.bytes.rest place (⊎_elim grounded (λ within. omega (arith, le, within.high)))
 

@@ -83,7 +83,8 @@ event_keeps_off tables seal event core core' d acts ready meets =
     (off_after s event m before (λ unsupplied. off_of s core m way.stands.core (off unsupplied)) none)
 
 -- a core that is off, and left as it was, is off
-pub unknown_keeps_off : {D L : Type 0} (B : Ghosts D L) (tables : TableParts) (seal : Seal) (x : StoreMeter) (a : D)
+pub unknown_keeps_off : {D L : Type 0} {N : ℕ} (B : Ghosts D N L) (tables : TableParts) (seal : Seal) (x : StoreMeter)
+    (a : D)
     (events : List Event) → x.known ≡ None → IsReadyOn B tables seal x a → KeepsOff x.core.plain events x.core.plain
 unknown_keeps_off B tables seal x a events unknown ready = λ before off none. unknown_off B tables seal x a unknown ready
 
@@ -106,7 +107,8 @@ equal_keep_off old new p n same = λ before off none. same ∙ off (sym (interva
 -- ---- a drive
 
 -- a dry meter that began is off behind events without the supply
-pub dry_off : {D L : Type 0} (B : Ghosts D L) (tables : TableParts) (seal : Seal) (x : DryMeter) (a : D) (y : DryMeter)
+pub dry_off : {D L : Type 0} {N : ℕ} (B : Ghosts D N L) (tables : TableParts) (seal : Seal) (x : DryMeter) (a : D)
+    (y : DryMeter)
     (b : D) (events : List Event) → IsReady tables seal y.core y.durable → x.core.plain.operating ≡ Off
     → x.durable ≡ first_state → Carries B tables seal x a events y b → is_supplied false events ≡ false
     → y.core.plain.operating ≡ Off

@@ -59,7 +59,7 @@ ended_next_in s Hired m on = refl
 ended_next_in s Stopped m on = refl
 
 -- two runs, of each of which a cut leaves a kind
-leaves_both : {D L : Type 0} (B : Ghosts D L) (a b : D) (one two : List ℕ → List ℕ → Type 0) → LeavesOnly B a b one → LeavesOnly B a b two → LeavesOnly B a b (λ i x. one i x × two i x)
+leaves_both : {D L : Type 0} {N : ℕ} (B : Ghosts D N L) (a b : D) (one two : List ℕ → List ℕ → Type 0) → LeavesOnly B a b one → LeavesOnly B a b two → LeavesOnly B a b (λ i x. one i x × two i x)
 leaves_both B a b one two h k = record {
   later = h.later;
   each = λ i x left. (h.each i x left, k.each i x left);
@@ -82,10 +82,10 @@ secured_of tables seal compiled constant range = record {
 }
 
 -- a meter before the supply first comes
-pub ready_new : {D L : Type 0} (B : Ghosts D L) (tables : TableParts) (seal : Seal) (x : StoreMeter) (a : D) → IsSecured tables seal → IsLawful tables seal x.core → x.core.plain.operating ≡ Off → x.known ≡ None → IsReadyOn B tables seal x a
+pub ready_new : {D L : Type 0} {N : ℕ} (B : Ghosts D N L) (tables : TableParts) (seal : Seal) (x : StoreMeter) (a : D) → IsSecured tables seal → IsLawful tables seal x.core → x.core.plain.operating ≡ Off → x.known ≡ None → IsReadyOn B tables seal x a
 ready_new B tables seal x a secured lawful off unknown = record { secured = secured; lawful = lawful; knows = subst (λ (o : Option Known). Knows B tables seal x.core o a) (sym unknown) off }
 
-module _ {D L : Type 0} (B : Ghosts D L) (tables : TableParts) (seal : Seal) where
+module _ {D L : Type 0} {N : ℕ} (B : Ghosts D N L) (tables : TableParts) (seal : Seal) where
   -- the same outcome by another name
   out_as : (o p : Setting → Meter → Outcome) (x : StoreMeter) (a : D) (y : StoreMeter) (b : D)
       → ((s : Setting) (m : Meter) → StandsOn B tables s x a m → (o s m).next ≡ (p s m).next) → ((s : Setting) (m : Meter) → StandsOn B tables s x a m → (o s m).acts ≡ (p s m).acts)

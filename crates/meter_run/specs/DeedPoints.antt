@@ -30,7 +30,7 @@ module _ (tables : TableParts) (seal : Seal) (told : Type 0) where
       IsAmid durable printed deed image text
       ⊎ IsPointOfDeeds (after_deed durable deed) (printed ++ text_in seal deed) deeds image text
 
-module _ {D L : Type 0} (B : Ghosts D L) (tables : TableParts) (seal : Seal) where
+module _ {D L : Type 0} {N : ℕ} (B : Ghosts D N L) (tables : TableParts) (seal : Seal) where
   -- calls of the board keep to deeds where they carried them out, or a part of them: a cut at each moment leaves a
   -- point of the list, and the board is at one
   pub record KeepsTo (old new : D) (durable : Durable) (deeds : List Deed) : Type 0 where

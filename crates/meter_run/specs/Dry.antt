@@ -1,5 +1,5 @@
 -- Rules: the meter whose durable state is a value, and what it prints.
-use Rattle.std.specs.Prelude.{◌≡◌, List, ◌++◌}
+use Rattle.std.specs.Prelude.{◌≡◌, ℕ, List, ◌++◌}
 use Rattle.std.specs.Option.{ForSome}
 use Rattle.outside.specs.Printing.{Begins}
 use Rattle.outside.specs.Runs.{KeepsStore}
@@ -36,7 +36,7 @@ pub record IsReady (tables : TableParts) (seal : Seal) (core : CachedCore) (dura
   pub fits : ForSome durable.hold (Fits tables)
   pub way : IsUnderWay tables seal core durable
 
-module _ {D L : Type 0} (B : Ghosts D L) (tables : TableParts) (seal : Seal) where
+module _ {D L : Type 0} {N : ℕ} (B : Ghosts D N L) (tables : TableParts) (seal : Seal) where
   -- an outcome is printed where what stands printed is what stood there before, followed by the displays and refusals
   -- of the outcome, where the text is told
   abbrev pub Prints : (outcome : Setting → Meter → Outcome) → DryMeter → (board board' : D) → Type 0

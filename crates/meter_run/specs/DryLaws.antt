@@ -15,7 +15,7 @@ use Rattle.meter_run.specs.RunLaws.{run_next, run_texts}
 use Rattle.meter_run.specs.Texts.{shown_texts}
 use Rattle.meter_run.specs.declared.dry.DryMeter.{DryMeter}
 
-module _ {D L : Type 0} (B : Ghosts D L) (tables : TableParts) (seal : Seal) where
+module _ {D L : Type 0} {N : ℕ} (B : Ghosts D N L) (tables : TableParts) (seal : Seal) where
   pub carries_none : (a : DryMeter) (b : D) → Carries B tables seal a b [] a b
   carries_none a b =
       record {

@@ -39,7 +39,7 @@ pub record IsSecured (tables : TableParts) (seal : Seal) : Type 0 where
 
 -- ---- the bytes outside the pair of totals
 
-module _ {D L : Type 0} (B : Ghosts D L) where
+module _ {D L : Type 0} {N : ℕ} (B : Ghosts D N L) where
   -- an image has beside the pair of totals what a cut might have left there of a board
   abbrev pub HasBeside : D → List ℕ → Type 0
   HasBeside board image = MayHold (B.image board) (OrWithin (B.in_flight board) 0 1024) image
@@ -53,7 +53,7 @@ module _ {D L : Type 0} (B : Ghosts D L) where
 
 -- ---- between two events
 
-module _ {D L : Type 0} (B : Ghosts D L) where
+module _ {D L : Type 0} {N : ℕ} (B : Ghosts D N L) where
   -- a board has a durable state where the pair of totals is settled with it, at the place and with the state that the
   -- meter knows, if it knows them
   abbrev pub Has : Option Known → D → Durable → Type 0
@@ -97,7 +97,7 @@ module _ {D L : Type 0} (B : Ghosts D L) where
 
 -- ---- what events leave
 
-module _ {D L : Type 0} (B : Ghosts D L) (tables : TableParts) (seal : Seal) where
+module _ {D L : Type 0} {N : ℕ} (B : Ghosts D N L) (tables : TableParts) (seal : Seal) where
   -- a property holds for each state of the meter where a meter and a board stand for that state, and the image is told
   abbrev pub ForEach : StoreMeter → D → (Setting → Meter → Type 0) → Type 0
   ForEach x board Holding =

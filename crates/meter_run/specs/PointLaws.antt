@@ -91,7 +91,7 @@ settled_has place d image flying settled =
 
 -- ---- calls that carry deeds out
 
-module _ {D L : Type 0} (B : Ghosts D L) (tables : TableParts) (seal : Seal) where
+module _ {D L : Type 0} {N : ℕ} (B : Ghosts D N L) (tables : TableParts) (seal : Seal) where
   -- calls of the board keep to deeds, by the tables and the seal at hand
   abbrev Keeps : D → D → Durable → List Deed → Type 0
   Keeps old new d deeds = KeepsTo B tables seal old new d deeds

@@ -6,7 +6,7 @@ use Rattle.outside.specs.Printing.{Begins}
 use Rattle.outside.specs.Runs.{KeepsStore, LeavesOnly}
 use Rattle.outside.specs.declared.board.Board.{Ghosts}
 
-module _ {D L : Type 0} (B : Ghosts D L) where
+module _ {D L : Type 0} {N : ℕ} (B : Ghosts D N L) where
   -- a call prints a text where it leaves the store as it is; a beginning of the text is printed, and with `Ok` all of
   -- it; the board's count of faults rises where it fails; and a cut of the power in it leaves a beginning of the text
   pub record PrintsText {T E : Type 0} (old : D) (text : List ℕ) (new : D) (result : Result T E) : Type 0 where

@@ -25,14 +25,14 @@ use Rattle.meter_run.specs.declared.fault.RunFault.TheVariants.{ReadFault, Board
 abbrev pub run_deeds : Setting → Durable → (drive : List ℕ) → List Deed
 run_deeds s durable drive = deeds_of (actions_of s durable (events_of drive))
 
-module _ {D L : Type 0} (B : Ghosts D L) (tables : TableParts) where
+module _ {D L : Type 0} {N : ℕ} (B : Ghosts D N L) (tables : TableParts) where
   -- a run opens with a durable state where the pair of totals is settled with it and its held trip fits
   pub record OpensWith (board : D) (durable : Durable) : Type 0 where
     pub place : Place
     pub settled : KeepsState B place board durable
     pub fits : ForSome durable.hold (Fits tables)
 
-module _ {D L : Type 0} (B : Ghosts D L) (tables : TableParts) (seal : Seal) (old new : D) where
+module _ {D L : Type 0} {N : ℕ} (B : Ghosts D N L) (tables : TableParts) (seal : Seal) (old new : D) where
   -- a property holds from the opening where it holds for each setting of the tables and the seal, and the state that
   -- the run opens with, where the board tells its image
   abbrev pub FromOpening : (Setting → Durable → Type 0) → Type 0

@@ -40,7 +40,7 @@ beside_more flown flying a b c flight h k = record {
       k.rest place (⊎_elim (λ flies. none (flight place flies)) (λ within. none (inr within))) ∙ h.rest place none;
 }
 
-module _ {D L : Type 0} (B : Ghosts D L) where
+module _ {D L : Type 0} {N : ℕ} (B : Ghosts D N L) where
   -- the state that the store has is settled somewhere
   pub has_settled : (known : Option Known) (a : D) (d : Durable) → Has B known a d
       → (place : Place) × KeepsState B place a d
@@ -73,7 +73,7 @@ module _ {D L : Type 0} (B : Ghosts D L) where
         }) k.leaves);
   }
 
-module _ {D L : Type 0} (B : Ghosts D L) (tables : TableParts) (seal : Seal) where
+module _ {D L : Type 0} {N : ℕ} (B : Ghosts D N L) (tables : TableParts) (seal : Seal) where
   -- a meter and a board carry out a list of events
   abbrev Out : List Event → StoreMeter → D → StoreMeter → D → Type 0
   Out events x a y b = CarriesOut B tables seal (λ s m. run s events m) x a y b

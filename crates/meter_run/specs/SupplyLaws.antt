@@ -1,5 +1,5 @@
 -- For proofs: the supply behind events that a meter carries out on a store, one list behind another.
-use Rattle.std.proofs.Common.{◌≡◌, List, [], ◌∷◌, ◌++◌, Bool, refl, sym, ◌∙◌}
+use Rattle.std.proofs.Common.{◌≡◌, ℕ, List, [], ◌∷◌, ◌++◌, Bool, refl, sym, ◌∙◌}
 use Rattle.outside.specs.Runs.{LeavesNow}
 use Rattle.outside.specs.declared.board.Board.{Ghosts}
 use Rattle.seal_record.specs.declared.seal.Seal.{Seal}
@@ -22,7 +22,7 @@ pub off_then : (es fs : List Event) (a b c : CoreData) → KeepsOff a es b → K
 off_then es fs a b c first next =
     λ before off none. next (is_supplied before es) (first before off) (sym (supplied_joined before es fs) ∙ none)
 
-module _ {D L : Type 0} (B : Ghosts D L) (tables : TableParts) (seal : Seal) where
+module _ {D L : Type 0} {N : ℕ} (B : Ghosts D N L) (tables : TableParts) (seal : Seal) where
   -- a meter and a board carry events out, by the board, the tables and the seal at hand
   abbrev Carried : List Event → StoreMeter → D → StoreMeter → D → Type 0
   Carried events x a y b = CarriesEvents B tables seal events x a y b

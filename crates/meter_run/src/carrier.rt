@@ -5,7 +5,7 @@ ghost use Rattle.drive_text.specs.Runs.{intervals_events};
 ghost use Rattle.meter_states.specs.Lawful.{IsTimely};
 
 use meter_states::Acts;
-use outside::{Board, Failed};
+use outside::{Board, Failed, STORE_SIZE};
 use seal_record::Seal;
 use std::sync::ledger::Ledger;
 use tariff_compile::Tables;
@@ -20,7 +20,7 @@ pub(crate) struct SealedTables<'a> {
 
 /// A meter that carries out events on a board. What it says of them holds of one event, of none, and of
 /// one list of events behind another; so whoever goes over a drive proves it of a whole drive.
-pub(crate) trait Carrier<B: Board<L>, L: Ledger> {
+pub(crate) trait Carrier<B: Board<STORE_SIZE, L>, L: Ledger> {
     ghost use Rattle.taxi_units.specs.declared.event.Event.{Event};
     ghost use Rattle.meter_run.specs.declared.carrier.SealedTables.{SealedTables};
 

@@ -17,7 +17,7 @@ use crate::advancing::advance;
 use crate::carrier::{Carrier, SealedTables};
 use crate::printing::{print_display, print_refusal};
 use meter_states::{Act, Acts, Core};
-use outside::{Board, Failed};
+use outside::{Board, Failed, STORE_SIZE};
 use seal_record::Seal;
 use std::sync::ledger::Ledger;
 use tariff_compile::Tables;
@@ -26,7 +26,7 @@ use totals_record::{Change, Durable};
 
 /// Carries out an act: it prints displays and refusals, and commits into the durable state.
 #[inline(never)]
-fn perform<B: Board<L>, L: Ledger>(
+fn perform<B: Board<STORE_SIZE, L>, L: Ledger>(
     durable: &mut Durable,
     act: &Act,
     board: &mut B,
@@ -56,7 +56,7 @@ fn perform<B: Board<L>, L: Ledger>(
 }
 
 /// Carries out acts, one after the other.
-fn perform_all<B: Board<L>, L: Ledger>(
+fn perform_all<B: Board<STORE_SIZE, L>, L: Ledger>(
     durable: &mut Durable,
     acts: &[Act],
     board: &mut B,
@@ -104,7 +104,7 @@ impl DryMeter {
     /// `Failed` only where the board's count of faults rose; then a beginning of what the event shows was
     /// printed, and the meter is done with.
     #[inline(always)]
-    pub fn carry_event<B: Board<L>, L: Ledger>(
+    pub fn carry_event<B: Board<STORE_SIZE, L>, L: Ledger>(
         &mut self,
         tables: &Tables,
         seal: &Seal,
@@ -130,7 +130,7 @@ impl DryMeter {
     }
 }
 
-impl<B: Board<L>, L: Ledger> Carrier<B, L> for DryMeter {
+impl<B: Board<STORE_SIZE, L>, L: Ledger> Carrier<B, L> for DryMeter {
     ghost use Rattle.meter_run.specs.Dry.{Carries, BreaksOff, IsReady};
     ghost use Rattle.meter_run.specs.DryLaws.{breaks_later, breaks_sooner, carries_none, carries_then};
 

@@ -14,7 +14,7 @@ use crate::dry::DryMeter;
 use crate::fault::RunFault;
 use crate::source::Stop;
 use meter_states::Acts;
-use outside::{Board, Failed, Files};
+use outside::{Board, Failed, Files, STORE_SIZE};
 use seal_record::Seal;
 use std::sync::ledger::Ledger;
 use tariff_compile::Tables;
@@ -32,7 +32,7 @@ use taxi_units::{Event, Steps};
 /// rose; `BoardFault` only where the board's did. At the drive's end and before each of these but
 /// `BoardFault` the supply drops, where the meter is powered; where the board fails in that, the answer is
 /// `BoardFault`. All of this is this project's own.
-pub fn dry_run<F: Files, B: Board<L>, L: Ledger>(
+pub fn dry_run<F: Files, B: Board<STORE_SIZE, L>, L: Ledger>(
     tables: &Tables,
     seal: &Seal,
     files: &mut F,
@@ -64,7 +64,7 @@ pub fn dry_run<F: Files, B: Board<L>, L: Ledger>(
 }
 
 /// The supply drops, where the meter is powered. At most 64 steps, and none where it is off.
-fn drop_at_end<B: Board<L>, L: Ledger>(
+fn drop_at_end<B: Board<STORE_SIZE, L>, L: Ledger>(
     meter: &mut DryMeter,
     tables: &Tables,
     seal: &Seal,

@@ -16,7 +16,7 @@ use crate::reading::read_store;
 use crate::stored::{Known, StoreMeter};
 use crate::storing::do_acts;
 use meter_states::{Acts, Core};
-use outside::{Board, Failed};
+use outside::{Board, Failed, STORE_SIZE};
 use seal_record::Seal;
 use std::sync::ledger::Ledger;
 use tariff_compile::Tables;
@@ -24,7 +24,7 @@ use taxi_units::{Event, Steps, Why};
 
 /// An event, but the coming of the supply while the meter is off. At most 57 steps.
 #[inline(always)]
-fn go_on<B: Board<L>, L: Ledger>(
+fn go_on<B: Board<STORE_SIZE, L>, L: Ledger>(
     meter: &mut StoreMeter,
     tables: &Tables,
     seal: &Seal,
@@ -60,7 +60,7 @@ fn go_on<B: Board<L>, L: Ledger>(
 }
 
 /// The supply comes, and what the store has was read. At most 21 steps.
-fn resume<B: Board<L>, L: Ledger>(
+fn resume<B: Board<STORE_SIZE, L>, L: Ledger>(
     meter: &mut StoreMeter,
     found: Known,
     tables: &Tables,
@@ -89,7 +89,7 @@ fn resume<B: Board<L>, L: Ledger>(
 /// The supply comes while the meter is off: it goes on from what a scan of the store finds. Where it finds
 /// no durable state, or one whose held trip doesn't fit, the meter stays off. At most 40 steps.
 #[inline(never)]
-fn power_up<B: Board<L>, L: Ledger>(
+fn power_up<B: Board<STORE_SIZE, L>, L: Ledger>(
     meter: &mut StoreMeter,
     tables: &Tables,
     seal: &Seal,
@@ -112,7 +112,7 @@ fn power_up<B: Board<L>, L: Ledger>(
 }
 
 /// The supply comes. At most 57 steps.
-fn take_supply<B: Board<L>, L: Ledger>(
+fn take_supply<B: Board<STORE_SIZE, L>, L: Ledger>(
     meter: &mut StoreMeter,
     tables: &Tables,
     seal: &Seal,
@@ -142,7 +142,7 @@ impl StoreMeter {
     /// `Failed` only where the board's count of faults rose; then the event was carried out up to some point of
     /// its acts, and the meter is done with.
     #[inline(always)]
-    pub fn carry_event<B: Board<L>, L: Ledger>(
+    pub fn carry_event<B: Board<STORE_SIZE, L>, L: Ledger>(
         &mut self,
         tables: &Tables,
         seal: &Seal,
@@ -165,7 +165,7 @@ impl StoreMeter {
     }
 }
 
-impl<B: Board<L>, L: Ledger> Carrier<B, L> for StoreMeter {
+impl<B: Board<STORE_SIZE, L>, L: Ledger> Carrier<B, L> for StoreMeter {
     ghost use Rattle.meter_states.specs.Run.{run};
     ghost use Rattle.meter_run.specs.OnStore.{CarriesEvents, IsReadyOn, StopsAmid};
     ghost use Rattle.meter_run.specs.StoreLaws.{amid_sooner};

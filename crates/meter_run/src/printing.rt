@@ -8,14 +8,14 @@ ghost use Rattle.seal_record.specs.Ranges.{IsSeal};
 ghost use Rattle.taxi_units.specs.Shown.{IsReceipt, IsShown};
 ghost use Rattle.meter_run.specs.Printing.{PrintsText};
 
-use outside::{Board, Failed};
+use outside::{Board, Failed, STORE_SIZE};
 use receipt_text::{put_display, put_receipt, put_refusal};
 use seal_record::Seal;
 use std::sync::ledger::Ledger;
 use taxi_units::{Display, Line, Receipt, Steps, Why};
 
 /// Prints a text of 1 to 512 bytes.
-fn print_text<B: Board<L>, L: Ledger>(
+fn print_text<B: Board<STORE_SIZE, L>, L: Ledger>(
     text: &[u8],
     board: &mut B,
     steps: &mut Steps<L>,
@@ -29,7 +29,7 @@ fn print_text<B: Board<L>, L: Ledger>(
 }
 
 /// Prints the line of a display.
-pub(crate) fn print_display<B: Board<L>, L: Ledger>(
+pub(crate) fn print_display<B: Board<STORE_SIZE, L>, L: Ledger>(
     display: &Display,
     board: &mut B,
     steps: &mut Steps<L>,
@@ -44,7 +44,7 @@ pub(crate) fn print_display<B: Board<L>, L: Ledger>(
 }
 
 /// Prints the line of a refusal.
-pub(crate) fn print_refusal<B: Board<L>, L: Ledger>(
+pub(crate) fn print_refusal<B: Board<STORE_SIZE, L>, L: Ledger>(
     why: Why,
     board: &mut B,
     steps: &mut Steps<L>,
@@ -58,7 +58,7 @@ pub(crate) fn print_refusal<B: Board<L>, L: Ledger>(
 }
 
 /// Prints a receipt under a seal.
-pub(crate) fn print_receipt<B: Board<L>, L: Ledger>(
+pub(crate) fn print_receipt<B: Board<STORE_SIZE, L>, L: Ledger>(
     receipt: &Receipt,
     seal: &Seal,
     board: &mut B,

@@ -14,7 +14,7 @@ ghost use Rattle.meter_run.specs.declared.stored.Known.{Known};
 
 use crate::stored::Known;
 use meter_states::fits;
-use outside::{Board, Failed};
+use outside::{Board, Failed, STORE_SIZE};
 use slot_store::{Found, SlotFault, scan};
 use std::sync::ledger::Ledger;
 use tariff_compile::Tables;
@@ -23,7 +23,7 @@ use totals_record::Durable;
 
 /// Scans the pair of totals. `None` where it stands for no durable state, or for one whose held trip doesn't
 /// fit the tables: on a board that tells its image that comes only where the image says so. At most 19 steps.
-pub(crate) fn read_store<B: Board<L>, L: Ledger>(
+pub(crate) fn read_store<B: Board<STORE_SIZE, L>, L: Ledger>(
     tables: &Tables,
     board: &mut B,
     steps: &mut Steps<L>,

@@ -16,7 +16,7 @@ use crate::dry_drive::answer;
 use crate::fault::RunFault;
 use crate::stored::StoreMeter;
 use meter_states::Acts;
-use outside::{Board, Failed, Files};
+use outside::{Board, Failed, Files, STORE_SIZE};
 use seal_record::Seal;
 use std::sync::ledger::Ledger;
 use tariff_compile::Tables;
@@ -41,7 +41,7 @@ use taxi_units::{Event, Steps};
 /// cut of the power at any moment leaves a point of it. A board that tells nothing may answer a scan by
 /// anything: where that is no durable state, or one whose held trip doesn't fit, the meter stays off. All of
 /// this is this project's own.
-pub fn run_events<F: Files, B: Board<L>, L: Ledger>(
+pub fn run_events<F: Files, B: Board<STORE_SIZE, L>, L: Ledger>(
     tables: &Tables,
     seal: &Seal,
     files: &mut F,
@@ -79,7 +79,7 @@ pub fn run_events<F: Files, B: Board<L>, L: Ledger>(
 }
 
 /// The supply drops, where the meter is powered. At most 64 steps, and none where it is off.
-fn end<B: Board<L>, L: Ledger>(
+fn end<B: Board<STORE_SIZE, L>, L: Ledger>(
     meter: &mut StoreMeter,
     tables: &Tables,
     seal: &Seal,

@@ -17,14 +17,14 @@ use crate::printing::{print_display, print_receipt, print_refusal};
 use crate::stored::Known;
 use meter_states::Act;
 use meter_store::commit;
-use outside::{Board, Failed};
+use outside::{Board, Failed, STORE_SIZE};
 use seal_record::Seal;
 use std::sync::ledger::Ledger;
 use taxi_units::Steps;
 use totals_record::Change;
 
 /// Commits a change of what the store has. At most 6 steps.
-fn store<B: Board<L>, L: Ledger>(
+fn store<B: Board<STORE_SIZE, L>, L: Ledger>(
     known: &mut Known,
     change: &Change,
     board: &mut B,
@@ -57,7 +57,7 @@ fn store<B: Board<L>, L: Ledger>(
 /// Carries out an act: it prints displays, refusals and receipts, and commits entries and held trips. One
 /// step for a print, and at most 6 for a commit.
 #[inline(never)]
-fn do_act<B: Board<L>, L: Ledger>(
+fn do_act<B: Board<STORE_SIZE, L>, L: Ledger>(
     known: &mut Known,
     act: &Act,
     seal: &Seal,
@@ -89,7 +89,7 @@ fn do_act<B: Board<L>, L: Ledger>(
 
 /// Carries out acts, one after the other.
 #[inline(always)]
-pub(crate) fn do_acts<B: Board<L>, L: Ledger>(
+pub(crate) fn do_acts<B: Board<STORE_SIZE, L>, L: Ledger>(
     known: &mut Known,
     acts: &[Act],
     seal: &Seal,

@@ -1,5 +1,5 @@
 -- What a store of a body at place 0 means for the durable state.
-use Rattle.std.proofs.Common.{◌≡◌, Some, subst}
+use Rattle.std.proofs.Common.{◌≡◌, ℕ, Some, subst}
 use Rattle.outside.specs.declared.board.Board.{Ghosts}
 use Rattle.slot_store.specs.declared.pair.Pair.{Pair}
 use Rattle.slot_store.specs.declared.pair.Place.{Place}
@@ -13,7 +13,7 @@ use Rattle.meter_store.specs.Stored.{state_number_of, written_at, HasEither, Kee
 abbrev pair_at : Place → Pair
 pair_at place = record { at = 0; latest = Some place }
 
-module _ {D L : Type 0} (B : Ghosts D L) where
+module _ {D L : Type 0} {N : ℕ} (B : Ghosts D N L) where
   -- with the state that was stored
   pub leaves_either : (pair : Pair) (place : Place) (durable body state : Durable) (old new : D) → pair ≡ pair_at place → body ≡ state
       → LeavesThroughout B (spare_at pair) 512 (ShowsEither reads state_number_of pair.at (Some durable) body) old new → LeavesEither B place durable state old new

@@ -16,7 +16,7 @@ fewer : {T : Type 0} (reads : List ℕ → Option T) (number_of : T → ℕ) (at
 fewer reads number_of at image flown flying Blank less is = (is.0, λ place within flies. is.1 place within (less place flies))
 fewer reads number_of at image flown flying (Latest place body) less is = record { quiet = λ byte within flies. is.quiet byte within (less byte flies); is_at = is.is_at }
 
-module _ {D L : Type 0} (B : Ghosts D L) where
+module _ {D L : Type 0} {N : ℕ} (B : Ghosts D N L) where
   pub totals_are_found : (board : D) (found : Found Durable) → ScannedTotals B board found → FoundTotals B board (totals_found found)
   totals_are_found board Blank is = is
   totals_are_found board (Latest place durable) is = (place, is)

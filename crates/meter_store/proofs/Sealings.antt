@@ -32,7 +32,7 @@ is_pair (Some found) slot = record { at_in = omega arith; slot_in = slot found r
 abbrev pub first_pair : Pair
 first_pair = record { at = 0; latest = None }
 
-module _ {D L : Type 0} (B : Ghosts D L) (start : ℕ) (old new : D) where
+module _ {D L : Type 0} {N : ℕ} (B : Ghosts D N L) (start : ℕ) (old new : D) where
   -- a pair apart from what is written keeps its bytes, and no more of it is in flight
   same_beside : (at : ℕ) → IsApart at start 1024 → IsQuiet at (B.in_flight old) → WritesIn B start 1024 old new → IsSamePair at (B.image old) (B.image new)
   same_beside at apart quiet writes = slots.apart_same at start 1024 (B.image old) (B.in_flight old) (B.image new) apart quiet writes.rest
@@ -43,7 +43,7 @@ module _ {D L : Type 0} (B : Ghosts D L) (start : ℕ) (old new : D) where
   no_more_beside at (inr behind) writes place within flies =
       ⊎_elim (λ was. was) (λ (touched : IsWithin start 1024 place). absurd (omega (arith, behind, within.high, touched.low))) (writes.flight place flies)
 
-module _ {D L : Type 0} (B : Ghosts D L) where
+module _ {D L : Type 0} {N : ℕ} (B : Ghosts D N L) where
   -- the new seal's number is greater than the found one's
   pub newer_found : (board : D) (found : Option (Place × ℕ)) (old : Option Seal) (number : ℕ) → FoundSeal B board found old → number ≡ next_number (found_number found) → IsBefore seal_number_of old number
   newer_found board None None number is next = tt

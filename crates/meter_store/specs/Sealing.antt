@@ -97,7 +97,7 @@ abbrev pub old_seal : Found Seal → Option Seal
 old_seal Blank = None
 old_seal (Latest place seal) = Some seal
 
-module _ {D L : Type 0} (B : Ghosts D L) where
+module _ {D L : Type 0} {N : ℕ} (B : Ghosts D N L) where
   -- a board has found totals if its pair of totals is settled with them, or, if none were found, is blank with
   -- nothing in flight
   abbrev pub FoundTotals : D → Option Durable → Type 0

@@ -26,7 +26,7 @@ written_at place = slot_at 0 (1 - place.slot)
 abbrev pub place_after : Place → Place
 place_after place = record { slot = 1 - place.slot; other_open = true }
 
-module _ {D L : Type 0} (B : Ghosts D L) where
+module _ {D L : Type 0} {N : ℕ} (B : Ghosts D N L) where
   -- a board keeps a state at a place where its pair of totals is settled there with that state
   abbrev pub KeepsState : Place → D → Durable → Type 0
   KeepsState place board durable = IsSettled reads state_number_of 0 place (B.image board) (B.in_flight board) durable

@@ -7,7 +7,7 @@ ghost use Rattle.totals_record.specs.Ranges.{IsDurable};
 ghost use Rattle.totals_record.specs.States.{after};
 ghost use Rattle.meter_store.specs.Stored.{place_after, written_at, KeepsState, LeavesEither};
 
-use outside::{Board, Failed};
+use outside::{Board, Failed, STORE_SIZE};
 use slot_store::{Place, Ready};
 use std::sync::ledger::Ledger;
 use taxi_units::Steps;
@@ -33,7 +33,7 @@ impl From<Failed> for DeviceFailed {
 ///
 /// `DeviceFailed` comes only where the board's count of faults rose; after it only a scan goes on.
 /// The ranges must hold after the commit.
-pub fn commit<B: Board<L>, L: Ledger>(
+pub fn commit<B: Board<STORE_SIZE, L>, L: Ledger>(
     board: &mut B,
     durable: &Durable,
     place: Place,

@@ -12,7 +12,7 @@ ghost use Rattle.meter_store.specs.Sealing.{FoundSeal, FoundTotals, HasEitherSea
 ghost use Rattle.meter_store.specs.Sealing.{LeavesSealing, first_written, found_number, next_number, places_written, seals_at};
 
 use crate::DeviceFailed;
-use outside::Board;
+use outside::{Board, STORE_SIZE};
 use seal_record::Seal;
 use slot_store::{Place, Ready};
 use std::sync::ledger::Ledger;
@@ -20,7 +20,7 @@ use taxi_units::Steps;
 use totals_record::Durable;
 
 /// Where the pair of seals begins in the store.
-const SEALS_AT: u16 = 1024;
+const SEALS_AT: u32 = 1024;
 
 /// Seals the store. Totals that were found stay as they are, byte for byte; where none were found,
 /// totals of zero with number 1 are written first, in layout 2. Then the seal is written, whose number
@@ -33,7 +33,7 @@ const SEALS_AT: u16 = 1024;
 /// is printed, and at most 10 calls of the board are made.
 ///
 /// `DeviceFailed` comes only where the board's count of faults rose; after it only a scan goes on.
-pub fn place_seal<B: Board<L>, L: Ledger>(
+pub fn place_seal<B: Board<STORE_SIZE, L>, L: Ledger>(
     board: &mut B,
     totals: Option<Durable>,
     found: Option<(Place, u64)>,
@@ -66,7 +66,7 @@ pub fn place_seal<B: Board<L>, L: Ledger>(
 }
 
 /// Writes totals of zero into a blank pair.
-fn put_totals<B: Board<L>, L: Ledger>(
+fn put_totals<B: Board<STORE_SIZE, L>, L: Ledger>(
     board: &mut B,
     steps: &mut Steps<L>,
 ) -> Result<Place, DeviceFailed>
@@ -82,7 +82,7 @@ fn put_totals<B: Board<L>, L: Ledger>(
 }
 
 /// Writes a seal over the one that was found, or into a blank pair.
-fn put_seal<B: Board<L>, L: Ledger>(
+fn put_seal<B: Board<STORE_SIZE, L>, L: Ledger>(
     board: &mut B,
     found: Option<(Place, u64)>,
     seal: &Seal,

@@ -6,12 +6,12 @@ ghost use Rattle.seal_record.specs.declared.seal.Seal.{Seal};
 ghost use Rattle.meter_store.specs.Sealing.{FoundSeal, FoundTotals, ScannedSeal, ScannedTotals, old_seal, seal_found};
 ghost use Rattle.meter_store.specs.Sealing.{totals_found};
 
-use outside::Board;
+use outside::{Board, STORE_SIZE};
 use std::sync::ledger::Ledger;
 
 /// A law: what scans of both pairs found is what a sealing asks for, and it stays so on a board with
 /// the same image of which no more is in flight, as after another scan.
-pub fn scans_find_what_a_sealing_asks_for<B: Board<L>, L: Ledger>()
+pub fn scans_find_what_a_sealing_asks_for<B: Board<STORE_SIZE, L>, L: Ledger>()
     ensures totals { (board : B) (found : Found Durable) → ScannedTotals B.Board board found
         → FoundTotals B.Board board (totals_found found) }
     ensures seal { (board : B) (found : Found Seal) → ScannedSeal B.Board board found

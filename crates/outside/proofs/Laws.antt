@@ -69,7 +69,7 @@ held_before now old left flying flown same fewer h = record {
   rest = λ place grounded. h.rest place (λ flies. grounded (fewer place flies)) ∙ ap (λ (bytes : List ℕ). get_or bytes place 0) same;
 }
 
-module _ {D L : Type 0} (B : Ghosts D L) where
+module _ {D L : Type 0} {N : ℕ} (B : Ghosts D N L) where
   -- a run that calls nothing
   pub leaves_none : (kind : List ℕ → List ℕ → Type 0) (board : D) → ((left_image left_text : List ℕ) → B.left_since board (B.moment board) left_image left_text → kind left_image left_text)
       → LeavesOnly B board board kind

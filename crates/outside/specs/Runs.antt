@@ -10,7 +10,7 @@ pub record MayHold (image : List ℕ) (in_flight : ℕ → Type 0) (left_image :
   pub bytes : SameBut in_flight image left_image
   pub small : AreBytes left_image
 
-module _ {D L : Type 0} (B : Ghosts D L) where
+module _ {D L : Type 0} {N : ℕ} (B : Ghosts D N L) where
   -- a board is settled if no place is in flight, so that a cut leaves what a read gives
   abbrev pub IsSettled : D → Type 0
   IsSettled board = (place : ℕ) → ¬ B.in_flight board place

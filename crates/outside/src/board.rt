@@ -1,7 +1,6 @@
 //! The board, which has a store and prints.
 ghost use Rattle.std.specs.Prelude.{◌≡◌, ◌⊎◌, ℕ, ◌+◌, ◌<◌, ◌≤◌, ◌++◌, List, length, take, drop, OnOk};
-ghost use Rattle.outside.specs.Disk.{piece_size, store_size, CallTakes, IsImage, IsPiece, IsWithin, MayLeave, PieceTakes};
-ghost use Rattle.outside.specs.Disk.{SameBut};
+ghost use Rattle.outside.specs.Disk.{piece_size, CallTakes, IsImage, IsPiece, IsWithin, MayLeave, PieceTakes, SameBut};
 ghost use Rattle.outside.specs.Faults.{HasCause};
 ghost use Rattle.outside.specs.Printing.{Begins};
 
@@ -9,21 +8,24 @@ use crate::fault::Failed;
 use std::sync::ledger::Ledger;
 use taxi_units::Steps;
 
-/// How many bytes the store of a board has.
+/// How many bytes the meter's store has.
 pub const STORE_SIZE: usize = 2048;
 
-/// The meter's one device: a store of 2,048 bytes, with places from 0 on, and a printer, on one clock
-/// of moments. Bytes that are written are in flight until a sync succeeds: a cut of the power may
-/// leave any bytes in their places. Each call takes one step of the one ledger that the board is
-/// asked under. A call that failed raises the count of faults by one, up to the last value of 64 bits, and
-/// one that is Ok leaves it.
+/// How many bytes the store of the hiring log has.
+pub const LOG_SIZE: usize = 131072;
+
+/// The one device of a program: a store of `N` bytes, with places from 0 on, and a printer, on one clock
+/// of moments. The meter's has a store of `STORE_SIZE` bytes, and the hiring log's one of `LOG_SIZE`. Bytes
+/// that are written are in flight until a sync succeeds: a cut of the power may leave any bytes in their
+/// places. Each call takes one step of the one ledger that the board is asked under. A call that failed
+/// raises the count of faults by one, up to the last value of 64 bits, and one that is Ok leaves it.
 ///
 /// What is said of the places in flight and of what a cut might have left is an upper bound: a call
 /// says what may have come to them, and a board may have less in flight, and leave less, than its
 /// calls allow. From below it is bounded twice: what a cut might have left since a moment counts from then
 /// on (`keeps` of each call's `time`), and what it may leave now counts where image and text are told
 /// (`counts_now`).
-pub trait Board<L: Ledger> {
+pub trait Board<const N: usize, L: Ledger> {
     /// Whether the board tells what its store holds. It belongs to the type, so it never changes.
     ghost tells_image: { Type 0 };
 
@@ -51,8 +53,8 @@ pub trait Board<L: Ledger> {
 
     /// Reads a piece of 1 to 512 bytes that lies in the store into the whole of `buf`. After a read
     /// that failed what `buf` holds is open.
-    fn read(&mut self, at: u16, buf: &mut [u8], steps: &mut Steps<L>) -> Result<(), Failed>
-        requires { IsPiece store_size at (length buf.old) }
+    fn read(&mut self, at: u32, buf: &mut [u8], steps: &mut Steps<L>) -> Result<(), Failed>
+        requires { IsPiece N at (length buf.old) }
         ensures bytes { tells_image → OnOk result (buf.new ≡ take (length buf.old) (drop at (image self.old))) }
         ensures image { image self.new ≡ image self.old }
         ensures flight { (place : ℕ) → in_flight self.new place → in_flight self.old place }
@@ -63,8 +65,8 @@ pub trait Board<L: Ledger> {
 
     /// Writes a piece of 1 to 512 bytes that lies in the store. It is in flight until a sync
     /// succeeds. After a write that failed the piece's places may hold any bytes.
-    fn write_at(&mut self, at: u16, bytes: &[u8], steps: &mut Steps<L>) -> Result<(), Failed>
-        requires { IsPiece store_size at (length bytes.now) }
+    fn write_at(&mut self, at: u32, bytes: &[u8], steps: &mut Steps<L>) -> Result<(), Failed>
+        requires { IsPiece N at (length bytes.now) }
         ensures written { tells_image → OnOk result (take (length bytes.now) (drop at (image self.new)) ≡ bytes.now) }
         ensures image { SameBut (IsWithin at (length bytes.now)) (image self.old) (image self.new) }
         ensures flight { (place : ℕ) → in_flight self.new place → in_flight self.old place
@@ -99,8 +101,8 @@ pub trait Board<L: Ledger> {
         ensures cause { HasCause (faults self.old) (faults self.new) result }
         ensures step { steps.new ≡ steps.old + 1 };
 
-    /// The store has 2,048 bytes.
-    ghost store: { (board : Self) → tells_image → IsImage store_size (image board) };
+    /// The store has `N` bytes.
+    ghost store: { (board : Self) → tells_image → IsImage N (image board) };
 
     /// What a cut may leave now is among what it might have left since an earlier moment.
     ghost counts_now: { (board : Self) (start : ℕ) (left_image left_text : List ℕ)

@@ -2,7 +2,7 @@
 ghost use Rattle.std.specs.Prelude.{◌≡◌, ◌<◌};
 
 use crate::tests::must;
-use crate::{Board, Failed, Fill, MemoryBoard, QuietBoard};
+use crate::{Board, Failed, Fill, MemoryBoard, QuietBoard, STORE_SIZE};
 use std::alloc::Global;
 use std::marker::Brand;
 use std::sync::ledger::{Blank, Ledger};
@@ -12,8 +12,8 @@ use taxi_units::Steps;
 /// What is asked of a board.
 #[derive(Clone, Copy)]
 pub(crate) enum Asked<'a> {
-    Read(u16),
-    Write(u16, &'a [u8]),
+    Read(u32),
+    Write(u32, &'a [u8]),
     Sync,
     Print(&'a [u8]),
 }
@@ -132,7 +132,7 @@ const QUIET: &[(Asked<'static>, [u8; 4])] = &[
 
 /// Makes a call, and answers the four bytes of a read, and zeros of any other call. A piece that doesn't
 /// lie in the store isn't asked for.
-pub(crate) fn call<B: Board<L>, L: Ledger>(
+pub(crate) fn call<B: Board<STORE_SIZE, L>, L: Ledger>(
     board: &mut B,
     asked: &Asked,
     steps: &mut Steps<L>,

@@ -1,19 +1,17 @@
 //! The real device over a system of which chosen calls fail. Each case is played in a new folder of its own, once
 //! for each error that is tried.
+ghost use Rattle.std.specs.Prelude.{◌≡◌, ◌<◌};
+
 use crate::faulty_system::{Call, Fault, FaultySystem, Trial};
-use crate::file_device::FileDevice;
 use crate::file_tests::{Change, STORE, Sight, UNFINISHED, enter, is_seen, leave, make};
-use crate::new_store::StoreNames;
 use crate::store_file::Access;
 use crate::tests::must;
+use crate::{Board, FileBoard};
 use std::io::ErrorKind;
+use std::marker::Brand;
+use std::sync::ledger::{Blank, Ledger};
 use std::test::Fail;
-
-/// The names of the store.
-const NAMES: StoreNames = StoreNames {
-    store: STORE,
-    unfinished: UNFINISHED,
-};
+use taxi_units::Steps;
 
 /// What is asked of the device.
 #[derive(Clone, Copy)]
@@ -555,38 +553,52 @@ const MAKINGS: &[Case] = &[
 ];
 
 /// Whether a call is Ok, and a read gives what it should.
-fn is_ok<'a>(device: &mut FileDevice<FaultySystem<'a>>, ask: &Ask) -> bool {
+fn is_ok<'a, L: Ledger>(
+    device: &mut FileBoard<FaultySystem<'a>>,
+    ask: &Ask,
+    steps: &mut Steps<L>,
+) -> bool {
     match ask {
         Ask::Read(want) => {
             let mut buf = [99];
-            device.read(0, &mut buf).is_ok() && buf[0] == *want
+            device.read(0, &mut buf, steps).is_ok() && buf[0] == *want
         }
-        Ask::Write => device.write_at(0, &[1]).is_ok(),
-        Ask::Sync => device.sync().is_ok(),
-        Ask::Print => device.print(b"FOR HIRE\n").is_ok(),
+        Ask::Write => device.write_at(0, &[1], steps).is_ok(),
+        Ask::Sync => device.sync(steps).is_ok(),
+        Ask::Print => device.print(b"FOR HIRE\n", steps).is_ok(),
     }
 }
 
 /// The device of a case.
-fn device_of<'a>(case: &Case, system: FaultySystem<'a>) -> FileDevice<FaultySystem<'a>> {
+fn device_of<'a>(case: &Case, system: FaultySystem<'a>) -> FileBoard<FaultySystem<'a>> {
     let alloc = system.rt.alloc();
     match case.access {
-        Access::Read => FileDevice::to_read(system, alloc, NAMES, 2048),
-        Access::Write => FileDevice::to_write(system, alloc, NAMES, 2048),
+        Access::Read => FileBoard::to_read(system, alloc),
+        Access::Write => FileBoard::to_write(system, alloc),
     }
 }
 
 /// Asks what a case says, each of which must come as it says.
-fn must_come(rt: HostRuntime, case: &Case, kind: ErrorKind) -> Result<(), Fail> {
+fn must_come<L: Ledger>(
+    rt: HostRuntime,
+    blank: Blank,
+    case: &Case,
+    kind: ErrorKind,
+) -> Result<(), Fail>
+    requires name { blank.name ≡ L.name }
+    requires parts { blank.parts ≡ L.parts }
+    requires one { 0 < blank.parts }
+{
+    let mut steps: Steps<L> = Steps::open(blank);
     let trial = Trial::new(case.faults, kind);
     let mut device = device_of(case, FaultySystem { rt, trial: &trial });
     for ask in case.before {
-        must(is_ok(&mut device, ask), case.name, 0)?;
+        must(is_ok(&mut device, ask, &mut steps), case.name, 0)?;
     }
     trial.begin();
     for number in 0..case.calls.len() {
         let (ask, want) = &case.calls[number];
-        let came = is_ok(&mut device, ask) == *want;
+        let came = is_ok(&mut device, ask, &mut steps) == *want;
         must(came, case.name, number as u64 + 1)?;
     }
     Ok(())
@@ -597,7 +609,7 @@ fn play(rt: HostRuntime, case: &Case, kind: ErrorKind) -> Result<(), Fail> {
     for change in case.folder {
         make(rt, change)?;
     }
-    must_come(rt, case, kind)?;
+    must_come::<Brand>(rt, Blank::new(1), case, kind)?;
     for sight in case.left {
         must(is_seen(rt, sight)?, case.name, 100)?;
     }

@@ -1,8 +1,9 @@
-//! The device of the system behind each real board: a file of a name and a size, and the standard output.
-ghost use Rattle.std.specs.Prelude.{◌≡◌, false, IsTrue, OnErr};
+//! The board of the system: a file of a name and a size, and the standard output.
+ghost use Rattle.std.specs.Prelude.{◌≡◌, ◌+◌, [], false, IsTrue, OnErr};
 ghost use Rattle.outside.specs.Faults.{HasCause};
 ghost use Rattle.outside.specs.FileState.{DeviceState, StaysLost, is_lost};
 
+use crate::board::{Board, LOG_SIZE, STORE_SIZE};
 use crate::failures::counted;
 use crate::fault::Failed;
 use crate::file_store::FileStore;
@@ -13,8 +14,22 @@ use std::alloc::Global;
 use std::io;
 use std::marker::Model;
 use std::rt::Files as HostSystem;
+use std::sync::ledger::Ledger;
+use taxi_units::Steps;
 
-/// A store in a file of the working folder, of which its first bytes are used, and the standard output.
+/// The names of the meter's store, in the working folder.
+const STORE_FILE: StoreNames = StoreNames {
+    store: "taxi.store",
+    unfinished: "taxi.store.new",
+};
+
+/// The names of the hiring log's store, in the working folder.
+const LOG_FILE: StoreNames = StoreNames {
+    store: "taxi.log",
+    unfinished: "taxi.log.new",
+};
+
+/// A store in a file of the working folder, of which its first `N` bytes are used, and the standard output.
 /// Nothing is told of what the file holds or of what was printed: that both behave as a board's should is
 /// trusted. The count of faults is the number of calls that failed, which stands still at the last value
 /// of a `u64`: a call is Ok exactly where the system answered no error. A call that a signal interrupts is
@@ -36,7 +51,7 @@ use std::rt::Files as HostSystem;
 /// - After an opening, a making or a sync that failed the device is lost: each later call fails, since the
 ///   system may forget what it could not write.
 #[derive(Drop)]
-pub struct FileDevice<R: HostSystem + Print + Drop>
+pub struct FileDevice<R: HostSystem + Print + Drop, const N: usize>
 where
     R::File: HeldFile,
 {
@@ -46,7 +61,13 @@ where
     failures: u64,
 }
 
-impl<R: HostSystem + Print + Drop> Model for FileDevice<R>
+/// The meter's board of the system, whose store is the file `taxi.store`.
+pub type FileBoard<R> = FileDevice<R, STORE_SIZE>;
+
+/// The hiring log's board of the system, whose store is the file `taxi.log`.
+pub type FileLog<R> = FileDevice<R, LOG_SIZE>;
+
+impl<R: HostSystem + Print + Drop, const N: usize> Model for FileDevice<R, N>
 where
     R::File: HeldFile,
 {
@@ -55,75 +76,70 @@ where
     ghost view = { λ d. record { failed = d.failures; lost = is_lost d.store.state } };
 }
 
-impl<R: HostSystem + Print + Drop> FileDevice<R>
+impl<R: HostSystem + Print + Drop> FileDevice<R, STORE_SIZE>
 where
     R::File: HeldFile,
 {
-    /// The device of this runtime to read a store of this number of bytes in the file of these names.
-    /// Nothing is asked of the system yet. The allocator is used only by an opening, to find the folder of a
-    /// file at the end of a symbolic link.
-    pub fn to_read(rt: R, alloc: Global, names: StoreNames, size: u64) -> FileDevice<R>
+    /// The board of this runtime to read the meter's store: each write of it fails. Nothing is asked of the
+    /// system yet. The allocator is used only by an opening, to find the folder of a file at the end of a
+    /// symbolic link.
+    pub fn to_read(rt: R, alloc: Global) -> FileDevice<R, STORE_SIZE>
         ensures { result ≡ record { failed = 0; lost = false } }
-    {
-        FileDevice::open_for(rt, alloc, FileStore::new(names, size, Access::Read))
-    }
-
-    /// The device to read and write one. It is made for the words of a command that may write.
-    pub fn to_write(rt: R, alloc: Global, names: StoreNames, size: u64) -> FileDevice<R>
-        ensures { result ≡ record { failed = 0; lost = false } }
-    {
-        FileDevice::open_for(rt, alloc, FileStore::new(names, size, Access::Write))
-    }
-
-    /// The device over a store, with no failures.
-    fn open_for(rt: R, alloc: Global, store: FileStore<R::File>) -> FileDevice<R>
-        ensures { result ≡ record { failed = 0; lost = is_lost store.state } }
     {
         FileDevice {
             rt,
             alloc,
-            store,
+            store: FileStore::new(STORE_FILE, STORE_SIZE as u64, Access::Read),
             failures: 0,
         }
     }
 
-    /// Reads from a place on into the whole of `buf`.
-    pub fn read(&mut self, at: u32, buf: &mut [u8]) -> Result<(), Failed>
-        ensures cause { HasCause self.old.failed self.new.failed result }
-        ensures stays { StaysLost self.old.lost self.new.lost result }
+    /// The board to read and write it, whose opening fails where the store may not be written.
+    pub fn to_write(rt: R, alloc: Global) -> FileDevice<R, STORE_SIZE>
+        ensures { result ≡ record { failed = 0; lost = false } }
     {
-        let answer = self.store.read(&self.rt, self.alloc, at, buf);
-        counted(&mut self.failures, answer)
+        FileDevice {
+            rt,
+            alloc,
+            store: FileStore::new(STORE_FILE, STORE_SIZE as u64, Access::Write),
+            failures: 0,
+        }
+    }
+}
+
+impl<R: HostSystem + Print + Drop> FileDevice<R, LOG_SIZE>
+where
+    R::File: HeldFile,
+{
+    /// The board of this runtime to read the hiring log, as the meter's to read its store.
+    pub fn to_read(rt: R, alloc: Global) -> FileDevice<R, LOG_SIZE>
+        ensures { result ≡ record { failed = 0; lost = false } }
+    {
+        FileDevice {
+            rt,
+            alloc,
+            store: FileStore::new(LOG_FILE, LOG_SIZE as u64, Access::Read),
+            failures: 0,
+        }
     }
 
-    /// Writes from a place on.
-    pub fn write_at(&mut self, at: u32, bytes: &[u8]) -> Result<(), Failed>
-        ensures cause { HasCause self.old.failed self.new.failed result }
-        ensures stays { StaysLost self.old.lost self.new.lost result }
+    /// The board to read and write it, whose opening fails where the log may not be written.
+    pub fn to_write(rt: R, alloc: Global) -> FileDevice<R, LOG_SIZE>
+        ensures { result ≡ record { failed = 0; lost = false } }
     {
-        let answer = self.store.write_at(&self.rt, self.alloc, at, bytes);
-        counted(&mut self.failures, answer)
+        FileDevice {
+            rt,
+            alloc,
+            store: FileStore::new(LOG_FILE, LOG_SIZE as u64, Access::Write),
+            failures: 0,
+        }
     }
+}
 
-    /// Waits until the medium has what was written.
-    pub fn sync(&mut self) -> Result<(), Failed>
-        ensures cause { HasCause self.old.failed self.new.failed result }
-        ensures stays { StaysLost self.old.lost self.new.lost result }
-        ensures lost { OnErr result (IsTrue self.new.lost) }
-    {
-        let answer = self.store.sync(&self.rt, self.alloc);
-        counted(&mut self.failures, answer)
-    }
-
-    /// Prints on the standard output.
-    pub fn print(&mut self, bytes: &[u8]) -> Result<(), Failed>
-        ensures cause { HasCause self.old.failed self.new.failed result }
-        ensures stays { StaysLost self.old.lost self.new.lost result }
-    {
-        let answer = self.attempt_print(bytes);
-        counted(&mut self.failures, answer)
-    }
-
+impl<R: HostSystem + Print + Drop, const N: usize> FileDevice<R, N>
+where
+    R::File: HeldFile,
+{
     /// Prints, where no output is the store.
     fn attempt_print(&mut self, bytes: &[u8]) -> io::Result<()>
         ensures stays { StaysLost self.old.lost self.new.lost result }
@@ -131,5 +147,73 @@ where
     {
         self.store.look(&self.rt)?;
         self.rt.write_all(bytes)
+    }
+}
+
+impl<R: HostSystem + Print + Drop, const N: usize, L: Ledger> Board<N, L> for FileDevice<R, N>
+where
+    R::File: HeldFile,
+{
+    ghost tells_image = { ⊥ };
+
+    ghost tells_text = { ⊥ };
+
+    ghost image = { λ _. [] };
+
+    ghost in_flight = { λ _ _. ⊥ };
+
+    ghost printed = { λ _. [] };
+
+    ghost moment = { λ _. 0 };
+
+    ghost left_since = { λ _ _ _ _. ⊥ };
+
+    ghost faults = { λ b. b.failed };
+
+    ghost store = { λ _ told. absurd told };
+
+    ghost counts_now = { λ _ _ _ _ told _ _ _. absurd told };
+
+    ghost only_now = { λ _ _ _ left. absurd left };
+
+    fn read(&mut self, at: u32, buf: &mut [u8], steps: &mut Steps<L>) -> Result<(), Failed>
+        ensures cause { HasCause self.old.failed self.new.failed result }
+        ensures stays { StaysLost self.old.lost self.new.lost result }
+        ensures step { steps.new ≡ steps.old + 1 }
+    {
+        steps.spend();
+        let answer = self.store.read(&self.rt, self.alloc, at, buf);
+        counted(&mut self.failures, answer)
+    }
+
+    fn write_at(&mut self, at: u32, bytes: &[u8], steps: &mut Steps<L>) -> Result<(), Failed>
+        ensures cause { HasCause self.old.failed self.new.failed result }
+        ensures stays { StaysLost self.old.lost self.new.lost result }
+        ensures step { steps.new ≡ steps.old + 1 }
+    {
+        steps.spend();
+        let answer = self.store.write_at(&self.rt, self.alloc, at, bytes);
+        counted(&mut self.failures, answer)
+    }
+
+    fn sync(&mut self, steps: &mut Steps<L>) -> Result<(), Failed>
+        ensures cause { HasCause self.old.failed self.new.failed result }
+        ensures stays { StaysLost self.old.lost self.new.lost result }
+        ensures lost { OnErr result (IsTrue self.new.lost) }
+        ensures step { steps.new ≡ steps.old + 1 }
+    {
+        steps.spend();
+        let answer = self.store.sync(&self.rt, self.alloc);
+        counted(&mut self.failures, answer)
+    }
+
+    fn print(&mut self, bytes: &[u8], steps: &mut Steps<L>) -> Result<(), Failed>
+        ensures cause { HasCause self.old.failed self.new.failed result }
+        ensures stays { StaysLost self.old.lost self.new.lost result }
+        ensures step { steps.new ≡ steps.old + 1 }
+    {
+        steps.spend();
+        let answer = self.attempt_print(bytes);
+        counted(&mut self.failures, answer)
     }
 }

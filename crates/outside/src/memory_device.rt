@@ -1,16 +1,20 @@
-//! The device in memory behind each board in memory: a store of some size, and a printer.
-ghost use Rattle.std.specs.Prelude.{◌≡◌, ◌^◌, ◌<◌, ◌≤◌, [], length, IfOk};
-ghost use Rattle.outside.specs.Calls.{IsInSome};
+//! The board in memory, of which chosen calls fail: a store of some size, and a printer.
+ghost use Rattle.std.specs.Prelude.{◌≡◌, ◌+◌, ◌^◌, ◌<◌, ◌≤◌, [], length, IfOk};
+ghost use Rattle.outside.specs.Calls.{IsInSome, opened};
 ghost use Rattle.outside.specs.Disk.{piece_size, IsImage, IsPiece, SameBut};
-ghost use Rattle.outside.specs.MemoryBoard.{Memory, IsNew, new_board, held_inside, image_of, left_since_of, text_of};
+ghost use Rattle.outside.specs.MemoryBoard.{Memory, IsNew, new_board, faults_of, held_inside, image_of, in_flight_of};
+ghost use Rattle.outside.specs.MemoryBoard.{left_since_of, moment_of, text_of};
 ghost use Rattle.outside.specs.MemoryCalls.{PrintsPiece, ReadsPiece, SyncsStore, WritesPiece};
+ghost use Rattle.outside.specs.MomentLaws.{counts_now, only_now};
 
+use crate::board::{Board, LOG_SIZE, STORE_SIZE};
 use crate::fault::Failed;
 use crate::memory_state::MemoryState;
 use crate::replay::Fill;
 use std::alloc::Global;
 use std::marker::Model;
-use taxi_units::NoMemory;
+use std::sync::ledger::Ledger;
+use taxi_units::{NoMemory, Steps};
 
 /// A store of `N` bytes in memory and a printer, which tell what they hold, and of whose calls chosen
 /// ones fail. A call that finds no memory fails and raises `refused` by one; it isn't kept, takes no
@@ -18,12 +22,18 @@ use taxi_units::NoMemory;
 /// chosen numbers fail. A write among these leaves the image as it was, and its range in flight; a print
 /// among them prints nothing. The count of faults is `refused` and the number of the calls that
 /// failed by their numbers, together, which stands still at the last value of a `u64`, as `refused` itself does.
-/// All of it is this project's own; a board in memory is such a device of the board's size.
+/// All of it is this project's own.
 #[derive(Drop)]
 pub struct MemoryDevice<const N: usize> {
     state: MemoryState<N>,
     ghost is_image: { IsImage N (image_of state) },
 }
+
+/// The meter's board in memory.
+pub type MemoryBoard = MemoryDevice<STORE_SIZE>;
+
+/// The hiring log's board in memory.
+pub type MemoryLog = MemoryDevice<LOG_SIZE>;
 
 impl<const N: usize> Model for MemoryDevice<N> {
     ghost Value = { Memory N };
@@ -115,36 +125,66 @@ impl<const N: usize> MemoryDevice<N> {
     {
         self.state.cut_into(call, fill, image, settled, left);
     }
+}
 
-    /// Reads a piece of 1 to 512 bytes into the whole of `buf`.
-    pub fn read(&mut self, at: u32, buf: &mut [u8]) -> Result<(), Failed>
+impl<const N: usize, L: Ledger> Board<N, L> for MemoryDevice<N> {
+    ghost tells_image = { Unit {0} };
+
+    ghost tells_text = { Unit {0} };
+
+    ghost image = { λ b. image_of b.state };
+
+    ghost in_flight = { λ b. in_flight_of b.state };
+
+    ghost printed = { λ b. text_of b.state };
+
+    ghost moment = { λ b. moment_of b.state };
+
+    ghost left_since = { λ b. left_since_of b.state };
+
+    ghost faults = { λ b. faults_of b.state };
+
+    ghost store = { λ b _. b.is_image };
+
+    ghost counts_now = { λ b start left_image left_text _ _ le now.
+        counts_now (opened b.state.start) b.state.calls start left_image left_text le now };
+
+    ghost only_now = { λ b left_image left_text left.
+        only_now (opened b.state.start) b.state.calls left_image left_text left };
+
+    fn read(&mut self, at: u32, buf: &mut [u8], steps: &mut Steps<L>) -> Result<(), Failed>
         requires { IsPiece N at (length buf.old) }
-        ensures { ReadsPiece self.old.state at buf.old buf.new self.new.state result }
+        ensures reads { ReadsPiece self.old.state at buf.old buf.new self.new.state result }
+        ensures step { steps.new ≡ steps.old + 1 }
     {
+        steps.spend();
         self.state.keep_read(at, buf)
     }
 
-    /// Writes a piece of 1 to 512 bytes, which is in flight until a sync succeeds.
-    pub fn write_at(&mut self, at: u32, bytes: &[u8]) -> Result<(), Failed>
+    fn write_at(&mut self, at: u32, bytes: &[u8], steps: &mut Steps<L>) -> Result<(), Failed>
         requires { IsPiece N at (length bytes.now) }
-        ensures { WritesPiece self.old.state at bytes.now self.new.state result }
+        ensures writes { WritesPiece self.old.state at bytes.now self.new.state result }
+        ensures step { steps.new ≡ steps.old + 1 }
     {
+        steps.spend();
         self.state.keep_write(at, bytes)
     }
 
-    /// Settles what was written.
-    pub fn sync(&mut self) -> Result<(), Failed>
-        ensures { SyncsStore self.old.state self.new.state result }
+    fn sync(&mut self, steps: &mut Steps<L>) -> Result<(), Failed>
+        ensures syncs { SyncsStore self.old.state self.new.state result }
+        ensures step { steps.new ≡ steps.old + 1 }
     {
+        steps.spend();
         self.state.keep_sync()
     }
 
-    /// Prints a piece of 1 to 512 bytes.
-    pub fn print(&mut self, bytes: &[u8]) -> Result<(), Failed>
+    fn print(&mut self, bytes: &[u8], steps: &mut Steps<L>) -> Result<(), Failed>
         requires some { 0 < length bytes.now }
         requires few { length bytes.now ≤ piece_size }
-        ensures { PrintsPiece self.old.state bytes.now self.new.state result }
+        ensures prints { PrintsPiece self.old.state bytes.now self.new.state result }
+        ensures step { steps.new ≡ steps.old + 1 }
     {
+        steps.spend();
         self.state.keep_print(bytes)
     }
 }

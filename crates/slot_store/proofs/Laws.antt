@@ -92,7 +92,7 @@ pub apart_same : (at start count : ℕ) (image : List ℕ) (flown : ℕ → Type
     → SameBut (OrWithin flown start count) image left → IsSamePair at image left
 apart_same at start count image flown left apart quiet same = record { size = same.size; bytes = λ byte within. same.rest byte (apart_quiet at start count flown apart quiet byte within) }
 
-module _ {D L : Type 0} (B : Ghosts D L) where
+module _ {D L : Type 0} {N : ℕ} (B : Ghosts D N L) where
   pub apart_still : (at start count : ℕ) (old new : D) → IsApart at start count → IsQuiet at (B.in_flight old) → WritesIn B start count old new → IsQuiet at (B.in_flight new)
   apart_still at start count old new apart quiet writes byte within flies = apart_quiet at start count (B.in_flight old) apart quiet byte within (writes.flight byte flies)
 

@@ -15,7 +15,7 @@ in_whole in_flight part count start size old new low high same = record {
   rest = λ place none. same.rest place (⊎_elim (λ flying. none (inl flying)) (λ within. none (inr (record { low = omega (arith, within.low); high = omega (arith, within.high) }))));
 }
 
-module _ {D L : Type 0} (B : Ghosts D L) (start count : ℕ) where
+module _ {D L : Type 0} {N : ℕ} (B : Ghosts D N L) (start count : ℕ) where
   -- a write of a part lies in it
   pub write_beside : (old new : D) → SameBut (IsWithin start count) (B.image old) (B.image new)
       → ((place : ℕ) → B.in_flight new place → OrWithin (B.in_flight old) start count place) → B.printed new ≡ B.printed old → WritesIn B start count old new
@@ -54,7 +54,7 @@ module _ {D L : Type 0} (B : Ghosts D L) (start count : ℕ) where
     before = λ start left text le was. ⊎_elim (λ before. inl before) (λ now. inr (left_beside old new writes left text now)) (time.nothing_else start left text le was);
   }
 
-module _ {D L : Type 0} (B : Ghosts D L) where
+module _ {D L : Type 0} {N : ℕ} (B : Ghosts D N L) where
   -- a stage that writes a part of a slot
   pub stage : (old new : D) (place part count start : ℕ) (kind : List ℕ → Type 0)
       → place ≡ part → start ≤ part → part + count ≤ start + 512

@@ -53,7 +53,7 @@ module _ {T : Type 0} (reads : List ℕ → Option T) (number_of : T → ℕ) (a
   shows_begun latest (b ∷ rest) body image (inl shows) = inl shows
   shows_begun latest (b ∷ rest) body image (inr later) = inr (shows_begun (Some b) rest body image later)
 
-  module _ {D L : Type 0} (B : Ghosts D L) where
+  module _ {D L : Type 0} {N : ℕ} (B : Ghosts D N L) where
     -- what was left from a moment on, at a board of which this is known
     in_time : (board : D) (start : ℕ) (latest : Option T) (stored begun : List T) → GetsEach reads number_of at B board start latest stored begun → start ≤ B.moment board
     in_time board start latest [] begun gets = gets.0

@@ -11,7 +11,7 @@ use Rattle.slot_store.specs.Syncs.{IsAsHeld, IsSynced, LeavesFromSync, ReadsOnly
 same_image : (image left : List ℕ) (in_flight : ℕ → Type 0) → ((place : ℕ) → ¬ in_flight place) → SameBut in_flight image left → left ≡ image
 same_image image left in_flight none same = ext_get_or 0 left image same.size (λ place lt. same.rest place (none place))
 
-module _ {D L : Type 0} (B : Ghosts D L) where
+module _ {D L : Type 0} {N : ℕ} (B : Ghosts D N L) where
   as_held : (old new : D) → IsSettled B old → LeavesOnly B old new (MayLeave (B.image old) (B.in_flight old) (B.printed old)) → LeavesOnly B old new (IsAsHeld B old)
   as_held old new settled run =
       leaves_wider B (MayLeave (B.image old) (B.in_flight old) (B.printed old)) (IsAsHeld B old) old new

@@ -27,7 +27,7 @@ module _ {T : Type 0} (reads : List ℕ → Option T) (number_of : T → ℕ) (a
   ShowsOne latest [] image = Shows reads number_of at image latest
   ShowsOne latest (body ∷ rest) image = Shows reads number_of at image latest ⊎ ShowsOne (Some body) rest image
 
-  module _ {D L : Type 0} (B : Ghosts D L) where
+  module _ {D L : Type 0} {N : ℕ} (B : Ghosts D N L) where
     -- a board leaves one of a list from a moment on if a cut then leaves a pair that shows the latest or one of the
     -- bodies
     abbrev pub LeavesFrom : D → ℕ → Option T → List T → Type 0

@@ -89,7 +89,7 @@ module _ {D L : Type 0} (B : Ghosts D L) where
     pub in_slot : WritesIn B (spare_at pair) slot_size old new
 
 -- what holds of a pair on a board, over the meanings of a type of bodies and of a type of boards
-module _ {T : Type 0} (meanings : BodyGhosts T) {D L : Type 0} (B : Ghosts D L) where
+module _ {T : Type 0} (meanings : BodyGhosts T) {D L : Type 0} {N : ℕ} (B : Ghosts D N L) where
   -- a pair is ready on a board if it is ready in the board's image, with what is in flight there
   abbrev pub IsReadyOn : Pair → D → Option T → Type 0
   IsReadyOn pair board latest =

@@ -4,7 +4,7 @@ use Rattle.outside.specs.declared.board.Board.{Ghosts}
 use Rattle.outside.specs.Disk.{MayLeave, SameBut}
 use Rattle.outside.specs.Runs.{IsSettled, LeavesOnly}
 
-module _ {D L : Type 0} (B : Ghosts D L) where
+module _ {D L : Type 0} {N : ℕ} (B : Ghosts D N L) where
   -- a run only reads if bytes changed at most where some were in flight, no more is in flight, nothing was printed,
   -- and a cut leaves what it might have left at the old board
   pub record ReadsOnly (old new : D) : Type 0 where

@@ -21,7 +21,7 @@ pub record LeavesBeside (image : List ℕ) (in_flight : ℕ → Type 0) (printed
   pub stands : kind left_image
   pub beside : MayLeave image (OrWithin in_flight start count) printed left_image left_text
 
-module _ {D L : Type 0} (B : Ghosts D L) where
+module _ {D L : Type 0} {N : ℕ} (B : Ghosts D N L) where
   -- writes lie in a part if outside it the image is as it was, but for what was in flight, no more is in flight, and
   -- nothing was printed
   pub record WritesIn (start count : ℕ) (old new : D) : Type 0 where

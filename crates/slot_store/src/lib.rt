@@ -15,6 +15,7 @@ mod storing;
 mod sync_laws;
 mod written;
 
+pub use durable::write_and_sync;
 pub use found::{Found, SlotFault};
 pub use pair::{Pair, Place};
 pub use pair_laws::{

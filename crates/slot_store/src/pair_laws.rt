@@ -57,7 +57,7 @@ pub fn a_pair_that_is_not_touched_stays<T: Body>()
 
 /// A pair that is settled, or blank with nothing in flight, stays so on a board on which it has the
 /// same bytes and no more of it is in flight. A cut of the power leaves what it stands for.
-pub fn a_settled_pair_stays<T: Body, B: Board<L>, L: Ledger>()
+pub fn a_settled_pair_stays<T: Body, B: Board<N, L>, L: Ledger, const N: usize>()
     ensures settled { (at : ℕ) (place : Place) (body : T) (old new : B) → IsSettledOn T.Body B.Board at place old body
         → IsSamePair at (B.image old) (B.image new) → FliesNoMore at (B.in_flight old) (B.in_flight new)
         → IsSettledOn T.Body B.Board at place new body }
@@ -71,7 +71,7 @@ pub fn a_settled_pair_stays<T: Body, B: Board<L>, L: Ledger>()
 
 /// A pair of which nothing is in flight, and that lies apart from what is written, has the same bytes
 /// then, and nothing of it is in flight; and so it has in what a cut leaves.
-pub fn a_pair_apart_is_the_same<B: Board<L>, L: Ledger>()
+pub fn a_pair_apart_is_the_same<B: Board<N, L>, L: Ledger, const N: usize>()
     ensures image { (at start count : ℕ) (old : B) (left_image : List ℕ)
         → IsApart at start count → IsQuiet at (B.in_flight old)
         → SameBut (OrWithin (B.in_flight old) start count) (B.image old) left_image
@@ -81,7 +81,7 @@ pub fn a_pair_apart_is_the_same<B: Board<L>, L: Ledger>()
 {}
 
 /// What a stage or a store promises of the slot that is written next holds of the whole pair.
-pub fn a_store_of_the_whole_pair<T: Body, B: Board<L>, L: Ledger>()
+pub fn a_store_of_the_whole_pair<T: Body, B: Board<N, L>, L: Ledger, const N: usize>()
     ensures leaves { (pair : Pair) (latest : Option T) (body : T) (old new : B) → IsPair pair
         → LeavesThroughout B.Board (spare_at pair) slot_size
         (ShowsEither T.reads T.number_of pair.at latest body) old new

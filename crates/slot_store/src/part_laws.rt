@@ -13,7 +13,13 @@ pub trait Images {
 
 /// What a run leaves of a part of the store, and writes there, is left of the whole in which the part
 /// lies, and written there; and it may be of a wider kind.
-pub fn a_part_of_the_store_lies_in_the_whole<B: Board<L>, K: Images, W: Images, L: Ledger>()
+pub fn a_part_of_the_store_lies_in_the_whole<
+    B: Board<N, L>,
+    K: Images,
+    W: Images,
+    L: Ledger,
+    const N: usize,
+>()
     ensures leaves { (start count part size : ℕ) (old new : B) → start ≤ part → part + size ≤ start + count
         → ((left_image : List ℕ) → SameBut (OrWithin (B.in_flight old) part size) (B.image old) left_image
         → K.images left_image → W.images left_image)
@@ -24,7 +30,7 @@ pub fn a_part_of_the_store_lies_in_the_whole<B: Board<L>, K: Images, W: Images, 
 {}
 
 /// What two runs leave of the same part, and write there, is left and written by both as one.
-pub fn a_run_goes_on_in_its_part<B: Board<L>, K: Images, L: Ledger>()
+pub fn a_run_goes_on_in_its_part<B: Board<N, L>, K: Images, L: Ledger, const N: usize>()
     ensures leaves { (start count : ℕ) (old between new : B) → WritesIn B.Board start count old between
         → LeavesThroughout B.Board start count K.images old between
         → LeavesThroughout B.Board start count K.images between new

@@ -9,7 +9,7 @@ ghost use Rattle.slot_store.specs.Stages.{LeavesLatest, Shuts, WritesOfSpare};
 use crate::durable::write_and_sync;
 use crate::pair::CLOSED;
 use crate::{Pair, Place, Shut};
-use outside::{Board, Failed};
+use outside::{Board, Failed, STORE_SIZE};
 use slot_bodies::Body;
 use std::marker::Model;
 use std::sync::ledger::Ledger;
@@ -33,7 +33,7 @@ impl Model for Ready {
 impl Ready {
     /// The pair that begins at `at`, at most 1,024, with its latest body at a place, whose slot is 0
     /// or 1. The other slot is written next.
-    pub fn new(at: u16, place: Place) -> Ready
+    pub fn new(at: u32, place: Place) -> Ready
         requires at { at ≤ last_pair }
         requires slot { place.slot ≤ 1 }
         ensures { result ≡ record { at = at; latest = Some place } }
@@ -47,7 +47,7 @@ impl Ready {
     }
 
     /// The pair that begins at `at`, at most 1,024, of which no gate is open. Slot 0 is written next.
-    pub fn blank(at: u16) -> Ready
+    pub fn blank(at: u32) -> Ready
         requires { at ≤ last_pair }
         ensures { result ≡ record { at = at; latest = None } }
     {
@@ -57,7 +57,7 @@ impl Ready {
     }
 
     /// Where the pair begins.
-    pub fn at(&self) -> u16
+    pub fn at(&self) -> u32
         ensures is { result ≡ self.now.at }
         ensures in_store { result ≤ last_pair }
     {
@@ -68,7 +68,7 @@ impl Ready {
     /// else makes no call. At each moment a cut leaves an image that stands for the latest body, or
     /// is blank as before, and so does the board's own image, also where the stage failed. `Failed`
     /// comes only where the board's count of faults rose.
-    pub fn shut<T: Body, B: Board<L>, L: Ledger>(
+    pub fn shut<T: Body, B: Board<STORE_SIZE, L>, L: Ledger>(
         self,
         board: &mut B,
         steps: &mut Steps<L>,

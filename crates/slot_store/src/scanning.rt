@@ -9,7 +9,7 @@ ghost use Rattle.slot_store.specs.Verdicts.{held, verdict_on, AreOfSlots};
 use crate::found::Held;
 use crate::pair::{OPEN, SLOT_SIZE};
 use crate::{Found, Place, SlotFault};
-use outside::{Board, Failed};
+use outside::{Board, Failed, STORE_SIZE};
 use slot_bodies::{BODY_SIZE, Body};
 use std::sync::ledger::Ledger;
 use taxi_units::Steps;
@@ -23,9 +23,9 @@ use taxi_units::Steps;
 /// `DeviceFailed` the board's count of faults rose by one, and else it is as it was. After each other
 /// answer nothing is in flight, the image is as it was, and the three calls were made; after `Latest` the
 /// pair is settled at the place. From the sync on a cut leaves the image as it was, and nothing else.
-pub fn scan<T: Body, B: Board<L>, L: Ledger>(
+pub fn scan<T: Body, B: Board<STORE_SIZE, L>, L: Ledger>(
     board: &mut B,
-    at: u16,
+    at: u32,
     steps: &mut Steps<L>,
 ) -> Result<Found<T>, SlotFault>
     requires { at ≤ last_pair }
@@ -45,9 +45,9 @@ pub fn scan<T: Body, B: Board<L>, L: Ledger>(
 }
 
 /// Syncs, and reads the bytes of both slots.
-fn read_pair<B: Board<L>, L: Ledger>(
+fn read_pair<B: Board<STORE_SIZE, L>, L: Ledger>(
     board: &mut B,
-    at: u16,
+    at: u32,
     steps: &mut Steps<L>,
 ) -> Result<([u8; SLOT_SIZE], [u8; SLOT_SIZE]), Failed>
     requires { at ≤ last_pair }
@@ -63,9 +63,9 @@ fn read_pair<B: Board<L>, L: Ledger>(
 }
 
 /// Reads the bytes of both slots.
-fn read_slots<B: Board<L>, L: Ledger>(
+fn read_slots<B: Board<STORE_SIZE, L>, L: Ledger>(
     board: &mut B,
-    at: u16,
+    at: u32,
     steps: &mut Steps<L>,
 ) -> Result<([u8; SLOT_SIZE], [u8; SLOT_SIZE]), Failed>
     requires { at ≤ last_pair }
@@ -79,7 +79,7 @@ fn read_slots<B: Board<L>, L: Ledger>(
     let mut first = [0; SLOT_SIZE];
     board.read(at, &mut first, steps)?;
     let mut second = [0; SLOT_SIZE];
-    board.read(at + SLOT_SIZE as u16, &mut second, steps)?;
+    board.read(at + SLOT_SIZE as u32, &mut second, steps)?;
     Ok((first, second))
 }
 

@@ -9,7 +9,7 @@ ghost use Rattle.slot_store.specs.Stages.{LeavesLatest, MayWrite, WritesBody, Wr
 
 use crate::durable::write_and_sync;
 use crate::{Pair, Written};
-use outside::{Board, Failed};
+use outside::{Board, Failed, STORE_SIZE};
 use slot_bodies::{BODY_SIZE, Body};
 use std::marker::Model;
 use std::sync::ledger::Ledger;
@@ -42,7 +42,7 @@ impl Shut {
     /// latest body's. At each moment a cut leaves an image that stands for the latest body, or is
     /// blank as before, and so does the board's own image, also where the stage failed. `Failed`
     /// comes only where the board's count of faults rose.
-    pub fn write<T: Body, B: Board<L>, L: Ledger>(
+    pub fn write<T: Body, B: Board<STORE_SIZE, L>, L: Ledger>(
         self,
         board: &mut B,
         body: &T,

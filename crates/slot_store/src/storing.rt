@@ -8,7 +8,7 @@ ghost use Rattle.slot_store.specs.Writes.{WritesIn};
 ghost use Rattle.slot_store.specs.Order.{MayGetEach, StoresEach};
 
 use crate::{Place, Ready};
-use outside::{Board, Failed};
+use outside::{Board, Failed, STORE_SIZE};
 use slot_bodies::Body;
 use std::sync::ledger::Ledger;
 use taxi_units::Steps;
@@ -19,7 +19,7 @@ impl Ready {
     /// before, or stands for the new body, and so does the board's own image, also where a stage
     /// failed. `Failed` comes only where the board's count of faults rose. Over a closed slot at most 4
     /// calls of the board are made.
-    pub fn store<T: Body, B: Board<L>, L: Ledger>(
+    pub fn store<T: Body, B: Board<STORE_SIZE, L>, L: Ledger>(
         self,
         board: &mut B,
         body: &T,
@@ -48,7 +48,7 @@ impl Ready {
     /// stands for the latest body, or is blank as before, or stands for one of the list, and so does
     /// the board's own image: each in its turn, none left out, also where a stage failed. `Failed`
     /// comes only where the board's count of faults rose.
-    pub fn store_all<T: Body, B: Board<L>, L: Ledger>(
+    pub fn store_all<T: Body, B: Board<STORE_SIZE, L>, L: Ledger>(
         self,
         board: &mut B,
         bodies: &[T],

@@ -14,7 +14,7 @@ pub trait Failing {
 
 /// What goes on behind the opening sync of a call, and neither writes nor prints, leaves what the board
 /// held before the call.
-pub fn a_synced_board_is_left_as_held<B: Board<L>, L: Ledger>()
+pub fn a_synced_board_is_left_as_held<B: Board<N, L>, L: Ledger, const N: usize>()
     ensures { (old synced new : B) → IsSynced B.Board old synced
         → LeavesOnly B.Board synced new (MayLeave (B.image synced) (B.in_flight synced) (B.printed synced))
         → LeavesOnly B.Board synced new (IsAsHeld B.Board old) }
@@ -22,7 +22,13 @@ pub fn a_synced_board_is_left_as_held<B: Board<L>, L: Ledger>()
 
 /// Where nothing was in flight before a call, a cut at each of its moments leaves only what it may
 /// leave from the opening sync on, if what the board held before is of that kind.
-pub fn a_settled_board_is_synced_already<B: Board<L>, K: Kind, F: Failing, L: Ledger>()
+pub fn a_settled_board_is_synced_already<
+    B: Board<N, L>,
+    K: Kind,
+    F: Failing,
+    L: Ledger,
+    const N: usize,
+>()
     ensures { (old new : B) → IsSettled B.Board old → K.kind (B.image old) (B.printed old)
         → LeavesFromSync B.Board F.fails old new K.kind → LeavesOnly B.Board old new K.kind }
 {}
@@ -30,12 +36,13 @@ pub fn a_settled_board_is_synced_already<B: Board<L>, K: Kind, F: Failing, L: Le
 /// What a call leaves from its opening sync on is of each wider kind too, and more may be known of how it
 /// fails; and what goes on behind that sync leaves what either leaves.
 pub fn a_call_goes_on_behind_its_sync<
-    B: Board<L>,
+    B: Board<N, L>,
     K: Kind,
     W: Kind,
     F: Failing,
     G: Failing,
     L: Ledger,
+    const N: usize,
 >()
     ensures wider { (old new : B) → (F.fails → G.fails)
         → ((left_image left_text : List ℕ) → K.kind left_image left_text → W.kind left_image left_text)

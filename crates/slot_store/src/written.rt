@@ -8,7 +8,7 @@ ghost use Rattle.slot_store.specs.Stages.{LeavesLatestOrNew, OpensAt, WritesOfSp
 use crate::durable::write_and_sync;
 use crate::pair::OPEN;
 use crate::{Pair, Place};
-use outside::{Board, Failed};
+use outside::{Board, Failed, STORE_SIZE};
 use slot_bodies::Body;
 use std::marker::Model;
 use std::sync::ledger::Ledger;
@@ -41,7 +41,7 @@ impl Written {
     /// At each moment a cut leaves an image that stands for the latest body, or is blank as before, or
     /// stands for the new body, and so does the board's own image, also where the stage failed.
     /// `Failed` comes only where the board's count of faults rose.
-    pub fn finish<T: Body, B: Board<L>, L: Ledger>(
+    pub fn finish<T: Body, B: Board<STORE_SIZE, L>, L: Ledger>(
         self,
         board: &mut B,
         steps: &mut Steps<L>,

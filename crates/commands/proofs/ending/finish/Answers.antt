@@ -6,7 +6,7 @@ use Rattle.outside.proofs.Laws.{leaves_print}
 use Rattle.commands.proofs.ending.finish.Goals as goal
 
 -- a cut leaves a beginning of a line where it leaves one of the text that is the line
-leaves_line : {D L : Type 0} (B : Ghosts D L) (old new : D) (text line : List ℕ) → text ≡ line
+leaves_line : {D L : Type 0} {N : ℕ} (B : Ghosts D N L) (old new : D) (text line : List ℕ) → text ≡ line
     → LeavesOnly B old new (MayLeaveAmid (B.image old) (B.in_flight old) (B.printed old) text)
     → LeavesOnly B old new (MayLeaveAmid (B.image old) (B.in_flight old) (B.printed old) line)
 leaves_line B old new text line is = subst (λ (t : List ℕ). LeavesOnly B old new (MayLeaveAmid (B.image old) (B.in_flight old) (B.printed old) t)) is

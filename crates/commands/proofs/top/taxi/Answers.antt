@@ -1,4 +1,4 @@
-use Rattle.std.proofs.Common.{◌≡◌, ◌≢◌, ◌∙◌, map, string_bytes, refl, sym, subst, Some}
+use Rattle.std.proofs.Common.{◌≡◌, ◌≢◌, ℕ, ◌∙◌, map, string_bytes, refl, sym, subst, Some}
 use Rattle.std.specs.Prelude.{Option}
 use Rattle.outside.specs.Runs.{IsSettled, KeepsStore}
 use Rattle.outside.proofs.Laws.{keeps_then}
@@ -28,7 +28,7 @@ is_seal row e = cc
 is_run : (row : Row) → Some row ≡ Some rows.Run → row ≡ rows.Run
 is_run row e = cc
 
-comes_as : {E D L : Type 0} (F : FileGhosts E) (B : Ghosts D L) (row row' : Row) (files files' : E) (old new : D) (end : Ended) → row ≡ row'
+comes_as : {E D L : Type 0} {N : ℕ} (F : FileGhosts E) (B : Ghosts D N L) (row row' : Row) (files files' : E) (old new : D) (end : Ended) → row ≡ row'
     → ComesAs F B row files files' old new end → ComesAs F B row' files files' old new end
 comes_as F B row row' files files' old new end e h = subst (λ (r : Row). ComesAs F B r files files' old new end) e h
 

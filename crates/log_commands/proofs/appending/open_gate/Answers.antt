@@ -1,6 +1,5 @@
 use Rattle.std.proofs.Common.{sym}
 use Rattle.outside.proofs.Laws.{leaves_wider}
-use Rattle.log_commands.specs.Boards.{board_of}
 use Rattle.std.proofs.lemmas.Result.{on_ok_weaker}
 use Rattle.log_commands.proofs.Results.{both}
 use Rattle.log_commands.proofs.Staged.{open_leaves, open_ready, same_place}
@@ -8,7 +7,7 @@ use Rattle.log_commands.proofs.appending.open_gate.Goals as goal
 
 pub returns-clause-any_moment : goal.returns-clause-any_moment
 returns-clause-any_moment g c told records it written rise =
-    leaves_wider (board_of g.G.LogBoard) _ _ _ _ (λ image text left.
+    leaves_wider g.G.Board _ _ _ _ (λ image text left.
     open_leaves _ image _ c.args.last records it written rise (same_place _ _ image _ _ 1 c.next_at.ensures.is left.bytes)) c.write_and_sync.ensures.any_moment
 
 pub returns-clause-ready : goal.returns-clause-ready

@@ -1,7 +1,6 @@
 use Rattle.std.proofs.Common.{◌≡◌, ℕ, ◌+◌, ◌∙◌, ap, length, rules}
 use Rattle.outside.proofs.Laws.{leaves_wider}
 use Rattle.log_commands.specs.Record.{Record}
-use Rattle.log_commands.specs.Boards.{board_of}
 use Rattle.log_commands.specs.Slots.{slot_at, slot_of, spelling}
 use Rattle.std.proofs.lemmas.Result.{on_ok_weaker}
 use Rattle.log_commands.proofs.Results.{both}
@@ -20,7 +19,7 @@ at_is g c = ap (λ (at : ℕ). at + 1) c.next_at.ensures.is
 pub returns-clause-any_moment : goal.returns-clause-any_moment
 returns-clause-any_moment g c told records shut =
     let long : length c.as_slice-2.result.now ≡ 511 = search rules in
-    leaves_wider (board_of g.G.LogBoard) _ _ _ _ (λ image text left.
+    leaves_wider g.G.Board _ _ _ _ (λ image text left.
     (c.args.last, write_leaves _ image _ c.args.last records shut (same_piece _ _ image _ _ _ 511 (at_is g c) long left.bytes))) c.write_and_sync.ensures.any_moment
 
 pub returns-clause-written : goal.returns-clause-written

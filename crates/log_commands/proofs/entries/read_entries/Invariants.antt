@@ -1,6 +1,5 @@
 use Rattle.std.proofs.Common.{◌≡◌, ℕ, ◌+◌, ◌<◌, ◌≤◌, get_or, length, None}
 use Rattle.slot_store.specs.Syncs.{ReadsOnly}
-use Rattle.log_commands.specs.Boards.{board_of}
 use Rattle.log_commands.specs.LogScan.{IsEntry}
 use Rattle.log_commands.proofs.entries.read_entries.Given as goal
 
@@ -8,9 +7,9 @@ use Rattle.log_commands.proofs.entries.read_entries.Given as goal
 abbrev pub invariant-loop-slot : goal.invariant-loop-slot
 invariant-loop-slot g l = record {
   size : length l.entries ≡ 256;
-  entries : g.G.LogBoard.tells_image → (slot : ℕ) → slot < l.slot → IsEntry (g.G.LogBoard.image l.fn.log) slot (get_or l.entries slot None);
-  image : g.G.LogBoard.image l.log ≡ g.G.LogBoard.image l.fn.log;
-  reads : ReadsOnly (board_of g.G.LogBoard) l.fn.log l.log;
-  faults : g.G.LogBoard.faults l.log ≡ g.G.LogBoard.faults l.fn.log;
+  entries : g.G.Board.tells_image → (slot : ℕ) → slot < l.slot → IsEntry (g.G.Board.image l.fn.log) slot (get_or l.entries slot None);
+  image : g.G.Board.image l.log ≡ g.G.Board.image l.fn.log;
+  reads : ReadsOnly g.G.Board l.fn.log l.log;
+  faults : g.G.Board.faults l.log ≡ g.G.Board.faults l.fn.log;
   steps : l.steps ≤ l.fn.steps + l.slot;
 }

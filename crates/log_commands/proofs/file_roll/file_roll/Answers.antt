@@ -1,5 +1,4 @@
 use Rattle.std.proofs.Common.{[], Ok, refl, ap, ◌∙◌, arith}
-use Rattle.log_commands.specs.Boards.{board_of}
 use Rattle.log_commands.specs.declared.roll.RollEnd.TheVariants.{ReadFault}
 use Rattle.log_commands.proofs.Causes.{cause_ok, err_later, may_none, may_rise_for, rises_none}
 use Rattle.log_commands.proofs.RollFilings.{counts_over, err_says, failed_err, fault_over, filing_by, filing_fails}
@@ -12,7 +11,7 @@ loop-end-init g c = record {
   filing = record {
     receipts = [];
     filed = [];
-    to = files_none (board_of g.G.LogBoard) g.G.LogBoard.tells_image c.args.log.now c.args.tail.now (λ told image text left. (g.met.G.LogBoard.only_now c.args.log.now image text left).bytes);
+    to = files_none g.G.Board g.G.Board.tells_image c.args.log.now c.args.tail.now (λ told image text left. (g.met.G.Board.only_now c.args.log.now image text left).bytes);
     read = λ told. c.new-roll.ensures.start (g.F.Files.rest c.args.files.now c.args.word);
     seen_is = refl;
     few = omega arith;
@@ -30,26 +29,26 @@ loop-end-init g c = record {
 
 pub returns-in-Err-clause-ok : goal.returns-in-Err-clause-ok
 returns-in-Err-clause-ok g c =
-    filing_over (board_of g.G.LogBoard) g.G.LogBoard.tells_image g.F.Files.tells c.in-Err.end c.file_end.result c.args.log.now c.loop-end.log c.args.tail.now c.loop-end.tail
+    filing_over g.G.Board g.G.Board.tells_image g.F.Files.tells c.in-Err.end c.file_end.result c.args.log.now c.loop-end.log c.args.tail.now c.loop-end.tail
     (g.F.Files.rest c.args.files.now c.args.word) c.loop-end.roll c.next.new.self (g.F.Files.rest c.loop-end.files c.args.word) (g.F.Files.rest c.next.new.files c.args.word) c.loop-end.seen c.args.steps.now c.loop-end.steps
     c.loop-end.invariant.filing c.requires.none c.in-Err.ensures.over c.in-Err.ensures.end (c.file_end.ensures.whole, c.file_end.ensures.too_long, c.file_end.ensures.fault)
 
 pub returns-in_err-file_one-in-Ok-clause-failed : goal.returns-in_err-file_one-in-Ok-clause-failed
 returns-in_err-file_one-in-Ok-clause-failed g c =
     let failed = c.in_err-file_one-in-Ok.ensures.failed in
-    err_says c.from_residual.result (filing_fails (board_of g.G.LogBoard) g.G.LogBoard.tells_image g.F.Files.tells c.args.log.now c.loop-end.log c.file_one.new.log c.args.tail.now c.loop-end.tail
+    err_says c.from_residual.result (filing_fails g.G.Board g.G.Board.tells_image g.F.Files.tells c.args.log.now c.loop-end.log c.file_one.new.log c.args.tail.now c.loop-end.tail
     (g.F.Files.rest c.args.files.now c.args.word) c.loop-end.roll c.next.new.self (g.F.Files.rest c.loop-end.files c.args.word) (g.F.Files.rest c.next.new.files c.args.word) c.loop-end.seen c.args.steps.now c.loop-end.steps c.file_one.new.steps
     c.in-Ok.receipt c.loop-end.invariant.filing c.in-Ok.ensures.found failed.0 failed.1 c.file_one.ensures.steps)
 
 pub returns-in_err-file_one-in-Ok-clause-cause : goal.returns-in_err-file_one-in-Ok-clause-cause
 returns-in_err-file_one-in-Ok-clause-cause g c =
-    err_later _ _ (g.G.LogBoard.faults c.loop-end.log) _ c.loop-end.invariant.faults
+    err_later _ _ (g.G.Board.faults c.loop-end.log) _ c.loop-end.invariant.faults
     c.in_err-file_one-in-Ok.ensures.cause c.from_residual.result c.from_residual.ensures.1
 
 pub returns-in-OtherTaxi-clause-ok : goal.returns-in-OtherTaxi-clause-ok
 returns-in-OtherTaxi-clause-ok g c =
     let other = c.in_ok-file_one-in-Ok.ensures.other (ap Ok c.in-OtherTaxi.is) in
-    filing_other_now (board_of g.G.LogBoard) g.G.LogBoard.tells_image g.F.Files.tells c.args.log.now c.loop-end.log c.file_one.new.log c.args.tail.now c.loop-end.tail c.file_one.new.tail
+    filing_other_now g.G.Board g.G.Board.tells_image g.F.Files.tells c.args.log.now c.loop-end.log c.file_one.new.log c.args.tail.now c.loop-end.tail c.file_one.new.tail
     (g.F.Files.rest c.args.files.now c.args.word) c.loop-end.roll c.next.new.self (g.F.Files.rest c.loop-end.files c.args.word) (g.F.Files.rest c.next.new.files c.args.word) c.loop-end.seen c.args.steps.now c.loop-end.steps c.file_one.new.steps
     c.in-Ok.receipt c.loop-end.invariant.filing c.in-Ok.ensures.found other.0 other.1 other.2 other.3
 
@@ -64,7 +63,7 @@ returns-in-Err-clause-cause g c = cause_ok _ _ _ c.loop-end.invariant.faults
 
 pub returns-in-Err-clause-read_fault : goal.returns-in-Err-clause-read_fault
 returns-in-Err-clause-read_fault g c = λ is.
-    fault_over (board_of g.G.LogBoard) g.G.LogBoard.tells_image g.F.Files.tells c.in-Err.end c.next.new.self
+    fault_over g.G.Board g.G.Board.tells_image g.F.Files.tells c.in-Err.end c.next.new.self
     c.file_end.result c.loop-end.tail.filed _ _ c.in-Err.ensures.end.0
     (c.file_end.ensures.whole, c.file_end.ensures.too_long, c.file_end.ensures.fault)
     (rises_since c.loop-end.roll c.next.new.self _ (g.F.Files.faults c.loop-end.files c.args.word) _
@@ -73,7 +72,7 @@ returns-in-Err-clause-read_fault g c = λ is.
 
 pub returns-in-Err-clause-counts : goal.returns-in-Err-clause-counts
 returns-in-Err-clause-counts g c = λ other.
-    counts_over (board_of g.G.LogBoard) g.G.LogBoard.tells_image g.F.Files.tells c.in-Err.end c.next.new.self
+    counts_over g.G.Board g.G.Board.tells_image g.F.Files.tells c.in-Err.end c.next.new.self
     c.file_end.result c.loop-end.tail.filed _ _ c.in-Err.ensures.end.0
     (c.file_end.ensures.whole, c.file_end.ensures.too_long, c.file_end.ensures.fault)
     (may_since c.loop-end.roll c.next.new.self _ (g.F.Files.faults c.loop-end.files other) _
@@ -99,10 +98,10 @@ returns-in-OtherTaxi-clause-counts g c = λ other.
 
 pub loop-end-preserved : goal.loop-end-preserved
 loop-end-preserved g c = record {
-  filing = filing_on (board_of g.G.LogBoard) g.G.LogBoard.tells_image g.F.Files.tells c.args.log.now c.loop-end.log c.file_one.new.log c.args.tail.now c.loop-end.tail c.file_one.new.tail
+  filing = filing_on g.G.Board g.G.Board.tells_image g.F.Files.tells c.args.log.now c.loop-end.log c.file_one.new.log c.args.tail.now c.loop-end.tail c.file_one.new.tail
       (g.F.Files.rest c.args.files.now c.args.word) c.loop-end.roll c.next.new.self (g.F.Files.rest c.loop-end.files c.args.word) (g.F.Files.rest c.next.new.files c.args.word) c.loop-end.seen c.args.steps.now c.loop-end.steps c.file_one.new.steps
       c.in-Ok.receipt c.loop-end.invariant.filing c.in-Ok.ensures.found
-      (filing_by (board_of g.G.LogBoard) g.G.LogBoard.tells_image g.F.Files.tells c.in_ok-file_one-in-Ok.field-0 c.loop-end.log c.file_one.new.log c.loop-end.tail c.file_one.new.tail c.in-Ok.receipt c.loop-end.steps c.file_one.new.steps
+      (filing_by g.G.Board g.G.Board.tells_image g.F.Files.tells c.in_ok-file_one-in-Ok.field-0 c.loop-end.log c.file_one.new.log c.loop-end.tail c.file_one.new.tail c.in-Ok.receipt c.loop-end.steps c.file_one.new.steps
       c.in_default.not-OtherTaxi c.in_ok-file_one-in-Ok.ensures.passed c.in_ok-file_one-in-Ok.ensures.appended c.file_one.ensures.steps);
   last = c.in_ok-file_one-in-Ok.ensures.last;
   filed = omega (arith, c.in_ok-file_one-in-Ok.ensures.filed, c.loop-end.invariant.filed);

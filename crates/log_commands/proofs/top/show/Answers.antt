@@ -2,7 +2,6 @@ use Rattle.std.proofs.Common.{◌∙◌, Some, Err, refl, sym, ap, subst}
 use Rattle.std.specs.Prelude.{is_err}
 use Rattle.outside.specs.Faults.{Rose}
 use Rattle.slot_store.specs.Syncs.{IsAsHeld}
-use Rattle.log_commands.specs.Boards.{board_of}
 use Rattle.log_commands.specs.Comes.{Comes}
 use Rattle.log_commands.specs.Endings.{status_of, unread_end}
 use Rattle.log_commands.specs.declared.ending.Ended.{Ended}
@@ -21,7 +20,7 @@ use Rattle.log_commands.proofs.top.show.Goals as goal
 
 pub returns-in-Err-clause-comes : goal.returns-in-Err-clause-comes
 returns-in-Err-clause-comes g c = λ told files.
-    let B = board_of g.G.LogBoard in
+    let B = g.G.Board in
     let fault = c.in-Err.fault in
     subst (λ (end : Ended). Comes g.F.Files B (Some Show) files files c.args.log.now c.find_tail.new.log c.args.steps.now c.find_tail.new.steps end) (sym c.ended_unread.ensures)
     (comes_unread g.F.Files B (Some Show) files files c.args.log.now c.find_tail.new.log c.args.steps.now c.find_tail.new.steps fault (Show, refl)
@@ -41,7 +40,7 @@ returns-in-Err-clause-board_fault g c =
 
 pub returns-in-Err-clause-looks : goal.returns-in-Err-clause-looks
 returns-in-Err-clause-looks g c =
-    looks_read (board_of g.G.LogBoard) c.args.log.now c.find_tail.new.log (status_of c.ended_unread.result) c.find_tail.ensures.reads
+    looks_read g.G.Board c.args.log.now c.find_tail.new.log (status_of c.ended_unread.result) c.find_tail.ensures.reads
     (λ not. c.find_tail.ensures.same (λ e. not (ap status_of (c.ended_unread.ensures ∙ ap unread_end (same_fault _ c.in-Err.fault LogFault (sym c.in-Err.is ∙ e))))))
 
 -- ---- the records are printed
@@ -49,14 +48,14 @@ returns-in-Err-clause-looks g c =
 pub returns-in-Ok-show_records-clause-comes : goal.returns-in-Ok-show_records-clause-comes
 returns-in-Ok-show_records-clause-comes g c = λ told files.
     let found = c.in-Ok.ensures.found told in
-    let held = found_shown _ _ _ c.in-Ok.tail found.0 found.1 (found_same (board_of g.G.LogBoard) (IsAsHeld (board_of g.G.LogBoard) c.args.log.now) c.args.log.now c.find_tail.new.log c.find_tail.result c.in-Ok.tail c.in-Ok.is c.find_tail.ensures.same) found.2 _ c.count_of-count.ensures.count in
-    comes_shown g.F.Files (board_of g.G.LogBoard) files c.args.log.now c.find_tail.new.log c.show_records.new.log c.args.steps.now c.show_records.new.steps found.0 found.1 c.find_tail.ensures.reads.text
+    let held = found_shown _ _ _ c.in-Ok.tail found.0 found.1 (found_same g.G.Board (IsAsHeld g.G.Board c.args.log.now) c.args.log.now c.find_tail.new.log c.find_tail.result c.in-Ok.tail c.in-Ok.is c.find_tail.ensures.same) found.2 _ c.count_of-count.ensures.count in
+    comes_shown g.F.Files g.G.Board files c.args.log.now c.find_tail.new.log c.show_records.new.log c.args.steps.now c.show_records.new.steps found.0 found.1 c.find_tail.ensures.reads.text
     (λ text. c.in-Ok-show_records.ensures.shown told text found.0 held.0 held.1)
 
 pub returns-in-Ok-show_records-clause-looks : goal.returns-in-Ok-show_records-clause-looks
 returns-in-Ok-show_records-clause-looks g c =
-    let B = board_of g.G.LogBoard in
-    looks_keeps B c.args.log.now c.find_tail.new.log c.show_records.new.log 0 (g.met.G.LogBoard.only_now c.find_tail.new.log) c.find_tail.ensures.reads
+    let B = g.G.Board in
+    looks_keeps B c.args.log.now c.find_tail.new.log c.show_records.new.log 0 (g.met.G.Board.only_now c.find_tail.new.log) c.find_tail.ensures.reads
     (found_same B (IsAsHeld B c.args.log.now) c.args.log.now c.find_tail.new.log c.find_tail.result c.in-Ok.tail c.in-Ok.is c.find_tail.ensures.same) c.show_records.ensures.keeps
 
 pub returns-in-Ok-show_records-clause-board_fault : goal.returns-in-Ok-show_records-clause-board_fault
@@ -67,7 +66,7 @@ returns-in-Ok-show_records-clause-board_fault g c = record {
 }
 
 failed : (g : given.Over) (c : goal.In-Err-show_records g)
-    → Rose (g.G.LogBoard.faults c.args.log.now) (g.G.LogBoard.faults c.show_records.new.log)
+    → Rose (g.G.Board.faults c.args.log.now) (g.G.Board.faults c.show_records.new.log)
 failed g c =
     rose_later _ _ _ (rises_ok _ _ c.find_tail.result c.in-Ok.tail LogFault c.in-Ok.is c.find_tail.ensures.cause)
     (c.show_records.ensures.cause.failed (ap is_err c.in-Err-show_records.is))
@@ -75,8 +74,8 @@ failed g c =
 pub returns-in-Err-show_records-clause-comes : goal.returns-in-Err-show_records-clause-comes
 returns-in-Err-show_records-clause-comes g c = λ told files.
     let found = c.in-Ok.ensures.found told in
-    let held = found_shown _ _ _ c.in-Ok.tail found.0 found.1 (found_same (board_of g.G.LogBoard) (IsAsHeld (board_of g.G.LogBoard) c.args.log.now) c.args.log.now c.find_tail.new.log c.find_tail.result c.in-Ok.tail c.in-Ok.is c.find_tail.ensures.same) found.2 _ c.count_of-count.ensures.count in
-    comes_cut g.F.Files (board_of g.G.LogBoard) files c.args.log.now c.find_tail.new.log c.show_records.new.log c.args.steps.now c.show_records.new.steps found.0 found.1 c.find_tail.ensures.reads.text
+    let held = found_shown _ _ _ c.in-Ok.tail found.0 found.1 (found_same g.G.Board (IsAsHeld g.G.Board c.args.log.now) c.args.log.now c.find_tail.new.log c.find_tail.result c.in-Ok.tail c.in-Ok.is c.find_tail.ensures.same) found.2 _ c.count_of-count.ensures.count in
+    comes_cut g.F.Files g.G.Board files c.args.log.now c.find_tail.new.log c.show_records.new.log c.args.steps.now c.show_records.new.steps found.0 found.1 c.find_tail.ensures.reads.text
     (λ text. c.show_records.ensures.begun told text found.0 held.0 held.1)
     (failed g c)
 
@@ -85,8 +84,8 @@ returns-in-Err-show_records-clause-board_fault g c = record { kept = λ no. absu
 
 pub returns-in-Err-show_records-clause-looks : goal.returns-in-Err-show_records-clause-looks
 returns-in-Err-show_records-clause-looks g c =
-    let B = board_of g.G.LogBoard in
-    looks_keeps B c.args.log.now c.find_tail.new.log c.show_records.new.log 8 (g.met.G.LogBoard.only_now c.find_tail.new.log) c.find_tail.ensures.reads
+    let B = g.G.Board in
+    looks_keeps B c.args.log.now c.find_tail.new.log c.show_records.new.log 8 (g.met.G.Board.only_now c.find_tail.new.log) c.find_tail.ensures.reads
     (found_same B (IsAsHeld B c.args.log.now) c.args.log.now c.find_tail.new.log c.find_tail.result c.in-Ok.tail c.in-Ok.is c.find_tail.ensures.same) c.show_records.ensures.keeps
 
 -- ---- the status

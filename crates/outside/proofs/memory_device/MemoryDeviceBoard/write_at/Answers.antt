@@ -3,10 +3,10 @@ use Rattle.outside.specs.Calls.{Write}
 use Rattle.taxi_units.specs.Bytes.{AreBytes}
 use Rattle.outside.specs.MemoryBoard.{held_by}
 use Rattle.outside.proofs.Kept.{write_written, became_done, became, cause_is, write_image, write_is_image, write_flight, write_text, time_is, time_of_call}
-use Rattle.outside.proofs.memory_device.MemoryDevice.write_at.Goals as goal
+use Rattle.outside.proofs.memory_device.MemoryDeviceBoard.write_at.Goals as goal
 
-pub returns : goal.returns
-returns g c =
+pub returns-clause-writes : goal.returns-clause-writes
+returns-clause-writes g c =
     let old = c.self.inside.state in
     let new = c.keep_write.new.self in
     let came = became old new (Write c.args.at c.args.bytes.now) c.keep_write.result c.keep_write.ensures.kept c.keep_write.ensures.failed in

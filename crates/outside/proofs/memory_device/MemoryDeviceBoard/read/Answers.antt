@@ -3,10 +3,10 @@ use Rattle.outside.specs.Calls.{Read, Contents, IsInSome}
 use Rattle.outside.specs.Disk.{IsImage}
 use Rattle.outside.specs.MemoryBoard.{held_by}
 use Rattle.outside.proofs.Kept.{became, cause_is, read_same, time_is, time_of_call}
-use Rattle.outside.proofs.memory_device.MemoryDevice.read.Goals as goal
+use Rattle.outside.proofs.memory_device.MemoryDeviceBoard.read.Goals as goal
 
-pub returns : goal.returns
-returns g c =
+pub returns-clause-reads : goal.returns-clause-reads
+returns-clause-reads g c =
     let old = c.self.inside.state in
     let new = c.keep_read.new.self in
     let came = became old new Read c.keep_read.result c.keep_read.ensures.kept c.keep_read.ensures.failed in

@@ -3,10 +3,10 @@ use Rattle.outside.specs.Calls.{Sync, IsInSome}
 use Rattle.outside.specs.Disk.{IsImage}
 use Rattle.outside.specs.MemoryBoard.{held_by, image_of}
 use Rattle.outside.proofs.Kept.{on_ok, same_but, became_done, became, cause_is, sync_image, sync_flight, sync_text, sync_durable, time_is, time_of_call}
-use Rattle.outside.proofs.memory_device.MemoryDevice.sync.Goals as goal
+use Rattle.outside.proofs.memory_device.MemoryDeviceBoard.sync.Goals as goal
 
-pub returns : goal.returns
-returns g c =
+pub returns-clause-syncs : goal.returns-clause-syncs
+returns-clause-syncs g c =
     let old = c.self.inside.state in
     let new = c.keep_sync.new.self in
     let came = became old new Sync c.keep_sync.result c.keep_sync.ensures.kept c.keep_sync.ensures.failed in

@@ -3,10 +3,10 @@ use Rattle.outside.specs.Calls.{Print, IsInSome}
 use Rattle.outside.specs.Disk.{IsImage}
 use Rattle.outside.specs.MemoryBoard.{held_by}
 use Rattle.outside.proofs.Kept.{became_done, became, cause_is, print_image, print_ranges, print_text, print_whole, time_is, time_of_print}
-use Rattle.outside.proofs.memory_device.MemoryDevice.print.Goals as goal
+use Rattle.outside.proofs.memory_device.MemoryDeviceBoard.print.Goals as goal
 
-pub returns : goal.returns
-returns g c =
+pub returns-clause-prints : goal.returns-clause-prints
+returns-clause-prints g c =
     let old = c.self.inside.state in
     let new = c.keep_print.new.self in
     let came = became old new (Print c.args.bytes.now) c.keep_print.result c.keep_print.ensures.kept c.keep_print.ensures.failed in

@@ -1,0 +1,57 @@
+-- A board that tells nothing has nothing in flight, prints nothing and leaves nothing, by its meanings.
+use Rattle.std.proofs.Common.{ℕ, List, refl, arith}
+use Rattle.outside.specs.Disk.{Elapses}
+use Rattle.outside.proofs.Kept.{on_ok}
+use Rattle.outside.proofs.file_device.FileDeviceBoard.TheImpl.Goals as goal
+
+untold_time : (outcome : List ℕ → List ℕ → Type 0) → Elapses 0 0 (λ start i x. ⊥) (λ start i x. ⊥) outcome
+untold_time outcome = record {
+  later = omega arith;
+  nothing_else = λ start i x le left. absurd left;
+  keeps = λ start i x le past. past;
+}
+
+pub read-tells : goal.read-tells
+read-tells g c = record {
+  bytes = λ told. absurd told;
+  image = refl;
+  flight = λ place flies. flies;
+  text = refl;
+  time = untold_time _;
+  cause = c.ensures.cause;
+  step = c.ensures.step;
+}
+
+pub write_at-tells : goal.write_at-tells
+write_at-tells g c = record {
+  written = λ told. absurd told;
+  image = record { size = refl; rest = λ place outside. refl };
+  flight = λ place flies. absurd flies;
+  text = refl;
+  time = untold_time _;
+  cause = c.ensures.cause;
+  step = c.ensures.step;
+}
+
+pub sync-tells : goal.sync-tells
+sync-tells g c = record {
+  durable = λ told. absurd told;
+  same = on_ok c.result refl;
+  image = record { size = refl; rest = λ place outside. refl };
+  flight = λ place flies. flies;
+  text = refl;
+  time = untold_time _;
+  cause = c.ensures.cause;
+  step = c.ensures.step;
+}
+
+pub print-tells : goal.print-tells
+print-tells g c = record {
+  whole = λ told. absurd told;
+  begun = λ told. absurd told;
+  image = refl;
+  flight = λ place flies. flies;
+  time = untold_time _;
+  cause = c.ensures.cause;
+  step = c.ensures.step;
+}
