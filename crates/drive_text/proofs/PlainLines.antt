@@ -19,7 +19,7 @@ use Rattle.drive_text.specs.Part.{TakesPart}
 use Rattle.drive_text.specs.Plain.{BeginsWithLine, BeginsWithNumber}
 use Rattle.drive_text.specs.Reading.{Reading}
 use Rattle.drive_text.specs.Table.{Means}
-use Rattle.taxi_units.specs.Written.{IsNumberIn}
+use Rattle.taxi_units.specs.Digits.{IsNumberIn}
 use Rattle.drive_text.specs.Table.Means.{pulses, tick, intervals}
 use Rattle.drive_text.proofs.Feeding.{takes_line}
 use Rattle.drive_text.proofs.Numbers.{no_bytes}
@@ -93,14 +93,21 @@ begins_with_number bytes count number some within few digits value =
     record {
       digits = take count bytes;
       split = sym (take-append-drop count bytes) ∙ ap (λ (x : List ℕ). take count bytes ++ x) (sym whole);
-      numeral = (omega (arith, some, length-take count bytes), digits);
-      few = omega (arith, length-take count bytes);
-      value = value;
+      written = record {
+        numeral = (omega (arith, some, length-take count bytes), digits);
+        some = omega (arith, some, length-take count bytes);
+        few = omega (arith, length-take count bytes);
+        value = value;
+      };
     }
 
 -- a number of a range
 in_range : (low high : ℕ) (bytes : List ℕ) (number : ℕ) (rest : List ℕ) (h : BeginsWithNumber bytes number rest) → low ≤ number → number ≤ high → IsNumberIn low high h.digits number
-in_range low high bytes number rest h above below = record { numeral = h.numeral; few = omega (arith, h.few); value = h.value; above = above; below = below }
+in_range low high bytes number rest h above below = record {
+  written = record { numeral = h.written.numeral; some = h.written.some; few = omega (arith, h.written.few); value = h.written.value };
+  above = above;
+  below = below;
+}
 
 begins : (line : List ℕ) (run : Run) (bytes rest : List ℕ) → bytes ≡ line ++ 10 ∷ rest → IsPlain line → Means line (run ∷ []) → BeginsWithLine bytes run rest
 begins line run bytes rest split plain means = record { line = line; split = split; one = no_lf line plain; gives = plain_run line run plain means }
@@ -137,7 +144,7 @@ pulses_line bytes behind p h some end least most =
     let parts : bytes ≡ h.digits ++ 10 ∷ rest = h.split ∙ ap (λ (x : List ℕ). h.digits ++ x) last in
     let split : codes "P " ++ bytes ≡ (codes "P " ++ h.digits) ++ 10 ∷ rest =
     ap (λ (x : List ℕ). codes "P " ++ x) parts in
-    let digits : IsPlain h.digits = plain_digits h.digits h.numeral.1 in
+    let digits : IsPlain h.digits = plain_digits h.digits h.written.numeral.1 in
     let plain : IsPlain (codes "P " ++ h.digits) =
     more_plain 80 (32 ∷ h.digits) (omega arith) (more_plain 32 h.digits (omega arith) digits) in
     begins (codes "P " ++ h.digits) (One (Pulses p)) (codes "P " ++ bytes) rest split plain
@@ -159,9 +166,12 @@ number_one : IsNumberIn 1 36000 (49 ∷ []) 1
 number_one =
     let one : digit_value 49 ≡ 1 = digit_value_is 49 refl in
     record {
-      numeral = (omega arith, (omega (arith, one), tt));
-      few = omega arith;
-      value = omega (arith, one);
+      written = record {
+        numeral = (omega arith, (omega (arith, one), tt));
+        some = omega arith;
+        few = omega arith;
+        value = omega (arith, one);
+      };
       above = omega arith;
       below = omega arith;
     }
@@ -175,9 +185,9 @@ intervals_text bytes behind digits rest p n h blank few k =
     let parts : bytes ≡ fields ++ 10 ∷ rest =
     h.split ∙ (ap (λ (x : List ℕ). h.digits ++ x) blank
     ∙ sym (append_assoc h.digits (codes " " ++ digits) (10 ∷ rest))) in
-    let second : IsPlain (codes " " ++ digits) = more_plain 32 digits (omega arith) (plain_digits digits k.numeral.1) in
+    let second : IsPlain (codes " " ++ digits) = more_plain 32 digits (omega arith) (plain_digits digits k.written.numeral.1) in
     let numbers : IsPlain fields =
-    All-append (λ x. 32 ≤ x) h.digits (codes " " ++ digits) (plain_digits h.digits h.numeral.1) second in
+    All-append (λ x. 32 ≤ x) h.digits (codes " " ++ digits) (plain_digits h.digits h.written.numeral.1) second in
     begins (codes "I " ++ fields) (Many p n) (codes "I " ++ bytes) rest (ap (λ (x : List ℕ). codes "I " ++ x) parts)
     (more_plain 73 (32 ∷ fields) (omega arith) (more_plain 32 fields (omega arith) numbers))
     (intervals p n h.digits digits (in_range 0 65535 bytes p behind h (omega arith) few) k)

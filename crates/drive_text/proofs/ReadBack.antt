@@ -2,12 +2,14 @@
 use Rattle.std.proofs.Common.{◌≡◌, ℕ, ◌+◌, ◌^◌, ◌<◌, ◌≤◌, Bool, true, false, cond, List, [], ◌∷◌, ◌++◌, length, refl, ap, ◌∙◌, arith, eqb, Option, Some, None, codes, decimal}
 use Rattle.std.proofs.lemmas.Bool.{eqb-true}
 use Rattle.std.proofs.lemmas.Fmt.{decimal_is_IsNumeral_wide}
+use Rattle.taxi_units.specs.Digits.{IsNumberIn}
 use Rattle.taxi_units.specs.Time.{first_second, last_second}
 use Rattle.taxi_units.specs.declared.event.Event.{Event}
 use Rattle.taxi_units.specs.declared.event.Event.TheVariants.{Up, Down, Pulses, Tick, Clock}
 use Rattle.taxi_units.specs.declared.event.Event.TheVariants as events
 use Rattle.taxi_units.specs.declared.event.Key.{Key}
 use Rattle.taxi_units.specs.declared.event.Key.TheVariants.{Hire, Stop, Clear, Position, Zone, Extra}
+use Rattle.taxi_units.proofs.Laws.{numbers_are_written_as_figures}
 use Rattle.drive_text.specs.declared.run.Run.{Run}
 use Rattle.drive_text.specs.declared.run.Run.TheVariants.{One}
 use Rattle.drive_text.specs.Ranges.{IsInRange, IsKeyInRange}
@@ -20,14 +22,11 @@ use Rattle.drive_text.specs.Written.{key_text, event_fields, event_text}
 use Rattle.drive_text.proofs.Parts.{line_ends}
 use Rattle.drive_text.proofs.PlainLines.{IsPlain, plain_digits, more_plain, one_plain, no_lf, plain_run}
 use Rattle.drive_text.proofs.Positions.{first_bad_line-good, runs_of_lines-good, runs_of_lines-one}
-use Rattle.drive_text.proofs.Decimals.{decimal_short}
-use Rattle.taxi_units.specs.Written.{IsNumberIn}
 
 -- a number that is written is one
 written : (low high n : ℕ) → low ≤ n → n ≤ high → n < 10 ^ 12 → IsNumberIn low high (decimal n) n
 written low high n above below small =
-    let h = decimal_is_IsNumeral_wide n (omega arith) in
-    record { numeral = h.0; few = decimal_short n small; value = h.1; above = above; below = below }
+    numbers_are_written_as_figures 12 low high n (omega arith) (omega arith) small above below
 
 key_means : (key : Key) → IsKeyInRange key → Means (codes "K " ++ key_text key) (One (events.Key key) ∷ [])
 unfolding key_text

@@ -7,7 +7,10 @@ use Rattle.std.specs.Str.Lines.{strip_carriage_return}
 use Rattle.std.specs.Str.Parse.{AllDigits}
 use Rattle.std.proofs.lemmas.Bool.{eqb-true, le-ltb}
 use Rattle.std.proofs.lemmas.List.Splits.{slice_split_none, slice_split_at, join_with_byte-slice_split}
+use Rattle.taxi_units.specs.Digits.{IsNumberIn}
+use Rattle.taxi_units.specs.Number.{number_in}
 use Rattle.taxi_units.specs.Time.{first_second, last_second}
+use Rattle.taxi_units.specs.Words.{is_word}
 use Rattle.taxi_units.specs.declared.event.Event.{Event}
 use Rattle.taxi_units.specs.declared.event.Event.TheVariants.{Up, Down, Pulses, Tick, Clock}
 use Rattle.taxi_units.specs.declared.event.Event.TheVariants as events
@@ -15,12 +18,11 @@ use Rattle.taxi_units.specs.declared.event.Key.{Key}
 use Rattle.taxi_units.specs.declared.event.Key.TheVariants.{Hire, Stop, Clear, Position, Zone, Extra}
 use Rattle.drive_text.specs.declared.run.Run.{Run}
 use Rattle.drive_text.specs.declared.run.Run.TheVariants.{One, Many}
-use Rattle.drive_text.specs.Fields.{is_word, number_in, second_in, plain_key, numbered_key, one, intervals_of, run_of_one_field, run_of_two_fields, run_of_three_fields, run_of_fields, text_runs, line_runs}
+use Rattle.drive_text.specs.Fields.{second_in, plain_key, numbered_key, one, intervals_of, run_of_one_field, run_of_two_fields, run_of_three_fields, run_of_fields, text_runs, line_runs}
 use Rattle.drive_text.specs.Table.{Means}
 use Rattle.drive_text.specs.Table.Means.{empty, comment, up, down, clock, pulses, tick, intervals, hire, stop, clear, position, zone, extra}
 use Rattle.drive_text.proofs.Blanks.{none_tests}
 use Rattle.drive_text.proofs.Numbers.{number_sound, number_complete, digits_blankless}
-use Rattle.taxi_units.specs.Written.{IsNumberIn}
 
 -- ---- what the table has is what the line means
 
@@ -49,18 +51,18 @@ complete : (t : List ℕ) (rs : List Run) → Means t rs → text_runs t ≡ Som
 unfolding text_runs run_of_one_field run_of_two_fields run_of_three_fields plain_key numbered_key
 complete t rs empty = refl
 complete t rs (comment text) = refl
-complete t rs (up s digits h) = two_fields 85 digits refl refl h.numeral.1 h.few ∙ rw (number_complete first_second last_second digits s h) refl
+complete t rs (up s digits h) = two_fields 85 digits refl refl h.written.numeral.1 h.written.few ∙ rw (number_complete first_second last_second digits s h) refl
 complete t rs down = refl
-complete t rs (clock s digits h) = two_fields 67 digits refl refl h.numeral.1 h.few ∙ rw (number_complete first_second last_second digits s h) refl
-complete t rs (pulses p digits h) = two_fields 80 digits refl refl h.numeral.1 h.few ∙ rw (number_complete 1 65535 digits p h) refl
+complete t rs (clock s digits h) = two_fields 67 digits refl refl h.written.numeral.1 h.written.few ∙ rw (number_complete first_second last_second digits s h) refl
+complete t rs (pulses p digits h) = two_fields 80 digits refl refl h.written.numeral.1 h.written.few ∙ rw (number_complete 1 65535 digits p h) refl
 complete t rs tick = refl
-complete t rs (intervals p n first second h k) = interval_fields first second h.numeral.1 k.numeral.1 h.few k.few ∙ rw (number_complete 0 65535 first p h, number_complete 1 36000 second n k) refl
+complete t rs (intervals p n first second h k) = interval_fields first second h.written.numeral.1 k.written.numeral.1 h.written.few k.written.few ∙ rw (number_complete 0 65535 first p h, number_complete 1 36000 second n k) refl
 complete t rs hire = refl
 complete t rs stop = refl
 complete t rs clear = refl
-complete t rs (position n digits h) = key_fields 80 digits refl h.numeral.1 h.few ∙ rw (number_complete 0 99 digits n h) refl
-complete t rs (zone n digits h) = key_fields 90 digits refl h.numeral.1 h.few ∙ rw (number_complete 0 99 digits n h) refl
-complete t rs (extra n digits h) = key_fields 69 digits refl h.numeral.1 h.few ∙ rw (number_complete 0 99 digits n h) refl
+complete t rs (position n digits h) = key_fields 80 digits refl h.written.numeral.1 h.written.few ∙ rw (number_complete 0 99 digits n h) refl
+complete t rs (zone n digits h) = key_fields 90 digits refl h.written.numeral.1 h.written.few ∙ rw (number_complete 0 99 digits n h) refl
+complete t rs (extra n digits h) = key_fields 69 digits refl h.written.numeral.1 h.written.few ∙ rw (number_complete 0 99 digits n h) refl
 
 -- ---- what the line gives stands in the table
 
@@ -72,30 +74,30 @@ given : {A : Type 0} (event : A → Event) (found : Option A) (r : Run) → one 
 given event (Some x) r e = (x, refl, cc)
 given event None r e = absurd (cc)
 
-word_is : (word name : List ℕ) → is_word word name ≡ true → name ≡ word
+word_is : (word name : List ℕ) → is_word name word ≡ true → name ≡ word
 word_is word name e = same_text name word (sym e)
 
-one_sound : (d t : Bool) (name : List ℕ) (r : Run) → is_word (codes "D") name ≡ d → is_word (codes "T") name ≡ t → cond d (Some (One Down)) (cond t (Some (One Tick)) None) ≡ Some r → Means name (r ∷ [])
+one_sound : (d t : Bool) (name : List ℕ) (r : Run) → is_word name (codes "D") ≡ d → is_word name (codes "T") ≡ t → cond d (Some (One Down)) (cond t (Some (One Tick)) None) ≡ Some r → Means name (r ∷ [])
 one_sound true t name r p q e = means_at name (codes "D") r (One Down) (word_is (codes "D") name p) (cc) down
 one_sound false true name r p q e = means_at name (codes "T") r (One Tick) (word_is (codes "T") name q) (cc) tick
 one_sound false false name r p q e = absurd (cc)
 
 -- a name, a blank and a field
-named : (word name field t : List ℕ) → is_word word name ≡ true → t ≡ name ++ 32 ∷ field → t ≡ word ++ 32 ∷ field
+named : (word name field t : List ℕ) → is_word name word ≡ true → t ≡ name ++ 32 ∷ field → t ≡ word ++ 32 ∷ field
 named word name field t e parts = parts ∙ ap (λ (x : List ℕ). x ++ 32 ∷ field) (word_is word name e)
 
 -- the run of a key
 abbrev key_run : Key → Run
 key_run key = One (events.Key key)
 
-key_sound : (h s c : Bool) (field t : List ℕ) (key : Key) → is_word (codes "H") field ≡ h → is_word (codes "S") field ≡ s → is_word (codes "C") field ≡ c
+key_sound : (h s c : Bool) (field t : List ℕ) (key : Key) → is_word field (codes "H") ≡ h → is_word field (codes "S") ≡ s → is_word field (codes "C") ≡ c
     → t ≡ codes "K" ++ 32 ∷ field → cond h (Some Hire) (cond s (Some Stop) (cond c (Some Clear) None)) ≡ Some key → Means t (key_run key ∷ [])
 key_sound true s c field t key x y z parts e = means_at t (codes "K H") (key_run key) (key_run Hire) (parts ∙ ap (λ (f : List ℕ). codes "K" ++ 32 ∷ f) (word_is (codes "H") field x)) (cc) hire
 key_sound false true c field t key x y z parts e = means_at t (codes "K S") (key_run key) (key_run Stop) (parts ∙ ap (λ (f : List ℕ). codes "K" ++ 32 ∷ f) (word_is (codes "S") field y)) (cc) stop
 key_sound false false true field t key x y z parts e = means_at t (codes "K C") (key_run key) (key_run Clear) (parts ∙ ap (λ (f : List ℕ). codes "K" ++ 32 ∷ f) (word_is (codes "C") field z)) (cc) clear
 key_sound false false false field t key x y z parts e = absurd (cc)
 
-two_sound : (u c p k : Bool) (name field t : List ℕ) (r : Run) → is_word (codes "U") name ≡ u → is_word (codes "C") name ≡ c → is_word (codes "P") name ≡ p → is_word (codes "K") name ≡ k
+two_sound : (u c p k : Bool) (name field t : List ℕ) (r : Run) → is_word name (codes "U") ≡ u → is_word name (codes "C") ≡ c → is_word name (codes "P") ≡ p → is_word name (codes "K") ≡ k
     → t ≡ name ++ 32 ∷ field → cond u (one Up (second_in field)) (cond c (one Clock (second_in field)) (cond p (one Pulses (number_in 1 65535 field)) (cond k (one events.Key (plain_key field)) None))) ≡ Some r → Means t (r ∷ [])
 unfolding plain_key
 two_sound true c p k name field t r x y z w parts e =
@@ -109,14 +111,14 @@ two_sound false false true k name field t r x y z w parts e =
     means_at t (codes "P " ++ field) r (One (Pulses g.0)) (named (codes "P") name field t z parts) g.2 (pulses g.0 field (number_sound 1 65535 field g.0 g.1))
 two_sound false false false true name field t r x y z w parts e =
     let g = given events.Key (plain_key field) r e in
-    subst (λ (q : Run). Means t (q ∷ [])) (sym g.2) (key_sound (is_word (codes "H") field) (is_word (codes "S") field) (is_word (codes "C") field) field t g.0 refl refl refl (named (codes "K") name field t w parts) g.1)
+    subst (λ (q : Run). Means t (q ∷ [])) (sym g.2) (key_sound (is_word field (codes "H")) (is_word field (codes "S")) (is_word field (codes "C")) field t g.0 refl refl refl (named (codes "K") name field t w parts) g.1)
 two_sound false false false false name field t r x y z w parts e = absurd (cc)
 
 mapped : {A B : Type 0} (f : A → B) (found : Option A) (y : B) → option_map f found ≡ Some y → (x : A) × (found ≡ Some x) × (y ≡ f x)
 mapped f (Some x) y e = (x, refl, cc)
 mapped f None y e = absurd (cc)
 
-numbered_sound : (p z e : Bool) (name field t : List ℕ) (key : Key) → is_word (codes "P") name ≡ p → is_word (codes "Z") name ≡ z → is_word (codes "E") name ≡ e
+numbered_sound : (p z e : Bool) (name field t : List ℕ) (key : Key) → is_word name (codes "P") ≡ p → is_word name (codes "Z") ≡ z → is_word name (codes "E") ≡ e
     → t ≡ codes "K" ++ 32 ∷ (name ++ 32 ∷ field) → cond p (option_map Position (number_in 0 99 field)) (cond z (option_map Zone (number_in 0 99 field)) (cond e (option_map Extra (number_in 0 99 field)) None)) ≡ Some key → Means t (key_run key ∷ [])
 numbered_sound true z e name field t key x y w parts h =
     let g = mapped Position (number_in 0 99 field) key h in
@@ -140,7 +142,7 @@ intervals_by None count first second r a b e =
     let f : intervals_of first second ≡ None = rw a refl in
     absurd (cc)
 
-three_sound : (i k : Bool) (name first second t : List ℕ) (r : Run) → is_word (codes "I") name ≡ i → is_word (codes "K") name ≡ k
+three_sound : (i k : Bool) (name first second t : List ℕ) (r : Run) → is_word name (codes "I") ≡ i → is_word name (codes "K") ≡ k
     → t ≡ name ++ 32 ∷ (first ++ 32 ∷ second) → cond i (intervals_of first second) (cond k (one events.Key (numbered_key first second)) None) ≡ Some r → Means t (r ∷ [])
 unfolding numbered_key
 three_sound true k name first second t r x y parts e =
@@ -148,15 +150,15 @@ three_sound true k name first second t r x y parts e =
     means_at t (codes "I " ++ (first ++ (codes " " ++ second))) r (Many g.0 g.1) (named (codes "I") name (first ++ 32 ∷ second) t x parts) g.4 (intervals g.0 g.1 first second g.2 g.3)
 three_sound false true name first second t r x y parts e =
     let g = given events.Key (numbered_key first second) r e in
-    subst (λ (q : Run). Means t (q ∷ [])) (sym g.2) (numbered_sound (is_word (codes "P") first) (is_word (codes "Z") first) (is_word (codes "E") first) first second t g.0 refl refl refl (named (codes "K") name (first ++ 32 ∷ second) t y parts) g.1)
+    subst (λ (q : Run). Means t (q ∷ [])) (sym g.2) (numbered_sound (is_word first (codes "P")) (is_word first (codes "Z")) (is_word first (codes "E")) first second t g.0 refl refl refl (named (codes "K") name (first ++ 32 ∷ second) t y parts) g.1)
 three_sound false false name first second t r x y parts e = absurd (cc)
 
 fields_sound : (parts : List (List ℕ)) (t : List ℕ) (r : Run) → join_with_byte 32 parts ≡ t → run_of_fields parts ≡ Some r → Means t (r ∷ [])
 unfolding run_of_one_field run_of_two_fields run_of_three_fields
 fields_sound [] t r join e = absurd (cc)
-fields_sound (name ∷ []) t r join e = subst (λ (x : List ℕ). Means x (r ∷ [])) join (one_sound (is_word (codes "D") name) (is_word (codes "T") name) name r refl refl e)
-fields_sound (name ∷ field ∷ []) t r join e = two_sound (is_word (codes "U") name) (is_word (codes "C") name) (is_word (codes "P") name) (is_word (codes "K") name) name field t r refl refl refl refl (sym join) e
-fields_sound (name ∷ first ∷ second ∷ []) t r join e = three_sound (is_word (codes "I") name) (is_word (codes "K") name) name first second t r refl refl (sym join) e
+fields_sound (name ∷ []) t r join e = subst (λ (x : List ℕ). Means x (r ∷ [])) join (one_sound (is_word name (codes "D")) (is_word name (codes "T")) name r refl refl e)
+fields_sound (name ∷ field ∷ []) t r join e = two_sound (is_word name (codes "U")) (is_word name (codes "C")) (is_word name (codes "P")) (is_word name (codes "K")) name field t r refl refl refl refl (sym join) e
+fields_sound (name ∷ first ∷ second ∷ []) t r join e = three_sound (is_word name (codes "I")) (is_word name (codes "K")) name first second t r refl refl (sym join) e
 fields_sound (name ∷ first ∷ second ∷ third ∷ more) t r join e = absurd (cc)
 
 -- the same line with the same runs

@@ -1,14 +1,13 @@
 -- For proofs: what a line of a drive gives, read field by field as the code reads it. The law
 -- lines_give_what_the_table_says says what a line means, by the table in Table.
-use Rattle.std.specs.Prelude.{ℕ, List, [], ◌∷◌, length, Bool, nat_le, nat_lt, nat_eq, ◌&&◌, ◌==◌, if◌then◌else◌, Option, Some, None, codes}
+use Rattle.std.specs.Prelude.{ℕ, List, [], ◌∷◌, length, nat_lt, ◌==◌, if◌then◌else◌, Option, Some, None, codes}
 use Rattle.std.specs.Option.{option_map}
-use Rattle.std.specs.List.{list_all, slice_split}
-use Rattle.std.specs.Char.{is_ascii_digit}
-use Rattle.std.specs.Cmp.Lexicographic.{pointwise}
+use Rattle.std.specs.List.{slice_split}
 use Rattle.std.specs.Str.Lines.{strip_carriage_return}
-use Rattle.std.specs.Str.Parse.{digits_value}
+use Rattle.taxi_units.specs.Number.{number_in}
 use Rattle.taxi_units.specs.Reading.{◌>>=◌}
 use Rattle.taxi_units.specs.Time.{first_second, last_second}
+use Rattle.taxi_units.specs.Words.{is_word}
 use Rattle.taxi_units.specs.declared.event.Event.{Event}
 use Rattle.taxi_units.specs.declared.event.Event.TheVariants.{Up, Down, Pulses, Tick, Clock}
 use Rattle.taxi_units.specs.declared.event.Event.TheVariants as events
@@ -17,21 +16,6 @@ use Rattle.taxi_units.specs.declared.event.Key.TheVariants.{Hire, Stop, Clear, P
 use Rattle.drive_text.specs.declared.run.Run.{Run}
 use Rattle.drive_text.specs.declared.run.Run.TheVariants.{One, Many}
 
--- a test whether a field is the word
-abbrev pub is_word : List ℕ → List ℕ → Bool
-is_word word field = pointwise nat_eq field word
-
--- a test whether a field is 1 to 12 digits
-abbrev pub is_number : List ℕ → Bool
-is_number field = list_all is_ascii_digit field && nat_le 1 (length field) && nat_le (length field) 12
-
--- the number of a field, if the field is one of `low` to `high`
-unfoldable pub number_in : ℕ → ℕ → List ℕ → Option ℕ
-number_in low high field =
-    if is_number field && nat_le low (digits_value 10 field) && nat_le (digits_value 10 field) high
-    then Some (digits_value 10 field)
-    else None
-
 -- the second of a field, if the field is a number of the meter's seconds
 abbrev pub second_in : List ℕ → Option ℕ
 second_in field = number_in first_second last_second field
@@ -39,17 +23,17 @@ second_in field = number_in first_second last_second field
 -- the key of a field H, S or C
 unfoldable pub plain_key : List ℕ → Option Key
 plain_key name =
-    if is_word (codes "H") name then Some Hire
-    else if is_word (codes "S") name then Some Stop
-    else if is_word (codes "C") name then Some Clear
+    if is_word name (codes "H") then Some Hire
+    else if is_word name (codes "S") then Some Stop
+    else if is_word name (codes "C") then Some Clear
     else None
 
 -- the key of the fields P n, Z n or E n
 unfoldable pub numbered_key : List ℕ → List ℕ → Option Key
 numbered_key name number =
-    if is_word (codes "P") name then option_map Position (number_in 0 99 number)
-    else if is_word (codes "Z") name then option_map Zone (number_in 0 99 number)
-    else if is_word (codes "E") name then option_map Extra (number_in 0 99 number)
+    if is_word name (codes "P") then option_map Position (number_in 0 99 number)
+    else if is_word name (codes "Z") then option_map Zone (number_in 0 99 number)
+    else if is_word name (codes "E") then option_map Extra (number_in 0 99 number)
     else None
 
 -- the run of the one event that is made of what was found, if anything was
@@ -59,17 +43,17 @@ one event found = option_map (λ x. One (event x)) found
 -- the run of a line of one field, D or T
 unfoldable pub run_of_one_field : List ℕ → Option Run
 run_of_one_field name =
-    if is_word (codes "D") name then Some (One Down)
-    else if is_word (codes "T") name then Some (One Tick)
+    if is_word name (codes "D") then Some (One Down)
+    else if is_word name (codes "T") then Some (One Tick)
     else None
 
 -- the run of a line of two fields: U s, C s, P p, or K with a key that has no number
 unfoldable pub run_of_two_fields : List ℕ → List ℕ → Option Run
 run_of_two_fields name field =
-    if is_word (codes "U") name then one Up (second_in field)
-    else if is_word (codes "C") name then one Clock (second_in field)
-    else if is_word (codes "P") name then one Pulses (number_in 1 65535 field)
-    else if is_word (codes "K") name then one events.Key (plain_key field)
+    if is_word name (codes "U") then one Up (second_in field)
+    else if is_word name (codes "C") then one Clock (second_in field)
+    else if is_word name (codes "P") then one Pulses (number_in 1 65535 field)
+    else if is_word name (codes "K") then one events.Key (plain_key field)
     else None
 
 -- the run of intervals that have the pulses of the first field each, as many as the second field says
@@ -82,8 +66,8 @@ intervals_of first second = do
 -- the run of a line of three fields: I p n, or K with a key that has a number
 unfoldable pub run_of_three_fields : List ℕ → List ℕ → List ℕ → Option Run
 run_of_three_fields name first second =
-    if is_word (codes "I") name then intervals_of first second
-    else if is_word (codes "K") name then one events.Key (numbered_key first second)
+    if is_word name (codes "I") then intervals_of first second
+    else if is_word name (codes "K") then one events.Key (numbered_key first second)
     else None
 
 -- the run of a line, by how many fields it has

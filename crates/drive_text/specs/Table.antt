@@ -6,7 +6,7 @@ use Rattle.taxi_units.specs.declared.event.Event.TheVariants as events
 use Rattle.taxi_units.specs.declared.event.Key.TheVariants.{Hire, Stop, Clear, Position, Zone, Extra}
 use Rattle.drive_text.specs.declared.run.Run.{Run}
 use Rattle.drive_text.specs.declared.run.Run.TheVariants.{One, Many}
-use Rattle.taxi_units.specs.Written.{IsNumberIn}
+use Rattle.taxi_units.specs.Digits.{IsNumberIn}
 
 -- a line without its line end means no run if it is empty or a comment, and else the one run that its word and its
 -- numbers say

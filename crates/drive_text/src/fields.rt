@@ -1,5 +1,5 @@
 //! What one line of a drive gives.
-ghost use Rattle.std.specs.Prelude.{◌≡◌, ◌≤◌, ◌∷◌, [], ◌==◌, nat_lt, length, IfSome};
+ghost use Rattle.std.specs.Prelude.{◌≡◌, ◌∷◌, [], ◌==◌, nat_lt, length, IfSome};
 ghost use Rattle.std.specs.Str.Lines.{strip_carriage_return};
 ghost use Rattle.std.specs.List.{slice_split};
 ghost use Rattle.std.specs.Option.{option_map_or};
@@ -11,22 +11,7 @@ ghost use Rattle.drive_text.specs.Fields.{text_runs, line_runs};
 ghost use Rattle.drive_text.specs.Content.{runs_of};
 
 use crate::run::Run;
-use taxi_units::{Event, FIRST_SECOND, Key, LAST_SECOND, number_at, split_at_byte};
-
-/// The number that a field of 1 to 12 digits is, where it lies in the range.
-#[tactic(auto, using(crate::proofs::Numbers::in_none))]
-fn number_in(field: &[u8], low: u64, high: u64) -> Option<u64>
-    ensures value { result ≡ spec.number_in low high field.now }
-    ensures low { IfSome result (λ n. low ≤ n) }
-    ensures high { IfSome result (λ n. n ≤ high) }
-{
-    let (number, rest) = number_at(field)?;
-    if rest.is_empty() && low <= number && number <= high {
-        Some(number)
-    } else {
-        None
-    }
-}
+use taxi_units::{Event, FIRST_SECOND, Key, LAST_SECOND, is_word, number_in, split_at_byte};
 
 /// A second that the clock may show.
 fn second_in(field: &[u8]) -> Option<u64>
@@ -34,13 +19,6 @@ fn second_in(field: &[u8]) -> Option<u64>
     ensures range { IfSome result IsSecond }
 {
     number_in(field, FIRST_SECOND, LAST_SECOND)
-}
-
-/// Whether a field is this word.
-fn is_word(field: &[u8], word: &[u8]) -> bool
-    ensures { result ≡ spec.is_word word.now field.now }
-{
-    field == word
 }
 
 /// A key without a number.

@@ -2,7 +2,8 @@
 ghost use Rattle.std.specs.Prelude.{◌≡◌, map, string_bytes};
 ghost use Rattle.log_commands.specs.Words.{call_of};
 ghost use Rattle.log_commands.specs.Words as spec;
-ghost use Rattle.taxi_units.specs.Words.{is_word};
+
+use taxi_units::is_word;
 
 /// A command that the program knows.
 #[derive(Clone, Copy)]
@@ -11,13 +12,6 @@ pub enum Call {
     File,
     /// `show`
     Show,
-}
-
-/// Whether a word is this one.
-fn is_word(word: &[u8], name: &[u8]) -> bool
-    ensures { result ≡ is_word word.now name.now }
-{
-    word == name
 }
 
 /// The command of one word.

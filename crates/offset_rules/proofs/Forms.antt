@@ -1,13 +1,12 @@
 -- Parts of lines are read by their forms.
-use Rattle.std.proofs.Common.{◌≡◌, ◌∙◌, ℕ, ◌+◌, ◌*◌, ◌≤◌, ◌&&◌, Bool, true, false, if◌then◌else◌, Decides, leb, ℤ, pos, neg_ℤ, List, [], ◌∷◌, ◌++◌, length, Option, Some, None, refl, sym, ap, subst, arith, append_assoc, length-append}
-use Rattle.std.proofs.lemmas.Bool.{leb-true, le-leb}
-use Rattle.std.proofs.lemmas.Bool.Decides.{Decides-and}
-use Rattle.taxi_units.specs.Number.{NoDigitFirst, number_at}
+use Rattle.std.proofs.Common.{◌≡◌, ◌∙◌, ℕ, ◌+◌, ◌*◌, ◌≤◌, ℤ, pos, neg_ℤ, List, [], ◌∷◌, ◌++◌, Option, Some, None, refl, sym, ap, subst, arith, append_assoc}
+use Rattle.taxi_units.specs.Digits.{IsFigure}
+use Rattle.taxi_units.specs.Number.{NoDigitFirst, figure_at, number_at}
 use Rattle.taxi_units.specs.Reading.{◌>>=◌, word_at}
-use Rattle.taxi_units.proofs.Laws.{numbers_are_read_by_their_digits, words_are_read_by_their_text}
-use Rattle.offset_rules.specs.Forms.{IsFigure, IsSeconds, IsTime}
+use Rattle.taxi_units.proofs.Laws.{figures_in_front_are_read_by_their_digits, words_are_read_by_their_text}
+use Rattle.offset_rules.specs.Forms.{IsSeconds, IsTime}
 use Rattle.offset_rules.specs.Forms.IsSeconds.{ahead, behind}
-use Rattle.offset_rules.specs.Reading.{figure_at, seconds_at, time_at, where_fits}
+use Rattle.offset_rules.specs.Reading.{seconds_at, time_at}
 
 -- where reading goes on to a value, something was found first
 pub read_on : {A B : Type 0} (found : Option A) (on : A → Option B) (y : B) → found >>= on ≡ Some y → (x : A) × (found ≡ Some x) × (on x ≡ Some y)
@@ -17,53 +16,25 @@ read_on None on y e = absurd cc
 some_same : {A : Type 0} (x y : A) → Some x ≡ Some y → x ≡ y
 some_same x y e = cc
 
--- what a test lets through
-let_through : {A : Type 0} (b : Bool) (x y : A) → (if b then Some x else None) ≡ Some y → (b ≡ true) × (x ≡ y)
-let_through true x y e = (refl, cc)
-let_through false x y e = absurd cc
-
-fits_decides : (fewest widest greatest : ℕ) (text : List ℕ) (x : ℕ × List ℕ) → Decides (leb (length x.1 + fewest) (length text) && (leb (length text) (length x.1 + widest) && leb x.0 greatest)) ((length x.1 + fewest ≤ length text) × ((length text ≤ length x.1 + widest) × (x.0 ≤ greatest)))
-fits_decides fewest widest greatest text x =
-    Decides-and _ _ (leb-true (length x.1 + fewest) (length text), le-leb (length x.1 + fewest) (length text))
-    (Decides-and _ _ (leb-true (length text) (length x.1 + widest), le-leb (length text) (length x.1 + widest)) (leb-true x.0 greatest, le-leb x.0 greatest))
-
 -- a figure stands at the front
-pub record FigureFirst (fewest widest greatest : ℕ) (text : List ℕ) (value : ℕ) (rest : List ℕ) : Type 0 where
+pub record FigureFirst (fewest most high : ℕ) (text : List ℕ) (value : ℕ) (rest : List ℕ) : Type 0 where
   pub digits : List ℕ
   pub text_is : text ≡ digits ++ rest
-  pub figure : IsFigure fewest widest greatest digits value
+  pub figure : IsFigure fewest most 0 high digits value
   pub stops : NoDigitFirst rest
 
-pub figure_is : (fewest widest greatest : ℕ) (text : List ℕ) (x : ℕ × List ℕ) → figure_at fewest widest greatest text ≡ Some x → FigureFirst fewest widest greatest text x.0 x.1
-unfolding figure_at
-figure_is fewest widest greatest text x e =
-    let found = read_on (number_at text) (where_fits fewest widest greatest text) x e in
-    let y = found.0 in
-    let through = let_through (leb (length y.1 + fewest) (length text) && (leb (length text) (length y.1 + widest) && leb y.0 greatest)) y x found.2 in
-    let fits = (fits_decides fewest widest greatest text y).0 through.0 in
-    let is = (numbers_are_read_by_their_digits text y.1 y.0).0 found.1 in
-    let long : length text ≡ length is.0 + length y.1 = ap length is.1 ∙ length-append is.0 y.1 in
-    let there : FigureFirst fewest widest greatest text y.0 y.1 = record {
-      digits = is.0;
-      text_is = is.1;
-      figure = record {
-        numeral = is.2;
-        some = omega (arith, fits, long);
-        few = omega (arith, fits, long);
-        value = sym is.4;
-        small = fits.1.1;
-      };
-      stops = is.5;
-    } in
-    subst (λ (z : ℕ × List ℕ). FigureFirst fewest widest greatest text z.0 z.1) through.1 there
+pub figure_is : (fewest most high : ℕ) (text : List ℕ) (x : ℕ × List ℕ) → most ≤ 12
+    → figure_at fewest most 0 high text ≡ Some x → FigureFirst fewest most high text x.0 x.1
+figure_is fewest most high text x narrow e =
+    let is = (figures_in_front_are_read_by_their_digits fewest most 0 high text x.1 x.0 narrow).0 e in
+    record { digits = is.0; text_is = is.1; figure = is.2; stops = is.3 }
 
-pub figure_from : (fewest widest greatest : ℕ) (digits rest : List ℕ) (value : ℕ) → widest ≤ 12 → IsFigure fewest widest greatest digits value → NoDigitFirst rest → figure_at fewest widest greatest (digits ++ rest) ≡ Some (value, rest)
-unfolding figure_at
-figure_from fewest widest greatest digits rest value narrow is stops =
-    let read : number_at (digits ++ rest) ≡ Some (value, rest) = (numbers_are_read_by_their_digits (digits ++ rest) rest value).1 (digits, refl, is.numeral, omega (arith, is.few, narrow), sym is.value, stops) in
-    let long = length-append digits rest in
-    let fits : leb (length rest + fewest) (length (digits ++ rest)) && (leb (length (digits ++ rest)) (length rest + widest) && leb value greatest) ≡ true = (fits_decides fewest widest greatest (digits ++ rest) (value, rest)).1 (omega (arith, is.some, long), (omega (arith, is.few, long), is.small)) in
-    rw (read, fits) refl
+pub figure_from : (fewest most high : ℕ) (digits rest : List ℕ) (value : ℕ) → most ≤ 12
+    → IsFigure fewest most 0 high digits value → NoDigitFirst rest
+    → figure_at fewest most 0 high (digits ++ rest) ≡ Some (value, rest)
+figure_from fewest most high digits rest value narrow is stops =
+    (figures_in_front_are_read_by_their_digits fewest most 0 high (digits ++ rest) rest value narrow).1
+    (digits, refl, is, stops)
 
 -- an offset stands at the front
 pub record SecondsFirst (text : List ℕ) (offset : ℤ) (rest : List ℕ) : Type 0 where
@@ -76,8 +47,8 @@ seconds_by : (text : List ℕ) (x : ℤ × List ℕ) (found : Option (List ℕ))
 unfolding seconds_at
 seconds_by text x (Some digits) is e =
     let after = rw is at e in
-    let read = read_on (figure_at 1 5 50400 digits) (λ (n : ℕ × List ℕ). Some (neg_ℤ (pos n.0), n.1)) x after in
-    let figure = figure_is 1 5 50400 digits read.0 read.1 in
+    let read = read_on (figure_at 1 5 0 50400 digits) (λ (n : ℕ × List ℕ). Some (neg_ℤ (pos n.0), n.1)) x after in
+    let figure = figure_is 1 5 50400 digits read.0 (omega arith) read.1 in
     let there : SecondsFirst text (neg_ℤ (pos read.0.0)) read.0.1 = record {
       value = 45 ∷ figure.digits;
       text_is = (words_are_read_by_their_text (45 ∷ []) text digits).0 is ∙ ap (λ (t : List ℕ). 45 ∷ t) figure.text_is;
@@ -87,8 +58,8 @@ seconds_by text x (Some digits) is e =
     subst (λ (z : ℤ × List ℕ). SecondsFirst text z.0 z.1) (some_same (neg_ℤ (pos read.0.0), read.0.1) x read.2) there
 seconds_by text x None is e =
     let after = rw is at e in
-    let read = read_on (figure_at 1 5 50400 text) (λ (n : ℕ × List ℕ). Some (pos n.0, n.1)) x after in
-    let figure = figure_is 1 5 50400 text read.0 read.1 in
+    let read = read_on (figure_at 1 5 0 50400 text) (λ (n : ℕ × List ℕ). Some (pos n.0, n.1)) x after in
+    let figure = figure_is 1 5 50400 text read.0 (omega arith) read.1 in
     let there : SecondsFirst text (pos read.0.0) read.0.1 = record {
       value = figure.digits;
       text_is = figure.text_is;
@@ -101,15 +72,15 @@ pub seconds_is : (text : List ℕ) (x : ℤ × List ℕ) → seconds_at text ≡
 seconds_is text x e = seconds_by text x (word_at (45 ∷ []) text) refl e
 
 -- digits have no minus in front
-figure_after_minus : (rest : List ℕ) → figure_at 1 5 50400 (45 ∷ rest) ≡ None
+figure_after_minus : (rest : List ℕ) → figure_at 1 5 0 50400 (45 ∷ rest) ≡ None
 unfolding figure_at number_at
 figure_after_minus rest = refl
 
-no_minus_by : (text : List ℕ) (x : ℕ × List ℕ) (found : Option (List ℕ)) → figure_at 1 5 50400 text ≡ Some x → word_at (45 ∷ []) text ≡ found → found ≡ None
+no_minus_by : (text : List ℕ) (x : ℕ × List ℕ) (found : Option (List ℕ)) → figure_at 1 5 0 50400 text ≡ Some x → word_at (45 ∷ []) text ≡ found → found ≡ None
 no_minus_by text x None read is = refl
 no_minus_by text x (Some rest) read is =
     let after : text ≡ 45 ∷ rest = (words_are_read_by_their_text (45 ∷ []) text rest).0 is in
-    let none : Some x ≡ None = sym read ∙ (ap (figure_at 1 5 50400) after ∙ figure_after_minus rest) in
+    let none : Some x ≡ None = sym read ∙ (ap (figure_at 1 5 0 50400) after ∙ figure_after_minus rest) in
     absurd cc
 
 seconds_from_by : (value rest : List ℕ) (offset : ℤ) → IsSeconds value offset → NoDigitFirst rest → seconds_at (value ++ rest) ≡ Some (offset, rest)
@@ -136,11 +107,11 @@ pub record TimeFirst (text : List ℕ) (minute : ℕ) (rest : List ℕ) : Type 0
 pub time_is : (text : List ℕ) (x : ℕ × List ℕ) → time_at text ≡ Some x → TimeFirst text x.0 x.1
 unfolding time_at
 time_is text x e =
-    let hour = read_on (figure_at 2 2 23 text) _ x e in
+    let hour = read_on (figure_at 2 2 0 23 text) _ x e in
     let colon = read_on (word_at (58 ∷ []) hour.0.1) _ x hour.2 in
-    let minute = read_on (figure_at 2 2 59 colon.0) _ x colon.2 in
-    let h = figure_is 2 2 23 text hour.0 hour.1 in
-    let m = figure_is 2 2 59 colon.0 minute.0 minute.1 in
+    let minute = read_on (figure_at 2 2 0 59 colon.0) _ x colon.2 in
+    let h = figure_is 2 2 23 text hour.0 (omega arith) hour.1 in
+    let m = figure_is 2 2 59 colon.0 minute.0 (omega arith) minute.1 in
     let after : hour.0.1 ≡ 58 ∷ colon.0 = (words_are_read_by_their_text (58 ∷ []) hour.0.1 colon.0).0 colon.1 in
     let there : TimeFirst text (hour.0.0 * 60 + minute.0.0) minute.0.1 = record {
       time = h.digits ++ 58 ∷ m.digits;

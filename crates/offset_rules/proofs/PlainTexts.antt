@@ -1,5 +1,5 @@
 -- A plain text is read as its rule, and what is read is in its ranges.
-use Rattle.std.proofs.Common.{◌≡◌, ◌∙◌, ℕ, zero, suc, ◌-◌, ◌/◌, ◌%◌, ◌^◌, ◌<◌, ◌≤◌, ℤ, pos, negsuc, true, leb, get_or, List, [], ◌∷◌, ◌++◌, length, Result, Ok, refl, sym, arith, length-append}
+use Rattle.std.proofs.Common.{◌≡◌, ◌∙◌, ℕ, zero, suc, ◌-◌, ◌/◌, ◌%◌, ◌≤◌, ℤ, pos, negsuc, true, leb, get_or, List, [], ◌∷◌, ◌++◌, length, Result, Ok, refl, sym, arith, length-append}
 use Rattle.std.specs.Prelude.{codes}
 use Rattle.std.specs.Fmt.{decimal}
 use Rattle.std.specs.List.{list_all}
@@ -7,9 +7,10 @@ use Rattle.std.proofs.lemmas.Bool.{leb-true, le-leb}
 use Rattle.std.proofs.lemmas.Bool.Decides.{Decides-and}
 use Rattle.std.proofs.lemmas.Int.{ints}
 use Rattle.interval_clock.specs.Offsets.{IsOffset}
+use Rattle.taxi_units.specs.Digits.{IsFigure}
 use Rattle.taxi_units.specs.Number.{padded_text}
-use Rattle.taxi_units.proofs.Laws.{numbers_are_short, numbers_are_written_by_their_digits, padded_numbers_are_written_by_their_digits}
-use Rattle.offset_rules.specs.Forms.{IsChangeLine, IsChangeText, IsFigure, IsOffsetLine, IsSeconds, IsTime}
+use Rattle.taxi_units.proofs.Laws.{numbers_are_short, numbers_are_written_as_figures, padded_numbers_are_written_as_figures}
+use Rattle.offset_rules.specs.Forms.{IsChangeLine, IsChangeText, IsOffsetLine, IsSeconds, IsTime}
 use Rattle.offset_rules.specs.Forms.IsSeconds.{ahead, behind}
 use Rattle.offset_rules.specs.Names.{month_names, name_of, number_names}
 use Rattle.offset_rules.specs.Reading.{rules_read}
@@ -22,25 +23,17 @@ use Rattle.taxi_units.specs.Weekdays.{day_names}
 
 -- ---- a plain text
 
-number_figure : (widest greatest n : ℕ) → 0 < widest → widest ≤ 64 → n < 10 ^ widest → n < 2 ^ 128 → n ≤ greatest → IsFigure 1 widest greatest (decimal n) n
-number_figure widest greatest n some narrow small fits most =
-    let is = (numbers_are_written_by_their_digits n (decimal n) fits).0 refl in
-    let long = numbers_are_short widest n some narrow small in
-    record { numeral = is.digits; some = omega (arith, long); few = long.1; value = is.value_is; small = most }
-
 seconds_text : (offset : ℤ) → IsOffset offset → IsSeconds (offset_text offset) offset
 seconds_text (pos n) is =
     let below : n ≤ 50400 = omega (arith, ints, is.1) in
-    ahead (decimal n) n (number_figure 5 50400 n (omega arith) (omega arith) (omega (arith, below)) (omega (arith, below)) below)
+    ahead (decimal n) n (numbers_are_written_as_figures 5 0 50400 n (omega arith) (omega arith) (omega (arith, below)) (omega arith) below)
 seconds_text (negsuc n) is =
     let below : suc n ≤ 50400 = omega (arith, ints, is.0) in
-    behind (decimal (suc n)) (suc n) (number_figure 5 50400 (suc n) (omega arith) (omega arith) (omega (arith, below)) (omega (arith, below)) below)
+    behind (decimal (suc n)) (suc n) (numbers_are_written_as_figures 5 0 50400 (suc n) (omega arith) (omega arith) (omega (arith, below)) (omega arith) below)
 
-two_digits : (greatest n : ℕ) → n ≤ greatest → greatest ≤ 99 → IsFigure 2 2 greatest (padded_text 2 n) n
+two_digits : (greatest n : ℕ) → n ≤ greatest → greatest ≤ 99 → IsFigure 2 2 0 greatest (padded_text 2 n) n
 two_digits greatest n most small =
-    let is = (padded_numbers_are_written_by_their_digits 2 n (padded_text 2 n) (omega (arith, most, small))).0 refl in
-    let long = numbers_are_short 2 n (omega arith) (omega arith) (omega (arith, most, small)) in
-    record { numeral = is.digits; some = omega (arith, is.length_is, long); few = omega (arith, is.length_is, long); value = is.value_is; small = most }
+    padded_numbers_are_written_as_figures 2 0 greatest n (omega arith) (omega arith) (omega (arith, most, small)) (omega arith) most
 
 time_again : (minute : ℕ) → minute ≤ 1439 → IsTime (time_text minute) minute
 time_again minute most = record {
@@ -109,8 +102,8 @@ short_change change is =
     let n = short_names number_names refl (change.number - 1) in
     let w = short_names day_names refl (change.weekday - 1) in
     let m = short_names month_names refl (change.month - 1) in
-    let h = (two_digits 23 (change.minute / 60) (omega (arith, is.minute)) (omega arith)).few in
-    let l = (two_digits 59 (change.minute % 60) (omega arith) (omega arith)).few in
+    let h = (two_digits 23 (change.minute / 60) (omega (arith, is.minute)) (omega arith)).written.few in
+    let l = (two_digits 59 (change.minute % 60) (omega arith) (omega arith)).written.few in
     let hours = padded_text 2 (change.minute / 60) in
     let minutes = padded_text 2 (change.minute % 60) in
     let t = length-append hours (58 ∷ minutes) in
@@ -137,15 +130,15 @@ plain_texts_are_read_back rule is = (texts_say_rules (plain_text rule) (Ok rule)
 -- ---- ranges
 
 offset_said : (value : List ℕ) (offset : ℤ) → IsSeconds value offset → IsOffset offset
-offset_said value offset (ahead digits n is) = (omega (arith, ints), omega (arith, ints, is.small))
-offset_said value offset (behind digits n is) = (omega (arith, ints, is.small), omega (arith, ints))
+offset_said value offset (ahead digits n is) = (omega (arith, ints), omega (arith, ints, is.below))
+offset_said value offset (behind digits n is) = (omega (arith, ints, is.below), omega (arith, ints))
 
 change_said : (value : List ℕ) (change : Change) → IsChangeText value change → IsChange change
 change_said value change is = record {
   number = (is.number_is.0, is.number_is.1);
   weekday = (is.weekday_is.0, is.weekday_is.1);
   month = (is.month_is.0, is.month_is.1);
-  minute = omega (arith, is.time_is.minute_is, is.time_is.hour_is.small, is.time_is.rest_is.small);
+  minute = omega (arith, is.time_is.minute_is, is.time_is.hour_is.below, is.time_is.rest_is.below);
 }
 
 rule_said : (text : List ℕ) (rule : Rule) → IsReadAs text (Ok rule) → IsRule rule

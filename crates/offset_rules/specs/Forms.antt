@@ -1,24 +1,15 @@
 -- Rules: the forms of the four lines of a text of rules.
-use Rattle.std.specs.Prelude.{◌≡◌, ℕ, ◌+◌, ◌*◌, ◌≤◌, ℤ, pos, neg_ℤ, List, ◌∷◌, ◌++◌, length, codes}
-use Rattle.std.specs.Str.Parse.{IsNumeral, digits_value}
+use Rattle.std.specs.Prelude.{◌≡◌, ℕ, ◌+◌, ◌*◌, ℤ, pos, neg_ℤ, List, ◌∷◌, ◌++◌, codes}
 use Rattle.interval_clock.specs.Offsets.{greatest_offset}
 use Rattle.offset_rules.specs.Names.{IsName, month_names, number_names}
 use Rattle.offset_rules.specs.Rule.{Change}
+use Rattle.taxi_units.specs.Digits.{IsFigure}
 use Rattle.taxi_units.specs.Weekdays.{day_names}
-
--- digits are a figure of a number if they are at least `fewest` and at most `widest` decimal digits that have its
--- value, and it is at most `greatest`
-pub record IsFigure (fewest widest greatest : ℕ) (digits : List ℕ) (number : ℕ) : Type 0 where
-  pub numeral : IsNumeral 10 digits
-  pub some : fewest ≤ length digits
-  pub few : length digits ≤ widest
-  pub value : digits_value 10 digits ≡ number
-  pub small : number ≤ greatest
 
 -- a text says an offset in seconds if it is 1 to 5 digits of a number up to 50400, or a minus and then such digits
 pub data IsSeconds : List ℕ → ℤ → Type 0 where
-  ahead : (digits : List ℕ) (n : ℕ) → IsFigure 1 5 greatest_offset digits n → IsSeconds digits (pos n)
-  behind : (digits : List ℕ) (n : ℕ) → IsFigure 1 5 greatest_offset digits n → IsSeconds (45 ∷ digits) (neg_ℤ (pos n))
+  ahead : (digits : List ℕ) (n : ℕ) → IsFigure 1 5 0 greatest_offset digits n → IsSeconds digits (pos n)
+  behind : (digits : List ℕ) (n : ℕ) → IsFigure 1 5 0 greatest_offset digits n → IsSeconds (45 ∷ digits) (neg_ℤ (pos n))
 
 -- a text says a minute of the day if it has the form HH:MM, with an hour up to 23 and a minute up to 59
 pub record IsTime (text : List ℕ) (minute : ℕ) : Type 0 where
@@ -27,8 +18,8 @@ pub record IsTime (text : List ℕ) (minute : ℕ) : Type 0 where
   pub text_is : text ≡ hours ++ (codes ":" ++ minutes)
   pub hour : ℕ
   pub rest : ℕ
-  pub hour_is : IsFigure 2 2 23 hours hour
-  pub rest_is : IsFigure 2 2 59 minutes rest
+  pub hour_is : IsFigure 2 2 0 23 hours hour
+  pub rest_is : IsFigure 2 2 0 59 minutes rest
   pub minute_is : minute ≡ hour * 60 + rest
 
 -- a text says a change by the names of its number, its weekday and its month, and its time in UTC, with a blank between

@@ -1,8 +1,9 @@
 -- For proofs: how rules are read from the front of a text, in the stages of the code. The law
 -- texts_say_rules_line_by_line says what the answers mean.
-use Rattle.std.specs.Prelude.{ℕ, ◌+◌, ◌*◌, ◌==◌, ◌&&◌, nat_le, nat_lt, if◌then◌else◌, ℤ, pos, neg_ℤ, List, [], ◌∷◌, length, Option, Some, None, Result, Ok, Err, codes}
+use Rattle.std.specs.Prelude.{ℕ, ◌+◌, ◌*◌, ◌==◌, nat_lt, if◌then◌else◌, ℤ, pos, neg_ℤ, List, [], ◌∷◌, length, Option}
+use Rattle.std.specs.Prelude.{Some, None, Result, Ok, Err, codes}
 use Rattle.interval_clock.specs.Offsets.{greatest_offset}
-use Rattle.taxi_units.specs.Number.{number_at}
+use Rattle.taxi_units.specs.Number.{figure_at}
 use Rattle.taxi_units.specs.Reading.{◌>>=◌, word_at}
 use Rattle.offset_rules.specs.Names.{month_names, number_names}
 use Rattle.offset_rules.specs.Rule.{Change, Rule}
@@ -10,24 +11,13 @@ use Rattle.offset_rules.specs.declared.fault.RuleFault.{RuleFault}
 use Rattle.offset_rules.specs.declared.fault.RuleFault.TheVariants.{TooLong, BadLine, SameMonth}
 use Rattle.taxi_units.specs.Weekdays.{day_names}
 
--- a number that was found and the rest after it, if it has `fewest` to `widest` digits and is at most `greatest`
-abbrev pub where_fits : (fewest widest greatest : ℕ) → (text : List ℕ) → ℕ × List ℕ → Option (ℕ × List ℕ)
-where_fits fewest widest greatest text x =
-    if (nat_le (length x.1 + fewest) (length text)
-    && (nat_le (length text) (length x.1 + widest) && nat_le x.0 greatest))
-    then Some x else None
-
--- the number at the front of a text, if it has `fewest` to `widest` digits and is at most `greatest`, and the rest
-unfoldable pub figure_at : (fewest widest greatest : ℕ) → List ℕ → Option (ℕ × List ℕ)
-figure_at fewest widest greatest text = number_at text >>= where_fits fewest widest greatest text
-
 -- the offset in seconds at the front of a text, and the rest
 unfoldable pub seconds_at : List ℕ → Option (ℤ × List ℕ)
 seconds_at text = signed_at text (word_at (codes "-") text)
   where
     signed_at : List ℕ → Option (List ℕ) → Option (ℤ × List ℕ)
-    signed_at text (Some digits) = figure_at 1 5 greatest_offset digits >>= (λ n. Some (neg_ℤ (pos n.0), n.1))
-    signed_at text None = figure_at 1 5 greatest_offset text >>= (λ n. Some (pos n.0, n.1))
+    signed_at text (Some digits) = figure_at 1 5 0 greatest_offset digits >>= (λ n. Some (neg_ℤ (pos n.0), n.1))
+    signed_at text None = figure_at 1 5 0 greatest_offset text >>= (λ n. Some (pos n.0, n.1))
 
 -- the number whose name was found and the rest, and if it wasn't found what the other names give
 abbrev pub found_or : ℕ → Option (List ℕ) → Option (ℕ × List ℕ) → Option (ℕ × List ℕ)
@@ -43,9 +33,9 @@ numbered_at (name ∷ names) number text = found_or number (word_at name text) (
 -- the minute of the day of the hours and minutes at the front of a text, and the rest
 unfoldable pub time_at : List ℕ → Option (ℕ × List ℕ)
 time_at text = do
-  hour ← figure_at 2 2 23 text
+  hour ← figure_at 2 2 0 23 text
   minutes ← word_at (codes ":") hour.1
-  minute ← figure_at 2 2 59 minutes
+  minute ← figure_at 2 2 0 59 minutes
   Some (hour.0 * 60 + minute.0, minute.1)
 
 -- the change at the front of a text, and the rest

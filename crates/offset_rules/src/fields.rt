@@ -1,5 +1,5 @@
 //! Offsets, times and changes at the front of a text, and what stands after them.
-ghost use Rattle.std.specs.Prelude.{◌+◌, ◌≤◌, IfSome};
+ghost use Rattle.std.specs.Prelude.{◌≤◌, IfSome};
 ghost use Rattle.interval_clock.specs.Offsets.{IsOffset};
 ghost use Rattle.offset_rules.specs.Reading as spec;
 ghost use Rattle.offset_rules.specs.Rule.{IsChange};
@@ -8,25 +8,7 @@ ghost use Rattle.taxi_units.specs.Reading.{Gives};
 use crate::names::{month, number, weekday};
 use crate::rules::Change;
 use interval_clock::GREATEST_OFFSET;
-use taxi_units::{number_at, word};
-
-/// A number of `fewest` to `widest` digits that is at most `greatest`.
-#[tactic(auto, unfolding(crate::specs::Reading::figure_at))]
-fn figure(text: &[u8], fewest: usize, widest: usize, greatest: u64) -> Option<(u64, &[u8])>
-    requires fewest { fewest ≤ 12 }
-    requires widest { widest ≤ 12 }
-    ensures value { Gives (λ x. (x.0, x.1.now)) result (spec.figure_at fewest widest greatest text.now) }
-    ensures small { IfSome result (λ x. x.0 ≤ greatest) }
-{
-    let (number, rest) = number_at(text)?;
-    if rest.len() + fewest <= text.len()
-        && text.len() <= rest.len() + widest
-        && number <= greatest
-    {
-        return Some((number, rest));
-    }
-    None
-}
+use taxi_units::{figure_at, word};
 
 /// An offset of at most 14 hours, in seconds.
 #[tactic(auto, unfolding(crate::specs::Reading::seconds_at))]
@@ -36,11 +18,11 @@ pub(crate) fn seconds(text: &[u8]) -> Option<(i32, &[u8])>
 {
     match word(text, b"-") {
         Some(digits) => {
-            let (seconds, rest) = figure(digits, 1, 5, GREATEST_OFFSET as u64)?;
+            let (seconds, rest) = figure_at(digits, 1, 5, 0, GREATEST_OFFSET as u64)?;
             Some((-(seconds as i32), rest))
         }
         None => {
-            let (seconds, rest) = figure(text, 1, 5, GREATEST_OFFSET as u64)?;
+            let (seconds, rest) = figure_at(text, 1, 5, 0, GREATEST_OFFSET as u64)?;
             Some((seconds as i32, rest))
         }
     }
@@ -52,9 +34,9 @@ fn time(text: &[u8]) -> Option<(u16, &[u8])>
     ensures value { Gives (λ x. (x.0, x.1.now)) result (spec.time_at text.now) }
     ensures range { IfSome result (λ x. x.0 ≤ 1439) }
 {
-    let (hour, rest) = figure(text, 2, 2, 23)?;
+    let (hour, rest) = figure_at(text, 2, 2, 0, 23)?;
     let rest = word(rest, b":")?;
-    let (minute, rest) = figure(rest, 2, 2, 59)?;
+    let (minute, rest) = figure_at(rest, 2, 2, 0, 59)?;
     Some(((hour * 60 + minute) as u16, rest))
 }
 

@@ -9,19 +9,19 @@ use Rattle.drive_modes.specs.declared.charges.Mode.{Mode}
 use Rattle.drive_modes.specs.declared.charges.Mode.TheVariants.{Single, Double}
 use Rattle.interval_clock.specs.Calendar.{IsDateOf, day_number_of, is_date}
 use Rattle.interval_clock.proofs.Laws.{is_date_of_number, one_day_number}
-use Rattle.taxi_units.specs.Number.{NoDigitFirst, number_at, number_of_width}
+use Rattle.taxi_units.specs.Digits.{AreDigitsOf, IsNumberIn}
+use Rattle.taxi_units.specs.Number.{NoDigitFirst, number_at, number_in, number_of_width}
 use Rattle.taxi_units.specs.Reading.{word_at}
 use Rattle.taxi_units.proofs.Laws.{numbers_are_read_by_their_digits, wide_numbers_are_read_by_their_digits, words_are_read_by_their_text}
-use Rattle.seal_record.specs.Forms.{IsDateText, IsModeText, IsOffsetText, IsPairText, IsWide}
+use Rattle.seal_record.specs.Forms.{IsDateText, IsModeText, IsOffsetText, IsPairText}
 use Rattle.seal_record.specs.Forms.IsModeText.{double_said, single_said}
 use Rattle.seal_record.specs.Forms.IsOffsetText.{ahead, behind}
 use Rattle.seal_record.specs.OffsetLaws.{Decides-leb}
-use Rattle.seal_record.specs.Values.{mode_read, number_in, offset_read, pair_read, secured_read, where_date}
+use Rattle.seal_record.specs.Values.{mode_read, offset_read, pair_read, secured_read, where_date}
 use Rattle.seal_record.proofs.DayBounds.{date_decides}
 use Rattle.seal_record.proofs.PlainValues.{minus_again, no_minus}
 use Rattle.seal_record.proofs.SaidRanges.{let_through, read_on}
 use Rattle.seal_record.proofs.TextLaws.{empty_of, numbers_in_ranges}
-use Rattle.taxi_units.specs.Written.{IsNumberIn}
 
 -- ---- modes
 
@@ -72,7 +72,7 @@ offset_by text offset None is e =
 
 -- digits alone are their number
 alone_read : (low high : ℕ) (digits : List ℕ) (n : ℕ) → IsNumberIn low high digits n → number_at digits ≡ Some (n, [])
-alone_read low high digits n is = (numbers_are_read_by_their_digits digits [] n).1 (digits, sym (append-nil digits), is.numeral, is.few, sym is.value, tt)
+alone_read low high digits n is = (numbers_are_read_by_their_digits digits [] n).1 (digits, sym (append-nil digits), is.written, tt)
 
 offset_from_text : (text : List ℕ) (offset : ℤ) → IsOffsetText text offset → offset_read text ≡ Some offset
 unfolding offset_read
@@ -91,9 +91,7 @@ pair_is text pair e =
       second = is.0;
       offset = rest.0;
       text_is = is.1 ∙ ap (λ (r : List ℕ). is.0 ++ r) ((words_are_read_by_their_text (32 ∷ []) second.0.1 rest.0).0 rest.1);
-      numeral = is.2;
-      few = is.3;
-      second_is = sym is.4 ∙ ap (λ (p : ℕ × ℤ). p.0) same;
+      second_is = subst (λ (p : ℕ × ℤ). AreDigitsOf 1 12 is.0 p.0) same is.2;
       offset_is = subst (λ (p : ℕ × ℤ). IsOffsetText rest.0 p.1) same (offset_by rest.0 offset.0 (word_at (45 ∷ []) rest.0) refl offset.1);
     }
   where
@@ -104,7 +102,7 @@ pair_from : (text : List ℕ) (pair : ℕ × ℤ) → IsPairText text pair → p
 unfolding pair_read
 pair_from text pair is =
     let second : number_at (is.second ++ 32 ∷ is.offset) ≡ Some (pair.0, 32 ∷ is.offset) =
-    (numbers_are_read_by_their_digits (is.second ++ 32 ∷ is.offset) (32 ∷ is.offset) pair.0).1 (is.second, refl, is.numeral, is.few, sym is.second_is, omega arith) in
+    (numbers_are_read_by_their_digits (is.second ++ 32 ∷ is.offset) (32 ∷ is.offset) pair.0).1 (is.second, refl, is.second_is, omega arith) in
     rw (is.text_is, second, (words_are_read_by_their_text (32 ∷ []) (32 ∷ is.offset) is.offset).1 refl, offset_from_text is.offset pair.1 is.offset_is) refl
 
 pub pairs_by_their_form : (text : List ℕ) (pair : ℕ × ℤ) → (pair_read text ≡ Some pair) ↔ IsPairText text pair
@@ -116,16 +114,16 @@ pairs_by_their_form text pair = (pair_is text pair, pair_from text pair)
 record IsFront (width : ℕ) (text : List ℕ) (x : ℕ × List ℕ) : Type 0 where
   digits : List ℕ
   text_is : text ≡ digits ++ x.1
-  wide : IsWide width digits x.0
+  wide : AreDigitsOf width width digits x.0
 
 front_is : (width : ℕ) (text : List ℕ) (x : ℕ × List ℕ) → width ≤ 12 → number_of_width width text ≡ Some x → IsFront width text x
 front_is width text x narrow e =
     let is = (wide_numbers_are_read_by_their_digits width text x.1 x.0 narrow).0 e in
-    record { digits = is.0; text_is = is.1; wide = record { numeral = is.2; long = is.3; value = sym is.4 } }
+    record { digits = is.0; text_is = is.1; wide = is.2 }
 
-front_from : (width : ℕ) (digits rest : List ℕ) (n : ℕ) → width ≤ 12 → IsWide width digits n → NoDigitFirst rest → number_of_width width (digits ++ rest) ≡ Some (n, rest)
+front_from : (width : ℕ) (digits rest : List ℕ) (n : ℕ) → width ≤ 12 → AreDigitsOf width width digits n → NoDigitFirst rest → number_of_width width (digits ++ rest) ≡ Some (n, rest)
 front_from width digits rest n narrow is stops =
-    (wide_numbers_are_read_by_their_digits width (digits ++ rest) rest n narrow).1 (digits, refl, is.numeral, is.long, sym is.value, stops)
+    (wide_numbers_are_read_by_their_digits width (digits ++ rest) rest n narrow).1 (digits, refl, is, stops)
 
 -- a year, a month and a date that were read
 record IsRead (year month date : ℕ) (rest : List ℕ) (day : ℤ) : Type 0 where
@@ -169,11 +167,9 @@ date_is text day e =
       year = year.0.0;
       month = month.0.0;
       date = date.0.0;
-      year_is = years.wide;
+      year_is = record { written = years.wide; above = is.years_from; below = is.years_to };
       month_is = months.wide;
       date_is = dates.wide;
-      from = is.years_from;
-      to = is.years_to;
       day_is = is.day_of;
     }
 
@@ -181,17 +177,17 @@ date_from : (text : List ℕ) (day : ℤ) → IsDateText text day → secured_re
 unfolding secured_read
 date_from text day is =
     let there : is_date is.year is.month is.date ≡ true = (date_decides is.year is.month is.date).1 (is.day_is.month_in.0, (is.day_is.month_in.1, (is.day_is.date_in.0, is.day_is.date_in.1))) in
-    let same = one_day_number day is.year is.month is.date (omega (arith, is.from)) is.day_is in
+    let same = one_day_number day is.year is.month is.date (omega (arith, is.year_is.above)) is.day_is in
     let last : number_of_width 2 is.dates ≡ Some (is.date, []) = ap (number_of_width 2) (sym (append-nil is.dates)) ∙ front_from 2 is.dates [] is.date (omega arith) is.date_is tt in
     rw (
       is.text_is,
-      front_from 4 is.years (45 ∷ (is.months ++ 45 ∷ is.dates)) is.year (omega arith) is.year_is (omega arith),
+      front_from 4 is.years (45 ∷ (is.months ++ 45 ∷ is.dates)) is.year (omega arith) is.year_is.written (omega arith),
       minus_again (is.months ++ 45 ∷ is.dates),
       front_from 2 is.months (45 ∷ is.dates) is.month (omega arith) is.month_is (omega arith),
       minus_again is.dates,
       last,
-      (Decides-leb 2000 is.year).1 is.from,
-      (Decides-leb is.year 2199).1 is.to,
+      (Decides-leb 2000 is.year).1 is.year_is.above,
+      (Decides-leb is.year 2199).1 is.year_is.below,
       there,
     ) (ap (λ (x : ℤ). Some x) (sym same))
 

@@ -19,7 +19,8 @@ use Rattle.seal_record.specs.Said.{Said}
 use Rattle.seal_record.specs.SaidStages.{is_twice, keyed_line, line_read, name_of, or_bad, with_pair, with_value}
 use Rattle.seal_record.specs.Says.{IsParted}
 use Rattle.seal_record.specs.Says.IsParted.{alone, parted}
-use Rattle.seal_record.specs.Values.{mode_read, number_in, pair_read, secured_read, taxi_read}
+use Rattle.taxi_units.specs.Number.{number_in}
+use Rattle.seal_record.specs.Values.{mode_read, pair_read, secured_read, taxi_read}
 use Rattle.seal_record.proofs.FormLaws.{dates_by_their_form, modes_by_their_words, pairs_by_their_form}
 use Rattle.seal_record.proofs.SaidRanges.{let_through, read_on}
 use Rattle.seal_record.proofs.TextLaws.{a_line_is_parted, numbers_in_ranges, taxis_are_texts}

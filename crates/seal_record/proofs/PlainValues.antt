@@ -8,12 +8,14 @@ use Rattle.drive_modes.specs.declared.charges.Mode.TheVariants.{Single, Double}
 use Rattle.interval_clock.specs.Calendar.{date_after, is_date}
 use Rattle.interval_clock.specs.Offsets.{IsOffset, IsSecond}
 use Rattle.interval_clock.proofs.Laws.{IsDateOf-date_after, one_day_number}
-use Rattle.taxi_units.specs.Number.{NoDigitFirst, number_at, number_of_width, padded_text}
+use Rattle.taxi_units.specs.Number.{NoDigitFirst, number_at, number_in, number_of_width, padded_text}
 use Rattle.taxi_units.specs.Reading.{word_at}
-use Rattle.taxi_units.proofs.Laws.{numbers_are_short, numbers_read_back, padded_numbers_are_written_by_their_digits, padded_numbers_fill_the_width, wide_numbers_are_read_by_their_digits, words_are_read_by_their_text}
+use Rattle.taxi_units.proofs.Laws.{figures_are_read_by_their_digits, numbers_are_short, numbers_are_written_as_figures}
+use Rattle.taxi_units.proofs.Laws.{numbers_read_back, padded_numbers_are_written_as_figures, padded_numbers_fill_the_width}
+use Rattle.taxi_units.proofs.Laws.{wide_numbers_are_read_by_their_digits, words_are_read_by_their_text}
 use Rattle.seal_record.specs.OffsetLaws.{Decides-leb}
 use Rattle.seal_record.specs.PlainText.{date_text, mode_text, offset_text}
-use Rattle.seal_record.specs.Values.{mode_read, number_in, offset_read, pair_read, secured_read}
+use Rattle.seal_record.specs.Values.{mode_read, offset_read, pair_read, secured_read}
 use Rattle.seal_record.proofs.DayBounds.{date_bound, date_decides, year_in_range}
 
 -- a number alone
@@ -21,8 +23,9 @@ number_alone : (n : ℕ) → n < 10 ^ 12 → number_at (decimal n) ≡ Some (n, 
 number_alone n small = ap number_at (sym (append-nil (decimal n))) ∙ numbers_read_back n [] small tt
 
 pub number_again : (low high n : ℕ) → low ≤ n → n ≤ high → high < 10 ^ 12 → number_in low high (decimal n) ≡ Some n
-unfolding number_in
-number_again low high n above below small = rw (number_alone n (omega (arith, below, small)), (Decides-leb low n).1 above, (Decides-leb n high).1 below) refl
+number_again low high n above below small =
+    (figures_are_read_by_their_digits 1 12 low high (decimal n) n (omega arith)).1
+    (numbers_are_written_as_figures 12 low high n (omega arith) (omega arith) (omega (arith, below, small)) above below)
 
 pub mode_again : (mode : Mode) → mode_read (mode_text mode) ≡ Some mode
 unfolding mode_read
@@ -66,8 +69,8 @@ length-padded_text width n some narrow small = omega (arith, padded_numbers_fill
 
 digits_again : (width n : ℕ) (rest : List ℕ) → 0 < width → width ≤ 12 → n < 10 ^ width → n < 10 ^ 12 → NoDigitFirst rest → number_of_width width (padded_text width n ++ rest) ≡ Some (n, rest)
 digits_again width n rest some narrow small fits stops =
-    let text = (padded_numbers_are_written_by_their_digits width n (padded_text width n) (omega (arith, fits))).0 refl in
-    (wide_numbers_are_read_by_their_digits width (padded_text width n ++ rest) rest n narrow).1 (padded_text width n, refl, text.digits, length-padded_text width n some narrow small, sym text.value_is, stops)
+    let is = padded_numbers_are_written_as_figures width n n n some narrow small (omega arith) (omega arith) in
+    (wide_numbers_are_read_by_their_digits width (padded_text width n ++ rest) rest n narrow).1 (padded_text width n, refl, is.written, stops)
 
 digits_alone : (width n : ℕ) → 0 < width → width ≤ 12 → n < 10 ^ width → n < 10 ^ 12 → number_of_width width (padded_text width n) ≡ Some (n, [])
 digits_alone width n some narrow small fits = ap (number_of_width width) (sym (append-nil (padded_text width n))) ∙ digits_again width n [] some narrow small fits tt

@@ -5,7 +5,8 @@ use Rattle.std.proofs.lemmas.Int.{ints}
 use Rattle.drive_modes.specs.declared.charges.Mode.{Mode}
 use Rattle.interval_clock.specs.Calendar.{day_number_of, is_date}
 use Rattle.interval_clock.specs.Offsets.{IsOffsetList}
-use Rattle.taxi_units.specs.Number.{number_at}
+use Rattle.taxi_units.specs.Number.{number_in}
+use Rattle.taxi_units.proofs.Laws.{figures_are_read_by_their_digits}
 use Rattle.taxi_units.specs.Reading.{◌>>=◌, word_at}
 use Rattle.seal_record.specs.declared.params.Name.{Name}
 use Rattle.seal_record.specs.declared.params.Name.TheVariants.{Taxi, Constant, Hold, Offset, Secured}
@@ -22,7 +23,7 @@ use Rattle.seal_record.specs.Said.{Said, nothing_said}
 use Rattle.seal_record.specs.SaidStages.{is_twice, keyed_line, line_read, name_of, or_bad, with_pair, with_value}
 use Rattle.seal_record.specs.SealLaws.{Decides-is_taxi}
 use Rattle.taxi_units.specs.Number.{number_of_width}
-use Rattle.seal_record.specs.Values.{is_taxi, mode_read, number_in, pair_read, secured_read, taxi_read, where_date, where_in}
+use Rattle.seal_record.specs.Values.{is_taxi, mode_read, pair_read, secured_read, taxi_read, where_date}
 use Rattle.seal_record.proofs.DayBounds.{days_in_range}
 
 -- what has been said is in its ranges
@@ -47,12 +48,8 @@ taxi_said : (text taxi : List ℕ) → taxi_read text ≡ Some taxi → IsTaxi t
 taxi_said text taxi e = let through = let_through (is_taxi text) text taxi (Decides-is_taxi text) e in subst IsTaxi through.1 through.0
 
 pub number_said : (low high : ℕ) (text : List ℕ) (n : ℕ) → number_in low high text ≡ Some n → (low ≤ n) × (n ≤ high)
-unfolding number_in
 number_said low high text n e =
-    let read = read_on (number_at text) (where_in low high) n e in
-    let x = read.0 in
-    let through = let_through _ x.0 n (Decides-and _ _ (Decides-eqb (length x.1) 0) (Decides-and _ _ (Decides-leb low x.0) (Decides-leb x.0 high))) read.2 in
-    (omega (arith, through.1, through.0.1.0), omega (arith, through.1, through.0.1.1))
+    let is = (figures_are_read_by_their_digits 1 12 low high text n (omega arith)).0 e in (is.above, is.below)
 
 date_said : (year month date : ℕ) (rest : List ℕ) (day : ℤ) → where_date year month date rest ≡ Some day → IsDay day
 date_said year month date rest day e =

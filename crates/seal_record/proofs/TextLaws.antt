@@ -1,18 +1,17 @@
 -- Texts are read by their lines, and lines by their parts.
-use Rattle.std.proofs.Common.{◌≡◌, ℤ, ◌≢◌, ◌⊎◌, inl, inr, ◌↔◌, ℕ, ◌+◌, ◌≤◌, Bool, true, false, Decides, List, [], ◌∷◌, ◌++◌, length, Some, Result, Ok, Err, eqb, refl, sym, ap, subst, ◌∙◌, arith}
-use Rattle.std.proofs.lemmas.Bool.Decides.{Decides-and, Decides-eqb}
-use Rattle.std.proofs.lemmas.List.{append-nil}
+use Rattle.std.proofs.Common.{◌≡◌, ℤ, ◌≢◌, ◌⊎◌, inl, inr, ◌↔◌, ℕ, ◌+◌, Bool, true, false, Decides, List, [], ◌∷◌, ◌++◌, length, Some, Result, Ok, Err, eqb, refl, sym, ap, subst, ◌∙◌, arith}
+use Rattle.std.proofs.lemmas.Bool.Decides.{Decides-eqb}
 use Rattle.std.proofs.lemmas.List.Elements.{All-cons}
 use Rattle.std.specs.Str.Lines.{strip_carriage_return}
-use Rattle.std.specs.Str.Parse.{IsNumeral, digits_value}
-use Rattle.taxi_units.specs.Number.{number_at}
-use Rattle.taxi_units.proofs.Laws.{numbers_are_read_by_their_digits}
+use Rattle.taxi_units.specs.Digits.{IsNumberIn}
+use Rattle.taxi_units.specs.Number.{number_in}
+use Rattle.taxi_units.proofs.Laws.{figures_are_read_by_their_digits}
 use Rattle.seal_record.specs.declared.params.ParamFault.{ParamFault}
 use Rattle.seal_record.specs.Lines.{key_in, lines_of, value_in}
 use Rattle.interval_clock.specs.Offsets.{IsOffsetList}
 use Rattle.seal_record.specs.declared.seal.Seal.{Seal}
 use Rattle.seal_record.specs.Decoding.{reads}
-use Rattle.seal_record.specs.OffsetLaws.{Decides-is_offset_list, Decides-leb}
+use Rattle.seal_record.specs.OffsetLaws.{Decides-is_offset_list}
 use Rattle.seal_record.specs.OffsetList.{is_offset_list}
 use Rattle.seal_record.specs.Ranges.{IsSeal, IsTaxi}
 use Rattle.seal_record.specs.SealLaws.{Decides-is_taxi, gives_valid, nothing_else, reads_it}
@@ -23,10 +22,9 @@ use Rattle.seal_record.specs.SaidStages.{line_read}
 use Rattle.seal_record.specs.Says.{HasNone, AreLines, BreaksAt, IsParted}
 use Rattle.seal_record.specs.Says.AreLines.{ended, last}
 use Rattle.seal_record.specs.Says.IsParted.{alone, parted}
-use Rattle.seal_record.specs.Values.{is_taxi, number_in, taxi_read, where_in}
+use Rattle.seal_record.specs.Values.{is_taxi, taxi_read}
 use Rattle.seal_record.proofs.Parting.{ended_line, key_alone, key_before, last_line, no_value, value_after}
-use Rattle.seal_record.proofs.SaidRanges.{let_through, read_on}
-use Rattle.taxi_units.specs.Written.{IsNumberIn}
+use Rattle.seal_record.proofs.SaidRanges.{let_through}
 
 none_in_nothing : (byte : ℕ) → HasNone byte []
 none_in_nothing byte = λ k d lt. absurd (omega arith)
@@ -96,30 +94,8 @@ pub empty_of : (xs : List ℕ) → length xs ≡ 0 → xs ≡ []
 empty_of [] e = refl
 empty_of (x ∷ xs) e = absurd (omega arith)
 
-number_is : (low high : ℕ) (text : List ℕ) (n : ℕ) → number_in low high text ≡ Some n → IsNumberIn low high text n
-unfolding number_in
-number_is low high text n e =
-    let read = read_on (number_at text) (where_in low high) n e in
-    let x = read.0 in
-    let through = let_through _ x.0 n (Decides-and _ _ (Decides-eqb (length x.1) 0) (Decides-and _ _ (Decides-leb low x.0) (Decides-leb x.0 high))) read.2 in
-    let is = (numbers_are_read_by_their_digits text x.1 x.0).0 read.1 in
-    let whole : text ≡ is.0 = is.1 ∙ (ap (λ (rest : List ℕ). is.0 ++ rest) (empty_of x.1 through.0.0) ∙ append-nil is.0) in
-    record {
-      numeral = subst (IsNumeral 10) (sym whole) is.2;
-      few = subst (λ (ds : List ℕ). length ds ≤ 12) (sym whole) is.3;
-      value = ap (digits_value 10) whole ∙ (sym is.4 ∙ through.1);
-      above = omega (arith, through.1, through.0.1.0);
-      below = omega (arith, through.1, through.0.1.1);
-    }
-
-number_by : (low high : ℕ) (text : List ℕ) (n : ℕ) → IsNumberIn low high text n → number_in low high text ≡ Some n
-unfolding number_in
-number_by low high text n is =
-    let read = (numbers_are_read_by_their_digits text [] n).1 (text, sym (append-nil text), is.numeral, is.few, sym is.value, tt) in
-    rw (read, (Decides-leb low n).1 is.above, (Decides-leb n high).1 is.below) refl
-
 pub numbers_in_ranges : (low high : ℕ) (text : List ℕ) (n : ℕ) → (number_in low high text ≡ Some n) ↔ IsNumberIn low high text n
-numbers_in_ranges low high text n = (number_is low high text n, number_by low high text n)
+numbers_in_ranges low high text n = figures_are_read_by_their_digits 1 12 low high text n (omega arith)
 
 -- ---- the first bad line
 

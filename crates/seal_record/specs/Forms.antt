@@ -1,11 +1,10 @@
 -- Rules: the forms of the values that are no plain numbers, in words that share nothing with how they are read.
-use Rattle.std.specs.Prelude.{◌≡◌, ℕ, ◌≤◌, ℤ, pos, neg_ℤ, List, ◌∷◌, ◌++◌, length, codes}
-use Rattle.std.specs.Str.Parse.{IsNumeral, digits_value}
+use Rattle.std.specs.Prelude.{◌≡◌, ℕ, ℤ, pos, neg_ℤ, List, ◌∷◌, ◌++◌, codes}
 use Rattle.drive_modes.specs.declared.charges.Mode.{Mode}
 use Rattle.drive_modes.specs.declared.charges.Mode.TheVariants.{Single, Double}
 use Rattle.interval_clock.specs.Calendar.{IsDateOf}
 use Rattle.seal_record.specs.Limits.{greatest_offset, first_year, last_year}
-use Rattle.taxi_units.specs.Written.{IsNumberIn}
+use Rattle.taxi_units.specs.Digits.{AreDigitsOf, IsFigure, IsNumberIn}
 
 -- a text is that of a mode if it is `single` for mode S, or `double` for mode D
 pub data IsModeText : List ℕ → Mode → Type 0 where
@@ -23,16 +22,8 @@ pub record IsPairText (text : List ℕ) (pair : ℕ × ℤ) : Type 0 where
   pub second : List ℕ
   pub offset : List ℕ
   pub text_is : text ≡ second ++ 32 ∷ offset
-  pub numeral : IsNumeral 10 second
-  pub few : length second ≤ 12
-  pub second_is : digits_value 10 second ≡ pair.0
+  pub second_is : AreDigitsOf 1 12 second pair.0
   pub offset_is : IsOffsetText offset pair.1
-
--- digits are a number of a width if there are just as many of them and they write that number
-pub record IsWide (width : ℕ) (digits : List ℕ) (number : ℕ) : Type 0 where
-  pub numeral : IsNumeral 10 digits
-  pub long : length digits ≡ width
-  pub value : digits_value 10 digits ≡ number
 
 -- a text is that of a day number if it is a date of the years 2000 to 2199 as YYYY-MM-DD, and the day is that date's
 pub record IsDateText (text : List ℕ) (day : ℤ) : Type 0 where
@@ -43,9 +34,7 @@ pub record IsDateText (text : List ℕ) (day : ℤ) : Type 0 where
   pub year : ℕ
   pub month : ℕ
   pub date : ℕ
-  pub year_is : IsWide 4 years year
-  pub month_is : IsWide 2 months month
-  pub date_is : IsWide 2 dates date
-  pub from : first_year ≤ year
-  pub to : year ≤ last_year
+  pub year_is : IsFigure 4 4 first_year last_year years year
+  pub month_is : AreDigitsOf 2 2 months month
+  pub date_is : AreDigitsOf 2 2 dates date
   pub day_is : IsDateOf day year month date

@@ -7,7 +7,7 @@ use Rattle.seal_record.specs.Limits.{least_constant, greatest_constant, longest_
 use Rattle.seal_record.specs.Ranges.{IsTaxi}
 use Rattle.seal_record.specs.Said.{Said}
 use Rattle.seal_record.specs.Says.{IsParted}
-use Rattle.taxi_units.specs.Written.{IsNumberIn}
+use Rattle.taxi_units.specs.Digits.{IsNumberIn}
 
 -- a line is silent if it is empty, or a comment, which begins with #
 pub data IsSilent : List ℕ → Type 0 where

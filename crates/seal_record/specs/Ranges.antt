@@ -1,5 +1,5 @@
 -- Rules: the ranges of parameters and seals, and the number of a seal.
-use Rattle.std.specs.Prelude.{◌≡◌, ◌⊎◌, ℕ, ◌≤◌, ℤ, pos, ◌≤ℤ◌, List, length, All}
+use Rattle.std.specs.Prelude.{◌≡◌, ℕ, ◌≤◌, ℤ, pos, ◌≤ℤ◌, List, length, All}
 use Rattle.interval_clock.specs.Offsets.{IsOffsetList}
 use Rattle.seal_record.specs.declared.params.Params.{Params}
 use Rattle.seal_record.specs.declared.seal.Seal.{Seal}

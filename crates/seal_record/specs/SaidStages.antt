@@ -12,7 +12,8 @@ use Rattle.seal_record.specs.Limits.{least_constant, greatest_constant, longest_
 use Rattle.seal_record.specs.Lines.{is_passed, key_in, value_in}
 use Rattle.seal_record.specs.OffsetList.{is_offset_list}
 use Rattle.seal_record.specs.Said.{Said}
-use Rattle.seal_record.specs.Values.{taxi_read, number_in, mode_read, pair_read, secured_read}
+use Rattle.taxi_units.specs.Number.{number_in}
+use Rattle.seal_record.specs.Values.{taxi_read, mode_read, pair_read, secured_read}
 
 -- the parameter of a key, if the key is one of the six
 unfoldable pub name_of : (key : List ℕ) → Option Name

@@ -1,7 +1,6 @@
 -- Rules: the lines, keys and numbers of a text of parameters, in words that share nothing with how it is read.
-use Rattle.std.specs.Prelude.{◌≡◌, ℕ, ◌+◌, ◌≤◌, List, [], ◌∷◌, ◌++◌, length, Ok, Err}
+use Rattle.std.specs.Prelude.{◌≡◌, ℕ, ◌+◌, List, [], ◌∷◌, ◌++◌, length, Ok, Err}
 use Rattle.std.specs.Str.Lines.{strip_carriage_return}
-use Rattle.std.specs.Str.Parse.{IsNumeral, digits_value}
 use Rattle.seal_record.specs.declared.params.ParamFault.{ParamFault}
 pub use Rattle.seal_record.specs.Reading.{lines_read}
 use Rattle.seal_record.specs.Said.{Said}

@@ -1,12 +1,13 @@
 -- For proofs: the values of the parameters, as they are read. The laws texts_say_parameters_line_by_line and
 -- values_are_read_by_their_forms say what they are.
-use Rattle.std.specs.Prelude.{ℕ, ◌&&◌, ◌||◌, ◌==◌, nat_le, Bool, if◌then◌else◌, ℤ, pos, neg_ℤ, List, length, Option, Some, None, codes}
+use Rattle.std.specs.Prelude.{ℕ, ◌&&◌, ◌==◌, nat_le, Bool, if◌then◌else◌, ℤ, pos, neg_ℤ, List, length, Option, Some}
+use Rattle.std.specs.Prelude.{None, codes}
 use Rattle.std.specs.List.{list_all}
 use Rattle.std.specs.Str.{bytes_eq}
 use Rattle.drive_modes.specs.declared.charges.Mode.{Mode}
 use Rattle.drive_modes.specs.declared.charges.Mode.TheVariants.{Single, Double}
 use Rattle.interval_clock.specs.Calendar.{is_date, day_number_of}
-use Rattle.taxi_units.specs.Number.{number_at, number_of_width}
+use Rattle.taxi_units.specs.Number.{number_at, number_in, number_of_width}
 use Rattle.taxi_units.specs.Reading.{◌>>=◌, word_at}
 use Rattle.seal_record.specs.Limits.{longest_taxi, greatest_offset, first_year, last_year}
 use Rattle.taxi_units.specs.Identifier.{is_identifier_character}
@@ -18,14 +19,6 @@ is_taxi text = nat_le 1 (length text) && (nat_le (length text) longest_taxi && l
 -- a text is read as a taxi identifier if it is one
 abbrev pub taxi_read : List ℕ → Option (List ℕ)
 taxi_read text = if is_taxi text then Some text else None
-
--- a number that was read at the front of a text, if nothing stands behind it and it is in a range
-abbrev pub where_in : (low high : ℕ) → ℕ × List ℕ → Option ℕ
-where_in low high x = if (length x.1 == 0 && (nat_le low x.0 && nat_le x.0 high)) then Some x.0 else None
-
--- a text is read as a number of a range if it is 1 to 12 digits that write such a number
-unfoldable pub number_in : (low high : ℕ) → List ℕ → Option ℕ
-number_in low high text = number_at text >>= where_in low high
 
 -- a text is read as a mode if it is the word of one
 unfoldable pub mode_read : List ℕ → Option Mode

@@ -9,8 +9,9 @@ ghost use Rattle.seal_record.specs.Ranges.{IsParams, IsTaxi};
 ghost use Rattle.seal_record.specs.Reading.{lines_read, params_read};
 ghost use Rattle.seal_record.specs.Said.{Said};
 ghost use Rattle.seal_record.specs.Says.{AreLines, BreaksAt, IsParted};
-ghost use Rattle.seal_record.specs.Values.{number_in, taxi_read};
-ghost use Rattle.taxi_units.specs.Written.{IsNumberIn};
+ghost use Rattle.seal_record.specs.Values.{taxi_read};
+ghost use Rattle.taxi_units.specs.Digits.{IsNumberIn};
+ghost use Rattle.taxi_units.specs.Number.{number_in};
 
 /// A law: a text has its lines, each with its LF and perhaps a CR before it, and what stands behind the
 /// last LF as its last line; a line is its key, one blank and its value, or its key alone; a number is

@@ -5,13 +5,14 @@ ghost use Rattle.taxi_units.specs.Reading.{Gives, GivesSame};
 ghost use Rattle.seal_record.specs.Limits.{least_constant, greatest_constant, longest_hold, first_year, last_year};
 ghost use Rattle.seal_record.specs.Values as spec;
 ghost use Rattle.taxi_units.specs.Identifier.{is_identifier_character};
+ghost use Rattle.taxi_units.specs.Number.{number_in};
 
 use crate::names::is_text;
 use crate::params::{LONGEST_HOLD, LONGEST_TAXI};
 use arrayvec::ArrayVec;
 use drive_modes::{Constant, GREATEST_CONSTANT, LEAST_CONSTANT, Mode};
 use interval_clock::{GREATEST_OFFSET, day_number};
-use taxi_units::{is_identifier_character, number_at, number_of_width, word};
+use taxi_units::{is_identifier_character, number_at, number_in, number_of_width, word};
 
 /// The first year of a date of securing.
 const FIRST_YEAR: u64 = 2000;
@@ -47,25 +48,11 @@ pub(crate) fn taxi(text: &[u8]) -> Option<ArrayVec<u8, LONGEST_TAXI>>
     }
 }
 
-/// A number in a range.
-#[tactic(auto, unfolding(crate::specs::Values::number_in))]
-fn number(text: &[u8], low: u64, high: u64) -> Option<u64>
-    ensures value { GivesSame result (spec.number_in low high text.now) }
-    ensures low { IfSome result (λ n. low ≤ n) }
-    ensures high { IfSome result (λ n. n ≤ high) }
-{
-    let (number, rest) = number_at(text)?;
-    if rest.len() == 0 && low <= number && number <= high {
-        return Some(number);
-    }
-    None
-}
-
 /// The constant of the distance signal generator.
 pub(crate) fn constant(text: &[u8]) -> Option<Constant>
-    ensures { GivesSame result (spec.number_in least_constant greatest_constant text.now) }
+    ensures { GivesSame result (number_in least_constant greatest_constant text.now) }
 {
-    let per_kilometre = number(text, LEAST_CONSTANT as u64, GREATEST_CONSTANT as u64)?;
+    let per_kilometre = number_in(text, LEAST_CONSTANT as u64, GREATEST_CONSTANT as u64)?;
     match Constant::new(per_kilometre as u32) {
         Ok(constant) => Some(constant),
         Err(_) => None,
@@ -74,9 +61,9 @@ pub(crate) fn constant(text: &[u8]) -> Option<Constant>
 
 /// The seconds for which a trip may be held.
 pub(crate) fn hold(text: &[u8]) -> Option<u16>
-    ensures { GivesSame result (spec.number_in 0 longest_hold text.now) }
+    ensures { GivesSame result (number_in 0 longest_hold text.now) }
 {
-    let seconds = number(text, 0, u64::from(LONGEST_HOLD))?;
+    let seconds = number_in(text, 0, u64::from(LONGEST_HOLD))?;
     Some(seconds as u16)
 }
 
@@ -101,11 +88,11 @@ fn offset(text: &[u8]) -> Option<i32>
 {
     match word(text, b"-") {
         Some(digits) => {
-            let seconds = number(digits, 0, GREATEST_OFFSET as u64)?;
+            let seconds = number_in(digits, 0, GREATEST_OFFSET as u64)?;
             Some(-(seconds as i32))
         }
         None => {
-            let seconds = number(text, 0, GREATEST_OFFSET as u64)?;
+            let seconds = number_in(text, 0, GREATEST_OFFSET as u64)?;
             Some(seconds as i32)
         }
     }

@@ -2,23 +2,25 @@
 use Rattle.std.proofs.Common.{◌≡◌, inl, inr, ℕ, zero, suc, ◌≤◌, List, [], ◌∷◌, ◌++◌, Option, Some, None, refl, ap, ◌∙◌, subst, arith, codes}
 use Rattle.tariff_syntax.specs.Atom.{weekday_read, weekday_first, numbered_first, time_first, until_weekday, days_first, dates_first, by_unit, after_first, atom_named}
 use Rattle.tariff_syntax.specs.Condition.{Condition, and, or, not, position, zone, time, day, date, holiday, after_distance, after_time}
-use Rattle.tariff_syntax.specs.Figure.{small_number, amount_read, minute_read, date_read, number_first, amount_first, minute_first, date_first}
+use Rattle.tariff_syntax.specs.Figure.{amount_read, minute_read, date_read, number_first, amount_first, minute_first, date_first}
 use Rattle.tariff_syntax.specs.Forms.{IsNumber, IsDate, IsMinute, IsAmount, IsWeekday, AreWeekdays, IsAtom}
 use Rattle.tariff_syntax.specs.Grammar.{Reader, factor_by}
 use Rattle.tariff_syntax.specs.Weight.{weight}
 use Rattle.tariff_syntax.specs.Token.{Token, word, figure, sign}
 use Rattle.tariff_syntax.specs.Words.{after_word, after_sign, word_first}
-use Rattle.tariff_syntax.proofs.FigureLaws.{small_is, small_again, pair_is, date_again, minute_is, minute_again, amount_is, amount_again, figure_as_is, figure_as_here}
+use Rattle.tariff_syntax.proofs.FigureLaws.{pair_is, date_again, minute_is, minute_again, amount_is, amount_again, figure_as_is, figure_as_here}
 use Rattle.tariff_syntax.proofs.Tools.{bind_some, by_word, after_word_is, after_word_here, after_sign_is, after_sign_here, word_first_is, word_first_here, some_same}
+use Rattle.taxi_units.specs.Number.{figure_in}
 use Rattle.taxi_units.specs.Weekdays.{day_name}
+use Rattle.taxi_units.proofs.Laws.{figures_are_read_by_their_digits}
 
 pub number_is : (least most : ℕ) (ts : List Token) (x : ℕ × List Token) → number_first least most ts ≡ Some x → (f : List ℕ) × (ts ≡ figure f ∷ x.1) × IsNumber least most f x.0
 unfolding number_first
-number_is least most ts x e = let is = figure_as_is (small_number least most) ts x e in (is.0, is.1, small_is least most is.0 x.0 is.2)
+number_is least most ts x e = let is = figure_as_is (figure_in 1 2 least most) ts x e in (is.0, is.1, (figures_are_read_by_their_digits 1 2 least most is.0 x.0 (omega arith)).0 is.2)
 
 pub number_here : (least most : ℕ) (f : List ℕ) (n : ℕ) (rest : List Token) → IsNumber least most f n → number_first least most (figure f ∷ rest) ≡ Some (n, rest)
 unfolding number_first
-number_here least most f n rest h = figure_as_here (small_number least most) f n rest (small_again least most f n h)
+number_here least most f n rest h = figure_as_here (figure_in 1 2 least most) f n rest ((figures_are_read_by_their_digits 1 2 least most f n (omega arith)).1 h)
 
 pub amounts_are : (decimals : ℕ) (ts : List Token) (x : ℕ × List Token) → amount_first decimals ts ≡ Some x → (f : List ℕ) × (ts ≡ figure f ∷ x.1) × IsAmount decimals f x.0
 unfolding amount_first

@@ -1,58 +1,31 @@
 -- What figures say is read from their forms.
 use Rattle.std.proofs.Common.{◌≡◌, ℕ, ◌+◌, ◌*◌, ◌≤◌, List, [], ◌∷◌, ◌++◌, length, Option, Some, Result, Ok, Err, refl, ap, sym, ◌∙◌, subst, arith, codes}
-use Rattle.std.specs.Str.Parse.{IsNumeral, digits_value}
-use Rattle.std.proofs.lemmas.Bool.{and_parts, leb-true, le-leb, eqb-true}
-use Rattle.taxi_units.specs.Number.{number_at, number_of_width, decimal_read, NoDigitFirst}
+use Rattle.std.proofs.lemmas.Bool.{and_parts, leb-true, le-leb}
+use Rattle.taxi_units.specs.Digits.{AreDigitsOf}
+use Rattle.taxi_units.specs.Number.{number_of_width, decimal_read, NoDigitFirst}
 use Rattle.taxi_units.specs.Reading.{word_at}
 use Rattle.taxi_units.specs.declared.decimal.NumberFault.{NumberFault}
-use Rattle.taxi_units.proofs.Laws.{decimals_are_read_by_their_form, numbers_are_read_by_their_digits, wide_numbers_are_read_by_their_digits, words_are_read_by_their_text}
-use Rattle.tariff_syntax.specs.Figure.{where_small, small_number, pair_read, date_read, year_date_read, where_of_a_day, minute_read, amount_or_none, amount_read, figure_as}
-use Rattle.tariff_syntax.specs.Forms.{IsNumber, IsDigits, IsPair, IsDate, IsYearDate, IsMinute, IsAmount}
+use Rattle.taxi_units.proofs.Laws.{decimals_are_read_by_their_form, wide_numbers_are_read_by_their_digits, words_are_read_by_their_text}
+use Rattle.tariff_syntax.specs.Figure.{pair_read, date_read, year_date_read, where_of_a_day, minute_read, amount_or_none, amount_read, figure_as}
+use Rattle.tariff_syntax.specs.Forms.{IsPair, IsDate, IsYearDate, IsMinute, IsAmount}
 use Rattle.tariff_syntax.specs.Token.{Token, figure}
 use Rattle.tariff_syntax.specs.Words.{figure_first}
 use Rattle.tariff_syntax.proofs.Tools.{bind_some, passed, ended_is, figure_first_is, figure_first_here, some_same, append_none}
-
-none_left : (xs : List ℕ) → length xs ≡ 0 → xs ≡ []
-none_left [] e = refl
-none_left (x ∷ xs) e = absurd (omega arith)
-
-pub small_is : (least most : ℕ) (text : List ℕ) (n : ℕ) → small_number least most text ≡ Some n → IsNumber least most text n
-unfolding small_number
-small_is least most text n e =
-    let read = bind_some (number_at text) (where_small least most text) n e in
-    let x = read.0 in
-    let test = passed _ x.0 n read.2 in
-    let from_length = and_parts _ _ test.0 in
-    let from_two = and_parts _ _ from_length.1 in
-    let from_least = and_parts _ _ from_two.1 in
-    let is = (numbers_are_read_by_their_digits text x.1 x.0).0 read.1 in
-    let digits = is.0 in
-    let whole : text ≡ digits = is.1 ∙ (ap (λ (ys : List ℕ). digits ++ ys) (none_left x.1 (eqb-true _ _ from_length.0)) ∙ append_none digits) in
-    let value : n ≡ digits_value 10 text = sym test.1 ∙ (is.4 ∙ ap (digits_value 10) (sym whole)) in
-    let least_is : least ≤ x.0 = leb-true _ _ from_least.0 in
-    let most_is : x.0 ≤ most = leb-true _ _ from_least.1 in
-    (subst (IsNumeral 10) (sym whole) is.2, leb-true _ _ from_two.0, value, omega (arith, test.1), omega (arith, test.1))
-
-pub small_again : (least most : ℕ) (text : List ℕ) (n : ℕ) → IsNumber least most text n → small_number least most text ≡ Some n
-unfolding small_number
-small_again least most text n h =
-    let read : number_at text ≡ Some (n, []) = (numbers_are_read_by_their_digits text [] n).1 (text, sym (append_none text), h.0, omega (arith, h.1), h.2, tt) in
-    rw (read, le-leb _ _ h.1, le-leb _ _ h.3, le-leb _ _ h.4) refl
 
 word_again : (word rest : List ℕ) → word_at word (word ++ rest) ≡ Some rest
 word_again word rest = (words_are_read_by_their_text word (word ++ rest) rest).1 refl
 
 -- digits at the front
 abbrev IsFront : (width : ℕ) → List ℕ → ℕ → List ℕ → Type 0
-IsFront width text n rest = (x : List ℕ) × (text ≡ x ++ rest) × IsDigits width x n × NoDigitFirst rest
+IsFront width text n rest = (x : List ℕ) × (text ≡ x ++ rest) × AreDigitsOf width width x n × NoDigitFirst rest
 
 digits_are : (width : ℕ) (text rest : List ℕ) (n : ℕ) → width ≤ 12 → number_of_width width text ≡ Some (n, rest) → IsFront width text n rest
 digits_are width text rest n few e =
     let is = (wide_numbers_are_read_by_their_digits width text rest n few).0 e in
-    (is.0, is.1, (is.2, is.3, is.4), is.5)
+    (is.0, is.1, is.2, is.3)
 
-digits_again : (width : ℕ) (x rest : List ℕ) (n : ℕ) → width ≤ 12 → IsDigits width x n → NoDigitFirst rest → number_of_width width (x ++ rest) ≡ Some (n, rest)
-digits_again width x rest n few h stops = (wide_numbers_are_read_by_their_digits width (x ++ rest) rest n few).1 (x, refl, h.0, h.1, h.2, stops)
+digits_again : (width : ℕ) (x rest : List ℕ) (n : ℕ) → width ≤ 12 → AreDigitsOf width width x n → NoDigitFirst rest → number_of_width width (x ++ rest) ≡ Some (n, rest)
+digits_again width x rest n few h stops = (wide_numbers_are_read_by_their_digits width (x ++ rest) rest n few).1 (x, refl, h, stops)
 
 pub pair_is : (between text : List ℕ) (first second : ℕ) → pair_read between text ≡ Some (first, second) → IsPair between text first second
 unfolding pair_read
@@ -67,7 +40,7 @@ pair_is between text first second e =
     let last : two.0 ≡ b.0 = b.1 ∙ (ap (λ (ys : List ℕ). b.0 ++ ys) end.0 ∙ append_none b.0) in
     let first_is : one.0.0 ≡ first = ap (λ (p : ℕ × ℕ). p.0) end.1 in
     let second_is : three.0.0 ≡ second = ap (λ (p : ℕ × ℕ). p.1) end.1 in
-    (a.0, b.0, a.1 ∙ ap (λ (ys : List ℕ). a.0 ++ ys) (between_is ∙ ap (λ (ys : List ℕ). between ++ ys) last), subst (IsDigits 2 a.0) first_is a.2, subst (IsDigits 2 b.0) second_is b.2)
+    (a.0, b.0, a.1 ∙ ap (λ (ys : List ℕ). a.0 ++ ys) (between_is ∙ ap (λ (ys : List ℕ). between ++ ys) last), subst (AreDigitsOf 2 2 a.0) first_is a.2, subst (AreDigitsOf 2 2 b.0) second_is b.2)
 
 pub pair_again : (between text : List ℕ) (first second : ℕ) → ((y : List ℕ) → NoDigitFirst (between ++ y)) → IsPair between text first second → pair_read between text ≡ Some (first, second)
 unfolding pair_read
@@ -97,7 +70,7 @@ year_date_is text year month number e =
     let found = some_same (one.0.0, three.0.0, three.0.1) (year, month, number) three.2 in
     let year_is : one.0.0 ≡ year = ap (λ (p : ℕ × ℕ × ℕ). p.0) found in
     let date_is : three.0 ≡ (month, number) = ap (λ (p : ℕ × ℕ × ℕ). (p.1, p.2)) found in
-    (a.0, two.0, a.1 ∙ ap (λ (ys : List ℕ). a.0 ++ ys) dash, subst (IsDigits 4 a.0) year_is a.2, pair_is (codes "-") two.0 month number (three.1 ∙ ap Some date_is))
+    (a.0, two.0, a.1 ∙ ap (λ (ys : List ℕ). a.0 ++ ys) dash, subst (AreDigitsOf 4 4 a.0) year_is a.2, pair_is (codes "-") two.0 month number (three.1 ∙ ap Some date_is))
 
 pub year_date_again : (text : List ℕ) (year month number : ℕ) → IsYearDate text year month number → year_date_read text ≡ Some (year, month, number)
 unfolding year_date_read

@@ -1,11 +1,10 @@
 -- The numbers of a text are in their ranges.
 use Rattle.std.proofs.Common.{inl, inr, ℕ, ◌+◌, ◌^◌, ◌<◌, ◌≤◌, List, [], ◌∷◌, Option, Some, None, All, subst, sym, arith}
-use Rattle.std.proofs.lemmas.Int.Digits.{digits_value-lt}
 use Rattle.std.proofs.lemmas.List.Elements.{All-nil, All-cons}
-use Rattle.std.specs.Str.Parse.{digits_value}
+use Rattle.taxi_units.specs.Digits.{AreDigitsOf}
 use Rattle.tariff_syntax.specs.Condition as tree
 use Rattle.tariff_syntax.specs.Condition.{Condition, position, zone, time, day, date, holiday, after_distance, after_time}
-use Rattle.tariff_syntax.specs.Forms.{IsAtom, IsDigits, IsMinute, AreWeekdays}
+use Rattle.tariff_syntax.specs.Forms.{IsAtom, IsMinute, AreWeekdays}
 use Rattle.tariff_syntax.specs.IsCondition.{IsCondition, atom, negation, parentheses, one_factor, conjunction, one_term, disjunction}
 use Rattle.tariff_syntax.specs.IsItem.{IsItem, IsCovers, IsWhen}
 use Rattle.tariff_syntax.specs.PrintedCondition.{Level, whole, term, factor}
@@ -15,17 +14,13 @@ use Rattle.tariff_syntax.specs.Token.{Token}
 use Rattle.tariff_syntax.specs.Tree as entries
 use Rattle.tariff_syntax.specs.Tree.{Tree, Line, Entry}
 use Rattle.tariff_syntax.specs.Writable.{IsFromTo, IsWritableCondition, IsWritableIf, IsWritableEntry, IsWritable}
-use Rattle.tariff_syntax.proofs.ShownFigures.{amount_small}
+use Rattle.tariff_syntax.proofs.ShownFigures.{amount_small, digits_small}
 
-two_digits : (text : List ℕ) (n : ℕ) → IsDigits 2 text n → n ≤ 99
-two_digits text n h =
-    let below : digits_value 10 text < 10 ^ 2 = subst (λ (k : ℕ). digits_value 10 text < 10 ^ k) h.1 (digits_value-lt 10 text h.0.1) in
-    omega arith
+two_digits : (text : List ℕ) (n : ℕ) → AreDigitsOf 2 2 text n → n ≤ 99
+two_digits text n h = omega (arith, digits_small 2 text n h)
 
-four_digits : (text : List ℕ) (n : ℕ) → IsDigits 4 text n → n ≤ 9999
-four_digits text n h =
-    let below : digits_value 10 text < 10 ^ 4 = subst (λ (k : ℕ). digits_value 10 text < 10 ^ k) h.1 (digits_value-lt 10 text h.0.1) in
-    omega arith
+four_digits : (text : List ℕ) (n : ℕ) → AreDigitsOf 4 4 text n → n ≤ 9999
+four_digits text n h = omega (arith, digits_small 4 text n h)
 
 minute_small : (text : List ℕ) (n : ℕ) → IsMinute text n → n ≤ 1439
 minute_small text n h = omega (arith, h.3, h.4, h.5)
@@ -35,8 +30,8 @@ weekdays_small ts from to (inl h) = ((h.2.0, h.2.1), subst (IsFromTo 1 7) (sym h
 weekdays_small ts from to (inr h) = ((h.3.0, h.3.1), (h.4.0, h.4.1))
 
 atom_small : (ts : List Token) (c : Condition) → IsAtom ts c → IsWritableCondition c
-atom_small ts (position n) h = (h.2.3, h.2.4)
-atom_small ts (zone n) h = (h.2.3, h.2.4)
+atom_small ts (position n) h = (h.2.above, h.2.below)
+atom_small ts (zone n) h = (h.2.above, h.2.below)
 atom_small ts (time from to) h = (minute_small h.0 from h.3, minute_small h.1 to h.4)
 atom_small ts (day from to) h = weekdays_small h.0 from to h.2
 atom_small ts (date from_month from_date to_month to_date) h =
@@ -67,12 +62,12 @@ covers_small decimals ts n (inr h) = amount_small decimals h.0 n h.2
 
 entry_small : (decimals : ℕ) (ts : List Token) (x : Entry) → IsItem decimals ts x → IsWritableEntry x
 entry_small decimals ts (entries.step amount rounding) h = amount_small decimals h.0 amount h.3
-entry_small decimals ts (entries.positions n) h = (h.2.3, h.2.4)
-entry_small decimals ts (entries.zones n) h = (h.2.3, h.2.4)
+entry_small decimals ts (entries.positions n) h = (h.2.above, h.2.below)
+entry_small decimals ts (entries.zones n) h = (h.2.above, h.2.below)
 entry_small decimals ts (entries.holiday year month number) h =
     (four_digits h.2.0 year h.2.3, two_digits h.2.4.0 month h.2.4.3, two_digits h.2.4.1 number h.2.4.4)
 entry_small decimals ts (entries.supplement number amount most) h =
-    ((h.4.3, h.4.4), amount_small decimals h.1 amount h.5, (h.6.3, h.6.4))
+    ((h.4.above, h.4.below), amount_small decimals h.1 amount h.5, (h.6.above, h.6.below))
 entry_small decimals ts (entries.initial amount covers when) h =
     (amount_small decimals h.0 amount h.4, covers_small decimals h.1 covers h.5, when_small h.2 when h.6)
 entry_small decimals ts (entries.rate a b c e when) h =
@@ -92,7 +87,7 @@ tariff_small : (number : ℕ) (texts : List (List ℕ)) (t : Tree) → SayTariff
 tariff_small number [] t h = record { decimals = omega (arith, h.0); lines = subst (All Small) (sym h.1) (All-nil Small) }
 tariff_small number (text ∷ texts) t (inl h) = tariff_small (number + 1) texts t h.1
 tariff_small number (text ∷ texts) t (inr (inl h)) =
-    record { decimals = h.0.2.2.4; lines = lines_small t.decimals (number + 1) texts t.lines h.1 }
+    record { decimals = h.0.2.2.below; lines = lines_small t.decimals (number + 1) texts t.lines h.1 }
 tariff_small number (text ∷ texts) t (inr (inr h)) =
     record { decimals = omega (arith, h.1); lines = lines_small 2 number (text ∷ texts) t.lines h.2 }
 

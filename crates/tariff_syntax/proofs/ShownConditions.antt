@@ -150,7 +150,7 @@ position_shown f n h = (
   word (codes "position") ∷ figure (decimal n) ∷ [],
   (decimal n, refl, number_again 1 9 f n (omega arith) h),
   omega arith,
-  λ more ts texts ready. shown_word (codes "position") (32 ∷ (decimal n ++ more)) (figure (decimal n) ∷ ts) texts refl (blank (decimal n ++ more) (figure (decimal n) ∷ ts) texts (figure_shows (decimal n) more ts texts (decimal_text n (omega (arith, h.4))) ready)),
+  λ more ts texts ready. shown_word (codes "position") (32 ∷ (decimal n ++ more)) (figure (decimal n) ∷ ts) texts refl (blank (decimal n ++ more) (figure (decimal n) ∷ ts) texts (figure_shows (decimal n) more ts texts (decimal_text n (omega (arith, h.below))) ready)),
 )
 
 pub zone_shown : (f : List ℕ) (n : ℕ) → IsNumber 1 9 f n → AtomShown (zone n)
@@ -158,7 +158,7 @@ zone_shown f n h = (
   word (codes "zone") ∷ figure (decimal n) ∷ [],
   (decimal n, refl, number_again 1 9 f n (omega arith) h),
   omega arith,
-  λ more ts texts ready. shown_word (codes "zone") (32 ∷ (decimal n ++ more)) (figure (decimal n) ∷ ts) texts refl (blank (decimal n ++ more) (figure (decimal n) ∷ ts) texts (figure_shows (decimal n) more ts texts (decimal_text n (omega (arith, h.4))) ready)),
+  λ more ts texts ready. shown_word (codes "zone") (32 ∷ (decimal n ++ more)) (figure (decimal n) ∷ ts) texts refl (blank (decimal n ++ more) (figure (decimal n) ∷ ts) texts (figure_shows (decimal n) more ts texts (decimal_text n (omega (arith, h.below))) ready)),
 )
 
 pair_shows : (c first second : ℕ) (more : List ℕ) (ts : List Token) (texts : List (List ℕ)) → IsFigureText (pair_figure c first second) → Ready more ts texts → Shows (padded_text 2 first ++ (c ∷ (padded_text 2 second ++ more))) (figure (pair_figure c first second) ∷ ts) texts

@@ -5,13 +5,15 @@ use Rattle.std.specs.Fmt.{decimal}
 use Rattle.std.specs.Str.Parse.{AllDigits, IsNumeral, digits_value}
 use Rattle.std.proofs.Math.Nat.{div-le_self, mod-le}
 use Rattle.std.proofs.lemmas.Bool.Decides.{nat_tests}
-use Rattle.std.proofs.lemmas.Fmt.{decimal_is_IsNumeral_wide, length-decimal-le_wide}
+use Rattle.std.proofs.lemmas.Fmt.{decimal_is_IsNumeral_wide}
 use Rattle.std.proofs.lemmas.Int.Digits.{digits_value-lt}
-use Rattle.std.proofs.lemmas.List.{length-replicate}
 use Rattle.std.proofs.lemmas.Str.Parse.{digit_from_value}
+use Rattle.taxi_units.specs.Digits.{AreDigitsOf}
 use Rattle.taxi_units.specs.Number.{money_text, padded_text}
-use Rattle.taxi_units.proofs.Laws.{amounts_read_back, decimals_are_read_by_their_form, padded_numbers_are_written_by_their_digits}
-use Rattle.tariff_syntax.specs.Forms.{IsNumber, IsDigits, IsPair, IsDate, IsYearDate, IsMinute, IsAmount}
+use Rattle.taxi_units.proofs.Laws.{amounts_read_back, decimals_are_read_by_their_form}
+use Rattle.taxi_units.proofs.Laws.{numbers_are_written_as_figures, padded_numbers_are_written_as_figures}
+use Rattle.taxi_units.proofs.Laws.{padded_numbers_are_written_by_their_digits}
+use Rattle.tariff_syntax.specs.Forms.{IsNumber, IsPair, IsDate, IsYearDate, IsMinute, IsAmount}
 use Rattle.tariff_syntax.specs.Token.{begins_with_digit, goes_on}
 use Rattle.tariff_syntax.proofs.Shows.{Goes, IsFigureText}
 
@@ -83,26 +85,20 @@ amount_again d n h = (decimals_are_read_by_their_form d (money_text d n) (Ok n))
 
 pub number_says : (least most n : ℕ) → most ≤ 99 → least ≤ n → n ≤ most → IsNumber least most (decimal n) n
 number_says least most n few low high =
-    let d = decimal_is_IsNumeral_wide n (omega arith) in
-    (d.0, length-decimal-le_wide 2 n (omega arith) (omega arith) (omega arith), sym d.1, low, high)
+    numbers_are_written_as_figures 2 least most n (omega arith) (omega arith) (omega arith) low high
 
 pub number_again : (least most : ℕ) (f : List ℕ) (n : ℕ) → most ≤ 99 → IsNumber least most f n → IsNumber least most (decimal n) n
-number_again least most f n few h = number_says least most n few h.3 h.4
+number_again least most f n few h = number_says least most n few h.above h.below
 
-padded_length : (width n : ℕ) → 0 < width → n < 10 ^ width → n ≤ 10 ^ 12 → length (padded_text width n) ≡ width
-padded_length width n some small h =
-    let short : length (decimal n) ≤ width = length-decimal-le_wide width n some small (omega arith) in
-    omega (arith, length-append (replicate (width - length (decimal n)) 48) (decimal n), length-replicate {A = ℕ} (width - length (decimal n)) 48)
+digits_again : (width n : ℕ) → 0 < width → n < 10 ^ width → width ≤ 12 → AreDigitsOf width width (padded_text width n) n
+digits_again width n some small narrow =
+    (padded_numbers_are_written_as_figures width n n n some narrow small (omega arith) (omega arith)).written
 
-digits_again : (width n : ℕ) → 0 < width → n < 10 ^ width → n ≤ 10 ^ 12 → IsDigits width (padded_text width n) n
-digits_again width n some small h =
-    let d = digits_of_padded width n (omega arith) in
-    (d.0, padded_length width n some small h, sym d.1)
-
-digits_small : (width : ℕ) (x : List ℕ) (n : ℕ) → IsDigits width x n → n < 10 ^ width
+pub digits_small : (width : ℕ) (x : List ℕ) (n : ℕ) → AreDigitsOf width width x n → n < 10 ^ width
 digits_small width x n h =
-    let small : digits_value 10 x < 10 ^ length x = digits_value-lt 10 x h.0.1 in
-    subst (λ (k : ℕ). n < 10 ^ k) h.1 (subst (λ (k : ℕ). k < 10 ^ length x) (sym h.2) small)
+    let small : digits_value 10 x < 10 ^ length x = digits_value-lt 10 x h.numeral.1 in
+    let long : length x ≡ width = omega (arith, h.some, h.few) in
+    subst (λ (k : ℕ). n < 10 ^ k) long (subst (λ (k : ℕ). k < 10 ^ length x) h.value small)
 
 -- two numbers of two digits with a byte between them
 abbrev pub pair_figure : (c first second : ℕ) → List ℕ

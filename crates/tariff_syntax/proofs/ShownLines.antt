@@ -75,13 +75,13 @@ positions_shown : (d n : ℕ) (f : List ℕ) (rest : List ℕ) → IsNumber 1 9 
 unfolding number_line
 positions_shown d n f rest h =
     let x = decimal n in
-    (word (codes "positions") ∷ figure x ∷ [], (x, refl, number_again 1 9 f n (omega arith) h), spaced (codes "positions") (x ++ (codes "\n" ++ rest)) (figure x ∷ []) (lines_of rest) refl (number_shows n (codes "\n" ++ rest) [] (lines_of rest) (omega (arith, h.4)) (line_feed rest)))
+    (word (codes "positions") ∷ figure x ∷ [], (x, refl, number_again 1 9 f n (omega arith) h), spaced (codes "positions") (x ++ (codes "\n" ++ rest)) (figure x ∷ []) (lines_of rest) refl (number_shows n (codes "\n" ++ rest) [] (lines_of rest) (omega (arith, h.below)) (line_feed rest)))
 
 zones_shown : (d n : ℕ) (f : List ℕ) (rest : List ℕ) → IsNumber 1 9 f n → LineShown d (zones n) rest
 unfolding number_line
 zones_shown d n f rest h =
     let x = decimal n in
-    (word (codes "zones") ∷ figure x ∷ [], (x, refl, number_again 1 9 f n (omega arith) h), spaced (codes "zones") (x ++ (codes "\n" ++ rest)) (figure x ∷ []) (lines_of rest) refl (number_shows n (codes "\n" ++ rest) [] (lines_of rest) (omega (arith, h.4)) (line_feed rest)))
+    (word (codes "zones") ∷ figure x ∷ [], (x, refl, number_again 1 9 f n (omega arith) h), spaced (codes "zones") (x ++ (codes "\n" ++ rest)) (figure x ∷ []) (lines_of rest) refl (number_shows n (codes "\n" ++ rest) [] (lines_of rest) (omega (arith, h.below)) (line_feed rest)))
 
 year_regroup : (y m n : ℕ) (rest : List ℕ) → year_figure y m n ++ rest ≡ padded_text 4 y ++ (45 ∷ (padded_text 2 m ++ (45 ∷ (padded_text 2 n ++ rest))))
 year_regroup y m n rest =
@@ -105,11 +105,11 @@ supplement_shown d number amount most ts rest h =
     let y = money_text d amount in
     let z = decimal most in
     let end = z ++ (codes "\n" ++ rest) in
-    let last = number_shows most (codes "\n" ++ rest) [] texts (omega (arith, h.6.4)) (line_feed rest) in
+    let last = number_shows most (codes "\n" ++ rest) [] texts (omega (arith, h.6.below)) (line_feed rest) in
     let max = spaced (codes "max") end (figure z ∷ []) texts refl last in
     let money = money_shows d amount (32 ∷ (codes "max " ++ end)) (word (codes "max") ∷ figure z ∷ []) texts small (blank (codes "max " ++ end) (word (codes "max") ∷ figure z ∷ []) texts max) in
     let amounts = y ++ (codes " max " ++ end) in
-    let first = number_shows number (32 ∷ amounts) (figure y ∷ word (codes "max") ∷ figure z ∷ []) texts (omega (arith, h.4.4)) (blank amounts (figure y ∷ word (codes "max") ∷ figure z ∷ []) texts money) in (
+    let first = number_shows number (32 ∷ amounts) (figure y ∷ word (codes "max") ∷ figure z ∷ []) texts (omega (arith, h.4.below)) (blank amounts (figure y ∷ word (codes "max") ∷ figure z ∷ []) texts money) in (
       word (codes "supplement") ∷ figure x ∷ figure y ∷ word (codes "max") ∷ figure z ∷ [],
       (x, y, z, refl, number_again 1 16 h.0 number (omega arith) h.4, amount_again d amount small, number_again 1 99 h.2 most (omega arith) h.6),
       spaced (codes "supplement") (x ++ (32 ∷ amounts)) (figure x ∷ figure y ∷ word (codes "max") ∷ figure z ∷ []) texts refl first,
@@ -203,7 +203,7 @@ said_lines d number (text ∷ texts) lines (inr h) = subst (AllSaid d) (sym h.2)
 said_tariff : (number : ℕ) (texts : List (List ℕ)) (t : Tree) → SayTariff number texts t → (t.decimals ≤ 3) × AllSaid t.decimals t.lines
 said_tariff number [] t h = (omega (arith, h.0), subst (AllSaid t.decimals) (sym h.1) tt)
 said_tariff number (text ∷ texts) t (inl h) = said_tariff (number + 1) texts t h.1
-said_tariff number (text ∷ texts) t (inr (inl h)) = (h.0.2.2.4, said_lines t.decimals (number + 1) texts t.lines h.1)
+said_tariff number (text ∷ texts) t (inr (inl h)) = (h.0.2.2.below, said_lines t.decimals (number + 1) texts t.lines h.1)
 said_tariff number (text ∷ texts) t (inr (inr h)) = (omega (arith, h.1), subst (λ (d : ℕ). AllSaid d t.lines) (sym h.1) (said_lines 2 number (text ∷ texts) t.lines h.2))
 
 lines_shown : (d number : ℕ) (lines : List Line) → AllSaid d lines → SayLines d number (lines_of (lines_text d lines)) (renumbered_from number lines)

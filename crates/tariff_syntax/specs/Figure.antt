@@ -1,22 +1,12 @@
 -- For proofs: what figures say, read byte by byte: numbers of one or two digits, dates and minutes, amounts. The law
 -- texts_are_parsed_as_they_read says what the answers mean.
-use Rattle.std.specs.Prelude.{ℕ, ◌+◌, ◌*◌, List, length, Option, Some, None, Result, Ok, Err, if◌then◌else◌, ◌&&◌, ◌==◌}
+use Rattle.std.specs.Prelude.{ℕ, ◌+◌, ◌*◌, List, Option, Some, None, Result, Ok, Err, if◌then◌else◌, ◌&&◌}
 use Rattle.std.specs.Prelude.{nat_le, codes}
-use Rattle.taxi_units.specs.Number.{number_at, number_of_width, decimal_read}
+use Rattle.taxi_units.specs.Number.{figure_in, number_of_width, decimal_read}
 use Rattle.taxi_units.specs.Reading.{◌>>=◌, word_at}
 use Rattle.taxi_units.specs.declared.decimal.NumberFault.{NumberFault}
 use Rattle.tariff_syntax.specs.Token.{Token}
 use Rattle.tariff_syntax.specs.Words.{figure_first, ended}
-
--- the number that was found in front of a rest, if the rest is empty, the text has at most two digits, and the
--- number is of `least` to `most`
-abbrev pub where_small : (least most : ℕ) → (text : List ℕ) → ℕ × List ℕ → Option ℕ
-where_small least most text x =
-    if (length x.1 == 0 && (nat_le (length text) 2 && (nat_le least x.0 && nat_le x.0 most))) then Some x.0 else None
-
--- the number of a text of one or two digits, if it is of `least` to `most`
-unfoldable pub small_number : (least most : ℕ) → List ℕ → Option ℕ
-small_number least most text = number_at text >>= where_small least most text
 
 -- the two numbers of a text of two digits, `between`, and two digits
 unfoldable pub pair_read : (between : List ℕ) → List ℕ → Option (ℕ × ℕ)
@@ -64,7 +54,7 @@ figure_as read ts = do
 
 -- the number of one or two digits, of `least` to `most`, that stands first, and the tokens after it
 unfoldable pub number_first : (least most : ℕ) → List Token → Option (ℕ × List Token)
-number_first least most ts = figure_as (small_number least most) ts
+number_first least most ts = figure_as (figure_in 1 2 least most) ts
 
 -- the amount that stands first, in units of the last of `decimals` decimals, and the tokens after it
 unfoldable pub amount_first : (decimals : ℕ) → List Token → Option (ℕ × List Token)

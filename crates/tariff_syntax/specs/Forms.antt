@@ -1,25 +1,20 @@
 -- Rules: the forms of figures and atoms.
-use Rattle.std.specs.Prelude.{◌≡◌, ℕ, ◌+◌, ◌*◌, ◌≤◌, ◌⊎◌, List, [], ◌∷◌, ◌++◌, length, Ok, codes}
-use Rattle.std.specs.Str.Parse.{IsNumeral, digits_value}
+use Rattle.std.specs.Prelude.{◌≡◌, ℕ, ◌+◌, ◌*◌, ◌≤◌, ◌⊎◌, List, [], ◌∷◌, ◌++◌, Ok, codes}
 use Rattle.taxi_units.specs.Decimal.{IsReadAs}
+use Rattle.taxi_units.specs.Digits.{AreDigitsOf, IsFigure}
 use Rattle.tariff_syntax.specs.Condition.{Condition, and, or, not, position, zone, time, day, date, holiday}
 use Rattle.tariff_syntax.specs.Condition.{after_distance, after_time}
 use Rattle.tariff_syntax.specs.Token.{Token, word, figure, sign}
 use Rattle.taxi_units.specs.Weekdays.{day_name}
 
--- a text is a number of a range if it is one or two digits with its value, and it is of `least` to `most`
+-- a text is a number of a range if it is a figure of it of one or two digits
 abbrev pub IsNumber : (least most : ℕ) → List ℕ → ℕ → Type 0
-IsNumber least most text n =
-    IsNumeral 10 text × (length text ≤ 2) × (n ≡ digits_value 10 text) × (least ≤ n) × (n ≤ most)
-
--- a text is a number in a width if it is exactly `width` digits with its value
-abbrev pub IsDigits : (width : ℕ) → List ℕ → ℕ → Type 0
-IsDigits width text n = IsNumeral 10 text × (length text ≡ width) × (n ≡ digits_value 10 text)
+IsNumber least most text n = IsFigure 1 2 least most text n
 
 -- a text is a pair of numbers if it is two digits with the first value, `between`, and two digits with the second
 abbrev pub IsPair : (between : List ℕ) → List ℕ → ℕ → ℕ → Type 0
 IsPair between text first second =
-    (x : List ℕ) × (y : List ℕ) × (text ≡ x ++ (between ++ y)) × IsDigits 2 x first × IsDigits 2 y second
+    (x : List ℕ) × (y : List ℕ) × (text ≡ x ++ (between ++ y)) × AreDigitsOf 2 2 x first × AreDigitsOf 2 2 y second
 
 -- a text is a date of any year if it is the month and the date, of two digits each, with a `-` between them
 abbrev pub IsDate : List ℕ → ℕ → ℕ → Type 0
@@ -28,7 +23,8 @@ IsDate text month number = IsPair (codes "-") text month number
 -- a text is a date of a year if it is the year of four digits, a `-`, and a date of any year
 abbrev pub IsYearDate : List ℕ → ℕ → ℕ → ℕ → Type 0
 IsYearDate text year month number =
-    (x : List ℕ) × (rest : List ℕ) × (text ≡ x ++ (codes "-" ++ rest)) × IsDigits 4 x year × IsDate rest month number
+    (x : List ℕ) × (rest : List ℕ) × (text ≡ x ++ (codes "-" ++ rest)) × AreDigitsOf 4 4 x year
+    × IsDate rest month number
 
 -- a text is a minute of the day if it is hours up to 23 and minutes up to 59, of two digits each, with a `:` between
 abbrev pub IsMinute : List ℕ → ℕ → Type 0

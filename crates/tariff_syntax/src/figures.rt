@@ -5,7 +5,7 @@ ghost use Rattle.tariff_syntax.specs.Figure as spec;
 ghost use Rattle.tariff_syntax.specs.TokenReading.{tokens_of};
 
 use crate::words::figure_first;
-use taxi_units::{number_at, number_of_width, read_decimal, word};
+use taxi_units::{figure_in, number_of_width, read_decimal, word};
 
 /// A number of one or two digits from `least` to `most`, and what stands after it.
 #[tactic(auto, unfolding(crate::specs::Figure::number_first))]
@@ -14,8 +14,8 @@ pub fn number_first(line: &[u8], least: u8, most: u8) -> Option<(u8, &[u8])>
     ensures within { IfSome result (λ x. x.0 ≤ most) }
 {
     let (text, rest) = figure_first(line)?;
-    let number = small_number(text, least, most)?;
-    Some((number, rest))
+    let number = figure_in(text, 1, 2, least as u64, most as u64)?;
+    Some((number as u8, rest))
 }
 
 /// An amount of `decimals` decimals, and what stands after it.
@@ -57,19 +57,6 @@ pub fn year_date_first(line: &[u8]) -> Option<((u16, u8, u8), &[u8])>
     let (text, rest) = figure_first(line)?;
     let date = year_date(text)?;
     Some((date, rest))
-}
-
-/// A number of one or two digits from `least` to `most`.
-#[tactic(auto, unfolding(crate::specs::Figure::small_number))]
-fn small_number(text: &[u8], least: u8, most: u8) -> Option<u8>
-    ensures value { GivesSame result (spec.small_number least most text.now) }
-    ensures within { IfSome result (λ n. n ≤ most) }
-{
-    let (number, rest) = number_at(text)?;
-    if rest.len() == 0 && text.len() <= 2 && least as u64 <= number && number <= most as u64 {
-        return Some(number as u8);
-    }
-    None
 }
 
 /// An amount of `decimals` decimals.

@@ -2,6 +2,8 @@
 mod Amounts
 -- digits at the front of a text, and the numbers and units that they make
 mod Digits
+-- numbers of a width and a range are read by their digits
+mod Figures
 -- the answer to a text of a decimal is the one that its form has
 mod Form
 -- a text is parted where its first digits end, and read so
@@ -18,6 +20,8 @@ mod Numbers
 mod Places
 -- texts of numbers and amounts are the ones that have their digits
 mod Spelled
+-- how streams end, from the bytes that were taken
+mod StreamEnds
 -- a word is read where it stands at the front of a text
 mod Words
 -- numbers are written digit by digit

@@ -6,6 +6,7 @@ use Rattle.std.proofs.Math.Seq.{take-append_seam, drop-append_seam}
 use Rattle.std.proofs.lemmas.Bool.{le-ltb, lt-ltb, ne_eqb, eq-eqb, eqb-true, cases_lt}
 use Rattle.std.proofs.lemmas.Int.Digits.{digits_value-lt}
 use Rattle.std.proofs.lemmas.Fmt.{decimal_is_IsNumeral_wide, length-decimal-le_wide}
+use Rattle.taxi_units.specs.Digits.{AreDigitsOf}
 use Rattle.taxi_units.specs.Number.{NoDigitFirst, IsNumberAt, IsNumberOfWidth, padded_text, digits_number, number_at, number_of_width, where_wide}
 use Rattle.taxi_units.specs.Reading.{◌>>=◌}
 use Rattle.taxi_units.proofs.Front.{front, count_front}
@@ -26,7 +27,7 @@ many_digits digits rest many =
     rw (not_none, lt-ltb 12 (length digits) many) refl
 
 number_complete : (text rest : List ℕ) (value : ℕ) → IsNumberAt text value rest → number_at text ≡ Some (value, rest)
-number_complete text rest value h = ap number_at h.1 ∙ (number_front h.0 rest h.2.1 h.5 ∙ (few_digits h.0 rest h.2.0 h.3 ∙ ap (λ (n : ℕ). Some (n, rest)) (sym h.4)))
+number_complete text rest value h = ap number_at h.1 ∙ (number_front h.0 rest h.2.numeral.1 h.3 ∙ (few_digits h.0 rest h.2.numeral.0 h.2.few ∙ ap (λ (n : ℕ). Some (n, rest)) h.2.value))
 
 same_found : (a b : ℕ × List ℕ) → Some a ≡ Some b → (a.0 ≡ b.0) × (a.1 ≡ b.1)
 same_found a b e =
@@ -41,7 +42,8 @@ number_sound (c ∷ cs) rest after value all stops (inl many) e =
 number_sound (c ∷ cs) rest after value all stops (inr few) e =
     let found = few_digits (c ∷ cs) rest (omega arith) few in
     let same = same_found (digits_value 10 (c ∷ cs), rest) (value, after) (sym found ∙ e) in
-    (c ∷ cs, ap (λ (xs : List ℕ). (c ∷ cs) ++ xs) same.1, (omega arith, all), few, sym same.0, subst NoDigitFirst same.1 stops)
+    let digits : AreDigitsOf 1 12 (c ∷ cs) value = record { numeral = (omega arith, all); some = omega arith; few = few; value = same.0 } in
+    (c ∷ cs, ap (λ (xs : List ℕ). (c ∷ cs) ++ xs) same.1, digits, subst NoDigitFirst same.1 stops)
 
 pub numbers_are_read_by_their_digits : (text rest : List ℕ) (value : ℕ) → (number_at text ≡ Some (value, rest)) ↔ IsNumberAt text value rest
 numbers_are_read_by_their_digits text rest value =
@@ -52,14 +54,17 @@ numbers_are_read_by_their_digits text rest value =
 wide_digits : (width : ℕ) (text rest : List ℕ) (value : ℕ) → number_at text ≡ Some (value, rest) → length text ≡ width + length rest → IsNumberOfWidth width text value rest
 wide_digits width text rest value e wide =
     let is = (numbers_are_read_by_their_digits text rest value).0 e in
-    (is.0, is.1, is.2, omega (arith, length-append is.0 rest, ap length is.1), is.4, is.5)
+    let long : length is.0 ≡ width = omega (arith, length-append is.0 rest, ap length is.1) in
+    let digits : AreDigitsOf width width is.0 value = record { numeral = is.2.numeral; some = omega (arith, long); few = omega (arith, long); value = is.2.value } in
+    (is.0, is.1, digits, is.3)
 
 -- a number of a width is below that power of ten
 pub wide_is_small : (text rest : List ℕ) (value width : ℕ) → number_at text ≡ Some (value, rest) → length text ≡ width + length rest → value < 10 ^ width
 wide_is_small text rest value width e wide =
     let is = wide_digits width text rest value e wide in
-    let small : digits_value 10 is.0 < 10 ^ length is.0 = digits_value-lt 10 is.0 is.2.1 in
-    subst (λ (n : ℕ). value < 10 ^ n) is.3 (subst (λ (n : ℕ). n < 10 ^ length is.0) (sym is.4) small)
+    let small : digits_value 10 is.0 < 10 ^ length is.0 = digits_value-lt 10 is.0 is.2.numeral.1 in
+    let long : length is.0 ≡ width = omega (arith, is.2.some, is.2.few) in
+    subst (λ (n : ℕ). value < 10 ^ n) long (subst (λ (n : ℕ). n < 10 ^ length is.0) is.2.value small)
 
 wide_found : (b : Bool) (width : ℕ) (text : List ℕ) (found x : ℕ × List ℕ) → (b ≡ true → length text ≡ width + length found.1) → number_at text ≡ Some found → cond b (Some found) None ≡ Some x → IsNumberOfWidth width text x.0 x.1
 wide_found true width text found x wide read e =
@@ -74,8 +79,9 @@ wide_sound width text rest value None read e = absurd cc
 wide_complete : (width : ℕ) (text rest : List ℕ) (value : ℕ) → width ≤ 12 → IsNumberOfWidth width text value rest → number_of_width width text ≡ Some (value, rest)
 unfolding number_of_width
 wide_complete width text rest value few h =
-    let read = number_complete text rest value (h.0, h.1, h.2, omega (arith, h.3, few), h.4, h.5) in
-    let wide : length text ≡ width + length rest = omega (arith, length-append h.0 rest, ap length h.1, h.3) in
+    let digits : AreDigitsOf 1 12 h.0 value = record { numeral = h.2.numeral; some = h.2.numeral.0; few = omega (arith, h.2.few, few); value = h.2.value } in
+    let read = number_complete text rest value (h.0, h.1, digits, h.3) in
+    let wide : length text ≡ width + length rest = omega (arith, length-append h.0 rest, ap length h.1, h.2.some, h.2.few) in
     rw (read, eq-eqb _ _ wide) refl
 
 pub wide_numbers_are_read_by_their_digits : (width : ℕ) (text rest : List ℕ) (value : ℕ) → width ≤ 12 → (number_of_width width text ≡ Some (value, rest)) ↔ IsNumberOfWidth width text value rest
@@ -86,9 +92,11 @@ pub numbers_read_back : (value : ℕ) (rest : List ℕ) → value < 10 ^ 12 → 
 numbers_read_back value rest small stops =
     let fits : value < 10 ^ 64 = omega arith in
     let d = decimal_is_IsNumeral_wide value fits in
-    number_complete (decimal value ++ rest) rest value (decimal value, refl, d.0, length-decimal-le_wide 12 value (omega arith) small fits, sym d.1, stops)
+    let digits : AreDigitsOf 1 12 (decimal value) value = record { numeral = d.0; some = d.0.0; few = length-decimal-le_wide 12 value (omega arith) small fits; value = d.1 } in
+    number_complete (decimal value ++ rest) rest value (decimal value, refl, digits, stops)
 
 pub padded_numbers_read_back : (width value : ℕ) (rest : List ℕ) → width ≤ 12 → value < 10 ^ 12 → NoDigitFirst rest → number_at (padded_text width value ++ rest) ≡ Some (value, rest)
 padded_numbers_read_back width value rest narrow small stops =
     let d = digits_of_padded width value (omega arith) in
-    number_complete (padded_text width value ++ rest) rest value (padded_text width value, refl, d.0, padded_within 12 width value (omega arith) narrow small (omega arith), sym d.1, stops)
+    let digits : AreDigitsOf 1 12 (padded_text width value) value = record { numeral = d.0; some = d.0.0; few = padded_within 12 width value (omega arith) narrow small (omega arith); value = d.1 } in
+    number_complete (padded_text width value ++ rest) rest value (padded_text width value, refl, digits, stops)

@@ -2,6 +2,7 @@ pub mod Bytes
 pub mod Calendar
 pub mod Counted
 pub mod Decimal
+pub mod Digits
 pub mod Halving
 pub mod Identifier
 pub mod Limits
@@ -12,6 +13,7 @@ pub mod NumberStages
 pub mod Parting
 pub mod Reading
 pub mod Shown
+pub mod Streams
 pub mod Test
 pub mod Time
 pub mod Weekdays

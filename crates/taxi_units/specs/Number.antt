@@ -1,11 +1,13 @@
 -- Rules: the texts of numbers and amounts, and which number stands at the front of a text. NumberStages has how the
 -- code reads them.
-use Rattle.std.specs.Prelude.{◌≡◌, ℕ, zero, suc, ◌≤◌, ◌+◌, ◌-◌, ◌/◌, ◌%◌, ◌^◌, List, [], ◌∷◌, ◌++◌, length, take, drop, replicate, if◌then◌else◌, nat_lt, ◌==◌, ◌||◌, Option, Some, None, ⊤}
+use Rattle.std.specs.Prelude.{◌≡◌, ℕ, zero, suc, ◌≤◌, ◌+◌, ◌-◌, ◌/◌, ◌%◌, ◌^◌, List, [], ◌∷◌, ◌++◌, length, take, drop}
+use Rattle.std.specs.Prelude.{replicate, if◌then◌else◌, nat_le, nat_lt, ◌==◌, ◌&&◌, ◌||◌, Option, Some, None, ⊤}
 use Rattle.std.specs.Fmt.{decimal}
 use Rattle.std.specs.Char.{digit_value}
-use Rattle.std.specs.Str.Parse.{AllDigits, IsNumeral, digits_value}
+use Rattle.std.specs.Str.Parse.{AllDigits, digits_value}
 pub use Rattle.taxi_units.specs.Decimal.{units_of}
 pub use Rattle.taxi_units.specs.NumberStages.{digits_at_front, units_read, counted_parts_read, parts_read, whole_read, decimal_read}
+use Rattle.taxi_units.specs.Digits.{AreDigitsOf, IsFigure}
 use Rattle.taxi_units.specs.Reading.{◌>>=◌}
 
 -- a number is padded with zeros in front up to a width, and is written whole if it is longer
@@ -38,24 +40,54 @@ where_wide width text found = if length text == width + length found.1 then Some
 unfoldable pub number_of_width : (width : ℕ) → List ℕ → Option (ℕ × List ℕ)
 number_of_width width text = number_at text >>= where_wide width text
 
+-- a number that was found at the front of a text, with the rest after it, counts if `fewest` to `most` bytes of the
+-- text stand before that rest, and the number is of `low` to `high`
+abbrev pub where_fits : (fewest most low high : ℕ) → (text : List ℕ) → ℕ × List ℕ → Option (ℕ × List ℕ)
+where_fits fewest most low high text found =
+    if (nat_le (length found.1 + fewest) (length text)
+    && (nat_le (length text) (length found.1 + most) && (nat_le low found.0 && nat_le found.0 high)))
+    then Some found else None
+
+-- a text begins with the number of `fewest` to `most` digits and of `low` to `high` that all digits at its front make,
+-- and what stands after it; the law figures_are_read_by_their_digits says which texts begin with which number
+unfoldable pub figure_at : (fewest most low high : ℕ) → List ℕ → Option (ℕ × List ℕ)
+figure_at fewest most low high text = number_at text >>= where_fits fewest most low high text
+
+-- a number that was found counts if nothing stands after it
+abbrev pub where_alone : ℕ × List ℕ → Option ℕ
+where_alone found = if length found.1 == 0 then Some found.0 else None
+
+-- a text is the number of `fewest` to `most` digits and of `low` to `high` that it writes, if it writes one; the law
+-- figures_are_read_by_their_digits says which texts are which number
+unfoldable pub figure_in : (fewest most low high : ℕ) → List ℕ → Option ℕ
+figure_in fewest most low high text = figure_at fewest most low high text >>= where_alone
+
+-- a text is the number of a range that its 1 to 12 digits write, if it is one
+abbrev pub number_in : (low high : ℕ) → List ℕ → Option ℕ
+number_in low high text = figure_in 1 12 low high text
+
 -- a text begins with no digit if it is empty or its first byte is no digit
 abbrev pub NoDigitFirst : List ℕ → Type 0
 NoDigitFirst [] = ⊤
 NoDigitFirst (c ∷ cs) = 10 ≤ digit_value c
 
--- a text begins with a number if it begins with 1 to 12 digits that have the number as their value, and the rest
--- after them doesn't begin with a digit
+-- a text begins with a number if it begins with 1 to 12 digits of the number, and the rest after them doesn't begin
+-- with a digit
 abbrev pub IsNumberAt : List ℕ → ℕ → List ℕ → Type 0
 IsNumberAt text value rest =
-    (digits : List ℕ) × (text ≡ digits ++ rest) × IsNumeral 10 digits × (length digits ≤ 12)
-    × (value ≡ digits_value 10 digits) × NoDigitFirst rest
+    (digits : List ℕ) × (text ≡ digits ++ rest) × AreDigitsOf 1 12 digits value × NoDigitFirst rest
 
--- a text begins with a number of a width if it begins with exactly `width` digits that have the number as their
--- value, and the rest after them doesn't begin with a digit
+-- a text begins with a number of a width if it begins with exactly `width` digits of the number, and the rest after
+-- them doesn't begin with a digit
 abbrev pub IsNumberOfWidth : (width : ℕ) → List ℕ → ℕ → List ℕ → Type 0
 IsNumberOfWidth width text value rest =
-    (digits : List ℕ) × (text ≡ digits ++ rest) × IsNumeral 10 digits × (length digits ≡ width)
-    × (value ≡ digits_value 10 digits) × NoDigitFirst rest
+    (digits : List ℕ) × (text ≡ digits ++ rest) × AreDigitsOf width width digits value × NoDigitFirst rest
+
+-- a text begins with a figure of a number if it begins with digits that are one, and the rest after them doesn't begin
+-- with a digit
+abbrev pub IsFigureAt : (fewest most low high : ℕ) → List ℕ → ℕ → List ℕ → Type 0
+IsFigureAt fewest most low high text value rest =
+    (digits : List ℕ) × (text ≡ digits ++ rest) × IsFigure fewest most low high digits value × NoDigitFirst rest
 
 -- a text has `count` digits at its front if its first `count` bytes are digits, and what stands after them doesn't
 -- begin with a digit

@@ -1,5 +1,5 @@
 -- Rules: which texts are those of a number and of an amount, told by their digits.
-use Rattle.std.specs.Prelude.{◌≡◌, ℕ, ◌≤◌, List, length, slice_index, max}
+use Rattle.std.specs.Prelude.{◌≡◌, ℕ, List, length, slice_index, max}
 use Rattle.std.specs.Fmt.{decimal}
 use Rattle.std.specs.Str.Parse.{IsNumeral, digits_value}
 use Rattle.taxi_units.specs.Decimal.{IsDecimal}
@@ -14,14 +14,6 @@ pub record IsNumberText (value : ℕ) (text : List ℕ) : Type 0 where
   pub digits : IsNumeral 10 text
   pub value_is : digits_value 10 text ≡ value
   pub front : HasNoZeroInFront text
-
--- digits write a number of a range if they are 1 to 12 decimal digits that have its value, and it lies in the range
-pub record IsNumberIn (low high : ℕ) (digits : List ℕ) (number : ℕ) : Type 0 where
-  pub numeral : IsNumeral 10 digits
-  pub few : length digits ≤ 12
-  pub value : digits_value 10 digits ≡ number
-  pub above : low ≤ number
-  pub below : number ≤ high
 
 -- the text of a number in a width is decimal digits with that value, as many as the width, or as the number has if
 -- it has more

@@ -4,7 +4,7 @@ ghost use Rattle.std.specs.Char.{is_ascii_digit};
 ghost use Rattle.std.specs.Str.Parse.{digits_value_after};
 ghost use Rattle.taxi_units.specs.Number as spec;
 ghost use Rattle.taxi_units.specs.NumberStages.{digits_at_front, decimal_read, whole_read, parts_read, units_read};
-ghost use Rattle.taxi_units.specs.Reading.{Gives};
+ghost use Rattle.taxi_units.specs.Reading.{Gives, GivesSame};
 
 /// Why a text is no amount. A place is a byte's, from 0.
 #[derive(Clone, Copy, Debug, PartialEq, Eq)]
@@ -77,6 +77,62 @@ pub fn number_of_width(bytes: &[u8], width: usize) -> Option<(u64, &[u8])>
         return Some((number, rest));
     }
     None
+}
+
+/// A number of `fewest` to `most` digits and of `low` to `high` at the front of the bytes, and what stands after it.
+/// All digits at the front belong to it, leading zeros too.
+///
+/// `None` where the bytes begin with no such number. `figures_are_read_by_their_digits` says what each answer means.
+#[tactic(auto, unfolding(crate::specs::Number::figure_at))]
+pub fn figure_at(
+    bytes: &[u8],
+    fewest: usize,
+    most: usize,
+    low: u64,
+    high: u64,
+) -> Option<(u64, &[u8])>
+    requires fewest { fewest ≤ 12 }
+    requires most { most ≤ 12 }
+    ensures value { Gives (λ x. (x.0, x.1.now)) result (spec.figure_at fewest most low high bytes.now) }
+    ensures low { IfSome result (λ x. low ≤ x.0) }
+    ensures high { IfSome result (λ x. x.0 ≤ high) }
+{
+    let (number, rest) = number_at(bytes)?;
+    if rest.len() + fewest <= bytes.len()
+        && bytes.len() <= rest.len() + most
+        && low <= number
+        && number <= high
+    {
+        return Some((number, rest));
+    }
+    None
+}
+
+/// The number of `fewest` to `most` digits and of `low` to `high` that a whole text is. Leading zeros are digits too.
+///
+/// `None` where the text is no such number. `figures_are_read_by_their_digits` says what each answer means.
+#[tactic(auto, unfolding(crate::specs::Number::figure_in))]
+pub fn figure_in(text: &[u8], fewest: usize, most: usize, low: u64, high: u64) -> Option<u64>
+    requires fewest { fewest ≤ 12 }
+    requires most { most ≤ 12 }
+    ensures value { GivesSame result (spec.figure_in fewest most low high text.now) }
+    ensures low { IfSome result (λ number. low ≤ number) }
+    ensures high { IfSome result (λ number. number ≤ high) }
+{
+    let (number, rest) = figure_at(text, fewest, most, low, high)?;
+    if rest.len() == 0 {
+        return Some(number);
+    }
+    None
+}
+
+/// The number of 1 to 12 digits and of `low` to `high` that a whole text is, as `figure_in` gives it.
+pub fn number_in(text: &[u8], low: u64, high: u64) -> Option<u64>
+    ensures value { GivesSame result (spec.number_in low high text.now) }
+    ensures low { IfSome result (λ number. low ≤ number) }
+    ensures high { IfSome result (λ number. number ≤ high) }
+{
+    figure_in(text, 1, 12, low, high)
 }
 
 /// How many digits, `0` to `9`, stand at the front of the bytes: 0 up to all of them.

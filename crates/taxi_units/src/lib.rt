@@ -15,6 +15,7 @@ mod push;
 mod reading;
 mod receipt;
 mod steps;
+mod streams;
 mod texts;
 mod time;
 mod weekdays;
@@ -23,7 +24,10 @@ pub use calendar::{
     date_of_place, date_place, dates_go_by_their_places, days_of_month, is_date, is_leap_year,
 };
 pub use counted::{AtMost, Counted, Keyed, each_step_halves};
-pub use decimal::{NumberFault, count_digits, number_at, number_of_width, read_decimal};
+pub use decimal::{
+    NumberFault, count_digits, figure_at, figure_in, number_at, number_in, number_of_width,
+    read_decimal,
+};
 pub use event::{Event, Key, Operating, Why};
 pub use identifier::is_identifier_character;
 pub use limits::{HIRINGS_END, LARGEST_SUPPLEMENTS, LAST_NUMBER, ROAMING_AMID, ROAMING_MOST};
@@ -31,12 +35,14 @@ pub use line::{LINE_SIZE, Line, LineFull, put_bytes, put_money, put_number, put_
 pub use money::LARGEST_AMOUNT;
 pub use parting::split_at_byte;
 pub use push::{push_bytes, push_money, push_number};
-pub use reading::word;
+pub use reading::{is_word, word};
 pub use receipt::{Display, Kind, Receipt, Stamp};
 pub use steps::Steps;
+pub use streams::{STREAM_LIMIT, bytes_tell_how_a_stream_ends, limits_fall_behind_what_was_taken};
 pub use texts::{
     amounts_are_written_by_their_digits, amounts_read_back, decimals_are_read_by_their_form,
-    digits_are_counted, numbers_are_read_by_their_digits, numbers_are_written_by_their_digits,
+    digits_are_counted, figures_are_read_by_their_digits, numbers_are_read_by_their_digits,
+    numbers_are_written_as_figures, numbers_are_written_by_their_digits,
     numbers_grow_by_their_digits, numbers_read_back, texts_of_numbers_are_short,
     words_are_read_by_their_text,
 };

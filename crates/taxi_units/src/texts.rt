@@ -4,7 +4,10 @@ ghost use Rattle.std.specs.Prelude.{◌≡◌, ℕ, ◌+◌, ◌-◌, ◌*◌, �
 ghost use Rattle.std.specs.Fmt.{decimal};
 ghost use Rattle.std.specs.Str.Parse.{digits_value_after};
 ghost use Rattle.taxi_units.specs.declared.decimal.NumberFault.{NumberFault};
-ghost use Rattle.taxi_units.specs.Number.{NoDigitFirst, HasDigitsInFront, IsNumberAt, IsNumberOfWidth, padded_text, money_text, decimal_read, digits_at_front, number_at, number_of_width};
+ghost use Rattle.taxi_units.specs.Digits.{IsFigure};
+ghost use Rattle.taxi_units.specs.Number.{NoDigitFirst, HasDigitsInFront, IsFigureAt, IsNumberAt, IsNumberOfWidth};
+ghost use Rattle.taxi_units.specs.Number.{padded_text, money_text, decimal_read, digits_at_front};
+ghost use Rattle.taxi_units.specs.Number.{figure_at, figure_in, number_at, number_of_width};
 ghost use Rattle.taxi_units.specs.Decimal.{IsReadAs};
 ghost use Rattle.taxi_units.specs.Reading.{word_at};
 ghost use Rattle.taxi_units.specs.Written.{IsNumberText, IsPaddedText, IsAmountText};
@@ -28,6 +31,25 @@ pub fn numbers_are_read_by_their_digits()
         → (number_at text ≡ Some (value, rest)) ↔ IsNumberAt text value rest }
     ensures wide { (width : ℕ) (text rest : List ℕ) (value : ℕ) → width ≤ 12
         → (number_of_width width text ≡ Some (value, rest)) ↔ IsNumberOfWidth width text value rest }
+{}
+
+/// A number of a width and a range is all digits at the front of a text, or all of the text, where they are as many as
+/// the width has it, and their number is in the range.
+pub fn figures_are_read_by_their_digits()
+    ensures front { (fewest most low high : ℕ) (text rest : List ℕ) (value : ℕ) → most ≤ 12
+        → (figure_at fewest most low high text ≡ Some (value, rest))
+        ↔ IsFigureAt fewest most low high text value rest }
+    ensures whole { (fewest most low high : ℕ) (text : List ℕ) (value : ℕ) → most ≤ 12
+        → (figure_in fewest most low high text ≡ Some value) ↔ IsFigure fewest most low high text value }
+{}
+
+/// What is written as a number is a figure of it in every range that it is in, and so is what is written with zeros in
+/// front up to a width.
+pub fn numbers_are_written_as_figures()
+    ensures plain { (most low high n : ℕ) → 0 < most → most ≤ 12 → n < 10 ^ most → low ≤ n → n ≤ high
+        → IsFigure 1 most low high (decimal n) n }
+    ensures padded { (width low high n : ℕ) → 0 < width → width ≤ 12 → n < 10 ^ width → low ≤ n → n ≤ high
+        → IsFigure width width low high (padded_text width n) n }
 {}
 
 /// The digits at the front of a text are counted up to the first byte that is none, and those that were

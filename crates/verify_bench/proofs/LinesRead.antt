@@ -18,7 +18,8 @@ use Rattle.drive_text.specs.Whole.{EndsWhole, GiveAll}
 use Rattle.drive_text.specs.Whole.GiveAll.{no_line, one_more}
 use Rattle.drive_text.specs.declared.run.Run.{Run}
 use Rattle.drive_text.specs.declared.run.Run.TheVariants.{One, Many}
-use Rattle.taxi_units.specs.Written.{IsNumberIn}
+use Rattle.taxi_units.specs.Digits.{IsNumberIn}
+use Rattle.taxi_units.proofs.Laws.{numbers_are_written_as_figures}
 use Rattle.verify_bench.specs.Generated.{line_text, lines_text}
 
 -- no line end and no CR stands in it
@@ -37,8 +38,7 @@ number_has_no_end n small = digits_have_no_end (decimal n) (decimal_is_IsNumeral
 -- a number that is written is one
 is_number : (low high n : ℕ) → low ≤ n → n ≤ high → n < 10 ^ 12 → IsNumberIn low high (decimal n) n
 is_number low high n above below small =
-    let digits = decimal_is_IsNumeral_wide n (omega arith) in
-    record { numeral = digits.0; few = length-decimal-le_wide 12 n (omega arith) (omega arith) (omega arith); value = digits.1; above = above; below = below }
+    numbers_are_written_as_figures 12 low high n (omega arith) (omega arith) small above below
 
 -- no CR is dropped
 strip_none : (text : List ℕ) → HasNoEnd text → strip_carriage_return text ≡ text
