@@ -20,7 +20,7 @@ use Rattle.log_commands.specs.Filed.Files.{over, passed, appended}
 use Rattle.log_commands.specs.Filings.{StandsForSome, newest_of}
 use Rattle.log_commands.specs.LogList.{StandsFor, last_ones}
 use Rattle.log_commands.specs.Record.{Record}
-use Rattle.log_commands.specs.Roll.{roll_limit}
+use Rattle.taxi_units.specs.Streams.{stream_limit}
 use Rattle.log_commands.specs.declared.ending.Ended.{Ended}
 use Rattle.log_commands.specs.declared.ending.Ended.TheVariants.{Filed, Shown, BadWords, BadLog, BrokenLog, OtherTaxi, TooLong, ReadFault, BoardFault}
 use Rattle.log_commands.specs.declared.file_roll.FileEnd.TheVariants as ends
@@ -285,7 +285,7 @@ module _ {E D L : Type 0} {N : ℕ} (F : FileGhosts E) (B : Ghosts D N L) where
 
   -- a roll that is filed is a fit one
   fit_file : (call : Option Call) (command : Call) (roll : List ℕ) (newest : Option Record) → call ≡ Some command → call ≡ Some File
-      → IsFit command roll newest → (length roll < roll_limit) × IsOneTaxi roll newest
+      → IsFit command roll newest → (length roll < stream_limit) × IsOneTaxi roll newest
   fit_file call File roll newest calls file fit = fit
   fit_file call Show roll newest calls file fit = absurd (show_no_file (sym calls ∙ file))
 

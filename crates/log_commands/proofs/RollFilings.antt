@@ -16,6 +16,7 @@ use Rattle.log_commands.specs.declared.file_roll.FileEnd.TheVariants as ends
 use Rattle.log_commands.specs.declared.filing.Filing.{Filing}
 use Rattle.log_commands.specs.declared.filing.Filing.TheVariants.{OtherTaxi, Passed, Appended}
 use Rattle.log_commands.specs.declared.roll.RollEnd.{RollEnd}
+use Rattle.taxi_units.specs.Streams.{stream_limit}
 use Rattle.log_commands.specs.declared.roll.RollEnd.TheVariants.{Whole, TooLong, ReadFault}
 use Rattle.log_commands.specs.declared.tail.Tail.{Tail}
 use Rattle.log_commands.proofs.Causes.{may_rise_for, rose_later}
@@ -108,7 +109,7 @@ module _ {D L : Type 0} {N : ℕ} (B : Ghosts D N L) (tl tf : Type 0) where
     unread = place.ahead;
     receipts = receipts;
     last = last;
-    roll_is = h.roll_is;
+    roll_is = h.split.bytes;
     few = omega (arith, h.count);
     reads = receipts_so_far roll place rest receipts h;
     files = files;
@@ -148,13 +149,13 @@ module _ {D L : Type 0} {N : ℕ} (B : Ghosts D N L) (tl tf : Type 0) where
   ends_as : (end : RollEnd) (roll rest : List ℕ) (place : Place) (receipts filed : List Record) (newest last : Option Record) (count : ℕ) → HasRead roll place rest receipts → place.ahead ≡ [] → place.end ≡ Some end
       → Files newest receipts filed last → (found : FileEnd) → Reason end found count → EndsAs found newest roll rest filed last
   ends_as Whole roll rest place receipts filed newest last count h none is files found why =
-      let over : rest ≡ [] = subst (λ (e : Option RollEnd). EndsBy e place.left rest) is h.ends in
+      let over : rest ≡ [] = subst (λ (e : Option RollEnd). EndsBy e h.taken rest) is h.ends in
       subst (λ (e : FileEnd). EndsAs e newest roll rest filed last) (sym (why.0 refl)) (over, (receipts, receipts_of_all roll place rest receipts h none is, files))
   ends_as TooLong roll rest place receipts filed newest last count h none is files found why =
-      let full : place.left ≡ 0 = subst (λ (e : Option RollEnd). EndsBy e place.left rest) is h.ends in
-      subst (λ (e : FileEnd). EndsAs e newest roll rest filed last) (sym (why.1 refl)) (h.taken, receipts, h.roll_is, omega (arith, h.count, full), receipts_taken roll place rest receipts h none, files)
+      let full : length h.taken ≡ stream_limit = subst (λ (e : Option RollEnd). EndsBy e h.taken rest) is h.ends in
+      subst (λ (e : FileEnd). EndsAs e newest roll rest filed last) (sym (why.1 refl)) (h.taken, receipts, h.split.bytes, full, receipts_taken roll place rest receipts h none, files)
   ends_as ReadFault roll rest place receipts filed newest last count h none is files found why =
-      subst (λ (e : FileEnd). EndsAs e newest roll rest filed last) (sym (why.2 refl)) (h.taken, receipts, h.roll_is, receipts_taken roll place rest receipts h none, files)
+      subst (λ (e : FileEnd). EndsAs e newest roll rest filed last) (sym (why.2 refl)) (h.taken, receipts, h.split.bytes, receipts_taken roll place rest receipts h none, files)
 
   told_as : (end : RollEnd) (filed : List Record) (count : ℕ) → count ≡ length filed → (found : FileEnd) → Reason end found count → IsTold found filed
   told_as Whole filed count is found why = subst (λ (e : FileEnd). IsTold e filed) (sym (why.0 refl)) is
@@ -190,7 +191,7 @@ module _ {D L : Type 0} {N : ℕ} (B : Ghosts D N L) (tl tf : Type 0) where
     ends = λ told.
         let read = goes told roll h.receipts (h.read told) in (
           read.taken,
-          read.roll_is,
+          read.split.bytes,
           record {
             before = h.receipts;
             other = it;
@@ -209,7 +210,7 @@ module _ {D L : Type 0} {N : ℕ} (B : Ghosts D N L) (tl tf : Type 0) where
           unread = before.0;
           receipts = h.receipts;
           last = last.newest;
-          roll_is = read.roll_is;
+          roll_is = read.split.bytes;
           few = omega (arith, read.count);
           reads = before.1;
           files = h.to.files;

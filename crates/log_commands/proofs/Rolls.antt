@@ -2,7 +2,8 @@
 use Rattle.std.proofs.Common.{◌≡◌, ℕ, ◌+◌, ◌-◌, ◌<◌, ◌≤◌, Bool, true, false, zero, suc, List, [], ◌∷◌, ◌++◌, length, take, drop, Option, Some, None, is_some, IfSome, option_to_list, refl, ap, sym, ◌∙◌, subst, arith, append_assoc, length-append}
 use Rattle.std.proofs.lemmas.List.{append-nil, drop-drop, drop-take}
 use Rattle.log_commands.specs.Looking.{LooksTo, MayFollow}
-use Rattle.log_commands.specs.Reading.{EndsBy, GoesOn, HasRead, Place, roll_limit}
+use Rattle.log_commands.specs.Reading.{EndsBy, GoesOn, HasRead, Place}
+use Rattle.taxi_units.specs.Streams.{stream_limit}
 use Rattle.log_commands.specs.Record.{Record}
 use Rattle.log_commands.specs.Roll.{Reads}
 use Rattle.log_commands.specs.Roll.Reads.{over}
@@ -25,13 +26,13 @@ pub none_follows : (ended : Bool) → MayFollow ended []
 none_follows true = refl
 none_follows false = tt
 
-pub starts : (roll : List ℕ) (place : Place) → place.ahead ≡ [] → place.left ≡ roll_limit → place.end ≡ None → HasRead roll place roll []
+pub starts : (roll : List ℕ) (place : Place) → place.ahead ≡ [] → place.left ≡ stream_limit → place.end ≡ None → HasRead roll place roll []
 starts roll place none left going = record {
   taken = [];
-  roll_is = refl;
+  split = record { bytes = refl };
   count = omega (arith, left);
   reads = λ more may. subst (λ (t : List ℕ). Reads more [] (t ++ more)) (sym none) (over more);
-  ends = subst (λ (e : Option RollEnd). EndsBy e place.left roll) (sym going) tt;
+  ends = subst (λ (e : Option RollEnd). EndsBy e [] roll) (sym going) tt;
 }
 
 -- one after the other
@@ -44,13 +45,13 @@ pub goes_filled : (old new : Place) (rest rest' fed : List ℕ) → old.end ≡ 
 goes_filled old new rest rest' fed going still ahead count passes = λ roll receipts h.
     subst (HasRead roll new rest') (sym (append-nil receipts)) (record {
       taken = h.taken ++ fed;
-      roll_is = h.roll_is ∙ (ap (λ (t : List ℕ). h.taken ++ t) passes ∙ sym (append_assoc h.taken fed rest'));
+      split = record { bytes = h.split.bytes ∙ (ap (λ (t : List ℕ). h.taken ++ t) passes ∙ sym (append_assoc h.taken fed rest')) };
       count = omega (arith, h.count, count, length-append h.taken fed);
       reads = λ more may.
           let any : MayFollow (is_some old.end) (fed ++ more) = subst (λ (e : Option RollEnd). MayFollow (is_some e) (fed ++ more)) (sym going) tt in
           subst (λ (t : List ℕ). Reads ((h.taken ++ fed) ++ more) receipts t) (sym (append_assoc old.ahead fed more) ∙ ap (λ (t : List ℕ). t ++ more) (sym ahead))
           (subst (λ (t : List ℕ). Reads t receipts (old.ahead ++ (fed ++ more))) (sym (append_assoc h.taken fed more)) (h.reads (fed ++ more) any));
-      ends = subst (λ (e : Option RollEnd). EndsBy e new.left rest') (sym still) tt;
+      ends = subst (λ (e : Option RollEnd). EndsBy e (h.taken ++ fed) rest') (sym still) tt;
     })
 
 -- what is ahead was looked through
@@ -58,13 +59,13 @@ pub goes_looked : (old new : Place) (count : ℕ) (those : List Record) → Look
     → (rest : List ℕ) → GoesOn old new rest rest those
 goes_looked old new count those looks ahead left end rest = λ roll receipts h. record {
   taken = h.taken;
-  roll_is = h.roll_is;
+  split = h.split;
   count = omega (arith, h.count, left);
   reads = λ more may.
       let may_old : MayFollow (is_some old.end) more = subst (λ (e : Option RollEnd). MayFollow (is_some e) more) end may in
       subst (λ (t : List ℕ). Reads (h.taken ++ more) (receipts ++ those) (t ++ more)) (sym ahead)
       (read_on (h.taken ++ more) (old.ahead ++ more) (drop count old.ahead ++ more) receipts those (h.reads more may_old) (looks.reads more may_old));
-  ends = subst (λ (e : Option RollEnd). EndsBy e new.left rest) (sym end) (subst (λ (n : ℕ). EndsBy old.end n rest) (sym left) h.ends);
+  ends = subst (λ (e : Option RollEnd). EndsBy e h.taken rest) (sym end) h.ends;
 }
 
 -- fewer bytes are left behind a receipt

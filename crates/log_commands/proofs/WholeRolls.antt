@@ -21,6 +21,6 @@ receipts_taken roll place rest receipts h none = subst (λ (t : List ℕ). Reads
 -- and of the whole roll, where it was read to its end
 pub receipts_of_all : (roll : List ℕ) (place : Place) (rest : List ℕ) (receipts : List Record) → HasRead roll place rest receipts → place.ahead ≡ [] → place.end ≡ Some Whole → AreOnRoll receipts roll
 receipts_of_all roll place rest receipts h none whole =
-    let over : rest ≡ [] = subst (λ (e : Option RollEnd). EndsBy e place.left rest) whole h.ends in
-    let all : roll ≡ h.taken = h.roll_is ∙ (ap (λ (t : List ℕ). h.taken ++ t) over ∙ append-nil h.taken) in
+    let over : rest ≡ [] = subst (λ (e : Option RollEnd). EndsBy e h.taken rest) whole h.ends in
+    let all : roll ≡ h.taken = h.split.bytes ∙ (ap (λ (t : List ℕ). h.taken ++ t) over ∙ append-nil h.taken) in
     subst (AreOnRoll receipts) (sym all) (receipts_taken roll place rest receipts h none)

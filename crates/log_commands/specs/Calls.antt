@@ -12,7 +12,7 @@ use Rattle.log_commands.specs.Filed.{EndsAt, IsFiledOf}
 use Rattle.log_commands.specs.FilingEnds.{EndsAs, IsTold, StandsForSome, newest_of}
 use Rattle.log_commands.specs.LogList.{StandsFor, last_ones}
 use Rattle.log_commands.specs.Record.{Record}
-use Rattle.log_commands.specs.Roll.{Reads, roll_limit}
+use Rattle.log_commands.specs.Roll.{Reads}
 use Rattle.log_commands.specs.Showing.{texts_of}
 use Rattle.log_commands.specs.Unread.{IsBroken, IsLowestBad}
 use Rattle.log_commands.specs.declared.ending.Ended.{Ended}
@@ -22,6 +22,7 @@ use Rattle.log_commands.specs.declared.file_roll.FileEnd.{FileEnd}
 use Rattle.log_commands.specs.declared.file_roll.FileEnd.TheVariants as ends
 use Rattle.log_commands.specs.declared.words.Call.{Call}
 use Rattle.log_commands.specs.declared.words.Call.TheVariants.{File, Show}
+use Rattle.taxi_units.specs.Streams.{stream_limit}
 
 -- filing a roll again into the log of an image appends nothing where no receipts are filed of any beginning of the roll
 abbrev pub AppendsNothing : (image roll : List ℕ) → Type 0
@@ -176,4 +177,4 @@ pub record IsOneTaxi (roll : List ℕ) (newest : Option Record) : Type 0 where
 -- taxi, of which the newest record of the log is too
 abbrev pub IsFit : Call → (roll : List ℕ) → (newest : Option Record) → Type 0
 IsFit Show roll newest = Unit {0}
-IsFit File roll newest = (length roll < roll_limit) × IsOneTaxi roll newest
+IsFit File roll newest = (length roll < stream_limit) × IsOneTaxi roll newest

@@ -1,9 +1,10 @@
 -- Rules: which receipts of a roll are filed.
 use Rattle.std.specs.Prelude.{◌≡◌, ◌≢◌, ℕ, ◌+◌, ◌<◌, ◌≤◌, List, [], ◌∷◌, ◌++◌, length, Option, Some, None}
 use Rattle.log_commands.specs.Record.{Record}
-use Rattle.log_commands.specs.Roll.{Reads, roll_limit}
+use Rattle.log_commands.specs.Roll.{Reads}
 use Rattle.log_commands.specs.declared.filing.Filing.{Filing}
 use Rattle.log_commands.specs.declared.filing.Filing.TheVariants.{OtherTaxi, Passed, Appended}
+use Rattle.taxi_units.specs.Streams.{stream_limit}
 
 -- a receipt is another taxi's where its taxi isn't the newest record's; beside an empty log no receipt is
 abbrev pub IsOther : (newest : Option Record) → Record → Type 0
@@ -57,6 +58,6 @@ pub record IsFiledOf (newest : Option Record) (roll rest : List ℕ) (filed : Li
   pub receipts : List Record
   pub last : Option Record
   pub roll_is : roll ≡ taken ++ rest
-  pub few : length taken ≤ roll_limit
+  pub few : length taken ≤ stream_limit
   pub reads : Reads taken receipts unread
   pub files : Files newest receipts filed last

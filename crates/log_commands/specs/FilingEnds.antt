@@ -3,9 +3,10 @@ use Rattle.std.specs.Prelude.{◌≡◌, ℕ, ◌≤◌, List, [], ◌∷◌, �
 use Rattle.log_commands.specs.Filed.{EndsAt, Files}
 use Rattle.log_commands.specs.LogList.{StandsForLast}
 use Rattle.log_commands.specs.Record.{Record}
-use Rattle.log_commands.specs.Roll.{AreOnRoll, roll_limit}
+use Rattle.log_commands.specs.Roll.{AreOnRoll}
 use Rattle.log_commands.specs.declared.file_roll.FileEnd.{FileEnd}
 use Rattle.log_commands.specs.declared.file_roll.FileEnd.TheVariants.{Filed, OtherTaxi, TooLong, ReadFault}
+use Rattle.taxi_units.specs.Streams.{stream_limit}
 
 -- the newest record behind some records is the last of them, or the one that was the newest before where they are none
 abbrev pub newest_after : Option Record → List Record → Option Record
@@ -34,7 +35,7 @@ EndsAs (Filed count) newest roll rest filed last =
 EndsAs (OtherTaxi place) newest roll rest filed last =
     (taken : List ℕ) × (roll ≡ taken ++ rest) × EndsAt newest taken filed last place
 EndsAs TooLong newest roll rest filed last =
-    (taken : List ℕ) × (receipts : List Record) × (roll ≡ taken ++ rest) × (length taken ≡ roll_limit)
+    (taken : List ℕ) × (receipts : List Record) × (roll ≡ taken ++ rest) × (length taken ≡ stream_limit)
     × AreOnRoll receipts taken × Files newest receipts filed last
 EndsAs ReadFault newest roll rest filed last =
     (taken : List ℕ) × (receipts : List Record) × (roll ≡ taken ++ rest)

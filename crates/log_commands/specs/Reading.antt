@@ -2,10 +2,11 @@
 use Rattle.std.specs.Prelude.{◌≡◌, ◌≢◌, ℕ, ◌+◌, List, [], ◌++◌, length, Option, Some, None, is_some}
 use Rattle.log_commands.specs.Looking.{MayFollow}
 use Rattle.log_commands.specs.Record.{Record}
-use Rattle.log_commands.specs.Roll.{Reads, roll_limit}
-pub use Rattle.log_commands.specs.Roll.{roll_limit}
+use Rattle.log_commands.specs.Roll.{Reads}
 use Rattle.log_commands.specs.declared.roll.RollEnd.{RollEnd}
 use Rattle.log_commands.specs.declared.roll.RollEnd.TheVariants.{Whole, TooLong, ReadFault}
+use Rattle.taxi_units.specs.Streams as streams
+use Rattle.taxi_units.specs.Streams.{IsSplit, ShowsEnd, StreamKind, stream_limit}
 
 -- a reader's place is the bytes taken that it hasn't looked through to the end, how many more it may take, and why it
 -- takes no more, where it doesn't
@@ -14,12 +15,17 @@ pub record Place : Type 0 where
   pub left : ℕ
   pub end : Option RollEnd
 
--- a reader takes no more bytes for a reason that holds: nothing is left of the file, or no more may be taken
-abbrev pub EndsBy : Option RollEnd → (left : ℕ) → (rest : List ℕ) → Type 0
-EndsBy None left rest = Unit {0}
-EndsBy (Some Whole) left rest = rest ≡ []
-EndsBy (Some TooLong) left rest = left ≡ 0
-EndsBy (Some ReadFault) left rest = Unit {0}
+-- rolls are the kind of streams of which no place is bad, since what is no receipt is passed over
+abbrev pub rolls : StreamKind
+rolls = record { first_bad = λ bytes. None; bad_at_end = λ bytes. None }
+
+-- a reader takes no more bytes for a reason that holds: the bytes that were taken, and those that are left, show that
+-- end of the roll, or a read failed
+abbrev pub EndsBy : Option RollEnd → (taken rest : List ℕ) → Type 0
+EndsBy None taken rest = Unit {0}
+EndsBy (Some Whole) taken rest = ShowsEnd rolls streams.Whole taken rest
+EndsBy (Some TooLong) taken rest = ShowsEnd rolls streams.Endless taken rest
+EndsBy (Some ReadFault) taken rest = Unit {0}
 
 -- a reader is over for a reason where it takes no more bytes for it, and has looked all through
 abbrev pub IsOver : Place → RollEnd → Type 0
@@ -33,11 +39,11 @@ FailsNow old new = (new.end ≡ Some ReadFault) × (old.end ≢ Some ReadFault)
 -- whatever bytes may follow
 pub record HasRead (roll : List ℕ) (place : Place) (rest : List ℕ) (receipts : List Record) : Type 0 where
   pub taken : List ℕ
-  pub roll_is : roll ≡ taken ++ rest
-  pub count : length taken + place.left ≡ roll_limit
+  pub split : IsSplit roll taken rest
+  pub count : length taken + place.left ≡ stream_limit
   pub reads : (more : List ℕ) → MayFollow (is_some place.end) more
       → Reads (taken ++ more) receipts (place.ahead ++ more)
-  pub ends : EndsBy place.end place.left rest
+  pub ends : EndsBy place.end taken rest
 
 -- a reader goes on from one place to another, over bytes of the file, where it then has read more receipts
 abbrev pub GoesOn : (old new : Place) → (rest rest' : List ℕ) → (more : List Record) → Type 0

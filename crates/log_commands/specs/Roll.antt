@@ -1,5 +1,5 @@
 -- Rules: which receipts a roll has.
-use Rattle.std.specs.Prelude.{◌≡◌, ℕ, ◌^◌, List, [], ◌∷◌, ◌++◌}
+use Rattle.std.specs.Prelude.{◌≡◌, ℕ, List, [], ◌∷◌, ◌++◌}
 use Rattle.log_commands.specs.Record.{Record, IsRecord}
 
 -- a text begins with none where no beginning of it is a receipt
@@ -18,7 +18,3 @@ pub data Reads : (text : List ℕ) → (receipts : List Record) → (rest : List
 -- receipts are on a roll where reading the roll to its end gives them, and no others
 abbrev pub AreOnRoll : (receipts : List Record) → (roll : List ℕ) → Type 0
 AreOnRoll receipts roll = Reads roll receipts []
-
--- at most 2^40 bytes of a roll are taken
-abbrev pub roll_limit : ℕ
-roll_limit = 2 ^ 40

@@ -4,19 +4,18 @@ ghost use Rattle.std.specs.Prelude.{is_some, None, Some, Ok, Err, IsErr, IfOk, I
 ghost use Rattle.std.specs.Prelude.{option_to_list};
 ghost use Rattle.outside.specs.Faults.{HasCause, MayRise, RisesOnlyIf};
 ghost use Rattle.log_commands.specs.declared.roll.RollEnd.{RollEnd};
-ghost use Rattle.log_commands.specs.Reading.{FailsNow, GoesOn, HasRead, IsOver, roll_limit};
+ghost use Rattle.log_commands.specs.Reading.{FailsNow, GoesOn, HasRead, IsOver};
 ghost use Rattle.log_commands.specs.Record.{IsRecord};
+ghost use Rattle.taxi_units.specs.Streams.{stream_limit};
 
 use crate::log_record::LogRecord;
 use crate::look::look;
 use outside::{Failed, Files};
 use std::marker::Model;
+use taxi_units::STREAM_LIMIT;
 
 #[cfg(test)]
 mod tests;
-
-/// How many bytes of a roll are taken at most: 2^40.
-const LIMIT: u64 = 1 << 40;
 
 /// How many bytes of a roll are looked through at once.
 const WINDOW: usize = 8192;
@@ -59,13 +58,13 @@ impl Roll {
     pub fn new() -> Roll
         ensures start { (roll : List ℕ) → HasRead roll result roll [] }
         ensures going { result.end ≡ None }
-        ensures most { length result.ahead + result.left ≡ roll_limit }
+        ensures most { length result.ahead + result.left ≡ stream_limit }
     {
         Roll {
             window: [0; WINDOW],
             from: 0,
             to: 0,
-            left: LIMIT,
+            left: STREAM_LIMIT,
             end: None,
         }
     }

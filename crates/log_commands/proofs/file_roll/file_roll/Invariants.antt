@@ -1,7 +1,7 @@
 use Rattle.std.proofs.Common.{◌≡◌, ◌≢◌, ℕ, ◌+◌, ◌≤◌, length, Some}
 use Rattle.outside.specs.Faults.{MayRise, RisesOnlyIf}
 use Rattle.log_commands.specs.Filings.{IsFiling, IsLast}
-use Rattle.log_commands.specs.Reading.{roll_limit}
+use Rattle.taxi_units.specs.Streams.{stream_limit}
 use Rattle.log_commands.specs.declared.roll.RollEnd.TheVariants.{ReadFault}
 use Rattle.log_commands.proofs.file_roll.file_roll.Given as goal
 
@@ -11,7 +11,7 @@ invariant-loop-end g l = record {
       (g.F.Files.rest l.fn.files l.word) l.roll (g.F.Files.rest l.files l.word) l.seen l.fn.steps l.steps;
   last : IsLast l.tail.last l.tail.newest;
   filed : l.tail.filed ≤ l.seen;
-  most : l.seen + (length l.roll.ahead + l.roll.left) ≤ roll_limit;
+  most : l.seen + (length l.roll.ahead + l.roll.left) ≤ stream_limit;
   text : g.G.Board.printed l.log ≡ g.G.Board.printed l.fn.log;
   faults : g.G.Board.faults l.log ≡ g.G.Board.faults l.fn.log;
   fault : RisesOnlyIf (l.roll.end ≡ Some ReadFault) (g.F.Files.faults l.fn.files l.word)
