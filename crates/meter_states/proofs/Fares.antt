@@ -6,7 +6,8 @@ use Rattle.drive_modes.specs.Fare.{above_cover, opening_of, quotient, saved, sho
 use Rattle.std.proofs.Math.Nat.{div-add-mod, mul_comm}
 use Rattle.meter_states.specs.Kept.{hired_in, with_parts}
 use Rattle.meter_states.specs.Run.{trip_of}
-use Rattle.meter_states.specs.Setting.{Setting, modulus_of, rounding_of, step_of}
+use Rattle.tariff_check.specs.DisplayStep.{display_step}
+use Rattle.meter_states.specs.Setting.{Setting, modulus_of, rounding_of}
 use Rattle.meter_states.specs.Trip as model
 use Rattle.meter_states.specs.Trip.{Part, Trip, InHired, InStopped, Rest, charge_in, charges_of, fare_of, held_trip}
 
@@ -43,4 +44,4 @@ fare-resumed s t parts second stopped position zone =
     let o = model.opening_of s t in
     let both : charges_of s (with_parts parts t) ≡ charges_of s t + sum (map (charge_in s) parts) = sum-parts s t.parts parts in
     let more = above-more o (charges_of s t) (sum (map (charge_in s) parts)) in
-    ap (λ (n : ℕ). shown_fare t.initial t.minimum (step_of s) (quotient (rounding_of s) n (modulus_of s))) (more ∙ ap (above_cover o) (sym both))
+    ap (λ (n : ℕ). shown_fare t.initial t.minimum (display_step s.tariff).0 (quotient (rounding_of s) n (modulus_of s))) (more ∙ ap (above_cover o) (sym both))

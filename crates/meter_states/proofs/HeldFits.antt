@@ -1,11 +1,12 @@
 -- A trip that fits the tables fits their setting.
 use Rattle.std.proofs.Common.{◌≡◌, ◌<◌, ℕ, ◌+◌, ◌*◌, List, [], ◌∷◌, Option, length, refl, ap, ◌∙◌, subst}
+use Rattle.tariff_check.specs.DisplayStep.{display_step}
 use Rattle.tariff_compile.specs.Tables.{TableParts, supplement_at}
 use Rattle.tariff_compile.specs.declared.parts.Supplement.{Supplement}
 use Rattle.totals_record.specs.declared.trip.Trip as store
 use Rattle.meter_states.specs.Fits.{Fits}
 use Rattle.meter_states.specs.Kept.{FitsSetting}
-use Rattle.meter_states.specs.Setting.{Setting, IsTariffOf, step_of}
+use Rattle.meter_states.specs.Setting.{Setting, IsTariffOf}
 use Rattle.meter_states.specs.Supplements.{amount_in, amounts_from, supplement_in}
 use Rattle.meter_states.proofs.Settings.{step-is, unit-is}
 use Rattle.meter_states.proofs.TableSupplements.{supplement-in}
@@ -19,7 +20,7 @@ amounts-same f g first (count ∷ counts) same =
 pub fits-setting : (s : Setting) (p : TableParts) (trip : store.Trip) → IsTariffOf s p → Fits p trip → length trip.extras ≡ 16 → FitsSetting s trip
 fits-setting s p trip is fits long =
     let step = ap (λ (n : ℕ). n * p.measure) (step-is s p is) in
-    let unit = ap (λ (n : ℕ). step_of s * n) (unit-is s p is) in
+    let unit = ap (λ (n : ℕ). (display_step s.tariff).0 * n) (unit-is s p is) in
     record {
       rest = subst (λ (n : ℕ). trip.meterage.rest < n) (step ∙ unit) fits.rest;
       extras = long;

@@ -5,6 +5,7 @@ use Rattle.drive_modes.specs.Fare.{above_cover, quotient, saved, shown_fare, ste
 use Rattle.drive_modes.specs.Fare as fares
 use Rattle.drive_modes.specs.declared.meterage.Rounding.{Rounding}
 use Rattle.drive_modes.proofs.Laws.{shown-sum}
+use Rattle.tariff_check.specs.DisplayStep.{display_step}
 use Rattle.tariff_compile.specs.Tables.{TableParts}
 use Rattle.taxi_units.specs.Time.{longest_trip}
 use Rattle.taxi_units.specs.declared.event.Event.{Event}
@@ -22,7 +23,7 @@ use Rattle.meter_states.specs.Interval.{counted_in, interval_begun, pulses_taken
 use Rattle.meter_states.specs.Keys.{key_pressed, latch_pressed}
 use Rattle.meter_states.specs.Meter.{Meter, Outcome, ◌>>=◌, quiet}
 use Rattle.meter_states.specs.Run.{run}
-use Rattle.meter_states.specs.Setting.{Setting, IsTariffOf, modulus_of, rounding_of, step_of}
+use Rattle.meter_states.specs.Setting.{Setting, IsTariffOf, modulus_of, rounding_of}
 use Rattle.meter_states.specs.Step.{expired, expired_or_pressed, powered_step, step_in, ticked}
 use Rattle.meter_states.specs.Trip.{Trip, charges_of, opening_of, core_trip_of}
 use Rattle.meter_states.specs.declared.act.Act.{Act}
@@ -130,8 +131,8 @@ fare-by s p None is some = refl
 fare-by s p (Some t) is some =
     let kept = (core_trip_of s t).meterage in
     ap (λ (n : ℕ). shown_fare t.initial t.minimum n (steps_of p.rounding kept)) (step-is s p is)
-    ∙ ap (λ (r : Rounding). shown_fare t.initial t.minimum (step_of s) (steps_of r kept)) (rounding-is s p is)
-    ∙ ap (shown_fare t.initial t.minimum (step_of s)) (steps-saved (rounding_of s) (opening_of s t) (charges_of s t) some)
+    ∙ ap (λ (r : Rounding). shown_fare t.initial t.minimum (display_step s.tariff).0 (steps_of r kept)) (rounding-is s p is)
+    ∙ ap (shown_fare t.initial t.minimum (display_step s.tariff).0) (steps-saved (rounding_of s) (opening_of s t) (charges_of s t) some)
 
 extras-by : (s : Setting) (trip : Option Trip) → extras_by (option_map (core_trip_of s) trip) ≡ extras_shown s trip
 extras-by s None = refl

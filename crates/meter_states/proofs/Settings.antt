@@ -2,13 +2,14 @@
 use Rattle.std.proofs.Common.{◌≡◌, ℕ, ◌*◌, ◌<◌, ◌≤◌, ap, ◌∙◌, arith}
 use Rattle.std.proofs.Math.Nat.{mul-pos}
 use Rattle.tariff_check.specs.Measure.{measure_of}
-use Rattle.tariff_compile.specs.Tables.{TableParts, IsFit}
-use Rattle.meter_states.specs.Setting.{Setting, IsTariffOf, rounding_of, unit_of, step_of, modulus_of}
+use Rattle.tariff_check.specs.DisplayStep.{display_step}
+use Rattle.tariff_compile.specs.Tables.{IsFit, TableParts}
+use Rattle.meter_states.specs.Setting.{Setting, IsTariffOf, rounding_of, unit_of, modulus_of}
 
 pub unit-is : (s : Setting) (p : TableParts) → IsTariffOf s p → p.measure ≡ unit_of s
 unit-is s p is = ap (λ (q : TableParts). q.measure) is.compiled.parts ∙ ap (λ (k : ℕ). k * measure_of s.tariff.lines) is.constant
 
-pub step-is : (s : Setting) (p : TableParts) → IsTariffOf s p → p.step ≡ step_of s
+pub step-is : (s : Setting) (p : TableParts) → IsTariffOf s p → p.step ≡ (display_step s.tariff).0
 step-is s p is = ap (λ (q : TableParts). q.step) is.compiled.parts
 
 pub rounding-is : (s : Setting) (p : TableParts) → IsTariffOf s p → p.rounding ≡ rounding_of s
@@ -19,7 +20,7 @@ decimals-is s p is = ap (λ (q : TableParts). q.decimals) is.compiled.parts
 
 -- what a display step takes, by the tables
 pub modulus-is : (s : Setting) (p : TableParts) → IsTariffOf s p → p.step * p.measure ≡ modulus_of s
-modulus-is s p is = ap (λ (n : ℕ). n * p.measure) (step-is s p is) ∙ ap (λ (n : ℕ). step_of s * n) (unit-is s p is)
+modulus-is s p is = ap (λ (n : ℕ). n * p.measure) (step-is s p is) ∙ ap (λ (n : ℕ). (display_step s.tariff).0 * n) (unit-is s p is)
 
 -- a display step takes more than what is left of it
 pub modulus-above : (s : Setting) (p : TableParts) (rest : ℕ) → IsTariffOf s p → rest < p.step * p.measure → 0 < modulus_of s
@@ -28,7 +29,7 @@ modulus-above s p rest is below = omega (arith, below, modulus-is s p is)
 -- a display step takes something
 pub modulus-some : (s : Setting) (p : TableParts) → IsTariffOf s p → IsFit p → 0 < modulus_of s
 modulus-some s p is fit =
-    let step : 0 < step_of s = omega (arith, step-is s p is, fit.step.0) in
+    let step : 0 < (display_step s.tariff).0 = omega (arith, step-is s p is, fit.step.0) in
     let unit : 0 < unit_of s = omega (arith, unit-is s p is, fit.measure.0) in
     mul-pos step unit
 

@@ -8,7 +8,8 @@ use Rattle.taxi_units.specs.declared.receipt.Kind.TheVariants.{Roam}
 use Rattle.taxi_units.specs.declared.receipt.Receipt.{Receipt}
 use Rattle.totals_record.specs.declared.entry.Entry.{Entry}
 use Rattle.meter_states.specs.Meter.{Meter, Outcome, ◌>>=◌, quiet, entered, printed}
-use Rattle.meter_states.specs.Setting.{Setting, stamp_at, step_of}
+use Rattle.tariff_check.specs.DisplayStep.{display_step}
+use Rattle.meter_states.specs.Setting.{Setting, stamp_at}
 use Rattle.meter_states.specs.Supplements.{amounts_of}
 use Rattle.meter_states.specs.Trip.{Trip, fare_of, pulses_of, steps_shown}
 use Rattle.taxi_units.specs.Limits.{roaming_most}
@@ -37,7 +38,7 @@ receipt_of s kind finish position t number = record {
   initial = t.initial;
   minimum = t.minimum;
   steps = steps_shown s t;
-  step = step_of s;
+  step = (display_step s.tariff).0;
   fare = fare_of s t;
   supplements = amounts_of s.tariff t.extras;
   decimals = s.tariff.decimals;

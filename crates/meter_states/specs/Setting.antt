@@ -1,13 +1,16 @@
 -- Rules: what the meter goes by, its tariff and its secured parameters.
-use Rattle.std.specs.Prelude.{◌≡◌, ℕ, ◌*◌, List, ℤ}
+use Rattle.std.specs.Prelude.{◌≡◌, ℕ, ◌*◌, List, [], ◌∷◌, ℤ}
 use Rattle.drive_modes.specs.declared.charges.Mode.{Mode}
 use Rattle.drive_modes.specs.declared.meterage.Rounding.{Rounding}
 use Rattle.interval_clock.specs.LocalTime.{local_second, local_time_of}
 use Rattle.interval_clock.specs.declared.local_time.LocalTime.{LocalTime}
+use Rattle.seal_record.specs.declared.params.Params.{Params}
 use Rattle.seal_record.specs.declared.seal.Seal.{Seal}
 use Rattle.tariff_check.specs.Measure.{measure_of}
-use Rattle.tariff_compile.specs.Tables.{TableParts, IsTablesOf, step_in}
+use Rattle.tariff_check.specs.DisplayStep.{display_step}
+use Rattle.tariff_compile.specs.Tables.{TableParts, IsTablesOf}
 use Rattle.tariff_syntax.specs.Tree.{Tree}
+use Rattle.taxi_units.specs.Time.{first_second}
 use Rattle.taxi_units.specs.declared.receipt.Stamp.{Stamp}
 
 -- a setting has the tariff, the constant of the taximeter, how time and distance share in the fare, how long a trip may
@@ -18,6 +21,21 @@ pub record Setting : Type 0 where
   pub mode : Mode
   pub hold : ℕ
   pub offsets : List (ℕ × ℤ)
+
+-- a meter goes by a tariff and by the constant, the mode, the hold and the offsets of parameters
+abbrev pub setting_by : Tree → Params → Setting
+setting_by t params = record {
+  tariff = t;
+  constant = params.constant;
+  mode = params.mode;
+  hold = params.hold;
+  offsets = params.offsets;
+}
+
+-- a meter under one offset goes by a tariff and its own parameters, with that offset at all seconds
+abbrev pub under_offset : Tree → (k : ℕ) → Mode → (hold : ℕ) → (offset : ℤ) → Setting
+under_offset t k mode hold offset =
+    record { tariff = t; constant = k; mode = mode; hold = hold; offsets = (first_second, offset) ∷ [] }
 
 -- tables are those of a setting where they are compiled from the setting's tariff under its constant
 pub record IsTariffOf (s : Setting) (tables : TableParts) : Type 0 where
@@ -41,17 +59,13 @@ pub record IsSettingOf (s : Setting) (tables : TableParts) (seal : Seal) : Type 
 abbrev pub unit_of : Setting → ℕ
 unit_of s = s.constant * measure_of s.tariff.lines
 
--- the display step of a setting is that of its tariff, in the smallest units of money
-abbrev pub step_of : Setting → ℕ
-step_of s = (step_in s.tariff).0
-
 -- the rounding of a setting is the one by which its tariff rounds the fare to the display step
 abbrev pub rounding_of : Setting → Rounding
-rounding_of s = (step_in s.tariff).1
+rounding_of s = (display_step s.tariff).1
 
 -- a display step has as many units of charge as the step has smallest units of money, times the units of charge in each
 abbrev pub modulus_of : Setting → ℕ
-modulus_of s = step_of s * unit_of s
+modulus_of s = (display_step s.tariff).0 * unit_of s
 
 -- the local time at a second is the one that the offsets of the setting give
 abbrev pub local_at : Setting → (second : ℕ) → LocalTime

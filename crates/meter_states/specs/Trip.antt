@@ -6,7 +6,8 @@ use Rattle.tariff_compile.specs.declared.parts.Initial.{Initial}
 use Rattle.tariff_syntax.specs.declared.context.Context.{Context}
 use Rattle.totals_record.specs.declared.trip.Trip as store
 use Rattle.meter_states.specs.Charge.{charge_at}
-use Rattle.meter_states.specs.Setting.{Setting, modulus_of, rounding_of, step_of, unit_of}
+use Rattle.tariff_check.specs.DisplayStep.{display_step}
+use Rattle.meter_states.specs.Setting.{Setting, modulus_of, rounding_of, unit_of}
 use Rattle.meter_states.specs.Supplements.{amounts_of, counts_of}
 use Rattle.meter_states.specs.declared.trip.CoreTrip.{CoreTrip}
 
@@ -80,7 +81,7 @@ steps_shown s t = steps_above (rounding_of s) (opening_of s t) (charges_of s t)
 -- the fare of a trip is its initial hire fee and the display step for each step shown, or its minimum fare where that
 -- is more, and at most 99,999,999
 abbrev pub fare_of : Setting → Trip → ℕ
-fare_of s t = shown_fare t.initial t.minimum (step_of s) (steps_shown s t)
+fare_of s t = shown_fare t.initial t.minimum (display_step s.tariff).0 (steps_shown s t)
 
 -- a trip that is hired at a second, after some roaming pulses, begins with its fee and its cover, and has no parts yet
 abbrev pub begun : Setting → Initial → (second roam : ℕ) → Trip

@@ -2,11 +2,12 @@
 use Rattle.std.proofs.Common.{◌≡◌, ℕ, ◌<◌, ◌≤◌}
 use Rattle.taxi_units.specs.Time.{last_tick}
 use Rattle.tariff_check.specs.Parts.{positions_of, zones_of}
-use Rattle.tariff_compile.specs.Tables.{initial_by, step_in, supplement_at}
+use Rattle.tariff_check.specs.DisplayStep.{display_step}
+use Rattle.tariff_compile.specs.Tables.{initial_by, supplement_at}
 use Rattle.meter_states.specs.Charge.{charge_at}
 use Rattle.meter_states.specs.Interval.{context_now, context_of, ticks_so_far}
 use Rattle.meter_states.specs.Meter.{Meter}
-use Rattle.meter_states.specs.Setting.{Setting, step_of, unit_of}
+use Rattle.meter_states.specs.Setting.{Setting, unit_of}
 use Rattle.same_tariffs.specs.Alike.{IsSameMoney}
 use Rattle.same_tariffs.specs.Reached.{IsPlaced}
 
@@ -15,11 +16,11 @@ pub record Agree (s t : Setting) : Type 0 where
   pub constant : s.constant ≡ t.constant
   pub offsets : s.offsets ≡ t.offsets
   pub decimals : s.tariff.decimals ≡ t.tariff.decimals
-  pub step : step_in s.tariff ≡ step_in t.tariff
+  pub step : display_step s.tariff ≡ display_step t.tariff
   pub positions : positions_of s.tariff.lines ≡ positions_of t.tariff.lines
   pub zones : zones_of s.tariff.lines ≡ zones_of t.tariff.lines
   pub supplements : (n : ℕ) → supplement_at s.tariff n ≡ supplement_at t.tariff n
-  pub some_step : 0 < step_of s
+  pub some_step : 0 < (display_step s.tariff).0
   pub some_unit : 0 < unit_of s
   pub also_unit : 0 < unit_of t
   pub rates : (m : Meter) → IsPlaced s m → ticks_so_far m.trip ≤ last_tick → (p : ℕ)

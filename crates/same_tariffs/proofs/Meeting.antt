@@ -15,6 +15,7 @@ use Rattle.tariff_check.proofs.Laws.{sound_tariffs_have_sound_parts-parts}
 use Rattle.tariff_compare.specs.Contexts.{IsMeterContext, IsMeterTime, context_at}
 use Rattle.tariff_compare.specs.Same.{cost_same, is_fee_other, is_minimum_other, rate_in}
 use Rattle.tariff_compare.specs.declared.meter_context.MeterContext.{MeterContext}
+use Rattle.tariff_check.specs.DisplayStep.{display_step}
 use Rattle.tariff_compile.specs.Tables.{initial_by, supplement_in}
 use Rattle.tariff_compile.specs.declared.parts.Initial.{Initial}
 use Rattle.tariff_syntax.specs.Meaning.{at_hiring, rate_place}
@@ -22,7 +23,7 @@ use Rattle.tariff_syntax.specs.declared.meaning.LineKind.TheVariants as kinds
 use Rattle.meter_states.specs.Charge.{charge_at, charge_by, rate_at, rate_of}
 use Rattle.meter_states.specs.Interval.{context_now, context_of, context_on, ticks_so_far}
 use Rattle.meter_states.specs.Meter.{Meter}
-use Rattle.meter_states.specs.Setting.{Setting, local_at, step_of, unit_of}
+use Rattle.meter_states.specs.Setting.{Setting, local_at, unit_of}
 use Rattle.same_tariffs.specs.Alike.{IsSameMoney}
 use Rattle.same_tariffs.specs.Contexts.{IsChargedIn, IsHiredIn, IsSettingInRange, meter_context_at, without_trip}
 use Rattle.same_tariffs.specs.Reached.{IsPlaced}
@@ -214,7 +215,7 @@ unit-some s range =
     let parts = sound_tariffs_have_sound_parts-parts s.tariff range.writable range.sound in
     mul-pos (omega (arith, range.constant.0)) (omega (arith, parts.measure.0))
 
-step-some : (s : Setting) → IsSettingInRange s → 0 < step_of s
+step-some : (s : Setting) → IsSettingInRange s → 0 < (display_step s.tariff).0
 step-some s range =
     let parts = sound_tariffs_have_sound_parts-parts s.tariff range.writable range.sound in
     subst (λ (o : Option (ℕ × Rounding)). 0 < (unwrap_or o (0, Behind)).0) (sym parts.step.1) parts.step.2.0

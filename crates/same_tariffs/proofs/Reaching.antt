@@ -38,13 +38,13 @@ use Rattle.meter_states.specs.Interval.{context_now, context_of, interval_begun}
 use Rattle.meter_states.specs.Keys.{is_among, key_pressed}
 use Rattle.meter_states.specs.Meter.{Meter, Outcome, ◌>>=◌, held, quiet, refused}
 use Rattle.meter_states.specs.Run.{opened, run}
-use Rattle.meter_states.specs.Setting.{Setting, unit_of}
+use Rattle.meter_states.specs.Setting.{Setting, under_offset, unit_of}
 use Rattle.meter_states.specs.Step.{expired, step}
 use Rattle.meter_states.specs.Supply.{aborted, hold_taken, is_within_hold, powered, resumed, turned_off}
 use Rattle.meter_states.specs.Trip.{InHired, Part, Rest, Trip, begun, held_trip, pulses_in, pulses_of, ticks_in, ticks_of, with_part}
 use Rattle.meter_states.proofs.Laws.{runs_add_up}
 use Rattle.same_tariffs.specs.Contexts.{without_trip}
-use Rattle.same_tariffs.specs.Drives.{BeginsIn, IsReached, WasHiredIn, drop, drops, events_to, hire, meter_after, under_offset}
+use Rattle.same_tariffs.specs.Drives.{BeginsIn, IsReached, WasHiredIn, drop, drops, events_to, hire, meter_after}
 use Rattle.same_tariffs.proofs.Trips.{sum-more}
 use Rattle.taxi_units.specs.Limits.{last_number}
 

@@ -7,6 +7,7 @@ use Rattle.drive_modes.specs.declared.meterage.Rounding.{Rounding}
 use Rattle.taxi_units.specs.declared.receipt.Kind.{Kind}
 use Rattle.totals_record.specs.declared.trip.Trip as store
 use Rattle.drive_modes.specs.Distance.{millimetres_of}
+use Rattle.tariff_check.specs.DisplayStep.{display_step}
 use Rattle.tariff_compile.specs.Tables.{supplement_at}
 use Rattle.tariff_compile.specs.declared.parts.Initial.{Initial}
 use Rattle.meter_states.specs.Closing.{entry_of, receipt_of}
@@ -14,7 +15,7 @@ use Rattle.meter_states.specs.Display.{display_of, extras_shown, fare_shown}
 use Rattle.meter_states.specs.Interval.{pulses_so_far, ticks_so_far}
 use Rattle.meter_states.specs.Meter.{Meter}
 use Rattle.meter_states.specs.Run.{trip_of}
-use Rattle.meter_states.specs.Setting.{Setting, modulus_of, rounding_of, stamp_at, step_of, unit_of}
+use Rattle.meter_states.specs.Setting.{Setting, modulus_of, rounding_of, stamp_at, unit_of}
 use Rattle.meter_states.specs.Supplements.{amount_in, amounts_of, counts_of}
 use Rattle.meter_states.specs.Trip as model
 use Rattle.meter_states.specs.Trip.{InHired, Part, Rest, Trip, begun, charge_in, charges_of, fare_of, held_trip, pulses_in, pulses_of, core_trip_of, steps_shown, ticks_in, ticks_of, with_extra, with_part}
@@ -106,7 +107,7 @@ ticks-alike s t (Some a) (Some b) same = same.ticks
 ticks-alike s t None (Some b) same = absurd same
 ticks-alike s t (Some a) None same = absurd same
 
-step-is : (s t : Setting) → Agree s t → step_of s ≡ step_of t
+step-is : (s t : Setting) → Agree s t → (display_step s.tariff).0 ≡ (display_step t.tariff).0
 step-is s t agree = ap (λ (x : ℕ × Rounding). x.0) agree.step
 
 rounding-is : (s t : Setting) → Agree s t → rounding_of s ≡ rounding_of t
@@ -115,7 +116,7 @@ rounding-is s t agree = ap (λ (x : ℕ × Rounding). x.1) agree.step
 -- a display step of each tariff is the same money
 step-money : (s t : Setting) → Agree s t → IsSameMoney (unit_of s) (unit_of t) (modulus_of s) (modulus_of t)
 step-money s t agree =
-    let same = times-same (unit_of s) (unit_of t) (step_of s) in
+    let same = times-same (unit_of s) (unit_of t) (display_step s.tariff).0 in
     subst (λ (n : ℕ). IsSameMoney (unit_of s) (unit_of t) (modulus_of s) (n * unit_of t)) (step-is s t agree) same
 
 some-modulus : (n u : ℕ) → 0 < n → 0 < u → 0 < n * u
@@ -127,8 +128,8 @@ openings-alike s t a b agree same = record {
   cover = same.cover;
   above = same.above;
   modulus = step-money s t agree;
-  some = some-modulus (step_of s) (unit_of s) agree.some_step agree.some_unit;
-  also = some-modulus (step_of t) (unit_of t) (subst (λ (n : ℕ). 0 < n) (step-is s t agree) agree.some_step)
+  some = some-modulus (display_step s.tariff).0 (unit_of s) agree.some_step agree.some_unit;
+  also = some-modulus (display_step t.tariff).0 (unit_of t) (subst (λ (n : ℕ). 0 < n) (step-is s t agree) agree.some_step)
       agree.also_unit;
 }
 
@@ -150,10 +151,10 @@ fare-alike s t a b agree same =
     let step = step-is s t agree in
     let initial = same.initial in
     let minimum = same.minimum in
-    ap (λ (n : ℕ). shown_fare a.initial a.minimum (step_of s) n) steps
+    ap (λ (n : ℕ). shown_fare a.initial a.minimum (display_step s.tariff).0 n) steps
     ∙ ap (λ (n : ℕ). shown_fare a.initial a.minimum n (steps_shown t b)) step
-    ∙ ap (λ (n : ℕ). shown_fare n a.minimum (step_of t) (steps_shown t b)) initial
-    ∙ ap (λ (n : ℕ). shown_fare b.initial n (step_of t) (steps_shown t b)) minimum
+    ∙ ap (λ (n : ℕ). shown_fare n a.minimum (display_step t.tariff).0 (steps_shown t b)) initial
+    ∙ ap (λ (n : ℕ). shown_fare b.initial n (display_step t.tariff).0 (steps_shown t b)) minimum
 
 amounts-each : (s t : Setting) → Agree s t → (numbers : List ℕ) → map (λ n. amount_in (supplement_at s.tariff n))
     numbers ≡ map (λ n. amount_in (supplement_at t.tariff n)) numbers

@@ -3,7 +3,6 @@ use Rattle.std.specs.Prelude.{◌≡◌, ℕ, zero, suc, ◌*◌, ◌/◌, ◌%�
 use Rattle.drive_text.specs.Ranges.{IsInRange}
 use Rattle.interval_clock.specs.Offsets.{IsOffset}
 use Rattle.drive_modes.specs.declared.charges.Mode.{Mode}
-use Rattle.taxi_units.specs.Time.{first_second}
 use Rattle.taxi_units.specs.declared.event.Event.{Event}
 use Rattle.taxi_units.specs.declared.event.Event.TheVariants.{Up, Down, Pulses, Tick}
 use Rattle.taxi_units.specs.declared.event.Event.TheVariants as events
@@ -16,15 +15,10 @@ use Rattle.tariff_syntax.specs.Tree.{Tree}
 use Rattle.meter_states.specs.Interval.{context_of}
 use Rattle.meter_states.specs.Meter.{Meter}
 use Rattle.meter_states.specs.Run.{opened, run}
-use Rattle.meter_states.specs.Setting.{Setting, unit_of}
+use Rattle.meter_states.specs.Setting.{Setting, under_offset, unit_of}
 use Rattle.meter_states.specs.Trip.{Trip}
 use Rattle.same_tariffs.specs.Contexts.{without_trip}
 use Rattle.totals_record.specs.States.{first_state}
-
--- a meter under one offset goes by a tariff and its own parameters, with that offset at all seconds
-abbrev pub under_offset : Tree → (k : ℕ) → Mode → (hold : ℕ) → (offset : ℤ) → Setting
-under_offset t k mode hold offset =
-    record { tariff = t; constant = k; mode = mode; hold = hold; offsets = (first_second, offset) ∷ [] }
 
 -- pulses come without ticks as the supply drops before the end of their interval and comes again at the same second
 abbrev pub drop : (second pulses : ℕ) → List Event

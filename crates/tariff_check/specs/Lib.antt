@@ -1,6 +1,7 @@
 pub mod Cells
 pub mod Counted
 pub mod Cuts
+pub mod DisplayStep
 pub mod Faults
 pub mod Lines
 pub mod Measure

@@ -5,7 +5,8 @@ use Rattle.drive_modes.specs.declared.meterage.Rounding.{Rounding}
 use Rattle.drive_modes.specs.declared.meterage.Rounding.TheVariants.{Behind, Ahead}
 use Rattle.tariff_check.proofs.Laws.{supplements_are_numbered_to_16}
 use Rattle.tariff_check.specs.Parts.{SupplementNumbers, positions_of, supplement_of, zones_of}
-use Rattle.tariff_compile.specs.Tables.{step_in, supplement_at, supplement_in}
+use Rattle.tariff_check.specs.DisplayStep.{display_step}
+use Rattle.tariff_compile.specs.Tables.{supplement_at, supplement_in}
 use Rattle.tariff_compile.specs.declared.parts.Supplement as supplements
 use Rattle.tariff_syntax.specs.Tree.{Tree}
 use Rattle.tariff_syntax.specs.Writable.{IsFromTo, IsWritable}
@@ -102,7 +103,7 @@ supplement_same t u number t_is u_is none =
 -- the parts of a frame in which nothing differs
 record IsSameSoFar (t u : Tree) : Type 0 where
   pub decimals : t.decimals ≡ u.decimals
-  pub step : step_in t ≡ step_in u
+  pub step : display_step t ≡ display_step u
   pub positions : positions_of t.lines ≡ positions_of u.lines
   pub zones : zones_of t.lines ≡ zones_of u.lines
   pub supplements : other_supplement t u ≡ None
@@ -110,13 +111,13 @@ record IsSameSoFar (t u : Tree) : Type 0 where
 frame_parts : (t u : Tree) → frame_difference t u ≡ None → IsSameSoFar t u
 frame_parts t u h =
     let p₁ = passed Decimals (eqb t.decimals u.decimals) _ h in
-    let p₂ = passed Step (eqb (step_in t).0 (step_in u).0) _ p₁.1 in
-    let p₃ = passed Rounded (is_same_rounding (step_in t).1 (step_in u).1) _ p₂.1 in
+    let p₂ = passed Step (eqb (display_step t).0 (display_step u).0) _ p₁.1 in
+    let p₃ = passed Rounded (is_same_rounding (display_step t).1 (display_step u).1) _ p₂.1 in
     let p₄ = passed Positions (eqb (positions_of t.lines) (positions_of u.lines)) _ p₃.1 in
     let p₅ = passed Zones (eqb (zones_of t.lines) (zones_of u.lines)) _ p₄.1 in
     record {
       decimals = eqb-true t.decimals u.decimals p₁.0;
-      step = pair_same (step_in t) (step_in u) (eqb-true (step_in t).0 (step_in u).0 p₂.0) (same_roundings (step_in t).1 (step_in u).1 p₃.0);
+      step = pair_same (display_step t) (display_step u) (eqb-true (display_step t).0 (display_step u).0 p₂.0) (same_roundings (display_step t).1 (display_step u).1 p₃.0);
       positions = eqb-true (positions_of t.lines) (positions_of u.lines) p₄.0;
       zones = eqb-true (zones_of t.lines) (zones_of u.lines) p₅.0;
       supplements = none_mapped (other_supplement t u) p₅.1;
@@ -162,8 +163,8 @@ same_frame t u same =
     let supplements : (n : ℕ) → not (is_same_supplement (supplement_at t n) (supplement_at u n)) ≡ false = λ n.
     ap not (ap (λ (o : Option SupplementNumbers). is_same_supplement (supplement_at t n) (option_map supplement_in o)) (sym (same.supplements n)) ∙ supplement_self (supplement_at t n)) in
     passes Decimals (eqb t.decimals u.decimals) _ (eq-eqb t.decimals u.decimals same.decimals)
-    (passes Step (eqb (step_in t).0 (step_in u).0) _ (eq-eqb (step_in t).0 (step_in u).0 (ap (λ (s : ℕ × Rounding). s.0) same.step))
-    (passes Rounded (is_same_rounding (step_in t).1 (step_in u).1) _ (ap (λ (s : ℕ × Rounding). is_same_rounding (step_in t).1 s.1) (sym same.step) ∙ rounding_self (step_in t).1)
+    (passes Step (eqb (display_step t).0 (display_step u).0) _ (eq-eqb (display_step t).0 (display_step u).0 (ap (λ (s : ℕ × Rounding). s.0) same.step))
+    (passes Rounded (is_same_rounding (display_step t).1 (display_step u).1) _ (ap (λ (s : ℕ × Rounding). is_same_rounding (display_step t).1 s.1) (sym same.step) ∙ rounding_self (display_step t).1)
     (passes Positions (eqb (positions_of t.lines) (positions_of u.lines)) _ (eq-eqb (positions_of t.lines) (positions_of u.lines) same.positions)
     (passes Zones (eqb (zones_of t.lines) (zones_of u.lines)) _ (eq-eqb (zones_of t.lines) (zones_of u.lines) same.zones)
     (ap (option_map Supplement) (none_other (λ n. not (is_same_supplement (supplement_at t n) (supplement_at u n))) supplement_numbers supplements))))))

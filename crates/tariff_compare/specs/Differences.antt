@@ -4,7 +4,8 @@ use Rattle.std.specs.Option.{option_or}
 use Rattle.drive_modes.specs.declared.meterage.Rounding.{Rounding}
 use Rattle.drive_modes.specs.declared.meterage.Rounding.TheVariants.{Behind, Ahead}
 use Rattle.tariff_check.specs.Parts.{positions_of, zones_of}
-use Rattle.tariff_compile.specs.Tables.{step_in, supplement_at}
+use Rattle.tariff_check.specs.DisplayStep.{display_step}
+use Rattle.tariff_compile.specs.Tables.{supplement_at}
 use Rattle.tariff_compile.specs.declared.parts.Supplement as supplements
 use Rattle.tariff_syntax.specs.Tree.{Tree}
 use Rattle.tariff_syntax.specs.declared.meaning.LineKind.{LineKind}
@@ -41,8 +42,8 @@ other_supplement t u =
 abbrev pub frame_difference : (t u : Tree) → Option Difference
 frame_difference t u =
     if not (t.decimals == u.decimals) then Some Decimals
-    else (if not ((step_in t).0 == (step_in u).0) then Some Step
-    else (if not (is_same_rounding (step_in t).1 (step_in u).1) then Some Rounded
+    else (if not ((display_step t).0 == (display_step u).0) then Some Step
+    else (if not (is_same_rounding (display_step t).1 (display_step u).1) then Some Rounded
     else (if not (positions_of t.lines == positions_of u.lines) then Some Positions
     else (if not (zones_of t.lines == zones_of u.lines) then Some Zones
     else option_map Supplement (other_supplement t u)))))

@@ -2,7 +2,8 @@
 use Rattle.std.specs.Prelude.{◌≡◌, ℕ, ◌*◌, Bool, true, not, ◌&&◌, ◌==◌, if◌then◌else◌, get_or, is_some, Option, Some, None}
 use Rattle.std.specs.Option.{unwrap_or}
 use Rattle.tariff_check.specs.Parts.{RateNumbers, positions_of, rates_of, supplement_of, zones_of}
-use Rattle.tariff_compile.specs.Tables.{initial_by, step_in}
+use Rattle.tariff_check.specs.DisplayStep.{display_step}
+use Rattle.tariff_compile.specs.Tables.{initial_by}
 use Rattle.tariff_syntax.specs.Meaning.{rate_place}
 use Rattle.tariff_syntax.specs.Tree.{Tree}
 use Rattle.tariff_syntax.specs.declared.context.Context.{Context}
@@ -55,7 +56,7 @@ difference_at t u k m =
 -- the same
 pub record HasSameFrame (t u : Tree) : Type 0 where
   pub decimals : t.decimals ≡ u.decimals
-  pub step : step_in t ≡ step_in u
+  pub step : display_step t ≡ display_step u
   pub positions : positions_of t.lines ≡ positions_of u.lines
   pub zones : zones_of t.lines ≡ zones_of u.lines
   pub supplements : (number : ℕ) → supplement_of t.lines number ≡ supplement_of u.lines number

@@ -1,10 +1,10 @@
 -- Rules: the tables of a tariff under a constant, and what they are looked up for.
-use Rattle.std.specs.Prelude.{◌≡◌, ℕ, ◌+◌, ◌*◌, ◌/◌, ◌^◌, ◌<◌, ◌≤◌, if◌then◌else◌, List, ◌∷◌, map, get_or, Option, Some, None, MatchOption}
+use Rattle.std.specs.Prelude.{◌≡◌, ℕ, ◌+◌, ◌*◌, ◌/◌, ◌^◌, ◌<◌, ◌≤◌, if◌then◌else◌, List, ◌∷◌, map, get_or, Option}
+use Rattle.std.specs.Prelude.{Some, None, MatchOption}
 use Rattle.std.specs.List.{range_with_len, slice_get}
 use Rattle.std.specs.Option.{unwrap_or, option_map}
 use Rattle.drive_modes.specs.declared.charges.Weights.{Weights}
 use Rattle.drive_modes.specs.declared.meterage.Rounding.{Rounding}
-use Rattle.drive_modes.specs.declared.meterage.Rounding.TheVariants.{Behind}
 use Rattle.drive_modes.specs.Constant.{least_constant, greatest_constant}
 use Rattle.taxi_units.specs.Money.{largest_amount}
 use Rattle.tariff_syntax.specs.Meaning.{rate_place, initial_place, minimum_place}
@@ -14,7 +14,9 @@ use Rattle.tariff_syntax.specs.declared.context.Context.{Context}
 use Rattle.tariff_check.specs.Cells.{day_kinds}
 use Rattle.tariff_check.specs.Faults.{IsSound}
 use Rattle.tariff_check.specs.Measure.{measure_of}
-use Rattle.tariff_check.specs.Parts.{RateNumbers, InitialNumbers, SupplementNumbers, step_of, positions_of, zones_of, supplement_of, initials_of, minimums_of, rates_of}
+use Rattle.tariff_check.specs.DisplayStep.{display_step}
+use Rattle.tariff_check.specs.Parts.{RateNumbers, InitialNumbers, SupplementNumbers, positions_of, zones_of}
+use Rattle.tariff_check.specs.Parts.{supplement_of, initials_of, minimums_of, rates_of}
 use Rattle.tariff_calendar.specs.Lists.{CutLists, has_days, lists_of}
 use Rattle.tariff_calendar.specs.Range.{IsInRange}
 use Rattle.tariff_compile.specs.Cells.{sizes_of, cell_count, cell_number, bands_of, bands_at, context_in}
@@ -106,10 +108,6 @@ pub record HasLinesOf (t : Tree) (x : Context) (lines : CellLines) : Type 0 wher
 abbrev pub all_cells : Tree → (k : ℕ) → List CellLines
 all_cells t k = map (λ cell. lines_at t (context_of t k cell)) (range_with_len 0 (cell_count (sizes_in t k)))
 
--- the display step in the tables of a tariff, with the rounding to it, is that of its `step` line
-abbrev pub step_in : Tree → ℕ × Rounding
-step_in t = unwrap_or (step_of t.lines) (0, Behind)
-
 -- the tables of a tariff, where k pulses make a kilometre, have its cuts, the weights of its rates, its fees and
 -- minimum fares, the lines of each cell and its supplements, and as M the constant k times the common measure
 abbrev pub tables_of : Tree → (k : ℕ) → TableParts
@@ -123,8 +121,8 @@ tables_of t k =
       supplements = map (λ place. supplement_at t (place + 1)) (range_with_len 0 16);
       constant = k;
       measure = k * measure_of t.lines;
-      step = (step_in t).0;
-      rounding = (step_in t).1;
+      step = (display_step t).0;
+      rounding = (display_step t).1;
       decimals = t.decimals;
       positions = positions_of t.lines;
       zones = zones_of t.lines;

@@ -4,13 +4,14 @@ use Rattle.drive_modes.specs.Fare.{shown_fare, steps_above}
 use Rattle.meter_states.specs.Charge.{distance_charge, time_charge}
 use Rattle.meter_states.specs.Closing.{receipt_of}
 use Rattle.meter_states.specs.Kept.{IsSupplementNumber}
-use Rattle.meter_states.specs.Setting.{Setting, rounding_of, step_of, unit_of}
+use Rattle.meter_states.specs.Setting.{Setting, rounding_of, unit_of}
 use Rattle.meter_states.specs.Trip.{Trip}
 use Rattle.meter_states.specs.declared.act.Act.{Act}
 use Rattle.meter_states.specs.declared.act.Act.TheVariants as acts
 use Rattle.meter_states.specs.declared.act.Act.TheVariants.{Show, Refuse, Enter, Hold}
 use Rattle.drive_modes.specs.Distance.{millimetres_of}
 use Rattle.tariff_check.specs.Parts.{RateNumbers}
+use Rattle.tariff_check.specs.DisplayStep.{display_step}
 use Rattle.tariff_compile.specs.Tables.{initial_by}
 use Rattle.tariff_syntax.specs.Writable.{IsWritable}
 use Rattle.tariff_syntax.specs.declared.context.Context.{Context}
@@ -73,7 +74,7 @@ pub record MakesReceipt (s : Setting) (e : Explanation) : Type 0 where
   pub distance : e.receipt.hired_mm ≡ millimetres_of s.constant e.whole.pulses
   pub steps : e.receipt.steps ≡ steps_above (rounding_of s)
       (record { cover = e.covers * unit_of s; above = 0; modulus = e.receipt.step * unit_of s }) e.whole.charge
-  pub step : e.receipt.step ≡ step_of s
+  pub step : e.receipt.step ≡ (display_step s.tariff).0
   pub fare : e.receipt.fare ≡ shown_fare e.receipt.initial e.receipt.minimum e.receipt.step e.receipt.steps
   pub supplements : IsWritable s.tariff
       → sum (map (λ (t : Taken). t.count * t.amount) e.taken) ≡ e.receipt.supplements

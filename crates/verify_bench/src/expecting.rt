@@ -10,7 +10,7 @@ ghost use Rattle.totals_record.specs.States.{first_state};
 ghost use Rattle.verify_bench.specs.Carrying.{Carries};
 ghost use Rattle.verify_bench.specs.Expecting.{expected_of};
 ghost use Rattle.verify_bench.specs.Explaining.{explanation_of, explanations_of};
-ghost use Rattle.verify_bench.specs.Settings.{setting_of, setting_under};
+ghost use Rattle.verify_bench.specs.Settings.{setting_under};
 ghost use Rattle.verify_bench.specs.Shortened.{short_of};
 
 use crate::expected::Expected;
@@ -38,7 +38,7 @@ pub fn expect(
 ) -> Result<Vec<Expected>, NoMemory>
     requires { All IsRunInRange runs.now }
     ensures { IfOk result (λ list. list.items
-        ≡ expected_of (setting_of checked.now seal.now) (flat_map run_events runs.now)) }
+        ≡ expected_of (setting_under checked.now seal.now.params) (flat_map run_events runs.now)) }
 {
     expect_counted::<Brand>(Blank::new(1), alloc, checked, &seal.params, runs)
 }

@@ -1,7 +1,7 @@
 //! The fare of a hiring.
 ghost use Rattle.std.specs.Prelude.{◌≡◌, ℕ, ◌+◌, ◌*◌, ◌^◌, ◌<◌, ◌≤◌};
 ghost use Rattle.drive_modes.specs.Fare.{quotient, shown_fare, steps_above};
-ghost use Rattle.meter_states.specs.Setting.{modulus_of, rounding_of, step_of, unit_of};
+ghost use Rattle.meter_states.specs.Setting.{modulus_of, rounding_of, unit_of};
 ghost use Rattle.tariff_compile.specs.Tables.{IsFitInitial};
 ghost use Rattle.taxi_units.specs.Time.{longest_trip};
 ghost use Rattle.verify_bench.specs.Limits.{most_charge, most_money};

@@ -1,8 +1,9 @@
 use Rattle.std.proofs.Common.{ℕ, ap, ◌∙◌}
 use Rattle.drive_modes.specs.Fare.{shown_fare, steps_above, steps_of}
 use Rattle.drive_modes.specs.declared.meterage.Rounding.{Rounding}
+use Rattle.tariff_check.specs.DisplayStep.{display_step}
 use Rattle.meter_states.specs.declared.trip.CoreTrip.{CoreTrip}
-use Rattle.meter_states.specs.Setting.{modulus_of, step_of}
+use Rattle.meter_states.specs.Setting.{modulus_of}
 use Rattle.meter_states.specs.Trip.{charges_of, opening_of}
 use Rattle.meter_states.proofs.Meterages.{steps-few}
 use Rattle.meter_states.proofs.Settings.{modulus-above, rounding-is, step-is}
@@ -27,7 +28,7 @@ returns-clause-value c = λ s t is saved.
     c.shown.ensures.sum t.opening.cover t.opening.above (modulus_of s) (charges_of s t) some (ap (λ (x : CoreTrip). x.meterage) saved)
     ∙ ap (λ (x : CoreTrip). shown_fare x.initial x.minimum c.step.result (steps_above c.rounding.result (opening_of s t) (charges_of s t))) saved
     ∙ ap (λ (n : ℕ). shown_fare t.initial t.minimum n (steps_above c.rounding.result (opening_of s t) (charges_of s t))) (c.step.ensures.value ∙ step-is s p is)
-    ∙ ap (λ (r : Rounding). shown_fare t.initial t.minimum (step_of s) (steps_above r (opening_of s t) (charges_of s t))) (c.rounding.ensures ∙ rounding-is s p is)
+    ∙ ap (λ (r : Rounding). shown_fare t.initial t.minimum (display_step s.tariff).0 (steps_above r (opening_of s t) (charges_of s t))) (c.rounding.ensures ∙ rounding-is s p is)
 
 pub returns-clause-exact : goal.returns-clause-exact
 returns-clause-exact c =

@@ -2,7 +2,8 @@ use Rattle.std.proofs.Common.{◌≡◌, ℕ, ap, sym, refl, Option, arith}
 use Rattle.std.specs.Option.{unwrap_or}
 use Rattle.drive_modes.specs.declared.meterage.Rounding.{Rounding}
 use Rattle.drive_modes.specs.declared.meterage.Rounding.TheVariants.{Behind}
-use Rattle.meter_states.specs.Setting.{stamp_at, step_of}
+use Rattle.tariff_check.specs.DisplayStep.{display_step}
+use Rattle.meter_states.specs.Setting.{stamp_at}
 use Rattle.meter_states.specs.Supplements.{amounts_of}
 use Rattle.meter_states.specs.Trip.{charges_of, fare_of, pulses_of, steps_shown}
 use Rattle.drive_modes.specs.Distance.{millimetres_of}
@@ -24,7 +25,7 @@ returns g c hired trip is =
     let shown : c.steps_shown-shown.result ≡ steps_shown s trip = rw (c.steps_shown-shown.ensures.steps, is.opening, charges) refl in
     let few = c.steps_shown-shown.ensures.few c.args.hiring.now.whole.ticks c.requires.ticks is.few in
     let steps : c.min.result ≡ steps_shown s trip = omega (arith, c.min.ensures, few, shown) in
-    let step : c.step-step.result.0 ≡ step_of s = sym (ap (λ (o : Option (ℕ × Rounding)). (unwrap_or o (0, Behind)).0) c.step-step.ensures.value) in
+    let step : c.step-step.result.0 ≡ (display_step s.tariff).0 = sym (ap (λ (o : Option (ℕ × Rounding)). (unwrap_or o (0, Behind)).0) c.step-step.ensures.value) in
     let fare : c.fare_shown-fare.result ≡ fare_of s trip = rw (c.fare_shown-fare.ensures, step, shown, is.initial, is.minimum) refl in
     let amounts : c.supplements-sum.result ≡ amounts_of s.tariff trip.extras = rw (c.supplements-sum.ensures, is.extras) refl in
     let decimals : c.tariff.result.now.decimals ≡ s.tariff.decimals = ap (λ (t : Tariff). t.decimals) c.tariff.ensures.value in
