@@ -5,7 +5,7 @@ use Rattle.std.proofs.lemmas.Bool.Decides.{Decides-and, Decides-by_and}
 use Rattle.std.proofs.lemmas.Int.{ints}
 use Rattle.std.specs.List.{list_all}
 use Rattle.interval_clock.specs.Calendar.{IsDateOf, is_date, is_leap_year, month_lengths, days_of_month, days_of_months, days_of_year, days_of_years, place_in_year, day_number_of}
-use Rattle.seal_record.specs.OffsetLaws.{Decides-leb}
+use Rattle.taxi_units.specs.Test.{at_most}
 
 -- later years begin later
 pub years_rise : (year later : ℕ) → year ≤ later → days_of_years year ≤ days_of_years later
@@ -68,7 +68,7 @@ place_bound false (suc (suc (suc (suc (suc (suc (suc (suc (suc (suc (suc (suc (s
 
 pub date_decides : (year month date : ℕ) → Decides (is_date year month date) ((1 ≤ month) × ((month ≤ 12) × ((1 ≤ date) × (date ≤ days_of_month year month))))
 date_decides year month date =
-    Decides-and _ _ (Decides-leb 1 month) (Decides-and _ _ (Decides-leb month 12) (Decides-and _ _ (Decides-leb 1 date) (Decides-leb date (days_of_month year month))))
+    Decides-and _ _ (at_most 1 month).decides (Decides-and _ _ (at_most month 12).decides (Decides-and _ _ (at_most 1 date).decides (at_most date (days_of_month year month)).decides))
 
 in_year : (year month date : ℕ) → is_date year month date ≡ true → place_in_year year month date < days_of_year year
 unfolding days_of_months
@@ -87,8 +87,8 @@ days_in_range year month date from to is =
 
 -- a month has at most 31 days
 month_bound : (leap : Bool) (place : ℕ) → place < 12 → slice_index (month_lengths leap) place ≤ 31
-month_bound true place lt = (Decides-by_and (λ d. leb d 31) (λ d. d ≤ 31) (list_all (λ d. leb d 31)) (λ d. Decides-leb d 31) refl (λ _ _. refl) (month_lengths true)).0 refl place 0 lt
-month_bound false place lt = (Decides-by_and (λ d. leb d 31) (λ d. d ≤ 31) (list_all (λ d. leb d 31)) (λ d. Decides-leb d 31) refl (λ _ _. refl) (month_lengths false)).0 refl place 0 lt
+month_bound true place lt = (Decides-by_and (λ d. leb d 31) (λ d. d ≤ 31) (list_all (λ d. leb d 31)) (λ d. (at_most d 31).decides) refl (λ _ _. refl) (month_lengths true)).0 refl place 0 lt
+month_bound false place lt = (Decides-by_and (λ d. leb d 31) (λ d. d ≤ 31) (list_all (λ d. leb d 31)) (λ d. (at_most d 31).decides) refl (λ _ _. refl) (month_lengths false)).0 refl place 0 lt
 
 pub date_bound : (year month date : ℕ) → is_date year month date ≡ true → (month ≤ 12) × (date ≤ 31)
 date_bound year month date is =

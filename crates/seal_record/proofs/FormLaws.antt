@@ -16,7 +16,7 @@ use Rattle.taxi_units.proofs.Laws.{numbers_are_read_by_their_digits, wide_number
 use Rattle.seal_record.specs.Forms.{IsDateText, IsModeText, IsOffsetText, IsPairText}
 use Rattle.seal_record.specs.Forms.IsModeText.{double_said, single_said}
 use Rattle.seal_record.specs.Forms.IsOffsetText.{ahead, behind}
-use Rattle.seal_record.specs.OffsetLaws.{Decides-leb}
+use Rattle.taxi_units.specs.Test.{at_most}
 use Rattle.seal_record.specs.Values.{mode_read, offset_read, pair_read, secured_read, where_date}
 use Rattle.seal_record.proofs.DayBounds.{date_decides}
 use Rattle.seal_record.proofs.PlainValues.{minus_again, no_minus}
@@ -134,7 +134,7 @@ record IsRead (year month date : ℕ) (rest : List ℕ) (day : ℤ) : Type 0 whe
 
 read_is : (year month date : ℕ) (rest : List ℕ) (day : ℤ) → where_date year month date rest ≡ Some day → IsRead year month date rest day
 read_is year month date rest day e =
-    let through = let_through _ (pos (day_number_of year month date)) day (Decides-and _ _ (Decides-eqb (length rest) 0) (Decides-and _ _ (Decides-leb 2000 year) (Decides-and _ _ (Decides-leb year 2199) (λ (h : is_date year month date ≡ true). h, λ (h : is_date year month date ≡ true). h)))) e in
+    let through = let_through _ (pos (day_number_of year month date)) day (Decides-and _ _ (Decides-eqb (length rest) 0) (Decides-and _ _ (at_most 2000 year).decides (Decides-and _ _ (at_most year 2199).decides (λ (h : is_date year month date ≡ true). h, λ (h : is_date year month date ≡ true). h)))) e in
     let there = (date_decides year month date).0 through.0.1.1.1 in
     record {
       nothing_left = empty_of rest through.0.0;
@@ -186,8 +186,8 @@ date_from text day is =
       front_from 2 is.months (45 ∷ is.dates) is.month (omega arith) is.month_is (omega arith),
       minus_again is.dates,
       last,
-      (Decides-leb 2000 is.year).1 is.year_is.above,
-      (Decides-leb is.year 2199).1 is.year_is.below,
+      (at_most 2000 is.year).decides.1 is.year_is.above,
+      (at_most is.year 2199).decides.1 is.year_is.below,
       there,
     ) (ap (λ (x : ℤ). Some x) (sym same))
 

@@ -26,13 +26,14 @@ use Rattle.seal_record.specs.declared.params.Name.TheVariants as name
 use Rattle.seal_record.specs.declared.params.Params.{Params}
 use Rattle.seal_record.specs.Lines.{is_passed, lines_of}
 use Rattle.seal_record.specs.Says.{HasNone}
-use Rattle.seal_record.specs.OffsetLaws.{Decides-is_offset_list, Decides-leb}
+use Rattle.seal_record.specs.OffsetLaws.{Decides-is_offset_list}
 use Rattle.seal_record.specs.PlainText.{AreShown, comment_line, commented_text, date_text, ended_text, line_of, mode_text, offset_line, offset_text, plain_lines, plain_text}
 use Rattle.seal_record.specs.Ranges.{IsParams}
 use Rattle.seal_record.specs.Reading.{lines_read, params_read, whole_of}
 use Rattle.seal_record.specs.Said.{Said, nothing_said}
 use Rattle.seal_record.specs.SaidStages.{line_read, name_of, named_line}
-use Rattle.seal_record.specs.SealLaws.{Decides-is_taxi}
+use Rattle.seal_record.specs.RangeTests.{taxi_test}
+use Rattle.taxi_units.specs.Test.{at_most, each}
 use Rattle.seal_record.proofs.DayBounds.{date_bound, date_decides, year_in_range}
 use Rattle.seal_record.proofs.Parting.{ended_line, key_before, last_line, value_after}
 use Rattle.seal_record.proofs.PlainValues.{date_again, length-padded_text, mode_again, number_again, pair_again}
@@ -49,7 +50,7 @@ record IsPlain (line : List ℕ) : Type 0 where
   shown : AreShown line
 
 is_word : (bytes : List ℕ) → list_all (leb 33) bytes ≡ true → IsWord bytes
-is_word bytes e = (Decides-by_and (leb 33) (λ b. 33 ≤ b) (list_all (leb 33)) (Decides-leb 33) refl (λ _ _. refl) bytes).0 e
+is_word bytes e = (each (at_most 33) bytes).decides.0 e
 
 are_shown : (bytes : List ℕ) → IsWord bytes → AreShown bytes
 are_shown bytes word = All-weaker (λ b. 33 ≤ b) (λ b. 32 ≤ b) (λ b h. omega (arith, h)) bytes word
@@ -234,7 +235,7 @@ four_read params number rest is =
     let three : Said = record two { mode = Some params.mode } in
     let four : Said = record three { hold = Some params.hold } in
     step nothing_said one number taxi_line (constant_line ∷ mode_line ∷ hold_line ∷ rest)
-    (keyed_read nothing_said number (codes "taxi") params.taxi.items Taxi (is_word (codes "taxi") refl) refl named_taxi ∙ rw ((Decides-is_taxi params.taxi.items).1 is.taxi) refl)
+    (keyed_read nothing_said number (codes "taxi") params.taxi.items Taxi (is_word (codes "taxi") refl) refl named_taxi ∙ rw ((taxi_test params.taxi.items).decides.1 is.taxi) refl)
     ∙ (step one two (number + 1) constant_line (mode_line ∷ hold_line ∷ rest)
     (keyed_read one (number + 1) (codes "constant") (decimal params.constant) Constant (is_word (codes "constant") refl) refl named_constant ∙ rw (number_again 500 200000 params.constant is.constant.0 is.constant.1 (omega arith)) refl)
     ∙ (step two three (number + 1 + 1) mode_line (hold_line ∷ rest)

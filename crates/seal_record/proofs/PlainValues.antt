@@ -13,7 +13,7 @@ use Rattle.taxi_units.specs.Reading.{word_at}
 use Rattle.taxi_units.proofs.Laws.{figures_are_read_by_their_digits, numbers_are_short, numbers_are_written_as_figures}
 use Rattle.taxi_units.proofs.Laws.{numbers_read_back, padded_numbers_are_written_as_figures, padded_numbers_fill_the_width}
 use Rattle.taxi_units.proofs.Laws.{wide_numbers_are_read_by_their_digits, words_are_read_by_their_text}
-use Rattle.seal_record.specs.OffsetLaws.{Decides-leb}
+use Rattle.taxi_units.specs.Test.{at_most}
 use Rattle.seal_record.specs.PlainText.{date_text, mode_text, offset_text}
 use Rattle.seal_record.specs.Values.{mode_read, offset_read, pair_read, secured_read}
 use Rattle.seal_record.proofs.DayBounds.{date_bound, date_decides, year_in_range}
@@ -94,7 +94,7 @@ date_again n from to =
       digits_again 2 d.month (45 ∷ padded_text 2 d.date) (omega arith) (omega arith) (omega (arith, small.0)) (omega (arith, small.0)) (omega arith),
       minus_again (padded_text 2 d.date),
       digits_alone 2 d.date (omega arith) (omega arith) (omega (arith, small.1)) (omega (arith, small.1)),
-      (Decides-leb 2000 d.year).1 year.0,
-      (Decides-leb d.year 2199).1 year.1,
+      (at_most 2000 d.year).decides.1 year.0,
+      (at_most d.year 2199).decides.1 year.1,
       there,
     ) (ap (λ (x : ℤ). Some x) (sym same))

@@ -1,7 +1,7 @@
 -- Parameters that bytes give, where they are in their ranges.
 use Rattle.std.proofs.Common.{◌≡◌, ℕ, Bool, true, false, if◌then◌else◌, ℤ, List, Option, Some, None, MatchOption, Decides, refl, sym, ap, subst, ◌∙◌}
 use Rattle.std.specs.Str.{bytes_eq}
-use Rattle.std.proofs.lemmas.Slice.Eq.{bytes_eq-Decides}
+use Rattle.std.proofs.lemmas.Bool.{false_from_ne_true}
 use Rattle.interval_clock.specs.Offsets.{IsOffsetList}
 use Rattle.taxi_units.specs.Reading.{Gives}
 use Rattle.seal_record.specs.declared.params.Params.{Params}
@@ -10,7 +10,8 @@ use Rattle.seal_record.specs.Decoding.{decoded, reads}
 use Rattle.seal_record.specs.OffsetList.{is_offset_list}
 use Rattle.seal_record.specs.OffsetLaws.{Decides-is_offset_list}
 use Rattle.seal_record.specs.Ranges.{IsSeal, IsTaxi}
-use Rattle.seal_record.specs.SealLaws.{Decides-is_taxi, reads_other, reads_own}
+use Rattle.seal_record.specs.RangeTests.{seal_test, taxi_test}
+use Rattle.slot_bodies.proofs.Laws.{not_in_range, other_bytes, own_bytes}
 use Rattle.seal_record.specs.Spelling.{spelling}
 use Rattle.seal_record.specs.Values.{is_taxi, taxi_read}
 
@@ -23,7 +24,7 @@ taxi_by_test view None text false decides given = λ is. absurd (let e : false �
 
 pub taxi_by : {R : Type 0} (view : R → List ℕ) (found : Option R) (text : List ℕ) → Gives view found (taxi_read text)
     → MatchOption found (¬ (IsTaxi text)) (λ taxi. (view taxi ≡ text) × IsTaxi (view taxi))
-taxi_by view found text given = taxi_by_test view found text (is_taxi text) (Decides-is_taxi text) given
+taxi_by view found text given = taxi_by_test view found text (is_taxi text) (taxi_test text).decides given
 
 offsets_by_test : (found : Option (List (ℕ × ℤ))) (list : List (ℕ × ℤ)) (b : Bool) → Decides b (IsOffsetList list) → found ≡ (if b then Some list else None)
     → MatchOption found (¬ (IsOffsetList list)) (λ offsets. (offsets ≡ list) × IsOffsetList offsets)
@@ -41,12 +42,23 @@ offsets_by found pairs list same given =
 pub same_params : (a b : Params) → a.taxi.items ≡ b.taxi.items → a.constant ≡ b.constant → a.mode ≡ b.mode → a.hold ≡ b.hold → a.offsets ≡ b.offsets → a.secured ≡ b.secured → a ≡ b
 same_params a b taxi constant mode hold offsets secured = λ i. record { taxi = record { items = taxi i }; constant = constant i; mode = mode i; hold = hold i; offsets = offsets i; secured = secured i }
 
--- what the bytes of a seal in its ranges are read as, where another spelling was found, and where their own
-pub read_other : (bytes shown : List ℕ) (seal : Seal) (same : Bool) → seal ≡ decoded bytes → shown ≡ spelling seal → same ≡ bytes_eq shown bytes → same ≡ false → reads bytes ≡ None
-read_other bytes shown seal true is spelled test other = absurd cc
-read_other bytes shown seal false is spelled test other = reads_other bytes (ap (λ (xs : List ℕ). bytes_eq xs bytes) (sym (spelled ∙ ap spelling is)) ∙ sym test)
+-- bytes whose fields are out of their ranges aren't read
+pub read_none : (bytes : List ℕ) → ¬ (IsSeal (decoded bytes)) → reads bytes ≡ None
+unfolding reads
+read_none bytes none = not_in_range seal_test spelling decoded bytes
+    (false_from_ne_true (seal_test (decoded bytes)).passes (λ passes. none ((seal_test (decoded bytes)).decides.0 passes)))
 
-pub read_own : (bytes shown : List ℕ) (seal : Seal) (same : Bool) → seal ≡ decoded bytes → IsSeal seal → shown ≡ spelling seal → same ≡ bytes_eq shown bytes → same ≡ true → reads bytes ≡ Some seal
-read_own bytes shown seal false is valid spelled test own = absurd cc
-read_own bytes shown seal true is valid spelled test own =
-    reads_own bytes (subst IsSeal is valid) (sym (spelled ∙ ap spelling is) ∙ (bytes_eq-Decides shown bytes).0 (sym test)) ∙ ap (λ (s : Seal). Some s) (sym is)
+-- what the bytes of a seal in its ranges are read as, where another spelling was found, and where their own
+pub read_other : (bytes shown : List ℕ) (seal : Seal) (same : Bool) → seal ≡ decoded bytes → shown ≡ spelling seal
+    → same ≡ bytes_eq shown bytes → same ≡ false → reads bytes ≡ None
+unfolding reads
+read_other bytes shown seal same is spelled test other = other_bytes seal_test spelling decoded bytes
+    (ap (λ (xs : List ℕ). bytes_eq xs bytes) (sym (spelled ∙ ap spelling is)) ∙ sym test ∙ other)
+
+pub read_own : (bytes shown : List ℕ) (seal : Seal) (same : Bool) → seal ≡ decoded bytes → IsSeal seal
+    → shown ≡ spelling seal → same ≡ bytes_eq shown bytes → same ≡ true → reads bytes ≡ Some seal
+unfolding reads
+read_own bytes shown seal same is valid spelled test own =
+    own_bytes seal_test spelling decoded bytes ((seal_test (decoded bytes)).decides.1 (subst IsSeal is valid))
+    (ap (λ (xs : List ℕ). bytes_eq xs bytes) (sym (spelled ∙ ap spelling is)) ∙ sym test ∙ own)
+    ∙ ap (λ (s : Seal). Some s) (sym is)

@@ -15,13 +15,14 @@ use Rattle.seal_record.specs.declared.params.Params.{Params}
 use Rattle.seal_record.specs.declared.params.ParamFault.{ParamFault}
 use Rattle.seal_record.specs.declared.params.ParamFault.TheVariants.{TooLong, Twice}
 use Rattle.seal_record.specs.Lines.{is_passed, key_in, value_in, lines_of}
-use Rattle.seal_record.specs.OffsetLaws.{Decides-is_offset_list, Decides-leb}
+use Rattle.seal_record.specs.OffsetLaws.{Decides-is_offset_list}
 use Rattle.seal_record.specs.OffsetList.{is_offset_list}
 use Rattle.seal_record.specs.Ranges.{IsDay, IsParams, IsTaxi}
 use Rattle.seal_record.specs.Reading.{and_then, lines_read, params_read, whole, whole_of}
 use Rattle.seal_record.specs.Said.{Said, nothing_said}
 use Rattle.seal_record.specs.SaidStages.{is_twice, keyed_line, line_read, name_of, or_bad, with_pair, with_value}
-use Rattle.seal_record.specs.SealLaws.{Decides-is_taxi}
+use Rattle.seal_record.specs.RangeTests.{taxi_test}
+use Rattle.taxi_units.specs.Test.{at_most}
 use Rattle.taxi_units.specs.Number.{number_of_width}
 use Rattle.seal_record.specs.Values.{is_taxi, mode_read, pair_read, secured_read, taxi_read, where_date}
 use Rattle.seal_record.proofs.DayBounds.{days_in_range}
@@ -45,7 +46,7 @@ let_through true x y decides e = (decides.0 refl, cc)
 let_through false x y decides e = absurd cc
 
 taxi_said : (text taxi : List ℕ) → taxi_read text ≡ Some taxi → IsTaxi taxi
-taxi_said text taxi e = let through = let_through (is_taxi text) text taxi (Decides-is_taxi text) e in subst IsTaxi through.1 through.0
+taxi_said text taxi e = let through = let_through (is_taxi text) text taxi (taxi_test text).decides e in subst IsTaxi through.1 through.0
 
 pub number_said : (low high : ℕ) (text : List ℕ) (n : ℕ) → number_in low high text ≡ Some n → (low ≤ n) × (n ≤ high)
 number_said low high text n e =
@@ -53,7 +54,7 @@ number_said low high text n e =
 
 date_said : (year month date : ℕ) (rest : List ℕ) (day : ℤ) → where_date year month date rest ≡ Some day → IsDay day
 date_said year month date rest day e =
-    let through = let_through _ (pos (day_number_of year month date)) day (Decides-and _ _ (Decides-eqb (length rest) 0) (Decides-and _ _ (Decides-leb 2000 year) (Decides-and _ _ (Decides-leb year 2199) (λ (h : is_date year month date ≡ true). h, λ (h : is_date year month date ≡ true). h)))) e in
+    let through = let_through _ (pos (day_number_of year month date)) day (Decides-and _ _ (Decides-eqb (length rest) 0) (Decides-and _ _ (at_most 2000 year).decides (Decides-and _ _ (at_most year 2199).decides (λ (h : is_date year month date ≡ true). h, λ (h : is_date year month date ≡ true). h)))) e in
     let range = days_in_range year month date through.0.1.0 through.0.1.1.0 through.0.1.1.1 in
     subst IsDay through.1 (omega (arith, ints, range.0), omega (arith, ints, range.1))
 

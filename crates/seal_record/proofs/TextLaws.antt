@@ -9,13 +9,10 @@ use Rattle.taxi_units.proofs.Laws.{figures_are_read_by_their_digits}
 use Rattle.seal_record.specs.declared.params.ParamFault.{ParamFault}
 use Rattle.seal_record.specs.Lines.{key_in, lines_of, value_in}
 use Rattle.interval_clock.specs.Offsets.{IsOffsetList}
-use Rattle.seal_record.specs.declared.seal.Seal.{Seal}
-use Rattle.seal_record.specs.Decoding.{reads}
 use Rattle.seal_record.specs.OffsetLaws.{Decides-is_offset_list}
 use Rattle.seal_record.specs.OffsetList.{is_offset_list}
-use Rattle.seal_record.specs.Ranges.{IsSeal, IsTaxi}
-use Rattle.seal_record.specs.SealLaws.{Decides-is_taxi, gives_valid, nothing_else, reads_it}
-use Rattle.seal_record.specs.Spelling.{spelling}
+use Rattle.seal_record.specs.Ranges.{IsTaxi}
+use Rattle.seal_record.specs.RangeTests.{taxi_test}
 use Rattle.seal_record.specs.Reading.{and_then, lines_read}
 use Rattle.seal_record.specs.Said.{Said}
 use Rattle.seal_record.specs.SaidStages.{line_read}
@@ -146,10 +143,7 @@ the_first_bad_line said number lines fault = (
 -- ---- taxi identifiers, lists of offsets, and seals
 
 pub taxis_are_texts : (text taxi : List ℕ) → (taxi_read text ≡ Some taxi) ↔ (IsTaxi text × (text ≡ taxi))
-taxis_are_texts text taxi = (λ e. let_through (is_taxi text) text taxi (Decides-is_taxi text) e, λ is. rw ((Decides-is_taxi text).1 is.0) (ap (λ (t : List ℕ). Some t) is.1))
+taxis_are_texts text taxi = (λ e. let_through (is_taxi text) text taxi (taxi_test text).decides e, λ is. rw ((taxi_test text).decides.1 is.0) (ap (λ (t : List ℕ). Some t) is.1))
 
 pub lists_so_far : (pairs : List (ℕ × ℤ)) → (is_offset_list pairs ≡ true) ↔ IsOffsetList pairs
 lists_so_far pairs = Decides-is_offset_list pairs
-
-pub seals_by_their_table : (bytes : List ℕ) (seal : Seal) → (reads bytes ≡ Some seal) ↔ (IsSeal seal × (bytes ≡ spelling seal))
-seals_by_their_table bytes seal = (λ read. (gives_valid bytes seal read, nothing_else bytes seal read), λ is. ap reads is.1 ∙ reads_it seal is.0)

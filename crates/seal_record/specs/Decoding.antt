@@ -1,20 +1,31 @@
--- For proofs: the seal that bytes are read as, each field at its place, which is one less here than in the slot. The
--- law seals_are_read_by_their_table says which seal it is.
-use Rattle.std.specs.Prelude.{ℕ, zero, suc, ◌==◌, ◌&&◌, if◌then◌else◌, Bool, nat_le, ℤ, pos, int_le, List, [], ◌∷◌, length, take, drop, Option, Some, None}
-use Rattle.std.specs.Int.{w32, cast_signed}
-use Rattle.std.specs.Str.{bytes_eq}
+-- For proofs: the bytes of a seal as a table that is made of parts, and the seal that bytes are read as. The law
+-- seals_are_read_by_their_table says which it is. A place is one less here than in the slot.
+use Rattle.std.specs.Prelude.{◌≡◌, ◌≢◌, ℕ, zero, suc, ◌-◌, ◌==◌, if◌then◌else◌, ⊤, ℤ, FitsSigned}
+use Rattle.std.specs.Prelude.{List, [], ◌∷◌, ◌++◌, length, replicate, Option}
+use Rattle.std.specs.Int.{w32, cast_signed, cast_unsigned}
+use Rattle.std.proofs.Common.{inl, inr, refl, ap, arith}
+use Rattle.std.proofs.Math.Facts.{Fits-of_z}
+use Rattle.std.proofs.lemmas.Bool.{ne_eqb}
+use Rattle.std.proofs.lemmas.Int.{to_z-of_z}
+use Rattle.std.proofs.lemmas.List.Elements.{All-head, All-tail}
 use Rattle.drive_modes.specs.declared.charges.Mode.{Mode}
 use Rattle.drive_modes.specs.declared.charges.Mode.TheVariants.{Single, Double}
 use Rattle.seal_record.specs.declared.params.Params.{Params}
 use Rattle.seal_record.specs.declared.seal.Seal.{Seal}
-use Rattle.seal_record.specs.Limits.{longest_taxi, least_constant, greatest_constant, longest_hold, first_day, last_day}
-use Rattle.seal_record.specs.Limits.{last_seal_number, digest_size, most_decimals}
+use Rattle.seal_record.specs.Limits.{longest_taxi, digest_size}
 use Rattle.seal_record.specs.Lines.{before}
-use Rattle.seal_record.specs.OffsetList.{is_offset_list}
+use Rattle.seal_record.specs.RangeTests.{seal_test}
+use Rattle.seal_record.specs.Ranges.{IsTaxi}
 pub use Rattle.seal_record.specs.Ranges.{seal_number_of}
-use Rattle.seal_record.specs.Spelling.{spelling, offset_size}
-use Rattle.seal_record.specs.Values.{is_taxi}
-use Rattle.slot_bodies.specs.BytesAt.{byte_at, two_at, four_at, eight_at}
+use Rattle.seal_record.specs.Spelling.{spelling, mode_byte, offsets_size, padded, spare_size}
+use Rattle.slot_bodies.specs.BytesAt.{four_at}
+use Rattle.slot_bodies.specs.Codec.{Codec, always, byte, bytes, counted, eight_bytes, fitting, four_bytes, made}
+use Rattle.slot_bodies.specs.Codec.{length-padded, two_bytes, zeros, ◌⊗◌}
+use Rattle.slot_bodies.specs.ReadBack.{read_back}
+use Rattle.taxi_units.specs.Identifier.{IsIdentifierCharacter}
+use Rattle.taxi_units.specs.Parting.{HasNone}
+
+-- ---- the parts of the table
 
 -- the signed number in the four bytes from a place on
 abbrev pub signed_at : List ℕ → ℕ → ℤ
@@ -24,47 +35,94 @@ signed_at bytes place = cast_signed w32 (four_at bytes place)
 abbrev pub mode_in : ℕ → Mode
 mode_in byte = if byte == 1 then Double else Single
 
--- the pairs of a list of offsets at the front of bytes, `count` of them
-abbrev pub pairs_in : (count : ℕ) → List ℕ → List (ℕ × ℤ)
-pairs_in zero bytes = []
-pairs_in (suc count) bytes = (eight_at bytes 0, signed_at bytes 8) ∷ pairs_in count (drop offset_size bytes)
+-- a mode is read again
+pub mode_again : (mode : Mode) → mode_in (mode_byte mode) ≡ mode
+mode_again Single = refl
+mode_again Double = refl
 
--- the parameters whose fields stand in the bytes at their places, whatever they are
-abbrev pub params_in : List ℕ → Params
-params_in bytes = record {
-  taxi = record { items = before 0 (take longest_taxi (drop 8 bytes)) };
-  constant = four_at bytes 24;
-  mode = mode_in (byte_at bytes 28);
-  hold = two_at bytes 29;
-  offsets = pairs_in (byte_at bytes 67) (drop 68 bytes);
-  secured = signed_at bytes 63;
-}
+-- one byte is a mode
+abbrev pub one_mode : Codec Mode
+one_mode = fitting (λ (mode : Mode). ⊤) (made byte mode_byte mode_in) (λ mode fits. (tt, mode_again mode))
+
+-- four bytes are a signed number
+abbrev pub signed_bytes : Codec ℤ
+signed_bytes = fitting (λ (n : ℤ). FitsSigned w32 n) (made four_bytes (cast_unsigned w32) (cast_signed w32))
+    (λ n fits. ((Fits-of_z {w = w32} fits).fits, to_z-of_z w32 n fits))
+
+-- twelve bytes are an offset with the second from which on it is in force
+abbrev pub pair_table : Codec (ℕ × ℤ)
+pair_table = eight_bytes ⊗ signed_bytes
+
+-- bytes without a zero stand before the zeros behind them
+pub before_zeros : (text : List ℕ) (count : ℕ) → HasNone 0 text → before 0 (text ++ replicate count 0) ≡ text
+before_zeros [] zero none = refl
+before_zeros [] (suc count) none = refl
+before_zeros (c ∷ cs) count none =
+    rw (ne_eqb c 0 (All-head (λ b. b ≢ 0) c cs none))
+    (ap (λ (xs : List ℕ). c ∷ xs) (before_zeros cs count (All-tail (λ b. b ≢ 0) c cs none)))
+
+-- a character of taxi identifiers isn't zero
+pub no_zero : (c : ℕ) → IsIdentifierCharacter c → c ≢ 0
+no_zero c (inl letter) e = omega (arith, letter.0, e)
+no_zero c (inr (inl digit)) e = omega (arith, digit.0, e)
+no_zero c (inr (inr minus)) e = omega (arith, minus, e)
+
+-- sixteen bytes are a taxi identifier, with zeros behind it
+abbrev pub taxi_table : Codec (List ℕ)
+taxi_table = fitting IsTaxi (made (bytes longest_taxi) (padded longest_taxi) (before 0))
+    (λ text is. (
+      length-padded longest_taxi text is.few,
+      before_zeros text (longest_taxi - length text) (λ k d within. no_zero _ (is.characters k d within)),
+    ))
+
+-- ---- the table
+
+-- the bytes of a seal
+abbrev pub seal_table : Codec Seal
+seal_table = made
+    (eight_bytes ⊗ taxi_table ⊗ four_bytes ⊗ one_mode ⊗ two_bytes ⊗ bytes digest_size ⊗ signed_bytes
+    ⊗ counted offsets_size pair_table ⊗ byte ⊗ zeros spare_size ⊗ always 1)
+    (λ (s : Seal). (
+      s.seal_number,
+      (
+        s.params.taxi.items,
+        (
+          s.params.constant,
+          (
+            s.params.mode,
+            (
+              s.params.hold,
+              (
+                s.digest,
+                (s.params.secured, (s.params.offsets, (s.decimals, (tt, tt)))),
+              ),
+            ),
+          ),
+        ),
+      ),
+    ))
+    (λ (seal_number, (taxi, (constant, (mode, (hold, (digest, (secured, (offsets, (decimals, ends))))))))). record {
+      seal_number = seal_number;
+      params = record {
+        taxi = record { items = taxi };
+        constant = constant;
+        mode = mode;
+        hold = hold;
+        offsets = offsets;
+        secured = secured;
+      };
+      digest = digest;
+      decimals = decimals;
+    })
 
 -- the seal whose fields stand in the bytes at their places, whatever they are
 abbrev pub decoded : List ℕ → Seal
-decoded bytes = record {
-  seal_number = eight_at bytes 0;
-  params = params_in bytes;
-  digest = take digest_size (drop 31 bytes);
-  decimals = byte_at bytes 452;
-}
+decoded bytes = seal_table.read bytes 0
 
--- a test whether each parameter is in its range
-abbrev pub are_params : Params → Bool
-are_params params =
-    is_taxi params.taxi.items
-    && (nat_le least_constant params.constant && (nat_le params.constant greatest_constant
-    && (nat_le params.hold longest_hold
-    && (int_le (pos first_day) params.secured && (int_le params.secured (pos last_day)
-    && is_offset_list params.offsets)))))
-
--- a test whether each field of a seal is in its range
-abbrev pub is_seal : Seal → Bool
-is_seal seal =
-    nat_le 1 seal.seal_number && (nat_le seal.seal_number last_seal_number && (are_params seal.params
-    && ((length seal.digest == digest_size) && nat_le seal.decimals most_decimals)))
+-- its parameters
+abbrev pub params_in : List ℕ → Params
+params_in bytes = (decoded bytes).params
 
 -- bytes are read as the seal of their fields if each field is in its range and the bytes are the seal's own
 unfoldable pub reads : List ℕ → Option Seal
-reads bytes =
-    if is_seal (decoded bytes) && bytes_eq (spelling (decoded bytes)) bytes then Some (decoded bytes) else None
+reads bytes = read_back seal_test spelling decoded bytes

@@ -3,6 +3,7 @@ pub mod Lines
 pub mod Values
 pub mod OffsetList
 pub mod OffsetLaws
+pub mod RangeTests
 pub mod Said
 pub mod SaidStages
 pub mod Reading

@@ -5,16 +5,16 @@ use Rattle.std.proofs.Common.{le_of_suc-le-suc, not-suc-le-zero, suc-le-suc, zer
 use Rattle.std.proofs.Math.Nat.{sub-zero, suc-sub-suc}
 use Rattle.std.specs.Int.Signed.{le_z_yes}
 use Rattle.std.specs.List.{list_all}
-use Rattle.std.proofs.lemmas.Bool.{le-leb, leb-true}
 use Rattle.std.proofs.lemmas.Bool.Decides.{Decides-ltb, Decides-eqb, Decides-and, Decides-like}
 use Rattle.interval_clock.specs.Offsets.{IsOffsetList, IsInRangeAt, RisesAt, EachPlace, second_at}
+use Rattle.taxi_units.specs.Test.{at_most}
 use Rattle.taxi_units.specs.Time.{first_second, last_second}
 use Rattle.seal_record.specs.Limits.{greatest_offset, most_offsets}
 use Rattle.seal_record.specs.OffsetList.{is_in_range, is_rising, is_offset_list}
 
 -- the test of two numbers decides which is at most the other
 pub Decides-leb : (a b : ℕ) → Decides (leb a b) (a ≤ b)
-Decides-leb a b = (leb-true a b, le-leb a b)
+Decides-leb a b = (at_most a b).decides
 
 -- a test that holds is true
 is_true : (b : Bool) → T b → b ≡ true
@@ -35,8 +35,8 @@ range_decides : (pair : ℕ × ℤ)
     ((first_second ≤ pair.0) × ((pair.0 ≤ last_second)
     × ((neg_ℤ (pos greatest_offset) ≤ℤ pair.1) × (pair.1 ≤ℤ pos greatest_offset))))
 range_decides pair =
-    Decides-and _ _ (Decides-leb first_second pair.0)
-    (Decides-and _ _ (Decides-leb pair.0 last_second)
+    Decides-and _ _ (at_most first_second pair.0).decides
+    (Decides-and _ _ (at_most pair.0 last_second).decides
     (Decides-and _ _ (Decides-int_le (neg_ℤ (pos greatest_offset)) pair.1)
     (Decides-int_le pair.1 (pos greatest_offset))))
 
@@ -107,8 +107,8 @@ rises_next pairs each place lt =
 -- the test of a list of offsets decides whether it is lawful
 pub Decides-is_offset_list : (pairs : List (ℕ × ℤ)) → Decides (is_offset_list pairs) (IsOffsetList pairs)
 Decides-is_offset_list pairs =
-    let tests = Decides-and _ _ (Decides-leb 1 (length pairs))
-    (Decides-and _ _ (Decides-leb (length pairs) most_offsets)
+    let tests = Decides-and _ _ (at_most 1 (length pairs)).decides
+    (Decides-and _ _ (at_most (length pairs) most_offsets).decides
     (Decides-and _ _ (Decides-eqb (second_at pairs 0) first_second)
     (Decides-and _ _ (ranges_sound pairs, ranges_complete pairs)
     (λ all. rises_at pairs (rises_sound pairs all), λ each. rises_complete pairs (rises_next pairs each))))) in

@@ -1,6 +1,7 @@
 -- Rules: the bytes of a seal behind its slot's gate, in the order of its table. Numbers have their greatest byte first.
-use Rattle.std.specs.Prelude.{ℕ, ◌-◌, List, [], ◌∷◌, ◌++◌, length, replicate, ℤ, flat_map}
+use Rattle.std.specs.Prelude.{ℕ, List, [], ◌∷◌, ◌++◌, length, replicate, ℤ, flat_map}
 use Rattle.std.specs.Int.{w16, w32, w64, to_be_bytes, cast_unsigned}
+pub use Rattle.slot_bodies.specs.Bodies.{padded}
 use Rattle.drive_modes.specs.declared.charges.Mode.{Mode}
 use Rattle.drive_modes.specs.declared.charges.Mode.TheVariants.{Single, Double}
 use Rattle.seal_record.specs.declared.params.Params.{Params}
@@ -18,10 +19,6 @@ offsets_size = 384
 -- behind the decimals 57 bytes are spare
 abbrev pub spare_size : ℕ
 spare_size = 57
-
--- bytes are padded to a count by zeros behind them
-abbrev pub padded : (count : ℕ) → List ℕ → List ℕ
-padded count bytes = bytes ++ replicate (count - length bytes) 0
 
 -- a signed number is written in four bytes, in two's complement
 abbrev pub signed_bytes : ℤ → List ℕ

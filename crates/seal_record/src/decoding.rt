@@ -1,10 +1,10 @@
 //! The fields of a seal at their places in bytes.
-ghost use Rattle.std.specs.Prelude.{◌≡◌, ◌+◌, ◌*◌, ◌≤◌, FitsSigned, length, MatchOption};
+ghost use Rattle.std.specs.Prelude.{◌≡◌, ◌+◌, ◌≤◌, FitsSigned, length, MatchOption};
 ghost use Rattle.std.specs.Int.{w32};
 ghost use Rattle.seal_record.specs.Decoding as spec;
-ghost use Rattle.seal_record.specs.Decoding.{decoded, signed_at};
+ghost use Rattle.slot_bodies.specs.Codec.{read_row};
+ghost use Rattle.seal_record.specs.Decoding.{decoded, pair_table, signed_at};
 ghost use Rattle.seal_record.specs.Limits.{most_offsets};
-ghost use Rattle.seal_record.specs.Spelling.{offsets_size};
 ghost use Rattle.seal_record.specs.Ranges.{IsParams, IsSeal, IsTaxi};
 ghost use Rattle.interval_clock.specs.Offsets.{IsOffsetList};
 
@@ -47,17 +47,16 @@ fn mode_in(byte: u8) -> Mode
     }
 }
 
-/// The pairs at the front of bytes, `count` of them.
-fn pairs_in(count: usize, bytes: &[u8]) -> ArrayVec<(u64, i32), MOST_OFFSETS>
-    requires few { count ≤ most_offsets }
-    requires long { offsets_size ≤ length bytes.now }
-    ensures { result.items ≡ spec.pairs_in count bytes.now }
+/// The pairs of the list of offsets, `count` of them.
+fn pairs_in(count: usize, bytes: &[u8; BODY_SIZE]) -> ArrayVec<(u64, i32), MOST_OFFSETS>
+    requires { count ≤ most_offsets }
+    ensures { result.items ≡ read_row pair_table count bytes.now 68 }
 {
     let mut pairs = ArrayVec::new();
     for i in 0..count {
         pairs.push((
-            eight_at(bytes, OFFSET_SIZE * i),
-            signed_at(bytes, OFFSET_SIZE * i + 8),
+            eight_at(bytes, 68 + OFFSET_SIZE * i),
+            signed_at(bytes, 68 + OFFSET_SIZE * i + 8),
         ));
     }
     pairs
@@ -72,7 +71,7 @@ fn offsets_in(bytes: &[u8; BODY_SIZE]) -> Option<Offsets>
     if count > MOST_OFFSETS {
         return None;
     }
-    offsets_of(pairs_in(count, &bytes[68..]).as_slice())
+    offsets_of(pairs_in(count, bytes).as_slice())
 }
 
 /// The taxi identifier, where it is one.

@@ -1,10 +1,9 @@
 use Rattle.std.proofs.Common.{sym, ◌∙◌}
-use Rattle.seal_record.specs.SealLaws.{reads_none}
-use Rattle.seal_record.proofs.Ranged.{read_other, read_own}
+use Rattle.seal_record.proofs.Ranged.{read_none, read_other, read_own}
 use Rattle.seal_record.proofs.seal.SealBody.get.Goals as goal
 
 pub returns-in_err-seal : goal.returns-in_err-seal
-returns-in_err-seal c = rw c.from_residual.ensures (sym (reads_none c.args.bytes.now c.in_err-seal.ensures))
+returns-in_err-seal c = rw c.from_residual.ensures (sym (read_none c.args.bytes.now c.in_err-seal.ensures))
 
 pub returns-then-not-is_text : goal.returns-then-not-is_text
 returns-then-not-is_text c =

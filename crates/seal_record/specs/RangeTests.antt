@@ -1,0 +1,66 @@
+-- For proofs: the tests of the ranges of parameters and seals, each with what it decides.
+use Rattle.std.specs.Prelude.{◌≡◌, ℕ, ◌≤◌, ℤ, pos, ◌≤ℤ◌, int_le, List, length}
+use Rattle.interval_clock.specs.Offsets.{IsOffsetList}
+use Rattle.seal_record.specs.declared.params.Params.{Params}
+use Rattle.seal_record.specs.declared.seal.Seal.{Seal}
+use Rattle.seal_record.specs.Limits.{longest_taxi, least_constant, greatest_constant, longest_hold, first_day, last_day}
+use Rattle.seal_record.specs.Limits.{last_seal_number, digest_size, most_decimals}
+use Rattle.seal_record.specs.OffsetLaws.{Decides-int_le, Decides-is_offset_list}
+use Rattle.seal_record.specs.OffsetList.{is_offset_list}
+use Rattle.seal_record.specs.Ranges.{IsDay, IsParams, IsSeal, IsTaxi}
+use Rattle.taxi_units.specs.Test.{Test, at_most, each, either, same, stated, within, ◌&◌}
+
+-- a character of taxi identifiers
+abbrev pub character_test : ℕ → Test
+character_test c = either (within 65 c 90) (either (within 48 c 57) (same c 45))
+
+-- a taxi identifier
+abbrev pub taxi_test : List ℕ → Test
+taxi_test text = stated (IsTaxi text)
+    (at_most 1 (length text) & (at_most (length text) longest_taxi & each character_test text))
+    (λ facts. record { some = facts.0; few = facts.1.0; characters = facts.1.1 })
+    (λ is. (is.some, (is.few, is.characters)))
+
+-- a signed number is at most another
+abbrev pub at_most_signed : ℤ → ℤ → Test
+at_most_signed a b = record { passes = int_le a b; Fact = a ≤ℤ b; decides = Decides-int_le a b }
+
+-- a list of offsets
+abbrev pub offsets_test : List (ℕ × ℤ) → Test
+offsets_test offsets = record {
+  passes = is_offset_list offsets;
+  Fact = IsOffsetList offsets;
+  decides = Decides-is_offset_list offsets;
+}
+
+-- parameters
+abbrev pub params_test : Params → Test
+params_test params = stated (IsParams params)
+    (taxi_test params.taxi.items
+    & within least_constant params.constant greatest_constant
+    & at_most params.hold longest_hold
+    & (at_most_signed (pos first_day) params.secured & at_most_signed params.secured (pos last_day))
+    & offsets_test params.offsets)
+    (λ facts. record {
+      taxi = facts.0.0.0.0;
+      constant = facts.0.0.0.1;
+      hold = facts.0.0.1;
+      secured = facts.0.1;
+      offsets = facts.1;
+    })
+    (λ is. ((((is.taxi, is.constant), is.hold), is.secured), is.offsets))
+
+-- a seal
+abbrev pub seal_test : Seal → Test
+seal_test seal = stated (IsSeal seal)
+    (within 1 seal.seal_number last_seal_number
+    & params_test seal.params
+    & same (length seal.digest) digest_size
+    & at_most seal.decimals most_decimals)
+    (λ facts. record {
+      seal_number = facts.0.0.0;
+      params = facts.0.0.1;
+      digest = facts.0.1;
+      decimals = facts.1;
+    })
+    (λ is. (((is.seal_number, is.params), is.digest), is.decimals))
