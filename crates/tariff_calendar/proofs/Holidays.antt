@@ -1,11 +1,10 @@
 -- Holidays by their day numbers.
-use Rattle.std.proofs.Common.{ltb, ◌==◌, zero, suc, length, get_or, Option, Some, None, ◌≡◌, ◌∙◌, ℕ, ◌<◌, Bool, true, false, ◌&&◌, eqb, List, [], ◌∷◌, map, ℤ, pos, ◌<ℤ◌, arith, refl, ap, subst}
+use Rattle.std.proofs.Common.{ltb, ◌==◌, length, Option, ◌≡◌, ◌∙◌, ℕ, Bool, true, false, ◌&&◌, eqb, List, [], ◌∷◌, map, ℤ, pos, ◌<ℤ◌, arith, refl, ap, subst}
 use Rattle.std.proofs.lemmas.Bool.{and_parts, lt-ltb, eqb-true, eq-eqb, false_from_ne_true}
 use Rattle.std.proofs.lemmas.Bool.Decides.{Decides-int_eq, same_from_decides}
 use Rattle.std.proofs.lemmas.Int.{ints}
 use Rattle.std.proofs.lemmas.List.Elements.{All-head, All-tail}
-use Rattle.std.specs.List.{All, list_any, cons_option}
-use Rattle.std.specs.Option.{IfSome}
+use Rattle.std.specs.List.{All, list_any}
 use Rattle.std.specs.Ordering.{int_eq}
 use Rattle.interval_clock.proofs.Laws.{IsDateOf-only, is_date_of_number}
 use Rattle.interval_clock.specs.declared.day_numbers.CalendarDate.{CalendarDate}
@@ -16,11 +15,10 @@ use Rattle.tariff_calendar.specs.Lists.{day_of, has_day, has_days, is_holiday, l
 use Rattle.tariff_check.proofs.Laws.{sound_tariffs_have_sound_parts-parts}
 use Rattle.tariff_check.specs.Cuts.{with_each}
 use Rattle.tariff_check.specs.Faults.{IsSound}
-use Rattle.tariff_check.specs.Parts.{DateNumbers, has_holidays, holiday_part, holidays_of}
+use Rattle.tariff_check.specs.Parts.{DateNumbers, has_holidays, holidays_of}
 use Rattle.tariff_check.specs.Sound.{HasSoundParts, IsSoundHoliday}
-use Rattle.tariff_syntax.specs.Tree.{Tree, entry_of, line_of}
+use Rattle.tariff_syntax.specs.Tree.{Tree}
 use Rattle.tariff_syntax.specs.Writable.{IsWritable}
-use Rattle.tariff_syntax.specs.declared.tariff.TariffLine.{TariffLine}
 
 -- no day before 1970 is one of day numbers
 pub has_day-before : (holidays : List ℕ) (day : ℤ) → day <ℤ pos 0 → has_day holidays day ≡ false
@@ -28,16 +26,6 @@ has_day-before [] day before = refl
 has_day-before (h ∷ hs) day before =
     let here : int_eq (pos h) day ≡ false = false_from_ne_true (int_eq (pos h) day) (λ same. let is = (Decides-int_eq (pos h) day).0 same in omega (arith, ints)) in
     rw (here, has_day-before hs day before) refl
-
-IfSome-first : {X : Type 0} (P : X → Type 0) (o : Option X) (xs : List X) → All P (cons_option o xs) → IfSome o P × All P xs
-IfSome-first P None xs all = (tt, all)
-IfSome-first P (Some x) xs all = (All-head P x xs all, All-tail P x xs all)
-
--- what holds of all holidays holds of that of each line
-pub holiday_at : (P : DateNumbers → Type 0) (lines : List TariffLine) (i : ℕ) (d : TariffLine) → i < length lines → All P (holidays_of (map line_of lines)) → IfSome (holiday_part (entry_of (get_or lines i d).item)) P
-holiday_at P [] i d within all = absurd (omega arith)
-holiday_at P (l ∷ ls) zero d within all = (IfSome-first P (holiday_part (entry_of l.item)) (holidays_of (map line_of ls)) all).0
-holiday_at P (l ∷ ls) (suc i) d within all = holiday_at P ls i d (omega arith) (IfSome-first P (holiday_part (entry_of l.item)) (holidays_of (map line_of ls)) all).1
 
 -- a date of the calendar from 2000 on is that of its day number
 IsDateOf-day_of : (d : DateNumbers) → IsSoundHoliday d → IsDateOf (pos (day_of d)) d.year d.month d.date

@@ -54,7 +54,7 @@ impl Cuts {
     pub fn collect(alloc: Global, checked: &Checked, k: Constant) -> Result<Cuts, NoMemory>
         ensures { IfOk result (λ c. c ≡ lists_of (tree_of checked.now) k) }
     {
-        let lines = checked.tariff().lines.as_slice();
+        let holidays = checked.holidays();
         let month_days = cut_values(alloc, checked, Dimension::MonthDay)?;
         let minutes = cut_values(alloc, checked, Dimension::Minute)?;
         let distances = cut_values(alloc, checked, Dimension::Distance)?;
@@ -64,7 +64,7 @@ impl Cuts {
             minutes,
             distances: in_pulses(alloc, distances.as_slice(), k)?,
             times,
-            holidays: holiday_days(alloc, lines)?,
+            holidays: holiday_days(alloc, holidays)?,
         })
     }
 

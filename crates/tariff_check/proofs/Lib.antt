@@ -1,3 +1,7 @@
+-- the choices of the program are those of the tariff
+mod ChoiceLaws
+-- the first of some conditions that holds
+mod ChoicePlaces
 -- the common measure is the least common multiple of all measures
 mod CommonMeasure
 -- how cuts are put among others
@@ -8,6 +12,8 @@ mod CutOrder
 mod DefaultLines
 -- the first line that meets a test
 mod FirstLine
+-- a sound tariff tells its frame once
+mod FrameLines
 -- the laws that the crates above may cite
 pub mod Laws
 -- what holds of each line of a sound tariff whose numbers a text can have

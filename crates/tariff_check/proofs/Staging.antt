@@ -1,9 +1,9 @@
 -- The first fault, stage by stage.
-use Rattle.std.proofs.Common.{◌≡◌, ℕ, ◌≤◌, ◌^◌, ◌||◌, Bool, true, false, List, [], ◌∷◌, Option, Some, None, All, refl, ap, sym, subst, ◌∙◌}
+use Rattle.std.proofs.Common.{◌≡◌, ℕ, ◌≤◌, ◌^◌, ◌||◌, Bool, true, false, List, [], ◌∷◌, ◌++◌, Option, Some, None, All, refl, ap, sym, subst, ◌∙◌}
 use Rattle.std.proofs.lemmas.List.Elements.{All-nil, All-cons, All-head, All-tail}
 use Rattle.std.specs.Option.{option_or}
 use Rattle.tariff_syntax.specs.Tree.{Tree, Line}
-use Rattle.tariff_check.specs.Faults.{HasNone, faults_before_cuts, faults_of, fault_of, first_some, fault_if, fault_at, IsSound}
+use Rattle.tariff_check.specs.Faults.{HasNone, faults_before_cuts, faults_from_cuts, faults_of, fault_of, first_some, fault_if, fault_at, IsSound}
 use Rattle.tariff_check.specs.Cells.{cells_of}
 use Rattle.tariff_check.specs.Lines.{first_line, has_bad_date, has_great_amount, has_measure_zero, is_for_nothing}
 use Rattle.tariff_check.specs.Measure.{measure_of}
@@ -147,3 +147,14 @@ pub none_before_cuts : (ls : List Line) → early_fault ls ≡ None → measure_
 none_before_cuts ls early common =
     let before : first_some (faults_before_cuts ls) ≡ option_or (early_fault ls) (fault_if (nat_lt (10 ^ 18) (measure_of ls)) NoCommonMeasure) = simp (or_assoc, or_none) in
     none_each (faults_before_cuts ls) (before ∙ rw (early, le-ltb (10 ^ 18) (measure_of ls) common) refl)
+
+-- what is nowhere in a list is nowhere in its beginning
+first_left : {A : Type 0} (xs ys : List (Option A)) → first_some (xs ++ ys) ≡ None → first_some xs ≡ None
+first_left [] ys h = refl
+first_left (x ∷ xs) ys h =
+    let parts = or_parts x (first_some (xs ++ ys)) h in
+    rw parts.0 (first_left xs ys parts.1)
+
+-- where no fault is there, none is there before those of cuts
+pub none_before : (ls : List Line) → first_some (faults_of ls) ≡ None → HasNone (faults_before_cuts ls)
+none_before ls h = none_each (faults_before_cuts ls) (first_left (faults_before_cuts ls) (faults_from_cuts ls) h)

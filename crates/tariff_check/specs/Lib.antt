@@ -6,6 +6,8 @@ pub mod Faults
 pub mod Lines
 pub mod Measure
 pub mod Parts
+pub mod Resolved
 pub mod Rules
 pub mod Sound
+pub mod SoundTariff
 pub mod Stages

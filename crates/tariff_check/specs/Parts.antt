@@ -6,33 +6,30 @@ use Rattle.drive_modes.specs.declared.meterage.Rounding.{Rounding}
 use Rattle.tariff_syntax.specs.Condition.{Condition}
 use Rattle.tariff_syntax.specs.Parts.{parts}
 use Rattle.tariff_syntax.specs.Tree.{Line, Entry, step, positions, zones, holiday, supplement, initial, rate, minimum}
+use Rattle.tariff_check.specs.declared.values.DateNumbers as dates
+use Rattle.tariff_check.specs.declared.values.InitialNumbers as initials
+use Rattle.tariff_check.specs.declared.values.RateNumbers as rates
+use Rattle.tariff_check.specs.declared.values.SupplementNumbers as supplements
+
+-- a rate has an amount `a` for each `b` decimetres, and an amount `c` for each `e` tenths of a second
+abbrev pub RateNumbers : Type 0
+RateNumbers = rates.RateNumbers
+
+-- an initial hire fee has an amount and what it covers
+abbrev pub InitialNumbers : Type 0
+InitialNumbers = initials.InitialNumbers
+
+-- a supplement has an amount and how often a hiring may have it
+abbrev pub SupplementNumbers : Type 0
+SupplementNumbers = supplements.SupplementNumbers
+
+-- a date has a year, a month and a date of the month
+abbrev pub DateNumbers : Type 0
+DateNumbers = dates.DateNumbers
 
 -- the first part of lines is that of the first line with such a part
 abbrev pub first_part : {A : Type 0} → (Entry → Option A) → List Line → Option A
 first_part part lines = slice_get (parts part lines) 0
-
--- a rate has an amount `a` for each `b` decimetres, and an amount `c` for each `e` tenths of a second
-pub record RateNumbers : Type 0 where
-  pub a : ℕ
-  pub b : ℕ
-  pub c : ℕ
-  pub e : ℕ
-
--- an initial hire fee has an amount and what it covers
-pub record InitialNumbers : Type 0 where
-  pub amount : ℕ
-  pub covers : ℕ
-
--- a supplement has an amount and how often a hiring may have it
-pub record SupplementNumbers : Type 0 where
-  pub amount : ℕ
-  pub most : ℕ
-
--- a date has a year, a month and a date of the month
-pub record DateNumbers : Type 0 where
-  pub year : ℕ
-  pub month : ℕ
-  pub date : ℕ
 
 -- the step part of an entry is its amount and its rounding if it is a step, and none otherwise
 abbrev pub step_part : Entry → Option (ℕ × Rounding)

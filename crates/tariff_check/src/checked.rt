@@ -3,25 +3,35 @@ ghost use Rattle.std.specs.Prelude.{◌≡◌, ◌^◌, Some};
 ghost use Rattle.tariff_check.specs.Cells.{cells_of};
 ghost use Rattle.tariff_check.specs.Faults.{IsSound};
 ghost use Rattle.tariff_check.specs.Measure.{measure_of};
-ghost use Rattle.tariff_check.specs.Parts.{positions_of, step_of, zones_of};
+ghost use Rattle.tariff_check.specs.Parts.{positions_of, step_of, supplement_of, zones_of};
+ghost use Rattle.tariff_check.specs.SoundTariff.{AreChoices, own_conditions, place_of, sound_of, when_at};
+ghost use Rattle.tariff_syntax.specs.Condition.{condition_of};
+ghost use Rattle.tariff_syntax.specs.Meaning.{at_hiring, holds_if, initial_place, minimum_place, rate_place};
 ghost use Rattle.tariff_syntax.specs.Tree.{tree_of};
 ghost use Rattle.tariff_syntax.specs.Writable.{IsFromTo, IsWritable};
+ghost use Rattle.taxi_units.specs.Reading.{Gives};
 
+use crate::choice::Choice;
 use crate::numbers::Numbers;
+use crate::parts::condition;
+use crate::resolving::{Parts, numbered};
+use crate::values::{DateNumbers, InitialNumbers, RateNumbers, SupplementNumbers};
 use drive_modes::Rounding;
 use std::marker::Model;
-use tariff_syntax::Tariff;
+use tariff_syntax::{Cond, Context, Tariff, sat};
 
-/// A sound tariff, with its numbers.
+/// A sound tariff, with its numbers and its parts.
 #[derive(Drop)]
 pub struct Checked {
     pub(crate) tariff: Tariff,
     pub(crate) numbers: Numbers,
+    pub(crate) parts: Parts,
 }
 
 impl Model for Checked {
     ghost use Rattle.std.specs.Coded.{codes};
     ghost use Rattle.tariff_check.specs.Counted.{HasNumbers};
+    ghost use Rattle.tariff_check.specs.Resolved.{HasParts};
     ghost use Rattle.tariff_syntax.specs.Tree.{tree_of};
     ghost use Rattle.tariff_syntax.specs.Writable.{IsWritable};
     ghost use Rattle.tariff_syntax.specs.contracts.condition.Cond as condition;
@@ -33,7 +43,8 @@ impl Model for Checked {
 
     ghost view = { λ c. c.tariff };
 
-    ghost invariant = { λ c. IsWritable (tree_of c.tariff) × HasNumbers (tree_of c.tariff).lines c.numbers };
+    ghost invariant = { λ c. IsWritable (tree_of c.tariff) × HasNumbers (tree_of c.tariff).lines c.numbers
+        × HasParts (tree_of c.tariff).lines c.parts };
 }
 
 impl Checked {
@@ -86,5 +97,120 @@ impl Checked {
         ensures range { IsFromTo 1 (10 ^ 18) result }
     {
         self.numbers.measure
+    }
+
+    /// The dates of its holidays, in the order of its lines.
+    pub fn holidays(&self) -> &[DateNumbers]
+        ensures value { result.now ≡ (sound_of (tree_of self.now)).holidays }
+        ensures sound { IsSound (tree_of self.now) }
+        ensures writable { IsWritable (tree_of self.now) }
+    {
+        self.parts.holidays.as_slice()
+    }
+
+    /// The supplement of a number; `None` exactly where it has none.
+    pub fn supplement(&self, number: u8) -> Option<SupplementNumbers>
+        ensures value { result ≡ supplement_of (tree_of self.now).lines number }
+        ensures sound { IsSound (tree_of self.now) }
+        ensures writable { IsWritable (tree_of self.now) }
+    {
+        numbered(self.parts.supplements.as_slice(), number)
+    }
+
+    /// The choices among its rates, in the order of its lines: 1 to 64, of which one has no condition.
+    pub fn rates(&self) -> &[Choice<RateNumbers>]
+        ensures value { AreChoices (tree_of self.now).lines result.now (sound_of (tree_of self.now)).rates }
+        ensures sound { IsSound (tree_of self.now) }
+        ensures writable { IsWritable (tree_of self.now) }
+    {
+        self.parts.rates.as_slice()
+    }
+
+    /// The choices among its initial hire fees, in the order of its lines: 1 to 64, of which one has no
+    /// condition.
+    pub fn initials(&self) -> &[Choice<InitialNumbers>]
+        ensures value { AreChoices (tree_of self.now).lines result.now (sound_of (tree_of self.now)).initials }
+        ensures sound { IsSound (tree_of self.now) }
+        ensures writable { IsWritable (tree_of self.now) }
+    {
+        self.parts.initials.as_slice()
+    }
+
+    /// The choices among its minimum fares, in the order of its lines: at most 64.
+    pub fn minimums(&self) -> &[Choice<u64>]
+        ensures value { AreChoices (tree_of self.now).lines result.now (sound_of (tree_of self.now)).minimums }
+        ensures sound { IsSound (tree_of self.now) }
+        ensures writable { IsWritable (tree_of self.now) }
+    {
+        self.parts.minimums.as_slice()
+    }
+
+    /// The condition of the line at a place, from 0; `None` where that line has none, or there is no line.
+    pub fn condition_at(&self, place: usize) -> Option<&Cond>
+        ensures { Gives (λ cond. condition_of cond.now) result (when_at (tree_of self.now).lines place) }
+    {
+        match self.tariff.lines.as_slice().get(place) {
+            Some(line) => condition(&line.item),
+            None => None,
+        }
+    }
+
+    /// Whether the line at a place has no condition, or one that holds in a context.
+    fn does_hold(&self, place: usize, x: &Context) -> bool
+        ensures { result ≡ holds_if x.now (when_at (tree_of self.now).lines place) }
+    {
+        match self.condition_at(place) {
+            Some(cond) => sat(cond, x),
+            None => true,
+        }
+    }
+
+    /// The first of some choices of this tariff that has no condition or whose condition holds in a context, by
+    /// its place among them, from 0. `None` exactly where none holds. Which condition a choice has is told by the
+    /// place of its line.
+    pub fn place_of<V>(&self, choices: &[Choice<V>], x: &Context) -> Option<usize>
+        ensures { result ≡ place_of x.now (own_conditions (tree_of self.now).lines choices.now) }
+    {
+        for (place, choice) in choices.iter().enumerate() {
+            if self.does_hold(choice.place, x) {
+                return Some(place);
+            }
+        }
+        None
+    }
+
+    /// The rate of a context: the first one that has no condition or whose condition holds, by its place among the
+    /// rates, from 0.
+    pub fn rate_of(&self, x: &Context) -> Option<usize>
+        ensures { result ≡ rate_place (tree_of self.now) x.now }
+    {
+        self.place_of(self.rates(), x)
+    }
+
+    /// The initial hire fee of a context: the first one that has no condition or whose condition holds with no
+    /// pulse and no tick of the trip, by its place among the initial hire fees, from 0.
+    pub fn initial_of(&self, x: &Context) -> Option<usize>
+        ensures { result ≡ initial_place (tree_of self.now) x.now }
+    {
+        self.place_of(self.initials(), &hiring(x))
+    }
+
+    /// The minimum fare of a context: the first one that has no condition or whose condition holds with no pulse
+    /// and no tick of the trip, by its place among the minimum fares, from 0. `None` exactly where none holds.
+    pub fn minimum_of(&self, x: &Context) -> Option<usize>
+        ensures { result ≡ minimum_place (tree_of self.now) x.now }
+    {
+        self.place_of(self.minimums(), &hiring(x))
+    }
+}
+
+/// A context at the hiring, with no pulse and no tick of the trip.
+fn hiring(x: &Context) -> Context
+    ensures { result ≡ at_hiring x.now }
+{
+    Context {
+        pulses: 0,
+        ticks: 0,
+        ..*x
     }
 }

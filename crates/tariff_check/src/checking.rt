@@ -1,7 +1,8 @@
 //! Whether a tariff is sound.
-ghost use Rattle.std.specs.Prelude.{◌≡◌, ◌⊎◌, Some, IfOk, IfErr, map};
+ghost use Rattle.std.specs.Prelude.{◌≡◌, ◌⊎◌, Some, None, IfOk, IfErr, OnErr, map};
 ghost use Rattle.tariff_check.specs.Counted.{HasNumbers};
 ghost use Rattle.tariff_check.specs.Faults.{HasNone, IsSound, faults_before_cuts, faults_of, fault_of, first_some};
+ghost use Rattle.tariff_check.specs.Resolved.{HasParts};
 ghost use Rattle.tariff_check.specs.declared.fault.CheckFault.TheVariants.{NoMemory};
 ghost use Rattle.tariff_syntax.specs.Tree.{line_of, tree_of};
 ghost use Rattle.tariff_syntax.specs.Writable.{IsWritable};
@@ -14,6 +15,7 @@ use crate::fault::CheckFault;
 use crate::measure::measure;
 use crate::numbers::Numbers;
 use crate::parts::{has_holidays, positions, step, zones};
+use crate::resolving::{Parts, resolved};
 use std::alloc::Global;
 use tariff_syntax::{Tariff, TariffLine};
 
@@ -29,7 +31,22 @@ pub fn check(alloc: Global, tariff: Tariff) -> Result<Checked, CheckFault>
     ensures memory { IfErr result (λ f. f ≡ NoMemory → HasNone (faults_before_cuts (tree_of tariff).lines)) }
 {
     let numbers = numbers(alloc, tariff.lines.as_slice())?;
-    Ok(Checked { tariff, numbers })
+    let parts = parts_of(alloc, tariff.lines.as_slice())?;
+    Ok(Checked {
+        tariff,
+        numbers,
+        parts,
+    })
+}
+
+/// The parts of lines that have no fault.
+fn parts_of(alloc: Global, lines: &[TariffLine]) -> Result<Parts, CheckFault>
+    requires { first_some (faults_of (map line_of lines.now)) ≡ None }
+    ensures parts { IfOk result (HasParts (map line_of lines.now)) }
+    ensures fault { IfErr result (λ f. f ≡ NoMemory) }
+    ensures memory { OnErr result (HasNone (faults_before_cuts (map line_of lines.now))) }
+{
+    resolved(alloc, lines).map_err(|_| CheckFault::NoMemory)
 }
 
 /// The most cells that a tariff may have.

@@ -6,6 +6,7 @@ mod atoms;
 mod cells;
 mod checked;
 mod checking;
+mod choice;
 mod counts;
 mod cuts;
 mod early;
@@ -15,14 +16,19 @@ mod multiples;
 mod numbers;
 mod pairs;
 mod parts;
+mod resolving;
 mod rules;
 mod theorems;
+mod values;
 
 pub use checked::Checked;
 pub use checking::check;
+pub use choice::Choice;
 pub use cuts::cut_values;
 pub use fault::{CheckFault, Dimension};
 pub use theorems::{
     cuts_are_in_order, faults_name_the_first_line, lines_that_hold_are_there, measures_are_least,
-    sound_tariffs_have_sound_parts, supplements_are_numbered_to_16,
+    sound_tariffs_are_their_parts, sound_tariffs_have_sound_parts, supplements_are_numbered_to_16,
+    the_first_choice_holds,
 };
+pub use values::{DateNumbers, InitialNumbers, RateNumbers, SupplementNumbers};

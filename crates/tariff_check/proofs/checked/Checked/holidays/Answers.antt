@@ -1,0 +1,11 @@
+use Rattle.std.proofs.Common.{subst}
+use Rattle.tariff_check.proofs.Staging.{sound_if_none}
+use Rattle.tariff_check.specs.Faults.{IsSound}
+use Rattle.tariff_syntax.specs.Tree.{tree_of}
+use Rattle.tariff_syntax.specs.declared.tariff.Tariff.{Tariff}
+use Rattle.tariff_check.proofs.checked.Checked.holidays.Goals as goal
+
+pub returns-clause-sound : goal.returns-clause-sound
+returns-clause-sound c =
+    subst (λ (t : Tariff). IsSound (tree_of t)) c.self.view_is
+    (sound_if_none (tree_of c.self.inside.tariff) c.self.invariant.1.sound)

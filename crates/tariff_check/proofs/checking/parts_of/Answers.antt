@@ -1,0 +1,13 @@
+use Rattle.std.proofs.Common.{map}
+use Rattle.std.specs.Prelude.{OnErr, Result, Ok, Err}
+use Rattle.tariff_syntax.specs.Tree.{line_of}
+use Rattle.tariff_check.proofs.Staging.{none_before}
+use Rattle.tariff_check.proofs.checking.parts_of.Goals as goal
+
+-- what holds anyway holds on an error
+on_err_anyway : {T E : Type 0} (r : Result T E) (P : Type 0) → P → OnErr r P
+on_err_anyway (Ok x) P p = tt
+on_err_anyway (Err e) P p = p
+
+pub returns-clause-memory : goal.returns-clause-memory
+returns-clause-memory c = on_err_anyway c.map_err.result _ (none_before (map line_of c.args.lines.now) c.requires)

@@ -1,0 +1,126 @@
+//! The parts of a tariff, from its lines.
+ghost use Rattle.std.specs.Option.{option_to_list};
+ghost use Rattle.std.specs.Prelude.{◌≡◌, ◌++◌, ◌∷◌, [], IfOk, OnOk, map};
+ghost use Rattle.tariff_check.specs.Parts.{holiday_part};
+ghost use Rattle.tariff_check.specs.Resolved.{HasParts, placed};
+ghost use Rattle.tariff_check.specs.SoundTariff.{initial_choice, minimum_choice, numbered_supplement, rate_choice};
+ghost use Rattle.tariff_check.specs.SoundTariff.{supplement_numbered};
+ghost use Rattle.tariff_syntax.specs.Tree.{line_of};
+
+use crate::choice::Choice;
+use crate::values::{DateNumbers, InitialNumbers, RateNumbers, SupplementNumbers};
+use std::alloc::Global;
+use tariff_syntax::{Item, TariffLine};
+use taxi_units::NoMemory;
+
+/// What the lines of a tariff say, kind by kind, each in the order of the lines.
+#[derive(Drop)]
+pub(crate) struct Parts {
+    pub(crate) holidays: Vec<DateNumbers>,
+    pub(crate) supplements: Vec<(u8, SupplementNumbers)>,
+    pub(crate) rates: Vec<Choice<RateNumbers>>,
+    pub(crate) initials: Vec<Choice<InitialNumbers>>,
+    pub(crate) minimums: Vec<Choice<u64>>,
+}
+
+/// The parts that some lines say.
+pub(crate) fn resolved(alloc: Global, lines: &[TariffLine]) -> Result<Parts, NoMemory>
+    ensures { IfOk result (HasParts (map line_of lines.now)) }
+{
+    let mut parts = Parts {
+        holidays: Vec::new(alloc),
+        supplements: Vec::new(alloc),
+        rates: Vec::new(alloc),
+        initials: Vec::new(alloc),
+        minimums: Vec::new(alloc),
+    };
+    for (place, line) in lines.iter().enumerate() {
+        parts.add(place, line)?;
+    }
+    Ok(parts)
+}
+
+impl Parts {
+    /// Puts what the line at a place says behind the others of its kind.
+    fn add(&mut self, place: usize, line: &TariffLine) -> Result<(), NoMemory>
+        ensures holidays { OnOk result (self.new.holidays.items
+            ≡ self.old.holidays.items ++ option_to_list (holiday_part (line_of line.now).entry)) }
+        ensures supplements { OnOk result (self.new.supplements.items
+            ≡ self.old.supplements.items ++ option_to_list (numbered_supplement (line_of line.now).entry)) }
+        ensures rates { OnOk result (self.new.rates.items
+            ≡ self.old.rates.items ++ option_to_list (placed rate_choice place (line_of line.now))) }
+        ensures initials { OnOk result (self.new.initials.items
+            ≡ self.old.initials.items ++ option_to_list (placed initial_choice place (line_of line.now))) }
+        ensures minimums { OnOk result (self.new.minimums.items
+            ≡ self.old.minimums.items ++ option_to_list (placed minimum_choice place (line_of line.now))) }
+    {
+        let number = line.line;
+        match &line.item {
+            Item::Holiday { year, month, date } => put(
+                &mut self.holidays,
+                DateNumbers {
+                    year: *year,
+                    month: *month,
+                    date: *date,
+                },
+            ),
+            Item::Supplement {
+                number,
+                amount,
+                max,
+            } => {
+                let said = SupplementNumbers {
+                    amount: *amount,
+                    most: *max,
+                };
+                put(&mut self.supplements, (*number, said))
+            }
+            Item::Rate(rate) => {
+                let value = RateNumbers {
+                    a: rate.a,
+                    b: rate.b,
+                    c: rate.c,
+                    e: rate.e,
+                };
+                put(&mut self.rates, chosen(value, number, place))
+            }
+            Item::Initial(initial) => {
+                let value = InitialNumbers {
+                    amount: initial.amount,
+                    covers: initial.covers,
+                };
+                put(&mut self.initials, chosen(value, number, place))
+            }
+            Item::Minimum(minimum) => {
+                put(&mut self.minimums, chosen(minimum.amount, number, place))
+            }
+            _ => Ok(()),
+        }
+    }
+}
+
+/// A choice of the line with a number at a place.
+fn chosen<V>(value: V, line: u32, place: usize) -> Choice<V>
+    ensures { result ≡ record { value = value; line = line; place = place } }
+{
+    Choice { value, line, place }
+}
+
+/// Puts a value behind others.
+fn put<V: Drop>(all: &mut Vec<V>, value: V) -> Result<(), NoMemory>
+    ensures { OnOk result (all.new.items ≡ all.old.items ++ value ∷ []) }
+{
+    all.push(value).map_err(|_| NoMemory)
+}
+
+/// The first of some supplements that has a number.
+pub(crate) fn numbered(all: &[(u8, SupplementNumbers)], wanted: u8) -> Option<SupplementNumbers>
+    ensures { result ≡ supplement_numbered all.now wanted }
+{
+    for (number, said) in all {
+        if wanted == *number {
+            return Some(*said);
+        }
+    }
+    None
+}
