@@ -149,7 +149,7 @@ module _ {D L : Type 0} {N : ℕ} (B : Ghosts D N L) where
       text = writes.text;
     }
 
-module _ {D L : Type 0} (B : Ghosts D L) (pair : Pair) where
+module _ {D L : Type 0} {N : ℕ} (B : Ghosts D N L) (pair : Pair) where
   -- no call writes nothing of a slot
   pub writes_nothing : (board : D) (start count : ℕ) → WritesOfSpare B pair start count board board
   writes_nothing board start count =

@@ -54,7 +54,7 @@ module _ {T : Type 0} (reads : List ℕ → Option T) (number_of : T → ℕ) (a
       pub each : GetsEach new (B.moment old) latest stored begun
 
 -- what holds of a pair that gets a list on a board, over the meanings of a type of bodies and of a type of boards
-module _ {T : Type 0} (meanings : BodyGhosts T) {D L : Type 0} (B : Ghosts D L) where
+module _ {T : Type 0} (meanings : BodyGhosts T) {D L : Type 0} {N : ℕ} (B : Ghosts D N L) where
   -- a pair may get each body of a list over the latest one, of which there may be none, if it is ready with the latest
   -- one, and the numbers rise from that one's on
   pub record MayGetEach (pair : Pair) (board : D) (latest : Option T) (bodies : List T) : Type 0 where

@@ -81,7 +81,7 @@ module _ {T : Type 0} (reads : List ℕ → Option T) (number_of : T → ℕ) wh
     pub body_is : HasBody reads (spare_at pair) image (Some body)
     pub newer : IsBefore number_of latest (number_of body)
 
-module _ {D L : Type 0} (B : Ghosts D L) where
+module _ {D L : Type 0} {N : ℕ} (B : Ghosts D N L) where
   -- a stage writes `count` places from `start` on, of the slot that is written next, if its writes lie there, and so in
   -- that slot
   pub record WritesOfSpare (pair : Pair) (start count : ℕ) (old new : D) : Type 0 where
