@@ -1,6 +1,7 @@
 -- Rules: what a call of the program is, and how it may end
 pub mod Answer
 pub mod Call
+pub mod Called
 pub mod Command
 pub mod Compare
 pub mod CompareSteps

@@ -1,17 +1,16 @@
 //! The top call: words in, a status out.
 #![tactic(auto, using(crate::proofs::BoardRuns::board_runs))]
 
-ghost use Rattle.std.specs.Prelude.{◌≡◌, ◌≢◌, ◌⊎◌, ℕ, None, Some, map, string_bytes};
-ghost use Rattle.outside.specs.Faults.{RisesOnlyIf, Rose};
+ghost use Rattle.std.specs.Prelude.{◌≡◌, ◌≢◌, ℕ, None, Some};
+ghost use Rattle.outside.specs.Faults.{RisesOnlyIf};
 ghost use Rattle.outside.specs.Runs.{IsSettled, KeepsStore, LeavesOnly};
-ghost use Rattle.commands.specs.Call.{HasReadFault, IsCall, MayLack, StopsReading};
+ghost use Rattle.commands.specs.Call.{IsCall, StopsReading};
+ghost use Rattle.commands.specs.Called.{called_by, row_in, ComesToAnswer, MayLeaveSealingBy, TakesSteps, sealing_by};
 ghost use Rattle.commands.specs.Carried.{CarriesRow};
-ghost use Rattle.commands.specs.Command.{OnlyLooks, called, command};
-ghost use Rattle.commands.specs.Opening.{opening_of};
+ghost use Rattle.commands.specs.Command.{OnlyLooks};
 ghost use Rattle.commands.specs.Run.{IsRun};
-ghost use Rattle.commands.specs.Seal.{MayLeaveSealing, Seals, sealing_of};
+ghost use Rattle.commands.specs.Seal.{Seals};
 ghost use Rattle.commands.specs.Unwritten.{LeavesImage, WritesNothing};
-ghost use Rattle.commands.specs.Words.{row_of};
 
 use crate::bench::bench;
 use crate::check::check_tariff;
@@ -149,65 +148,56 @@ pub fn taxi<F: Files, B: Board<STORE_SIZE, L>, L: Ledger>(
 ) -> u8
     // A call takes a course that its words, their files' contents and the opening image allow, ends as it says, and
     // leaves each file unread to whose read the command doesn't come, as the drive's where the tariff is refused.
-    ensures call { (called (map string_bytes words.now)).known F.tells B.tells_image
-        → IsCall F.Files B.Board (called (map string_bytes words.now)) files.old files.new board.old board.new result }
+    ensures call { (called_by words.now).known F.tells B.tells_image
+        → IsCall F.Files B.Board (called_by words.now) files.old files.new board.old board.new result }
 
     // Refused words read nothing, and no command reads a word that it doesn't name, whatever the files tell.
-    ensures refused { row_of (map string_bytes words.now) ≡ None → files.new ≡ files.old }
-    ensures others { (word : ℕ) → ¬ (called (map string_bytes words.now)).reads word
-        → F.rest files.new word ≡ F.rest files.old word }
+    ensures refused { row_in words.now ≡ None → files.new ≡ files.old }
+    ensures others { (word : ℕ) → ¬ (called_by words.now).reads word → F.rest files.new word ≡ F.rest files.old word }
 
     // Each of the faults of the outside has its cause, whatever is told: at 7 the count of a file that the command
     // reads rose by one, and no word was read whose turn comes behind it; at 8 the board's rose. At each other status
     // no count rose, and the board's didn't at 7.
-    ensures read_fault { result ≡ 7 → StopsReading F.Files (called (map string_bytes words.now)) files.old files.new }
+    ensures read_fault { result ≡ 7 → StopsReading F.Files (called_by words.now) files.old files.new }
     ensures board_fault { RisesOnlyIf (result ≡ 8) (B.faults board.old) (B.faults board.new) }
     ensures unfailed { result ≢ 7 → result ≢ 8 → (word : ℕ) → F.faults files.new word ≡ F.faults files.old word }
 
     // Where no count rose, the status is that of the answer, unless memory ran out.
-    ensures complete { (called (map string_bytes words.now)).known F.tells B.tells_image
-        → ¬ HasReadFault F.Files (called (map string_bytes words.now)) files.old files.new
-        → ¬ Rose (B.faults board.old) (B.faults board.new)
-        → (result ≡ (command (map string_bytes words.now) (F.rest files.old) (B.image board.old)).status)
-        ⊎ ((result ≡ 12) × MayLack (called (map string_bytes words.now)) (F.rest files.old) (B.image board.old)) }
+    ensures complete { (called_by words.now).known F.tells B.tells_image
+        → ComesToAnswer F.Files B.Board (called_by words.now) files.old files.new board.old board.new result }
 
     // One step for the last line, one for each row of tables, at most 31 for offsets, 64 for an opening of the store,
     // 64 for each event of a drive that is run and for the supply drop at its end, one for each 512 bytes that are
     // printed of a bench, a form, lines or a comparison, one for each reply, and two for each byte of a shift book.
-    ensures steps { (called (map string_bytes words.now)).steps F.tells B.tells_image
-        (F.rest files.old) (F.rest files.new) (B.image board.old) steps.old steps.new }
+    ensures steps { TakesSteps F.Files B.Board (called_by words.now) files.old files.new board.old steps.old steps.new }
 
     // The store is left alone where it isn't opened, and nothing is written but where a command may write.
-    ensures kept { ¬ (called (map string_bytes words.now)).opens → KeepsStore B.Board board.old board.new }
-    ensures unwritten { ¬ (called (map string_bytes words.now)).writes result
-        → WritesNothing B.Board board.old board.new result }
+    ensures kept { ¬ (called_by words.now).opens → KeepsStore B.Board board.old board.new }
+    ensures unwritten { ¬ (called_by words.now).writes result → WritesNothing B.Board board.old board.new result }
 
     // A command that opens the store leaves nothing in flight, unless the board failed.
-    ensures at_rest { (called (map string_bytes words.now)).known F.tells B.tells_image → B.tells_image
-        → (called (map string_bytes words.now)).opens → result ≢ 8 → IsSettled B.Board board.new }
+    ensures at_rest { (called_by words.now).known F.tells B.tells_image → B.tells_image
+        → (called_by words.now).opens → result ≢ 8 → IsSettled B.Board board.new }
 
     // Where a command only looks at the store, a cut of the power from its opening sync on leaves the image as it was.
-    ensures looks { OnlyLooks (row_of (map string_bytes words.now)) → B.tells_image
+    ensures looks { OnlyLooks (row_in words.now) → B.tells_image
         → LeavesImage B.Board (result ≡ 8) board.old board.new }
 
     // Sealing leaves what it says at 0. A cut of the power from its opening sync on leaves the store that was found, or
     // one amid the sealing; a cut before that sync has succeeded leaves what it might have left before the call. So
     // where nothing was in flight before, a cut at any moment of the call leaves an image amid the sealing. A cut at
     // which a byte of the line `SEALED n` stands printed leaves the new seal.
-    ensures seals { row_of (map string_bytes words.now) ≡ Some Row.Seal → F.tells → B.tells_image
-        → Seals B.Board (sealing_of (opening_of (B.image board.old)) (F.rest files.old 1) (F.rest files.old 2))
-        board.old board.new result }
-    ensures settled { row_of (map string_bytes words.now) ≡ Some Row.Seal → F.tells → B.tells_image
-        → IsSettled B.Board board.old → LeavesOnly B.Board board.old board.new (MayLeaveSealing
-        (sealing_of (opening_of (B.image board.old)) (F.rest files.old 1) (F.rest files.old 2))
-        (B.image board.old) (B.printed board.old)) }
+    ensures seals { row_in words.now ≡ Some Row.Seal → F.tells → B.tells_image
+        → Seals B.Board (sealing_by F.Files B.Board files.old board.old) board.old board.new result }
+    ensures settled { row_in words.now ≡ Some Row.Seal → F.tells → B.tells_image → IsSettled B.Board board.old
+        → LeavesOnly B.Board board.old board.new (MayLeaveSealingBy F.Files B.Board files.old board.old) }
 
     // The headline. A run prints the displays, refusals and receipts that the tariff's text means for its drive, and no
     // others; in the end the store has the state after all its commits. A cut of the power from the run's opening sync
     // on leaves a place in the list of what the run does: the totals found are the opening ones plus the sums over the
     // entries before that place, as many commits as the stored number says, and every hiring of whose receipt a byte
     // was printed has its entry among them. `IsRun` says it clause by clause.
-    ensures runs { row_of (map string_bytes words.now) ≡ Some Row.Run → F.tells → B.tells_image
+    ensures runs { row_in words.now ≡ Some Row.Run → F.tells → B.tells_image
         → IsRun F.Files B.Board files.old files.new board.old board.new result }
 {
     match row_in(words) {
