@@ -2,7 +2,7 @@
 use Rattle.std.proofs.Common.{◌≡◌, ◌≢◌, ℕ, ◌+◌, ◌≤◌, Bool, true, false, List, [], ◌++◌, length, Result, Ok, Err, refl, sym, ap, subst, ◌∙◌, inl, inr, ⊎_elim, arith}
 use Rattle.std.specs.Prelude.{◌⊎◌}
 use Rattle.std.proofs.lemmas.List.{append-nil}
-use Rattle.drive_text.specs.Ending.{DriveEnd, Whole, BadAt, Endless, IsGoing, IsSplit, TellsEnd, drive_end}
+use Rattle.drive_text.specs.Ending.{StreamEnd, Whole, BadAt, Endless, IsGoing, IsSplit, TellsEnd, drive_end}
 use Rattle.outside.specs.Printing.{Begins}
 use Rattle.verify_bench.specs.Readings.{readings_in}
 use Rattle.verify_bench.specs.declared.reading.Reading.{Reading}
@@ -96,7 +96,7 @@ module _ (contents left : ℕ → List ℕ) (image : List ℕ) (read_failed : �
     by_terms : answer ≡ ending_answer terms (contents 2) (contents 3) (drive_end (contents 2))
     by_terms = ap (λ (r : Result Terms Ended). bench_answer r (contents 2) (contents 3)) are
 
-    by_end : (reached : DriveEnd) → drive_end (contents 2) ≡ reached → answer ≡ ending_answer terms (contents 2) (contents 3) reached
+    by_end : (reached : StreamEnd) → drive_end (contents 2) ≡ reached → answer ≡ ending_answer terms (contents 2) (contents 3) reached
     by_end reached e = by_terms ∙ ap (ending_answer terms (contents 2) (contents 3)) e
 
     by_readings : (read : Result (List Reading) ReadingsFault) → drive_end (contents 2) ≡ Whole → readings_in terms.tree.decimals (contents 3) ≡ read

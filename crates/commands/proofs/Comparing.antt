@@ -11,12 +11,12 @@ use Rattle.commands.specs.declared.tariff.TextFault.{TextFault}
 use Rattle.commands.specs.declared.tariff.TextFault.TheVariants as texts
 use Rattle.commands.specs.Answer.{Answer}
 use Rattle.commands.specs.Call.{MayTake, StopsReading}
-use Rattle.commands.specs.Compare.{HasTariff, compare_answer, compare_command, comparing_status}
+use Rattle.commands.specs.Compare.{compare_answer, compare_command, comparing_status}
 use Rattle.commands.specs.CompareSteps.{IsCompared, IsNotCompared, ended_comparing, ended_uncompared}
 use Rattle.commands.specs.Course.{Answered, ReadFailed}
 use Rattle.commands.specs.Ending.{ComesUnprinted}
 use Rattle.commands.specs.LastLine.{line_of, status_of}
-use Rattle.commands.specs.Tariffs.{bad_other, tariff_in}
+use Rattle.commands.specs.Tariffs.{HasTariff, bad_other, tariff_in}
 use Rattle.commands.proofs.Counting.{stops_at}
 use Rattle.commands.proofs.Refusals.{comes-bad_tariff, comes-no_memory}
 use Rattle.commands.proofs.Showing.{Here, comes-part, comes-whole}

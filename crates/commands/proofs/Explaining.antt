@@ -2,7 +2,7 @@
 use Rattle.std.proofs.Common.{◌≡◌, ◌≢◌, ℕ, ◌+◌, ◌<◌, ◌≤◌, List, [], ◌++◌, length, Result, Ok, Err, refl, sym, ap, subst, ◌∙◌, inl, inr, arith}
 use Rattle.std.specs.Prelude.{◌⊎◌}
 use Rattle.std.proofs.lemmas.List.{append-nil}
-use Rattle.drive_text.specs.Ending.{DriveEnd, Whole, BadAt, Endless, IsGoing, IsSplit, TellsEnd, drive_end}
+use Rattle.drive_text.specs.Ending.{StreamEnd, Whole, BadAt, Endless, IsGoing, IsSplit, TellsEnd, drive_end}
 use Rattle.meter_states.specs.Setting.{Setting}
 use Rattle.seal_record.specs.Reading.{params_read}
 use Rattle.seal_record.specs.declared.params.ParamFault.{ParamFault}
@@ -13,7 +13,7 @@ use Rattle.commands.specs.BenchSteps.{IsNoDrive, ended_for_drive}
 use Rattle.commands.specs.Call.{MayTake}
 use Rattle.commands.specs.Course.{Answered, NoMemory, ReadFailed}
 use Rattle.commands.specs.Ending.{ComesUnprinted, ended_for, ended_for_params}
-use Rattle.commands.specs.Explain.{HasSetting, HasTariff, ending_answer, explain_answer, explain_command, explain_turn, setting_by, setting_from, setting_in, setting_with}
+use Rattle.commands.specs.Explain.{HasSetting, ending_answer, explain_answer, explain_command, explain_turn, setting_from, setting_in, setting_with}
 use Rattle.commands.specs.ExplainSteps.{HasExplained}
 use Rattle.commands.specs.LastLine.{line_of, refused_as, status_of}
 use Rattle.commands.specs.Pieces.{pieces_of}
@@ -106,7 +106,7 @@ module _ (contents left : ℕ → List ℕ) (image : List ℕ) (read_failed : �
 
   -- there is a setting
   module _ (s : Setting) (is : setting_in (contents 1) (contents 3) ≡ Ok s) where
-    by_end : (reached : DriveEnd) → drive_end (contents 2) ≡ reached → explain_answer (setting_in (contents 1) (contents 3)) (contents 2) ≡ ending_answer s (contents 2) reached
+    by_end : (reached : StreamEnd) → drive_end (contents 2) ≡ reached → explain_answer (setting_in (contents 1) (contents 3)) (contents 2) ≡ ending_answer s (contents 2) reached
     by_end reached e =
         ap (λ (r : Result Setting Ended). explain_answer r (contents 2)) is ∙ ap (ending_answer s (contents 2)) e
 

@@ -15,7 +15,7 @@ use Rattle.commands.specs.declared.ending.Ended.TheVariants as ended
 use Rattle.commands.specs.declared.tariff.Refusal.{Refusal}
 use Rattle.commands.specs.Answer.{Answer}
 use Rattle.commands.specs.Course.{Answered, ReadFailed, BoardFailed}
-use Rattle.drive_text.specs.Ending.{DriveEnd, Whole, BadAt, Endless, IsGoing, TellsEnd, ShowsEnd, drive_end}
+use Rattle.drive_text.specs.Ending.{StreamEnd, Whole, BadAt, Endless, IsGoing, TellsEnd, ShowsEnd, drive_end}
 use Rattle.meter_run.specs.Drives.{RunsDrive, RunsTo}
 use Rattle.meter_run.specs.Texts.{drive_shown}
 use Rattle.seal_record.specs.declared.seal.Seal.{Seal}
@@ -45,14 +45,14 @@ pub refused-fare : (k : ℕ) (o : Result Tree Refusal) (drive : List ℕ) (why :
 refused-fare k o drive why e = ap (λ (x : Result Tree Refusal). fare_answer k x drive) e
 
 -- how a drive ends
-pub end_of-status : (shown : List ℕ) (reached : DriveEnd) → (drive_answer shown reached).status ≡ 0 → reached ≡ Whole
+pub end_of-status : (shown : List ℕ) (reached : StreamEnd) → (drive_answer shown reached).status ≡ 0 → reached ≡ Whole
 end_of-status shown Whole is = refl
 end_of-status shown (BadAt n) is = absurd cc
 end_of-status shown Endless is = absurd cc
 
 -- a drive that was told whole has nothing left
 pub left-whole : (drive left : List ℕ) → TellsEnd drive left → drive_end drive ≡ Whole → left ≡ []
-left-whole drive left t e = subst (λ (x : DriveEnd). ShowsEnd x t.taken left) e t.shows
+left-whole drive left t e = subst (λ (x : StreamEnd). ShowsEnd x t.taken left) e t.shows
 
 pub one_of : (contents left : ℕ → List ℕ) (word : ℕ) → (word ≡ 1) ⊎ (word ≡ 2) → left 1 ≡ [] → left 2 ≡ [] → left word ≡ []
 one_of contents left word (inl e) one two = ap left e ∙ one
@@ -70,7 +70,7 @@ module _ (k : ℕ) (contents left : ℕ → List ℕ) (image : List ℕ) (read_f
   shown_is taken = ap (λ (x : Result Tree Refusal). shown_under k x taken) sound
 
   -- the drive was carried out to its end
-  to_end : (end : Ended) (reached : DriveEnd) → RunsTo told tables seal (contents 2) (left 2) before now reached
+  to_end : (end : Ended) (reached : StreamEnd) → RunsTo told tables seal (contents 2) (left 2) before now reached
       → (drive_answer (drive_shown (setting_of k t) (contents 2)) reached).status ≡ status_of end
       → (drive_answer (drive_shown (setting_of k t) (contents 2)) reached).line ≡ line_of end
       → (drive_answer (drive_shown (setting_of k t) (contents 2)) reached).shown ≡ drive_shown (setting_of k t) (contents 2) → Here end

@@ -5,7 +5,7 @@ use Rattle.std.proofs.lemmas.Bool.{lt-ltb}
 use Rattle.std.proofs.lemmas.List.{append-nil}
 use Rattle.outside.specs.Faults.{Rose}
 use Rattle.drive_text.specs.Drive.{bad_at_end, events_in}
-use Rattle.drive_text.specs.Ending.{Whole, drive_end, drive_limit}
+use Rattle.drive_text.specs.Ending.{Whole, drive_end, stream_limit}
 use Rattle.drive_modes.specs.declared.charges.Mode.TheVariants.{Single}
 use Rattle.interval_clock.specs.Offsets.{EachPlace, IsInRangeAt, IsOffsetList, RisesAt}
 use Rattle.meter_run.specs.Drives.{IsBoundedBy}
@@ -95,8 +95,8 @@ pub never_rose : Rose 0 0 → ⊥
 never_rose h = omega (arith, h)
 
 -- a drive without a bad line that is short enough is whole
-pub whole_drive : (drive : List ℕ) → bad_at_end drive ≡ None → length drive < drive_limit → drive_end drive ≡ Whole
-whole_drive drive good short = let first : nat_lt (length drive) drive_limit ≡ true = lt-ltb _ _ short in rw (first, good) refl
+pub whole_drive : (drive : List ℕ) → bad_at_end drive ≡ None → length drive < stream_limit → drive_end drive ≡ Whole
+whole_drive drive good short = let first : nat_lt (length drive) stream_limit ≡ true = lt-ltb _ _ short in rw (first, good) refl
 
 -- a drive that was taken to its end is bounded by all of its events
 pub whole_bound : (told : Type 0) (drive left : List ℕ) (before now : ℕ) → told → left ≡ []

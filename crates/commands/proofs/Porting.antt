@@ -46,15 +46,15 @@ module _ (contents left : ℕ → List ℕ) (image : List ℕ) (read_failed : �
       → (requests_answer Shown reached).status ≡ status_of end → (requests_answer Shown reached).line ≡ line_of end
       → (requests_answer Shown reached).shown ≡ Shown → Here end
   to_end end reached h status line shown =
-      let e = answer_is ∙ ap (requests_answer Shown) h.ends.end_is in
+      let e = answer_is ∙ ap (requests_answer Shown) h.ends.ends.end_is in
       let status_at : (port_answer (store_of (opening_of image)) (contents 1)).status ≡ (requests_answer Shown reached).status =
       ap (λ (a : Answer). a.status) e in
       record {
         course = Answered;
         may = record {
-          whole = λ zero word reads. ap left reads ∙ left_whole (contents 1) h.taken (left 1) h.ends.shows
-              (h.ends.end_is ∙ status_end Shown reached (sym status_at ∙ zero));
-          bad = λ is. record { taken = h.taken; split = h.ends.split; shows = h.ends.shows };
+          whole = λ zero word reads. ap left reads ∙ left_whole (contents 1) h.taken (left 1) h.ends.ends.shows
+              (h.ends.ends.end_is ∙ status_end Shown reached (sym status_at ∙ zero));
+          bad = λ is. record { taken = h.taken; split = h.ends.ends.split; shows = h.ends.ends.shows };
         };
         stands = inl (record {
           status_is = sym (status_at ∙ status);

@@ -2,7 +2,7 @@
 use Rattle.std.proofs.Common.{◌≡◌, ◌≢◌, ◌⊎◌, ⊎_elim, inl, inr, ℕ, List, [], ◌∷◌, ◌++◌, Result, Ok, Err, refl, sym, ap}
 use Rattle.std.proofs.Common.{subst, ◌∙◌}
 use Rattle.std.proofs.lemmas.List.{append-nil}
-use Rattle.drive_text.specs.Ending.{DriveEnd, Whole, BadAt, Endless, drive_end}
+use Rattle.drive_text.specs.Ending.{StreamEnd, Whole, BadAt, Endless, drive_end}
 use Rattle.outside.specs.declared.board.Board.{Ghosts}
 use Rattle.outside.specs.declared.files.Files.{Ghosts as FileGhosts}
 use Rattle.outside.specs.Disk.{MayLeaveAmid, SameBut}
@@ -127,7 +127,7 @@ module _ {E D L : Type 0} {N : ℕ} (F : FileGhosts E) (B : Ghosts D N L) (files
       shown_is bytes = ap (λ (r : Result Start Ended). shown_in_run r bytes) begins
 
       -- the drive was carried out to its end
-      to_end : (end : Ended) (reached : DriveEnd) → RunsUpTo B (tables_in s) s.seal mid new drive (F.rest files' 2) reached → end ≢ ended.BoardFault
+      to_end : (end : Ended) (reached : StreamEnd) → RunsUpTo B (tables_in s) s.seal mid new drive (F.rest files' 2) reached → end ≢ ended.BoardFault
           → (drive_answer (texts s.seal (deeds_in s drive)) reached).status ≡ status_of end
           → (drive_answer (texts s.seal (deeds_in s drive)) reached).line ≡ line_of end
           → (drive_answer (texts s.seal (deeds_in s drive)) reached).shown ≡ texts s.seal (deeds_in s drive) → RunComes F B files files' old new end

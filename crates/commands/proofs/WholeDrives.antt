@@ -1,7 +1,7 @@
 -- A drive that is read whole into memory, part by part.
 use Rattle.std.proofs.Common.{◌≡◌, ℕ, ◌+◌, ◌<◌, List, [], ◌++◌, length, Option, Some, None, IfSome, refl, sym, ap, subst, ◌∙◌, append_assoc, arith, length-append, flat_map}
 use Rattle.drive_text.specs.Drive.{events_in, runs_after, runs_in}
-use Rattle.drive_text.specs.Ending.{Whole, BadAt, Endless, ReachesEnd, ShowsEnd, TellsEnd, DriveEnd, drive_end}
+use Rattle.drive_text.specs.Ending.{Whole, BadAt, Endless, ReachesEnd, ShowsEnd, TellsEnd, StreamEnd, drive_end}
 use Rattle.drive_text.specs.Runs.{run_events}
 use Rattle.drive_text.specs.declared.run.Run.{Run}
 use Rattle.drive_text.proofs.Laws.{runs_are_added}
@@ -68,16 +68,19 @@ module _ (told : Type 0) (old : Progress) (drive rest rest' : List ℕ) (runs pa
   ends_by : (stop : Stop) → (stops : StopsBy told old rest rest' s.given part stop) → told → EndsBy drive (s.given ++ stops.fed) rest' stop
   ends_by stop stops t = subst (λ (d : List ℕ). EndsBy d (s.given ++ stops.fed) rest' stop) (sym (s.split t)) (stops.ends t)
 
+  tells : (taken : List ℕ) (reached : StreamEnd) → ReachesEnd drive taken rest' reached → TellsEnd drive rest'
+  tells taken reached h = record { taken = taken; split = h.ends.split; shows = h.ends.shows }
+
   none_left : TellsEnd drive rest' → drive_end drive ≡ Whole → rest' ≡ []
-  none_left tells e = subst (λ (x : DriveEnd). ShowsEnd x tells.taken rest') e tells.shows
+  none_left tells e = subst (λ (x : StreamEnd). ShowsEnd x tells.taken rest') e tells.shows
 
   pub whole_drive : (stop : Stop) → fault_by stop ≡ None → StopsBy told old rest rest' s.given part stop → told → IsWholeDrive drive rest' (runs ++ part)
   whole_drive stops.Whole none last t =
-      let h : ReachesEnd drive rest' Whole (events_in (s.given ++ last.fed)) = ends_by stops.Whole last t in
+      let h : ReachesEnd drive (s.given ++ last.fed) rest' Whole = ends_by stops.Whole last t in
       record {
-        end_is = h.end_is;
-        none_left = none_left h.tells h.end_is;
-        events = ap (flat_map run_events) (with_part last.fed last.runs_are) ∙ sym h.events_are;
+        end_is = h.ends.end_is;
+        none_left = none_left (tells (s.given ++ last.fed) Whole h) h.ends.end_is;
+        events = ap (flat_map run_events) (with_part last.fed last.runs_are) ∙ sym h.given_is;
       }
   whole_drive (stops.BadLine line) none last t = absurd cc
   whole_drive stops.TooLong none last t = absurd cc
@@ -86,11 +89,11 @@ module _ (told : Type 0) (old : Progress) (drive rest rest' : List ℕ) (runs pa
   pub no_drive : (stop : Stop) (fault : DriveFault) → fault_by stop ≡ Some fault → StopsBy told old rest rest' s.given part stop → told → IsNoDrive drive rest' fault
   no_drive stops.Whole fault some last t = absurd cc
   no_drive (stops.BadLine line) fault some last t =
-      let h : ReachesEnd drive rest' (BadAt line) (events_in (s.given ++ last.fed)) = ends_by (stops.BadLine line) last t in
-      subst (λ (f : DriveFault). IsNoDrive drive rest' f) (same (drives.BadLine line) fault some) (h.end_is, h.tells)
+      let h : ReachesEnd drive (s.given ++ last.fed) rest' (BadAt line) = ends_by (stops.BadLine line) last t in
+      subst (λ (f : DriveFault). IsNoDrive drive rest' f) (same (drives.BadLine line) fault some) (h.ends.end_is, tells (s.given ++ last.fed) (BadAt line) h)
   no_drive stops.TooLong fault some last t =
-      let h : ReachesEnd drive rest' Endless (events_in (s.given ++ last.fed)) = ends_by stops.TooLong last t in
-      subst (λ (f : DriveFault). IsNoDrive drive rest' f) (same drives.TooLong fault some) (h.end_is, h.tells)
+      let h : ReachesEnd drive (s.given ++ last.fed) rest' Endless = ends_by stops.TooLong last t in
+      subst (λ (f : DriveFault). IsNoDrive drive rest' f) (same drives.TooLong fault some) (h.ends.end_is, tells (s.given ++ last.fed) Endless h)
   no_drive stops.ReadFault fault some last t =
       subst (λ (f : DriveFault). IsNoDrive drive rest' f) (same drives.ReadFault fault some) (record {
         taken = s.given ++ last.fed;

@@ -1,10 +1,9 @@
 -- Rules: the command `bench TARIFF DRIVE READINGS`.
-use Rattle.std.specs.Prelude.{◌≡◌, ◌⊎◌, ℕ, ◌+◌, ◌≤◌, Bool, true, false, List, [], ◌++◌, length, Option, Some, None, Result, Ok, Err}
-use Rattle.drive_modes.specs.declared.meterage.Rounding.{Rounding}
-use Rattle.drive_text.specs.Ending.{DriveEnd, Whole, BadAt, Endless, IsGoing, drive_end, events_of}
-use Rattle.meter_states.specs.Setting.{Setting}
+use Rattle.std.specs.Prelude.{◌≡◌, ◌⊎◌, ℕ, ◌+◌, ◌≤◌, Bool, true, false, List, [], ◌++◌, length, Some, Result, Ok, Err}
+use Rattle.drive_text.specs.Ending.{StreamEnd, Whole, BadAt, Endless, IsGoing, drive_end, events_of}
+use Rattle.meter_states.specs.Setting.{Setting, setting_by}
 use Rattle.seal_record.specs.declared.seal.Seal.{Seal}
-use Rattle.tariff_check.specs.Parts.{step_of}
+use Rattle.tariff_check.specs.DisplayStep.{display_step}
 use Rattle.tariff_syntax.specs.Tree.{Tree}
 use Rattle.totals_record.specs.declared.durable.Durable.{Durable}
 use Rattle.verify_bench.specs.CrossOvers.{cross_overs_text}
@@ -53,23 +52,7 @@ terms_of opening tariff = terms_over (store_of opening) tariff
 
 -- under the terms the meter goes by the tariff and the sealed parameters
 abbrev pub setting_under : Terms → Setting
-setting_under terms = record {
-  tariff = terms.tree;
-  constant = terms.seal.params.constant;
-  mode = terms.seal.params.mode;
-  hold = terms.seal.params.hold;
-  offsets = terms.seal.params.offsets;
-}
-
--- the amount of a display step that may be none is its own, and 0 for none
-abbrev pub step_amount : Option (ℕ × Rounding) → ℕ
-step_amount None = 0
-step_amount (Some step) = step.0
-
--- the display step of a tariff is counted in the smallest units of money, and is 0 without a step, which a sound tariff
--- has
-abbrev pub display_step : Tree → ℕ
-display_step t = step_amount (step_of t.lines)
+setting_under terms = setting_by terms.tree terms.seal.params
 
 -- under the terms the hirings of a drive should come to what the plain program calculates of its events
 abbrev pub hirings_under : Terms → (drive : List ℕ) → List Expected
@@ -81,11 +64,11 @@ hirings_under terms drive = expected_of (setting_under terms) (events_of drive)
 abbrev pub bench_text : Terms → (drive : List ℕ) → List Reading → List ℕ
 bench_text terms drive found =
     cross_overs_text terms.tree.lines
-    ++ report_text (display_step terms.tree) terms.tree.decimals (hirings_under terms drive) found
+    ++ report_text (display_step terms.tree).0 terms.tree.decimals (hirings_under terms drive) found
 
 -- the test `does_bench_pass` is true where every row of the report passes
 abbrev pub does_bench_pass : Terms → (drive : List ℕ) → List Reading → Bool
-does_bench_pass terms drive found = do_all_pass (display_step terms.tree) (hirings_under terms drive) found
+does_bench_pass terms drive found = do_all_pass (display_step terms.tree).0 (hirings_under terms drive) found
 
 -- the command ended by the fault for which its readings weren't read
 abbrev pub ended_for_readings : ReadingsFault → Ended
@@ -108,7 +91,7 @@ readings_answer terms drive (Ok found) = record {
 readings_answer terms drive (Err fault) = refused_as (ended_for_readings fault)
 
 -- the answer to a drive that has an end is that of the readings, and else it is the refusal of the drive
-abbrev pub ending_answer : Terms → (drive text : List ℕ) → DriveEnd → Answer
+abbrev pub ending_answer : Terms → (drive text : List ℕ) → StreamEnd → Answer
 ending_answer terms drive text Whole = readings_answer terms drive (readings_in terms.tree.decimals text)
 ending_answer terms drive text (BadAt line) = refused_as (ended.BadDrive line)
 ending_answer terms drive text Endless = refused_as ended.EndlessDrive

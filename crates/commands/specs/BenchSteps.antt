@@ -3,12 +3,13 @@ use Rattle.std.specs.Prelude.{◌≡◌, ◌⊎◌, ℕ, List, [], ◌++◌, Boo
 use Rattle.drive_text.specs.Ending.{Whole, BadAt, Endless, IsGoing, IsSplit, TellsEnd, drive_end, events_of}
 use Rattle.drive_text.specs.Runs.{run_events}
 use Rattle.drive_text.specs.declared.run.Run.{Run}
+use Rattle.tariff_check.specs.DisplayStep.{display_step}
 use Rattle.meter_run.specs.declared.source.Stop.{Stop}
 use Rattle.meter_run.specs.declared.source.Stop.TheVariants as stops
 use Rattle.verify_bench.specs.Readings.{readings_in}
 use Rattle.verify_bench.specs.declared.reading.Reading.{Reading}
 use Rattle.verify_bench.specs.declared.reading.ReadingsFault.TheVariants as readings
-use Rattle.commands.specs.Bench.{Terms, bench_text, display_step, does_bench_pass, setting_under, terms_of}
+use Rattle.commands.specs.Bench.{Terms, bench_text, does_bench_pass, setting_under, terms_of}
 use Rattle.commands.specs.declared.bench_terms.Terms as program
 use Rattle.tariff_syntax.specs.Tree.{tree_of}
 use Rattle.taxi_units.specs.declared.event.Event.{Event}
@@ -87,12 +88,12 @@ IsNoReadings decimals text read_failed why = ⊥
 abbrev pub judged_text : Terms → List Event → List Reading → List ℕ
 judged_text terms events found =
     cross_overs_text terms.tree.lines
-    ++ report_text (display_step terms.tree) terms.tree.decimals (expected_of (setting_under terms) events) found
+    ++ report_text (display_step terms.tree).0 terms.tree.decimals (expected_of (setting_under terms) events) found
 
 -- a test whether all rows of readings pass beside the events of a drive
 abbrev pub judged_pass : Terms → List Event → List Reading → Bool
 judged_pass terms events found =
-    do_all_pass (display_step terms.tree) (expected_of (setting_under terms) events) found
+    do_all_pass (display_step terms.tree).0 (expected_of (setting_under terms) events) found
 
 -- readings are judged where the drive and the readings were read, and what is printed and whether all rows pass is that
 -- of the verification

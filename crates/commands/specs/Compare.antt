@@ -6,7 +6,7 @@ use Rattle.tariff_compare.specs.Differences.{difference_of}
 use Rattle.commands.specs.Answer.{Answer}
 use Rattle.commands.specs.Course.{Command}
 use Rattle.commands.specs.Pieces.{pieces_of}
-use Rattle.commands.specs.Tariffs.{tariff_in, bad_other, bad_tariff}
+use Rattle.commands.specs.Tariffs.{HasTariff, tariff_in, bad_other, bad_tariff}
 use Rattle.commands.specs.declared.tariff.Refusal.{Refusal}
 
 -- a comparison has the status 11 where the tariffs differ, and else 0
@@ -24,11 +24,6 @@ compare_answer k (Ok t) (Ok u) = record {
   shown = comparison_text t u k (difference_of t u k);
   line = [];
 }
-
--- a text has a tariff where it reads as a sound one
-pub record HasTariff (text : List ℕ) : Type 0 where
-  pub tree : Tree
-  pub reads : tariff_in text ≡ Ok tree
 
 -- the command `compare` reads its tariff, and where that is sound the other, and prints the text in as few pieces as it
 -- can be, in a step for each and one for the last line

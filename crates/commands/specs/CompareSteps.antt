@@ -3,9 +3,8 @@ use Rattle.std.specs.Prelude.{◌≡◌, ℕ, Bool, true, false, List, is_some, 
 use Rattle.tariff_syntax.specs.Tree.{Tree}
 use Rattle.tariff_compare.specs.DifferenceTexts.{comparison_text}
 use Rattle.tariff_compare.specs.Differences.{difference_of}
-use Rattle.commands.specs.Compare.{HasTariff}
 use Rattle.commands.specs.Ending.{ended_for}
-use Rattle.commands.specs.Tariffs.{tariff_in}
+use Rattle.commands.specs.Tariffs.{HasTariff, tariff_in}
 use Rattle.commands.specs.declared.compare.CompareFault.{CompareFault}
 use Rattle.commands.specs.declared.compare.CompareFault.TheVariants as faults
 use Rattle.commands.specs.declared.ending.Ended.{Ended}

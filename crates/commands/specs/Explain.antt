@@ -1,7 +1,7 @@
 -- Rules: the command `explain TARIFF DRIVE PARAMS`.
 use Rattle.std.specs.Prelude.{◌≡◌, ◌⊎◌, ℕ, ◌+◌, ◌≤◌, ◌==◌, if◌then◌else◌, List, [], length, Some, Result, Ok, Err}
-use Rattle.drive_text.specs.Ending.{DriveEnd, Whole, BadAt, Endless, IsGoing, drive_end, events_of}
-use Rattle.meter_states.specs.Setting.{Setting}
+use Rattle.drive_text.specs.Ending.{StreamEnd, Whole, BadAt, Endless, IsGoing, drive_end, events_of}
+use Rattle.meter_states.specs.Setting.{Setting, setting_by}
 use Rattle.seal_record.specs.Reading.{params_read}
 use Rattle.seal_record.specs.declared.params.ParamFault.{ParamFault}
 use Rattle.seal_record.specs.declared.params.Params.{Params}
@@ -13,22 +13,12 @@ use Rattle.commands.specs.ExplainedText.{explanations_text}
 use Rattle.commands.specs.LastLine.{refused_as}
 use Rattle.commands.specs.Pieces.{pieces_of}
 use Rattle.commands.specs.Stream.{Drive}
-use Rattle.commands.specs.Tariffs.{tariff_in}
+use Rattle.commands.specs.Tariffs.{HasTariff, tariff_in}
 use Rattle.commands.specs.declared.ending.Ended.{Ended}
 use Rattle.commands.specs.declared.ending.Ended.TheVariants as ended
 use Rattle.commands.specs.declared.tariff.Refusal.{Refusal}
 
 -- ---- what an explanation goes by
-
--- a meter goes by a tariff and by the constant, the mode, the hold and the offsets of parameters
-abbrev pub setting_by : Tree → Params → Setting
-setting_by t params = record {
-  tariff = t;
-  constant = params.constant;
-  mode = params.mode;
-  hold = params.hold;
-  offsets = params.offsets;
-}
 
 -- an explanation under a tariff goes by the parameters that were read, or is refused where they are
 abbrev pub setting_from : Tree → Result Params ParamFault → Result Setting Ended
@@ -54,7 +44,7 @@ abbrev pub explanation_text : Setting → (drive : List ℕ) → List ℕ
 explanation_text s drive = explanations_text s (explanations_of s (events_of drive))
 
 -- the answer to a drive that has an end explains its hirings, and else it is the refusal of the drive
-abbrev pub ending_answer : Setting → (drive : List ℕ) → DriveEnd → Answer
+abbrev pub ending_answer : Setting → (drive : List ℕ) → StreamEnd → Answer
 ending_answer s drive Whole = shows (explanation_text s drive)
 ending_answer s drive (BadAt line) = refused_as (ended.BadDrive line)
 ending_answer s drive Endless = refused_as ended.EndlessDrive
@@ -66,11 +56,6 @@ explain_answer (Err why) drive = refused_as why
 explain_answer (Ok s) drive = ending_answer s drive (drive_end drive)
 
 -- ---- the command
-
--- a text has a sound tariff
-pub record HasTariff (tariff : List ℕ) : Type 0 where
-  pub tree : Tree
-  pub is : tariff_in tariff ≡ Ok tree
 
 -- two texts have a tariff and parameters
 pub record HasSetting (tariff params : List ℕ) : Type 0 where

@@ -1,11 +1,11 @@
 -- Rules: the command `fare TARIFF DRIVE CONSTANT`.
 use Rattle.std.specs.Prelude.{◌≡◌, ◌⊎◌, ℕ, pos, List, [], ◌∷◌, Some, Result, Ok, Err}
 use Rattle.drive_modes.specs.declared.charges.Mode.TheVariants.{Single}
-use Rattle.drive_text.specs.Ending.{DriveEnd, Whole, BadAt, Endless, IsGoing, drive_end}
+use Rattle.drive_text.specs.Ending.{StreamEnd, Whole, BadAt, Endless, IsGoing, drive_end}
 use Rattle.tariff_syntax.specs.Tree.{Tree}
 use Rattle.meter_run.specs.Drives.{IsBoundedBy}
 use Rattle.meter_run.specs.Texts.{drive_shown}
-use Rattle.meter_states.specs.Setting.{Setting}
+use Rattle.meter_states.specs.Setting.{Setting, under_offset}
 use Rattle.taxi_units.specs.Time.{first_second}
 use Rattle.commands.specs.Answer.{Answer, shows}
 use Rattle.commands.specs.Course.{Command}
@@ -16,14 +16,14 @@ use Rattle.commands.specs.declared.tariff.Refusal.{Refusal}
 
 -- the answer to a drive shows its text, and has the status 3 and a last line where a line of the drive is bad or it has
 -- no end
-abbrev pub drive_answer : List ℕ → DriveEnd → Answer
+abbrev pub drive_answer : List ℕ → StreamEnd → Answer
 drive_answer shown Whole = shows shown
 drive_answer shown (BadAt n) = record { status = 3; shown = shown; line = bad_drive_line n }
 drive_answer shown Endless = record { status = 3; shown = shown; line = endless_drive_line }
 
 -- a meter without a store goes by a tariff and a constant in mode S, with a hold of a minute and local time that is UTC
 abbrev pub setting_of : (k : ℕ) → Tree → Setting
-setting_of k t = record { tariff = t; constant = k; mode = Single; hold = 60; offsets = (first_second, pos 0) ∷ [] }
+setting_of k t = under_offset t k Single 60 (pos 0)
 
 -- bytes of a drive show their displays and refusals under a tariff, and nothing where there is none
 abbrev pub shown_under : (k : ℕ) → Result Tree Refusal → List ℕ → List ℕ

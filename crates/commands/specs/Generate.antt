@@ -4,7 +4,7 @@ use Rattle.drive_modes.specs.declared.charges.Mode.TheVariants.{Single}
 use Rattle.drive_text.specs.Drive.{events_in}
 use Rattle.meter_run.specs.Deeds.{after_deeds}
 use Rattle.meter_run.specs.Runs.{run_deeds}
-use Rattle.meter_states.specs.Setting.{Setting}
+use Rattle.meter_states.specs.Setting.{Setting, under_offset}
 use Rattle.tariff_syntax.specs.Tree.{Tree}
 use Rattle.taxi_units.specs.Time.{first_second}
 use Rattle.totals_record.specs.States.{first_state}
@@ -33,8 +33,7 @@ city_text =
 -- a generated drive is run with a constant of 10,000, in mode S, with a hold of a minute and local time an hour ahead
 -- of UTC
 abbrev pub generated_setting : Tree → Setting
-generated_setting t =
-    record { tariff = t; constant = 10000; mode = Single; hold = 60; offsets = (first_second, pos 3600) ∷ [] }
+generated_setting t = under_offset t 10000 Single 60 (pos 3600)
 
 -- the state after a drive is the durable state of a new store after all deeds of the drive
 abbrev pub state_after : Setting → (drive : List ℕ) → Durable

@@ -17,7 +17,7 @@ use Rattle.seal_record.specs.declared.seal.Seal.{Seal}
 use Rattle.tariff_syntax.specs.Tree.{Tree}
 use Rattle.tariff_compile.specs.Tables.{TableParts, tables_of}
 use Rattle.tariff_compile.specs.declared.parts.Supplement.{Supplement}
-use Rattle.meter_states.specs.Setting.{Setting}
+use Rattle.meter_states.specs.Setting.{Setting, setting_by}
 use Rattle.meter_states.specs.Supplements.{amounts_from, most_in, supplement_in}
 use Rattle.meter_run.specs.Deeds.{Deed, Prints, after_deeds, texts}
 use Rattle.meter_run.specs.Drives.{IsBoundedBy}
@@ -91,13 +91,7 @@ tables_in start = tables_of start.tree start.seal.params.constant
 
 -- the meter of a run goes by the tariff and the sealed parameters
 abbrev pub setting_in : Start → Setting
-setting_in start = record {
-  tariff = start.tree;
-  constant = start.seal.params.constant;
-  mode = start.seal.params.mode;
-  hold = start.seal.params.hold;
-  offsets = start.seal.params.offsets;
-}
+setting_in start = setting_by start.tree start.seal.params
 
 -- a run starts with a durable state, a seal and a tariff, or is refused where the tariff is or the held trip doesn't
 -- fit the tables

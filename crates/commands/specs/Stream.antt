@@ -1,19 +1,20 @@
 -- Rules: what a command takes in pieces of at most 512 bytes, and no further than it has to.
 use Rattle.std.specs.Prelude.{◌≡◌, ℕ, List, [], Option, Some, None}
-use Rattle.data_port.specs.Serving as requests
-use Rattle.drive_text.specs.Ending as drives
+use Rattle.taxi_units.specs.Streams.{IsSplit, TellsEnd}
+use Rattle.data_port.specs.Serving.{requests}
+use Rattle.drive_text.specs.Ending.{drives}
 
 -- a stream is a drive, or the requests of a data port, in the file of a word
 pub data Stream : Type 0 where
   Drive : (word : ℕ) → Stream
   Requests : (word : ℕ) → Stream
 
--- bytes of a stream were taken where they and what is left are its file, as a drive or as requests are split; and none
--- were where there is no stream
+-- bytes of a stream were taken where its file is split into them and what is left; and none were where there is no
+-- stream
 abbrev pub Takes : Option Stream → (contents left : ℕ → List ℕ) (taken : List ℕ) → Type 0
 Takes None contents left taken = taken ≡ []
-Takes (Some (Drive word)) contents left taken = drives.IsSplit (contents word) taken (left word)
-Takes (Some (Requests word)) contents left taken = requests.IsSplit (contents word) taken (left word)
+Takes (Some (Drive word)) contents left taken = IsSplit (contents word) taken (left word)
+Takes (Some (Requests word)) contents left taken = IsSplit (contents word) taken (left word)
 
 -- the status of an answer by which the stream is bad or too long is 16 where it is one of requests, and else 3
 abbrev pub bad_status : Option Stream → ℕ
@@ -24,5 +25,5 @@ bad_status (Some (Requests word)) = 16
 -- the bytes of a stream that were taken tell its end, where there is a stream
 abbrev pub TellsItsEnd : Option Stream → (contents left : ℕ → List ℕ) → Type 0
 TellsItsEnd None contents left = ⊥
-TellsItsEnd (Some (Drive word)) contents left = drives.TellsEnd (contents word) (left word)
-TellsItsEnd (Some (Requests word)) contents left = requests.TellsEnd (contents word) (left word)
+TellsItsEnd (Some (Drive word)) contents left = TellsEnd drives (contents word) (left word)
+TellsItsEnd (Some (Requests word)) contents left = TellsEnd requests (contents word) (left word)

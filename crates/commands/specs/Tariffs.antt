@@ -1,5 +1,5 @@
 -- Rules: the tariff of a text, and what is answered where there is none.
-use Rattle.std.specs.Prelude.{ℕ, List, length, Option, Some, None, Result, Ok, Err, if◌then◌else◌, nat_lt}
+use Rattle.std.specs.Prelude.{◌≡◌, ℕ, List, length, Option, Some, None, Result, Ok, Err, if◌then◌else◌, nat_lt}
 use Rattle.tariff_syntax.specs.Parsed.{tree_parsed}
 use Rattle.tariff_syntax.specs.Tree.{Tree}
 use Rattle.tariff_check.specs.Faults.{fault_of}
@@ -24,6 +24,11 @@ checked_in (Err line) = Err (Syntax line)
 -- texts_are_parsed_as_they_read of tariff_syntax says
 abbrev pub tariff_in : List ℕ → Result Tree Refusal
 tariff_in text = if nat_lt 65536 (length text) then Err TooLong else checked_in (tree_parsed text)
+
+-- a text has a tariff where it reads as a sound one
+pub record HasTariff (text : List ℕ) : Type 0 where
+  pub tree : Tree
+  pub reads : tariff_in text ≡ Ok tree
 
 -- the answer to a text that has no sound tariff is a refusal with the status 2
 abbrev pub bad_tariff : Refusal → Answer

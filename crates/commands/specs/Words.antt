@@ -1,9 +1,9 @@
 -- Rules: the words of a command.
-use Rattle.std.specs.Prelude.{ℕ, ◌^◌, Bool, List, [], ◌∷◌, length, Option, Some, None, if◌then◌else◌, nat_le, nat_lt, nat_eq, ◌&&◌, ◌==◌, codes}
-use Rattle.std.specs.Cmp.Lexicographic.{pointwise}
+use Rattle.std.specs.Prelude.{ℕ, ◌^◌, List, [], ◌∷◌, length, Option, Some, None, if◌then◌else◌, nat_le, nat_lt, ◌&&◌}
+use Rattle.std.specs.Prelude.{◌==◌, codes}
 use Rattle.std.specs.Option.{option_map}
 use Rattle.std.specs.Str.Parse.{digits_value}
-use Rattle.taxi_units.specs.Number.{digits_at_front, number_at}
+use Rattle.taxi_units.specs.Number.{digits_at_front, figure_in}
 use Rattle.drive_modes.specs.Constant.{least_constant, greatest_constant}
 use Rattle.shift_book.specs.Reading.{driver_of}
 use Rattle.commands.specs.Years.{years_of}
@@ -13,17 +13,10 @@ use Rattle.commands.specs.declared.words.Row.TheVariants.{Port, Offsets, Mark, S
 use Rattle.commands.specs.declared.words.Row.TheVariants.{Compare}
 use Rattle.taxi_units.specs.Words.{is_word}
 
--- a word is a constant where a number was read of it with nothing left, of at most 6 digits and from 500 to 200,000
-abbrev pub constant_in : List ℕ → Option (ℕ × List ℕ) → Option ℕ
-constant_in word None = None
-constant_in word (Some (k, rest)) =
-    if (length rest == 0 && (nat_le (length word) 6 && (nat_le least_constant k && nat_le k greatest_constant)))
-    then Some k else None
-
--- a word is a constant where it is a number of at most 6 digits and of 500 to 200,000, and else none; `number_at` gives
--- the number and what stands after it, as the law numbers_are_read_by_their_digits of taxi_units says
-unfoldable pub constant_of : List ℕ → Option ℕ
-constant_of word = constant_in word (number_at word)
+-- a word is a constant where it is a number of at most 6 digits and of 500 to 200,000, and else none; `figure_in` gives
+-- the number of digits in a width and a range, as the law figures_are_read_by_their_digits of taxi_units says
+abbrev pub constant_of : List ℕ → Option ℕ
+constant_of word = figure_in 1 6 least_constant greatest_constant word
 
 -- a number fits where it is below 2^64, and else there is none
 abbrev pub fitting : ℕ → Option ℕ
@@ -35,15 +28,9 @@ seed_of word =
     if (nat_le 1 (length word) && (nat_le (length word) 20 && digits_at_front word == length word))
     then fitting (digits_value 10 word) else None
 
--- a word is a number of trips where a number was read of it with nothing left, of at most 4 digits and from 1 to 1,000
-abbrev pub trips_in : List ℕ → Option (ℕ × List ℕ) → Option ℕ
-trips_in word None = None
-trips_in word (Some (count, rest)) =
-    if (length rest == 0 && (nat_le (length word) 4 && (nat_le 1 count && nat_le count 1000))) then Some count else None
-
 -- a word is a number of trips where it is a number of at most 4 digits and of 1 to 1,000, and else none
-unfoldable pub trips_of : List ℕ → Option ℕ
-trips_of word = trips_in word (number_at word)
+abbrev pub trips_of : List ℕ → Option ℕ
+trips_of word = figure_in 1 4 1 1000 word
 
 -- a seed and a number of trips are the row `gen`
 abbrev pub gen_of : Option ℕ → Option ℕ → Option Row

@@ -1,17 +1,11 @@
 -- Rules: the years for which offsets are asked.
-use Rattle.std.specs.Prelude.{ℕ, ◌+◌, List, length, Option, Some, None, if◌then◌else◌, nat_le, ◌&&◌, ◌==◌}
-use Rattle.taxi_units.specs.Number.{number_at}
+use Rattle.std.specs.Prelude.{ℕ, ◌+◌, List, Option, Some, None, if◌then◌else◌, nat_le, ◌&&◌}
+use Rattle.taxi_units.specs.Number.{figure_in}
 
--- a word is a year where a number was read of it with nothing left, of four digits and from 2000 to 2199
-abbrev pub year_in : List ℕ → Option (ℕ × List ℕ) → Option ℕ
-year_in word None = None
-year_in word (Some (year, rest)) =
-    if (length rest == 0 && (length word == 4 && (nat_le 2000 year && nat_le year 2199))) then Some year else None
-
--- a word is a year where it is four digits and a number of 2000 to 2199, and else none; `number_at` gives the number
--- and what stands after it, as the law numbers_are_read_by_their_digits of taxi_units says
-unfoldable pub year_of : List ℕ → Option ℕ
-year_of word = year_in word (number_at word)
+-- a word is a year where it is four digits and a number of 2000 to 2199, and else none; `figure_in` gives the number of
+-- digits in a width and a range, as the law figures_are_read_by_their_digits of taxi_units says
+abbrev pub year_of : List ℕ → Option ℕ
+year_of word = figure_in 4 4 2000 2199 word
 
 -- two years are the bounds of the years that are asked for where there are at most fifteen, the first one to the last
 abbrev pub years_in : Option ℕ → Option ℕ → Option (ℕ × ℕ)

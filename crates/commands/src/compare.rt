@@ -5,8 +5,9 @@ ghost use Rattle.tariff_compare.specs.DifferenceTexts.{comparison_text};
 ghost use Rattle.tariff_compare.specs.Differences.{difference_of};
 ghost use Rattle.tariff_syntax.specs.Tree.{tree_of};
 ghost use Rattle.commands.specs.Carried.{Carries};
-ghost use Rattle.commands.specs.Compare.{HasTariff, compare_command};
+ghost use Rattle.commands.specs.Compare.{compare_command};
 ghost use Rattle.commands.specs.CompareSteps.{IsCompared, IsNotCompared, ended_comparing, ended_for_other, ended_uncompared};
+ghost use Rattle.commands.specs.Tariffs.{HasTariff};
 
 use crate::ending::{Ended, refused_by};
 use crate::pieces::print_text;

@@ -7,14 +7,13 @@ ghost use Rattle.taxi_units.specs.Reading.{GivesSame};
 ghost use Rattle.shift_book.specs.Reading.{driver_of};
 ghost use Rattle.commands.specs.Words.{constant_of, fitting, row_of, seed_of, signs_on, trips_of};
 ghost use Rattle.commands.specs.Words as spec;
-ghost use Rattle.taxi_units.specs.Words.{is_word};
 
 use crate::years::Years;
 use arrayvec::ArrayVec;
 use drive_modes::{Constant, GREATEST_CONSTANT, LEAST_CONSTANT};
 use shift_book::read_driver;
 use std::marker::Model;
-use taxi_units::number_at;
+use taxi_units::{figure_in, is_word};
 
 /// How many trips a generated drive has: 1 to 1,000.
 #[derive(Clone, Copy)]
@@ -84,20 +83,11 @@ pub enum Row {
 }
 
 /// The constant that a word is: 1 to 6 digits, 500 to 200,000.
-#[tactic(auto, unfolding(crate::specs::Words::constant_of))]
 fn constant(word: &[u8]) -> Option<Constant>
     ensures { GivesSame result (constant_of word.now) }
 {
-    let (k, rest) = number_at(word)?;
-    if rest.is_empty()
-        && word.len() <= 6
-        && LEAST_CONSTANT as u64 <= k
-        && k <= GREATEST_CONSTANT as u64
-    {
-        Constant::new(k as u32).ok()
-    } else {
-        None
-    }
+    let k = figure_in(word, 1, 6, LEAST_CONSTANT as u64, GREATEST_CONSTANT as u64)?;
+    Constant::new(k as u32).ok()
 }
 
 /// Whether a word is of digits alone.
@@ -141,25 +131,13 @@ fn seed(word: &[u8]) -> Option<u64>
 }
 
 /// The number of trips that a word is: 1 to 4 digits, 1 to 1,000.
-#[tactic(auto, unfolding(crate::specs::Words::trips_of))]
 fn trip_count(word: &[u8]) -> Option<Trips>
     ensures { GivesSame result (trips_of word.now) }
 {
-    let (count, rest) = number_at(word)?;
-    if rest.is_empty() && word.len() <= 4 && 1 <= count && count <= 1000 {
-        Some(Trips {
-            count: count as u32,
-        })
-    } else {
-        None
-    }
-}
-
-/// Whether a word is this one.
-fn is_word(word: &[u8], name: &[u8]) -> bool
-    ensures { result ≡ is_word word.now name.now }
-{
-    word == name
+    let count = figure_in(word, 1, 4, 1, 1000)?;
+    Some(Trips {
+        count: count as u32,
+    })
 }
 
 /// The command of one word.

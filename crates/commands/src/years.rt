@@ -5,7 +5,7 @@ ghost use Rattle.taxi_units.specs.Reading.{GivesSame};
 ghost use Rattle.commands.specs.Years.{year_of, years_of};
 
 use std::marker::Model;
-use taxi_units::number_at;
+use taxi_units::figure_in;
 
 /// The first and the last of some years: at most fifteen, of 2000 to 2199.
 #[derive(Clone, Copy)]
@@ -28,17 +28,12 @@ impl Model for Years {
 }
 
 /// The year that a word is: four digits, 2000 to 2199.
-#[tactic(auto, unfolding(crate::specs::Years::year_of))]
 fn year(word: &[u8]) -> Option<u16>
     ensures value { GivesSame result (year_of word.now) }
     ensures range { IfSome result (λ year. (2000 ≤ year) × (year ≤ 2199)) }
 {
-    let (year, rest) = number_at(word)?;
-    if rest.is_empty() && word.len() == 4 && 2000 <= year && year <= 2199 {
-        Some(year as u16)
-    } else {
-        None
-    }
+    let year = figure_in(word, 4, 4, 2000, 2199)?;
+    Some(year as u16)
 }
 
 impl Years {

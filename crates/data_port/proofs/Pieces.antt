@@ -293,7 +293,7 @@ module _ (known told : Type 0) (durable : Durable) (seal : Seal) (port : Standin
   serves taken rest' printed' reached ends shown = record {
     taken = taken;
     ends = ends;
-    printed = λ t. shown t ∙ ap (λ (rs : List Request). before ++ replies durable seal rs) (sym ends.requests_are);
+    printed = λ t. shown t ∙ ap (λ (rs : List Request). before ++ replies durable seal rs) (sym ends.given_is);
   }
 
   pub served_long : left ≡ 0 → known → ServesTo told durable seal stream rest before printed Endless

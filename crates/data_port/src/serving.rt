@@ -19,11 +19,8 @@ use arrayvec::ArrayVec;
 use outside::{Board, Failed, Files, STORE_SIZE};
 use seal_record::Seal;
 use std::sync::ledger::Ledger;
-use taxi_units::{Line, Steps};
+use taxi_units::{Line, STREAM_LIMIT, Steps};
 use totals_record::Durable;
-
-/// How many bytes of a stream are taken at most: 2^40.
-const LIMIT: u64 = 1 << 40;
 
 /// Why a stream of requests wasn't served to its end.
 #[derive(Clone, Copy, Debug, PartialEq, Eq)]
@@ -70,7 +67,7 @@ pub fn serve<F: Files, B: Board<STORE_SIZE, L>, L: Ledger>(
 {
     let mut port = Port::new();
     let mut piece = [0; 512];
-    let mut left = LIMIT;
+    let mut left = STREAM_LIMIT;
     while left > 0 {
         let most = left.min(512) as usize;
         let count = match read_piece(files, word, most, &mut piece) {

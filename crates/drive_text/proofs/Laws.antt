@@ -5,7 +5,7 @@ use Rattle.taxi_units.specs.declared.event.Event.{Event}
 use Rattle.drive_text.specs.declared.run.Run.{Run}
 use Rattle.drive_text.specs.declared.run.Run.TheVariants.{One}
 use Rattle.drive_text.specs.Drive.{first_bad, bad_at_end, runs_in, runs_after, events_in}
-use Rattle.drive_text.specs.Ending.{drive_limit, Whole, BadAt, Endless, ReachesEnd}
+use Rattle.drive_text.specs.Ending.{stream_limit, Whole, BadAt, Endless, ReachesEnd}
 use Rattle.drive_text.specs.Fields.{line_runs}
 use Rattle.drive_text.specs.Lines.{ended_lines, unfinished_line, text_of, IsOneLine}
 use Rattle.drive_text.specs.Ranges.{IsInRange}
@@ -82,14 +82,14 @@ pub written_line_is_good : (b : List ℕ) (event : Event) → IsInRange event �
 written_line_is_good = back.bad_at_end-event_text
 
 -- of bytes_tell_how_a_drive_ends
-pub whole_drive_ends : (drive : List ℕ) → length drive < drive_limit → bad_at_end drive ≡ None → ReachesEnd drive [] Whole (events_in drive)
+pub whole_drive_ends : (drive : List ℕ) → length drive < stream_limit → bad_at_end drive ≡ None → ReachesEnd drive drive [] Whole
 whole_drive_ends = ends.whole
 
-pub unfinished_drive_ends : (drive : List ℕ) (line : ℕ) → length drive < drive_limit → bad_at_end drive ≡ Some line → ReachesEnd drive [] (BadAt line) (events_in drive)
+pub unfinished_drive_ends : (drive : List ℕ) (line : ℕ) → length drive < stream_limit → bad_at_end drive ≡ Some line → ReachesEnd drive drive [] (BadAt line)
 unfinished_drive_ends = ends.unfinished
 
-pub bad_drive_ends : (taken left : List ℕ) (line : ℕ) → length taken ≤ drive_limit → first_bad taken ≡ Some line → ReachesEnd (taken ++ left) left (BadAt line) (events_in taken)
+pub bad_drive_ends : (taken left : List ℕ) (line : ℕ) → length taken ≤ stream_limit → first_bad taken ≡ Some line → ReachesEnd (taken ++ left) taken left (BadAt line)
 bad_drive_ends = ends.bad
 
-pub endless_drive_ends : (taken left : List ℕ) → length taken ≡ drive_limit → first_bad taken ≡ None → ReachesEnd (taken ++ left) left Endless (events_in taken)
+pub endless_drive_ends : (taken left : List ℕ) → length taken ≡ stream_limit → first_bad taken ≡ None → ReachesEnd (taken ++ left) taken left Endless
 endless_drive_ends = ends.endless

@@ -1,7 +1,7 @@
 //! How drives end.
 ghost use Rattle.std.specs.Prelude.{◌≡◌, ℕ, ◌<◌, ◌≤◌, ◌++◌, [], List, length, None, Some};
-ghost use Rattle.drive_text.specs.Drive.{events_in, first_bad, bad_at_end};
-ghost use Rattle.drive_text.specs.Ending.{drive_limit, Whole, BadAt, Endless, ReachesEnd};
+ghost use Rattle.drive_text.specs.Drive.{first_bad, bad_at_end};
+ghost use Rattle.drive_text.specs.Ending.{stream_limit, Whole, BadAt, Endless, ReachesEnd};
 
 /// What bytes of a drive that were taken tell of its end, with what is left behind them. A drive that was
 /// taken whole, below the limit of 2^40 bytes, ends whole, or at the line that is bad there. A line that
@@ -9,12 +9,12 @@ ghost use Rattle.drive_text.specs.Ending.{drive_limit, Whole, BadAt, Endless, Re
 /// many bytes were taken as the limit, without a bad line, the end isn't seen. The limit is this project's
 /// own.
 pub fn bytes_tell_how_a_drive_ends()
-    ensures whole { (drive : List ℕ) → length drive < drive_limit → bad_at_end drive ≡ None
-        → ReachesEnd drive [] Whole (events_in drive) }
-    ensures unfinished { (drive : List ℕ) (line : ℕ) → length drive < drive_limit → bad_at_end drive ≡ Some line
-        → ReachesEnd drive [] (BadAt line) (events_in drive) }
-    ensures bad { (taken left : List ℕ) (line : ℕ) → length taken ≤ drive_limit → first_bad taken ≡ Some line
-        → ReachesEnd (taken ++ left) left (BadAt line) (events_in taken) }
-    ensures endless { (taken left : List ℕ) → length taken ≡ drive_limit → first_bad taken ≡ None
-        → ReachesEnd (taken ++ left) left Endless (events_in taken) }
+    ensures whole { (drive : List ℕ) → length drive < stream_limit → bad_at_end drive ≡ None
+        → ReachesEnd drive drive [] Whole }
+    ensures unfinished { (drive : List ℕ) (line : ℕ) → length drive < stream_limit → bad_at_end drive ≡ Some line
+        → ReachesEnd drive drive [] (BadAt line) }
+    ensures bad { (taken left : List ℕ) (line : ℕ) → length taken ≤ stream_limit → first_bad taken ≡ Some line
+        → ReachesEnd (taken ++ left) taken left (BadAt line) }
+    ensures endless { (taken left : List ℕ) → length taken ≡ stream_limit → first_bad taken ≡ None
+        → ReachesEnd (taken ++ left) taken left Endless }
 {}

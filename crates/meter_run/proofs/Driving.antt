@@ -2,7 +2,7 @@
 use Rattle.std.proofs.Common.{◌≡◌, ℕ, ◌+◌, ◌≤◌, ◌<◌, List, [], ◌++◌, length, Option, Some, None, IfSome, Result, Ok, refl, sym, ap, subst, ◌∙◌, append_assoc, arith, length-append, flat_map}
 use Rattle.taxi_units.specs.declared.event.Event.{Event}
 use Rattle.drive_text.specs.Drive.{events_in, runs_after}
-use Rattle.drive_text.specs.Ending.{drive_limit}
+use Rattle.drive_text.specs.Ending.{stream_limit}
 use Rattle.drive_text.specs.Runs.{run_events}
 use Rattle.drive_text.specs.declared.run.Run.{Run}
 use Rattle.drive_text.proofs.Laws.{events_are_added}
@@ -31,7 +31,7 @@ so_far_none told place drive carried steps stands none h = record {
 pub record Gave (told : Type 0) (drive rest' given : List ℕ) (runs : List Run) : Type 0 where
   pub fed : List ℕ
   pub ahead : List ℕ
-  pub few : length ((given ++ fed) ++ ahead) ≤ drive_limit
+  pub few : length ((given ++ fed) ++ ahead) ≤ stream_limit
   pub runs_are : runs ≡ runs_after given fed
   pub split : told → drive ≡ (given ++ fed) ++ (ahead ++ rest')
 

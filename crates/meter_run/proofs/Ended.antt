@@ -6,7 +6,7 @@ use Rattle.taxi_units.specs.declared.event.Event.{Event}
 use Rattle.tariff_compile.specs.Tables.{TableParts}
 use Rattle.seal_record.specs.declared.seal.Seal.{Seal}
 use Rattle.drive_text.specs.Drive.{events_in}
-use Rattle.drive_text.specs.Ending.{DriveEnd, Whole, BadAt, Endless, IsSplit, ReachesEnd, drive_limit, events_of}
+use Rattle.drive_text.specs.Ending.{StreamEnd, Whole, BadAt, Endless, IsSplit, ReachesEnd, stream_limit, events_of}
 use Rattle.totals_record.specs.States.{first_state}
 use Rattle.meter_states.specs.Run.{actions_of}
 use Rattle.meter_states.specs.Setting.{Setting, IsSettingOf}
@@ -45,8 +45,8 @@ read_failed stop r is (inl same) = let stop_is : stop ≡ stops.ReadFault = cc i
 read_failed stop r is (inr wrong) = absurd (let bad : false ≡ true = wrong in cc)
 
 -- the events of the bytes that were taken are all of those that they have
-pub events_taken : (taken : List ℕ) → length taken ≤ drive_limit → events_of taken ≡ events_in taken
-events_taken taken few = ap events_in (take_all drive_limit taken few)
+pub events_taken : (taken : List ℕ) → length taken ≤ stream_limit → events_of taken ≡ events_in taken
+events_taken taken few = ap events_in (take_all stream_limit taken few)
 
 module _ (told : Type 0) (tables : TableParts) (seal : Seal) (drive left before now : List ℕ) where
   -- what these events show was printed
@@ -56,11 +56,11 @@ module _ (told : Type 0) (tables : TableParts) (seal : Seal) (drive left before 
   abbrev pub ShownSome : List Event → Type 0
   ShownSome events = told → (s : Setting) → IsSettingOf s tables seal → Begins before now (shown_texts (actions_of s first_state events))
 
-  to_end : (taken : List ℕ) (reached : DriveEnd) → ReachesEnd drive left reached (events_in taken) → Shown (events_in taken) → RunsTo told tables seal drive left before now reached
-  to_end taken reached h shown = record { end_is = h.end_is; tells = h.tells; printed = subst Shown (sym h.events_are) shown }
+  to_end : (taken : List ℕ) (reached : StreamEnd) → ReachesEnd drive taken left reached → Shown (events_in taken) → RunsTo told tables seal drive left before now reached
+  to_end taken reached h shown = record { end_is = h.ends.end_is; tells = record { taken = taken; split = h.ends.split; shows = h.ends.shows }; printed = subst Shown (sym h.given_is) shown }
 
   -- it stopped, and the supply dropped
-  pub ends : (taken : List ℕ) (stop : Stop) → length taken ≤ drive_limit → IsSplit drive taken left → EndsBy drive taken left stop → Shown (events_in taken)
+  pub ends : (taken : List ℕ) (stop : Stop) → length taken ≤ stream_limit → IsSplit drive taken left → EndsBy drive taken left stop → Shown (events_in taken)
       → RunsDrive told tables seal drive left before now (answer_of stop)
   ends taken stops.Whole few split h shown = to_end taken Whole h shown
   ends taken (stops.BadLine line) few split h shown = to_end taken (BadAt line) h shown
@@ -68,7 +68,7 @@ module _ (told : Type 0) (tables : TableParts) (seal : Seal) (drive left before 
   ends taken stops.ReadFault few split h shown = record { taken = taken; split = split; stands = h; printed = subst Shown (sym (events_taken taken few)) shown }
 
   -- the board failed
-  pub breaks : (taken : List ℕ) → length taken ≤ drive_limit → IsSplit drive taken left → ShownSome (events_in taken) → RunsDrive told tables seal drive left before now {T = Unit {0}} (Err faults.BoardFault)
+  pub breaks : (taken : List ℕ) → length taken ≤ stream_limit → IsSplit drive taken left → ShownSome (events_in taken) → RunsDrive told tables seal drive left before now {T = Unit {0}} (Err faults.BoardFault)
   breaks taken few split shown = record { taken = taken; split = split; stands = tt; printed = subst ShownSome (sym (events_taken taken few)) shown }
 
 -- what a test tells where it holds doesn't hold where the test fails

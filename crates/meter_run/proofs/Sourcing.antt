@@ -2,7 +2,7 @@
 use Rattle.std.proofs.Common.{◌≡◌, ◌≢◌, ℕ, ◌+◌, ◌-◌, ◌^◌, ◌≤◌, ◌<◌, List, [], ◌++◌, length, take, drop, Some, None, false, refl, sym, ap, subst, ◌∙◌, append_assoc, arith, length-append, length-take, length-drop}
 use Rattle.std.proofs.lemmas.List.{append-nil, take-append-drop, drop-take, drop-drop, drop_all}
 use Rattle.drive_text.specs.Drive.{bad_at_end, events_in, runs_after, runs_in}
-use Rattle.drive_text.specs.Ending.{drive_limit, ReachesEnd, BadAt}
+use Rattle.drive_text.specs.Ending.{stream_limit, ReachesEnd, BadAt}
 use Rattle.drive_text.specs.Ending as ends
 use Rattle.drive_text.specs.Reading.{BreaksIn, HasTaken, Reading, TakesTo}
 use Rattle.drive_text.specs.declared.run.Run.{Run}
@@ -43,13 +43,13 @@ given_fed old new given rest runs n h takes some read going ahead left = record 
 
 pub stopped_fed : (old : Progress) (given rest : List ℕ) (runs : List Run) (line : ℕ) → HasGiven old given → BreaksIn given old.ahead [] runs line → StopsBy (Unit {0}) old rest rest given runs (BadLine line)
 stopped_fed old given rest runs line h breaks =
-    let few : length (given ++ old.ahead) ≤ drive_limit = omega (arith, h.count, length-append given old.ahead) in
+    let few : length (given ++ old.ahead) ≤ stream_limit = omega (arith, h.count, length-append given old.ahead) in
     record {
       fed = old.ahead;
       few = few;
       runs_are = breaks.runs;
       split = λ told. record { bytes = sym (append_assoc given old.ahead rest) };
-      ends = λ told. subst (λ (drive : List ℕ). ReachesEnd drive rest (BadAt line) (events_in (given ++ old.ahead))) (append_assoc given old.ahead rest)
+      ends = λ told. subst (λ (drive : List ℕ). ReachesEnd drive (given ++ old.ahead) rest (BadAt line)) (append_assoc given old.ahead rest)
           (bad_drive_ends (given ++ old.ahead) rest line few breaks.bad);
     }
 
@@ -80,7 +80,7 @@ fed_last old reader piece before runs given rest line h same is none breaks =
 
 -- ---- nothing is ahead, and no more is read
 
-stops_now : (told : Type 0) (old : Progress) (rest rest' given : List ℕ) (stop : Stop) → old.ahead ≡ [] → length given ≤ drive_limit → (told → rest' ≡ rest)
+stops_now : (told : Type 0) (old : Progress) (rest rest' given : List ℕ) (stop : Stop) → old.ahead ≡ [] → length given ≤ stream_limit → (told → rest' ≡ rest)
     → (told → EndsBy (given ++ rest) given rest' stop) → StopsBy told old rest rest' given [] stop
 stops_now told old rest rest' given stop none few kept ends = record {
   fed = [];
@@ -95,7 +95,7 @@ stops_now told old rest rest' given stop none few kept ends = record {
 
 pub stops_long : (told : Type 0) (old : Progress) (rest given : List ℕ) → old.ahead ≡ [] → old.left ≡ 0 → HasGiven old given → StopsBy told old rest rest given [] TooLong
 stops_long told old rest given none full h =
-    let all : length given ≡ drive_limit = omega (arith, h.count, ap length none, full) in
+    let all : length given ≡ stream_limit = omega (arith, h.count, ap length none, full) in
     stops_now told old rest rest given TooLong none (omega (arith, all)) (λ t. refl) (λ t. endless_drive_ends given rest all (going_reader old.reading given h.read h.going))
 
 pub stops_fault : (told : Type 0) (old : Progress) (rest rest' given : List ℕ) → old.ahead ≡ [] → 0 < old.left → (told → rest' ≡ rest) → HasGiven old given → StopsBy told old rest rest' given [] ReadFault
@@ -103,10 +103,10 @@ stops_fault told old rest rest' given none some kept h =
     stops_now told old rest rest' given ReadFault none (omega (arith, h.count)) kept
     (λ t. record { good = going_reader old.reading given h.read h.going; few = omega (arith, h.count, some) })
 
-at_end : (told : Type 0) (given rest rest' : List ℕ) → (told → rest ≡ []) → (told → rest' ≡ []) → told → (reached : ends.DriveEnd) → ReachesEnd given [] reached (events_in given) → ReachesEnd (given ++ rest) rest' reached (events_in given)
+at_end : (told : Type 0) (given rest rest' : List ℕ) → (told → rest ≡ []) → (told → rest' ≡ []) → told → (reached : ends.StreamEnd) → ReachesEnd given given [] reached → ReachesEnd (given ++ rest) given rest' reached
 at_end told given rest rest' over over' t reached h =
-    subst (λ (left : List ℕ). ReachesEnd (given ++ rest) left reached (events_in given)) (sym (over' t))
-    (subst (λ (drive : List ℕ). ReachesEnd drive [] reached (events_in given)) (sym (ap (λ (xs : List ℕ). given ++ xs) (over t) ∙ append-nil given)) h)
+    subst (λ (left : List ℕ). ReachesEnd (given ++ rest) given left reached) (sym (over' t))
+    (subst (λ (drive : List ℕ). ReachesEnd drive given [] reached) (sym (ap (λ (xs : List ℕ). given ++ xs) (over t) ∙ append-nil given)) h)
 
 -- at the end of the file
 pub stops_end : (told : Type 0) (old : Progress) (rest rest' given : List ℕ) (stop : Stop) → old.ahead ≡ [] → 0 < old.left → (told → rest ≡ []) → (told → rest' ≡ [])

@@ -12,7 +12,7 @@ use Rattle.tariff_compile.specs.Tables.{IsCompiled, TableParts}
 use Rattle.seal_record.specs.Ranges.{IsSeal}
 use Rattle.seal_record.specs.declared.seal.Seal.{Seal}
 use Rattle.drive_text.specs.Drive.{events_in}
-use Rattle.drive_text.specs.Ending.{DriveEnd, Whole, BadAt, Endless, IsSplit, ReachesEnd, drive_end, drive_limit}
+use Rattle.drive_text.specs.Ending.{StreamEnd, Whole, BadAt, Endless, IsSplit, ReachesEnd, drive_end, stream_limit}
 use Rattle.slot_store.specs.Slots.{slot_at}
 use Rattle.slot_store.specs.declared.pair.Place.{Place}
 use Rattle.totals_record.specs.Ranges.{IsDurable}
@@ -69,8 +69,8 @@ leaves_both B a b one two h k = record {
 -- a drive without a bad line, of which each read went well, is done with
 pub done_whole : (drive left taken : List ℕ) (stop : Stop) → EndsBy drive taken left stop → drive_end drive ≡ Whole → (stop ≡ stops.ReadFault → ⊥) → IsOk (answer_of stop)
 done_whole drive left taken stops.Whole h whole calm = refl
-done_whole drive left taken (stops.BadLine line) h whole calm = absurd (let bad : Whole ≡ BadAt line = sym whole ∙ h.end_is in cc)
-done_whole drive left taken stops.TooLong h whole calm = absurd (let bad : Whole ≡ Endless = sym whole ∙ h.end_is in cc)
+done_whole drive left taken (stops.BadLine line) h whole calm = absurd (let bad : Whole ≡ BadAt line = sym whole ∙ h.ends.end_is in cc)
+done_whole drive left taken stops.TooLong h whole calm = absurd (let bad : Whole ≡ Endless = sym whole ∙ h.ends.end_is in cc)
 done_whole drive left taken stops.ReadFault h whole calm = absurd (calm refl)
 
 -- tables that were compiled with the seal's constant have a setting
@@ -216,22 +216,22 @@ module _ {D L : Type 0} {N : ℕ} (B : Ghosts D N L) (tables : TableParts) (seal
     abbrev DonePart : List Event → Type 0
     DonePart events = FromOpening B tables seal a c (λ s d. HasStopped B tables seal a c d (all_deeds s d events))
 
-    up_to : (taken : List ℕ) (reached : DriveEnd) → ReachesEnd drive left reached (events_in taken) → DoneAll (events_in taken) → RunsUpTo B tables seal a c drive left reached
-    up_to taken reached h done = record { end_is = h.end_is; tells = h.tells; runs = subst DoneAll (sym h.events_are) done }
+    up_to : (taken : List ℕ) (reached : StreamEnd) → ReachesEnd drive taken left reached → DoneAll (events_in taken) → RunsUpTo B tables seal a c drive left reached
+    up_to taken reached h done = record { end_is = h.ends.end_is; tells = record { taken = taken; split = h.ends.split; shows = h.ends.shows }; runs = subst DoneAll (sym h.given_is) done }
 
-    run_ends : (taken : List ℕ) (stop : Stop) → length taken ≤ drive_limit → IsSplit drive taken left → EndsBy drive taken left stop → DoneAll (events_in taken) → EndsRun B tables seal a c drive left (answer_of stop)
+    run_ends : (taken : List ℕ) (stop : Stop) → length taken ≤ stream_limit → IsSplit drive taken left → EndsBy drive taken left stop → DoneAll (events_in taken) → EndsRun B tables seal a c drive left (answer_of stop)
     run_ends taken stops.Whole few split h done = up_to taken Whole h done
     run_ends taken (stops.BadLine line) few split h done = up_to taken (BadAt line) h done
     run_ends taken stops.TooLong few split h done = up_to taken Endless h done
     run_ends taken stops.ReadFault few split h done = record { taken = taken; split = split; stands = h; printed = subst DoneAll (sym (events_taken taken few)) done }
 
-    run_breaks : (taken : List ℕ) → length taken ≤ drive_limit → IsSplit drive taken left → DonePart (events_in taken) → EndsRun B tables seal a c drive left {T = Unit {0}} (Err faults.BoardFault)
+    run_breaks : (taken : List ℕ) → length taken ≤ stream_limit → IsSplit drive taken left → DonePart (events_in taken) → EndsRun B tables seal a c drive left {T = Unit {0}} (Err faults.BoardFault)
     run_breaks taken few split part = record { taken = taken; split = split; stands = tt; printed = subst DonePart (sym (events_taken taken few)) part }
 
-    points_done : (taken : List ℕ) → length taken ≤ drive_limit → IsSplit drive taken left → DoneAll (events_in taken) → LeavesPoints B tables seal a c drive left
+    points_done : (taken : List ℕ) → length taken ≤ stream_limit → IsSplit drive taken left → DoneAll (events_in taken) → LeavesPoints B tables seal a c drive left
     points_done taken few split done = record { taken = taken; split = split; cuts = λ told s d is opens. (subst DoneAll (sym (events_taken taken few)) done told s d is opens).cuts }
 
-    points_part : (taken : List ℕ) → length taken ≤ drive_limit → IsSplit drive taken left → DonePart (events_in taken) → LeavesPoints B tables seal a c drive left
+    points_part : (taken : List ℕ) → length taken ≤ stream_limit → IsSplit drive taken left → DonePart (events_in taken) → LeavesPoints B tables seal a c drive left
     points_part taken few split part = record { taken = taken; split = split; cuts = λ told s d is opens. (subst DonePart (sym (events_taken taken few)) part told s d is opens).cuts }
 
   -- what a run came to, and what a cut of it leaves

@@ -2,8 +2,10 @@
 use Rattle.std.specs.Prelude.{◌≡◌, ℕ, ◌+◌, ◌*◌, ◌≤◌, List, ◌++◌, length, Result, Ok, Err}
 use Rattle.outside.specs.Printing.{Begins}
 use Rattle.taxi_units.specs.declared.event.Event.{Event}
+use Rattle.taxi_units.specs.Streams.{StopsAfter}
 use Rattle.drive_text.specs.Drive.{events_in}
-use Rattle.drive_text.specs.Ending.{DriveEnd, Whole, BadAt, Endless, IsGoing, IsSplit, TellsEnd, drive_end, drive_limit}
+use Rattle.drive_text.specs.Ending.{StreamEnd, Whole, BadAt, Endless, IsGoing, IsSplit, TellsEnd, drive_end}
+use Rattle.drive_text.specs.Ending.{stream_limit}
 use Rattle.tariff_compile.specs.Tables.{TableParts}
 use Rattle.seal_record.specs.declared.seal.Seal.{Seal}
 use Rattle.meter_states.specs.Setting.{Setting, IsSettingOf}
@@ -26,7 +28,7 @@ IsBounded before now events = now ≤ before + 64 * length events
 pub record TakesDrive (told : Type 0) (drive left : List ℕ) (stop : Stop) (done : List Event → Type 0)
     (before now : ℕ) : Type 0 where
   pub taken : List ℕ
-  pub few : length taken ≤ drive_limit
+  pub few : length taken ≤ stream_limit
   pub split : told → IsSplit drive taken left
   pub ends : told → EndsBy drive taken left stop
   pub carried : done (events_in taken)
@@ -36,7 +38,7 @@ pub record TakesDrive (told : Type 0) (drive left : List ℕ) (stop : Stop) (don
 pub record BreaksDrive (told : Type 0) (drive left : List ℕ) (broken : List Event → Type 0)
     (before now : ℕ) : Type 0 where
   pub taken : List ℕ
-  pub few : length taken ≤ drive_limit
+  pub few : length taken ≤ stream_limit
   pub split : told → IsSplit drive taken left
   pub broke_off : broken (events_in taken)
   pub bounded : IsBounded before now (events_in taken)
@@ -48,17 +50,9 @@ pub record BreaksDrive (told : Type 0) (drive left : List ℕ) (broken : List Ev
 -- most 2^40, and if the drive is told they are those that were taken of it
 pub record IsBoundedBy (spare : ℕ) (told : Type 0) (drive left : List ℕ) (before now : ℕ) : Type 0 where
   pub taken : List ℕ
-  pub few : length taken ≤ drive_limit
+  pub few : length taken ≤ stream_limit
   pub split : told → IsSplit drive taken left
   pub bound : now ≤ before + spare + 64 * length (events_in taken) + drop_steps (events_in taken)
-
--- a call stopped after some bytes of the drive had been taken, in a state and with a printed text that `state` and
--- `shown` ask of the bytes taken
-pub record StopsAfter (drive left : List ℕ) (state shown : List ℕ → Type 0) : Type 0 where
-  pub taken : List ℕ
-  pub split : IsSplit drive taken left
-  pub stands : state taken
-  pub printed : shown taken
 
 module _ (told : Type 0) (tables : TableParts) (seal : Seal) (drive left before now : List ℕ) where
   -- a text is printed where it is what the bytes that were taken show, where the text is told
@@ -71,7 +65,7 @@ module _ (told : Type 0) (tables : TableParts) (seal : Seal) (drive left before 
 
   -- a dry run came to an end of the drive where the drive has that end, the bytes that were taken tell it, and what the
   -- drive shows was printed
-  pub record RunsTo (reached : DriveEnd) : Type 0 where
+  pub record RunsTo (reached : StreamEnd) : Type 0 where
     pub end_is : drive_end drive ≡ reached
     pub tells : TellsEnd drive left
     pub printed : Printed drive

@@ -1,7 +1,8 @@
 -- Rules: a run on the store, what it does, how it ends, and what a cut of the power leaves of it.
 use Rattle.std.specs.Prelude.{◌≡◌, ℕ, List, ◌++◌, Result, Ok, Err}
 use Rattle.std.specs.Option.{ForSome}
-use Rattle.drive_text.specs.Ending.{DriveEnd, Whole, BadAt, Endless, IsGoing, IsSplit, TellsEnd, drive_end, events_of}
+use Rattle.taxi_units.specs.Streams.{StopsAfter}
+use Rattle.drive_text.specs.Ending.{StreamEnd, Whole, BadAt, Endless, IsGoing, IsSplit, TellsEnd, drive_end, events_of}
 use Rattle.outside.specs.Runs.{LeavesOnly}
 use Rattle.outside.specs.declared.board.Board.{Ghosts}
 use Rattle.seal_record.specs.declared.seal.Seal.{Seal}
@@ -14,7 +15,6 @@ use Rattle.meter_states.specs.Fits.{Fits}
 use Rattle.meter_states.specs.Run.{actions_of}
 use Rattle.meter_states.specs.Setting.{Setting, IsSettingOf}
 use Rattle.meter_run.specs.Deeds.{Deed, after_deeds, changes_of, deeds_of, texts}
-use Rattle.meter_run.specs.Drives.{StopsAfter}
 use Rattle.meter_run.specs.OnStore.{HasBeside}
 use Rattle.meter_run.specs.Points.{IsCutOfDeeds}
 use Rattle.meter_run.specs.declared.fault.RunFault.{RunFault}
@@ -70,7 +70,7 @@ module _ {D L : Type 0} {N : ℕ} (B : Ghosts D N L) (tables : TableParts) (seal
 
   -- a run is up to an end of the drive where the drive has that end, the bytes that were taken tell it, and the run
   -- over the drive is whole
-  pub record RunsUpTo (drive left : List ℕ) (reached : DriveEnd) : Type 0 where
+  pub record RunsUpTo (drive left : List ℕ) (reached : StreamEnd) : Type 0 where
     pub end_is : drive_end drive ≡ reached
     pub tells : TellsEnd drive left
     pub runs : RunsWhole drive

@@ -1,7 +1,7 @@
 -- Rules: where a source of a drive stands, and what it gives.
 use Rattle.std.specs.Prelude.{◌≡◌, ℕ, ◌+◌, ◌<◌, ◌≤◌, List, ◌++◌, length, false}
 use Rattle.drive_text.specs.Drive.{events_in, runs_after}
-use Rattle.drive_text.specs.Ending.{IsGoing, IsSplit, ReachesEnd, drive_limit}
+use Rattle.drive_text.specs.Ending.{IsGoing, IsSplit, ReachesEnd, stream_limit}
 use Rattle.drive_text.specs.Ending as ends
 use Rattle.drive_text.specs.Reading.{Reading, HasTaken}
 use Rattle.drive_text.specs.declared.run.Run.{Run}
@@ -19,7 +19,7 @@ pub record Progress : Type 0 where
 pub record HasGiven (progress : Progress) (given : List ℕ) : Type 0 where
   pub read : HasTaken progress.reading given
   pub going : progress.reading.failed ≡ false
-  pub count : length given + (length progress.ahead + progress.left) ≡ drive_limit
+  pub count : length given + (length progress.ahead + progress.left) ≡ stream_limit
 
 -- a source gives the runs of further bytes, of which there is at least one, and which come from the front of what was
 -- left, where that is told
@@ -32,9 +32,9 @@ pub record GivesRuns (told : Type 0) (old new : Progress) (rest rest' given : Li
 
 -- a reading of a drive ends for a reason where the bytes that were taken tell the drive's end, or a read failed
 abbrev pub EndsBy : (drive taken left : List ℕ) → Stop → Type 0
-EndsBy drive taken left Whole = ReachesEnd drive left ends.Whole (events_in taken)
-EndsBy drive taken left (BadLine line) = ReachesEnd drive left (ends.BadAt line) (events_in taken)
-EndsBy drive taken left TooLong = ReachesEnd drive left ends.Endless (events_in taken)
+EndsBy drive taken left Whole = ReachesEnd drive taken left ends.Whole
+EndsBy drive taken left (BadLine line) = ReachesEnd drive taken left (ends.BadAt line)
+EndsBy drive taken left TooLong = ReachesEnd drive taken left ends.Endless
 EndsBy drive taken left ReadFault = IsGoing taken
 
 -- a source is filled where there are bytes ahead, which are the front of what was left, where that is told
@@ -47,7 +47,7 @@ pub record Fills (told : Type 0) (old new : Progress) (rest rest' : List ℕ) : 
 pub record StopsBy (told : Type 0) (old : Progress) (rest rest' given : List ℕ) (runs : List Run)
     (stop : Stop) : Type 0 where
   pub fed : List ℕ
-  pub few : length (given ++ fed) ≤ drive_limit
+  pub few : length (given ++ fed) ≤ stream_limit
   pub runs_are : runs ≡ runs_after given fed
   pub split : told → IsSplit (given ++ (old.ahead ++ rest)) (given ++ fed) rest'
   pub ends : told → EndsBy (given ++ (old.ahead ++ rest)) (given ++ fed) rest' stop

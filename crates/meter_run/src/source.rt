@@ -10,9 +10,7 @@ use arrayvec::ArrayVec;
 use drive_text::{Reader, Run};
 use outside::Files;
 use std::marker::Model;
-
-/// At most 2^40 bytes of a drive are taken.
-const LIMIT: u64 = 1 << 40;
+use taxi_units::STREAM_LIMIT;
 
 /// Why no more of a drive is read.
 #[derive(Clone, Copy, Debug, PartialEq, Eq)]
@@ -64,7 +62,7 @@ impl Source {
             piece: [0; 512],
             from: 0,
             to: 0,
-            left: LIMIT,
+            left: STREAM_LIMIT,
         }
     }
 

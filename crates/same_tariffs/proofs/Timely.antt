@@ -9,7 +9,7 @@ use Rattle.taxi_units.specs.declared.event.Event.TheVariants.{Up, Down, Pulses, 
 use Rattle.taxi_units.specs.declared.event.Event.TheVariants as events
 use Rattle.taxi_units.specs.declared.event.Key.TheVariants.{Hire, Stop, Clear, Position, Zone, Extra}
 use Rattle.drive_text.specs.declared.run.Run.{Run}
-use Rattle.drive_text.specs.Ending.{drive_limit, events_of}
+use Rattle.drive_text.specs.Ending.{stream_limit, events_of}
 use Rattle.drive_text.specs.Fields.{line_runs}
 use Rattle.drive_text.specs.Lines.{ended_lines}
 use Rattle.drive_text.specs.Runs.{interval_events, intervals_events, run_events}
@@ -66,4 +66,4 @@ lines-timely (line ∷ lines) =
 
 pub drives-timely : (drive : List ℕ) → All IsTimely (events_of drive)
 drives-timely drive =
-    lines-timely (take_while (λ line. is_some (line_runs line)) (ended_lines (take drive_limit drive)))
+    lines-timely (take_while (λ line. is_some (line_runs line)) (ended_lines (take stream_limit drive)))

@@ -2,7 +2,7 @@
 use Rattle.std.proofs.Common.{◌≡◌, ℕ, ◌<◌, ◌≤◌, [], ap, length, All, None, arith, length-append}
 use Rattle.std.proofs.lemmas.List.Elements.{All-cons}
 use Rattle.drive_text.specs.Drive.{bad_at_end, events_in, runs_in}
-use Rattle.drive_text.specs.Ending.{drive_limit}
+use Rattle.drive_text.specs.Ending.{stream_limit}
 use Rattle.drive_text.specs.Ranges.{IsRunInRange}
 use Rattle.drive_text.specs.declared.run.Run.TheVariants.{One}
 use Rattle.taxi_units.specs.declared.event.Event.TheVariants.{Up}
@@ -23,7 +23,7 @@ generated_means_its_lines seed trips few =
     let read = lines_read (generated_lines seed trips) [] (lines_in_range seed trips few) nothing_reads.0 in
     rw nothing_reads.1 at read.1
 
-pub generated_is_short : (seed trips : ℕ) → trips ≤ 1000 → length (generated seed trips) < drive_limit
+pub generated_is_short : (seed trips : ℕ) → trips ≤ 1000 → length (generated seed trips) < stream_limit
 generated_is_short seed trips few =
     let others = lines_text (trips_from trips (beginning seed)).lines in
     omega (arith, length-append (line_text (One (Up 1772406000))) others, first_is_short, (trips_in_range seed trips few).1)

@@ -1,7 +1,7 @@
 -- The laws of this crate, as its public empty functions state them.
 use Rattle.std.proofs.Common.{◌≡◌, ◌≢◌, ◌↔◌, ℕ, ◌<◌, ◌≤◌, true, All, List, None, Result, Err, length, map}
 use Rattle.drive_text.specs.Drive.{bad_at_end, runs_in}
-use Rattle.drive_text.specs.Ending.{drive_limit}
+use Rattle.drive_text.specs.Ending.{stream_limit}
 use Rattle.drive_modes.specs.declared.charges.Mode.{Mode}
 use Rattle.meter_states.specs.Charge.{charge_by}
 use Rattle.meter_states.specs.Run.{actions_of}
@@ -37,7 +37,7 @@ generated_drives_mean_their_lines-good = generated_is_good
 pub generated_drives_mean_their_lines-lines : (seed trips : ℕ) → trips ≤ 1000 → runs_in (generated seed trips) ≡ generated_lines seed trips
 generated_drives_mean_their_lines-lines = generated_means_its_lines
 
-pub generated_drives_mean_their_lines-short : (seed trips : ℕ) → trips ≤ 1000 → length (generated seed trips) < drive_limit
+pub generated_drives_mean_their_lines-short : (seed trips : ℕ) → trips ≤ 1000 → length (generated seed trips) < stream_limit
 generated_drives_mean_their_lines-short = generated_is_short
 
 pub expected_hirings_are_the_receipts : (s : Setting) (events : List Event) → map untimed (expected_of s events) ≡ hirings_in 0 (actions_of s first_state events)

@@ -1,7 +1,7 @@
 //! What a generated drive means.
 ghost use Rattle.std.specs.Prelude.{◌≡◌, ℕ, ◌<◌, ◌≤◌, length, None};
 ghost use Rattle.drive_text.specs.Drive.{bad_at_end, events_in, runs_in};
-ghost use Rattle.drive_text.specs.Ending.{drive_limit};
+ghost use Rattle.drive_text.specs.Ending.{stream_limit};
 ghost use Rattle.verify_bench.specs.Generated.{generated, generated_lines};
 
 use crate::writing::Writing;
@@ -25,5 +25,5 @@ pub fn generated_events(seed: u64, trips: u32) -> u64
 pub fn generated_drives_mean_their_lines()
     ensures good { (seed trips : ℕ) → trips ≤ 1000 → bad_at_end (generated seed trips) ≡ None }
     ensures lines { (seed trips : ℕ) → trips ≤ 1000 → runs_in (generated seed trips) ≡ generated_lines seed trips }
-    ensures short { (seed trips : ℕ) → trips ≤ 1000 → length (generated seed trips) < drive_limit }
+    ensures short { (seed trips : ℕ) → trips ≤ 1000 → length (generated seed trips) < stream_limit }
 {}

@@ -2,6 +2,7 @@ use Rattle.std.proofs.Common.{◌≡◌, ◌≢◌, ◌∙◌, ℕ, List, [], �
 use Rattle.std.proofs.lemmas.List.{append-nil}
 use Rattle.drive_text.specs.Runs.{run_events}
 use Rattle.drive_text.specs.declared.run.Run.{Run}
+use Rattle.meter_states.specs.Setting.{setting_by}
 use Rattle.outside.specs.Faults.{Rose}
 use Rattle.seal_record.specs.Reading.{params_read}
 use Rattle.tariff_syntax.specs.Tree.{tree_of}
@@ -9,8 +10,9 @@ use Rattle.taxi_units.specs.declared.event.Event.{Event}
 use Rattle.verify_bench.specs.Explaining.{explanations_of}
 use Rattle.commands.specs.BenchSteps.{IsNoDrive, IsWholeDrive, ended_for_drive}
 use Rattle.commands.specs.Ending.{ComesUnprinted, ended_for, ended_for_params}
-use Rattle.commands.specs.Explain.{HasSetting, HasTariff, explain_command, setting_by}
+use Rattle.commands.specs.Explain.{HasSetting, explain_command}
 use Rattle.commands.specs.ExplainedText.{explanations_text}
+use Rattle.commands.specs.Tariffs.{HasTariff}
 use Rattle.commands.specs.declared.ending.Ended.{Ended}
 use Rattle.commands.specs.declared.ending.Ended.TheVariants as ended
 use Rattle.commands.specs.declared.params.ParamsFault.TheVariants as params
@@ -111,7 +113,7 @@ returns-in-Err-read_parameters-clause-others g c = λ word not.
 
 pub returns-in-Err-read_parameters-clause-unread : goal.returns-in-Err-read_parameters-clause-unread
 returns-in-Err-read_parameters-clause-unread g c = λ image tells word never.
-    let has : HasTariff (g.F.Files.rest c.args.files.now 1) = record { tree = tree_of c.in-Ok.checked; is = c.in-Ok.ensures.found tells } in
+    let has : HasTariff (g.F.Files.rest c.args.files.now 1) = record { tree = tree_of c.in-Ok.checked; reads = c.in-Ok.ensures.found tells } in
     c.read_parameters.ensures.others word (λ e. never [] (inr (inl (e, (refl, has)))))
     ∙ c.read_tariff.ensures.others word (λ e. never [] (inl (e, refl)))
 
@@ -169,7 +171,7 @@ returns-in-Err-read_drive-clause-others g c = λ word not.
 pub returns-in-Err-read_drive-clause-unread : goal.returns-in-Err-read_drive-clause-unread
 returns-in-Err-read_drive-clause-unread g c = λ image tells word never.
     let rest = g.F.Files.rest c.args.files.now in
-    let has : HasTariff (rest 1) = record { tree = tree_of c.in-Ok.checked; is = c.in-Ok.ensures.found tells } in
+    let has : HasTariff (rest 1) = record { tree = tree_of c.in-Ok.checked; reads = c.in-Ok.ensures.found tells } in
     let read = ap params_read (sym (c.read_tariff.ensures.others 3 three-one)) ∙ c.in-Ok-read_parameters.ensures.found tells in
     let both : HasSetting (rest 1) (rest 3) = record {
       setting = setting_by (tree_of c.in-Ok.checked) c.in-Ok-read_parameters.params;
@@ -213,7 +215,7 @@ returns-clause-others g c = λ word not.
 pub returns-clause-unread : goal.returns-clause-unread
 returns-clause-unread g c = λ image tells word never.
     let rest = g.F.Files.rest c.args.files.now in
-    let has : HasTariff (rest 1) = record { tree = tree_of c.in-Ok.checked; is = c.in-Ok.ensures.found tells } in
+    let has : HasTariff (rest 1) = record { tree = tree_of c.in-Ok.checked; reads = c.in-Ok.ensures.found tells } in
     let read = ap params_read (sym (c.read_tariff.ensures.others 3 three-one)) ∙ c.in-Ok-read_parameters.ensures.found tells in
     let both : HasSetting (rest 1) (rest 3) = record {
       setting = setting_by (tree_of c.in-Ok.checked) c.in-Ok-read_parameters.params;
@@ -263,7 +265,7 @@ returns-in-Ok-text_of_runs-clause-others g c = λ word not.
 pub returns-in-Ok-text_of_runs-clause-unread : goal.returns-in-Ok-text_of_runs-clause-unread
 returns-in-Ok-text_of_runs-clause-unread g c = λ image tells word never.
     let rest = g.F.Files.rest c.args.files.now in
-    let has : HasTariff (rest 1) = record { tree = tree_of c.in-Ok.checked; is = c.in-Ok.ensures.found tells } in
+    let has : HasTariff (rest 1) = record { tree = tree_of c.in-Ok.checked; reads = c.in-Ok.ensures.found tells } in
     let read = ap params_read (sym (c.read_tariff.ensures.others 3 three-one)) ∙ c.in-Ok-read_parameters.ensures.found tells in
     let both : HasSetting (rest 1) (rest 3) = record {
       setting = setting_by (tree_of c.in-Ok.checked) c.in-Ok-read_parameters.params;
