@@ -1,5 +1,6 @@
 -- Rules: what the clauses of the top call speak of, by the words of a call, its files and its board.
 use Rattle.std.specs.Prelude.{◌≡◌, ◌⊎◌, ℕ, List, map, Option, Result, String, string_bytes}
+use Rattle.outside.specs.Disk.{store_size}
 use Rattle.outside.specs.Faults.{Rose}
 use Rattle.outside.specs.declared.board.Board.{Ghosts}
 use Rattle.outside.specs.declared.files.Files.{Ghosts as FileGhosts}
@@ -21,7 +22,7 @@ row_in words = row_of (map string_bytes words)
 abbrev pub called_by : {Z : Type 0} → List (String Z) → Command
 called_by words = called (map string_bytes words)
 
-module _ {E D L : Type 0} (F : FileGhosts E) (B : Ghosts D L) where
+module _ {E D L : Type 0} (F : FileGhosts E) (B : Ghosts D store_size L) where
   -- a call comes to its answer if, where no count of faults rose, it has the status of that answer, or memory ran out
   -- where it may
   abbrev pub ComesToAnswer : Command → (files files' : E) (board board' : D) (ended : ℕ) → Type 0
