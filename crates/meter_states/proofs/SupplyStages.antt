@@ -1,5 +1,5 @@
 -- What a drop of the supply and its coming do in each case.
-use Rattle.std.proofs.Common.{◌≡◌, ℕ, ◌<◌, ◌≤◌, true, Option, Some, None, option_map, sum, refl, ap, ◌∙◌, arith}
+use Rattle.std.proofs.Common.{◌≡◌, ℕ, ◌<◌, ◌≤◌, true, false, Option, Some, None, option_map, sum, refl, ap, ◌∙◌, arith}
 use Rattle.std.proofs.lemmas.Grind.{common_steps}
 use Rattle.taxi_units.specs.declared.receipt.Kind.TheVariants.{Aborted, Roam}
 use Rattle.taxi_units.specs.Time.{IsSecond}
@@ -8,7 +8,7 @@ use Rattle.totals_record.specs.declared.trip.Trip as store
 use Rattle.meter_states.specs.Closing.{closed, roaming_entered}
 use Rattle.meter_states.specs.Meter.{Meter, quiet, held}
 use Rattle.meter_states.specs.Setting.{Setting}
-use Rattle.meter_states.specs.Supply.{hold_taken, is_stopped, is_within_hold, kept, resumed, trip_kept}
+use Rattle.meter_states.specs.Supply.{aborted, hold_taken, is_stopped, is_within_hold, kept, resumed, trip_kept}
 use Rattle.meter_states.specs.Trip.{Trip, held_trip, core_trip_of}
 use Rattle.taxi_units.specs.Limits.{last_number}
 
@@ -44,6 +44,10 @@ kept-closed s m t is many = ap (λ (o : Option Trip). kept s o m) is ∙ trip-cl
 
 pub hold-resumed : (s : Setting) (second : ℕ) (h : store.Trip) (m : Meter) → is_within_hold s second h ≡ true → hold_taken s second (Some h) m ≡ resumed h m
 hold-resumed s second h m within = rw within refl
+
+pub hold-aborted : (s : Setting) (second : ℕ) (h : store.Trip) (m : Meter) → is_within_hold s second h ≡ false
+    → hold_taken s second (Some h) m ≡ aborted s h m
+hold-aborted s second h m late = rw late refl
 
 -- a held trip was saved at a second, and began by then
 pub held-second : {number : ℕ} {h : store.Trip} → IsHeld number h → IsSecond h.saved

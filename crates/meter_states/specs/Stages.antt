@@ -1,14 +1,22 @@
 -- For proofs: what a core keeps as it carries out a stage of an event, and how it follows the meter. `Core::step` says
 -- what the stages of an event come to.
-use Rattle.std.specs.Prelude.{◌≡◌, ◌⊎◌, ◌≤◌, ℕ, List, [], length}
+use Rattle.std.specs.Prelude.{◌≡◌, ◌≢◌, ◌⊎◌, ◌≤◌, ◌+◌, ℕ, List, [], Option, None, length}
 use Rattle.seal_record.specs.declared.seal.Seal.{Seal}
 use Rattle.tariff_compile.specs.Tables.{TableParts}
+use Rattle.taxi_units.specs.Limits.{last_number, number_most}
+use Rattle.taxi_units.specs.Time.{IsSecond, longest_trip}
+use Rattle.taxi_units.specs.declared.receipt.Kind.TheVariants.{Roam}
+use Rattle.totals_record.specs.Ranges.{IsHeld}
+use Rattle.totals_record.specs.declared.trip.Trip.{Trip}
 use Rattle.meter_states.specs.Acts.{StayLawful}
-use Rattle.meter_states.specs.Core.{ComesToOutcome, CoreData, core_of}
-use Rattle.meter_states.specs.Lawful.{IsAmidEvent, IsBetweenEvents}
+use Rattle.meter_states.specs.Core.{ComesToOutcome, CoreData, IsSavedIn, core_of}
+use Rattle.meter_states.specs.Fits.{Fits}
+use Rattle.meter_states.specs.Lawful.{IsAmidEvent, IsBetweenEvents, IsTripBeside}
 use Rattle.meter_states.specs.Meter.{Meter, Outcome}
 use Rattle.meter_states.specs.Setting.{Setting, IsSettingOf}
 use Rattle.meter_states.specs.declared.act.Act.{Act}
+use Rattle.meter_states.specs.declared.records.Closing.{Closing}
+use Rattle.meter_states.specs.declared.trip.CoreTrip.{CoreTrip}
 
 -- a stage of an event comes to an outcome from each state of the meter, under a setting
 abbrev pub Stage : Type 0
@@ -20,6 +28,12 @@ abbrev pub FollowsStage : TableParts → Seal → (old new : CoreData) → (befo
 FollowsStage tables seal old new before acts stage =
     (s : Setting) (m : Meter) → IsSettingOf s tables seal → old ≡ core_of s m
     → ComesToOutcome s new before acts (stage s m)
+
+-- a core carries out a stage where the acts stay lawful, and it follows the stage
+pub record CarriesStage (tables : TableParts) (seal : Seal) (old new : CoreData) (before acts : List Act)
+    (stage : Stage) : Type 0 where
+  pub ranges : StayLawful tables old.number before acts
+  pub follows : FollowsStage tables seal old new before acts stage
 
 -- a core is ready for a key where it is amid an event in which nothing has been done yet
 pub record IsReadyForKey (tables : TableParts) (core : CoreData) (acts : List Act) : Type 0 where
@@ -55,3 +69,46 @@ pub record ClosesTrip (tables : TableParts) (seal : Seal) (most : ℕ) (old new 
   pub roam : new.roam ≡ 0
   pub ranges : StayLawful tables old.number before acts
   pub follows : FollowsStage tables seal old new before acts stage
+
+-- ---- a trip that is closed
+
+-- a closing is one of a trip where its kind is another than roaming, and it is at a second
+pub record IsTripClosing (closing : Closing) : Type 0 where
+  pub kind : closing.kind ≢ Roam
+  pub finish : IsSecond closing.finish
+
+-- a core may enter a trip where it has room for an entry, the trip is in range beside the number after it, and the
+-- position is 1 to 9
+pub record MayEnter (tables : TableParts) (core : CoreData) (trip : CoreTrip) : Type 0 where
+  pub range : IsTripBeside tables (core.number + 1) longest_trip trip
+  pub number : core.number ≤ last_number
+  pub position : (1 ≤ core.position) × (core.position ≤ 9)
+
+-- a core has entered a trip where the trip is in range beside its number, which counts the entry, and the position is 1
+-- to 9
+pub record HasEntered (tables : TableParts) (core : CoreData) (trip : CoreTrip) : Type 0 where
+  pub range : IsTripBeside tables core.number longest_trip trip
+  pub number : (1 ≤ core.number) × (core.number ≤ number_most)
+  pub position : (1 ≤ core.position) × (core.position ≤ 9)
+
+-- ---- a held trip
+
+-- a core has been powered where it is between two events, has no roaming pulses and no trip, and nothing has been done
+-- yet
+pub record IsNewlyPowered (tables : TableParts) (core : CoreData) (acts : List Act) : Type 0 where
+  pub lawful : IsBetweenEvents tables core
+  pub new : (core.roam ≡ 0) × (core.trip ≡ None)
+  pub room : acts ≡ []
+
+-- a held trip may be taken at a store's number where it is one of the store, and fits the tables
+pub record MayBeTaken (tables : TableParts) (number : ℕ) (held : Trip) : Type 0 where
+  pub range : IsHeld number held
+  pub fits : Fits tables held
+
+-- a core takes what the store holds by a stage where the acts stay lawful, and it follows the stage from each state of
+-- which it was the core but for the trip, and of whose trip the held one is the saved form
+pub record TakesHold (tables : TableParts) (seal : Seal) (old new : CoreData) (before acts : List Act)
+    (hold : Option Trip) (stage : Stage) : Type 0 where
+  pub ranges : StayLawful tables old.number before acts
+  pub follows : (s : Setting) (m : Meter) → IsSettingOf s tables seal → IsSavedIn s hold m.trip
+      → old ≡ core_of s (record m { trip = None }) → ComesToOutcome s new before acts (stage s m)

@@ -1,18 +1,18 @@
 //! Entries: of a trip that is closed, with its receipt directly behind, and of roaming.
 ghost use Rattle.std.specs.Prelude.{◌≡◌, ◌≢◌, ◌⊎◌, ◌<◌, ◌≤◌, ◌+◌, ℕ, All, None, Some, length};
 ghost use Rattle.seal_record.specs.declared.seal.Seal.{Seal};
-ghost use Rattle.taxi_units.specs.Time.{IsSecond, last_tick, longest_trip};
+ghost use Rattle.taxi_units.specs.Time.{last_tick, longest_trip};
 ghost use Rattle.taxi_units.specs.declared.event.Operating.TheVariants.{ForHire};
 ghost use Rattle.taxi_units.specs.declared.receipt.Kind.TheVariants.{Roam};
 ghost use Rattle.meter_states.specs.Acts.{IsLawfulAct, StayLawful};
 ghost use Rattle.meter_states.specs.Closing.{closed, entry_of, receipt_of, roaming_checked, roaming_entered, trip_closed};
 ghost use Rattle.meter_states.specs.Core.{ComesToOutcome, core_of};
-ghost use Rattle.meter_states.specs.Lawful.{IsAmidEvent, IsBetweenEvents, IsPowered, IsTripBeside};
+ghost use Rattle.meter_states.specs.Lawful.{IsAmidEvent, IsBetweenEvents, IsPowered};
 ghost use Rattle.meter_states.specs.Meter.{Meter, entered, printed};
 ghost use Rattle.meter_states.specs.Setting.{Setting, IsSettingOf, IsTariffOf};
-ghost use Rattle.meter_states.specs.Stages.{FollowsStage};
+ghost use Rattle.meter_states.specs.Stages.{CarriesStage, FollowsStage, HasEntered, IsTripClosing, MayEnter};
 ghost use Rattle.meter_states.specs.Trip as model;
-ghost use Rattle.taxi_units.specs.Limits.{last_number, number_most, roaming_amid};
+ghost use Rattle.taxi_units.specs.Limits.{roaming_amid};
 
 use crate::act::{Act, Acts};
 use crate::meter_state::State;
@@ -35,14 +35,12 @@ impl State {
     )
         requires lawful { IsPowered tables.now longest_trip roaming_amid 1 self.old }
         requires trip { self.old.trip ≢ None }
-        requires kind { closing.kind ≢ Roam }
-        requires finish { IsSecond closing.finish }
+        requires closing { IsTripClosing closing }
         requires room { length acts.old.items ≤ 1 }
         ensures lawful { IsBetweenEvents tables.now self.new }
         ensures few { length acts.new.items ≤ length acts.old.items + 2 }
         ensures roam { self.new.roam ≡ 0 }
-        ensures ranges { StayLawful tables.now self.old.number acts.old.items acts.new.items }
-        ensures follows { FollowsStage tables.now seal.now self.old self.new acts.old.items acts.new.items
+        ensures stage { CarriesStage tables.now seal.now self.old self.new acts.old.items acts.new.items
             (λ s. closed s closing.kind closing.finish) }
         ensures steps { steps.new ≤ steps.old + 12 }
     {
@@ -63,11 +61,8 @@ impl State {
         acts: &mut Acts,
         steps: &mut Steps<L>,
     )
-        requires range { IsTripBeside tables.now (self.old.number + 1) longest_trip trip.now }
-        requires number { self.old.number ≤ last_number }
-        requires position { (1 ≤ self.old.position) × (self.old.position ≤ 9) }
-        requires kind { closing.kind ≢ Roam }
-        requires finish { IsSecond closing.finish }
+        requires trip { MayEnter tables.now self.old trip.now }
+        requires closing { IsTripClosing closing }
         requires room { length acts.old.items ≤ 1 }
         ensures number { self.new ≡ record self.old { number = self.old.number + 1 } }
         ensures few { length acts.new.items ≤ length acts.old.items + 2 }
@@ -84,9 +79,7 @@ impl State {
 
     /// A trip is entered.
     fn enter_trip(&mut self, kind: Kind, trip: &CoreTrip, tables: &Tables, acts: &mut Acts)
-        requires range { IsTripBeside tables.now (self.old.number + 1) longest_trip trip.now }
-        requires number { self.old.number ≤ last_number }
-        requires position { (1 ≤ self.old.position) × (self.old.position ≤ 9) }
+        requires trip { MayEnter tables.now self.old trip.now }
         requires kind { kind ≢ Roam }
         requires room { length acts.old.items ≤ 3 }
         ensures number { self.new ≡ record self.old { number = self.old.number + 1 } }
@@ -110,11 +103,8 @@ impl State {
         acts: &mut Acts,
         steps: &mut Steps<L>,
     )
-        requires range { IsTripBeside tables.now self.now.number longest_trip trip.now }
-        requires number { (1 ≤ self.now.number) × (self.now.number ≤ number_most) }
-        requires position { (1 ≤ self.now.position) × (self.now.position ≤ 9) }
-        requires kind { closing.kind ≢ Roam }
-        requires finish { IsSecond closing.finish }
+        requires trip { HasEntered tables.now self.now trip.now }
+        requires closing { IsTripClosing closing }
         requires room { length acts.old.items ≤ 3 }
         ensures few { length acts.new.items ≤ length acts.old.items + 1 }
         ensures ranges { (number : ℕ) → All (IsLawfulAct tables.now number) acts.old.items

@@ -1,16 +1,17 @@
 //! What the coming of the supply finds.
-ghost use Rattle.std.specs.Prelude.{◌≡◌, ◌≤◌, ◌+◌, [], All, None, Some, option_map, length};
+ghost use Rattle.std.specs.Prelude.{◌≡◌, ◌≤◌, ◌+◌, All, None, Some, option_map, length};
 ghost use Rattle.std.specs.Option.{ForSome};
 ghost use Rattle.tariff_compile.specs.Tables.{TableParts};
 ghost use Rattle.taxi_units.specs.Time.{IsSecond};
 ghost use Rattle.taxi_units.specs.declared.event.Operating.TheVariants.{ForHire};
 ghost use Rattle.totals_record.specs.Ranges.{IsDurable, IsHeld};
-ghost use Rattle.meter_states.specs.Acts.{IsLawfulAct, KeepsRanges, StayLawful};
-ghost use Rattle.meter_states.specs.Core.{ComesToOutcome, IsSavedIn, Meets, core_of};
+ghost use Rattle.meter_states.specs.Acts.{IsLawfulAct, KeepsRanges};
+ghost use Rattle.meter_states.specs.Core.{IsSavedIn, Meets, core_of};
 ghost use Rattle.meter_states.specs.Fits.{Fits};
 ghost use Rattle.meter_states.specs.Lawful.{IsBetweenEvents, IsLawful};
 ghost use Rattle.meter_states.specs.Meter.{Meter};
 ghost use Rattle.meter_states.specs.Setting.{Setting, IsSettingOf};
+ghost use Rattle.meter_states.specs.Stages.{IsNewlyPowered, MayBeTaken, TakesHold};
 ghost use Rattle.meter_states.specs.Supply as model;
 ghost use Rattle.meter_states.specs.Trip as trips;
 
@@ -72,18 +73,13 @@ impl State {
         acts: &mut Acts,
         steps: &mut Steps<L>,
     )
-        requires lawful { IsBetweenEvents tables.now self.old }
+        requires ready { IsNewlyPowered tables.now self.old acts.old.items }
         requires second { self.old.clock ≡ second }
-        requires new { (self.old.roam ≡ 0) × (self.old.trip ≡ None) }
-        requires range { ForSome hold (IsHeld self.old.number) }
-        requires fits { ForSome hold (Fits tables.now) }
-        requires room { acts.old.items ≡ [] }
+        requires hold { ForSome hold (MayBeTaken tables.now self.old.number) }
         ensures lawful { IsBetweenEvents tables.now self.new }
         ensures few { length acts.new.items ≤ 2 }
-        ensures ranges { StayLawful tables.now self.old.number acts.old.items acts.new.items }
-        ensures follows { (s : Setting) (m : Meter) → IsSettingOf s tables.now seal.now → IsSavedIn s hold m.trip
-            → self.old ≡ core_of s (record m { trip = None })
-            → ComesToOutcome s self.new acts.old.items acts.new.items (model.hold_taken s second hold m) }
+        ensures stage { TakesHold tables.now seal.now self.old self.new acts.old.items acts.new.items hold
+            (λ s. model.hold_taken s second hold) }
         ensures steps { steps.new ≤ steps.old + 12 }
     {
         if let Some(held) = hold {
@@ -102,19 +98,13 @@ impl State {
         acts: &mut Acts,
         steps: &mut Steps<L>,
     )
-        requires lawful { IsBetweenEvents tables.now self.old }
+        requires ready { IsNewlyPowered tables.now self.old acts.old.items }
         requires second { self.old.clock ≡ second }
-        requires new { (self.old.roam ≡ 0) × (self.old.trip ≡ None) }
-        requires range { IsHeld self.old.number held }
-        requires fits { Fits tables.now held }
-        requires room { acts.old.items ≡ [] }
+        requires held { MayBeTaken tables.now self.old.number held }
         ensures lawful { IsBetweenEvents tables.now self.new }
         ensures few { length acts.new.items ≤ 2 }
-        ensures ranges { StayLawful tables.now self.old.number acts.old.items acts.new.items }
-        ensures follows { (s : Setting) (m : Meter) → IsSettingOf s tables.now seal.now
-            → Some (trips.core_trip_in held) ≡ option_map (trips.core_trip_of s) m.trip
-            → self.old ≡ core_of s (record m { trip = None })
-            → ComesToOutcome s self.new acts.old.items acts.new.items (model.hold_taken s second (Some held) m) }
+        ensures stage { TakesHold tables.now seal.now self.old self.new acts.old.items acts.new.items (Some held)
+            (λ s. model.hold_taken s second (Some held)) }
         ensures steps { steps.new ≤ steps.old + 12 }
     {
         if is_within_hold(&held, second, seal) {
@@ -152,19 +142,13 @@ impl State {
         acts: &mut Acts,
         steps: &mut Steps<L>,
     )
-        requires lawful { IsBetweenEvents tables.now self.old }
+        requires ready { IsNewlyPowered tables.now self.old acts.old.items }
         requires hire { self.old.operating ≡ ForHire }
-        requires new { (self.old.roam ≡ 0) × (self.old.trip ≡ None) }
-        requires range { IsHeld self.old.number held.now }
-        requires fits { Fits tables.now held.now }
-        requires room { acts.old.items ≡ [] }
+        requires held { MayBeTaken tables.now self.old.number held.now }
         ensures lawful { IsBetweenEvents tables.now self.new }
         ensures few { length acts.new.items ≤ 2 }
-        ensures ranges { StayLawful tables.now self.old.number acts.old.items acts.new.items }
-        ensures follows { (s : Setting) (m : Meter) → IsSettingOf s tables.now seal.now
-            → Some (trips.core_trip_in held.now) ≡ option_map (trips.core_trip_of s) m.trip
-            → self.old ≡ core_of s (record m { trip = None })
-            → ComesToOutcome s self.new acts.old.items acts.new.items (model.aborted s held.now m) }
+        ensures stage { TakesHold tables.now seal.now self.old self.new acts.old.items acts.new.items (Some held.now)
+            (λ s. model.aborted s held.now) }
         ensures steps { steps.new ≤ steps.old + 12 }
     {
         self.position = held.position;

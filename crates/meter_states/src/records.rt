@@ -1,12 +1,13 @@
 //! Entries and receipts.
 ghost use Rattle.std.specs.Prelude.{◌≡◌, ◌≢◌, ◌+◌, ◌≤◌};
 ghost use Rattle.taxi_units.specs.Shown.{IsReceipt};
-ghost use Rattle.taxi_units.specs.Time.{IsSecond, longest_trip};
+ghost use Rattle.taxi_units.specs.Time.{longest_trip};
 ghost use Rattle.taxi_units.specs.declared.receipt.Kind.TheVariants.{Roam};
 ghost use Rattle.totals_record.specs.Ranges.{IsEntry};
 ghost use Rattle.meter_states.specs.Closing as model;
 ghost use Rattle.meter_states.specs.Lawful.{IsTripBeside};
 ghost use Rattle.meter_states.specs.Setting.{Setting, IsSettingOf, IsTariffOf};
+ghost use Rattle.meter_states.specs.Stages.{IsTripClosing};
 ghost use Rattle.meter_states.specs.Trip as trips;
 ghost use Rattle.taxi_units.specs.Limits.{number_most, roaming_amid};
 
@@ -74,8 +75,7 @@ pub(crate) fn receipt<L: Ledger>(
     requires range { IsTripBeside tables.now number longest_trip trip.now }
     requires position { (1 ≤ position) × (position ≤ 9) }
     requires number { (1 ≤ number) × (number ≤ number_most) }
-    requires kind { closing.kind ≢ Roam }
-    requires finish { IsSecond closing.finish }
+    requires closing { IsTripClosing closing }
     ensures value { (s : Setting) (t : trips.Trip) → IsSettingOf s tables.now seal.now
         → trip.now ≡ trips.core_trip_of s t
         → result ≡ model.receipt_of s closing.kind closing.finish position t number }

@@ -11,7 +11,7 @@ ghost use Rattle.meter_states.specs.Fits.{Fits};
 ghost use Rattle.meter_states.specs.Lawful.{IsBetweenEvents, IsPowered};
 ghost use Rattle.meter_states.specs.Meter.{Meter, held};
 ghost use Rattle.meter_states.specs.Setting.{Setting, IsSettingOf};
-ghost use Rattle.meter_states.specs.Stages.{FollowsStage};
+ghost use Rattle.meter_states.specs.Stages.{CarriesStage};
 ghost use Rattle.meter_states.specs.Supply as model;
 ghost use Rattle.meter_states.specs.Trip as trips;
 ghost use Rattle.taxi_units.specs.Limits.{last_number, roaming_amid};
@@ -60,8 +60,7 @@ impl State {
     )
         requires lawful { IsPowered tables.now last_tick roaming_amid 1 self.old }
         requires room { acts.old.items ≡ [] }
-        ensures ranges { StayLawful tables.now self.old.number acts.old.items acts.new.items }
-        ensures follows { FollowsStage tables.now seal.now self.old self.new acts.old.items acts.new.items
+        ensures stage { CarriesStage tables.now seal.now self.old self.new acts.old.items acts.new.items
             (λ s m. model.kept s m.trip m) }
         ensures steps { steps.new ≤ steps.old + 12 }
     {

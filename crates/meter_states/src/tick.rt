@@ -2,14 +2,13 @@
 ghost use Rattle.std.specs.Prelude.{◌≡◌, ◌≢◌, ◌≤◌, ◌+◌, [], None, IsTrue, false, nat_le};
 ghost use Rattle.tariff_compile.specs.Tables.{TableParts};
 ghost use Rattle.taxi_units.specs.Time.{longest_trip};
-ghost use Rattle.meter_states.specs.Acts.{StayLawful};
 ghost use Rattle.meter_states.specs.Core.{core_of};
 ghost use Rattle.meter_states.specs.Facts.{AreTrue};
 ghost use Rattle.meter_states.specs.Interval.{ticks_so_far};
 ghost use Rattle.meter_states.specs.Lawful.{IsAmidEvent, IsBetweenEvents, IsPowered, pressing_steps};
 ghost use Rattle.meter_states.specs.Meter.{Meter};
 ghost use Rattle.meter_states.specs.Setting.{Setting};
-ghost use Rattle.meter_states.specs.Stages.{ClosesTrip, FollowsStage, MayClose};
+ghost use Rattle.meter_states.specs.Stages.{CarriesStage, ClosesTrip, MayClose};
 ghost use Rattle.meter_states.specs.Step.{expired, expired_or_pressed, ticked};
 ghost use Rattle.taxi_units.specs.Limits.{roaming_amid};
 
@@ -38,8 +37,7 @@ impl State {
         requires room { acts.old.items ≡ [] }
         ensures lawful { IsBetweenEvents tables.now self.new }
         ensures facts { AreTrue tables.now seal.now facts.new }
-        ensures ranges { StayLawful tables.now self.old.number acts.old.items acts.new.items }
-        ensures follows { FollowsStage tables.now seal.now self.old self.new acts.old.items acts.new.items ticked }
+        ensures stage { CarriesStage tables.now seal.now self.old self.new acts.old.items acts.new.items ticked }
         ensures steps { steps.new ≤ steps.old + 48 }
     {
         self.count_interval(facts, tables, seal, steps);

@@ -19,7 +19,7 @@ returns-clause-range g c =
     let fare = c.fare.ensures.exact in
     let shown : c.fare.result ≡ min largest_amount (max trip.minimum (trip.initial + c.display_steps.result * c.step.result)) = cc in
     record {
-      kind = c.requires.kind;
+      kind = c.requires.closing.kind;
       number = (omega arith, omega arith);
       start = c.stamp-start.ensures.range;
       finish = c.stamp-finish.ensures.range;
@@ -38,7 +38,7 @@ pub stamp-start-requires : goal.stamp-start-requires
 stamp-start-requires g c = c.requires.range.range.started
 
 pub stamp-finish-requires : goal.stamp-finish-requires
-stamp-finish-requires g c = c.requires.finish
+stamp-finish-requires g c = c.requires.closing.finish
 
 pub display_steps-requires : goal.display_steps-requires
 display_steps-requires g c = record { range = c.requires.range.range }

@@ -1,5 +1,7 @@
-use Rattle.std.proofs.Common.{◌≡◌, ℕ, All, List, [], None, rules, refl, ap, sym, subst, inr, ◌∙◌, arith}
+use Rattle.std.proofs.Common.{◌≡◌, ℕ, All, List, [], IfSome, None, Option, rules, refl, ap, sym, subst, inr, ◌∙◌, arith}
+use Rattle.totals_record.specs.Ranges.{IsHeld}
 use Rattle.totals_record.specs.declared.durable.Durable.{Durable}
+use Rattle.totals_record.specs.declared.trip.Trip.{Trip}
 use Rattle.meter_states.specs.Acts.{IsLawfulAct}
 use Rattle.meter_states.specs.Core.{ComesToOutcome, CoreData, core_of}
 use Rattle.meter_states.specs.Display.{shown}
@@ -16,14 +18,14 @@ returns-clause-ranges g c =
     let p = c.args.tables.now in
     let number : c.idle-state.result.number ≡ c.args.durable.now.number = ap (λ (q : CoreData). q.number) c.idle-state.ensures in
     let none : All (IsLawfulAct p c.idle-state.result.number) c.new-acts.result.items = rw c.new-acts.ensures (λ k d below. absurd (omega arith)) in
-    c.show.ensures.ranges c.args.durable.now.number (subst (λ (n : ℕ). All (IsLawfulAct p n) c.take_hold.new.acts.items) number (c.take_hold.ensures.ranges none))
+    c.show.ensures.ranges c.args.durable.now.number (subst (λ (n : ℕ). All (IsLawfulAct p n) c.take_hold.new.acts.items) number (c.take_hold.ensures.stage.ranges none))
 
 pub returns-clause-commits : goal.returns-clause-commits
 returns-clause-commits g c =
     let p = c.args.tables.now in
     let number : c.idle-state.result.number ≡ c.args.durable.now.number = ap (λ (q : CoreData). q.number) c.idle-state.ensures in
     let none : All (IsLawfulAct p c.idle-state.result.number) c.new-acts.result.items = rw c.new-acts.ensures (λ k d below. absurd (omega arith)) in
-    let lawful = c.show.ensures.ranges c.args.durable.now.number (subst (λ (n : ℕ). All (IsLawfulAct p n) c.take_hold.new.acts.items) number (c.take_hold.ensures.ranges none)) in
+    let lawful = c.show.ensures.ranges c.args.durable.now.number (subst (λ (n : ℕ). All (IsLawfulAct p n) c.take_hold.new.acts.items) number (c.take_hold.ensures.stage.ranges none)) in
     acts-keep p c.args.durable.now.number c.show.new.acts.items lawful c.args.durable.now c.requires.range refl
 
 pub returns-clause-lawful : goal.returns-clause-lawful
@@ -39,7 +41,7 @@ returns-clause-meets g c = λ s m is durable saved.
     let middle = c.take_hold.new.acts.items in
     let acts = c.show.new.acts.items in
     let first = subst (λ (d : Durable). ComesToOutcome s c.take_hold.new.self empty middle
-    (hold_taken s c.args.second d.hold n)) (sym durable) (c.take_hold.ensures.follows s n is saved start) in
+    (hold_taken s c.args.second d.hold n)) (sym durable) (c.take_hold.ensures.stage.follows s n is saved start) in
     let taken = hold_taken s c.args.second m.durable.hold n in
     let second = c.show.ensures.follows c.args.seal.now s taken.next is first.state in
     let all = follows-then s c.take_hold.new.self c.show.new.self empty middle acts taken (λ
@@ -47,3 +49,12 @@ returns-clause-meets g c = λ s m is durable saved.
     follows-meets s c.args.tables.now 8639999 roaming_between 0 c.show.new.self acts
     (supply_came s c.args.second m) c.show.ensures.lawful
     (subst (λ (l : List Act). ComesToOutcome s c.show.new.self l acts (supply_came s c.args.second m)) none all)
+
+pub take_hold-requires-clause-hold : goal.take_hold-requires-clause-hold
+take_hold-requires-clause-hold g c = λ trip is.
+    let number = ap (λ (q : CoreData). q.number) c.idle-state.ensures in
+    record {
+      range = subst (λ (n : ℕ). IsHeld n trip) (sym number)
+          (subst (λ (o : Option Trip). IfSome o (IsHeld c.args.durable.now.number)) is c.requires.range.held);
+      fits = c.requires.fits trip is;
+    }

@@ -14,9 +14,12 @@ close-requires-clause-lawful g c = amid-closes c.requires.ready.lawful
 pub close-requires-clause-trip : goal.close-requires-clause-trip
 close-requires-clause-trip g c = c.requires.trip
 
-pub close-requires-clause-finish : goal.close-requires-clause-finish
-close-requires-clause-finish g c = subst IsSecond (sym (c.second.ensures ∙ ap (λ
-    (p : CoreData). p.clock) c.self.view_is)) c.requires.ready.lawful.clock
+pub close-requires-clause-closing : goal.close-requires-clause-closing
+close-requires-clause-closing g c = record {
+  kind = λ is. cc;
+  finish = subst IsSecond (sym (c.second.ensures ∙ ap (λ (p : CoreData). p.clock) c.self.view_is))
+      c.requires.ready.lawful.clock;
+}
 
 pub close-requires-clause-room : goal.close-requires-clause-room
 close-requires-clause-room g c = few-none 1 c.args.acts.now.items c.requires.ready.room
@@ -26,10 +29,10 @@ returns-clause-stage g c = record {
   lawful = c.close.ensures.lawful;
   few = rw c.requires.ready.room at c.close.ensures.few;
   roam = c.close.ensures.roam;
-  ranges = c.close.ensures.ranges;
+  ranges = c.close.ensures.stage.ranges;
   follows = λ s m is e. subst (λ (o : Outcome). ComesToOutcome s c.close.new.self c.args.acts.now.items c.close.new.acts.items o)
       (ap (λ (n : ℕ). closed s Closed n m) (c.second.ensures ∙ ap (λ (p : CoreData). p.clock) (c.self.view_is ∙ e)))
-      (c.close.ensures.follows s m is e);
+      (c.close.ensures.stage.follows s m is e);
 }
 
 pub returns-clause-steps : goal.returns-clause-steps

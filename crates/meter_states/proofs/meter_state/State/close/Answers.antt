@@ -1,27 +1,39 @@
-use Rattle.std.proofs.lemmas.Grind.{elements}
-use Rattle.std.proofs.Common.{◌≤◌, Option, None, ap, sym, subst, ◌∙◌, arith}
+use Rattle.std.proofs.Common.{◌≡◌, ℕ, ◌+◌, Option, None, Some, ap, sym, subst, ◌∙◌, arith}
 use Rattle.tariff_compile.proofs.Laws.{tables_are_fit}
 use Rattle.taxi_units.specs.declared.event.Operating.TheVariants.{ForHire}
+use Rattle.meter_states.specs.Acts.{StayLawful}
 use Rattle.meter_states.specs.Core.{CoreData, ComesToOutcome}
 use Rattle.meter_states.specs.Closing.{trip_closed}
+use Rattle.meter_states.specs.Lawful.{IsTripInRange}
+use Rattle.meter_states.specs.Stages.{MayEnter}
 use Rattle.meter_states.specs.Trip.{Trip}
+use Rattle.taxi_units.specs.Time.{longest_trip}
 use Rattle.meter_states.proofs.Outcomes.{trip-saved}
+use Rattle.meter_states.proofs.Powered.{some-there}
 use Rattle.meter_states.proofs.meter_state.State.close.Goals as goal
 
-pub returns-in-Some-clause-follows : goal.returns-in-Some-clause-follows
-returns-in-Some-clause-follows g c = λ s m is st.
-    let opened = c.self.view_is ∙ st in
-    let has = trip-saved s m.trip c.in-Some.trip (sym (ap (λ (p : CoreData). p.trip) opened) ∙ c.in-Some.is) in
-    let start = ap (λ (p : CoreData). record p { operating = ForHire; trip = None }) opened in
-    subst (λ (trip : Option Trip). ComesToOutcome s c.close_trip.new.self c.args.acts.now.items c.close_trip.new.acts.items (trip_closed s c.args.closing.kind c.args.closing.finish trip (record m { operating = ForHire; trip = None }))) (sym has.1)
-    (c.close_trip.ensures.follows s (record m { operating = ForHire; trip = None }) has.0 is has.2 start)
+pub returns-in-Some-clause-stage : goal.returns-in-Some-clause-stage
+returns-in-Some-clause-stage g c = record {
+  ranges = subst (λ (n : ℕ). StayLawful c.args.tables.now n c.args.acts.now.items c.close_trip.new.acts.items)
+      (ap (λ (p : CoreData). p.number) c.self.view_is) c.close_trip.ensures.ranges;
+  follows = λ s m is st.
+      let opened = c.self.view_is ∙ st in
+      let has = trip-saved s m.trip c.in-Some.trip (sym (ap (λ (p : CoreData). p.trip) opened) ∙ c.in-Some.is) in
+      let start = ap (λ (p : CoreData). record p { operating = ForHire; trip = None }) opened in
+      subst (λ (trip : Option Trip). ComesToOutcome s c.close_trip.new.self c.args.acts.now.items c.close_trip.new.acts.items (trip_closed s c.args.closing.kind c.args.closing.finish trip (record m { operating = ForHire; trip = None }))) (sym has.1)
+      (c.close_trip.ensures.follows s (record m { operating = ForHire; trip = None }) has.0 is has.2 start);
+}
 
-pub close_trip-requires-clause-position : goal.close_trip-requires-clause-position
-close_trip-requires-clause-position g c =
-    let at = subst (λ (p : CoreData). (1 ≤ p.position) × (p.position ≤ c.args.tables.now.positions))
-    (sym c.self.view_is) c.requires.lawful.position in
-    let fit = tables_are_fit c.args.tables.now c.requires.lawful.compiled in
-    (at.0, omega (arith, at.1, fit.positions.1))
-
-pub returns-in-Some-clause-ranges : goal.returns-in-Some-clause-ranges
-returns-in-Some-clause-ranges g c = grind (arith, elements) steps 2000000
+pub close_trip-requires-clause-trip : goal.close_trip-requires-clause-trip
+close_trip-requires-clause-trip g c =
+    let tables = c.args.tables.now in
+    let trip = c.in-Some.trip in
+    let on = c.requires.lawful in
+    let has : c.args.self.now.trip ≡ Some trip = sym (ap (λ (p : CoreData). p.trip) c.self.view_is) ∙ c.in-Some.is in
+    let fit = tables_are_fit tables on.compiled in
+    subst (λ (p : CoreData). MayEnter tables (record p { operating = ForHire; trip = None }) trip) (sym c.self.view_is)
+    (record {
+      range = subst (IsTripInRange tables (c.args.self.now.number + 1) longest_trip) has on.trip;
+      number = on.held (some-there trip has);
+      position = (on.position.0, omega (arith, on.position.1, fit.positions.1));
+    })

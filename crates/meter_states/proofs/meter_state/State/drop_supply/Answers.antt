@@ -1,5 +1,6 @@
-use Rattle.std.proofs.Common.{arith}
-use Rattle.std.proofs.lemmas.Grind.{common_steps, elements}
+use Rattle.std.proofs.Common.{ℕ, subst, arith}
+use Rattle.std.proofs.lemmas.Grind.{common_steps}
+use Rattle.meter_states.specs.Acts.{StayLawful}
 use Rattle.meter_states.proofs.meter_state.State.drop_supply.Goals as goal
 
 pub leave_interval-requires : goal.leave_interval-requires
@@ -9,7 +10,9 @@ pub keep-requires-clause-lawful : goal.keep-requires-clause-lawful
 keep-requires-clause-lawful g c = c.leave_interval.ensures.lawful c.args.tables.now c.requires.lawful
 
 pub returns-clause-ranges : goal.returns-clause-ranges
-returns-clause-ranges g c = grind (arith, elements) steps 2000000
+returns-clause-ranges g c =
+    subst (λ (n : ℕ). StayLawful c.args.tables.now n c.args.acts.now.items c.keep.new.acts.items)
+    c.leave_interval.ensures.same.1 c.keep.ensures.stage.ranges
 
 pub returns-clause-done : goal.returns-clause-done
 returns-clause-done g c = grind (arith, common_steps) steps 4000000

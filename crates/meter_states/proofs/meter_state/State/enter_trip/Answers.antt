@@ -9,13 +9,13 @@ use Rattle.taxi_units.specs.Limits.{last_number}
 
 pub entry-requires-clause-range : goal.entry-requires-clause-range
 entry-requires-clause-range c = record {
-  range = c.requires.range.range;
+  range = c.requires.trip.range.range;
   pulses = omega
-      (arith, c.requires.range.pulses, c.requires.number);
+      (arith, c.requires.trip.range.pulses, c.requires.trip.number);
 }
 
 pub entry-requires-clause-position : goal.entry-requires-clause-position
-entry-requires-clause-position c = subst (λ (p : CoreData). (1 ≤ p.position) × (p.position ≤ 9)) (sym c.self.view_is) c.requires.position
+entry-requires-clause-position c = subst (λ (p : CoreData). (1 ≤ p.position) × (p.position ≤ 9)) (sym c.self.view_is) c.requires.trip.position
 
 pub entry-requires-clause-kind : goal.entry-requires-clause-kind
 entry-requires-clause-kind c = c.requires.kind
@@ -30,7 +30,7 @@ pub returns-clause-ranges : goal.returns-clause-ranges
 returns-clause-ranges c =
     lawful-more c.args.tables.now c.args.self.now.number c.args.acts.now.items c.push.new.self.items (Enter c.entry.result) c.push.ensures.items
     (record {
-      room = c.requires.number;
+      room = c.requires.trip.number;
       range = c.entry.ensures.range;
       roaming = closing-room (c.args.self.now.number + 1 ≤ last_number) c.entry.result c.args.kind c.entry.ensures.kind c.requires.kind;
     })

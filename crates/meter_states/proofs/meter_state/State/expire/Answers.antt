@@ -1,5 +1,7 @@
-use Rattle.std.proofs.Common.{arith}
+use Rattle.std.proofs.Common.{ap, sym, subst, ◌∙◌, arith}
 use Rattle.std.proofs.lemmas.Grind.{common_steps}
+use Rattle.taxi_units.specs.Time.{IsSecond}
+use Rattle.meter_states.specs.Core.{CoreData}
 use Rattle.meter_states.proofs.meter_state.State.expire.Goals as goal
 
 pub returns-in-Some-clause-stage : goal.returns-in-Some-clause-stage
@@ -7,3 +9,10 @@ returns-in-Some-clause-stage g c = grind (arith, common_steps) steps 4000000
 
 pub returns-in_default-clause-stage : goal.returns-in_default-clause-stage
 returns-in_default-clause-stage g c = grind (arith, common_steps) steps 4000000
+
+pub close-requires-clause-closing : goal.close-requires-clause-closing
+close-requires-clause-closing g c = record {
+  kind = λ is. cc;
+  finish = subst IsSecond (sym (c.second.ensures ∙ ap (λ (p : CoreData). p.clock) c.self.view_is))
+      c.requires.lawful.clock;
+}

@@ -8,19 +8,16 @@ use Rattle.meter_states.proofs.Pushes.{few-more, lawful-more}
 use Rattle.meter_states.proofs.meter_state.State.print_receipt.Goals as goal
 
 pub receipt-requires-clause-range : goal.receipt-requires-clause-range
-receipt-requires-clause-range g c = subst (λ (p : CoreData). IsTripBeside c.args.tables.now p.number 8640000 c.args.trip.now) (sym c.self.view_is) c.requires.range
+receipt-requires-clause-range g c = subst (λ (p : CoreData). IsTripBeside c.args.tables.now p.number 8640000 c.args.trip.now) (sym c.self.view_is) c.requires.trip.range
 
 pub receipt-requires-clause-position : goal.receipt-requires-clause-position
-receipt-requires-clause-position g c = subst (λ (p : CoreData). (1 ≤ p.position) × (p.position ≤ 9)) (sym c.self.view_is) c.requires.position
+receipt-requires-clause-position g c = subst (λ (p : CoreData). (1 ≤ p.position) × (p.position ≤ 9)) (sym c.self.view_is) c.requires.trip.position
 
 pub receipt-requires-clause-number : goal.receipt-requires-clause-number
-receipt-requires-clause-number g c = subst (λ (p : CoreData). (1 ≤ p.number) × (p.number ≤ 2000000000000001)) (sym c.self.view_is) c.requires.number
+receipt-requires-clause-number g c = subst (λ (p : CoreData). (1 ≤ p.number) × (p.number ≤ 2000000000000001)) (sym c.self.view_is) c.requires.trip.number
 
-pub receipt-requires-clause-kind : goal.receipt-requires-clause-kind
-receipt-requires-clause-kind g c = c.requires.kind
-
-pub receipt-requires-clause-finish : goal.receipt-requires-clause-finish
-receipt-requires-clause-finish g c = c.requires.finish
+pub receipt-requires-clause-closing : goal.receipt-requires-clause-closing
+receipt-requires-clause-closing g c = c.requires.closing
 
 pub returns-clause-few : goal.returns-clause-few
 returns-clause-few g c = few-more c.args.acts.now.items c.push.new.self.items (Receipt c.receipt.result) c.push.ensures.items

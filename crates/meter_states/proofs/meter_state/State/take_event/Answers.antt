@@ -85,14 +85,14 @@ pub returns-in-Tick-clause-facts : goal.returns-in-Tick-clause-facts
 returns-in-Tick-clause-facts g c = c.tick.ensures.facts
 
 pub returns-in-Tick-clause-ranges : goal.returns-in-Tick-clause-ranges
-returns-in-Tick-clause-ranges g c = c.tick.ensures.ranges
+returns-in-Tick-clause-ranges g c = c.tick.ensures.stage.ranges
 
 pub returns-in-Tick-clause-steps : goal.returns-in-Tick-clause-steps
 returns-in-Tick-clause-steps g c = c.tick.ensures.steps
 
 pub returns-in-Tick-clause-meets : goal.returns-in-Tick-clause-meets
 returns-in-Tick-clause-meets g c = λ s m is e.
-    follows-event s c.args.tables.now c.tick.new.self c.args.acts.now.items c.tick.new.acts.items c.args.event events.Tick m c.in-Tick.is c.requires.room c.tick.ensures.lawful (c.tick.ensures.follows s m is e)
+    follows-event s c.args.tables.now c.tick.new.self c.args.acts.now.items c.tick.new.acts.items c.args.event events.Tick m c.in-Tick.is c.requires.room c.tick.ensures.lawful (c.tick.ensures.stage.follows s m is e)
 
 pub returns-in-Down-clause-lawful : goal.returns-in-Down-clause-lawful
 returns-in-Down-clause-lawful g c = inl c.drop_supply.ensures.off

@@ -1,27 +1,20 @@
-use Rattle.std.proofs.Common.{Option, option_map, sym, subst, ap, ◌∙◌}
+use Rattle.std.proofs.Common.{Option, None, option_map, sym, subst, ap, ◌∙◌}
 use Rattle.totals_record.specs.declared.trip.Trip.{Trip}
 use Rattle.meter_states.specs.Core.{ComesToOutcome}
 use Rattle.meter_states.specs.Trip.{core_trip_in}
 use Rattle.meter_states.specs.Supply.{hold_taken}
+use Rattle.meter_states.proofs.Outcomes.{quiet-follows}
+use Rattle.meter_states.proofs.Pushes.{few-none}
 use Rattle.meter_states.proofs.meter_state.State.take_hold.Goals as goal
 
-pub take_held-requires-clause-fits : goal.take_held-requires-clause-fits
-take_held-requires-clause-fits g c = c.requires.fits _ c.in-Some.is
-
-pub take_held-requires-clause-lawful : goal.take_held-requires-clause-lawful
-take_held-requires-clause-lawful g c = c.requires.lawful
+pub take_held-requires-clause-ready : goal.take_held-requires-clause-ready
+take_held-requires-clause-ready g c = c.requires.ready
 
 pub take_held-requires-clause-second : goal.take_held-requires-clause-second
 take_held-requires-clause-second g c = c.requires.second
 
-pub take_held-requires-clause-new : goal.take_held-requires-clause-new
-take_held-requires-clause-new g c = c.requires.new
-
-pub take_held-requires-clause-range : goal.take_held-requires-clause-range
-take_held-requires-clause-range g c = c.requires.range _ c.in-Some.is
-
-pub take_held-requires-clause-room : goal.take_held-requires-clause-room
-take_held-requires-clause-room g c = c.requires.room
+pub take_held-requires-clause-held : goal.take_held-requires-clause-held
+take_held-requires-clause-held g c = c.requires.hold _ c.in-Some.is
 
 pub returns-in-Some-clause-lawful : goal.returns-in-Some-clause-lawful
 returns-in-Some-clause-lawful g c = c.take_held.ensures.lawful
@@ -29,13 +22,29 @@ returns-in-Some-clause-lawful g c = c.take_held.ensures.lawful
 pub returns-in-Some-clause-few : goal.returns-in-Some-clause-few
 returns-in-Some-clause-few g c = c.take_held.ensures.few
 
-pub returns-in-Some-clause-ranges : goal.returns-in-Some-clause-ranges
-returns-in-Some-clause-ranges g c = c.take_held.ensures.ranges
-
-pub returns-in-Some-clause-follows : goal.returns-in-Some-clause-follows
-returns-in-Some-clause-follows g c = λ s m is saved e.
-    subst (λ (o : Option Trip). ComesToOutcome s c.take_held.new.self c.args.acts.now.items c.take_held.new.acts.items (hold_taken s c.args.second o m)) (sym c.in-Some.is)
-    (c.take_held.ensures.follows s m is (ap (option_map core_trip_in) (sym c.in-Some.is) ∙ saved) e)
+pub returns-in-Some-clause-stage : goal.returns-in-Some-clause-stage
+returns-in-Some-clause-stage g c = record {
+  ranges = c.take_held.ensures.stage.ranges;
+  follows = λ s m is saved e.
+      subst (λ (o : Option Trip). ComesToOutcome s c.take_held.new.self c.args.acts.now.items c.take_held.new.acts.items
+      (hold_taken s c.args.second o m)) (sym c.in-Some.is)
+      (c.take_held.ensures.stage.follows s m is (ap (option_map core_trip_in) (sym c.in-Some.is) ∙ saved) e);
+}
 
 pub returns-in-Some-clause-steps : goal.returns-in-Some-clause-steps
 returns-in-Some-clause-steps g c = c.take_held.ensures.steps
+
+pub returns-in_default-clause-stage : goal.returns-in_default-clause-stage
+returns-in_default-clause-stage g c = record {
+  ranges = λ before. before;
+  follows = λ s m is saved e.
+      subst (λ (o : Option Trip). ComesToOutcome s c.args.self.now c.args.acts.now.items c.args.acts.now.items
+      (hold_taken s c.args.second o m)) (sym c.in_default.is)
+      (quiet-follows s c.args.self.now c.args.acts.now.items (record m { trip = None }) e);
+}
+
+pub returns-in_default-clause-lawful : goal.returns-in_default-clause-lawful
+returns-in_default-clause-lawful g c = c.requires.ready.lawful
+
+pub returns-in_default-clause-few : goal.returns-in_default-clause-few
+returns-in_default-clause-few g c = few-none 2 c.args.acts.now.items c.requires.ready.room
