@@ -2,8 +2,7 @@
 use Rattle.std.proofs.Common.{◌≡◌, ℕ, ◌+◌, ◌*◌, List, [], ◌∷◌, ◌↔◌, Bool, true, false, Option, Some, None, Decides, refl, subst, sym, ◌∙◌}
 use Rattle.std.specs.Prelude.{IsTrue}
 use Rattle.std.specs.Option.{ForSome}
-use Rattle.std.proofs.lemmas.Bool.Decides.{Decides-and, Decides-eqb, Decides-like, Decides-ltb}
-use Rattle.seal_record.proofs.Laws.{Decides-leb}
+use Rattle.std.proofs.lemmas.Bool.Decides.{Decides-and}
 use Rattle.tariff_compile.specs.Tables.{TableParts}
 use Rattle.tariff_compile.specs.declared.parts.Supplement.{Supplement}
 use Rattle.totals_record.specs.declared.trip.Trip.{Trip}
@@ -11,15 +10,34 @@ use Rattle.meter_states.specs.Fits.{Fits}
 use Rattle.meter_states.specs.Supplements.{AreAllowed, amounts_from, most_in, supplement_in}
 use Rattle.commands.specs.Run.{are_allowed, does_fit, does_hold_fit}
 use Rattle.taxi_units.specs.Money.{largest_amount}
+use Rattle.taxi_units.specs.Test.{Test, at_most, less, same, stated, ◌&◌}
 
-Decides-are_allowed : (supplement : ℕ → Option Supplement) (first : ℕ) (counts : List ℕ) → Decides (are_allowed supplement first counts) (AreAllowed supplement first counts)
-Decides-are_allowed supplement first [] = (λ e. tt, λ is. refl)
-Decides-are_allowed supplement first (count ∷ counts) =
-    Decides-and _ _ (Decides-leb count (most_in (supplement first))) (Decides-are_allowed supplement (first + 1) counts)
+-- the test of counts decides whether they are allowed
+allowed_decides : (supplement : ℕ → Option Supplement) (first : ℕ) (counts : List ℕ)
+    → Decides (are_allowed supplement first counts) (AreAllowed supplement first counts)
+allowed_decides supplement first [] = (λ e. tt, λ is. refl)
+allowed_decides supplement first (count ∷ counts) =
+    Decides-and _ _ (at_most count (most_in (supplement first))).decides (allowed_decides supplement (first + 1) counts)
 
-pub Decides-does_fit : (tables : TableParts) (trip : Trip) → Decides (does_fit tables trip) (Fits tables trip)
-Decides-does_fit tables trip =
-    Decides-like (does_fit tables trip)
+-- counts of supplements, whose numbers run from a first one on
+abbrev allowed_test : (ℕ → Option Supplement) → ℕ → List ℕ → Test
+allowed_test supplement first counts = record {
+  passes = are_allowed supplement first counts;
+  Fact = AreAllowed supplement first counts;
+  decides = allowed_decides supplement first counts;
+}
+
+-- a trip under tables
+abbrev fits_test : TableParts → Trip → Test
+fits_test tables trip = stated (Fits tables trip)
+    (at_most 1 trip.position
+    & (at_most trip.position tables.positions
+    & (at_most 1 trip.zone
+    & (at_most trip.zone tables.zones
+    & (less trip.meterage.rest (tables.step * tables.measure)
+    & (at_most trip.meterage.cover_left (largest_amount * tables.measure)
+    & (allowed_test (supplement_in tables) 1 trip.extras
+    & same trip.extras_sum (amounts_from (supplement_in tables) 1 trip.extras))))))))
     (λ all. record {
       position = (all.0, all.1.0);
       zone = (all.1.1.0, all.1.1.1.0);
@@ -29,14 +47,10 @@ Decides-does_fit tables trip =
       extras_sum = all.1.1.1.1.1.1.1;
     })
     (λ is. (is.position.0, (is.position.1, (is.zone.0, (is.zone.1, (is.rest, (is.cover, (is.counts, is.extras_sum))))))))
-    (Decides-and _ _ (Decides-leb 1 trip.position)
-    (Decides-and _ _ (Decides-leb trip.position tables.positions)
-    (Decides-and _ _ (Decides-leb 1 trip.zone)
-    (Decides-and _ _ (Decides-leb trip.zone tables.zones)
-    (Decides-and _ _ (Decides-ltb trip.meterage.rest (tables.step * tables.measure))
-    (Decides-and _ _ (Decides-leb trip.meterage.cover_left (largest_amount * tables.measure))
-    (Decides-and _ _ (Decides-are_allowed (supplement_in tables) 1 trip.extras)
-    (Decides-eqb trip.extras_sum (amounts_from (supplement_in tables) 1 trip.extras)))))))))
+
+-- the test of a trip decides whether it fits the tables
+pub Decides-does_fit : (tables : TableParts) (trip : Trip) → Decides (does_fit tables trip) (Fits tables trip)
+Decides-does_fit tables trip = (fits_test tables trip).decides
 
 one_trip : (a b : Trip) → Some a ≡ Some b → a ≡ b
 one_trip a b e = cc

@@ -14,7 +14,7 @@ use Rattle.totals_record.specs.declared.durable.Durable.{Durable}
 use Rattle.totals_record.specs.declared.trip.Trip.{Trip}
 use Rattle.seal_record.specs.Decoding as seals
 use Rattle.seal_record.specs.Ranges.{IsSeal}
-use Rattle.seal_record.specs.SealLaws.{gives_valid}
+use Rattle.seal_record.proofs.Laws.{seals_are_read_by_their_table}
 use Rattle.seal_record.specs.declared.seal.Seal.{Seal}
 use Rattle.tariff_check.specs.Faults.{fault_of}
 use Rattle.tariff_check.specs.declared.fault.CheckFault.{CheckFault}
@@ -96,8 +96,8 @@ setting-range image tariff a e =
     let h = found_in image tariff a e in
     let at = subst (λ (r : Result (Found Seal) SlotFault). IsAnswer seals.reads seals.seal_number_of 1024 image r) h.seal.1
     ((answer_is seals.reads seals.seal_number_of 1024 image (found_at seals.reads seals.seal_number_of 1024 image)).0 refl) in
-    let seal : IsSeal a.seal = gives_valid (take body_size (drop (slot_at 1024 h.seal.0.slot + 1) image)) a.seal
-    at.latest.body_is in
+    let seal : IsSeal a.seal = ((seals_are_read_by_their_table (take body_size (drop (slot_at 1024 h.seal.0.slot + 1) image))
+    a.seal).0 at.latest.body_is).0 in
     let text = sealed-is (nat_lt 65536 (length tariff)) a.seal.digest tariff a.tree h.tariff_is in
     record {
       writable = texts_have_their_numbers tariff a.tree ((texts_are_parsed_as_they_read-tariff tariff a.tree).1

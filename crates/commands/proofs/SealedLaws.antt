@@ -15,7 +15,8 @@ use Rattle.seal_record.specs.declared.seal.Seal.{Seal}
 use Rattle.seal_record.specs.PlainText.{AreShown, comment_line, ended_text}
 use Rattle.seal_record.specs.Ranges.{IsSeal}
 use Rattle.seal_record.specs.Reading.{params_read}
-use Rattle.seal_record.proofs.Laws.{Decides-leb, comments_are_passed_over, comments_make_it_longer}
+use Rattle.taxi_units.specs.Test.{at_most, each}
+use Rattle.seal_record.proofs.Laws.{comments_are_passed_over, comments_make_it_longer}
 use Rattle.commands.specs.LastLine.{numbered}
 use Rattle.commands.specs.SealedText.{seal_comments, sealed_text}
 
@@ -46,7 +47,7 @@ hex_shown (byte ∷ bytes) =
     (hex_shown bytes))
 
 are_shown : (bytes : List ℕ) → list_all (leb 32) bytes ≡ true → AreShown bytes
-are_shown bytes e = (Decides-by_and (leb 32) IsShown (list_all (leb 32)) (Decides-leb 32) refl (λ _ _. refl) bytes).0 e
+are_shown bytes e = (each (at_most 32) bytes).decides.0 e
 
 numbered_shown : (name : List ℕ) (n : ℕ) → list_all (leb 32) name ≡ true → n < 10 ^ 16 → AreShown (numbered name n)
 numbered_shown name n e small =

@@ -1,6 +1,6 @@
 -- For proofs: the test decides whether a list of offsets is lawful.
 use Rattle.std.proofs.Common.{◌≡◌, ℕ, zero, suc, ◌-◌, ◌<◌, ◌≤◌, Bool, true, false, T, ℤ, pos, neg_ℤ, ◌≤ℤ◌}
-use Rattle.std.proofs.Common.{List, [], ◌∷◌, length, refl, sym, subst, ◌∙◌, Decides, leb, ltb, int_le}
+use Rattle.std.proofs.Common.{List, [], ◌∷◌, length, refl, sym, subst, ◌∙◌, Decides, ltb, int_le}
 use Rattle.std.proofs.Common.{le_of_suc-le-suc, not-suc-le-zero, suc-le-suc, zero-lt-suc}
 use Rattle.std.proofs.Math.Nat.{sub-zero, suc-sub-suc}
 use Rattle.std.specs.Int.Signed.{le_z_yes}
@@ -11,10 +11,6 @@ use Rattle.taxi_units.specs.Test.{at_most}
 use Rattle.taxi_units.specs.Time.{first_second, last_second}
 use Rattle.seal_record.specs.Limits.{greatest_offset, most_offsets}
 use Rattle.seal_record.specs.OffsetList.{is_in_range, is_rising, is_offset_list}
-
--- the test of two numbers decides which is at most the other
-pub Decides-leb : (a b : ℕ) → Decides (leb a b) (a ≤ b)
-Decides-leb a b = (at_most a b).decides
 
 -- a test that holds is true
 is_true : (b : Bool) → T b → b ≡ true

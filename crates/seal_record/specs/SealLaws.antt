@@ -89,10 +89,6 @@ pub seals_are_read_by_their_table : (bytes : List ℕ) (seal : Seal)
 unfolding reads
 seals_are_read_by_their_table bytes seal = below.reads_exactly seal_test spelling decoded again bytes seal
 
--- a seal that is read is in its ranges
-pub gives_valid : (bytes : List ℕ) (seal : Seal) → reads bytes ≡ Some seal → IsSeal seal
-gives_valid bytes seal read = ((seals_are_read_by_their_table bytes seal).0 read).0
-
 -- seals in their ranges are bodies
 pub seals_are_bodies : AreBodies IsSeal spelling reads
 unfolding reads
