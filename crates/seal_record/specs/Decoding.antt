@@ -20,7 +20,7 @@ pub use Rattle.seal_record.specs.Ranges.{seal_number_of}
 use Rattle.seal_record.specs.Spelling.{spelling, mode_byte, offsets_size, padded, spare_size}
 use Rattle.slot_bodies.specs.BytesAt.{four_at}
 use Rattle.slot_bodies.specs.Codec.{Codec, always, byte, bytes, counted, eight_bytes, fitting, four_bytes, made}
-use Rattle.slot_bodies.specs.Codec.{length-padded, two_bytes, zeros, ◌⊗◌}
+use Rattle.slot_bodies.specs.Codec.{length-padded, two_bytes, zeros, ◌⊗◌, ◌⊙◌}
 use Rattle.slot_bodies.specs.ReadBack.{read_back}
 use Rattle.taxi_units.specs.Identifier.{IsIdentifierCharacter}
 use Rattle.taxi_units.specs.Parting.{HasNone}
@@ -82,25 +82,8 @@ abbrev pub seal_table : Codec Seal
 seal_table = made
     (eight_bytes ⊗ taxi_table ⊗ four_bytes ⊗ one_mode ⊗ two_bytes ⊗ bytes digest_size ⊗ signed_bytes
     ⊗ counted offsets_size pair_table ⊗ byte ⊗ zeros spare_size ⊗ always 1)
-    (λ (s : Seal). (
-      s.seal_number,
-      (
-        s.params.taxi.items,
-        (
-          s.params.constant,
-          (
-            s.params.mode,
-            (
-              s.params.hold,
-              (
-                s.digest,
-                (s.params.secured, (s.params.offsets, (s.decimals, (tt, tt)))),
-              ),
-            ),
-          ),
-        ),
-      ),
-    ))
+    (λ (s : Seal). s.seal_number ⊙ s.params.taxi.items ⊙ s.params.constant ⊙ s.params.mode ⊙ s.params.hold ⊙ s.digest
+    ⊙ s.params.secured ⊙ s.params.offsets ⊙ s.decimals ⊙ tt ⊙ tt)
     (λ (seal_number, (taxi, (constant, (mode, (hold, (digest, (secured, (offsets, (decimals, ends))))))))). record {
       seal_number = seal_number;
       params = record {

@@ -1,5 +1,5 @@
 -- For proofs: the tests of the ranges of parameters and seals, each with what it decides.
-use Rattle.std.specs.Prelude.{◌≡◌, ℕ, ◌≤◌, ℤ, pos, ◌≤ℤ◌, int_le, List, length}
+use Rattle.std.specs.Prelude.{ℕ, ℤ, pos, ◌≤ℤ◌, int_le, List, length}
 use Rattle.interval_clock.specs.Offsets.{IsOffsetList}
 use Rattle.seal_record.specs.declared.params.Params.{Params}
 use Rattle.seal_record.specs.declared.seal.Seal.{Seal}
@@ -7,7 +7,7 @@ use Rattle.seal_record.specs.Limits.{longest_taxi, least_constant, greatest_cons
 use Rattle.seal_record.specs.Limits.{last_seal_number, digest_size, most_decimals}
 use Rattle.seal_record.specs.OffsetLaws.{Decides-int_le, Decides-is_offset_list}
 use Rattle.seal_record.specs.OffsetList.{is_offset_list}
-use Rattle.seal_record.specs.Ranges.{IsDay, IsParams, IsSeal, IsTaxi}
+use Rattle.seal_record.specs.Ranges.{IsParams, IsSeal, IsTaxi}
 use Rattle.taxi_units.specs.Test.{Test, at_most, each, either, same, stated, within, ◌&◌}
 
 -- a character of taxi identifiers

@@ -1,17 +1,17 @@
 -- For proofs: a seal's bytes are read as that seal, and no others are.
-use Rattle.std.proofs.Common.{◌≡◌, ◌↔◌, ℕ, ◌+◌, ◌*◌, ◌<◌, ◌≤◌, ℤ, pos, negsuc, List, [], ◌∷◌, ◌++◌, length, replicate, flat_map, All, FitsSigned, Some, refl, sym, ap, ◌∙◌, arith, append_assoc, append-nil}
-use Rattle.std.specs.Int.{w32, to_be_bytes, w64}
+use Rattle.std.proofs.Common.{◌≡◌, ◌↔◌, ℕ, ◌*◌, ◌^◌, ◌<◌, ◌≤◌, ℤ, pos, negsuc, List, [], ◌∷◌, length, flat_map, All, FitsSigned, Some, refl, sym, ap, ◌∙◌, arith, append-nil}
+use Rattle.std.specs.Int.{w32}
 use Rattle.std.proofs.lemmas.Int.{ints}
 use Rattle.std.proofs.lemmas.List.Elements.{All-from_get_or}
-use Rattle.interval_clock.specs.Offsets.{IsOffset, IsInRangeAt, IsOffsetList}
+use Rattle.interval_clock.specs.Offsets.{IsOffset, IsInRangeAt}
 use Rattle.slot_bodies.specs.Bodies.{AreBodies, body_size}
+use Rattle.slot_bodies.specs.Codec.{◌⊙◌}
 use Rattle.slot_bodies.proofs.Laws as below
-use Rattle.seal_record.specs.declared.params.Params.{Params}
 use Rattle.seal_record.specs.declared.seal.Seal.{Seal}
 use Rattle.seal_record.specs.Decoding.{decoded, pair_table, reads, seal_table}
 use Rattle.seal_record.specs.RangeTests.{seal_test}
 use Rattle.seal_record.specs.Ranges.{IsDay, IsSeal}
-use Rattle.seal_record.specs.Spelling.{end_bytes, offset_bytes, padded, pair_bytes, settings_bytes, signed_bytes, spelling}
+use Rattle.seal_record.specs.Spelling.{pair_bytes, spelling}
 
 -- ---- what is in its ranges fits its bytes
 
@@ -40,30 +40,14 @@ pairs_fit pairs each = All-from_get_or pair_table.Fits pairs (0, pos 0) (λ plac
 seal_fits : (seal : Seal) → IsSeal seal → seal_table.Fits seal
 seal_fits seal is =
     let params = seal.params in
+    let number : seal.seal_number < 2 ^ 64 = omega (arith, is.seal_number.1) in
+    let constant : params.constant < 2 ^ 32 = omega (arith, is.params.constant.1) in
+    let hold : params.hold < 2 ^ 16 = omega (arith, is.params.hold) in
     let room : length (flat_map pair_bytes params.offsets) ≤ 384 =
-    omega (arith, length-pairs params.offsets, is.params.offsets.few) in (
-      (
-        omega (arith, is.seal_number.1),
-        (
-          is.params.taxi,
-          (
-            omega (arith, is.params.constant.1),
-            (
-              tt,
-              (
-                omega (arith, is.params.hold),
-                (
-                  is.digest,
-                  (
-                    fits_day params.secured is.params.secured,
-                    ((room, pairs_fit params.offsets is.params.offsets.in_range), (tt, (tt, tt))),
-                  ),
-                ),
-              ),
-            ),
-          ),
-        ),
-      ),
+    omega (arith, length-pairs params.offsets, is.params.offsets.few) in
+    let pairs = pairs_fit params.offsets is.params.offsets.in_range in (
+      number ⊙ is.params.taxi ⊙ constant ⊙ tt ⊙ hold ⊙ is.digest ⊙ fits_day params.secured is.params.secured
+          ⊙ (room ⊙ pairs) ⊙ tt ⊙ tt ⊙ tt,
       refl,
     )
 
