@@ -24,5 +24,3 @@ mod Numbering
 mod RowOrder
 -- a row of tables fits into an empty line
 mod ShortRows
--- the rates among the lines of a program's tariff
-mod SoundLines

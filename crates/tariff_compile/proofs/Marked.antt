@@ -1,15 +1,16 @@
 -- How marks are made: one context after another, and the first mark that a place has.
-use Rattle.std.proofs.Common.{◌≡◌, ◌∙◌, ap, add-one, drop-cons, ℕ, ◌+◌, ◌<◌, ◌≤◌, Bool, false, List, [], ◌∷◌, ◌++◌, length, get_or, drop, map, Option, Some, None, refl, arith}
+use Rattle.std.proofs.Common.{◌≡◌, ◌∙◌, ap, sym, drop-cons, ℕ, zero, suc, ◌+◌, ◌<◌, ◌≤◌, Bool, false, List, [], ◌∷◌}
+use Rattle.std.proofs.Common.{◌++◌, length, get_or, drop, map, Option, Some, refl, arith}
 use Rattle.std.proofs.lemmas.Grind.{common_steps}
-use Rattle.std.specs.List.{cons_option, position_from, slice_get}
+use Rattle.std.proofs.lemmas.List.{append-nil}
+use Rattle.std.specs.List.{position_from, slice_get}
+use Rattle.tariff_check.specs.SoundTariff.{own_conditions, when_at}
+use Rattle.tariff_check.specs.declared.choice.Choice.{Choice}
 use Rattle.tariff_syntax.specs.Condition.{Condition}
 use Rattle.tariff_syntax.specs.Meaning.{holds_if}
-use Rattle.tariff_syntax.specs.Tree.{Line, entry_of, line_of}
+use Rattle.tariff_syntax.specs.Tree.{Line}
 use Rattle.tariff_syntax.specs.declared.context.Context.{Context}
-use Rattle.tariff_syntax.specs.declared.tariff.TariffLine.{TariffLine}
-use Rattle.tariff_compile.specs.Marks.{MarkEach, MarksThose, conditions_of, is_marked}
-use Rattle.tariff_syntax.specs.Parts.{when_of}
-use Rattle.tariff_syntax.specs.declared.meaning.LineKind.{LineKind}
+use Rattle.tariff_compile.specs.Marks.{MarkEach, MarksThose, is_marked}
 use Rattle.tariff_compile.specs.declared.marks.Marks.{Marks}
 
 -- those of the first contexts are marked that pass a test, and no later place is
@@ -31,50 +32,60 @@ first_by_answers f g n (x ∷ xs) (y ∷ ys) same =
     let tail : map f xs ≡ map g ys = cc in
     rw (head, first_by_answers f g (n + 1) xs ys tail)
 
--- so where these are the marks of each line of a kind, the first marks that a place has are those of the first that holds
-pub first_holds : (kind : LineKind) (lines own : List Line) (xs : List Context) (all read : List Marks) (place : ℕ) (x : Context) (found : Option ℕ)
-    → MarkEach (conditions_of kind own) xs all → own ≡ lines → read ≡ all → slice_get xs place ≡ Some x
-    → found ≡ position_from (λ (marks : Marks). is_marked marks place) 0 read → found ≡ position_from (holds_if x) 0 (conditions_of kind lines)
-first_holds kind lines own xs all read place x found each its same at is =
+-- so where these are the marks of each of some conditions, the first marks that a place has are those of the first
+-- that holds
+pub first_holds : (own conditions : List (Option Condition)) (xs : List Context) (all read : List Marks) (place : ℕ)
+    (x : Context) (found : Option ℕ)
+    → MarkEach own xs all → own ≡ conditions → read ≡ all → slice_get xs place ≡ Some x
+    → found ≡ position_from (λ (marks : Marks). is_marked marks place) 0 read
+    → found ≡ position_from (holds_if x) 0 conditions
+first_holds own conditions xs all read place x found each its same at is =
     is ∙ (ap (position_from (λ (marks : Marks). is_marked marks place) 0) same
-    ∙ (first_by_answers (λ (marks : Marks). is_marked marks place) (holds_if x) 0 all (conditions_of kind own) (each place x at)
-    ∙ ap (λ (ls : List Line). position_from (holds_if x) 0 (conditions_of kind ls)) its))
+    ∙ (first_by_answers (λ (marks : Marks). is_marked marks place) (holds_if x) 0 all own (each place x at)
+    ∙ ap (position_from (holds_if x) 0) its))
 
--- the marks of a line more
-pub record HasMarksOf (kind : LineKind) (lines : List TariffLine) (xs : List Context) (n : ℕ) (all : List Marks) : Type 0 where
+-- the marks of the choices before a place
+pub record HasMarks {V : Type 0} (lines : List Line) (own : List (Choice V)) (xs : List Context) (n : ℕ)
+    (all : List Marks) : Type 0 where
   pub each : (place : ℕ) (x : Context) → slice_get xs place ≡ Some x
-      → map (λ (marks : Marks). is_marked marks place) all ++ map (holds_if x) (conditions_of kind (map line_of (drop n lines)))
-      ≡ map (holds_if x) (conditions_of kind (map line_of lines))
+      → map (λ (marks : Marks). is_marked marks place) all ++ map (holds_if x) (own_conditions lines (drop n own))
+      ≡ map (holds_if x) (own_conditions lines own)
 
-line_next : (kind : LineKind) (lines : List TariffLine) (n : ℕ) (line : TariffLine) → n < length lines → line ≡ get_or lines n line
-    → conditions_of kind (map line_of (drop n lines)) ≡ cons_option (when_of kind (entry_of line.item)) (conditions_of kind (map line_of (drop (n + 1) lines)))
-line_next kind lines n line within is =
-    ap (λ (ls : List TariffLine). conditions_of kind (map line_of ls)) (drop-cons lines n line within)
-    ∙ rw (← is, add-one)
+choice_next : {V : Type 0} (lines : List Line) (own : List (Choice V)) (n : ℕ) (c : Choice V) → n < length own
+    → c ≡ get_or own n c
+    → own_conditions lines (drop n own) ≡ when_at lines c.place ∷ own_conditions lines (drop (n + 1) own)
+choice_next {V} lines own n c within is =
+    let next : suc n ≡ n + 1 = omega arith in
+    ap (own_conditions lines)
+    (drop-cons own n c within ∙ ap (λ (d : Choice V). d ∷ drop (suc n) own) (sym is)
+    ∙ ap (λ (m : ℕ). c ∷ drop m own) next)
 
--- one that is of the kind
-pub marks_of_line : (kind : LineKind) (lines : List TariffLine) (xs : List Context) (n : ℕ) (all : List Marks) (line : TariffLine) (cond : Option Condition) (marks : Marks)
-    → HasMarksOf kind lines xs n all → n < length lines → line ≡ get_or lines n line
-    → when_of kind (entry_of line.item) ≡ Some cond → MarksThose (λ x. holds_if x cond) xs marks
-    → HasMarksOf kind lines xs (n + 1) (all ++ marks ∷ [])
-marks_of_line kind lines xs n all line cond marks has within is of those =
+-- and those of one choice more
+pub marks_of_choice : {V : Type 0} (lines : List Line) (own : List (Choice V)) (xs : List Context) (n : ℕ)
+    (all : List Marks) (c : Choice V) (marks : Marks)
+    → HasMarks lines own xs n all → n < length own → c ≡ get_or own n c
+    → MarksThose (λ x. holds_if x (when_at lines c.place)) xs marks
+    → HasMarks lines own xs (n + 1) (all ++ marks ∷ [])
+marks_of_choice lines own xs n all c marks has within is those =
     record {
       each = λ place x at.
-          let next = line_next kind lines n line within is in
+          let next = choice_next lines own n c within is in
           let whole = has.each place x at in
           let here = those place x at in
-          grind (arith, common_steps, next, whole, here, of);
+          grind (arith, common_steps, next, whole, here);
     }
 
--- and one that isn't
-pub marks_of_none : (kind : LineKind) (lines : List TariffLine) (xs : List Context) (n : ℕ) (all : List Marks) (line : TariffLine)
-    → HasMarksOf kind lines xs n all → n < length lines → line ≡ get_or lines n line
-    → when_of kind (entry_of line.item) ≡ None
-    → HasMarksOf kind lines xs (n + 1) all
-marks_of_none kind lines xs n all line has within is of =
-    record {
-      each = λ place x at.
-          let next = line_next kind lines n line within is in
-          let whole = has.each place x at in
-          grind (arith, common_steps, next, whole, of);
-    }
+drop_past : {A : Type 0} (xs : List A) (n : ℕ) → length xs ≤ n → drop n xs ≡ []
+drop_past [] zero past = refl
+drop_past [] (suc n) past = refl
+drop_past (x ∷ xs) zero past = absurd (omega arith)
+drop_past (x ∷ xs) (suc n) past = drop_past xs n (omega arith)
+
+-- behind the last choice these are the marks of each
+pub all_marked : {V : Type 0} (lines : List Line) (own : List (Choice V)) (xs : List Context) (n : ℕ) (all : List Marks)
+    → HasMarks lines own xs n all → length own ≤ n → MarkEach (own_conditions lines own) xs all
+all_marked {V} lines own xs n all has past = λ place x at.
+    let marked = map (λ (marks : Marks). is_marked marks place) all in
+    sym (append-nil marked)
+    ∙ (ap (λ (left : List (Choice V)). marked ++ map (holds_if x) (own_conditions lines left))
+    (sym (drop_past own n past)) ∙ has.each place x at)

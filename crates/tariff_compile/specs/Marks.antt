@@ -4,10 +4,7 @@ use Rattle.std.specs.Int.{bit_at}
 use Rattle.std.specs.List.{slice_get}
 use Rattle.tariff_syntax.specs.Condition.{Condition}
 use Rattle.tariff_syntax.specs.Meaning.{holds_if}
-use Rattle.tariff_syntax.specs.Parts.{parts, when_of}
-use Rattle.tariff_syntax.specs.Tree.{Line}
 use Rattle.tariff_syntax.specs.declared.context.Context.{Context}
-use Rattle.tariff_syntax.specs.declared.meaning.LineKind.{LineKind}
 use Rattle.tariff_compile.specs.declared.marks.Marks.{Marks}
 
 -- a test whether a place is marked
@@ -17,10 +14,6 @@ is_marked marks place = bit_at marks.bits place == 1
 -- marks are those of a test if exactly the contexts that pass it are marked
 abbrev pub MarksThose : (Context → Bool) → List Context → Marks → Type 0
 MarksThose passes xs marks = (place : ℕ) (x : Context) → slice_get xs place ≡ Some x → is_marked marks place ≡ passes x
-
--- the lines of a kind have these conditions, in order
-abbrev pub conditions_of : LineKind → List Line → List (Option Condition)
-conditions_of kind lines = parts (when_of kind) lines
 
 -- lists of marks are those of conditions, in order, if each context has the marks of the conditions that hold in it
 abbrev pub MarkEach : List (Option Condition) → List Context → List Marks → Type 0

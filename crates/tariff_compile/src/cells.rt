@@ -17,7 +17,7 @@ use drive_modes::Constant;
 use std::alloc::Global;
 use tariff_calendar::Cuts;
 use tariff_check::Checked;
-use tariff_syntax::{Context, LineKind};
+use tariff_syntax::Context;
 use taxi_units::NoMemory;
 
 /// The lines of each cell. `NoMemory` where memory runs out.
@@ -80,11 +80,10 @@ fn push_lines(
     requires { length contexts.now ≤ 64 }
     ensures { OnOk result (cells.new.items ≡ cells.old.items ++ map (lines_at (tree_of checked.now)) contexts.now) }
 {
-    let lines = checked.tariff().lines.as_slice();
     let hirings = hirings(alloc, contexts)?;
-    let rates = marks_of_each(alloc, LineKind::Rate, lines, contexts)?;
-    let initials = marks_of_each(alloc, LineKind::Initial, lines, hirings.as_slice())?;
-    let minimums = marks_of_each(alloc, LineKind::Minimum, lines, hirings.as_slice())?;
+    let rates = marks_of_each(alloc, checked, checked.rates(), contexts)?;
+    let initials = marks_of_each(alloc, checked, checked.initials(), hirings.as_slice())?;
+    let minimums = marks_of_each(alloc, checked, checked.minimums(), hirings.as_slice())?;
     for place in 0..contexts.len() {
         let rate = first_marked(rates.as_slice(), place);
         let initial = first_marked(initials.as_slice(), place);

@@ -4,7 +4,7 @@ ghost use Rattle.tariff_compile.specs.Tables.{IsFit, IsTablesOf, tables_of};
 ghost use Rattle.tariff_syntax.specs.Tree.{tree_of};
 
 use crate::cells::all_cells;
-use crate::lines::{all_initials, all_minimums, all_supplements, all_weights};
+use crate::choices::{all_initials, all_minimums, all_supplements, all_weights};
 use crate::tables::Tables;
 use drive_modes::Constant;
 use std::alloc::Global;
@@ -19,14 +19,12 @@ pub fn compile(alloc: Global, checked: &Checked, k: Constant) -> Result<Tables, 
     ensures tables { IfOk result (IsTablesOf (tree_of checked.now)) }
     ensures fit { IfOk result IsFit }
 {
-    let tariff = checked.tariff();
-    let lines = tariff.lines.as_slice();
     let cuts = Cuts::collect(alloc, checked, k)?;
-    let weights = all_weights(alloc, lines, k, checked.measure())?;
-    let initials = all_initials(alloc, lines)?;
-    let minimums = all_minimums(alloc, lines)?;
+    let weights = all_weights(alloc, checked.rates(), k, checked.measure())?;
+    let initials = all_initials(alloc, checked.initials())?;
+    let minimums = all_minimums(alloc, checked.minimums())?;
     let cells = all_cells(alloc, checked, &cuts, k)?;
-    let supplements = all_supplements(alloc, lines)?;
+    let supplements = all_supplements(alloc, checked)?;
     let (step, rounding) = checked.step();
     Ok(Tables {
         cuts,
@@ -39,7 +37,7 @@ pub fn compile(alloc: Global, checked: &Checked, k: Constant) -> Result<Tables, 
         measure: k.get() as u128 * checked.measure() as u128,
         step,
         rounding,
-        decimals: tariff.decimals,
+        decimals: checked.tariff().decimals,
         positions: checked.positions(),
         zones: checked.zones(),
     })

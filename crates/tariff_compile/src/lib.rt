@@ -5,9 +5,9 @@
 mod alike;
 mod bands;
 mod cells;
+mod choices;
 mod compiling;
 mod contexts;
-mod lines;
 mod marking;
 mod marks;
 mod parts;
@@ -15,8 +15,8 @@ mod rows;
 mod tables;
 mod theorems;
 
+pub use choices::supplement_of;
 pub use compiling::compile;
-pub use lines::supplement_of;
 pub use parts::{CellLines, Initial, Lasting, Supplement};
 pub use tables::Tables;
 pub use theorems::{

@@ -1,36 +1,38 @@
 //! In which of up to 64 contexts the conditions of a tariff hold: a condition is asked in all of them at
 //! once.
 ghost use Rattle.std.specs.List.{position_from};
-ghost use Rattle.std.specs.Prelude.{◌≡◌, ◌<◌, ◌≤◌, IfOk, length, map};
+ghost use Rattle.std.specs.Prelude.{◌≡◌, ◌<◌, ◌≤◌, IfOk, length};
+ghost use Rattle.tariff_check.specs.SoundTariff.{own_conditions, when_at};
 ghost use Rattle.tariff_compile.specs.Alike.{AllAgree};
-ghost use Rattle.tariff_compile.specs.Marks.{MarkEach, MarksThose, conditions_of, is_marked};
-ghost use Rattle.tariff_syntax.specs.Condition.{condition_if, condition_of};
+ghost use Rattle.tariff_compile.specs.Marks.{MarkEach, MarksThose, is_marked};
+ghost use Rattle.tariff_syntax.specs.Condition.{condition_of};
 ghost use Rattle.tariff_syntax.specs.Meaning.{holds, holds_if};
-ghost use Rattle.tariff_syntax.specs.Tree.{line_of};
+ghost use Rattle.tariff_syntax.specs.Tree.{tree_of};
 
 use crate::alike::Alike;
 use crate::marks::Marks;
 use std::alloc::Global;
-use tariff_syntax::{Cond, Context, LineKind, TariffLine, sat, when_of};
+use tariff_check::{Checked, Choice};
+use tariff_syntax::{Cond, Context, sat};
 use taxi_units::NoMemory;
 
-/// The marks of each line of a kind, in order: the contexts in which it holds.
-pub(crate) fn marks_of_each(
+/// The marks of each choice of a tariff, in order: the contexts in which it holds.
+pub(crate) fn marks_of_each<V>(
     alloc: Global,
-    kind: LineKind,
-    lines: &[TariffLine],
+    checked: &Checked,
+    choices: &[Choice<V>],
     contexts: &[Context],
 ) -> Result<Vec<Marks>, NoMemory>
     requires { length contexts.now ≤ 64 }
-    ensures { IfOk result (λ all. MarkEach (conditions_of kind (map line_of lines.now)) contexts.now all.items) }
+    ensures { IfOk result
+        (λ all. MarkEach (own_conditions (tree_of checked.now).lines choices.now) contexts.now all.items) }
 {
     let alike = Alike::of(contexts);
     let mut all = Vec::new(alloc);
-    for line in lines {
-        if let Some(cond) = when_of(kind, &line.item) {
-            if all.push(marks_if(cond, alike, contexts)).is_err() {
-                return Err(NoMemory);
-            }
+    for choice in choices {
+        let marks = marks_at(checked, choice.place, alike, contexts);
+        if all.push(marks).is_err() {
+            return Err(NoMemory);
         }
     }
     Ok(all)
@@ -49,13 +51,13 @@ pub(crate) fn first_marked(all: &[Marks], place: usize) -> Option<usize>
     None
 }
 
-/// The contexts in which a line holds that may have a condition.
-fn marks_if(cond: &Option<Cond>, alike: Alike, contexts: &[Context]) -> Marks
+/// The contexts in which the line at a place of a tariff holds, which may have a condition.
+fn marks_at(checked: &Checked, place: usize, alike: Alike, contexts: &[Context]) -> Marks
     requires few { length contexts.now ≤ 64 }
     requires alike { AllAgree alike contexts.now }
-    ensures { MarksThose (λ x. holds_if x (condition_if cond.now)) contexts.now result }
+    ensures { MarksThose (λ x. holds_if x (when_at (tree_of checked.now).lines place)) contexts.now result }
 {
-    match cond {
+    match checked.condition_at(place) {
         Some(cond) => marks_of(cond, alike, contexts),
         None => Marks::all_or_none(true),
     }

@@ -4,26 +4,20 @@ use Rattle.std.proofs.lemmas.List.{map-append}
 use Rattle.std.proofs.lemmas.Option.{slice_get-map}
 use Rattle.std.specs.List.{slice_get}
 use Rattle.std.specs.Option.{option_map, unwrap_or}
-use Rattle.tariff_check.proofs.Laws.{lines_that_hold_are_there-minimum, sound_tariffs_have_sound_parts-parts}
+use Rattle.tariff_check.proofs.Laws.{lines_that_hold_are_there-minimum, sound_tariffs_are_their_parts-choices, sound_tariffs_have_sound_parts-parts}
 use Rattle.tariff_check.specs.Faults.{IsSound}
 use Rattle.tariff_check.specs.Parts.{initials_of, rates_of}
 use Rattle.tariff_syntax.specs.Meaning.{at_hiring, initial_place, minimum_place, rate_place}
-use Rattle.tariff_syntax.specs.Tree.{Tree, line_of, tree_of}
+use Rattle.tariff_syntax.specs.Parts.{initial_conditions, minimum_conditions, rate_conditions}
+use Rattle.tariff_syntax.specs.Tree.{Tree, tree_of}
 use Rattle.tariff_syntax.specs.Writable.{IsWritable}
 use Rattle.tariff_syntax.specs.declared.context.Context.{Context}
-use Rattle.tariff_syntax.specs.declared.tariff.Tariff.{Tariff}
-use Rattle.tariff_syntax.specs.declared.tariff.TariffLine.{TariffLine}
 use Rattle.tariff_compile.specs.Tables.{lines_at, place_number}
-use Rattle.tariff_syntax.specs.declared.meaning.LineKind.TheVariants.{Rate, Initial, Minimum}
 use Rattle.tariff_compile.specs.declared.parts.CellLines.{CellLines}
 use Rattle.tariff_compile.proofs.Blocks.{at_place}
 use Rattle.tariff_compile.proofs.Compiled.{initial_place-below, rate_place-below}
 use Rattle.tariff_compile.proofs.Marked.{first_holds}
 use Rattle.tariff_compile.proofs.cells.push_lines.Goals as goal
-
--- the lines of a tariff of the program
-lines_in : (read : List TariffLine) (own now : Tariff) → read ≡ own.lines → own ≡ now → map line_of read ≡ (tree_of now).lines
-lines_in read own now are same = ap (map line_of) (are ∙ ap (λ (tariff : Tariff). tariff.lines) same)
 
 -- a context of those at the hiring
 hiring_at : (xs hirings read : List Context) (place : ℕ) (x : Context) → hirings ≡ map at_hiring xs → read ≡ hirings → slice_get xs place ≡ Some x → slice_get read place ≡ Some (at_hiring x)
@@ -54,41 +48,41 @@ lines_made t x made rate initial minimum by_rate by_initial by_minimum is_rate i
 pub cell_lines-requires-clause-rate : goal.cell_lines-requires-clause-rate
 cell_lines-requires-clause-rate c = λ p found.
     let t = tree_of c.args.checked.now in
-    let lines = lines_in c.as_slice-lines.result.now c.tariff.result.now c.args.checked.now c.as_slice-lines.ensures c.tariff.ensures.value in
+    let parts = sound_tariffs_are_their_parts-choices t in
     let here = at_place c.args.contexts.now c.loop-place.place c.loop-place-test.true in
-    let first = first_holds Rate t.lines _ c.args.contexts.now c.in_ok-rates.rates.items _ c.loop-place.place here.0 _ c.in_ok-rates.ensures lines c.as_slice-in-loop-place.ensures.value here.1 c.first_marked-rate.ensures in
-    rate_few t here.0 p c.tariff.ensures.writable c.tariff.ensures.sound (sym first ∙ found)
+    let first = first_holds _ (rate_conditions t.lines) c.args.contexts.now c.in_ok-rates.rates.items _ c.loop-place.place here.0 _ c.in_ok-rates.ensures (c.rates.ensures.value.conditions ∙ parts.rate_conditions) c.as_slice-in-loop-place.ensures.value here.1 c.first_marked-rate.ensures in
+    rate_few t here.0 p c.rates.ensures.writable c.rates.ensures.sound (sym first ∙ found)
 
 pub cell_lines-requires-clause-initial : goal.cell_lines-requires-clause-initial
 cell_lines-requires-clause-initial c = λ p found.
     let t = tree_of c.args.checked.now in
-    let lines = lines_in c.as_slice-lines.result.now c.tariff.result.now c.args.checked.now c.as_slice-lines.ensures c.tariff.ensures.value in
+    let parts = sound_tariffs_are_their_parts-choices t in
     let here = at_place c.args.contexts.now c.loop-place.place c.loop-place-test.true in
     let at = hiring_at c.args.contexts.now c.in_ok-hirings.hirings.items c.as_slice.result.now c.loop-place.place here.0 c.in_ok-hirings.ensures c.as_slice.ensures.value here.1 in
-    let first = first_holds Initial t.lines _ c.as_slice.result.now c.in_ok-initials.initials.items _ c.loop-place.place (at_hiring here.0) _ c.in_ok-initials.ensures lines c.as_slice-in-loop-place-2.ensures.value at c.first_marked-initial.ensures in
-    initial_few t here.0 p c.tariff.ensures.writable c.tariff.ensures.sound (sym first ∙ found)
+    let first = first_holds _ (initial_conditions t.lines) c.as_slice.result.now c.in_ok-initials.initials.items _ c.loop-place.place (at_hiring here.0) _ c.in_ok-initials.ensures (c.initials.ensures.value.conditions ∙ parts.initial_conditions) c.as_slice-in-loop-place-2.ensures.value at c.first_marked-initial.ensures in
+    initial_few t here.0 p c.rates.ensures.writable c.rates.ensures.sound (sym first ∙ found)
 
 pub cell_lines-requires-clause-minimum : goal.cell_lines-requires-clause-minimum
 cell_lines-requires-clause-minimum c = λ p found.
     let t = tree_of c.args.checked.now in
-    let lines = lines_in c.as_slice-lines.result.now c.tariff.result.now c.args.checked.now c.as_slice-lines.ensures c.tariff.ensures.value in
+    let parts = sound_tariffs_are_their_parts-choices t in
     let here = at_place c.args.contexts.now c.loop-place.place c.loop-place-test.true in
     let at = hiring_at c.args.contexts.now c.in_ok-hirings.hirings.items c.as_slice-2.result.now c.loop-place.place here.0 c.in_ok-hirings.ensures c.as_slice-2.ensures.value here.1 in
-    let first = first_holds Minimum t.lines _ c.as_slice-2.result.now c.in_ok-minimums.minimums.items _ c.loop-place.place (at_hiring here.0) _ c.in_ok-minimums.ensures lines c.as_slice-in-loop-place-3.ensures.value at c.first_marked-minimum.ensures in
-    minimum_few t here.0 p c.tariff.ensures.writable c.tariff.ensures.sound (sym first ∙ found)
+    let first = first_holds _ (minimum_conditions t.lines) c.as_slice-2.result.now c.in_ok-minimums.minimums.items _ c.loop-place.place (at_hiring here.0) _ c.in_ok-minimums.ensures (c.minimums.ensures.value.conditions ∙ parts.minimum_conditions) c.as_slice-in-loop-place-3.ensures.value at c.first_marked-minimum.ensures in
+    minimum_few t here.0 p c.rates.ensures.writable c.rates.ensures.sound (sym first ∙ found)
 
 pub loop-place-preserved : goal.loop-place-preserved
 loop-place-preserved c =
     let t = tree_of c.args.checked.now in
-    let lines = lines_in c.as_slice-lines.result.now c.tariff.result.now c.args.checked.now c.as_slice-lines.ensures c.tariff.ensures.value in
+    let parts = sound_tariffs_are_their_parts-choices t in
     let place = c.loop-place.place in
     let here = at_place c.args.contexts.now place c.loop-place-test.true in
     let x = here.0 in
     let hired = hiring_at c.args.contexts.now c.in_ok-hirings.hirings.items c.as_slice.result.now place x c.in_ok-hirings.ensures c.as_slice.ensures.value here.1 in
     let hired_2 = hiring_at c.args.contexts.now c.in_ok-hirings.hirings.items c.as_slice-2.result.now place x c.in_ok-hirings.ensures c.as_slice-2.ensures.value here.1 in
-    let rate = first_holds Rate t.lines _ c.args.contexts.now c.in_ok-rates.rates.items _ place x _ c.in_ok-rates.ensures lines c.as_slice-in-loop-place.ensures.value here.1 c.first_marked-rate.ensures in
-    let initial = first_holds Initial t.lines _ c.as_slice.result.now c.in_ok-initials.initials.items _ place (at_hiring x) _ c.in_ok-initials.ensures lines c.as_slice-in-loop-place-2.ensures.value hired c.first_marked-initial.ensures in
-    let minimum = first_holds Minimum t.lines _ c.as_slice-2.result.now c.in_ok-minimums.minimums.items _ place (at_hiring x) _ c.in_ok-minimums.ensures lines c.as_slice-in-loop-place-3.ensures.value hired_2 c.first_marked-minimum.ensures in
+    let rate = first_holds _ (rate_conditions t.lines) c.args.contexts.now c.in_ok-rates.rates.items _ place x _ c.in_ok-rates.ensures (c.rates.ensures.value.conditions ∙ parts.rate_conditions) c.as_slice-in-loop-place.ensures.value here.1 c.first_marked-rate.ensures in
+    let initial = first_holds _ (initial_conditions t.lines) c.as_slice.result.now c.in_ok-initials.initials.items _ place (at_hiring x) _ c.in_ok-initials.ensures (c.initials.ensures.value.conditions ∙ parts.initial_conditions) c.as_slice-in-loop-place-2.ensures.value hired c.first_marked-initial.ensures in
+    let minimum = first_holds _ (minimum_conditions t.lines) c.as_slice-2.result.now c.in_ok-minimums.minimums.items _ place (at_hiring x) _ c.in_ok-minimums.ensures (c.minimums.ensures.value.conditions ∙ parts.minimum_conditions) c.as_slice-in-loop-place-3.ensures.value hired_2 c.first_marked-minimum.ensures in
     let made : c.cell_lines.result ≡ lines_at t x = lines_made t x _ _ _ _ c.cell_lines.ensures.rate c.cell_lines.ensures.initial c.cell_lines.ensures.minimum rate initial minimum in
     let more : map (lines_at t) (take (place + 1) c.args.contexts.now) ≡ map (lines_at t) (take place c.args.contexts.now) ++ lines_at t x ∷ [] =
     ap (map (lines_at t)) here.2 ∙ map-append (lines_at t) (take place c.args.contexts.now) (x ∷ []) in

@@ -1,15 +1,14 @@
-use Rattle.std.proofs.Common.{◌≡◌, ◌∙◌, ap, map}
-use Rattle.tariff_check.proofs.Laws.{sound_tariffs_have_sound_parts-parts}
-use Rattle.tariff_syntax.specs.Tree.{line_of, tree_of}
-use Rattle.tariff_syntax.specs.declared.tariff.Tariff.{Tariff}
+use Rattle.std.proofs.Common.{◌∙◌}
+use Rattle.tariff_check.proofs.Laws.{sound_tariffs_are_their_parts-choices, sound_tariffs_have_sound_parts-parts}
+use Rattle.tariff_syntax.specs.Tree.{tree_of}
 use Rattle.tariff_compile.proofs.Compiled.{tables_fit}
 use Rattle.tariff_compile.proofs.compiling.compile.Goals as goal
 
 pub all_weights-requires-clause-rates : goal.all_weights-requires-clause-rates
 all_weights-requires-clause-rates c =
     let t = tree_of c.args.checked.now in
-    let parts = sound_tariffs_have_sound_parts-parts t c.tariff-tariff.ensures.writable c.tariff-tariff.ensures.sound in
-    rw (c.as_slice-lines.ensures, c.tariff-tariff.ensures.value) parts.rates
+    let parts = sound_tariffs_have_sound_parts-parts t c.rates.ensures.writable c.rates.ensures.sound in
+    rw (c.rates.ensures.value.values ∙ (sound_tariffs_are_their_parts-choices t).rates) parts.rates
 
 pub all_weights-requires-clause-measure : goal.all_weights-requires-clause-measure
 all_weights-requires-clause-measure c =
@@ -17,16 +16,16 @@ all_weights-requires-clause-measure c =
 
 pub all_cells-requires-clause-parts : goal.all_cells-requires-clause-parts
 all_cells-requires-clause-parts c =
-    sound_tariffs_have_sound_parts-parts (tree_of c.args.checked.now) c.tariff-tariff.ensures.writable c.tariff-tariff.ensures.sound
+    sound_tariffs_have_sound_parts-parts (tree_of c.args.checked.now) c.rates.ensures.writable c.rates.ensures.sound
 
 pub invariant_of-result : goal.invariant_of-result
 invariant_of-result c =
     let t = tree_of c.args.checked.now in
-    let lines : map line_of c.as_slice-lines.result.now ≡ t.lines = ap (map line_of) (c.as_slice-lines.ensures ∙ ap (λ (tariff : Tariff). tariff.lines) c.tariff-tariff.ensures.value) in (
+    let parts = sound_tariffs_are_their_parts-choices t in (
       t,
       record {
-        writable = c.tariff-tariff.ensures.writable;
-        sound = c.tariff-tariff.ensures.sound;
+        writable = c.rates.ensures.writable;
+        sound = c.rates.ensures.sound;
         constant = (rw (← c.get.ensures.value) c.get.ensures.least, rw (← c.get.ensures.value) c.get.ensures.most);
         parts = rw (
           c.step-step.ensures.value,
@@ -34,6 +33,9 @@ invariant_of-result c =
           c.in_ok-weights.ensures,
           c.in_ok-initials.ensures,
           c.in_ok-minimums.ensures,
+          c.rates.ensures.value.values ∙ parts.rates,
+          c.initials.ensures.value.values ∙ parts.initials,
+          c.minimums.ensures.value.values ∙ parts.minimums,
           c.in_ok-cells.ensures,
           c.in_ok-supplements.ensures,
           c.get.ensures.value,
@@ -41,11 +43,18 @@ invariant_of-result c =
           c.measure-2.ensures.value,
           c.positions.ensures.value,
           c.zones.ensures.value,
-          c.tariff-tariff.ensures.value,
-          lines,
+          c.tariff.ensures.value,
         );
       },
     )
 
 pub returns-clause-fit : goal.returns-clause-fit
 returns-clause-fit c = tables_fit _ (invariant_of-result c)
+
+pub returns-clause-value : goal.returns-clause-value
+unfolding invariant_of-result
+returns-clause-value c = (invariant_of-result c).1.parts
+
+pub returns-clause-tables : goal.returns-clause-tables
+unfolding invariant_of-result
+returns-clause-tables c = (invariant_of-result c).1

@@ -1,5 +1,6 @@
-use Rattle.tariff_compile.proofs.Marked.{HasMarksOf}
+use Rattle.tariff_syntax.specs.Tree.{tree_of}
+use Rattle.tariff_compile.proofs.Marked.{HasMarks}
 use Rattle.tariff_compile.proofs.marking.marks_of_each.Given as goal
 
-abbrev pub invariant-loop-line : goal.invariant-loop-line
-invariant-loop-line l = HasMarksOf l.kind l.lines l.contexts l.line-index l.all.items
+abbrev pub invariant-loop-choice : goal.invariant-loop-choice
+invariant-loop-choice g l = HasMarks (tree_of l.checked).lines l.choices l.contexts l.choice-index l.all.items

@@ -2,9 +2,11 @@ use Rattle.std.proofs.Common.{◌≡◌, ◌+◌, map}
 use Rattle.std.specs.List.{range_with_len}
 use Rattle.std.specs.Option.{option_map}
 use Rattle.tariff_check.specs.Parts.{supplement_of}
-use Rattle.tariff_syntax.specs.Tree.{line_of}
+use Rattle.tariff_syntax.specs.Tree.{tree_of}
 use Rattle.tariff_compile.specs.Tables.{supplement_in}
-use Rattle.tariff_compile.proofs.lines.all_supplements.Given as goal
+use Rattle.tariff_compile.proofs.choices.all_supplements.Given as goal
 
 abbrev pub invariant-loop-place : goal.invariant-loop-place
-invariant-loop-place l = l.all.items ≡ map (λ place. option_map supplement_in (supplement_of (map line_of l.lines) (place + 1))) (range_with_len 0 l.place)
+invariant-loop-place l =
+    l.all.items ≡ map (λ place. option_map supplement_in (supplement_of (tree_of l.checked).lines (place + 1)))
+    (range_with_len 0 l.place)
