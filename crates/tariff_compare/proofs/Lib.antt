@@ -32,6 +32,8 @@ pub mod Numbers
 pub mod Order
 -- numbers from one on
 pub mod Ranges
+-- what the rates of a side cost
+mod SideRates
 -- days and minutes of a meter
 pub mod Times
 -- the uses of lines, line after line

@@ -1,11 +1,10 @@
 //! What the rates of a tariff cost.
 ghost use Rattle.std.specs.Prelude.{◌≡◌, ◌*◌, IfOk, map, get_or};
-ghost use Rattle.tariff_check.specs.Parts.{rates_of};
+ghost use Rattle.tariff_check.specs.SoundTariff.{own_values};
 ghost use Rattle.tariff_compare.specs.Sides.{cost_alike, costs_of};
-ghost use Rattle.tariff_syntax.specs.Tree.{line_of};
 
 use std::alloc::Global;
-use tariff_syntax::{Item, TariffLine};
+use tariff_check::{Choice, RateNumbers};
 use taxi_units::NoMemory;
 
 /// The amount `a` for each `b` decimetres, and the amount `c` for each `e` tenths of a second.
@@ -17,22 +16,23 @@ pub(crate) struct RateCosts {
     pub(crate) e: u64,
 }
 
-/// The numbers of each rate, in their order.
-pub(crate) fn all_costs(alloc: Global, lines: &[TariffLine]) -> Result<Vec<RateCosts>, NoMemory>
-    ensures { IfOk result (λ all. all.items ≡ map costs_of (rates_of (map line_of lines.now))) }
+/// The numbers of each rate of some choices, in their order.
+pub(crate) fn all_costs(
+    alloc: Global,
+    rates: &[Choice<RateNumbers>],
+) -> Result<Vec<RateCosts>, NoMemory>
+    ensures { IfOk result (λ all. all.items ≡ map costs_of (own_values rates.now)) }
 {
     let mut all = Vec::new(alloc);
-    for line in lines {
-        if let Item::Rate(rate) = &line.item {
-            let costs = RateCosts {
-                a: rate.a,
-                b: rate.b,
-                c: rate.c,
-                e: rate.e,
-            };
-            if all.push(costs).is_err() {
-                return Err(NoMemory);
-            }
+    for rate in rates {
+        let costs = RateCosts {
+            a: rate.value.a,
+            b: rate.value.b,
+            c: rate.value.c,
+            e: rate.value.e,
+        };
+        if all.push(costs).is_err() {
+            return Err(NoMemory);
         }
     }
     Ok(all)

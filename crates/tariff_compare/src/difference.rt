@@ -124,8 +124,8 @@ fn has_same_supplement(one: &Checked, other: &Checked, number: u8) -> bool
     ensures { result ≡ is_same_supplement (supplement_at (tree_of one.now) number)
         (supplement_at (tree_of other.now) number) }
 {
-    let first = supplement_of(one.tariff().lines.as_slice(), number);
-    let second = supplement_of(other.tariff().lines.as_slice(), number);
+    let first = supplement_of(one, number);
+    let second = supplement_of(other, number);
     is_same_supplement(first, second)
 }
 

@@ -35,7 +35,7 @@ impl Side {
     {
         Ok(Side {
             tables: compile(alloc, checked, k)?,
-            rates: all_costs(alloc, checked.tariff().lines.as_slice())?,
+            rates: all_costs(alloc, checked.rates())?,
         })
     }
 
