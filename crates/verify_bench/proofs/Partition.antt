@@ -1,8 +1,8 @@
 -- The groups of a trip's parts, those in Stopped and those that were left unfinished are all its parts.
-use Rattle.std.proofs.Common.{◌≡◌, ℕ, zero, suc, ◌+◌, ◌*◌, ◌<◌, ◌≤◌, ◌∙◌, List, [], ◌∷◌, ◌++◌, length, refl, ap, sym, map, sum, filter, All, Bool, true, false, Option, Some, None, inl, inr, arith}
-use Rattle.std.specs.Prelude.{◌&&◌, cond, nat_eq, nat_lt, option_map, if◌then◌else◌}
-use Rattle.std.specs.List.{cons_option}
+use Rattle.std.proofs.Common.{◌≡◌, ℕ, zero, suc, ◌+◌, ◌*◌, ◌<◌, ◌≤◌, ◌∙◌, List, [], ◌∷◌, ◌++◌, length, refl, ap, sym, map, sum, filter, All, Bool, true, false, inl, inr, arith}
+use Rattle.std.specs.Prelude.{◌&&◌, cond, nat_eq, nat_lt, if◌then◌else◌}
 use Rattle.std.proofs.lemmas.Bool.Decides.{eqb_tells}
+use Rattle.std.proofs.lemmas.List.{length-map}
 use Rattle.std.proofs.lemmas.List.Elements.{All-weaker}
 use Rattle.drive_modes.specs.declared.charges.Mode.{Mode}
 use Rattle.drive_modes.specs.declared.charges.Mode.TheVariants.{Single, Double}
@@ -12,12 +12,13 @@ use Rattle.meter_states.specs.Trip.{Part, InHired, InStopped, Rest, Trip, charge
 use Rattle.meter_states.specs.Trip as model
 use Rattle.tariff_check.proofs.Laws as check
 use Rattle.tariff_check.specs.Faults.{IsSound}
-use Rattle.tariff_check.specs.Parts.{RateNumbers, rate_part, rates_of}
-use Rattle.tariff_syntax.specs.Tree.{Line, Tree}
+use Rattle.tariff_check.specs.Parts.{RateNumbers, rates_of}
+use Rattle.tariff_check.specs.SoundTariff.{Choice, lines_of, sound_of}
+use Rattle.tariff_syntax.specs.Tree.{Tree}
 use Rattle.tariff_syntax.specs.declared.context.Context.{Context}
 use Rattle.taxi_units.specs.declared.event.Event.{Event}
 use Rattle.verify_bench.specs.Explaining.{Explanation, explanations_of, taken_if, taken_of}
-use Rattle.verify_bench.specs.Groups.{group_if, groups_at, groups_from, is_charged_by, is_in_stopped, is_rest, is_same_way, line_numbers, rate_place_of, rate_sums, sums_of, way_by, way_of}
+use Rattle.verify_bench.specs.Groups.{group_if, groups_at, groups_from, is_charged_by, is_in_stopped, is_rest, is_same_way, rate_place_of, rate_sums, sums_of, way_by, way_of}
 use Rattle.verify_bench.specs.Wholes.{ArePartsTheWhole, IsOfTrip, MakesReceipt, charge_in_way}
 use Rattle.verify_bench.specs.declared.explained.Group.{Group}
 use Rattle.verify_bench.specs.declared.explained.Sums.{Sums}
@@ -205,18 +206,15 @@ rest_timeless (InStopped p) is = absurd cc
 rest_timeless (Rest p) is = refl
 
 -- there are as many numbers of rate lines as rates
-one_number : (n : ℕ) (o : Option RateNumbers) (xs : List ℕ) (ys : List RateNumbers) → length xs ≡ length ys → length (cons_option (option_map (λ (r : RateNumbers). n) o) xs) ≡ length (cons_option o ys)
-one_number n None xs ys same = same
-one_number n (Some r) xs ys same = ap suc same
+as_many : (t : Tree) → length (lines_of (sound_of t).rates) ≡ length (rates_of t.lines)
+as_many t =
+    length-map (sound_of t).rates (λ (c : Choice RateNumbers). c.line)
+    ∙ (sym (length-map (sound_of t).rates (λ (c : Choice RateNumbers). c.value)) ∙ ap length (check.sound_tariffs_are_their_parts-choices t).rates)
 
-as_many : (lines : List Line) → length (line_numbers rate_part lines) ≡ length (rates_of lines)
-as_many [] = refl
-as_many (l ∷ lines) = one_number l.line (rate_part l.entry) (line_numbers rate_part lines) (rates_of lines) (as_many lines)
-
-within_rates : (s : Setting) → IsSound s.tariff → (x : Context) → rate_place_of s x < length (line_numbers rate_part s.tariff.lines)
+within_rates : (s : Setting) → IsSound s.tariff → (x : Context) → rate_place_of s x < length (lines_of (sound_of s.tariff).rates)
 within_rates s sound x =
     let holds = check.lines_that_hold_are_there-rate s.tariff x sound in
-    rw (as_many s.tariff.lines, holds.1) holds.2
+    rw (as_many s.tariff, holds.1) holds.2
 
 -- the supplements that were taken, number by number
 one_taken : (t : Tree) (numbers : List ℕ) (number : ℕ) (b : Bool) → nat_eq (times number numbers) 0 ≡ b
@@ -242,7 +240,7 @@ taken_sum t numbers all = all_taken t numbers 1 16 ∙ all_among (λ number. amo
 one_adds_up : (s : Setting) → IsSound s.tariff → (e : Explanation) → IsOfTrip s e → ArePartsTheWhole e
 one_adds_up s sound e is_of =
     let t = is_of.trip in
-    let lines = line_numbers rate_part s.tariff.lines in
+    let lines = lines_of (sound_of s.tariff).rates in
     let few = within_rates s sound in
     let no_pulses : t.opening.pulses ≡ 0 = ap (λ (o : model.Opening). o.pulses) is_of.began.opening in
     let no_ticks : t.opening.ticks ≡ 0 = ap (λ (o : model.Opening). o.ticks) is_of.began.opening in

@@ -12,7 +12,7 @@ use Rattle.meter_states.specs.Trip.{Part, Trip, charges_of}
 use Rattle.meter_states.specs.declared.act.Act.{Act}
 use Rattle.meter_states.specs.declared.act.Act.TheVariants as acts
 use Rattle.meter_states.specs.declared.act.Act.TheVariants.{Show, Refuse, Enter, Hold}
-use Rattle.tariff_check.specs.Parts.{initial_part, minimum_part}
+use Rattle.tariff_check.specs.SoundTariff.{lines_of, sound_of}
 use Rattle.tariff_compile.specs.Tables.{initial_by, supplement_at}
 use Rattle.tariff_syntax.specs.Meaning.{initial_place, minimum_place}
 use Rattle.tariff_syntax.specs.Tree.{Tree}
@@ -25,7 +25,7 @@ use Rattle.taxi_units.specs.declared.event.Operating.{Operating}
 use Rattle.taxi_units.specs.declared.event.Operating.TheVariants.{ForHire}
 use Rattle.taxi_units.specs.declared.receipt.Receipt.{Receipt}
 use Rattle.totals_record.specs.States.{first_state}
-use Rattle.verify_bench.specs.Groups.{groups_of, is_rest, is_in_stopped, line_numbers, sums_of}
+use Rattle.verify_bench.specs.Groups.{groups_of, is_rest, is_in_stopped, sums_of}
 use Rattle.verify_bench.specs.declared.explained.Explained.{Explained}
 use Rattle.verify_bench.specs.declared.explained.Group.{Group}
 use Rattle.verify_bench.specs.declared.explained.Sums.{Sums}
@@ -61,12 +61,12 @@ explanation_of e = record {
 
 -- the line of the initial hire fee of a context is the number in the text of the one that holds first at the hiring
 abbrev pub fee_line : Tree → Context → ℕ
-fee_line t x = get_or (line_numbers initial_part t.lines) (unwrap_or (initial_place t x) 0) 0
+fee_line t x = get_or (lines_of (sound_of t).initials) (unwrap_or (initial_place t x) 0) 0
 
 -- the line of the minimum fare of a context is the number in the text of the one that holds first at the hiring, if
 -- one does
 abbrev pub minimum_line : Tree → Context → Option ℕ
-minimum_line t x = option_map (λ place. get_or (line_numbers minimum_part t.lines) place 0) (minimum_place t x)
+minimum_line t x = option_map (λ place. get_or (lines_of (sound_of t).minimums) place 0) (minimum_place t x)
 
 -- a supplement is taken where its number stands in a list, with its count there and its amount
 abbrev pub taken_if : Tree → (numbers : List ℕ) → (number : ℕ) → List Taken

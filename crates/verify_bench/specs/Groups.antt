@@ -1,14 +1,14 @@
 -- Rules: the intervals of a trip in groups, by the rate and the way by which they were charged.
-use Rattle.std.specs.Prelude.{ℕ, ◌+◌, ◌*◌, ◌==◌, ◌&&◌, Bool, true, false, List, [], ◌∷◌, ◌++◌, Option, option_map, map, sum, filter, filter_map, if◌then◌else◌, nat_lt}
+use Rattle.std.specs.Prelude.{ℕ, ◌+◌, ◌*◌, ◌==◌, ◌&&◌, Bool, true, false, List, [], ◌∷◌, ◌++◌, map, sum, filter, if◌then◌else◌, nat_lt}
 use Rattle.std.specs.Option.{unwrap_or}
 use Rattle.drive_modes.specs.declared.charges.Mode.{Mode}
 use Rattle.drive_modes.specs.declared.charges.Mode.TheVariants.{Single, Double}
 use Rattle.meter_states.specs.Charge.{rate_of}
 use Rattle.meter_states.specs.Setting.{Setting}
 use Rattle.meter_states.specs.Trip.{Part, InHired, InStopped, Rest, charge_in, pulses_in, ticks_in}
-use Rattle.tariff_check.specs.Parts.{RateNumbers, rate_part}
+use Rattle.tariff_check.specs.Parts.{RateNumbers}
+use Rattle.tariff_check.specs.SoundTariff.{lines_of, sound_of}
 use Rattle.tariff_syntax.specs.Meaning.{rate_place}
-use Rattle.tariff_syntax.specs.Tree.{Entry, Line}
 use Rattle.tariff_syntax.specs.declared.context.Context.{Context}
 use Rattle.verify_bench.specs.declared.explained.Group.{Group}
 use Rattle.verify_bench.specs.declared.explained.Sums.{Sums}
@@ -82,10 +82,6 @@ unfoldable pub groups_from : Setting → List Part → (place : ℕ) → (lines 
 groups_from s parts place [] = []
 groups_from s parts place (line ∷ lines) = groups_at s parts place line ++ groups_from s parts (place + 1) lines
 
--- the numbers in the text of the lines that have a part are those of each, in order
-abbrev pub line_numbers : {A : Type 0} → (Entry → Option A) → List Line → List ℕ
-line_numbers part lines = filter_map (λ (l : Line). option_map (λ a. l.line) (part l.entry)) lines
-
 -- the groups of parts are those of each rate line of the tariff, in the text's order
 abbrev pub groups_of : Setting → List Part → List Group
-groups_of s parts = groups_from s parts 0 (line_numbers rate_part s.tariff.lines)
+groups_of s parts = groups_from s parts 0 (lines_of (sound_of s.tariff).rates)

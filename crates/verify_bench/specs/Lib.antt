@@ -22,7 +22,6 @@ pub mod RowsTaken
 pub mod Settings
 pub mod Shortened
 pub mod Supplied
-pub mod Tree
 pub mod VerdictStages
 pub mod Verdicts
 pub mod Wholes

@@ -92,7 +92,7 @@ impl BenchMeter {
             (λ s. extra_added number (supplement_at s.tariff number)) self.old self.new) }
         ensures sound { OnOk result (IsMeterInRange last_tick 0 self.new) }
     {
-        match supplement_at(checked.tariff().lines.as_slice(), number) {
+        match supplement_at(checked, number) {
             None => Ok(()),
             Some(supplement) => self.add_up_to(number, supplement),
         }

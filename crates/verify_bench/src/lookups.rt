@@ -1,161 +1,111 @@
-//! What the lines of a tariff say.
-ghost use Rattle.std.specs.Prelude.{◌≡◌, map, get_or, Option};
+//! What the parts of a tariff say.
 ghost use Rattle.std.specs.Option.{option_map};
+ghost use Rattle.std.specs.Prelude.{◌≡◌, get_or};
 ghost use Rattle.tariff_calendar.specs.Lists.{is_holiday};
-ghost use Rattle.tariff_check.specs.Parts.{initial_part, initials_of, minimum_part, minimums_of, rates_of, supplement_of};
+ghost use Rattle.tariff_check.specs.Faults.{IsSound};
+ghost use Rattle.tariff_check.specs.Parts.{initials_of, minimums_of, rates_of, supplement_of};
+ghost use Rattle.tariff_check.specs.SoundTariff.{lines_of, own_lines, own_values, sound_of};
 ghost use Rattle.tariff_compile.specs.Tables.{supplement_in};
-ghost use Rattle.tariff_syntax.specs.Tree.{line_of};
-ghost use Rattle.verify_bench.specs.Groups.{line_numbers};
-ghost use Rattle.verify_bench.specs.Tree.{numbers_of};
+ghost use Rattle.tariff_syntax.specs.Tree.{tree_of};
+ghost use Rattle.tariff_syntax.specs.Writable.{IsWritable};
 
+use tariff_check::{Checked, Choice, InitialNumbers, RateNumbers};
 use tariff_compile::Supplement;
-use tariff_syntax::{Item, TariffLine};
 
-/// A rate: `a` units of money for `b` decimetres, and `c` for `e` tenths of a second.
-#[derive(Clone, Copy)]
-pub(crate) struct Rate {
-    pub(crate) a: u64,
-    pub(crate) b: u64,
-    pub(crate) c: u64,
-    pub(crate) e: u64,
-}
-
-/// An initial hire fee, and the amount of charges that it covers.
-#[derive(Clone, Copy)]
-pub(crate) struct Fee {
-    pub(crate) amount: u64,
-    pub(crate) covers: u64,
-}
-
-/// The rate at a place among the rate lines, from 0.
-pub(crate) fn rate_at(lines: &[TariffLine], place: usize) -> Rate
-    ensures { numbers_of result
-        ≡ get_or (rates_of (map line_of lines.now)) place (record { a = 0; b = 0; c = 0; e = 0 }) }
+/// The rate at a place among the rates, from 0.
+pub(crate) fn rate_at(checked: &Checked, place: usize) -> RateNumbers
+    ensures value { result
+        ≡ get_or (rates_of (tree_of checked.now).lines) place (record { a = 0; b = 0; c = 0; e = 0 }) }
+    ensures sound { IsSound (tree_of checked.now) }
+    ensures writable { IsWritable (tree_of checked.now) }
 {
-    let mut before = place;
-    for line in lines {
-        if let Item::Rate(rate) = &line.item {
-            if before == 0 {
-                return Rate {
-                    a: rate.a,
-                    b: rate.b,
-                    c: rate.c,
-                    e: rate.e,
-                };
-            }
-            before -= 1;
-        }
-    }
-    Rate {
+    let none = RateNumbers {
         a: 0,
         b: 0,
         c: 0,
         e: 0,
-    }
+    };
+    value_at(checked.rates(), place, none)
 }
 
-/// The initial hire fee at a place among the initial lines, from 0.
-pub(crate) fn fee_at(lines: &[TariffLine], place: usize) -> Fee
-    ensures { record { amount = result.amount; covers = result.covers }
-        ≡ get_or (initials_of (map line_of lines.now)) place (record { amount = 0; covers = 0 }) }
+/// The initial hire fee at a place among the initial hire fees, from 0.
+pub(crate) fn fee_at(checked: &Checked, place: usize) -> InitialNumbers
+    ensures value { result
+        ≡ get_or (initials_of (tree_of checked.now).lines) place (record { amount = 0; covers = 0 }) }
+    ensures sound { IsSound (tree_of checked.now) }
+    ensures writable { IsWritable (tree_of checked.now) }
 {
-    let mut before = place;
-    for line in lines {
-        if let Item::Initial(initial) = &line.item {
-            if before == 0 {
-                return Fee {
-                    amount: initial.amount,
-                    covers: initial.covers,
-                };
-            }
-            before -= 1;
-        }
-    }
-    Fee {
+    let none = InitialNumbers {
         amount: 0,
         covers: 0,
+    };
+    value_at(checked.initials(), place, none)
+}
+
+/// The number in the text of the line of the initial hire fee at a place among them, from 0.
+pub(crate) fn fee_line_at(checked: &Checked, place: usize) -> u32
+    ensures { result ≡ get_or (lines_of (sound_of (tree_of checked.now)).initials) place 0 }
+{
+    line_at(checked.initials(), place)
+}
+
+/// The minimum fare at a place among the minimum fares, from 0.
+pub(crate) fn minimum_at(checked: &Checked, place: usize) -> u64
+    ensures { result ≡ get_or (minimums_of (tree_of checked.now).lines) place 0 }
+{
+    value_at(checked.minimums(), place, 0)
+}
+
+/// The number in the text of the line of the minimum fare at a place among them, from 0.
+pub(crate) fn minimum_line_at(checked: &Checked, place: usize) -> u32
+    ensures { result ≡ get_or (lines_of (sound_of (tree_of checked.now)).minimums) place 0 }
+{
+    line_at(checked.minimums(), place)
+}
+
+/// The value of the choice at a place, from 0; another one where there is none.
+fn value_at<V: Copy>(choices: &[Choice<V>], place: usize, other: V) -> V
+    ensures { result ≡ get_or (own_values choices.now) place other }
+{
+    match choices.get(place) {
+        Some(choice) => choice.value,
+        None => other,
     }
 }
 
-/// The number in the text of the initial line at a place among the initial lines, from 0.
-pub(crate) fn fee_line_at(lines: &[TariffLine], place: usize) -> u32
-    ensures { result ≡ get_or (line_numbers initial_part (map line_of lines.now)) place 0 }
+/// The number of the line of the choice at a place, from 0; 0 where there is none.
+fn line_at<V>(choices: &[Choice<V>], place: usize) -> u32
+    ensures { result ≡ get_or (own_lines choices.now) place 0 }
 {
-    let mut before = place;
-    for line in lines {
-        if let Item::Initial(_) = &line.item {
-            if before == 0 {
-                return line.line;
-            }
-            before -= 1;
-        }
+    match choices.get(place) {
+        Some(choice) => choice.line,
+        None => 0,
     }
-    0
 }
 
-/// The number in the text of the minimum line at a place among the minimum lines, from 0.
-pub(crate) fn minimum_line_at(lines: &[TariffLine], place: usize) -> u32
-    ensures { result ≡ get_or (line_numbers minimum_part (map line_of lines.now)) place 0 }
+/// The supplement of a number.
+pub(crate) fn supplement_at(checked: &Checked, wanted: u8) -> Option<Supplement>
+    ensures value { result ≡ option_map supplement_in (supplement_of (tree_of checked.now).lines wanted) }
+    ensures sound { IsSound (tree_of checked.now) }
+    ensures writable { IsWritable (tree_of checked.now) }
 {
-    let mut before = place;
-    for line in lines {
-        if let Item::Minimum(_) = &line.item {
-            if before == 0 {
-                return line.line;
-            }
-            before -= 1;
-        }
+    match checked.supplement(wanted) {
+        Some(said) => Some(Supplement {
+            amount: said.amount,
+            max: said.most,
+        }),
+        None => None,
     }
-    0
 }
 
-/// The minimum fare at a place among the minimum lines, from 0.
-pub(crate) fn minimum_at(lines: &[TariffLine], place: usize) -> u64
-    ensures { result ≡ get_or (minimums_of (map line_of lines.now)) place 0 }
+/// Whether a date is a holiday.
+pub(crate) fn is_holiday(checked: &Checked, day: (u16, u8, u8)) -> bool
+    ensures { result ≡ is_holiday (tree_of checked.now).lines day.0 day.1 day.2 }
 {
-    let mut before = place;
-    for line in lines {
-        if let Item::Minimum(minimum) = &line.item {
-            if before == 0 {
-                return minimum.amount;
-            }
-            before -= 1;
-        }
-    }
-    0
-}
-
-/// The supplement of a number, of the first such line.
-pub(crate) fn supplement_at(lines: &[TariffLine], wanted: u8) -> Option<Supplement>
-    ensures { result ≡ option_map supplement_in (supplement_of (map line_of lines.now) wanted) }
-{
-    for line in lines {
-        match &line.item {
-            Item::Supplement {
-                number,
-                amount,
-                max,
-            } if *number == wanted => {
-                return Some(Supplement {
-                    amount: *amount,
-                    max: *max,
-                });
-            }
-            _ => {}
-        }
-    }
-    None
-}
-
-/// Whether a date stands in a holiday line.
-pub(crate) fn is_holiday(lines: &[TariffLine], day: (u16, u8, u8)) -> bool
-    ensures { result ≡ is_holiday (map line_of lines.now) day.0 day.1 day.2 }
-{
-    for line in lines {
-        if let Item::Holiday { year, month, date } = &line.item {
-            if *year == day.0 && *month == day.1 && *date == day.2 {
-                return true;
-            }
+    let holidays = checked.holidays();
+    for holiday in holidays {
+        if holiday.year == day.0 && holiday.month == day.1 && holiday.date == day.2 {
+            return true;
         }
     }
     false

@@ -102,7 +102,7 @@ impl BenchMeter {
             zone: self.zone,
             weekday: local.weekday,
             month_day: local.month_day,
-            holiday: is_holiday(checked.tariff().lines.as_slice(), day),
+            holiday: is_holiday(checked, day),
             minute: local.minute,
             pulses: self.pulses(),
             ticks: self.ticks(),

@@ -1,17 +1,16 @@
-//! The price of an interval, over the tree of a tariff.
+//! The price of an interval, over the parts of a tariff.
 ghost use Rattle.std.specs.Prelude.{◌≡◌, ◌*◌, ◌^◌, ◌<◌, ◌≤◌, nat_lt};
 ghost use Rattle.tariff_check.specs.Sound.{IsSoundRate};
 ghost use Rattle.verify_bench.specs.Limits.{most_charge};
 ghost use Rattle.verify_bench.specs.Pricing.{IsPriceBy, IsPriceOf};
 ghost use Rattle.verify_bench.specs.Settings.{setting_under};
-ghost use Rattle.verify_bench.specs.Tree.{numbers_of};
 
 use crate::explained::Way;
-use crate::lookups::{Rate, rate_at};
+use crate::lookups::rate_at;
 use drive_modes::{Constant, Mode};
 use seal_record::Params;
-use tariff_check::Checked;
-use tariff_syntax::{Context, rate_of};
+use tariff_check::{Checked, RateNumbers};
+use tariff_syntax::Context;
 
 /// The place of the rate line by which an interval is charged, the way in which it is, and its charge.
 #[derive(Clone, Copy)]
@@ -28,20 +27,19 @@ pub(crate) fn price_of(checked: &Checked, params: &Params, x: &Context, pulses: 
     ensures bound { result.charge ≤ most_charge }
     ensures place { result.place < 64 }
 {
-    let tariff = checked.tariff();
-    let place = rate_of(tariff, x).unwrap_or(0);
-    let rate = rate_at(tariff.lines.as_slice(), place);
+    let place = checked.rate_of(x).unwrap_or(0);
+    let rate = rate_at(checked, place);
     let common = checked.measure();
     let price = price_by(params.mode, params.constant, common, rate, pulses);
     Price { place, ..price }
 }
 
 /// The price by the numbers of a rate, as if it were the first.
-fn price_by(mode: Mode, k: Constant, common: u64, rate: Rate, pulses: u32) -> Price
-    requires rate { IsSoundRate (numbers_of rate) }
+fn price_by(mode: Mode, k: Constant, common: u64, rate: RateNumbers, pulses: u32) -> Price
+    requires rate { IsSoundRate rate }
     requires common { common ≤ 10 ^ 18 }
     requires pulses { pulses ≤ 2000 }
-    ensures price { IsPriceBy mode k common (numbers_of rate) pulses result }
+    ensures price { IsPriceBy mode k common rate pulses result }
     ensures bound { result.charge ≤ most_charge }
 {
     let pulse = 10_000 * rate.a as u128 * (common / rate.b) as u128;
@@ -72,8 +70,8 @@ fn charged(way: Way, charge: u128) -> Price
 }
 
 /// Whether a number of pulses an interval is below the cross-over speed of a rate.
-fn is_slow(k: Constant, rate: Rate, pulses: u32) -> bool
-    requires rate { IsSoundRate (numbers_of rate) }
+fn is_slow(k: Constant, rate: RateNumbers, pulses: u32) -> bool
+    requires rate { IsSoundRate rate }
     requires pulses { pulses ≤ 2000 }
     ensures { result ≡ nat_lt (10000 * pulses * rate.a * rate.e) (rate.c * k * rate.b) }
 {

@@ -1,16 +1,15 @@
 //! Writes the cross-over speeds of a tariff.
-ghost use Rattle.std.specs.Prelude.{◌≡◌, ◌+◌, ◌≤◌, ◌<◌, ◌++◌, All, map, IfOk};
+ghost use Rattle.std.specs.Prelude.{◌≡◌, ◌+◌, ◌≤◌, ◌<◌, ◌++◌, All, IfOk};
 ghost use Rattle.arrayvec.specs.ArrayVec.{array_vec_len};
 ghost use Rattle.taxi_units.specs.Line.{line_size};
-ghost use Rattle.tariff_check.specs.Parts.{rates_of};
 ghost use Rattle.tariff_check.specs.Sound.{IsSoundRate};
-ghost use Rattle.tariff_syntax.specs.Tree.{line_of, tree_of};
-ghost use Rattle.verify_bench.specs.CrossOvers.{cross_over_line, cross_over_of, cross_overs_text, speed_text};
+ghost use Rattle.tariff_check.specs.SoundTariff.{own_values};
+ghost use Rattle.tariff_syntax.specs.Tree.{tree_of};
+ghost use Rattle.verify_bench.specs.CrossOvers.{cross_over_line, cross_over_lines, cross_over_of, cross_overs_text, speed_text};
 
 use drive_modes::cross_over;
 use std::alloc::Global;
-use tariff_check::Checked;
-use tariff_syntax::{Item, RateLine, TariffLine};
+use tariff_check::{Checked, Choice, RateNumbers};
 use taxi_units::{Line, NoMemory, push_bytes, push_number};
 
 /// A line `CROSSOVER i v m/h` for each rate line of a tariff, the i-th in their order, whose cross-over
@@ -20,33 +19,27 @@ use taxi_units::{Line, NoMemory, push_bytes, push_number};
 pub fn cross_overs(alloc: Global, checked: &Checked) -> Result<Vec<u8>, NoMemory>
     ensures { IfOk result (λ text. text.items ≡ cross_overs_text (tree_of checked.now).lines) }
 {
-    let tariff = checked.tariff();
-    lines_of_rates(alloc, tariff.lines.as_slice())
+    lines_of_rates(alloc, checked.rates())
 }
 
-/// The lines of the rates among lines of a tariff.
-fn lines_of_rates(alloc: Global, lines: &[TariffLine]) -> Result<Vec<u8>, NoMemory>
-    requires { All IsSoundRate (rates_of (map line_of lines.now)) }
-    ensures { IfOk result (λ text. text.items ≡ cross_overs_text (map line_of lines.now)) }
+/// The lines of some rates.
+fn lines_of_rates(alloc: Global, rates: &[Choice<RateNumbers>]) -> Result<Vec<u8>, NoMemory>
+    requires { All IsSoundRate (own_values rates.now) }
+    ensures { IfOk result (λ text. text.items ≡ cross_over_lines 1 (own_values rates.now)) }
 {
     let mut text = Vec::new(alloc);
-    let mut number = 0u64;
-    for line in lines {
-        if let Item::Rate(rate) = &line.item {
-            number += 1;
-            let line = line_of_rate(number, rate);
-            text.extend_from_slice(line.as_slice())
-                .map_err(|_| NoMemory)?;
-        }
+    for (place, rate) in rates.iter().enumerate() {
+        let line = line_of_rate(place as u64 + 1, rate.value);
+        text.extend_from_slice(line.as_slice())
+            .map_err(|_| NoMemory)?;
     }
     Ok(text)
 }
 
 /// The line of a rate.
-fn line_of_rate(number: u64, rate: &RateLine) -> Line
-    requires { IsSoundRate (record { a = rate.now.a; b = rate.now.b; c = rate.now.c; e = rate.now.e }) }
-    ensures { result.items ≡ cross_over_line number
-        (record { a = rate.now.a; b = rate.now.b; c = rate.now.c; e = rate.now.e }) }
+fn line_of_rate(number: u64, rate: RateNumbers) -> Line
+    requires { IsSoundRate rate }
+    ensures { result.items ≡ cross_over_line number rate }
 {
     let mut line = Line::new();
     push_bytes(&mut line, b"CROSSOVER ");
@@ -58,9 +51,9 @@ fn line_of_rate(number: u64, rate: &RateLine) -> Line
 }
 
 /// The cross-over speed of a rate.
-fn speed_of(rate: &RateLine) -> Option<u128>
-    requires { IsSoundRate (record { a = rate.now.a; b = rate.now.b; c = rate.now.c; e = rate.now.e }) }
-    ensures { result ≡ cross_over_of (record { a = rate.now.a; b = rate.now.b; c = rate.now.c; e = rate.now.e }) }
+fn speed_of(rate: RateNumbers) -> Option<u128>
+    requires { IsSoundRate rate }
+    ensures { result ≡ cross_over_of rate }
 {
     cross_over(rate.a, rate.b, rate.c, rate.e)
 }

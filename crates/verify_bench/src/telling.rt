@@ -6,14 +6,14 @@ ghost use Rattle.meter_states.specs.Kept.{IsSupplementNumber};
 ghost use Rattle.meter_states.specs.Setting.{Setting, stamp_at};
 ghost use Rattle.meter_states.specs.Supplements.{amount_in, amounts_of, times};
 ghost use Rattle.meter_states.specs.Trip.{Part, Trip};
-ghost use Rattle.tariff_check.specs.Parts.{rate_part};
+ghost use Rattle.tariff_check.specs.SoundTariff.{own_lines};
 ghost use Rattle.tariff_compile.specs.Tables.{supplement_at};
-ghost use Rattle.tariff_syntax.specs.Tree.{line_of, tree_of};
+ghost use Rattle.tariff_syntax.specs.Tree.{tree_of};
 ghost use Rattle.tariff_syntax.specs.declared.context.Context.{Context};
 ghost use Rattle.taxi_units.specs.Time.{IsSecond, longest_trip};
 ghost use Rattle.verify_bench.specs.Explaining.{explanation, explanation_of, taken_if, taken_of};
 ghost use Rattle.verify_bench.specs.Gathered.{IsTableOf, all_ways};
-ghost use Rattle.verify_bench.specs.Groups.{group_if, groups_at, groups_from, line_numbers};
+ghost use Rattle.verify_bench.specs.Groups.{group_if, groups_at, groups_from};
 ghost use Rattle.verify_bench.specs.Hirings.{IsHiringOf, IsWhole};
 ghost use Rattle.verify_bench.specs.Settings.{setting_under};
 
@@ -27,8 +27,7 @@ use interval_clock::civil;
 use seal_record::Params;
 use std::alloc::Global;
 use std::sync::ledger::Ledger;
-use tariff_check::Checked;
-use tariff_syntax::{Item, TariffLine};
+use tariff_check::{Checked, Choice, RateNumbers};
 use taxi_units::{Kind, NoMemory, Receipt, Stamp, Steps};
 
 /// How a hiring is closed: its kind, its second, the tariff position, and the store's number behind the
@@ -59,9 +58,8 @@ pub(crate) fn explained<L: Ledger>(
         (receipt_of (setting_under checked.now params.now)
         closing.kind closing.finish closing.position trip closing.number)) }
 {
-    let lines = checked.tariff().lines.as_slice();
     let receipt = receipt(hiring, closing, checked, params, steps);
-    let groups = groups(alloc, lines, hiring.rates.as_slice())?;
+    let groups = groups(alloc, checked.rates(), hiring.rates.as_slice())?;
     let taken = taken(alloc, hiring, checked)?;
     Ok(Explained {
         receipt,
@@ -131,18 +129,18 @@ fn stamp<L: Ledger>(params: &Params, second: u64, steps: &mut Steps<L>) -> Stamp
     }
 }
 
-/// The groups of the rate lines, of which a table has the sums.
-fn groups(alloc: Global, lines: &[TariffLine], table: &[RateSums]) -> Result<Vec<Group>, NoMemory>
+/// The groups of the rates, of which a table has the sums.
+fn groups(
+    alloc: Global,
+    rates: &[Choice<RateNumbers>],
+    table: &[RateSums],
+) -> Result<Vec<Group>, NoMemory>
     ensures { IfOk result (λ groups. (s : Setting) (parts : List Part) → IsTableOf s parts table.now
-        → groups.items ≡ groups_from s parts 0 (line_numbers rate_part (map line_of lines.now))) }
+        → groups.items ≡ groups_from s parts 0 (own_lines rates.now)) }
 {
     let mut groups = Vec::new(alloc);
-    let mut place = 0usize;
-    for line in lines {
-        if let Item::Rate(_) = &line.item {
-            put_groups(&mut groups, line.line, sums_at(table, place))?;
-            place += 1;
-        }
+    for (place, rate) in rates.iter().enumerate() {
+        put_groups(&mut groups, rate.line, sums_at(table, place))?;
     }
     Ok(groups)
 }
@@ -217,7 +215,7 @@ fn amount_of(number: u8, checked: &Checked) -> u64
     ensures amount { result ≡ amount_in (supplement_at (tree_of checked.now) number) }
     ensures most { result ≤ 1000000 }
 {
-    match supplement_at(checked.tariff().lines.as_slice(), number) {
+    match supplement_at(checked, number) {
         None => 0,
         Some(supplement) => supplement.amount,
     }

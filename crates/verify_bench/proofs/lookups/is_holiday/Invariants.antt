@@ -1,7 +1,11 @@
-use Rattle.std.proofs.Common.{◌≡◌, map, drop}
+use Rattle.std.proofs.Common.{◌≡◌, ◌&&◌, ◌==◌, drop}
+use Rattle.std.specs.List.{list_any}
+use Rattle.tariff_check.specs.Parts.{DateNumbers}
+use Rattle.tariff_syntax.specs.Tree.{tree_of}
 use Rattle.tariff_calendar.specs.Lists.{is_holiday}
-use Rattle.tariff_syntax.specs.Tree.{line_of}
 use Rattle.verify_bench.proofs.lookups.is_holiday.Given as goal
 
-abbrev pub invariant-loop-line : goal.invariant-loop-line
-invariant-loop-line l = is_holiday (map line_of (drop l.line-index l.lines)) l.day.0 l.day.1 l.day.2 ≡ is_holiday (map line_of l.lines) l.day.0 l.day.1 l.day.2
+abbrev pub invariant-loop-holiday : goal.invariant-loop-holiday
+invariant-loop-holiday l =
+    list_any (λ (d : DateNumbers). (d.year == l.day.0) && ((d.month == l.day.1) && (d.date == l.day.2)))
+    (drop l.holiday-index l.holidays) ≡ is_holiday (tree_of l.checked).lines l.day.0 l.day.1 l.day.2

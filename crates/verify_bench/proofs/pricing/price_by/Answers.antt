@@ -1,5 +1,4 @@
 use Rattle.std.proofs.Common.{◌∙◌, sym}
-use Rattle.verify_bench.specs.Tree.{numbers_of}
 use Rattle.verify_bench.proofs.ChargeRange.{share_fits, pulse_fits, distance_bound, distance_fits, rise_fits, time_bound, time_fits, both_bound, both_fits, slow_charge, fast_charge, double_charge, slow_way, fast_way, double_way, distance_few, time_few, both_few}
 use Rattle.verify_bench.proofs.pricing.price_by.Goals as goal
 
@@ -38,8 +37,8 @@ overflow_add-distance c = both_fits c.args.rate.a c.args.rate.c c.get.result c.a
 
 pub returns-then-is_slow-clause-price : goal.returns-then-is_slow-clause-price
 returns-then-is_slow-clause-price c = record {
-  way = c.charged.ensures.way ∙ slow_way c.args.mode c.args.k c.get.result c.args.common (numbers_of c.args.rate) c.args.pulses c.get.ensures.value c.is_slow.result c.in-Single.is c.is_slow.ensures c.if-is_slow.true;
-  charge = c.charged.ensures.charge ∙ slow_charge c.args.mode c.args.k c.get.result c.args.common (numbers_of c.args.rate) c.args.pulses c.get.ensures.value c.is_slow.result c.in-Single.is c.is_slow.ensures c.if-is_slow.true;
+  way = c.charged.ensures.way ∙ slow_way c.args.mode c.args.k c.get.result c.args.common c.args.rate c.args.pulses c.get.ensures.value c.is_slow.result c.in-Single.is c.is_slow.ensures c.if-is_slow.true;
+  charge = c.charged.ensures.charge ∙ slow_charge c.args.mode c.args.k c.get.result c.args.common c.args.rate c.args.pulses c.get.ensures.value c.is_slow.result c.in-Single.is c.is_slow.ensures c.if-is_slow.true;
   few = rw (c.charged.ensures.charge, sym c.get.ensures.value) (time_few c.get.result c.args.common c.get.ensures.least c.args.rate.c c.args.rate.e c.requires.rate.time_amount);
 }
 
@@ -48,8 +47,8 @@ returns-then-is_slow-clause-bound c = rw c.charged.ensures.charge (time_bound c.
 
 pub returns-else-is_slow-clause-price : goal.returns-else-is_slow-clause-price
 returns-else-is_slow-clause-price c = record {
-  way = c.charged-else-is_slow.ensures.way ∙ fast_way c.args.mode c.args.k c.get.result c.args.common (numbers_of c.args.rate) c.args.pulses c.get.ensures.value c.is_slow.result c.in-Single.is c.is_slow.ensures c.if-is_slow.false;
-  charge = c.charged-else-is_slow.ensures.charge ∙ fast_charge c.args.mode c.args.k c.get.result c.args.common (numbers_of c.args.rate) c.args.pulses c.get.ensures.value c.is_slow.result c.in-Single.is c.is_slow.ensures c.if-is_slow.false;
+  way = c.charged-else-is_slow.ensures.way ∙ fast_way c.args.mode c.args.k c.get.result c.args.common c.args.rate c.args.pulses c.get.ensures.value c.is_slow.result c.in-Single.is c.is_slow.ensures c.if-is_slow.false;
+  charge = c.charged-else-is_slow.ensures.charge ∙ fast_charge c.args.mode c.args.k c.get.result c.args.common c.args.rate c.args.pulses c.get.ensures.value c.is_slow.result c.in-Single.is c.is_slow.ensures c.if-is_slow.false;
   few = rw (c.charged-else-is_slow.ensures.charge, sym c.get.ensures.value) (distance_few c.get.result c.args.common c.get.ensures.least c.args.rate.a c.args.rate.b c.args.pulses c.requires.rate.distance_amount c.requires.pulses);
 }
 
@@ -58,8 +57,8 @@ returns-else-is_slow-clause-bound c = rw c.charged-else-is_slow.ensures.charge (
 
 pub returns-in-Double-clause-price : goal.returns-in-Double-clause-price
 returns-in-Double-clause-price c = record {
-  way = c.charged-in-Double.ensures.way ∙ double_way c.args.mode c.args.k c.get.result c.args.common (numbers_of c.args.rate) c.args.pulses c.get.ensures.value c.in-Double.is;
-  charge = c.charged-in-Double.ensures.charge ∙ double_charge c.args.mode c.args.k c.get.result c.args.common (numbers_of c.args.rate) c.args.pulses c.get.ensures.value c.in-Double.is;
+  way = c.charged-in-Double.ensures.way ∙ double_way c.args.mode c.args.k c.get.result c.args.common c.args.rate c.args.pulses c.get.ensures.value c.in-Double.is;
+  charge = c.charged-in-Double.ensures.charge ∙ double_charge c.args.mode c.args.k c.get.result c.args.common c.args.rate c.args.pulses c.get.ensures.value c.in-Double.is;
   few = rw (c.charged-in-Double.ensures.charge, sym c.get.ensures.value) (both_few c.get.result c.args.common c.get.ensures.least c.args.rate.a c.args.rate.c c.args.rate.b c.args.rate.e c.args.pulses c.requires.rate.distance_amount c.requires.rate.time_amount c.requires.pulses);
 }
 

@@ -4,12 +4,12 @@ use Rattle.verify_bench.proofs.pricing.price_of.Goals as goal
 
 pub price_by-price-requires-clause-rate : goal.price_by-price-requires-clause-rate
 price_by-price-requires-clause-rate c =
-    let tariff = c.tariff-tariff.ensures in
+    let tariff = c.rate_at-rate.ensures in
     let sound = sound_rate (tree_of c.args.checked.now) c.args.x.now tariff.writable tariff.sound in
-    rw (c.rate_at-rate.ensures, c.as_slice.ensures, c.unwrap_or-place.ensures, c.rate_of.ensures, tariff.value) sound
+    rw (tariff.value, c.unwrap_or-place.ensures, c.rate_of.ensures) sound
 
 pub returns-clause-place : goal.returns-clause-place
 returns-clause-place c =
-    let tariff = c.tariff-tariff.ensures in
+    let tariff = c.rate_at-rate.ensures in
     let few = few_rates (tree_of c.args.checked.now) c.args.x.now tariff.writable tariff.sound in
-    rw (c.unwrap_or-place.ensures, c.rate_of.ensures, tariff.value) few
+    rw (c.unwrap_or-place.ensures, c.rate_of.ensures) few

@@ -7,6 +7,6 @@ use Rattle.verify_bench.proofs.telling.amount_of.Goals as goal
 pub returns-in-Some-clause-most : goal.returns-in-Some-clause-most
 returns-in-Some-clause-most c =
     let is : supplement_at (tree_of c.args.checked.now) c.args.number ≡ Some c.in-Some.supplement =
-    sym (rw (c.as_slice.ensures, c.tariff.ensures.value) at c.supplement_at.ensures) ∙ c.in-Some.is
+    sym c.supplement_at.ensures.value ∙ c.in-Some.is
     in
-    (sound_supplement (tree_of c.args.checked.now) c.args.number c.in-Some.supplement c.tariff.ensures.writable c.tariff.ensures.sound is).1
+    (sound_supplement (tree_of c.args.checked.now) c.args.number c.in-Some.supplement c.supplement_at.ensures.writable c.supplement_at.ensures.sound is).1
