@@ -10,7 +10,7 @@ ghost use Rattle.tariff_syntax.specs.Tree.{line_of};
 use crate::choice::Choice;
 use crate::values::{DateNumbers, InitialNumbers, RateNumbers, SupplementNumbers};
 use std::alloc::Global;
-use tariff_syntax::{Item, TariffLine};
+use tariff_syntax::{Item, RateLine, TariffLine};
 use taxi_units::NoMemory;
 
 /// What the lines of a tariff say, kind by kind, each in the order of the lines.
@@ -75,15 +75,7 @@ impl Parts {
                 };
                 put(&mut self.supplements, (*number, said))
             }
-            Item::Rate(rate) => {
-                let value = RateNumbers {
-                    a: rate.a,
-                    b: rate.b,
-                    c: rate.c,
-                    e: rate.e,
-                };
-                put(&mut self.rates, chosen(value, number, place))
-            }
+            Item::Rate(rate) => put(&mut self.rates, chosen(numbers_of(rate), number, place)),
             Item::Initial(initial) => {
                 let value = InitialNumbers {
                     amount: initial.amount,
@@ -96,6 +88,18 @@ impl Parts {
             }
             _ => Ok(()),
         }
+    }
+}
+
+/// What a rate charges, and for what.
+fn numbers_of(rate: &RateLine) -> RateNumbers
+    ensures { result ≡ record { a = rate.now.a; b = rate.now.b; c = rate.now.c; e = rate.now.e } }
+{
+    RateNumbers {
+        a: rate.a,
+        b: rate.b,
+        c: rate.c,
+        e: rate.e,
     }
 }
 
