@@ -604,12 +604,17 @@ fn must_come<L: Ledger>(
     Ok(())
 }
 
+/// Asks what a case says, under a ledger of its own.
+fn must_come_counted(rt: HostRuntime, case: &Case, kind: ErrorKind) -> Result<(), Fail> {
+    must_come::<Brand>(rt, Blank::new(1), case, kind)
+}
+
 /// Plays a case in the folder of now.
 fn play(rt: HostRuntime, case: &Case, kind: ErrorKind) -> Result<(), Fail> {
     for change in case.folder {
         make(rt, change)?;
     }
-    must_come::<Brand>(rt, Blank::new(1), case, kind)?;
+    must_come_counted(rt, case, kind)?;
     for sight in case.left {
         must(is_seen(rt, sight)?, case.name, 100)?;
     }
